@@ -1,0 +1,4 @@
+pub mod Net
+pub mod Reply
+pub mod Trace
+pub mod Outside

@@ -1,0 +1,98 @@
+//! The traits of the outside: where bytes come from, where they go, and what keeps files.
+//!
+//! What an object holds is told or not told: `None` tells nothing. The count of faults never falls.
+//! A count at the end of its type stands still, so there a fault may always be answered.
+
+ghost use Rattle.std.specs.Prelude.{◌≡◌, ℕ, ◌<◌, ◌≤◌, ◌++◌, List, length, take, true, Option, Some, IsSome, IfOk, IfErr, OnOk, OnErr, IfSome, IsErrOf};
+ghost use Rattle.ftp_base.specs.declared.fault.Failed.TheVariants.{Fault, Memory};
+ghost use Rattle.ftp_base.specs.declared.fault.LinkFault.{LinkFault};
+ghost use Rattle.ftp_base.specs.Outside.{HasRisen, ReadsFront, Writes, Sending, nothing_sent};
+
+use crate::fault::{Failed, LinkFault};
+
+/// Gives bytes, as a connection, a file or standard input does.
+pub trait Source {
+    // What is left to be read, where the source tells it.
+    ghost left: { Self → Option (List ℕ) };
+
+    // How many calls failed.
+    ghost faults: { Self → ℕ };
+
+    // The other direction, where the source is a connection.
+    ghost sending: { Self → Sending } = { λ _. nothing_sent };
+
+    /// Reads to the front of `out`, and says how many bytes: none exactly at the end, where `out` has room.
+    fn read(&mut self, out: &mut [u8]) -> Result<usize, Failed>
+        ensures within { IfOk result (λ n. n ≤ length out.new) }
+        ensures read { IfOk result (λ n. IfSome (left self.old) (λ l. ReadsFront l (left self.new) n out.new)) }
+        ensures sent { (sending self.new).sent ≡ (sending self.old).sent }
+        ensures closed { (sending self.new).closed ≡ (sending self.old).closed }
+        ensures last_fault { OnOk result ((sending self.new).last_fault ≡ (sending self.old).last_fault) }
+        ensures only_fault { IfErr result (λ e. e ≡ Fault) }
+        ensures fault_rose { OnErr result (HasRisen (faults self.old) (faults self.new)) }
+        ensures unchanged { OnErr result (left self.new ≡ left self.old) }
+        ensures count { faults self.old ≤ faults self.new };
+}
+
+/// Takes bytes, as a file or standard output does.
+pub trait Sink {
+    // What was written, where the sink tells it.
+    ghost written: { Self → Option (List ℕ) };
+
+    // How many calls failed.
+    ghost faults: { Self → ℕ };
+
+    /// Writes bytes from the front, and says how many: at least one, where there is one.
+    fn write(&mut self, bytes: &[u8]) -> Result<usize, Failed>
+        ensures within { IfOk result (λ n. n ≤ length bytes.now) }
+        ensures some { IfOk result (λ n. 0 < length bytes.now → 0 < n) }
+        ensures wrote { IfOk result (λ n. Writes (written self.old) (written self.new) (take n bytes.now)) }
+        ensures fault_rose { IsErrOf result Fault → HasRisen (faults self.old) (faults self.new) }
+        ensures memory { IsErrOf result Memory → faults self.new ≡ faults self.old }
+        ensures unchanged { OnErr result (written self.new ≡ written self.old) }
+        ensures count { faults self.old ≤ faults self.new };
+}
+
+/// Both directions of a connection, under one count of faults.
+pub trait Link: Source {
+    /// Sends bytes from the front, and says how many: at least one, where there is one.
+    fn write(&mut self, bytes: &[u8]) -> Result<usize, Failed>
+        ensures within { IfOk result (λ n. n ≤ length bytes.now) }
+        ensures some { IfOk result (λ n. 0 < length bytes.now → 0 < n) }
+        ensures wrote { IfOk result (λ n. Writes (Self.sending self.old).sent (Self.sending self.new).sent (take n bytes.now)) }
+        ensures left { Self.left self.new ≡ Self.left self.old }
+        ensures closed { (Self.sending self.new).closed ≡ (Self.sending self.old).closed }
+        ensures last_fault { OnOk result ((Self.sending self.new).last_fault ≡ (Self.sending self.old).last_fault) }
+        ensures fault_rose { IsErrOf result Fault → HasRisen (Self.faults self.old) (Self.faults self.new) }
+        ensures memory { IsErrOf result Memory → (Self.faults self.new ≡ Self.faults self.old) }
+        ensures memory_last { IsErrOf result Memory → ((Self.sending self.new).last_fault ≡ (Self.sending self.old).last_fault) }
+        ensures unchanged { OnErr result ((Self.sending self.new).sent ≡ (Self.sending self.old).sent) }
+        ensures count { Self.faults self.old ≤ Self.faults self.new };
+
+    /// Closes both directions. What was sent and what is left to be read stay as they are.
+    fn close(&mut self) -> Result<(), Failed>
+        ensures closed { OnOk result ((Self.sending self.new).closed ≡ true) }
+        ensures sent { (Self.sending self.new).sent ≡ (Self.sending self.old).sent }
+        ensures left { Self.left self.new ≡ Self.left self.old }
+        ensures last_fault { (Self.sending self.new).last_fault ≡ (Self.sending self.old).last_fault }
+        ensures only_fault { IfErr result (λ e. e ≡ Fault) }
+        ensures fault_rose { OnErr result (HasRisen (Self.faults self.old) (Self.faults self.new)) }
+        ensures count { Self.faults self.old ≤ Self.faults self.new };
+
+    /// What the last read or write that failed met; nothing before any failed.
+    fn last_fault(&self) -> Option<LinkFault>
+        ensures { result ≡ (Self.sending self.now).last_fault };
+}
+
+/// Keeps the files that transfers read and write.
+pub trait Storage {
+    // What the storage can do, a set of bits.
+    ghost abilities: { Self → ℕ };
+
+    /// What the storage can do: the sum of the `FEATURE_` constants.
+    fn features(&self) -> u32
+        ensures { result ≡ abilities self.now };
+}
+
+/// Transfers can begin at a restart offset.
+pub const FEATURE_RESTART: u32 = 1;
