@@ -16,7 +16,7 @@ mod trace;
 
 pub use bytes::Bytes;
 pub use fault::{Failed, LinkFault};
-pub use login::{AuthAnswer, SessionState};
+pub use login::{AuthAnswer, LockState, SessionState};
 pub use message::ControlChanMsg;
 pub use net::{IpAddr, SocketAddr, SocketAddrPair};
 pub use notice::{EventMeta, Notice, PresenceEvent};

@@ -24,3 +24,10 @@ pub enum AuthAnswer {
     NotEntered,
     Good,
 }
+
+/// What a failed login says of the lock on its key.
+#[derive(Clone, Copy, Debug, PartialEq, Eq)]
+pub enum LockState {
+    MaxFailuresReached,
+    AlreadyLocked,
+}

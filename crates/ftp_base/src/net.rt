@@ -1,7 +1,7 @@
 //! Addresses of peers.
 
 ghost use Rattle.std.specs.Prelude.{◌≡◌};
-ghost use Rattle.ftp_base.specs.Net.{same_ip};
+ghost use Rattle.ftp_base.specs.Net.{same_ip, is_v6, ipv4};
 
 /// An address of IP version 4 or 6, as one number in network order.
 #[derive(Clone, Copy, Debug, PartialEq, Eq)]
@@ -19,6 +19,22 @@ impl IpAddr {
             (IpAddr::V4(a), IpAddr::V4(b)) => a == b,
             (IpAddr::V6(a), IpAddr::V6(b)) => a == b,
             _ => false,
+        }
+    }
+
+    pub fn is_v6(self) -> bool
+        ensures { result ≡ is_v6 self }
+    {
+        matches!(self, IpAddr::V6(_))
+    }
+
+    /// The number of an address of version 4, and 0 for one of version 6.
+    pub fn ipv4(self) -> u32
+        ensures { result ≡ ipv4 self }
+    {
+        match self {
+            IpAddr::V4(ip) => ip,
+            IpAddr::V6(_) => 0,
         }
     }
 }

@@ -1,0 +1,2 @@
+pub mod Script
+mod Examples

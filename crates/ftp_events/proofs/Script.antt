@@ -1,0 +1,99 @@
+-- A small script language for the examples.
+use Rattle.std.specs.Prelude.{ℕ, ◌+◌, ◌*◌, List, [], ◌∷◌, map, reverse, drop, codes, None}
+use Rattle.std.proofs.Common.{lit≤}
+use Rattle.ftp_base.specs.declared.net.IpAddr.{IpAddr}
+use Rattle.ftp_base.specs.declared.net.IpAddr.TheVariants.{V4}
+use Rattle.ftp_base.specs.declared.net.SocketAddr.{SocketAddr}
+use Rattle.ftp_base.specs.declared.login.AuthAnswer.TheVariants.{Good}
+use Rattle.ftp_base.specs.declared.reply.Reply.TheVariants.{CodeAndMsg}
+use Rattle.ftp_base.specs.declared.reply.ReplyCode.{ReplyCode}
+use Rattle.ftp_options.specs.declared.options.Options.{Options}
+use Rattle.ftp_options.specs.declared.options.ListenerMode.TheVariants.{Pooled}
+use Rattle.ftp_options.specs.declared.options.PassiveHost.TheVariants.{FromConnection}
+use Rattle.ftp_options.specs.declared.options.ActivePassiveMode.TheVariants.{PassiveOnly}
+use Rattle.ftp_events.specs.declared.entry.Entry.{Entry}
+use Rattle.ftp_events.specs.declared.event.HubEvent.{HubEvent}
+use Rattle.ftp_events.specs.declared.event.EventKind.{EventKind}
+use Rattle.ftp_events.specs.declared.event.EventKind.TheVariants as kind
+use Rattle.ftp_events.specs.declared.event.Answer.{Answer}
+use Rattle.ftp_events.specs.declared.event.Answer.TheVariants as answer
+use Rattle.ftp_events.specs.declared.decision.Decision.{Decision}
+use Rattle.ftp_events.specs.declared.action.Action.{Action}
+use Rattle.ftp_events.specs.declared.action.Action.TheVariants as action
+use Rattle.ftp_events.specs.Decide.{decide}
+use Rattle.ftp_events.specs.Acts.{acts}
+use Rattle.ftp_events.specs.Right.{log_of}
+use Rattle.std.specs.Fmt.{digits}
+
+-- an address by its four numbers
+abbrev pub ip : ℕ → ℕ → ℕ → ℕ → IpAddr
+ip a b c d = V4 (((a * 256 + b) * 256 + c) * 256 + d)
+
+-- an address and a port
+abbrev pub addr : IpAddr → ℕ → SocketAddr
+addr a p = record { ip = a; port = p }
+
+-- pooled mode with the passive ports 50000 to 50001
+abbrev pub two_ports : Options
+two_ports = record { mode = Pooled; lo = 50000; hi = 50001; host = FromConnection; active_passive = PassiveOnly; idle_ms = 600000; ordered = lit≤ tt; listens = λ _. lit≤ tt }
+
+-- with the port 50000 alone
+abbrev pub one_port : Options
+one_port = record { mode = Pooled; lo = 50000; hi = 50000; host = FromConnection; active_passive = PassiveOnly; idle_ms = 600000; ordered = lit≤ tt; listens = λ _. lit≤ tt }
+
+-- with all ports
+abbrev pub all_ports : Options
+all_ports = record { mode = Pooled; lo = 1; hi = 65535; host = FromConnection; active_passive = PassiveOnly; idle_ms = 600000; ordered = lit≤ tt; listens = λ _. lit≤ tt }
+
+-- an event and its answer
+abbrev pub Event : Type 0
+Event = HubEvent × Answer
+
+-- an event at a moment, with no answer
+abbrev pub event : ℕ → EventKind → Event
+event at k = (record { at = at; kind = k }, answer.None)
+
+-- a control connection of session s
+abbrev pub opened : ℕ → IpAddr → Event
+opened s a = event 0 (kind.Connect s (addr a 4000) (addr (ip 10 0 0 9) 21) s)
+
+-- the four events of a login, oldest first
+abbrev pub login : ℕ → IpAddr → List Event
+login s a =
+    opened s a ∷ event 0 (kind.User s (codes "ann")) ∷ event 0 (kind.Pass s) ∷ event 0 (kind.AuthDone s Good) ∷ []
+
+-- a PASV with the word that chooses where the search begins
+abbrev pub pasv : ℕ → ℕ → Event
+pasv s word = event 1 (kind.Pasv s word None None)
+
+-- a data connection
+abbrev pub data_in : ℕ → SocketAddr → ℕ → Event
+data_in number raw port = event 1 (kind.DataIn number raw port)
+
+-- what an entry decided and did
+abbrev pub said : Entry → Decision × List Action
+said e = (e.decision, e.actions)
+
+-- what the log of these events, oldest first, says after its first n entries
+abbrev pub told_after : ℕ → Options → List Event → List (Decision × List Action)
+told_after n o events = drop n (reverse (map said (log_of o (reverse events))))
+
+-- the decisions alone
+abbrev pub decided_after : ℕ → Options → List Event → List Decision
+decided_after n o events = drop n (reverse (map (λ e. e.decision) (log_of o (reverse events))))
+
+-- a reply without delay
+abbrev pub say : ℕ → ReplyCode → List ℕ → Action
+say s c text = action.Reply s 0 (CodeAndMsg c text)
+
+-- two clients
+abbrev pub a1 : IpAddr
+a1 = ip 10 0 0 1
+
+abbrev pub a2 : IpAddr
+a2 = ip 10 0 0 2
+
+-- opens all that the definitions compute with
+unfoldable pub everything : ℕ
+unfolding decide acts digits
+everything = 0

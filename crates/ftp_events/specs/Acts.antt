@@ -1,0 +1,103 @@
+-- What is done because of an entry, in order.
+use Rattle.std.specs.Prelude.{ℕ, ◌+◌, List, [], ◌∷◌, ◌++◌, Option, Some, None, unwrap_or, if◌then◌else◌}
+use Rattle.std.specs.Option.{option_map, option_map_or}
+use Rattle.ftp_base.specs.declared.notice.Notice.{Notice}
+use Rattle.ftp_base.specs.declared.notice.Notice.TheVariants.{Presence}
+use Rattle.ftp_base.specs.declared.notice.PresenceEvent.{PresenceEvent}
+use Rattle.ftp_base.specs.declared.notice.PresenceEvent.TheVariants as presence
+use Rattle.ftp_base.specs.declared.reply.Reply.{Reply}
+use Rattle.ftp_base.specs.declared.reply.Reply.TheVariants as reply
+use Rattle.ftp_options.specs.declared.options.Options.{Options}
+use Rattle.ftp_events.specs.declared.action.Action.{Action}
+use Rattle.ftp_events.specs.declared.action.Action.TheVariants as action
+use Rattle.ftp_events.specs.declared.entry.Entry.{Entry}
+use Rattle.ftp_events.specs.declared.event.EventKind.{EventKind}
+use Rattle.ftp_events.specs.declared.event.Answer.{Answer}
+use Rattle.ftp_events.specs.declared.decision.Decision.{Decision}
+use Rattle.ftp_events.specs.declared.decision.Decision.TheVariants.{Turned, LoggedIn}
+use Rattle.ftp_events.specs.declared.session.Slot.{Slot}
+use Rattle.ftp_events.specs.declared.session.Slot.TheVariants.{Empty, Linked}
+use Rattle.ftp_events.specs.declared.session.Session.{Session}
+use Rattle.ftp_events.specs.Words.{◌⇒◌∣◌}
+use Rattle.ftp_events.specs.Log.{is_refusal, past_of, new_number, is_ending}
+use Rattle.ftp_events.specs.History.{subject}
+use Rattle.ftp_events.specs.Login.{login_by, logged_user}
+use Rattle.ftp_events.specs.Slot.{drops}
+use Rattle.ftp_events.specs.Session.{session}
+use Rattle.ftp_events.specs.Reply.{trace_of, message_for, reply_for, delay_of}
+
+-- the link that a slot has
+abbrev pub link_in : Slot → Option ℕ
+link_in (Linked number) = Some number
+link_in _ = None
+
+-- a link that is dropped is closed
+abbrev pub closings : Option ℕ → List Action
+closings None = []
+closings (Some number) = action.Close number ∷ []
+
+-- the coming or going that a decision is
+abbrev pub presence_for : Decision → Option PresenceEvent
+presence_for LoggedIn = Some presence.LoggedIn
+presence_for d = is_ending d ⇒ Some presence.LoggedOut ∣ None
+
+-- what listeners are told
+abbrev pub notice_for : Option PresenceEvent → Option Notice
+notice_for p = option_map Presence p
+
+-- a notification has the next number of the session
+abbrev pub notifications : ℕ → Session → List ℕ → Option Notice → List Action
+notifications s v user None = []
+notifications s v user (Some what) =
+    action.Notify s (record { username = user; trace_id = trace_of v.opening.trace; sequence_number = v.notices + 1 }) what ∷ []
+
+-- a reply is sent where there is one
+abbrev pub reply_acts : ℕ → ℕ → Reply → List Action
+reply_acts s delay reply.None = []
+reply_acts s delay (reply.CodeAndMsg c msg) = action.Reply s delay (reply.CodeAndMsg c msg) ∷ []
+
+-- a new connection that is turned away is closed
+abbrev pub refused_link : EventKind → Decision → List Action
+refused_link k Turned = option_map_or (λ n. action.Close n ∷ []) (new_number k Turned) []
+refused_link k _ = []
+
+-- at an ending the session's own connection is closed last
+abbrev pub farewells : ℕ → Decision → List Action
+farewells s d = is_ending d ⇒ action.Close s ∷ [] ∣ []
+
+-- what a live session gets: a notice, and a reply
+abbrev pub notice_and_reply : Options → ℕ → EventKind → Answer → Decision → Session → List Action
+notice_and_reply o s k answer d v =
+    notifications s v (logged_user (unwrap_or (login_by d) v.login) v.name) (notice_for (presence_for d)) ++
+    reply_acts s (delay_of d) (reply_for o v (message_for v k answer d) k d)
+
+-- the slot of a session that is live
+abbrev pub slot_of : Option Session → Slot
+slot_of None = Empty
+slot_of (Some v) = v.slot
+
+-- what a session loses with its slot
+abbrev pub drop_acts : Decision → Slot → List Action
+drop_acts d slot = if drops d slot then closings (link_in slot) else []
+
+-- what an event does for the session that it is about, in order, from what the session is before
+abbrev pub session_acts : Options → ℕ → EventKind → Answer → Decision → Option Session → List Action
+session_acts o s k answer d v =
+    drop_acts d (slot_of v) ++
+    refused_link k d ++
+    option_map_or (notice_and_reply o s k answer d) v [] ++
+    farewells s d
+
+-- what an entry does for the session that it is about
+abbrev pub acts_for : Options → List Entry → Entry → ℕ → List Action
+acts_for o past e s = session_acts o s e.event.kind e.answer e.decision (session o past s)
+
+-- what an entry does
+abbrev pub acts_of : Options → List Entry → Entry → List Action
+acts_of o past e =
+    is_refusal e.decision ⇒ []
+    ∣ option_map_or (acts_for o past e) (subject o past e) (refused_link e.event.kind e.decision)
+
+-- the actions of an entry, after a log
+unfoldable pub acts : Options → List Entry → Entry → List Action
+acts o log e = acts_of o (past_of log) e

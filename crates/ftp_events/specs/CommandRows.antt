@@ -1,0 +1,25 @@
+-- What is decided on the commands of a session.
+use Rattle.std.specs.Prelude.{ℕ, Bool, true, false, List}
+use Rattle.std.specs.Option.{option_map_or}
+use Rattle.ftp_options.specs.declared.options.Options.{Options}
+use Rattle.ftp_events.specs.declared.entry.Entry.{Entry}
+use Rattle.ftp_events.specs.declared.decision.Decision.{Decision}
+use Rattle.ftp_events.specs.declared.decision.Decision.TheVariants.{NotLoggedIn, Full, Granted}
+use Rattle.ftp_events.specs.declared.session.Login.{Login}
+use Rattle.ftp_events.specs.declared.session.Login.TheVariants as login
+use Rattle.ftp_events.specs.declared.session.Session.{Session}
+use Rattle.ftp_events.specs.Words.{◌⇒◌∣◌}
+use Rattle.ftp_events.specs.Board.{first_free_port}
+
+-- the login is done
+abbrev pub is_logged_in : Login → Bool
+is_logged_in login.LoggedIn = true
+is_logged_in _ = false
+
+-- the rows of a session that has to be logged in
+abbrev pub if_logged_in : Session → Decision → Decision
+if_logged_in v d = is_logged_in v.login ⇒ d ∣ NotLoggedIn
+
+-- PASV: the first free port
+abbrev pub pasv_row : Options → List Entry → ℕ → Session → Decision
+pasv_row o past word v = option_map_or Granted (first_free_port o past v.opening.client word) Full

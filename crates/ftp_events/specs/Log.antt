@@ -1,0 +1,46 @@
+-- The log, newest entry first.
+use Rattle.std.specs.Prelude.{ℕ, Bool, true, false, not, List, filter, Option, Some, None}
+use Rattle.std.specs.List.{list_any}
+use Rattle.ftp_events.specs.declared.entry.Entry.{Entry}
+use Rattle.ftp_events.specs.declared.event.EventKind.{EventKind}
+use Rattle.ftp_events.specs.declared.event.EventKind.TheVariants.{Connect, DataIn, User, Pass, AuthDone, Pasv}
+use Rattle.ftp_events.specs.declared.event.EventKind.TheVariants as kind
+use Rattle.ftp_events.specs.declared.decision.Decision.{Decision}
+use Rattle.ftp_events.specs.declared.decision.Decision.TheVariants.{UnknownNumber, UsedNumber, Misplaced, NotExpected, Closed}
+use Rattle.ftp_events.specs.Words.{is_number}
+
+-- the four refusals
+abbrev pub is_refusal : Decision → Bool
+is_refusal UnknownNumber = true
+is_refusal UsedNumber = true
+is_refusal Misplaced = true
+is_refusal NotExpected = true
+is_refusal _ = false
+
+-- the entries that were not refused: every question on the past is asked of these alone
+abbrev pub past_of : List Entry → List Entry
+past_of log = filter (λ e. not (is_refusal e.decision)) log
+
+-- the number that an entry carries as new
+abbrev pub new_number : EventKind → Decision → Option ℕ
+new_number (Connect session raw local trace) d = Some session
+new_number (DataIn number raw port) d = Some number
+new_number _ _ = None
+
+-- some entry carries n as new
+abbrev pub is_used : List Entry → ℕ → Bool
+is_used past n = list_any (λ e. is_number (new_number e.event.kind e.decision) n) past
+
+-- the session that an event names
+abbrev pub named_session : EventKind → Option ℕ
+named_session (User session name) = Some session
+named_session (Pass session) = Some session
+named_session (AuthDone session answer) = Some session
+named_session (Pasv session word lookup bound) = Some session
+named_session (kind.Closed session) = Some session
+named_session _ = None
+
+-- a decision that ends the session which the event names
+abbrev pub is_ending : Decision → Bool
+is_ending Closed = true
+is_ending _ = false

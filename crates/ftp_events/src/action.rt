@@ -1,0 +1,57 @@
+//! What the server does because of an event.
+
+use ftp_base::{EventMeta, Notice, Reply};
+use std::marker::Model;
+
+#[derive(Drop)]
+pub enum Action {
+    /// A connection is closed.
+    Close {
+        number: u64,
+    },
+    /// Listeners are told.
+    Notify {
+        session: u64,
+        meta: EventMeta,
+        what: Notice,
+    },
+    /// A reply is sent after a delay in milliseconds.
+    Reply {
+        session: u64,
+        delay: u32,
+        reply: Reply,
+    },
+}
+
+/// Actions in their order, which contracts see as a list.
+#[derive(Drop)]
+pub struct Actions {
+    items: Vec<Action>,
+}
+
+impl Model for Actions {
+    ghost use Rattle.std.specs.Prelude.{List};
+    ghost use Rattle.ftp_events.specs.declared.action.Action.{Action};
+
+    ghost Value = { List Action };
+
+    ghost view = { λ a. a.items.items };
+}
+
+impl Actions {
+    ghost use Rattle.std.specs.Prelude.{◌≡◌};
+
+    /// Takes over the actions of a vector.
+    pub fn from_vec(items: Vec<Action>) -> Actions
+        ensures { result ≡ items.items }
+    {
+        Actions { items }
+    }
+
+    /// Lends the actions.
+    pub fn as_slice(&self) -> &[Action]
+        ensures { result.now ≡ self.now }
+    {
+        self.items.as_slice()
+    }
+}

@@ -1,0 +1,21 @@
+//! Events, decisions and actions of the server, and in specs/ what they have to be.
+//!
+//! A log is right where each decision is the one that is due after the entries before it.
+//! Begin with `Entry`, and with specs/Right.antt.
+#![tactic(auto)]
+
+mod action;
+mod decision;
+mod entry;
+mod event;
+mod log;
+mod session;
+mod text;
+
+pub use action::{Action, Actions};
+pub use decision::Decision;
+pub use entry::Entry;
+pub use event::{Answer, EventKind, HubEvent};
+pub use log::Log;
+pub use session::{Login, Opening, Session, Slot};
+pub use text::{make_pasv_reply, reply_of, write_passive_text};

@@ -1,0 +1,103 @@
+//! The texts of replies.
+
+ghost use Rattle.std.specs.Prelude.{◌≡◌, ◌+◌, ◌≤◌, ◌<◌, ◌^◌, ◌++◌, [], ◌∷◌, length, decimal, IfOk};
+ghost use Rattle.std.specs.Vec.{vec_len, vec_capacity};
+ghost use Rattle.ftp_events.specs.Text.{passive_text, passive_numbers};
+ghost use Rattle.ftp_events.specs.Message.{reply_of};
+ghost use Rattle.ftp_events.specs.Reply.{passive_reply};
+
+use ftp_base::{Bytes, ControlChanMsg, Reply, ReplyCode};
+use ftp_options::PassiveHost;
+use itoa::Buffer;
+use std::alloc::{AllocError, Global};
+
+/// No passive reply's text is longer, in bytes.
+pub const PASSIVE_TEXT: usize = 64;
+
+/// The reply to a message.
+pub fn reply_of(alloc: Global, message: &ControlChanMsg) -> Result<Reply, AllocError>
+    ensures { IfOk result (λ reply. reply ≡ reply_of message.now) }
+{
+    let (code, msg) = match message {
+        ControlChanMsg::AuthSuccess { .. } => {
+            (
+                ReplyCode::UserLoggedIn,
+                b"User logged in, proceed".as_slice(),
+            )
+        }
+        ControlChanMsg::AuthFailed => {
+            (ReplyCode::NotLoggedIn, b"Authentication failed".as_slice())
+        }
+    };
+    let msg = Bytes::from_slice(alloc, msg)?;
+    Ok(Reply::CodeAndMsg { code, msg })
+}
+
+/// The reply that advertises a passive port (RFC 959, section 4.1.2). The addresses are IPv4, as one
+/// number in network order; `lookup` is what the advertised name was looked up to.
+pub fn make_pasv_reply(
+    alloc: Global,
+    host: &PassiveHost,
+    conn_ip: u32,
+    lookup: Option<u32>,
+    port: u16,
+) -> Result<Reply, AllocError>
+    ensures { IfOk result (λ reply. reply ≡ passive_reply host.now conn_ip lookup port) }
+{
+    let mut text = Vec::with_capacity(alloc, PASSIVE_TEXT)?;
+    let PassiveHost::FromConnection = host;
+    write_passive_text(&mut text, conn_ip, port);
+    Ok(Reply::CodeAndMsg {
+        code: ReplyCode::EnteringPassiveMode,
+        msg: Bytes::from_vec(text),
+    })
+}
+
+/// Writes the text of a passive reply behind the text, in room that it has.
+pub fn write_passive_text(text: &mut Vec<u8>, ip: u32, port: u16)
+    requires { vec_len text.old + 64 ≤ vec_capacity text.old }
+    ensures { text.new.items ≡ text.old.items ++ passive_text ip port }
+{
+    let [a, b, c, d] = ip.to_be_bytes();
+    write_numbers(text, a, b, c, d, (port / 256) as u8, (port % 256) as u8);
+}
+
+// Writes six numbers in their frame.
+fn write_numbers(text: &mut Vec<u8>, a: u8, b: u8, c: u8, d: u8, high: u8, low: u8)
+    requires { vec_len text.old + 64 ≤ vec_capacity text.old }
+    ensures { text.new.items ≡ text.old.items ++ passive_numbers (a ∷ b ∷ c ∷ d ∷ high ∷ low ∷ []) }
+{
+    write(text, b"Entering Passive Mode (");
+    write_number(text, a, b",");
+    write_number(text, b, b",");
+    write_number(text, c, b",");
+    write_number(text, d, b",");
+    write_number(text, high, b",");
+    write_number(text, low, b")");
+}
+
+// Writes the words behind the text.
+fn write(text: &mut Vec<u8>, words: &[u8])
+    requires { vec_len text.old + length words.now ≤ vec_capacity text.old }
+    ensures items { text.new.items ≡ text.old.items ++ words.now }
+    ensures len { vec_len text.new ≡ vec_len text.old + length words.now }
+    ensures capacity { vec_capacity text.old ≤ vec_capacity text.new }
+{
+    match text.extend_from_slice(words) {
+        Ok(()) => {}
+        Err(_) => unreachable!(),
+    }
+}
+
+// Writes a number and the mark behind it.
+fn write_number(text: &mut Vec<u8>, n: u8, mark: &[u8])
+    requires one { length mark.now ≡ 1 }
+    requires room { vec_len text.old + 4 ≤ vec_capacity text.old }
+    ensures items { text.new.items ≡ text.old.items ++ (decimal n ++ mark.now) }
+    ensures len { vec_len text.new ≤ vec_len text.old + 4 }
+    ensures capacity { vec_capacity text.old ≤ vec_capacity text.new }
+{
+    let mut buffer = Buffer::new();
+    write(text, buffer.format(n).as_bytes());
+    write(text, mark);
+}

@@ -1,0 +1,4 @@
+pub mod Builder
+pub mod Modes
+pub mod Settings
+pub mod Texts
