@@ -5,8 +5,14 @@
 #![tactic(auto)]
 
 mod bytes;
+mod calls;
+mod chunk;
 mod fault;
+mod link_table;
 mod login;
+mod memory_link;
+mod memory_sink;
+mod memory_source;
 mod message;
 mod net;
 mod notice;
@@ -16,7 +22,11 @@ mod trace;
 
 pub use bytes::Bytes;
 pub use fault::{Failed, LinkFault};
+pub use link_table::{InsertError, LinkTable};
 pub use login::{AuthAnswer, LockState, SessionState};
+pub use memory_link::MemoryLink;
+pub use memory_sink::MemorySink;
+pub use memory_source::MemorySource;
 pub use message::ControlChanMsg;
 pub use net::{IpAddr, SocketAddr, SocketAddrPair};
 pub use notice::{EventMeta, Notice, PresenceEvent};

@@ -3,7 +3,7 @@
 //! What an object holds is told or not told: `None` tells nothing. The count of faults never falls.
 //! A count at the end of its type stands still, so there a fault may always be answered.
 
-ghost use Rattle.std.specs.Prelude.{◌≡◌, ℕ, ◌<◌, ◌≤◌, ◌++◌, List, length, take, true, Option, Some, IsSome, IfOk, IfErr, OnOk, OnErr, IfSome, IsErrOf};
+ghost use Rattle.std.specs.Prelude.{◌≡◌, ℕ, ◌<◌, ◌≤◌, ◌++◌, List, length, take, Bool, true, Option, Some, IsSome, IfOk, IfErr, OnOk, OnErr, IfSome, IsErrOf};
 ghost use Rattle.ftp_base.specs.declared.fault.Failed.TheVariants.{Fault, Memory};
 ghost use Rattle.ftp_base.specs.declared.fault.LinkFault.{LinkFault};
 ghost use Rattle.ftp_base.specs.Outside.{HasRisen, ReadsFront, Writes, Sending, nothing_sent};
@@ -55,6 +55,9 @@ pub trait Sink {
 
 /// Both directions of a connection, under one count of faults.
 pub trait Link: Source {
+    // Whether a write may fail for want of memory.
+    ghost takes_memory: { Bool } = { true };
+
     /// Sends bytes from the front, and says how many: at least one, where there is one.
     fn write(&mut self, bytes: &[u8]) -> Result<usize, Failed>
         ensures within { IfOk result (λ n. n ≤ length bytes.now) }
@@ -65,6 +68,7 @@ pub trait Link: Source {
         ensures last_fault { OnOk result ((Self.sending self.new).last_fault ≡ (Self.sending self.old).last_fault) }
         ensures fault_rose { IsErrOf result Fault → HasRisen (Self.faults self.old) (Self.faults self.new) }
         ensures memory { IsErrOf result Memory → (Self.faults self.new ≡ Self.faults self.old) }
+        ensures takes_memory { IsErrOf result Memory → takes_memory ≡ true }
         ensures memory_last { IsErrOf result Memory → ((Self.sending self.new).last_fault ≡ (Self.sending self.old).last_fault) }
         ensures unchanged { OnErr result ((Self.sending self.new).sent ≡ (Self.sending self.old).sent) }
         ensures count { Self.faults self.old ≤ Self.faults self.new };

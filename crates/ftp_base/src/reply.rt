@@ -119,6 +119,19 @@ impl Reply {
             }
         }
     }
+
+    /// Gives an equal reply.
+    pub fn copy(&self, alloc: Global) -> Result<Reply, AllocError>
+        ensures { IfOk result (λ copy. copy ≡ self.now) }
+    {
+        match self {
+            Reply::None => Ok(Reply::None),
+            Reply::CodeAndMsg { code, msg } => Ok(Reply::CodeAndMsg {
+                code: *code,
+                msg: msg.copy(alloc)?,
+            }),
+        }
+    }
 }
 
 #[cfg(test)]

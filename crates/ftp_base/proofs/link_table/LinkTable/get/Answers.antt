@@ -1,0 +1,10 @@
+use Rattle.std.proofs.Common.{ap, sym, ◌∙◌}
+use Rattle.std.specs.FinMap as map
+use Rattle.ftp_base.proofs.Tables.{get-numbers}
+use Rattle.ftp_base.proofs.link_table.LinkTable.get.Goals as goal
+
+pub returns : goal.returns
+returns g c =
+    c.get.ensures.value
+    ∙ sym (get-numbers c.self.inside.links.entries c.args.number)
+    ∙ ap (λ v. map.get v c.args.number) c.self.view_is

@@ -1,0 +1,32 @@
+-- The calls of an object in memory: how many were made, how many failed, and which ones fail.
+use Rattle.std.specs.Prelude.{ℕ, ◌+◌, ◌-◌, ◌^◌, ◌==◌, nat_lt, if◌then◌else◌, Bool, List, refl}
+use Rattle.std.specs.List.{list_any}
+use Rattle.std.specs.Coded.{Coded, code_by, coded×, coded_ℕ, coded_list}
+
+-- the calls so far, how many of them failed, and the calls that fail, each with its number
+pub record Calls (T : Type 0) : Type 0 where
+  pub made : ℕ
+  pub faults : ℕ
+  pub failing : List T
+
+-- calls are stored as their three parts
+abbrev pub calls_code : {T : Type 0} → Coded T → Coded (Calls T)
+calls_code {T} code =
+    code_by (ℕ × (ℕ × List T)) (coded× coded_ℕ (coded× coded_ℕ (coded_list code))) (λ c. (c.made, (c.faults, c.failing)))
+    (λ p. record { made = p.0; faults = p.1.0; failing = p.1.1 }) (λ _. refl)
+
+-- one more; at its last value a count stands still
+abbrev pub one_more : ℕ → ℕ
+one_more n = if nat_lt n (2 ^ 64 - 1) then n + 1 else n
+
+-- whether the call that comes next is one of those that fail
+abbrev pub fails_next_by : {T : Type 0} → (T → ℕ) → Calls T → Bool
+fails_next_by number c = list_any (λ f. number f == one_more c.made) c.failing
+
+-- the calls after one more that went well
+abbrev pub after_call : {T : Type 0} → Calls T → Calls T
+after_call c = record c { made = one_more c.made }
+
+-- the calls after one more that failed
+abbrev pub after_fault : {T : Type 0} → Calls T → Calls T
+after_fault c = record c { made = one_more c.made; faults = one_more c.faults }

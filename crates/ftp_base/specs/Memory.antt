@@ -1,0 +1,38 @@
+-- What callers see of the objects in memory: sources, sinks and links.
+use Rattle.std.specs.Prelude.{ℕ, Bool, List, Contains, Option, IsSomeAnd}
+use Rattle.ftp_base.specs.declared.fault.LinkFault.{LinkFault}
+use Rattle.ftp_base.specs.Calls.{Calls, one_more, fails_next_by}
+
+-- what a source has left, how much a call reads at most, and its calls
+pub record SourceState : Type 0 where
+  pub left : List ℕ
+  pub chunk : ℕ
+  pub calls : Calls ℕ
+
+-- what a sink took, how much a call writes at most, and its calls
+pub record SinkState : Type 0 where
+  pub written : List ℕ
+  pub chunk : ℕ
+  pub calls : Calls ℕ
+
+-- a connection: what is left to be read and what was sent, whether it is closed, what the last failed read or write
+-- met, how much a call moves at most, and its calls
+pub record LinkState : Type 0 where
+  pub left : List ℕ
+  pub sent : List ℕ
+  pub closed : Bool
+  pub last_fault : Option LinkFault
+  pub chunk : ℕ
+  pub calls : Calls (ℕ × LinkFault)
+
+-- whether the call that comes next fails
+abbrev pub fails_next : Calls ℕ → Bool
+fails_next calls = fails_next_by (λ call. call) calls
+
+-- whether the call that comes next fails, where each comes with its fault
+abbrev pub link_fails_next : Calls (ℕ × LinkFault) → Bool
+link_fails_next calls = fails_next_by (λ call. call.0) calls
+
+-- the fault is one that the list names for the call that comes next
+abbrev pub IsNextFault : Calls (ℕ × LinkFault) → Option LinkFault → Type 0
+IsNextFault calls fault = IsSomeAnd fault (λ f. Contains calls.failing (one_more calls.made, f))

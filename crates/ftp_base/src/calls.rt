@@ -1,0 +1,111 @@
+//! The calls of an object in memory, and which of them fail.
+
+ghost use Rattle.std.specs.Prelude.{◌≡◌, ◌==◌, ℕ, is_some, IfSome, Contains, IsPermutation};
+ghost use Rattle.std.specs.List.{list_any};
+ghost use Rattle.std.specs.List.Sorted.{IsSortedByKey};
+ghost use Rattle.std.specs.Ordering.{nat_cmp};
+ghost use Rattle.ftp_base.specs.Calls.{one_more, fails_next_by, after_call, after_fault};
+
+use crate::fault::LinkFault;
+use std::marker::Model;
+
+/// A call that fails.
+pub trait FailingCall: Copy + Drop {
+    // Which call it is.
+    ghost number: { Self → ℕ };
+
+    fn number(&self) -> u64
+        ensures { result ≡ number self.now };
+}
+
+impl FailingCall for u64 {
+    ghost number = { λ n. n };
+
+    fn number(&self) -> u64 {
+        *self
+    }
+}
+
+impl FailingCall for (u64, LinkFault) {
+    ghost number = { λ f. f.0 };
+
+    fn number(&self) -> u64 {
+        self.0
+    }
+}
+
+/// Counts calls from 1. At its last value a count stands still.
+#[derive(Drop)]
+pub struct Calls<T: FailingCall> {
+    made: u64,
+    faults: u64,
+    /// In the order of their numbers.
+    failing: Vec<T>,
+}
+
+impl<T: FailingCall> Model for Calls<T> {
+    ghost use Rattle.std.specs.List.Sorted.{IsSortedByKey};
+    ghost use Rattle.std.specs.Ordering.{nat_cmp};
+    ghost use Rattle.ftp_base.specs.Calls as specs;
+
+    ghost Value = { specs.Calls T };
+
+    ghost coded = { specs.calls_code T.code };
+
+    ghost view = { λ c. record { made = c.made; faults = c.faults; failing = c.failing.items } };
+
+    ghost invariant = { λ c. IsSortedByKey T.number nat_cmp c.failing.items };
+}
+
+impl<T: FailingCall> Calls<T> {
+    pub fn new(failing: Vec<T>) -> Calls<T>
+        ensures made { result.made ≡ 0 }
+        ensures faults { result.faults ≡ 0 }
+        ensures failing { IsPermutation failing.items result.failing }
+    {
+        let mut failing = failing;
+        failing.sort_unstable_by_key(|call| call.number());
+        Calls {
+            made: 0,
+            faults: 0,
+            failing,
+        }
+    }
+
+    /// The call that comes next, where it fails.
+    pub fn next_failing(&self) -> Option<T>
+        ensures fails { is_some result ≡ fails_next_by T.number self.now }
+        ensures number { IfSome result (λ call. T.number call ≡ one_more self.now.made) }
+        ensures listed { IfSome result (λ call. Contains self.now.failing call) }
+    {
+        find_call(self.failing.as_slice(), self.made.saturating_add(1))
+    }
+
+    /// Counts a call that goes well.
+    pub fn count_call(&mut self)
+        ensures { self.new ≡ after_call self.old }
+    {
+        self.made = self.made.saturating_add(1);
+    }
+
+    /// Counts a call that fails.
+    pub fn count_fault(&mut self)
+        ensures { self.new ≡ after_fault self.old }
+    {
+        self.made = self.made.saturating_add(1);
+        self.faults = self.faults.saturating_add(1);
+    }
+}
+
+/// The call with this number, among calls in the order of their numbers.
+fn find_call<T: FailingCall>(calls: &[T], number: u64) -> Option<T>
+    requires { IsSortedByKey T.number nat_cmp calls.now }
+    ensures fails { is_some result ≡ list_any (λ call. T.number call == number) calls.now }
+    ensures number { IfSome result (λ call. T.number call ≡ number) }
+    ensures listed { IfSome result (λ call. Contains calls.now call) }
+{
+    match calls.binary_search_by_key(&number, |call| call.number()) {
+        Ok(at) => Some(calls[at]),
+        Err(_) => None,
+    }
+}
