@@ -1,0 +1,4 @@
+pub mod Board
+pub mod Holds
+pub mod Pairs
+pub mod Ports

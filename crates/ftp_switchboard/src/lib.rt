@@ -1,0 +1,15 @@
+//! Reservations of passive ports: which session holds which port for which client address.
+//!
+//! A session gets the first port, from its word on, that nobody holds for its client's address.
+//! Begin with `Switchboard`.
+#![tactic(auto)]
+
+mod holds;
+mod key;
+mod switchboard;
+
+pub use key::SwitchboardKey;
+pub use switchboard::{Switchboard, SwitchboardError};
+
+#[cfg(test)]
+mod tests;

@@ -1,0 +1,192 @@
+//! Who holds which port for which client.
+
+ghost use Rattle.std.specs.Prelude.{◌≡◌, ◌<◌, ◌≤◌, ◌↔◌, ℕ, None, Some, IfErr, IfOk, IsErrOf, IsSome, OnErr, OnOk, is_none, if◌then◌else◌};
+ghost use Rattle.std.specs.FinMap as finmap;
+ghost use Rattle.ftp_switchboard.specs.Board.{HasRoom, KeepsRoom, SameHolds, SameRange, holder_at, is_key, key as key_pair, present_released, released, still_holder};
+ghost use Rattle.ftp_switchboard.specs.Pairs.{holder_of_pair, key_of_pair, without};
+ghost use Rattle.ftp_switchboard.specs.Ports.{first_free};
+
+use crate::holds::{
+    Hold, claim, first_free, give_up, give_up_present, holder_of, place_of, put_in, take_out,
+};
+use crate::key::{SwitchboardKey, key_of};
+use ftp_base::SocketAddrPair;
+use std::alloc::{AllocError, Global};
+use std::marker::Model;
+use thiserror::Error;
+
+/// Why a port is not given.
+#[derive(Clone, Copy, Debug, PartialEq, Eq, Drop, Error)]
+pub enum SwitchboardError {
+    /// A session holds the port for this client address.
+    #[error("the port is held for this client address")]
+    EntryNotAvailable,
+    /// Every port of the range is held for this client address.
+    #[error("every port of the range is held for this client address")]
+    MaxRetriesError,
+}
+
+/// The ports of a range, and the sessions that hold them, each for one client address.
+#[derive(Drop)]
+pub struct Switchboard {
+    lo: u16,
+    hi: u16,
+    holds: Vec<Hold>,
+}
+
+impl Model for Switchboard {
+    ghost use Rattle.std.specs.Prelude.{◌≤◌, ◌-◌, vec_capacity, vec_len};
+    ghost use Rattle.ftp_switchboard.specs.Board.{Board, board_code};
+
+    ghost Value = { Board };
+
+    ghost coded = { board_code };
+
+    ghost use Rattle.ftp_switchboard.specs.Holds.{IsInOrder, held_by};
+
+    ghost view = { λ b. record {
+      lo = b.lo;
+      hi = b.hi;
+      held = held_by b.holds.items;
+      room = vec_capacity b.holds - vec_len b.holds;
+    } };
+
+    ghost invariant = { λ b. record { from_one : 1 ≤ b.lo; range : b.lo ≤ b.hi; order : IsInOrder b.holds.items } };
+}
+
+impl Switchboard {
+    /// A switchboard for the ports from `lo` to `hi`, both included, of which nobody holds one.
+    pub fn new(alloc: Global, lo: u16, hi: u16) -> Switchboard
+        requires in_range { (1 ≤ lo) × (lo ≤ hi) }
+        ensures range { (result.lo ≡ lo) × (result.hi ≡ hi) }
+        ensures free { result.held ≡ finmap.empty }
+    {
+        Switchboard {
+            lo,
+            hi,
+            holds: Vec::new(alloc),
+        }
+    }
+
+    /// The session that holds the port for the client address.
+    pub fn holder(&self, source: u32, port: u16) -> Option<u64>
+        ensures { result ≡ holder_at self.now source port }
+    {
+        holder_of(&self.holds, SwitchboardKey { source, port })
+    }
+
+    /// The session that holds the port that a connection came to, for the address that it came from.
+    /// For an IPv6 address there is none.
+    pub fn get_session_by_connection_pair(&self, c: &SocketAddrPair) -> Option<u64>
+        ensures { result ≡ holder_of_pair self.now c.now }
+    {
+        let key = key_of(c)?;
+        self.holder(key.source, key.port)
+    }
+
+    /// Makes room, so that the next claim or reservation for the client address takes no memory.
+    pub fn reserve_room(&mut self, source: u32) -> Result<(), AllocError>
+        ensures ok { OnOk result (HasRoom self.new source) }
+        ensures same { SameHolds self.old self.new }
+        ensures room { KeepsRoom self.old self.new }
+    {
+        self.holds.reserve(1)
+    }
+
+    /// Gives this port to the session, unless it is held.
+    pub fn try_and_claim(
+        &mut self,
+        key: SwitchboardKey,
+        session: u64,
+    ) -> Result<(), SwitchboardError>
+        requires room { HasRoom self.old key.source }
+        requires in_range { (self.old.lo ≤ key.port) × (key.port ≤ self.old.hi) }
+        ensures claimed { OnOk result (self.new.held ≡ finmap.insert self.old.held key session) }
+
+        ensures entry_not_available { IsErrOf result SwitchboardError.EntryNotAvailable ↔ IsSome (holder_at self.old key.source key.port) }
+        ensures only_entry_not_available { IfErr result (λ e. e ≡ SwitchboardError.EntryNotAvailable) }
+
+        ensures range { SameRange self.old self.new }
+        ensures unchanged { OnErr result (self.new ≡ self.old) }
+    {
+        match place_of(&self.holds, key) {
+            Ok(_) => Err(SwitchboardError::EntryNotAvailable),
+            Err(at) => {
+                put_in(&mut self.holds, at, Hold { key, session });
+                Ok(())
+            }
+        }
+    }
+
+    /// Gives the session the first port, from the word's on and round the range once, that nobody
+    /// holds for the client address. Its present port is then free for others.
+    ///
+    /// The word's port is `lo + word % n`, for a range of n ports.
+    pub fn reserve(
+        &mut self,
+        source: u32,
+        session: u64,
+        word: u16,
+        present: Option<u16>,
+    ) -> Result<u16, SwitchboardError>
+        requires room { HasRoom self.old source }
+        ensures granted { IfOk result (λ port.
+            first_free (holder_at self.old source) self.old.lo self.old.hi word ≡ Some port) }
+        ensures held { IfOk result (λ port. self.new.held ≡
+            finmap.insert (present_released self.old.held source present session) (key_pair source port) session) }
+
+        // The same key by key.
+        ensures holders { IfOk result (λ port. (a p : ℕ) → holder_at self.new a p ≡
+            (if is_key a p source port then Some session
+            else still_holder source present session a p (holder_at self.old a p))) }
+
+        ensures max_retries { IsErrOf result SwitchboardError.MaxRetriesError ↔
+            (first_free (holder_at self.old source) self.old.lo self.old.hi word ≡ None) }
+        ensures only_max_retries { IfErr result (λ e. e ≡ SwitchboardError.MaxRetriesError) }
+
+        ensures range { SameRange self.old self.new }
+        ensures unchanged { OnErr result (self.new ≡ self.old) }
+    {
+        let Some(port) = first_free(&self.holds, source, self.lo, self.hi, word) else {
+            return Err(SwitchboardError::MaxRetriesError);
+        };
+        give_up_present(&mut self.holds, source, present, session);
+        let key = SwitchboardKey { source, port };
+        claim(&mut self.holds, Hold { key, session });
+        Ok(port)
+    }
+
+    /// Frees the key where the session holds it.
+    pub fn release(&mut self, key: &SwitchboardKey, session: u64)
+        ensures held { self.new.held ≡ released self.old.held key.now session }
+        ensures range { SameRange self.old self.new }
+        ensures room { KeepsRoom self.old self.new }
+    {
+        give_up(&mut self.holds, *key, session);
+    }
+
+    /// Frees the key, and gives the session that held it.
+    pub fn unregister_by_key(&mut self, key: &SwitchboardKey) -> Option<u64>
+        ensures holder { result ≡ holder_at self.old key.now.source key.now.port }
+        ensures held { self.new.held ≡ finmap.remove self.old.held key.now }
+        ensures range { SameRange self.old self.new }
+        ensures room { KeepsRoom self.old self.new }
+    {
+        match place_of(&self.holds, *key) {
+            Ok(at) => Some(take_out(&mut self.holds, at, *key)),
+            Err(_) => None,
+        }
+    }
+
+    /// Frees the port that a connection came to, for the address that it came from, and gives the
+    /// session that held it. For an IPv6 address there is none.
+    pub fn unregister_by_connection_pair(&mut self, c: &SocketAddrPair) -> Option<u64>
+        ensures holder { result ≡ holder_of_pair self.old c.now }
+        ensures held { self.new.held ≡ without self.old.held (key_of_pair c.now) }
+        ensures range { SameRange self.old self.new }
+        ensures room { KeepsRoom self.old self.new }
+    {
+        let key = key_of(c)?;
+        self.unregister_by_key(&key)
+    }
+}
