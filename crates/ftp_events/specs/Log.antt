@@ -9,6 +9,11 @@ use Rattle.ftp_events.specs.declared.decision.Decision.{Decision}
 use Rattle.ftp_events.specs.declared.decision.Decision.TheVariants.{UnknownNumber, UsedNumber, Misplaced, NotExpected, Closed}
 use Rattle.ftp_events.specs.Words.{is_number}
 
+-- a log as callers see it: the entries, the newest first, and how many more need no memory
+pub record LogState : Type 0 where
+  pub entries : List Entry
+  pub room : ℕ
+
 -- the four refusals
 abbrev pub is_refusal : Decision → Bool
 is_refusal UnknownNumber = true

@@ -1,5 +1,5 @@
 -- What the log tells of a session.
-use Rattle.std.specs.Prelude.{ℕ, ◌+◌, Bool, true, false, List, Option, Some, None, unwrap_or}
+use Rattle.std.specs.Prelude.{ℕ, ◌+◌, ◌-◌, Bool, true, false, List, [], ◌∷◌, Option, Some, None, unwrap_or}
 use Rattle.std.specs.Option.{option_map}
 use Rattle.ftp_options.specs.declared.options.Options.{Options}
 use Rattle.ftp_events.specs.declared.entry.Entry.{Entry}
@@ -57,3 +57,14 @@ session_after k d sent v =
       slot = slot_after k d v.slot;
       notices = v.notices + sent;
     }
+
+-- how many sessions are live after a decision
+abbrev pub live_after : Decision → ℕ → ℕ
+live_after Opened n = n + 1
+live_after Closed n = n - 1
+live_after _ n = n
+
+-- how many sessions are live
+abbrev pub live_count : List Entry → ℕ
+live_count [] = 0
+live_count (e ∷ past) = live_after e.decision (live_count past)

@@ -1,5 +1,5 @@
 -- A session's slot, read from the session's history.
-use Rattle.std.specs.Prelude.{ℕ, Bool, true, false, List, [], ◌∷◌, Option, Some, if◌then◌else◌}
+use Rattle.std.specs.Prelude.{ℕ, Bool, true, false, List, [], ◌∷◌, Option, Some, None, if◌then◌else◌}
 use Rattle.ftp_events.specs.declared.entry.Entry.{Entry}
 use Rattle.ftp_events.specs.declared.event.EventKind.{EventKind}
 use Rattle.ftp_events.specs.declared.decision.Decision.{Decision}
@@ -17,6 +17,11 @@ with_link slot _ = slot
 abbrev pub is_waiting : Slot → Bool
 is_waiting (Waits port) = true
 is_waiting slot = false
+
+-- the port that the slot waits for
+abbrev pub waiting_port : Slot → Option ℕ
+waiting_port (Waits port) = Some port
+waiting_port slot = None
 
 -- the decisions that drop what the slot has; a connection that is turned away does so where the slot waits for one
 abbrev pub drops : Decision → Slot → Bool

@@ -2,7 +2,7 @@
 
 use ftp_base::LockState;
 
-#[derive(Clone, Copy)]
+#[derive(Clone, Copy, Debug, PartialEq, Eq)]
 pub enum Decision {
     /// A refusal: the session that is named is not live.
     UnknownNumber,

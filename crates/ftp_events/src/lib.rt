@@ -9,6 +9,7 @@ mod decision;
 mod entry;
 mod event;
 mod log;
+mod questions;
 mod session;
 mod text;
 
@@ -17,5 +18,6 @@ pub use decision::Decision;
 pub use entry::Entry;
 pub use event::{Answer, EventKind, HubEvent};
 pub use log::Log;
+pub use questions::{holder_of, replies_of};
 pub use session::{Login, Opening, Session, Slot};
 pub use text::{make_pasv_reply, reply_of, write_passive_text};

@@ -6,7 +6,7 @@ ghost use Rattle.ftp_events.specs.Login.{state_of};
 use ftp_base::{Bytes, IpAddr, SessionState, SocketAddr};
 
 /// How a session came: its peer, the address that it came to, its client and its trace.
-#[derive(Clone, Copy)]
+#[derive(Clone, Copy, Debug, PartialEq, Eq)]
 pub struct Opening {
     pub raw: SocketAddr,
     pub local: SocketAddr,
@@ -15,7 +15,7 @@ pub struct Opening {
 }
 
 /// How far a login is.
-#[derive(Clone, Copy)]
+#[derive(Clone, Copy, Debug, PartialEq, Eq)]
 pub enum Login {
     /// No name is given.
     New,
@@ -40,7 +40,7 @@ impl Login {
 }
 
 /// The place for a session's next data connection.
-#[derive(Clone, Copy)]
+#[derive(Clone, Copy, Debug, PartialEq, Eq)]
 pub enum Slot {
     Empty,
     /// Waits for a connection to this port.

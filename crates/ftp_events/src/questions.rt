@@ -1,0 +1,353 @@
+//! Questions that a log answers by itself, without a running server.
+
+ghost use Rattle.std.specs.Prelude.{◌≡◌, [], ◌∷◌, ◌++◌, false, map, filter_map, reverse, OnOk, IfOk, if◌then◌else◌};
+ghost use Rattle.std.specs.Option.{option_map};
+ghost use Rattle.ftp_base.specs.declared.net.IpAddr.TheVariants.{V4};
+ghost use Rattle.ftp_events.specs.declared.decision.Decision.TheVariants.{Opened};
+ghost use Rattle.ftp_events.specs.Words.{is_number};
+ghost use Rattle.ftp_events.specs.Log.{past_of, is_refusal, named_session, new_number};
+ghost use Rattle.ftp_events.specs.Opening.{opened_number, opening_by, opener};
+ghost use Rattle.ftp_events.specs.Board.{target, comes_to, is_client, gives_hold, gives_up_hold, ends_hold, holder};
+ghost use Rattle.ftp_events.specs.Right.{reply_to, replies};
+
+use crate::action::Action;
+use crate::decision::Decision;
+use crate::entry::Entry;
+use crate::event::{Answer, EventKind};
+use crate::log::Log;
+use crate::session::Opening;
+use ftp_base::{IpAddr, Reply, SocketAddr};
+use ftp_options::{ListenerMode, Options};
+use std::alloc::{AllocError, Global};
+
+/// The session that holds the port for the client of this IPv4 address, after the log.
+///
+/// Takes no memory, and looks an opening up once for each grant of the port.
+pub fn holder_of(options: &Options, log: &Log, source: u32, port: u16) -> Option<u64>
+    ensures { result ≡ holder options.now (past_of log.now.entries) (V4 source) port }
+{
+    let entries = log.as_slice();
+    let client = IpAddr::V4(source);
+    let mut held = None;
+    for (i, e) in entries.iter().enumerate() {
+        held = holder_after(options, &entries[..i], e, client, port, held);
+    }
+    held
+}
+
+/// Copies of the replies that were sent to a session, the oldest first.
+pub fn replies_of(alloc: Global, log: &Log, session: u64) -> Result<Vec<Reply>, AllocError>
+    ensures { IfOk result (λ found. found.items ≡ map (λ x. x.1) (replies log.now.entries session)) }
+{
+    let mut found = Vec::new(alloc);
+    for e in log.as_slice() {
+        add_replies(alloc, e.actions.as_slice(), session, &mut found)?;
+    }
+    Ok(found)
+}
+
+// Adds copies of the replies among the actions that are sent to a session.
+fn add_replies(
+    alloc: Global,
+    actions: &[Action],
+    session: u64,
+    found: &mut Vec<Reply>,
+) -> Result<(), AllocError>
+    ensures { OnOk result (found.new.items ≡ found.old.items ++ map (λ x. x.1) (filter_map (reply_to session) actions.now)) }
+{
+    for action in actions {
+        add_reply(alloc, action, session, found)?;
+    }
+    Ok(())
+}
+
+// Adds a copy of the reply that the action sends to the session, if it does.
+fn add_reply(
+    alloc: Global,
+    action: &Action,
+    session: u64,
+    found: &mut Vec<Reply>,
+) -> Result<(), AllocError>
+    ensures { OnOk result (found.new.items ≡ found.old.items ++ map (λ x. x.1) (filter_map (reply_to session) (action.now ∷ []))) }
+{
+    if let Action::Reply {
+        session: to,
+        reply,
+        ..
+    } = action
+    {
+        if *to == session {
+            found.push(reply.copy(alloc)?)?;
+        }
+    }
+    Ok(())
+}
+
+// The holder after an entry, from the holder before it.
+fn holder_after(
+    options: &Options,
+    before: &[Entry],
+    e: &Entry,
+    client: IpAddr,
+    port: u16,
+    held: Option<u64>,
+) -> Option<u64>
+    requires { held ≡ holder options.now (past_of (reverse before.now)) client port }
+    ensures { result ≡ holder options.now (past_of (e.now ∷ reverse before.now)) client port }
+{
+    if is_refusal(e.decision) {
+        return held;
+    }
+    if gives_hold(options, before, e, client, port) {
+        return named_session(&e.event.kind);
+    }
+    if comes_to(options, e, client, port) {
+        return None;
+    }
+    match held {
+        Some(session) if ends_hold(e, session) => None,
+        _ => held,
+    }
+}
+
+// Says whether the entry gives the client a hold of the port.
+fn gives_hold(options: &Options, before: &[Entry], e: &Entry, client: IpAddr, port: u16) -> bool
+    ensures { result ≡ gives_hold options.now (past_of (reverse before.now)) e.now client port }
+{
+    match (options.mode, e.decision) {
+        (ListenerMode::Pooled, Decision::Granted { port: granted }) => {
+            granted == port && is_client(before, named_session(&e.event.kind), client)
+        }
+        _ => false,
+    }
+}
+
+// Says whether the session's client has this address.
+fn is_client(before: &[Entry], session: Option<u64>, client: IpAddr) -> bool
+    ensures { result ≡ is_client (past_of (reverse before.now)) session client }
+{
+    let Some(session) = session else {
+        return false;
+    };
+    match opener(before, session) {
+        Some(opening) => opening.client.is_same(client),
+        None => false,
+    }
+}
+
+// How the session came.
+fn opener(entries: &[Entry], session: u64) -> Option<Opening>
+    ensures { result ≡ opener (past_of (reverse entries.now)) session }
+{
+    let mut i = entries.len();
+    while i > 0 {
+        i -= 1;
+        let e = &entries[i];
+        if opens(e, session) {
+            return opening_by(&e.event.kind, e.answer);
+        }
+    }
+    None
+}
+
+// Says whether the entry is no refusal and opens the session.
+fn opens(e: &Entry, session: u64) -> bool
+    ensures { result ≡ (if is_refusal e.now.decision then false else is_number (opened_number e.now.event.kind e.now.decision) session) }
+{
+    match e.decision {
+        Decision::Opened => is_carried(&e.event.kind, session),
+        _ => false,
+    }
+}
+
+// Says whether the event carries the number as new.
+fn is_carried(kind: &EventKind, n: u64) -> bool
+    ensures { result ≡ is_number (new_number kind.now Opened) n }
+{
+    match kind {
+        EventKind::Connect { session, .. } => *session == n,
+        EventKind::DataIn { number, .. } => *number == n,
+        _ => false,
+    }
+}
+
+// What a new control connection tells.
+fn opening_by(kind: &EventKind, answer: Answer) -> Option<Opening>
+    ensures { result ≡ opening_by kind.now answer }
+{
+    match kind {
+        EventKind::Connect {
+            raw,
+            local,
+            trace,
+            ..
+        } => Some(Opening {
+            raw: *raw,
+            local: *local,
+            client: raw.ip,
+            trace: *trace,
+        }),
+        _ => None,
+    }
+}
+
+// Says whether the entry is a data connection from the client to the port.
+fn comes_to(options: &Options, e: &Entry, client: IpAddr, port: u16) -> bool
+    ensures { result ≡ comes_to options.now e.now client port }
+{
+    match target(options, &e.event.kind, e.answer) {
+        Some(to) => to.ip.is_same(client) && to.port == port,
+        None => false,
+    }
+}
+
+// The client and the port of a data connection.
+fn target(options: &Options, kind: &EventKind, answer: Answer) -> Option<SocketAddr>
+    ensures { option_map (λ a. record { client = a.ip; port = a.port }) result ≡ target options.now kind.now answer }
+{
+    match kind {
+        EventKind::DataIn { raw, port, .. } => Some(SocketAddr {
+            ip: raw.ip,
+            port: *port,
+        }),
+        _ => None,
+    }
+}
+
+// Says whether the entry ends a hold of the session.
+fn ends_hold(e: &Entry, session: u64) -> bool
+    ensures { result ≡ ends_hold e.now session }
+{
+    named_session(&e.event.kind) == Some(session) && gives_up_hold(e.decision)
+}
+
+// Says whether the decision replaces or drops the slot of the session that the entry names.
+fn gives_up_hold(decision: Decision) -> bool
+    ensures { result ≡ gives_up_hold decision }
+{
+    matches!(decision, Decision::Granted { .. } | Decision::Closed)
+}
+
+// Says whether the decision is one of the four refusals.
+fn is_refusal(decision: Decision) -> bool
+    ensures { result ≡ is_refusal decision }
+{
+    matches!(
+        decision,
+        Decision::UnknownNumber | Decision::UsedNumber | Decision::Misplaced | Decision::NotExpected
+    )
+}
+
+// The session that an event names.
+fn named_session(kind: &EventKind) -> Option<u64>
+    ensures { result ≡ named_session kind.now }
+{
+    match kind {
+        EventKind::User { session, .. }
+        | EventKind::Pass { session }
+        | EventKind::AuthDone { session, .. }
+        | EventKind::Pasv { session, .. }
+        | EventKind::Closed { session } => Some(*session),
+        EventKind::Connect { .. } | EventKind::DataIn { .. } => None,
+    }
+}
+
+#[cfg(test)]
+mod tests {
+    use super::*;
+    use crate::action::Actions;
+    use crate::event::HubEvent;
+    use ftp_base::{Bytes, ReplyCode};
+    use ftp_options::{ActivePassiveMode, PassiveHost};
+    use std::test::Fail;
+
+    const CLIENT: u32 = 0x0a00_0001;
+
+    fn push(
+        log: &mut Log,
+        kind: EventKind,
+        decision: Decision,
+        actions: Actions,
+    ) -> Result<(), AllocError> {
+        let event = HubEvent { at: 0, kind };
+        let entry = Entry {
+            event,
+            answer: Answer::None,
+            decision,
+            actions,
+        };
+        log.push(entry)?;
+        Ok(())
+    }
+
+    #[test]
+    fn a_log_tells_who_holds_a_port_and_what_was_replied(rt: HostRuntime) -> Result<(), Fail> {
+        let alloc = rt.alloc();
+        let options = Options {
+            mode: ListenerMode::Pooled,
+            lo: 50000,
+            hi: 50001,
+            host: PassiveHost::FromConnection,
+            active_passive: ActivePassiveMode::PassiveOnly,
+            idle_ms: 600_000,
+        };
+        let raw = SocketAddr {
+            ip: IpAddr::V4(CLIENT),
+            port: 4000,
+        };
+        let connect = EventKind::Connect {
+            session: 1,
+            raw,
+            local: raw,
+            trace: 7,
+        };
+        let pasv = EventKind::Pasv {
+            session: 1,
+            word: 0,
+            lookup: None,
+            bound: None,
+        };
+        let reply = Action::Reply {
+            session: 1,
+            delay: 0,
+            reply: Reply::CodeAndMsg {
+                code: ReplyCode::CommandOkay,
+                msg: Bytes::from_slice(alloc, b"held")?,
+            },
+        };
+        let mut actions = Vec::new(alloc);
+        actions.push(reply)?;
+        let mut log = Log::new(alloc);
+        push(
+            &mut log,
+            connect,
+            Decision::Opened,
+            Actions::from_vec(Vec::new(alloc)),
+        )?;
+        push(
+            &mut log,
+            pasv,
+            Decision::Granted { port: 50001 },
+            Actions::from_vec(actions),
+        )?;
+
+        assert_eq!(rt; holder_of(&options, &log, CLIENT, 50001), Some(1));
+        assert_eq!(rt; holder_of(&options, &log, CLIENT, 50000), None);
+        assert_eq!(rt; holder_of(&options, &log, CLIENT + 1, 50001), None);
+        for reply in &replies_of(alloc, &log, 1)? {
+            assert_eq!(rt; reply.encode(alloc)?.as_slice(), b"200 held\r\n".as_slice());
+        }
+        assert_eq!(rt; replies_of(alloc, &log, 1)?.len(), 1);
+        assert_eq!(rt; replies_of(alloc, &log, 2)?.len(), 0);
+
+        let closed = EventKind::Closed { session: 1 };
+        push(
+            &mut log,
+            closed,
+            Decision::Closed,
+            Actions::from_vec(Vec::new(alloc)),
+        )?;
+        assert_eq!(rt; holder_of(&options, &log, CLIENT, 50001), None);
+        Ok(())
+    }
+}
