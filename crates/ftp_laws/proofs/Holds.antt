@@ -1,0 +1,331 @@
+-- Who holds a port waits for a connection to it.
+use Rattle.std.proofs.Common.{◌≡◌, refl, sym, ◌∙◌, ap, subst, ℕ, Bool, true, false, true≢false, not, ◌&&◌, cond, List, [], ◌∷◌, Option, Some, None, eqb-true, eq-eqb}
+use Rattle.std.specs.Prelude.{unwrap_or}
+use Rattle.std.specs.Bool.{then_some}
+use Rattle.std.specs.Option.{option_map_or, option_and_then, option_or}
+use Rattle.std.proofs.lemmas.Option.{same_Some}
+use Rattle.std.proofs.lemmas.Bool.{and_parts, or_right, cond-false}
+use Rattle.ftp_base.specs.declared.net.IpAddr.{IpAddr}
+use Rattle.ftp_base.specs.declared.net.IpAddr.TheVariants.{V4, V6}
+use Rattle.ftp_base.specs.Net.{same_ip}
+use Rattle.ftp_options.specs.declared.options.Options.{Options}
+use Rattle.ftp_options.specs.Modes.{is_legacy}
+use Rattle.ftp_events.specs.declared.entry.Entry.{Entry}
+use Rattle.ftp_events.specs.declared.event.EventKind.{EventKind}
+use Rattle.ftp_events.specs.declared.event.Answer.{Answer}
+use Rattle.ftp_events.specs.declared.decision.Decision.{Decision}
+use Rattle.ftp_events.specs.declared.decision.Decision.TheVariants as decision
+use Rattle.ftp_events.specs.declared.session.Opening.{Opening}
+use Rattle.ftp_events.specs.declared.session.Session.{Session}
+use Rattle.ftp_events.specs.declared.session.Slot.{Slot}
+use Rattle.ftp_events.specs.declared.session.Slot.TheVariants.{Empty, Waits}
+use Rattle.ftp_events.specs.Words.{is_number}
+use Rattle.ftp_events.specs.Log.{named_session, new_number, is_used, is_refusal, past_of}
+use Rattle.ftp_events.specs.Opening.{opened_number, opening_by, opener}
+use Rattle.ftp_events.specs.Board.{Target, target, granted_port, is_client, gives_hold, comes_to, ends_hold, gives_up_hold, holder}
+use Rattle.ftp_events.specs.History.{concerns, opens}
+use Rattle.ftp_events.specs.Slot.{drops, slot_after}
+use Rattle.ftp_events.specs.Session.{lives_on, session, life_by}
+use Rattle.ftp_events.specs.Decide.{due, decide}
+use Rattle.ftp_events.specs.Right.{IsRight}
+use Rattle.ftp_laws.proofs.Facts.{is_connection, named-no_connection, opened-unused, IsLive, granted-live}
+use Rattle.ftp_laws.proofs.Laws.{session-own, session-other, session_by, session-told, counting-refused, counting-counts}
+
+-- the port that a slot waits for
+abbrev pub port_of : Slot → Option ℕ
+port_of (Waits port) = Some port
+port_of _ = None
+
+-- the number that opens a session is new
+pub opened-new :
+    (k : EventKind) (d : Decision) (s : ℕ) →
+    is_number (opened_number k d) s ≡ true →
+    is_number (new_number k d) s ≡ true
+opened-new k decision.Opened s h = h
+opened-new k _ s h = cc
+
+-- a number that opened a session is used
+pub opener-used :
+    (past : List Entry) (s : ℕ) (opening : Opening) →
+    opener past s ≡ Some opening → is_used past s ≡ true
+opener-used [] s opening h = cc
+opener-used (e ∷ past) s opening h = go (is_number (opened_number e.event.kind e.decision) s) refl h (λ h'. opener-used past s opening h')
+  where
+    go :
+        (b : Bool) →
+        is_number (opened_number e.event.kind e.decision) s ≡ b →
+        unwrap_or (then_some b (opening_by e.event.kind e.answer)) (opener past s) ≡ Some opening →
+        (opener past s ≡ Some opening → is_used past s ≡ true) →
+        is_used (e ∷ past) s ≡ true
+    go true eq h' ih = rw (opened-new e.event.kind e.decision s eq) refl
+    go false eq h' ih = rw (ih h') (or_right _ true refl)
+
+-- the decisions that change which port a slot waits for
+abbrev pub touches : Decision → Slot → Bool
+touches (decision.Granted port) slot = true
+touches (decision.Attached session) slot = true
+touches d slot = drops d slot
+
+-- every other decision leaves the slot
+pub slot-kept :
+    (k : EventKind) (d : Decision) (slot : Slot) →
+    touches d slot ≡ false → slot_after k d slot ≡ slot
+slot-kept k (decision.Granted port) slot t = cc
+slot-kept k (decision.Attached s) slot t = cc
+slot-kept k _ slot t = cond-false _ Empty slot t
+
+-- a decision that neither gives the slot up nor is on a connection does not touch it
+pub touch-free :
+    (d : Decision) (slot : Slot) → gives_up_hold d ≡ false →
+    is_connection d ≡ false → touches d slot ≡ false
+touch-free (decision.Granted port) slot g c = cc
+touch-free decision.Closed slot g c = cc
+touch-free (decision.Attached s) slot g c = cc
+touch-free decision.Turned slot g c = cc
+touch-free _ slot g c = refl
+
+-- a decision that does not give the slot up lets the session live
+pub lives-kept : (d : Decision) → gives_up_hold d ≡ false → unwrap_or (life_by d) true ≡ true
+lives-kept decision.Closed g = cc
+lives-kept _ g = refl
+
+-- addresses that are the same are equal
+pub same_ip-equal : (a b : IpAddr) → same_ip a b ≡ true → a ≡ b
+same_ip-equal (V4 a) (V4 b) h = ap V4 (eqb-true a b h)
+same_ip-equal (V6 a) (V6 b) h = ap V6 (eqb-true a b h)
+same_ip-equal (V4 a) (V6 b) h = cc
+same_ip-equal (V6 a) (V4 b) h = cc
+
+-- an address is the same as itself
+pub same_ip-refl : (a : IpAddr) → same_ip a a ≡ true
+same_ip-refl (V4 a) = eq-eqb a a refl
+same_ip-refl (V6 a) = eq-eqb a a refl
+
+-- session s is live, its client is a, and its slot waits for port p
+pub record WaitsFor (o : Options) (past : List Entry) (s : ℕ) (a : IpAddr) (p : ℕ) : Type 0 where
+  pub view : Session
+  pub known : session o past s ≡ Some view
+  pub client : same_ip view.opening.client a ≡ true
+  pub port : port_of view.slot ≡ Some p
+
+-- the number of a live session is used
+pub live-used :
+    (o : Options) (past : List Entry) (s : ℕ) (v : Session) →
+    session o past s ≡ Some v → is_used past s ≡ true
+live-used o past s v known = opener-used past s v.opening (session-told o past s v known).opening
+
+-- a number that is there is this one
+pub number-is : (n : Option ℕ) (m : ℕ) → is_number n m ≡ true → n ≡ Some m
+number-is None m h = cc
+number-is (Some k) m h = ap Some (eqb-true k m h)
+
+-- the waiting session still waits after an entry that concerns it and changes neither its slot nor its life
+pub waits-own :
+    (o : Options) (past : List Entry) (e : Entry) (s : ℕ) (a : IpAddr) (p : ℕ) (w : WaitsFor o past s a p) →
+    opens e s ≡ false → concerns o past e s ≡ true →
+    touches e.decision w.view.slot ≡ false →
+    lives_on e.decision ≡ true → WaitsFor o (e ∷ past) s a p
+waits-own o past e s a p w n c t l =
+    let after = session-own o past e s w.view w.known n c in
+    record {
+      view = session_by s e w.view;
+      known = after ∙ rw l refl;
+      client = w.client;
+      port = ap port_of (slot-kept e.event.kind e.decision w.view.slot t) ∙ w.port;
+    }
+
+-- it waits too after an entry that does not concern it
+pub waits-other :
+    (o : Options) (past : List Entry) (e : Entry) (s : ℕ) (a : IpAddr) (p : ℕ) (w : WaitsFor o past s a p) →
+    opens e s ≡ false → concerns o past e s ≡ false →
+    WaitsFor o (e ∷ past) s a p
+waits-other o past e s a p w n c =
+    record { view = w.view; known = session-other o past e s n c ∙ w.known; client = w.client; port = w.port }
+
+-- a number that is not the first of two is the second
+pub or-number :
+    (a b : Option ℕ) (s : ℕ) →
+    is_number (option_or a b) s ≡ true →
+    is_number a s ≡ false → is_number b s ≡ true
+or-number None b s h n = h
+or-number (Some x) b s h n = absurd (true≢false (sym h ∙ n))
+
+-- of a conjunction that fails the second part fails where the first holds
+pub and-false : (a b : Bool) → (a && b) ≡ false → a ≡ true → b ≡ false
+and-false true b h t = h
+and-false false b h t = absurd (true≢false (sym t))
+
+-- a session that is live is not opened again
+pub live-unopened :
+    (o : Options) (past : List Entry) (e : Entry) (s : ℕ) (v : Session) →
+    e.decision ≡ due o past e.event.at e.event.kind e.answer →
+    session o past s ≡ Some v →
+    is_number (opened_number e.event.kind e.decision) s ≡ false
+live-unopened o past e s v fit known = go (is_number (opened_number e.event.kind e.decision) s) refl
+  where
+    go : (b : Bool) → is_number (opened_number e.event.kind e.decision) s ≡ b → b ≡ false
+    go false eq = refl
+    go true eq =
+        let opens : opened_number e.event.kind (due o past e.event.at e.event.kind e.answer) ≡ Some s = subst (λ (d : Decision). opened_number e.event.kind d ≡ Some s) fit (number-is _ s eq) in
+        let unused : is_used past s ≡ false = opened-unused o past e.event.at e.event.kind e.answer s opens in
+        sym (live-used o past s v known) ∙ unused
+
+-- the target of a data connection and its holder
+pub record ComesFor (o : Options) (past : List Entry) (k : EventKind) (answer : Answer) (s : ℕ) : Type 0 where
+  pub to : Target
+  pub target_is : target o k answer ≡ Some to
+  pub held : holder o past to.client to.port ≡ Some s
+
+-- who is the holder of a target, holds it
+pub comes-for :
+    (o : Options) (past : List Entry) (k : EventKind) (answer : Answer) (s : ℕ) (t : Option Target) →
+    target o k answer ≡ t →
+    is_number (option_and_then (λ t. holder o past t.client t.port) t) s ≡ true →
+    ComesFor o past k answer s
+comes-for o past k answer s None e h = absurd (true≢false (sym h))
+comes-for o past k answer s (Some t) e h = record { to = t; target_is = e; held = number-is _ s h }
+
+-- a connection for a session's key comes to the port that it waits for
+pub comes-to-port :
+    (o : Options) (past : List Entry) (e : Entry) (s : ℕ) (a : IpAddr) (p : ℕ) (w : WaitsFor o past s a p) (t : Target) →
+    target o e.event.kind e.answer ≡ Some t →
+    WaitsFor o past s t.client t.port →
+    comes_to o e a p ≡ true
+comes-to-port o past e s a p w t e' w' =
+    let same : w.view ≡ w'.view = same_Some _ _ (sym w.known ∙ w'.known) in
+    let client : t.client ≡ a = sym (same_ip-equal _ _ w'.client) ∙ (ap (λ (v : Session). v.opening.client) (sym same) ∙ same_ip-equal _ _ w.client) in
+    let port : t.port ≡ p = same_Some _ _ (sym w'.port ∙ (ap (λ (v : Session). port_of v.slot) (sym same) ∙ w.port)) in
+    rw (e', client, port, same_ip-refl a, eq-eqb p p refl) refl
+
+-- the holder goes on waiting
+pub holder-stays :
+    (o : Options) (past : List Entry) (e : Entry) (s : ℕ) (a : IpAddr) (p : ℕ) →
+    is_legacy o.mode ≡ false →
+    e.decision ≡ due o past e.event.at e.event.kind e.answer →
+    ((b : IpAddr) (q : ℕ) → holder o past b q ≡ Some s → WaitsFor o past s b q) →
+    (w : WaitsFor o past s a p) → comes_to o e a p ≡ false →
+    ends_hold e s ≡ false → WaitsFor o (e ∷ past) s a p
+holder-stays o past e s a p m fit ih w c ends = by_concern (concerns o past e s) refl
+  where
+    unopened : is_number (opened_number e.event.kind e.decision) s ≡ false
+    unopened = live-unopened o past e s w.view fit w.known
+
+    by_name :
+        (n : Bool) →
+        is_number (named_session e.event.kind) s ≡ n →
+        concerns o past e s ≡ true →
+        WaitsFor o (e ∷ past) s a p
+    by_name true n h =
+        let gives : gives_up_hold e.decision ≡ false = and-false _ _ ends n in
+        let names : named_session e.event.kind ≡ Some s = number-is _ s n in
+        let plain : is_connection e.decision ≡ false = subst (λ (d : Decision). is_connection d ≡ false) (sym fit) (named-no_connection o past e.event.at e.event.kind e.answer s m names) in
+        waits-own o past e s a p w unopened h (touch-free e.decision w.view.slot gives plain) (lives-kept e.decision gives)
+    by_name false n h =
+        let comes = comes-for o past e.event.kind e.answer s (target o e.event.kind e.answer) refl (or-number _ _ s h n) in
+        absurd (true≢false (sym (comes-to-port o past e s a p w comes.to comes.target_is (ih comes.to.client comes.to.port comes.held)) ∙ c))
+
+    by_concern : (b : Bool) → concerns o past e s ≡ b → WaitsFor o (e ∷ past) s a p
+    by_concern false h = waits-other o past e s a p w unopened h
+    by_concern true h = by_name (is_number (named_session e.event.kind) s) refl h
+
+-- a port that was granted is that of a grant
+pub granted-is :
+    (d : Decision) (p : ℕ) →
+    is_number (granted_port d) p ≡ true →
+    d ≡ decision.Granted p
+granted-is (decision.Granted port) p h = ap decision.Granted (eqb-true port p h)
+granted-is _ p h = cc
+
+-- a number is itself
+pub names-itself : (n : Option ℕ) (s : ℕ) → n ≡ Some s → is_number n s ≡ true
+names-itself n s e = rw e (eq-eqb s s refl)
+
+-- after a grant the slot waits for the port
+pub port-granted :
+    (k : EventKind) (d : Decision) (slot : Slot) (p : ℕ) →
+    d ≡ decision.Granted p →
+    port_of (slot_after k d slot) ≡ Some p
+port-granted k d slot p e = rw e refl
+
+-- the session that is granted a port waits for it
+pub grant-waits :
+    (o : Options) (past : List Entry) (e : Entry) (s : ℕ) (a : IpAddr) (p : ℕ) →
+    e.decision ≡ due o past e.event.at e.event.kind e.answer →
+    gives_hold o past e a p ≡ true →
+    named_session e.event.kind ≡ Some s →
+    WaitsFor o (e ∷ past) s a p
+grant-waits o past e s a p fit gives names =
+    let grants : Bool = is_number (granted_port e.decision) p in
+    let comes_from : Bool = is_client past (named_session e.event.kind) a in
+    let parts : (grants ≡ true) × (comes_from ≡ true) = and_parts grants comes_from (and_parts (not (is_legacy o.mode)) (grants && comes_from) gives).1 in
+    let grant : e.decision ≡ decision.Granted p = granted-is e.decision p parts.0 in
+    let alive : IsLive o past e.event.kind = granted-live o past e.event.at e.event.kind e.answer p (sym fit ∙ grant) in
+    let number : alive.number ≡ s = same_Some _ _ (sym alive.named ∙ names) in
+    let v : Session = alive.session_then in
+    let known : session o past s ≡ Some v = subst (λ (n : ℕ). session o past n ≡ Some v) number alive.known in
+    let client : same_ip v.opening.client a ≡ true =
+    subst (λ (x : Option Opening). option_map_or (λ opening. same_ip opening.client a) x false ≡ true) (session-told o past s v known).opening
+    (subst (λ (n : Option ℕ). option_map_or (λ opening. same_ip opening.client a) (option_and_then (opener past) n) false ≡ true) names parts.1) in
+    let unopened : is_number (opened_number e.event.kind e.decision) s ≡ false = rw grant refl in
+    let about : concerns o past e s ≡ true = rw (names, eq-eqb s s refl) refl in
+    let lives : lives_on e.decision ≡ true = rw grant refl in
+    record {
+      view = session_by s e v;
+      known = session-own o past e s v known unopened about ∙ rw lives refl;
+      client = client;
+      port = port-granted e.event.kind e.decision v.slot p grant;
+    }
+
+-- after an entry that is decided as it has to be, whoever holds a port waits for it
+pub holder-waits-step :
+    (o : Options) (past : List Entry) (e : Entry) →
+    is_legacy o.mode ≡ false →
+    e.decision ≡ due o past e.event.at e.event.kind e.answer →
+    ((b : IpAddr) (q s : ℕ) → holder o past b q ≡ Some s → WaitsFor o past s b q) →
+    (a : IpAddr) (p s : ℕ) →
+    holder o (e ∷ past) a p ≡ Some s →
+    WaitsFor o (e ∷ past) s a p
+holder-waits-step o past e m fit ih a p s held = by_grant (gives_hold o past e a p) refl held
+  where
+    by_end :
+        (b : Bool) →
+        option_map_or (ends_hold e) (holder o past a p) false ≡ b →
+        cond b None (holder o past a p) ≡ Some s →
+        comes_to o e a p ≡ false →
+        WaitsFor o (e ∷ past) s a p
+    by_end true x h c = cc
+    by_end false x h c =
+        let ends : ends_hold e s ≡ false = subst (λ (n : Option ℕ). option_map_or (ends_hold e) n false ≡ false) h x in
+        holder-stays o past e s a p m fit (λ b q held'. ih b q s held') (ih a p s h) c ends
+
+    by_arrival :
+        (b : Bool) → comes_to o e a p ≡ b →
+        cond b None (cond (option_map_or (ends_hold e) (holder o past a p) false) None (holder o past a p)) ≡ Some s →
+        WaitsFor o (e ∷ past) s a p
+    by_arrival true c h = cc
+    by_arrival false c h = by_end (option_map_or (ends_hold e) (holder o past a p) false) refl h c
+
+    by_grant :
+        (b : Bool) → gives_hold o past e a p ≡ b →
+        cond b (named_session e.event.kind) (cond (comes_to o e a p) None (cond (option_map_or (ends_hold e) (holder o past a p) false) None (holder o past a p))) ≡ Some s →
+        WaitsFor o (e ∷ past) s a p
+    by_grant true g h = grant-waits o past e s a p fit g h
+    by_grant false g h = by_arrival (comes_to o e a p) refl h
+
+-- where there is no legacy listener, in every right log, whoever holds a port for a client is a live session of that client whose slot waits for that port
+pub holder-waits :
+    (o : Options) (log : List Entry) →
+    is_legacy o.mode ≡ false → IsRight o log →
+    (a : IpAddr) (p s : ℕ) →
+    holder o (past_of log) a p ≡ Some s →
+    WaitsFor o (past_of log) s a p
+unfolding decide
+holder-waits o [] m r a p s held = cc
+holder-waits o (e ∷ log) m r a p s held = go (is_refusal e.decision) refl (λ b q t h. holder-waits o log m r.0 b q t h)
+  where
+    go :
+        (b : Bool) → is_refusal e.decision ≡ b →
+        ((b : IpAddr) (q t : ℕ) → holder o (past_of log) b q ≡ Some t → WaitsFor o (past_of log) t b q) →
+        WaitsFor o (past_of (e ∷ log)) s a p
+    go true x ih = subst (λ (l : List Entry). WaitsFor o l s a p) (sym (counting-refused e log x)) (ih a p s (subst (λ (l : List Entry). holder o l a p ≡ Some s) (counting-refused e log x) held))
+    go false x ih = subst (λ (l : List Entry). WaitsFor o l s a p) (sym (counting-counts e log x)) (holder-waits-step o (past_of log) e m r.1 ih a p s (subst (λ (l : List Entry). holder o l a p ≡ Some s) (counting-counts e log x) held))

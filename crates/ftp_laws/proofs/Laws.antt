@@ -1,0 +1,113 @@
+-- How each question changes with an entry.
+use Rattle.std.proofs.Common.{◌≡◌, refl, sym, ◌∙◌, ap, subst, ℕ, Bool, true, false, cond, List, ◌∷◌, Option, Some, None, [], eq-eqb}
+use Rattle.std.specs.Prelude.{count_by}
+use Rattle.std.proofs.lemmas.Option.{same_Some}
+use Rattle.std.specs.Option.{option_map}
+use Rattle.ftp_options.specs.declared.options.Options.{Options}
+use Rattle.ftp_events.specs.declared.entry.Entry.{Entry}
+use Rattle.ftp_events.specs.declared.decision.Decision.TheVariants.{Opened}
+use Rattle.ftp_events.specs.declared.session.Login.TheVariants as login
+use Rattle.ftp_events.specs.declared.session.Slot.TheVariants.{Empty}
+use Rattle.ftp_events.specs.declared.session.Session.{Session}
+use Rattle.ftp_events.specs.declared.session.Opening.{Opening}
+use Rattle.ftp_events.specs.Log.{is_refusal, past_of}
+use Rattle.ftp_events.specs.Opening.{opened_number, opening_by, opener}
+use Rattle.ftp_events.specs.History.{concerns, opens, history}
+use Rattle.ftp_events.specs.Notices.{is_notice_to}
+use Rattle.ftp_events.specs.Session.{lives_on, session_after, is_live, session_by_history, session}
+
+-- a refused entry is not in the past
+pub counting-refused :
+    (e : Entry) (log : List Entry) →
+    is_refusal e.decision ≡ true →
+    past_of (e ∷ log) ≡ past_of log
+counting-refused e log r = rw r refl
+
+-- every other entry is
+pub counting-counts :
+    (e : Entry) (log : List Entry) →
+    is_refusal e.decision ≡ false →
+    past_of (e ∷ log) ≡ e ∷ past_of log
+counting-counts e log r = rw r refl
+
+-- an entry that neither opens nor concerns a session is not in its history
+pub history-other :
+    (o : Options) (past : List Entry) (e : Entry) (s : ℕ) →
+    opens e s ≡ false → concerns o past e s ≡ false →
+    history o (e ∷ past) s ≡ history o past s
+history-other o past e s n c = rw (n, c) refl
+
+-- one that concerns it is
+pub history-own :
+    (o : Options) (past : List Entry) (e : Entry) (s : ℕ) →
+    opens e s ≡ false → concerns o past e s ≡ true →
+    history o (e ∷ past) s ≡ e ∷ history o past s
+history-own o past e s n c = rw (n, c) refl
+
+-- an entry that does not open a session leaves how it came
+pub opener-other :
+    (past : List Entry) (e : Entry) (s : ℕ) →
+    opens e s ≡ false → opener (e ∷ past) s ≡ opener past s
+opener-other past e s n = rw n refl
+
+-- what an entry neither opens nor concerns stays
+pub session-other :
+    (o : Options) (past : List Entry) (e : Entry) (s : ℕ) →
+    opens e s ≡ false → concerns o past e s ≡ false →
+    session o (e ∷ past) s ≡ session o past s
+session-other o past e s n c = rw (n, c) refl
+
+-- what an entry makes of a live session
+abbrev pub session_by : ℕ → Entry → Session → Session
+session_by s e v = session_after e.event.kind e.decision (count_by (is_notice_to s) e.actions) v
+
+-- a live session is what its history and its opener tell
+pub record IsTold (s : ℕ) (h : List Entry) (opener : Option Opening) (v : Session) : Type 0 where
+  pub alive : is_live h ≡ true
+  pub opening : opener ≡ Some v.opening
+  pub told : session_by_history s h v.opening ≡ v
+
+-- a session that is there is told by its history
+pub told-by :
+    (s : ℕ) (h : List Entry) (b : Bool) (opening : Option Opening) (v : Session) →
+    is_live h ≡ b →
+    cond b (option_map (session_by_history s h) opening) None ≡ Some v →
+    IsTold s h opening v
+told-by s h true (Some op) v l e =
+    let same : session_by_history s h op ≡ v = same_Some _ _ e in
+    record { alive = l; opening = ap (λ (w : Session). Some w.opening) same; told = ap (λ (w : Session). session_by_history s h w.opening) (sym same) ∙ same }
+told-by s h true None v l e = cc
+told-by s h false opening v l e = cc
+
+-- what is known of a live session
+pub session-told :
+    (o : Options) (past : List Entry) (s : ℕ) (v : Session) →
+    session o past s ≡ Some v →
+    IsTold s (history o past s) (opener past s) v
+session-told o past s v known = told-by s (history o past s) (is_live (history o past s)) (opener past s) v refl known
+
+-- the session after an entry is said from the entry and the session before it
+pub session-own :
+    (o : Options) (past : List Entry) (e : Entry) (s : ℕ) (v : Session) →
+    session o past s ≡ Some v → opens e s ≡ false →
+    concerns o past e s ≡ true →
+    session o (e ∷ past) s ≡ cond (lives_on e.decision) (Some (session_by s e v)) None
+session-own o past e s v known n c =
+    let h = history o past s in
+    let t : IsTold s h (opener past s) v = session-told o past s v known in
+    rw (n, c, t.opening, t.alive)
+    (subst (λ (w : Session). cond (lives_on e.decision) (Some (session_by_history s (e ∷ h) w.opening)) None ≡ cond (lives_on e.decision) (Some (session_by s e w)) None) t.told refl)
+
+-- a session when it is opened
+abbrev pub new_session : Opening → Session
+new_session opening = record { opening = opening; login = login.New; name = None; slot = Empty; notices = 0 }
+
+-- the session after it was opened
+pub session-opened :
+    (o : Options) (past : List Entry) (e : Entry) (s : ℕ) (opening : Opening) →
+    opened_number e.event.kind e.decision ≡ Some s →
+    e.decision ≡ Opened →
+    opening_by e.event.kind e.answer ≡ Some opening →
+    e.actions ≡ [] →
+    session o (e ∷ past) s ≡ Some (new_session opening)
+session-opened o past e s opening n d b a = rw (n, eq-eqb s s refl, d, b, a) refl

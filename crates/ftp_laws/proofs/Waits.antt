@@ -1,0 +1,375 @@
+-- Whoever waits for a port holds it, and when a hold ends.
+use Rattle.std.proofs.Common.{◌≡◌, refl, sym, ◌∙◌, ap, subst, ℕ, Bool, true, false, true≢false, not, ◌&&◌, cond, List, [], ◌∷◌, Option, Some, None, arith, eqb-true, eq-eqb, inl, inr}
+use Rattle.std.specs.Prelude.{◌≢◌, ◌==◌, unwrap_or, find, is_none}
+use Rattle.std.specs.Option.{option_map_or}
+use Rattle.std.proofs.lemmas.Option.{same_Some}
+use Rattle.std.proofs.lemmas.Bool.{and_parts}
+use Rattle.ftp_base.specs.declared.net.IpAddr.{IpAddr}
+use Rattle.ftp_base.specs.Net.{same_ip}
+use Rattle.ftp_base.specs.Ports.{port_order}
+use Rattle.ftp_options.specs.declared.options.Options.{Options}
+use Rattle.ftp_options.specs.Modes.{is_legacy}
+use Rattle.ftp_events.specs.declared.entry.Entry.{Entry}
+use Rattle.ftp_events.specs.declared.event.EventKind.{EventKind}
+use Rattle.ftp_events.specs.declared.event.EventKind.TheVariants as kind
+use Rattle.ftp_events.specs.declared.event.Answer.{Answer}
+use Rattle.ftp_events.specs.declared.decision.Decision.{Decision}
+use Rattle.ftp_events.specs.declared.decision.Decision.TheVariants as decision
+use Rattle.ftp_events.specs.declared.session.Session.{Session}
+use Rattle.ftp_events.specs.declared.session.Slot.{Slot}
+use Rattle.ftp_events.specs.declared.session.Slot.TheVariants.{Empty, Waits, Linked}
+use Rattle.ftp_events.specs.Words.{is_number}
+use Rattle.ftp_events.specs.Log.{named_session, is_refusal, past_of}
+use Rattle.ftp_events.specs.Opening.{opened_number, opener}
+use Rattle.ftp_events.specs.Board.{Target, target, granted_port, is_client, gives_hold, comes_to, ends_hold, gives_up_hold, holder, first_free_port}
+use Rattle.ftp_events.specs.History.{subject, concerns, opens, history}
+use Rattle.ftp_events.specs.Slot.{with_link, slot_after}
+use Rattle.ftp_events.specs.Session.{lives_on, life_by, session, session_by_history, is_live}
+use Rattle.ftp_events.specs.CommandRows.{is_logged_in, if_logged_in, pasv_row}
+use Rattle.ftp_events.specs.Decide.{due, decide, if_live}
+use Rattle.ftp_events.specs.Right.{IsRight}
+use Rattle.ftp_laws.proofs.Facts.{is_connection, named-no_connection}
+use Rattle.ftp_laws.proofs.Laws.{session-own, session-other, session_by, IsTold, session-told, counting-refused, counting-counts}
+use Rattle.ftp_laws.proofs.Holds.{port_of, slot-kept, touch-free, number-is, or-number, same_ip-equal, WaitsFor, comes-for, granted-is}
+use Rattle.ftp_laws.proofs.Served.{connection-goes, Goes}
+
+-- an entry that opens a session is about nobody
+pub opened-subject :
+    (o : Options) (past : List Entry) (at : ℕ) (k : EventKind) (answer : Answer) →
+    due o past at k answer ≡ decision.Opened →
+    subject o past (record { event = record { at = at; kind = k }; answer = answer; decision = decision.Opened; actions = [] }) ≡ None
+opened-subject o past at (kind.Connect s raw local trace) answer e = refl
+opened-subject o past at (kind.DataIn number raw port) answer e = grind arith
+opened-subject o past at (kind.User s name) answer e = grind arith
+opened-subject o past at (kind.Pass s) answer e = grind arith
+opened-subject o past at (kind.AuthDone s said) answer e = grind arith
+opened-subject o past at (kind.Pasv s word lookup bound) answer e = grind arith
+opened-subject o past at (kind.Closed s) answer e = grind arith
+
+-- no event that names a session is a data connection
+pub target-unnamed :
+    (o : Options) (k : EventKind) (answer : Answer) (t : Target) →
+    target o k answer ≡ Some t → named_session k ≡ None
+target-unnamed o (kind.DataIn number raw port) answer t e = refl
+target-unnamed o k answer t e = cc
+
+-- so what names a session has no target
+pub named-target :
+    (o : Options) (k : EventKind) (answer : Answer) (s : ℕ) →
+    named_session k ≡ Some s → target o k answer ≡ None
+named-target o k answer s n = go (target o k answer) refl
+  where
+    go : (t : Option Target) → target o k answer ≡ t → t ≡ None
+    go None x = refl
+    go (Some t) x = let c : None ≡ Some s = sym (target-unnamed o k answer t x) ∙ n in cc
+
+-- what is found passes the test
+pub find-holds : {X : Type 0} (p : X → Bool) (xs : List X) (x : X) → find p xs ≡ Some x → p x ≡ true
+find-holds p [] x e = cc
+find-holds p (y ∷ ys) x e = go (p y) refl e (λ later. find-holds p ys x later)
+  where
+    go :
+        (b : Bool) → p y ≡ b →
+        cond b (Some y) (find p ys) ≡ Some x →
+        (find p ys ≡ Some x → p x ≡ true) → p x ≡ true
+    go true h e' ih = subst (λ z. p z ≡ true) (same_Some _ _ e') h
+    go false h e' ih = ih e'
+
+-- a number that is not there is none
+pub none-is : (n : Option ℕ) → is_none n ≡ true → n ≡ None
+none-is None h = refl
+none-is (Some m) h = cc
+
+-- a first free port has no holder
+pub free-unheld :
+    (o : Options) (past : List Entry) (a : IpAddr) (word p : ℕ) →
+    first_free_port o past a word ≡ Some p →
+    holder o past a p ≡ None
+free-unheld o past a word p e = none-is (holder o past a p) (find-holds (λ q. is_none (holder o past a q)) (port_order o.lo o.hi word) p e)
+
+-- what is known of a grant: its session is live, and the port was free for its client
+pub record IsGrant (o : Options) (past : List Entry) (k : EventKind) (p : ℕ) : Type 0 where
+  pub number : ℕ
+  pub session_then : Session
+  pub named : named_session k ≡ Some number
+  pub known : session o past number ≡ Some session_then
+  pub free : holder o past session_then.opening.client p ≡ None
+
+-- the port of a grant was free
+pub granted-free :
+    (o : Options) (past : List Entry) (at : ℕ) (k : EventKind) (answer : Answer) (p : ℕ) →
+    due o past at k answer ≡ decision.Granted p →
+    IsGrant o past k p
+granted-free o past at (kind.Pasv s word lookup bound) answer p e = by_session (session o past s) refl e
+  where
+    by_port :
+        (v : Session) (f : Option ℕ) →
+        session o past s ≡ Some v →
+        first_free_port o past v.opening.client word ≡ f →
+        option_map_or decision.Granted f decision.Full ≡ decision.Granted p →
+        IsGrant o past (kind.Pasv s word lookup bound) p
+    by_port v None k f d = cc
+    by_port v (Some q) k f d =
+        let same : q ≡ p = ap (λ x. unwrap_or (granted_port x) 0) d in
+        record { number = s; session_then = v; named = refl; known = k; free = free-unheld o past v.opening.client word p (f ∙ ap Some same) }
+
+    by_login :
+        (v : Session) (b : Bool) →
+        session o past s ≡ Some v →
+        cond b (pasv_row o past word v) decision.NotLoggedIn ≡ decision.Granted p →
+        IsGrant o past (kind.Pasv s word lookup bound) p
+    by_login v true k d = by_port v (first_free_port o past v.opening.client word) k refl d
+    by_login v false k d = cc
+
+    by_session :
+        (v : Option Session) → session o past s ≡ v →
+        if_live v (λ v. if_logged_in v (pasv_row o past word v)) ≡ decision.Granted p →
+        IsGrant o past (kind.Pasv s word lookup bound) p
+    by_session None k d = cc
+    by_session (Some v) k d = by_login v (is_logged_in v.login) k d
+granted-free o past at (kind.Connect s raw local trace) answer p e = grind arith
+granted-free o past at (kind.DataIn number raw port) answer p e = grind arith
+granted-free o past at (kind.User s name) answer p e = grind arith
+granted-free o past at (kind.Pass s) answer p e = grind arith
+granted-free o past at (kind.AuthDone s said) answer p e = grind arith
+granted-free o past at (kind.Closed s) answer p e = grind arith
+
+-- the client of a live session is that of its opening
+pub client-known :
+    (o : Options) (past : List Entry) (s : ℕ) (v : Session) (a : IpAddr) →
+    session o past s ≡ Some v →
+    is_client past (Some s) a ≡ same_ip v.opening.client a
+client-known o past s v a known = rw (session-told o past s v known).opening refl
+
+-- a port that is held for a client is not granted to it
+pub held-ungranted :
+    (o : Options) (past : List Entry) (e : Entry) (a : IpAddr) (p s : ℕ) →
+    e.decision ≡ due o past e.event.at e.event.kind e.answer →
+    holder o past a p ≡ Some s →
+    gives_hold o past e a p ≡ false
+held-ungranted o past e a p s fit held = go (gives_hold o past e a p) refl
+  where
+    go : (b : Bool) → gives_hold o past e a p ≡ b → b ≡ false
+    go false x = refl
+    go true x =
+        let parts = and_parts (is_number (granted_port e.decision) p) (is_client past (named_session e.event.kind) a) (and_parts (not (is_legacy o.mode)) (is_number (granted_port e.decision) p && is_client past (named_session e.event.kind) a) x).1 in
+        let grant : IsGrant o past e.event.kind p = granted-free o past e.event.at e.event.kind e.answer p (sym fit ∙ granted-is e.decision p parts.0) in
+        let client : is_client past (Some grant.number) a ≡ true = subst (λ (n : Option ℕ). is_client past n a ≡ true) grant.named parts.1 in
+        let same : grant.session_then.opening.client ≡ a = same_ip-equal _ _ (sym (client-known o past grant.number grant.session_then a grant.known) ∙ client) in
+        let free : holder o past a p ≡ None = subst (λ (b : IpAddr). holder o past b p ≡ None) same grant.free in
+        let c : None ≡ Some s = sym free ∙ held in
+        cc
+
+-- a hold that nothing ends stays
+pub holder-stays-held :
+    (o : Options) (past : List Entry) (e : Entry) (a : IpAddr) (p s : ℕ) →
+    holder o past a p ≡ Some s →
+    gives_hold o past e a p ≡ false →
+    comes_to o e a p ≡ false → ends_hold e s ≡ false →
+    holder o (e ∷ past) a p ≡ Some s
+holder-stays-held o past e a p s held g c x = rw (g, c, held, x) refl
+
+-- what an entry says of a live session after it
+pub record IsAfter (o : Options) (past : List Entry) (e : Entry) (s : ℕ) (v : Session) : Type 0 where
+  pub before : Session
+  pub known : session o past s ≡ Some before
+  pub after : session_by s e before ≡ v
+  pub lives : lives_on e.decision ≡ true
+
+-- only an opening gives life
+pub life-given :
+    (d : Decision) (b : Bool) → d ≢ decision.Opened →
+    unwrap_or (life_by d) b ≡ true → b ≡ true
+life-given decision.Opened b n h = absurd (n refl)
+life-given decision.Closed b n h = cc
+life-given _ b n h = h
+
+-- a session that is live after an entry about it was live before
+pub session-before :
+    (o : Options) (past : List Entry) (e : Entry) (s : ℕ) (v : Session) →
+    e.decision ≡ due o past e.event.at e.event.kind e.answer →
+    opens e s ≡ false → concerns o past e s ≡ true →
+    session o (e ∷ past) s ≡ Some v → IsAfter o past e s v
+session-before o past e s v fit n c known =
+    let h = history o past s in
+    let t : IsTold s (history o (e ∷ past) s) (opener (e ∷ past) s) v = session-told o (e ∷ past) s v known in
+    let alive : unwrap_or (life_by e.decision) (is_live h) ≡ true = subst (λ (l : List Entry). is_live l ≡ true) longer t.alive in
+    let lived : is_live h ≡ true = life-given e.decision (is_live h) unopened alive in
+    let opening : opener past s ≡ Some v.opening = sym opener_kept ∙ t.opening in
+    let before : session o past s ≡ Some (session_by_history s h v.opening) = rw (lived, opening) refl in
+    go (session_by_history s h v.opening) before (lives_on e.decision) refl (sym (session-own o past e s (session_by_history s h v.opening) before n c) ∙ known)
+  where
+    longer : history o (e ∷ past) s ≡ e ∷ history o past s
+    longer = rw (n, c) refl
+
+    opener_kept : opener (e ∷ past) s ≡ opener past s
+    opener_kept = rw n refl
+
+    unopened : e.decision ≢ decision.Opened
+    unopened x =
+        let none : subject o past e ≡ None = opened-subject o past e.event.at e.event.kind e.answer (sym fit ∙ x) in
+        let z : is_number None s ≡ true = subst (λ (m : Option ℕ). is_number m s ≡ true) none c in
+        cc
+
+    go :
+        (w : Session) → session o past s ≡ Some w →
+        (b : Bool) → lives_on e.decision ≡ b →
+        cond b (Some (session_by s e w)) None ≡ Some v →
+        IsAfter o past e s v
+    go w k true l h = record { before = w; known = k; after = same_Some _ _ h; lives = l }
+    go w k false l h = cc
+
+-- a slot that was given a link waits for nothing
+pub port-linked : (slot : Slot) (n : ℕ) → port_of (with_link slot (Some n)) ≡ None
+port-linked Empty n = refl
+port-linked (Waits port) n = refl
+port-linked (Linked m) n = refl
+
+-- nor does one whose connection was turned away
+pub port-turned : (k : EventKind) (slot : Slot) → port_of (slot_after k decision.Turned slot) ≡ None
+port-turned k Empty = refl
+port-turned k (Waits port) = refl
+port-turned k (Linked m) = refl
+
+-- after a data connection for it a slot waits for nothing
+pub port-arrived :
+    (o : Options) (past : List Entry) (at : ℕ) (k : EventKind) (answer : Answer) (d : Decision) (t : Target) (slot : Slot) →
+    d ≡ due o past at k answer → is_refusal d ≡ false →
+    target o k answer ≡ Some t →
+    port_of (slot_after k d slot) ≡ None
+port-arrived o past at (kind.DataIn number raw port) answer d t slot fit c w = go (connection-goes o past at (kind.DataIn number raw port) answer d t fit c w).0
+  where
+    go :
+        Goes o past d t.client t.port →
+        port_of (slot_after (kind.DataIn number raw port) d slot) ≡ None
+    go (inl x) = rw x.1 (port-linked slot number)
+    go (inr x) = rw x (port-turned (kind.DataIn number raw port) slot)
+port-arrived o past at k answer d t slot fit c w = cc
+
+-- an opening leaves an empty slot
+pub port-opened :
+    (k : EventKind) (d : Decision) (s : ℕ) →
+    is_number (opened_number k d) s ≡ true →
+    port_of (slot_after k d Empty) ≡ None
+port-opened k decision.Opened s h = refl
+port-opened k _ s h = cc
+
+-- a waiting slot after an entry that gives up holds is that of a grant
+pub port-given-up :
+    (k : EventKind) (d : Decision) (slot : Slot) (p : ℕ) →
+    gives_up_hold d ≡ true →
+    port_of (slot_after k d slot) ≡ Some p →
+    d ≡ decision.Granted p
+port-given-up k (decision.Granted port) slot p g h = ap decision.Granted (same_Some _ _ h)
+port-given-up k decision.Closed slot p g h = cc
+port-given-up k _ slot p g h = cc
+
+-- after an entry that is decided as it has to be, whoever waits for a port holds it
+pub waits-holds-step :
+    (o : Options) (past : List Entry) (e : Entry) →
+    is_legacy o.mode ≡ false →
+    e.decision ≡ due o past e.event.at e.event.kind e.answer →
+    is_refusal e.decision ≡ false →
+    ((b : IpAddr) (q s : ℕ) → WaitsFor o past s b q → holder o past b q ≡ Some s) →
+    (a : IpAddr) (p s : ℕ) → WaitsFor o (e ∷ past) s a p →
+    holder o (e ∷ past) a p ≡ Some s
+waits-holds-step o past e m fit counts ih a p s w = by_opening (opens e s) refl
+  where
+    k : EventKind
+    k = e.event.kind
+
+    unmoved :
+        concerns o past e s ≡ false →
+        holder o past a p ≡ Some s → (b : Bool) →
+        comes_to o e a p ≡ b → (c : Bool) →
+        ends_hold e s ≡ c → holder o (e ∷ past) a p ≡ Some s
+    unmoved c held false x false y = holder-stays-held o past e a p s held (held-ungranted o past e a p s fit held) x y
+    unmoved c held false x true y =
+        let named = number-is _ s (and_parts (is_number (named_session e.event.kind) s) (gives_up_hold e.decision) y).0 in
+        let about : concerns o past e s ≡ true = rw (named, eq-eqb s s refl) refl in
+        absurd (true≢false (sym about ∙ c))
+    unmoved c held true x y z = by_target (target o e.event.kind e.answer) refl x
+      where
+        by_target :
+            (t : Option Target) →
+            target o e.event.kind e.answer ≡ t →
+            option_map_or (λ t. same_ip t.client a && (t.port == p)) t false ≡ true →
+            holder o (e ∷ past) a p ≡ Some s
+        by_target None i j = cc
+        by_target (Some t) i j =
+            let parts = and_parts (same_ip t.client a) (t.port == p) j in
+            let client : t.client ≡ a = same_ip-equal _ _ parts.0 in
+            let port : t.port ≡ p = eqb-true _ _ parts.1 in
+            let about : concerns o past e s ≡ true = rw (target-unnamed o e.event.kind e.answer t i, i, client, port, held, eq-eqb s s refl) refl in
+            absurd (true≢false (sym about ∙ c))
+
+    by_change :
+        (v : Session) → session o past s ≡ Some v →
+        named_session e.event.kind ≡ Some s →
+        same_ip v.opening.client a ≡ true →
+        port_of (slot_after e.event.kind e.decision v.slot) ≡ Some p →
+        (b : Bool) → gives_up_hold e.decision ≡ b →
+        holder o (e ∷ past) a p ≡ Some s
+    by_change v known n client port true g =
+        let grant : e.decision ≡ decision.Granted p = port-given-up e.event.kind e.decision v.slot p g port in
+        rw (m, grant, n, (session-told o past s v known).opening, client, eq-eqb p p refl) refl
+    by_change v known n client port false g =
+        let plain : is_connection e.decision ≡ false = subst (λ (d : Decision). is_connection d ≡ false) (sym fit) (named-no_connection o past e.event.at e.event.kind e.answer s m n) in
+        let kept : slot_after e.event.kind e.decision v.slot ≡ v.slot = slot-kept e.event.kind e.decision v.slot (touch-free e.decision v.slot g plain) in
+        let held : holder o past a p ≡ Some s = ih a p s (record { view = v; known = known; client = client; port = ap port_of (sym kept) ∙ port }) in
+        holder-stays-held o past e a p s held (held-ungranted o past e a p s fit held) (rw (named-target o e.event.kind e.answer s n) refl) (rw (n, g, eq-eqb s s refl) refl)
+
+    by_name :
+        (v : Session) → session o past s ≡ Some v →
+        concerns o past e s ≡ true →
+        same_ip v.opening.client a ≡ true →
+        port_of (slot_after e.event.kind e.decision v.slot) ≡ Some p →
+        (b : Bool) →
+        is_number (named_session e.event.kind) s ≡ b →
+        holder o (e ∷ past) a p ≡ Some s
+    by_name v known c client port true n = by_change v known (number-is _ s n) client port (gives_up_hold e.decision) refl
+    by_name v known c client port false n =
+        let comes = comes-for o past e.event.kind e.answer s (target o e.event.kind e.answer) refl (or-number _ _ s c n) in
+        let none = port-arrived o past e.event.at e.event.kind e.answer e.decision comes.to v.slot fit counts comes.target_is in
+        let z : None ≡ Some p = sym none ∙ port in
+        cc
+
+    by_concern :
+        opens e s ≡ false → (b : Bool) →
+        concerns o past e s ≡ b →
+        holder o (e ∷ past) a p ≡ Some s
+    by_concern n false c =
+        let before : WaitsFor o past s a p = record { view = w.view; known = sym (session-other o past e s n c) ∙ w.known; client = w.client; port = w.port } in
+        unmoved c (ih a p s before) (comes_to o e a p) refl (ends_hold e s) refl
+    by_concern n true c =
+        let x : IsAfter o past e s w.view = session-before o past e s w.view fit n c w.known in
+        let client : same_ip x.before.opening.client a ≡ true = subst (λ (v : Session). same_ip v.opening.client a ≡ true) (sym x.after) w.client in
+        let port : port_of (slot_after e.event.kind e.decision x.before.slot) ≡ Some p = subst (λ (v : Session). port_of v.slot ≡ Some p) (sym x.after) w.port in
+        by_name x.before x.known c client port (is_number (named_session e.event.kind) s) refl
+
+    by_opening : (b : Bool) → opens e s ≡ b → holder o (e ∷ past) a p ≡ Some s
+    by_opening false n = by_concern n (concerns o past e s) refl
+    by_opening true n =
+        let t : IsTold s (history o (e ∷ past) s) (opener (e ∷ past) s) w.view = session-told o (e ∷ past) s w.view w.known in
+        let start : history o (e ∷ past) s ≡ e ∷ [] = rw n refl in
+        let told : session_by_history s (e ∷ []) w.view.opening ≡ w.view = subst (λ (h : List Entry). session_by_history s h w.view.opening ≡ w.view) start t.told in
+        let z : None ≡ Some p = sym (port-opened e.event.kind e.decision s n) ∙ (ap (λ (v : Session). port_of v.slot) told ∙ w.port) in
+        cc
+
+-- where there is no legacy listener, in every right log a live session holds the port that its slot waits for, for its client
+pub waits-holds :
+    (o : Options) (log : List Entry) →
+    is_legacy o.mode ≡ false → IsRight o log →
+    (a : IpAddr) (p s : ℕ) →
+    WaitsFor o (past_of log) s a p →
+    holder o (past_of log) a p ≡ Some s
+unfolding decide
+waits-holds o [] m r a p s w = let z : None ≡ Some w.view = w.known in cc
+waits-holds o (e ∷ log) m r a p s w = go (is_refusal e.decision) refl (λ b q t h. waits-holds o log m r.0 b q t h)
+  where
+    go :
+        (b : Bool) → is_refusal e.decision ≡ b →
+        ((b : IpAddr) (q t : ℕ) → WaitsFor o (past_of log) t b q → holder o (past_of log) b q ≡ Some t) →
+        holder o (past_of (e ∷ log)) a p ≡ Some s
+    go true x ih = subst (λ (l : List Entry). holder o l a p ≡ Some s) (sym (counting-refused e log x)) (ih a p s (subst (λ (l : List Entry). WaitsFor o l s a p) (counting-refused e log x) w))
+    go false x ih = subst (λ (l : List Entry). holder o l a p ≡ Some s) (sym (counting-counts e log x)) (waits-holds-step o (past_of log) e m r.1 x ih a p s (subst (λ (l : List Entry). WaitsFor o l s a p) (counting-counts e log x) w))

@@ -1,0 +1,34 @@
+-- Who waits for a port, and what ends a hold.
+use Rattle.std.specs.Prelude.{ℕ, ◌≡◌, ◌≢◌, ◌⊎◌, List, Some}
+use Rattle.ftp_base.specs.declared.net.IpAddr.{IpAddr}
+use Rattle.ftp_base.specs.declared.net.SocketAddr.{SocketAddr}
+use Rattle.ftp_options.specs.declared.options.Options.{Options}
+use Rattle.ftp_events.specs.declared.decision.Decision.TheVariants.{Granted}
+use Rattle.ftp_events.specs.declared.decision.Decision.TheVariants as decision
+use Rattle.ftp_events.specs.declared.entry.Entry.{Entry}
+use Rattle.ftp_events.specs.declared.event.EventKind.TheVariants.{DataIn, Closed}
+use Rattle.ftp_events.specs.declared.session.Session.{Session}
+use Rattle.ftp_events.specs.declared.session.Slot.TheVariants.{Waits}
+use Rattle.ftp_events.specs.Log.{named_session}
+use Rattle.ftp_events.specs.Session.{session}
+
+-- session s is live, its client is a, and its slot waits for port p
+abbrev pub WaitsOn : Options → List Entry → ℕ → IpAddr → ℕ → Type 0
+WaitsOn o past s a p =
+    (v : Session) × (session o past s ≡ Some v) × (v.opening.client ≡ a) × (v.slot ≡ Waits p)
+
+-- a data connection of client a to port p
+abbrev pub ComesTo : Entry → IpAddr → ℕ → Type 0
+ComesTo e a p = (number : ℕ) × (raw : SocketAddr) × (e.event.kind ≡ DataIn number raw p) × (raw.ip ≡ a)
+
+-- another port than p is granted to session s
+abbrev pub GrantsAnother : Entry → ℕ → ℕ → Type 0
+GrantsAnother e s p = (q : ℕ) × (q ≢ p) × (e.decision ≡ Granted q) × (named_session e.event.kind ≡ Some s)
+
+-- session s ends with its control connection
+abbrev pub EndsSession : Entry → ℕ → Type 0
+EndsSession e s = (e.event.kind ≡ Closed s) × (e.decision ≡ decision.Closed)
+
+-- what ends the hold of port p that session s has for client a
+abbrev pub EndsHold : Entry → ℕ → IpAddr → ℕ → Type 0
+EndsHold e s a p = ComesTo e a p ⊎ (GrantsAnother e s p ⊎ EndsSession e s)

@@ -1,0 +1,102 @@
+-- What holds of every right log, in plain words.
+use Rattle.std.specs.Prelude.{ℕ, ◌≡◌, ◌↔◌, ◌⊎◌, List, ◌∷◌, map, length, false, Some, None}
+use Rattle.std.specs.List.{range_with_len}
+use Rattle.ftp_base.specs.declared.net.IpAddr.{IpAddr}
+use Rattle.ftp_options.specs.declared.options.Options.{Options}
+use Rattle.ftp_options.specs.Modes.{is_legacy}
+use Rattle.ftp_events.specs.declared.entry.Entry.{Entry}
+use Rattle.ftp_events.specs.declared.event.Answer.{Answer}
+use Rattle.ftp_events.specs.declared.event.HubEvent.{HubEvent}
+use Rattle.ftp_events.specs.declared.session.Session.{Session}
+use Rattle.ftp_events.specs.Board.{holder}
+use Rattle.ftp_events.specs.Headline.{AllServed}
+use Rattle.ftp_events.specs.Isolation.{client_log, IsApart}
+use Rattle.ftp_events.specs.Log.{past_of, is_refusal}
+use Rattle.ftp_events.specs.Right.{IsRight, IsActed, log_of, events_of}
+use Rattle.ftp_events.specs.Session.{session}
+use Rattle.ftp_laws.specs.Holds.{WaitsOn, EndsHold}
+use Rattle.ftp_laws.specs.Notices.{notices, NoneLoggedOut, LastLoggedOut, HasEnded}
+
+-- whatever happens and is answered, there is a right and acted log of it
+abbrev pub RightLogsExist : Type 0
+RightLogsExist =
+    (o : Options) (told : List (HubEvent × Answer)) →
+    IsRight o (log_of o told) × IsActed o (log_of o told)
+
+-- a right and acted log is the one that its events and answers give
+abbrev pub RightLogsAreDetermined : Type 0
+RightLogsAreDetermined =
+    (o : Options) (log : List Entry) → IsRight o log → IsActed o log →
+    log_of o (events_of log) ≡ log
+
+-- every data connection goes to the holder of its key or is closed, and every admitted PASV gets the first free port or is told that there is none
+abbrev pub RightLogsServe : Type 0
+RightLogsServe =
+    (o : Options) (log : List Entry) → is_legacy o.mode ≡ false → IsRight o log → IsActed o log →
+    AllServed o log
+
+-- a port is held for a client by the live session of that client whose slot waits for the port, and by nobody else
+abbrev pub HoldersWait : Type 0
+HoldersWait =
+    (o : Options) (log : List Entry) (a : IpAddr) (p s : ℕ) → is_legacy o.mode ≡ false → IsRight o log →
+    (holder o (past_of log) a p ≡ Some s) ↔ WaitsOn o (past_of log) s a p
+
+-- a session holds one port at most
+abbrev pub HoldsOnePort : Type 0
+HoldsOnePort =
+    (o : Options) (log : List Entry) (a b : IpAddr) (p q s : ℕ) → is_legacy o.mode ≡ false → IsRight o log →
+    holder o (past_of log) a p ≡ Some s → holder o (past_of log) b q ≡ Some s →
+    (a ≡ b) × (p ≡ q)
+
+-- a hold stays, but for a data connection to its key, a grant of another port to its holder, or the closing of its holder
+abbrev pub HoldsEndOnlySo : Type 0
+HoldsEndOnlySo =
+    (o : Options) (log : List Entry) (e : Entry) (a : IpAddr) (p s : ℕ) → is_legacy o.mode ≡ false → IsRight o (e ∷ log) →
+    holder o (past_of log) a p ≡ Some s →
+    (holder o (past_of (e ∷ log)) a p ≡ Some s) ⊎ ((holder o (past_of (e ∷ log)) a p ≡ None) × EndsHold e s a p)
+
+-- after each of these, unless it was refused, the port is free
+abbrev pub EachEndsHold : Type 0
+EachEndsHold =
+    (o : Options) (log : List Entry) (e : Entry) (a : IpAddr) (p s : ℕ) → is_legacy o.mode ≡ false → IsRight o (e ∷ log) →
+    holder o (past_of log) a p ≡ Some s → EndsHold e s a p → is_refusal e.decision ≡ false →
+    holder o (past_of (e ∷ log)) a p ≡ None
+
+-- the notifications of a session are numbered 1, 2, 3 .. without gaps
+abbrev pub NoticesAreNumbered : Type 0
+NoticesAreNumbered =
+    (o : Options) (log : List Entry) (s : ℕ) → IsRight o log → IsActed o log →
+    map (λ n. n.0) (notices log s) ≡ range_with_len 1 (length (notices log s))
+
+-- a live session counts its notifications
+abbrev pub NoticesAreCounted : Type 0
+NoticesAreCounted =
+    (o : Options) (log : List Entry) (s : ℕ) (v : Session) → IsRight o log → IsActed o log →
+    session o (past_of log) s ≡ Some v →
+    v.notices ≡ length (notices log s)
+
+-- the last notification of a session that has ended says that it has logged out, and no other does
+abbrev pub EndedAreLoggedOut : Type 0
+EndedAreLoggedOut =
+    (o : Options) (log : List Entry) (s : ℕ) → IsRight o log → IsActed o log →
+    HasEnded o (past_of log) s →
+    LastLoggedOut (notices log s)
+
+-- no notification of a live session says so
+abbrev pub LiveAreNotLoggedOut : Type 0
+LiveAreNotLoggedOut =
+    (o : Options) (log : List Entry) (s : ℕ) (v : Session) → IsRight o log → IsActed o log →
+    session o (past_of log) s ≡ Some v →
+    NoneLoggedOut (notices log s)
+
+-- the entries of a client whose numbers nobody else brings in are a right and acted log by themselves
+abbrev pub ClientsAreIsolated : Type 0
+ClientsAreIsolated =
+    (o : Options) (log : List Entry) (a : IpAddr) → is_legacy o.mode ≡ false → IsApart log a → IsRight o log → IsActed o log →
+    IsRight o (client_log log a) × IsActed o (client_log log a)
+
+-- they are what the client's events and answers give with nobody else there
+abbrev pub ClientsAreAsIfAlone : Type 0
+ClientsAreAsIfAlone =
+    (o : Options) (log : List Entry) (a : IpAddr) → is_legacy o.mode ≡ false → IsApart log a → IsRight o log → IsActed o log →
+    log_of o (events_of (client_log log a)) ≡ client_log log a

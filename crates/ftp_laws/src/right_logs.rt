@@ -1,0 +1,46 @@
+//! The laws of right logs. The functions do nothing: their clauses are the laws.
+ghost use Rattle.ftp_laws.specs.Laws.{RightLogsExist, RightLogsAreDetermined, RightLogsServe, HoldersWait, HoldsOnePort, HoldsEndOnlySo, EachEndsHold};
+ghost use Rattle.ftp_laws.specs.Laws.{NoticesAreNumbered, NoticesAreCounted, EndedAreLoggedOut, LiveAreNotLoggedOut, ClientsAreIsolated, ClientsAreAsIfAlone};
+
+/// There is one right and acted log for given events and answers.
+pub fn right_logs_are_determined()
+    ensures found { RightLogsExist }
+    ensures determined { RightLogsAreDetermined }
+{}
+
+/// Every data connection is attached to the session that holds its client address and port, or is
+/// closed. Every admitted PASV is granted the first free port, or is told that there is none.
+pub fn right_logs_serve()
+    ensures served { RightLogsServe }
+{}
+
+/// A port is held for a client by a live session of that client whose slot waits for it.
+pub fn holders_wait()
+    ensures holders { HoldersWait }
+    ensures one_port { HoldsOnePort }
+{}
+
+/// A hold ends only by a data connection, by a grant of another port to its holder, or with its holder.
+pub fn holds_end()
+    ensures only_so { HoldsEndOnlySo }
+    ensures each { EachEndsHold }
+{}
+
+/// The notifications of a session are numbered 1, 2, 3 and so on, as the session counts them.
+pub fn notices_are_numbered()
+    ensures numbered { NoticesAreNumbered }
+    ensures counted { NoticesAreCounted }
+{}
+
+/// Listeners are told once that a session has logged out: last, and only when it has ended.
+pub fn logged_out_comes_last()
+    ensures ended { EndedAreLoggedOut }
+    ensures live { LiveAreNotLoggedOut }
+{}
+
+/// The entries of one client address are right and acted by themselves, as if nobody else had been
+/// there: no traffic of others changes what the client is granted, refused, attached or told.
+pub fn client_part_is_right_and_acted()
+    ensures isolated { ClientsAreIsolated }
+    ensures alone { ClientsAreAsIfAlone }
+{}
