@@ -1,0 +1,83 @@
+-- Where sessions share the ports, every client has an address of version 4.
+use Rattle.std.proofs.Common.{◌≡◌, refl, sym, ap, ◌∙◌, subst, ℕ, Bool, true, false, cond, ◌&&◌, ◌||◌, List, [], ◌∷◌, Option, Some, None, arith}
+use Rattle.std.proofs.lemmas.Option.{same_Some}
+use Rattle.std.specs.Prelude.{unwrap_or}
+use Rattle.std.specs.Bool.{then_some}
+use Rattle.ftp_base.specs.declared.net.IpAddr.{IpAddr}
+use Rattle.ftp_base.specs.declared.net.IpAddr.TheVariants.{V4, V6}
+use Rattle.ftp_base.specs.declared.net.SocketAddr.{SocketAddr}
+use Rattle.ftp_base.specs.Net.{is_v6, ipv4}
+use Rattle.ftp_options.specs.declared.options.Options.{Options}
+use Rattle.ftp_options.specs.declared.options.ListenerMode.{ListenerMode}
+use Rattle.ftp_options.specs.declared.options.ListenerMode.TheVariants.{Legacy, Pooled}
+use Rattle.ftp_options.specs.Modes.{is_legacy, is_pooled}
+use Rattle.ftp_events.specs.declared.decision.Decision.{Decision}
+use Rattle.ftp_events.specs.declared.decision.Decision.TheVariants as decision
+use Rattle.ftp_events.specs.declared.entry.Entry.{Entry}
+use Rattle.ftp_events.specs.declared.event.Answer.{Answer}
+use Rattle.ftp_events.specs.declared.event.EventKind.{EventKind}
+use Rattle.ftp_events.specs.declared.event.EventKind.TheVariants as kind
+use Rattle.ftp_events.specs.declared.session.Opening.{Opening}
+use Rattle.ftp_events.specs.declared.session.Session.{Session}
+use Rattle.ftp_events.specs.Words.{◌⇒◌∣◌, is_number}
+use Rattle.ftp_events.specs.Log.{past_of, is_refusal, is_used}
+use Rattle.ftp_events.specs.Opening.{opened_number, opening_by, opener}
+use Rattle.ftp_events.specs.Session.{session}
+use Rattle.ftp_events.specs.ConnectionRows.{connect_row}
+use Rattle.ftp_events.specs.Decide.{due, decide}
+use Rattle.ftp_events.specs.Right.{IsRight}
+use Rattle.ftp_laws.proofs.Laws.{counting-refused, counting-counts, session-told}
+use Rattle.ftp_hub.proofs.Counts.{opens-connects}
+
+-- where sessions share the ports, none has a listener of its own
+pub pooled-shared : (m : ListenerMode) → is_pooled m ≡ true → is_legacy m ≡ false
+pooled-shared Legacy h = cc
+pooled-shared Pooled h = refl
+
+-- a control connection that opens a session comes from an address of version 4
+connect-v4 : (o : Options) (past : List Entry) (s : ℕ) (raw local : SocketAddr) → is_pooled o.mode ≡ true → connect_row o past s raw local ≡ decision.Opened → is_v6 raw.ip ≡ false
+connect-v4 o past s raw local m h = go (is_v6 raw.ip) refl
+  where
+    go : (b : Bool) → is_v6 raw.ip ≡ b → b ≡ false
+    go false e = refl
+    go true e =
+        let clash : decision.Misplaced ≡ decision.Opened = rw (m, e) at h in
+        cc
+
+-- what an entry that opens a session tells of its client
+told-v4 : (o : Options) (past : List Entry) (at : ℕ) (k : EventKind) (answer : Answer) (opening : Opening) → is_pooled o.mode ≡ true → due o past at k answer ≡ decision.Opened → opening_by k answer ≡ Some opening → is_v6 opening.client ≡ false
+told-v4 o past at (kind.Connect s raw local trace) answer opening m d t =
+    let same = same_Some _ _ t in
+    subst (λ (x : Opening). is_v6 x.client ≡ false) same (connect-v4 o past s raw local m d)
+told-v4 o past at (kind.DataIn n raw port) answer opening m d t = cc
+told-v4 o past at (kind.User s name) answer opening m d t = cc
+told-v4 o past at (kind.Pass s) answer opening m d t = cc
+told-v4 o past at (kind.AuthDone s said) answer opening m d t = cc
+told-v4 o past at (kind.Pasv s word lookup bound) answer opening m d t = cc
+told-v4 o past at (kind.Closed s) answer opening m d t = cc
+
+-- every session's client has an address of version 4
+opener-v4 : (o : Options) (log : List Entry) (s : ℕ) (opening : Opening) → is_pooled o.mode ≡ true → IsRight o log → opener (past_of log) s ≡ Some opening → is_v6 opening.client ≡ false
+unfolding decide
+opener-v4 o [] s opening m r h = cc
+opener-v4 o (e ∷ log) s opening m r h = by_refusal (is_refusal e.decision) refl (λ x. opener-v4 o log s opening m r.0 x)
+  where
+    past : List Entry
+    past = past_of log
+
+    opened : (b : Bool) → is_number (opened_number e.event.kind e.decision) s ≡ b → unwrap_or (then_some b (opening_by e.event.kind e.answer)) (opener past s) ≡ Some opening → (opener past s ≡ Some opening → is_v6 opening.client ≡ false) → is_v6 opening.client ≡ false
+    opened true n x ih = told-v4 o past e.event.at e.event.kind e.answer opening m (sym r.1 ∙ (opens-connects e.event.kind e.decision s n).1) x
+    opened false n x ih = ih x
+
+    by_refusal : (b : Bool) → is_refusal e.decision ≡ b → (opener past s ≡ Some opening → is_v6 opening.client ≡ false) → is_v6 opening.client ≡ false
+    by_refusal true c ih = ih (ap (λ (p : List Entry). opener p s) (sym (counting-refused e log c)) ∙ h)
+    by_refusal false c ih = opened (is_number (opened_number e.event.kind e.decision) s) refl (ap (λ (p : List Entry). opener p s) (sym (counting-counts e log c)) ∙ h) ih
+
+-- an address that is not of version 6 is one of version 4
+v4-is : (a : IpAddr) → is_v6 a ≡ false → a ≡ V4 (ipv4 a)
+v4-is (V4 a) h = refl
+v4-is (V6 a) h = cc
+
+-- a live session's client is the address of its number
+pub client-v4 : (o : Options) (log : List Entry) (s : ℕ) (v : Session) → is_pooled o.mode ≡ true → IsRight o log → session o (past_of log) s ≡ Some v → v.opening.client ≡ V4 (ipv4 v.opening.client)
+client-v4 o log s v m r known = v4-is v.opening.client (opener-v4 o log s v.opening m r (session-told o (past_of log) s v known).opening)

@@ -1,0 +1,4 @@
+pub mod Counts
+pub mod Clients
+pub mod Steps
+pub mod Runs

@@ -1,0 +1,28 @@
+use Rattle.std.proofs.Common.{◌≡◌, ◌∙◌, ap, subst, arith, []}
+use Rattle.ftp_events.specs.declared.entry.Entry.{Entry}
+use Rattle.std.specs.Prelude.{List, take}
+use Rattle.ftp_hub.specs.Runs.{GoesOn}
+use Rattle.ftp_hub.proofs.Runs.{goes-on-more, headline-fresh}
+use Rattle.ftp_hub.proofs.run.run_events.Goals as goal
+
+-- one more event
+pub loop-event-preserved : goal.loop-event-preserved
+loop-event-preserved g c =
+    let so_far = c.loop-event.invariant in
+    let next = c.in-Ok.ensures in
+    record {
+      stands = λ stood. next.stands (so_far.stands stood);
+      events = goes-on-more c.args.log.now.entries c.loop-event.log.entries c.run_next.new.log.entries c.args.events.now c.loop-event.event-index c.event-item.result so_far.events next.event c.loop-event-test.true c.event-item.is;
+      done = omega (arith, so_far.done);
+      count = omega (arith, next.count, so_far.count);
+      options = next.options ∙ so_far.options;
+      storage = next.storage ∙ so_far.storage;
+      links = next.links ∙ so_far.links;
+    }
+
+-- the whole run
+pub returns-clause-headline : goal.returns-clause-headline
+returns-clause-headline g c = λ fresh empty.
+    let so_far = c.loop-event.invariant in
+    headline-fresh c.args.hub.now c.loop-event.hub c.args.events.now c.loop-event.event-index c.args.log.now.entries c.loop-event.log.entries
+    fresh empty so_far.options so_far.stands so_far.events c.loop-event-test.false

@@ -1,0 +1,20 @@
+-- What becomes of a data connection that has a holder.
+use Rattle.std.specs.Prelude.{ℕ, ◌<◌, Bool, true, false, not, ◌&&◌, nat_le}
+use Rattle.ftp_events.specs.declared.decision.Decision.{Decision}
+use Rattle.ftp_events.specs.declared.decision.Decision.TheVariants.{Attached, Turned}
+use Rattle.ftp_events.specs.declared.event.EventKind.{EventKind}
+use Rattle.ftp_events.specs.declared.event.EventKind.TheVariants as kind
+use Rattle.ftp_events.specs.Words.{◌⇒◌∣◌}
+
+-- the kinds of connections
+abbrev pub is_connect : EventKind → Bool
+is_connect (kind.Connect s raw local trace) = true
+is_connect _ = false
+
+abbrev pub is_data : EventKind → Bool
+is_data (kind.DataIn number raw port) = true
+is_data _ = false
+
+-- to session s, where the port is in the range and the peers have one address
+abbrev pub arrival_of : Bool → Bool → ℕ → Decision
+arrival_of in_range same s = not in_range ⇒ Turned ∣ same ⇒ Attached s ∣ Turned

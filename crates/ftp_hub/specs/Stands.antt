@@ -1,0 +1,98 @@
+-- When a hub stands for a log.
+use Rattle.std.specs.Prelude.{◌≡◌, ℕ, ◌+◌, ◌-◌, ◌^◌, ◌<◌, ◌∷◌, List, [], length, Option, nat_eq, unwrap_or}
+use Rattle.std.specs.Option.{option_map_or}
+use Rattle.std.specs.HashMap as map
+use Rattle.ftp_base.specs.declared.net.IpAddr.TheVariants.{V4}
+use Rattle.ftp_base.specs.Net.{ipv4}
+use Rattle.ftp_options.specs.declared.options.Options.{Options}
+use Rattle.ftp_switchboard.specs.Board.{holder_at, HasRoom}
+use Rattle.ftp_numbers.specs.Used.{has}
+use Rattle.ftp_events.specs.declared.action.Action.{Action}
+use Rattle.ftp_events.specs.declared.decision.Decision.{Decision}
+use Rattle.ftp_events.specs.declared.entry.Entry.{Entry}
+use Rattle.ftp_events.specs.declared.event.Answer.{Answer}
+use Rattle.ftp_events.specs.declared.event.EventKind.{EventKind}
+use Rattle.ftp_events.specs.declared.event.HubEvent.{HubEvent}
+use Rattle.ftp_events.specs.declared.session.Session.{Session}
+use Rattle.ftp_events.specs.Log.{past_of, is_used, named_session}
+use Rattle.ftp_events.specs.Board.{holder}
+use Rattle.ftp_events.specs.Session.{session, live_count}
+use Rattle.ftp_events.specs.Decide.{decide}
+use Rattle.ftp_events.specs.Acts.{acts}
+use Rattle.ftp_events.specs.Right.{IsRight, IsActed}
+use Rattle.ftp_hub.specs.declared.hub.Hub.{Hub}
+use Rattle.ftp_hub.specs.declared.room.Room.{Room}
+use Rattle.ftp_hub.specs.Rooms.{IsReady, name_in}
+use Rattle.ftp_hub.specs.Handlers.{name_told}
+
+-- the options that a hub was made from
+abbrev pub options_of : Hub → Options
+options_of hub = hub.options
+
+-- how many events a hub has counted
+abbrev pub count_of : Hub → ℕ
+count_of hub = hub.count
+
+-- each table answers each question as the past does
+pub record Tables (hub : Hub) (past : List Entry) : Type 0 where
+  pub sessions : (s : ℕ) → map.get nat_eq hub.sessions s ≡ session hub.options past s
+  pub live : map.hash_map_len hub.sessions ≡ live_count past
+  pub numbers : (n : ℕ) → has hub.numbers n ≡ is_used past n
+  pub holders : (a p : ℕ) → holder_at hub.board a p ≡ holder hub.options past (V4 a) p
+
+-- the log is right and acted, the tables answer as it does, and its entries were counted
+pub record Stands (hub : Hub) (log : List Entry) : Type 0 where
+  pub right : IsRight hub.options log
+  pub acted : IsActed hub.options log
+  pub tables : Tables hub (past_of log)
+  pub counted : hub.count ≡ hub.start + length log
+
+-- an entry with these parts
+abbrev pub entry : HubEvent → Answer → Decision → List Action → Entry
+entry event answer d actions = record { event = event; answer = answer; decision = d; actions = actions }
+
+-- what is decided and done on an event is due, and the tables then answer as the log does with its entry
+pub record Serves (old new : Hub) (log : List Entry) (event : HubEvent) (answer : Answer) (d : Decision) (actions : List Action) : Type 0 where
+  pub decision : d ≡ decide old.options log event answer
+  pub done : actions ≡ acts old.options log (entry event answer d actions)
+  pub tables : Tables new (past_of (entry event answer d actions ∷ log))
+
+-- what no event changes but the step itself
+pub record SameHead (old new : Hub) : Type 0 where
+  pub options : new.options ≡ old.options
+  pub start : new.start ≡ old.start
+  pub count : new.count ≡ old.count
+
+-- every table answers as before; what is reserved may differ
+pub record SameTables (old new : Hub) : Type 0 where
+  pub sessions : (s : ℕ) → map.get nat_eq new.sessions s ≡ map.get nat_eq old.sessions s
+  pub live : map.hash_map_len new.sessions ≡ map.hash_map_len old.sessions
+  pub numbers : (n : ℕ) → has new.numbers n ≡ has old.numbers n
+  pub holders : (a p : ℕ) → holder_at new.board a p ≡ holder_at old.board a p
+
+-- the hub answers every question as before
+pub record SameAnswers (old new : Hub) : Type 0 where
+  pub head : SameHead old new
+  pub tables : SameTables old new
+
+-- the session that an event names, where it is live
+abbrev pub named_in : Hub → EventKind → Option Session
+named_in hub k = map.get nat_eq hub.sessions (unwrap_or (named_session k) 0)
+
+-- the name that an event keeps or tells
+abbrev pub name_for : Hub → EventKind → List ℕ
+name_for hub k = option_map_or (name_told k) (named_in hub k) []
+
+-- the client of the session that an event names
+abbrev pub client_for : Hub → EventKind → ℕ
+client_for hub k = option_map_or (λ v. ipv4 v.opening.client) (named_in hub k) 0
+
+-- the room is of this event and this count, and fits this hub
+pub record Fits (room : Room) (hub : Hub) (event : HubEvent) : Type 0 where
+  pub below : hub.count < 2 ^ 64 - 1
+  pub counted : room.count ≡ hub.count
+  pub ready : IsReady room
+  pub name : name_in room ≡ name_for hub event.kind
+  pub sessions : 0 < map.spare hub.sessions
+  pub numbers : 0 < hub.numbers.room
+  pub board : HasRoom hub.board (client_for hub event.kind)

@@ -1,0 +1,185 @@
+//! Connections that come: control connections open sessions, data connections go to the session that
+//! holds their port.
+
+ghost use Rattle.std.specs.Prelude.{◌≡◌, ◌<◌, ℕ, List, ◌||◌, IsTrue, Some, if◌then◌else◌};
+ghost use Rattle.std.specs.HashMap as map;
+ghost use Rattle.ftp_base.specs.Net.{same_ip, is_v6};
+ghost use Rattle.ftp_options.specs.declared.options.Options.{Options};
+ghost use Rattle.ftp_events.specs.declared.entry.Entry.{Entry};
+ghost use Rattle.ftp_events.specs.declared.event.Answer.{Answer};
+ghost use Rattle.ftp_events.specs.declared.event.EventKind.TheVariants.{DataIn};
+ghost use Rattle.ftp_events.specs.Modes.{in_range};
+ghost use Rattle.ftp_events.specs.Session.{session_after};
+ghost use Rattle.ftp_events.specs.declared.session.Slot.TheVariants.{Empty};
+ghost use Rattle.ftp_events.specs.Slot.{with_link, is_waiting};
+ghost use Rattle.ftp_events.specs.Acts.{session_acts};
+ghost use Rattle.ftp_laws.proofs.Laws.{new_session};
+ghost use Rattle.ftp_hub.specs.Arrivals.{is_connect, is_data, arrival_of};
+ghost use Rattle.ftp_hub.specs.Rooms.{IsReady, actions_in};
+ghost use Rattle.ftp_hub.specs.Stands.{Stands, Serves, SameHead};
+
+use crate::hub::Hub;
+use crate::room::Room;
+use crate::tables::put;
+use ftp_base::{IpAddr, SocketAddr};
+use ftp_events::{Answer, Decision, EventKind, HubEvent, Login, Opening, Session, Slot};
+use ftp_options::Options;
+use ftp_switchboard::SwitchboardKey;
+
+impl Hub {
+    // Opens a session for a control connection.
+    pub(crate) fn connect(&mut self, room: &mut Room, event: &HubEvent, answer: Answer) -> Decision
+        requires of_this_event { IsTrue (is_connect event.now.kind) }
+        requires ready { IsReady room.old }
+        requires sessions { 0 < map.spare self.old.sessions }
+        requires numbers { 0 < self.old.numbers.room }
+        ensures serves { (log : List Entry) → Stands self.old log → Serves self.old self.new log event.now answer result (actions_in room.new) }
+        ensures head { SameHead self.old self.new }
+    {
+        let EventKind::Connect {
+            session,
+            raw,
+            local,
+            trace,
+        } = &event.kind
+        else {
+            unreachable!()
+        };
+        if is_misplaced(*raw, *local) {
+            return Decision::Misplaced;
+        }
+        if self.numbers.has(*session) {
+            return Decision::UsedNumber;
+        }
+        self.numbers.put(*session);
+        put(
+            &mut self.sessions,
+            *session,
+            new_session(*raw, *local, *trace),
+        );
+        Decision::Opened
+    }
+
+    // Brings a data connection to the session that holds its port, or turns it away.
+    pub(crate) fn data_in(&mut self, room: &mut Room, event: &HubEvent, answer: Answer) -> Decision
+        requires of_this_event { IsTrue (is_data event.now.kind) }
+        requires ready { IsReady room.old }
+        requires numbers { 0 < self.old.numbers.room }
+        ensures serves { (log : List Entry) → Stands self.old log → Serves self.old self.new log event.now answer result (actions_in room.new) }
+        ensures head { SameHead self.old self.new }
+    {
+        let EventKind::DataIn { number, raw, port } = &event.kind else {
+            unreachable!()
+        };
+        let IpAddr::V4(source) = raw.ip else {
+            return Decision::Misplaced;
+        };
+        if self.numbers.has(*number) {
+            return Decision::UsedNumber;
+        }
+        self.numbers.put(*number);
+        let key = SwitchboardKey {
+            source,
+            port: *port,
+        };
+        let Some(holder) = self.board.unregister_by_key(&key) else {
+            room.close(*number);
+            return Decision::Turned;
+        };
+        let in_range = in_range(&self.options, *port);
+        match self.sessions.get_mut(&holder) {
+            None => {
+                room.close(*number);
+                Decision::Turned
+            }
+            Some(session) => {
+                let arrival = Arrival {
+                    number: *number,
+                    raw: *raw,
+                    in_range,
+                };
+                arrival.come(holder, session, room)
+            }
+        }
+    }
+}
+
+// A control connection that sessions which share the ports cannot use.
+fn is_misplaced(raw: SocketAddr, local: SocketAddr) -> bool
+    ensures { result ≡ (is_v6 raw.ip || is_v6 local.ip) }
+{
+    raw.ip.is_v6() || local.ip.is_v6()
+}
+
+// A port of the range.
+fn in_range(options: &Options, port: u16) -> bool
+    ensures { result ≡ in_range options.now port }
+{
+    options.lo <= port && port <= options.hi
+}
+
+// A session to which nothing has happened since its opening.
+fn new_session(raw: SocketAddr, local: SocketAddr, trace: u64) -> Session
+    ensures { result ≡ new_session (record { raw = raw; local = local; client = raw.ip; trace = trace }) }
+{
+    Session {
+        opening: Opening {
+            raw,
+            local,
+            client: raw.ip,
+            trace,
+        },
+        login: Login::New,
+        name: None,
+        slot: Slot::Empty,
+        notices: 0,
+    }
+}
+
+// A data connection, and whether it came to a passive port.
+#[derive(Clone, Copy)]
+pub(crate) struct Arrival {
+    number: u64,
+    raw: SocketAddr,
+    in_range: bool,
+}
+
+impl Arrival {
+    // Goes to the session where the peers have one address, or else closes and drops the slot.
+    fn come(self, holder: u64, session: &mut Session, room: &mut Room) -> Decision
+        requires { IsReady room.old }
+        ensures decision { result ≡ arrival_of self.in_range (same_ip session.old.opening.raw.ip self.raw.ip) holder }
+        ensures session { (port : ℕ) → session.new ≡ session_after (DataIn self.number self.raw port) result 0 session.old }
+        ensures actions { (o : Options) (port : ℕ) (answer : Answer) → actions_in room.new ≡ session_acts o holder (DataIn self.number self.raw port) answer result (Some session.old) }
+    {
+        if self.in_range && session.opening.raw.ip.is_same(self.raw.ip) {
+            session.slot = with_link(session.slot, self.number);
+            return Decision::Attached { session: holder };
+        }
+        session.slot = without_wait(session.slot);
+        room.close(self.number);
+        Decision::Turned
+    }
+}
+
+// A link comes for a slot that waits.
+fn with_link(slot: Slot, number: u64) -> Slot
+    ensures { result ≡ with_link slot (Some number) }
+{
+    match slot {
+        Slot::Waits { port: _ } => Slot::Linked { number },
+        Slot::Empty => slot,
+        Slot::Linked { number: _ } => slot,
+    }
+}
+
+// A slot that waits is dropped.
+fn without_wait(slot: Slot) -> Slot
+    ensures { result ≡ (if is_waiting slot then Empty else slot) }
+{
+    match slot {
+        Slot::Waits { port: _ } => Slot::Empty,
+        Slot::Empty => slot,
+        Slot::Linked { number: _ } => slot,
+    }
+}

@@ -1,0 +1,53 @@
+//! The handlers: each decides on one kind of event, for a live session that it is lent.
+
+ghost use Rattle.std.specs.Prelude.{◌≡◌, ◌+◌, ◌<◌, ◌^◌, ℕ, IsTrue, Some};
+ghost use Rattle.ftp_base.specs.Net.{ipv4};
+ghost use Rattle.ftp_switchboard.specs.Board.{HasRoom, SameRange, holder_at};
+ghost use Rattle.ftp_events.specs.declared.event.Answer.{Answer};
+ghost use Rattle.ftp_events.specs.Slot.{waiting_port};
+ghost use Rattle.ftp_events.specs.Session.{session_after};
+ghost use Rattle.ftp_events.specs.Acts.{session_acts};
+ghost use Rattle.ftp_hub.specs.Rooms.{IsReady, actions_in, name_in};
+ghost use Rattle.ftp_hub.specs.Handlers.{is_command, number_of, name_told, notices_of, held_for, command_row, HasRange, held_after};
+
+use crate::room::Room;
+use ftp_events::{Decision, EventKind, Session};
+use ftp_options::Options;
+use ftp_switchboard::Switchboard;
+
+pub(crate) mod auth_done;
+pub(crate) mod closed;
+pub mod pass;
+pub mod pasv;
+pub(crate) mod user;
+
+/// Hands a command of a live session to its handler.
+pub(crate) fn command(
+    session: &mut Session,
+    args: &EventKind,
+    board: &mut Switchboard,
+    room: &mut Room,
+    at: u64,
+    options: &Options,
+) -> Decision
+    requires of_this_event { IsTrue (is_command args.now) }
+    requires room { IsReady room.old }
+    requires name { name_in room.old ≡ name_told args.now session.old }
+    requires range { HasRange board.old options.now }
+    requires board_room { HasRoom board.old (ipv4 session.old.opening.client) }
+    ensures decision { result ≡ command_row options.now (held_for board.old session.old) args.now session.old }
+    ensures session { session.old.notices + 1 < 2 ^ 64 → session.new ≡ session_after args.now result (notices_of result) session.old }
+    ensures actions { session.old.notices + 1 < 2 ^ 64 → (answer : Answer) → actions_in room.new ≡ session_acts options.now (number_of args.now) args.now answer result (Some session.old) }
+    ensures holders { (a p : ℕ) → holder_at board.new a p ≡ held_after result (number_of args.now) (ipv4 session.old.opening.client) (waiting_port session.old.slot) a p (holder_at board.old a p) }
+    ensures same_range { SameRange board.old board.new }
+{
+    match args {
+        EventKind::User { .. } => user::handle(session, args, board, room, at, options),
+        EventKind::Pass { .. } => pass::handle(session, args, board, room, at, options),
+        EventKind::AuthDone { .. } => auth_done::handle(session, args, board, room, at, options),
+        EventKind::Pasv { .. } => pasv::handle(session, args, board, room, at, options),
+        EventKind::Connect { .. } | EventKind::DataIn { .. } | EventKind::Closed { .. } => {
+            unreachable!()
+        }
+    }
+}

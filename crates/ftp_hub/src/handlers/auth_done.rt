@@ -1,0 +1,63 @@
+//! What follows on a password that was checked.
+
+ghost use Rattle.std.specs.Prelude.{◌≡◌, ◌+◌, ◌<◌, ◌^◌, IsTrue, Some};
+ghost use Rattle.ftp_events.specs.declared.event.Answer.{Answer};
+ghost use Rattle.ftp_events.specs.Session.{session_after};
+ghost use Rattle.ftp_events.specs.Acts.{session_acts};
+ghost use Rattle.ftp_hub.specs.Rooms.{IsReady, actions_in, name_in};
+ghost use Rattle.ftp_hub.specs.Handlers.{is_auth, number_of, name_told, answered_row, notices_of};
+
+use crate::room::Room;
+use ftp_base::{AuthAnswer, PresenceEvent, ReplyCode};
+use ftp_events::{Decision, EventKind, Login, Session};
+use ftp_options::Options;
+use ftp_switchboard::Switchboard;
+
+/// Logs the user in where the answer is good, and forgets the login where it is not.
+pub(crate) fn handle(
+    session: &mut Session,
+    args: &EventKind,
+    board: &mut Switchboard,
+    room: &mut Room,
+    at: u64,
+    options: &Options,
+) -> Decision
+    requires of_this_event { IsTrue (is_auth args.now) }
+    requires room { IsReady room.old }
+    requires name { name_in room.old ≡ name_told args.now session.old }
+    ensures decision { result ≡ answered_row args.now session.old.login }
+    ensures session { session.old.notices + 1 < 2 ^ 64 → session.new ≡ session_after args.now result (notices_of result) session.old }
+    ensures actions { session.old.notices + 1 < 2 ^ 64 → (answer : Answer) → actions_in room.new ≡ session_acts options.now (number_of args.now) args.now answer result (Some session.old) }
+    ensures board { board.new ≡ board.old }
+{
+    let EventKind::AuthDone {
+        session: number,
+        answer,
+    } = args
+    else {
+        unreachable!()
+    };
+    if !matches!(session.login, Login::Checking) {
+        return Decision::NotExpected;
+    }
+    if !matches!(answer, AuthAnswer::Good) {
+        session.login = Login::New;
+        room.reply(*number, ReplyCode::NotLoggedIn, b"Authentication failed");
+        return Decision::LoginFailed {
+            lock: None,
+            delay: 0,
+        };
+    }
+    session.login = Login::LoggedIn;
+    session.notices = session.notices.saturating_add(1);
+    let name = room.take_name();
+    room.notify(
+        *number,
+        name,
+        session.opening.trace,
+        session.notices,
+        PresenceEvent::LoggedIn,
+    );
+    room.reply(*number, ReplyCode::UserLoggedIn, b"User logged in, proceed");
+    Decision::LoggedIn
+}

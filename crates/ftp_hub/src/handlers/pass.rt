@@ -1,0 +1,66 @@
+//! PASS (RFC 959, section 4.1.1).
+
+ghost use Rattle.std.specs.Prelude.{◌≡◌, IsTrue, Some};
+ghost use Rattle.ftp_events.specs.declared.event.Answer.{Answer};
+ghost use Rattle.ftp_events.specs.LoginRows.{pass_row};
+ghost use Rattle.ftp_events.specs.Session.{session_after};
+ghost use Rattle.ftp_events.specs.Acts.{session_acts};
+ghost use Rattle.ftp_hub.specs.Rooms.{IsReady, actions_in};
+ghost use Rattle.ftp_hub.specs.Handlers.{is_pass, number_of};
+
+use crate::room::Room;
+use ftp_base::ReplyCode;
+use ftp_events::{Decision, EventKind, Login, Session};
+use ftp_options::Options;
+use ftp_switchboard::Switchboard;
+
+/// Lets the password be checked, where a name is given and none is being checked.
+pub fn handle(
+    session: &mut Session,
+    args: &EventKind,
+    board: &mut Switchboard,
+    room: &mut Room,
+    at: u64,
+    options: &Options,
+) -> Decision
+    requires of_this_event { IsTrue (is_pass args.now) }
+    requires room { IsReady room.old }
+    ensures decision { result ≡ pass_row session.old.login }
+    ensures session { session.new ≡ session_after args.now result 0 session.old }
+    ensures actions { (answer : Answer) → actions_in room.new ≡ session_acts options.now (number_of args.now) args.now answer result (Some session.old) }
+    ensures board { board.new ≡ board.old }
+{
+    let EventKind::Pass { session: number } = args else {
+        unreachable!()
+    };
+    match session.login {
+        Login::New => {
+            room.reply(
+                *number,
+                ReplyCode::BadCommandSequence,
+                b"Please supply a username first",
+            );
+            Decision::BadSequence
+        }
+        Login::Named => {
+            session.login = Login::Checking;
+            Decision::PassOut
+        }
+        Login::Checking => {
+            room.reply(
+                *number,
+                ReplyCode::BadCommandSequence,
+                b"A password is being checked",
+            );
+            Decision::BadSequence
+        }
+        Login::LoggedIn => {
+            room.reply(
+                *number,
+                ReplyCode::NotLoggedIn,
+                b"Please open a new connection to re-authenticate",
+            );
+            Decision::Reauth
+        }
+    }
+}

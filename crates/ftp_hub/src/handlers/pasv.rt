@@ -1,0 +1,79 @@
+//! PASV (RFC 959, section 4.1.2).
+
+ghost use Rattle.std.specs.Prelude.{◌≡◌, ℕ, IsTrue, Some};
+ghost use Rattle.ftp_base.specs.Net.{ipv4};
+ghost use Rattle.ftp_switchboard.specs.Board.{HasRoom, SameRange, holder_at};
+ghost use Rattle.ftp_events.specs.declared.event.Answer.{Answer};
+ghost use Rattle.ftp_events.specs.CommandRows.{if_logged_in};
+ghost use Rattle.ftp_events.specs.Slot.{waiting_port};
+ghost use Rattle.ftp_events.specs.Session.{session_after};
+ghost use Rattle.ftp_events.specs.Acts.{session_acts};
+ghost use Rattle.ftp_hub.specs.Rooms.{IsReady, actions_in};
+ghost use Rattle.ftp_hub.specs.Handlers.{is_pasv, number_of, word_of, held_for, port_row, HasRange, held_after};
+
+use crate::room::Room;
+use ftp_base::ReplyCode;
+use ftp_events::{Decision, EventKind, Login, Session, Slot};
+use ftp_options::Options;
+use ftp_switchboard::Switchboard;
+
+/// Reserves a passive port for the session's client, and advertises it.
+pub fn handle(
+    session: &mut Session,
+    args: &EventKind,
+    board: &mut Switchboard,
+    room: &mut Room,
+    at: u64,
+    options: &Options,
+) -> Decision
+    requires of_this_event { IsTrue (is_pasv args.now) }
+    requires room { IsReady room.old }
+    requires range { HasRange board.old options.now }
+    requires board_room { HasRoom board.old (ipv4 session.old.opening.client) }
+    ensures decision { result ≡ if_logged_in session.old (port_row options.now (held_for board.old session.old) (word_of args.now)) }
+    ensures session { session.new ≡ session_after args.now result 0 session.old }
+    ensures actions { (answer : Answer) → actions_in room.new ≡ session_acts options.now (number_of args.now) args.now answer result (Some session.old) }
+    ensures holders { (a p : ℕ) → holder_at board.new a p ≡ held_after result (number_of args.now) (ipv4 session.old.opening.client) (waiting_port session.old.slot) a p (holder_at board.old a p) }
+    ensures same_range { SameRange board.old board.new }
+{
+    let EventKind::Pasv {
+        session: number,
+        word,
+        ..
+    } = args
+    else {
+        unreachable!()
+    };
+    if !matches!(session.login, Login::LoggedIn) {
+        room.reply(*number, ReplyCode::NotLoggedIn, b"Please authenticate");
+        return Decision::NotLoggedIn;
+    }
+    let client = session.opening.client.ipv4();
+    match board.reserve(client, *number, *word, waiting_port(session.slot)) {
+        Err(_) => {
+            room.reply(
+                *number,
+                ReplyCode::CantOpenDataConnection,
+                b"Could not allocate passive port",
+            );
+            Decision::Full
+        }
+        Ok(port) => {
+            room.close_link(session.slot);
+            room.advertise(*number, session.opening.local.ip.ipv4(), port);
+            session.slot = Slot::Waits { port };
+            Decision::Granted { port }
+        }
+    }
+}
+
+/// The port that the slot waits for.
+pub(crate) fn waiting_port(slot: Slot) -> Option<u16>
+    ensures { result ≡ waiting_port slot }
+{
+    match slot {
+        Slot::Waits { port } => Some(port),
+        Slot::Empty => None,
+        Slot::Linked { number: _ } => None,
+    }
+}

@@ -1,0 +1,94 @@
+//! The tables of the hub, and what can be asked of them.
+
+ghost use Rattle.std.specs.Prelude.{◌≡◌, true};
+ghost use Rattle.ftp_options.specs.Modes.{is_pooled};
+
+use ftp_events::Session;
+use ftp_numbers::Numbers;
+use ftp_options::Options;
+use ftp_switchboard::Switchboard;
+use std::alloc::Global;
+use std::collections::HashMap;
+
+/// The sessions that are live, the numbers that were used, and the passive ports that are held.
+#[derive(Drop)]
+pub struct Hub {
+    pub(crate) alloc: Global,
+    pub(crate) options: Options,
+    pub(crate) sessions: HashMap<u64, Session>,
+    pub(crate) numbers: Numbers,
+    pub(crate) board: Switchboard,
+    // The count of events that the hub was made with.
+    pub(crate) start: u64,
+    pub(crate) count: u64,
+    ghost pooled: { is_pooled options.mode ≡ true },
+    ghost lo: { board.lo ≡ options.lo },
+    ghost hi: { board.hi ≡ options.hi },
+}
+
+impl Hub {
+    ghost use Rattle.std.specs.Prelude.{◌≡◌, [], List, is_some, IsTrue};
+    ghost use Rattle.ftp_options.specs.declared.options.Options.{Options};
+    ghost use Rattle.ftp_options.specs.Modes.{is_pooled};
+    ghost use Rattle.ftp_events.specs.declared.entry.Entry.{Entry};
+    ghost use Rattle.ftp_events.specs.Log.{past_of};
+    ghost use Rattle.ftp_events.specs.Session.{session, live_count};
+    ghost use Rattle.ftp_hub.specs.Stands.{Stands, options_of, count_of};
+
+    /// A hub to which nothing has happened. So far sessions have to share the passive ports.
+    pub fn new(alloc: Global, options: Options) -> Hub
+        requires { IsTrue (is_pooled options.mode) }
+        ensures stands { Stands result [] }
+        ensures options { options_of result ≡ options }
+        ensures count { count_of result ≡ 0 }
+    {
+        Hub::with_count(alloc, options, 0)
+    }
+
+    /// A hub that has counted so many events, to try what happens at the end of the count.
+    pub fn with_count(alloc: Global, options: Options, count: u64) -> Hub
+        requires { IsTrue (is_pooled options.mode) }
+        ensures stands { Stands result [] }
+        ensures options { options_of result ≡ options }
+        ensures count { count_of result ≡ count }
+    {
+        let board = Switchboard::new(alloc, options.lo, options.hi);
+        Hub {
+            alloc,
+            options,
+            sessions: HashMap::new(alloc),
+            numbers: Numbers::new(alloc),
+            board,
+            start: count,
+            count,
+        }
+    }
+
+    /// The options that the hub was made from.
+    pub fn options(&self) -> &Options
+        ensures { result.now ≡ options_of self.now }
+    {
+        &self.options
+    }
+
+    /// How many events were counted.
+    pub fn events(&self) -> u64
+        ensures { result ≡ count_of self.now }
+    {
+        self.count
+    }
+
+    /// How many sessions are live.
+    pub fn sessions(&self) -> u64
+        ensures { (log : List Entry) → Stands self.now log → result ≡ live_count (past_of log) }
+    {
+        self.sessions.len() as u64
+    }
+
+    /// Says whether the session is live.
+    pub fn is_live(&self, number: u64) -> bool
+        ensures { (log : List Entry) → Stands self.now log → result ≡ is_some (session (options_of self.now) (past_of log) number) }
+    {
+        self.sessions.contains_key(&number)
+    }
+}

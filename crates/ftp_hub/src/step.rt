@@ -1,0 +1,107 @@
+//! One event: what is decided, how the tables change, and what is done.
+
+ghost use Rattle.std.specs.Prelude.{◌≡◌, ◌+◌, ◌-◌, ◌<◌, ◌^◌, ◌∷◌, List, IsTrue, true, Some};
+ghost use Rattle.std.specs.HashMap as map;
+ghost use Rattle.ftp_switchboard.specs.Board.{HasRoom};
+ghost use Rattle.ftp_events.specs.declared.entry.Entry.{Entry};
+ghost use Rattle.ftp_events.specs.Log.{is_refusal, named_session};
+ghost use Rattle.ftp_events.specs.Right.{next_entry};
+ghost use Rattle.ftp_hub.specs.Handlers.{is_command, is_closed};
+ghost use Rattle.ftp_hub.specs.Rooms.{IsReady, actions_in, name_in};
+ghost use Rattle.ftp_hub.specs.Stands.{Stands, Serves, SameHead, SameTables, Fits, options_of, count_of, name_for, client_for};
+
+use crate::handlers;
+use crate::hub::Hub;
+use crate::room::Room;
+use crate::tables::take;
+use ftp_events::{Answer, Decision, Entry, EventKind, HubEvent};
+
+impl Hub {
+    /// Decides the event and changes the tables. It takes no memory: all that it needs is in the room.
+    pub fn step(&mut self, room: Room, event: HubEvent, answer: Answer) -> Entry
+        requires { Fits room self.old event }
+        ensures event { result.event ≡ event }
+        ensures answer { result.answer ≡ answer }
+        ensures due { (log : List Entry) → Stands self.old log → result ≡ next_entry (options_of self.old) log event answer }
+        ensures stands { (log : List Entry) → Stands self.old log → Stands self.new (result ∷ log) }
+        ensures options { options_of self.new ≡ options_of self.old }
+        ensures count { count_of self.new ≡ count_of self.old + 1 }
+        ensures refused { (log : List Entry) → Stands self.old log → IsTrue (is_refusal result.decision) → SameTables self.old self.new }
+    {
+        let mut room = room;
+        let decision = self.serve(&mut room, &event, answer);
+        self.count += 1;
+        Entry {
+            event,
+            answer,
+            decision,
+            actions: room.into_actions(),
+        }
+    }
+
+    // Hands the event to what decides on its kind.
+    fn serve(&mut self, room: &mut Room, event: &HubEvent, answer: Answer) -> Decision
+        requires { Fits room.old self.old event.now }
+        ensures serves { (log : List Entry) → Stands self.old log → Serves self.old self.new log event.now answer result (actions_in room.new) }
+        ensures head { SameHead self.old self.new }
+    {
+        match &event.kind {
+            EventKind::Connect { .. } => self.connect(room, event, answer),
+            EventKind::DataIn { .. } => self.data_in(room, event, answer),
+            EventKind::User { session, .. } => self.command(room, event, answer, *session),
+            EventKind::Pass { session } => self.command(room, event, answer, *session),
+            EventKind::AuthDone { session, .. } => self.command(room, event, answer, *session),
+            EventKind::Pasv { session, .. } => self.command(room, event, answer, *session),
+            EventKind::Closed { session } => self.close(room, event, answer, *session),
+        }
+    }
+
+    // A command of a session that goes on.
+    fn command(
+        &mut self,
+        room: &mut Room,
+        event: &HubEvent,
+        answer: Answer,
+        number: u64,
+    ) -> Decision
+        requires fits { Fits room.old self.old event.now }
+        requires of_this_event { IsTrue (is_command event.now.kind) }
+        requires named { named_session event.now.kind ≡ Some number }
+        ensures serves { (log : List Entry) → Stands self.old log → Serves self.old self.new log event.now answer result (actions_in room.new) }
+        ensures head { SameHead self.old self.new }
+    {
+        match self.sessions.get_mut(&number) {
+            None => Decision::UnknownNumber,
+            Some(session) => handlers::command(
+                session,
+                &event.kind,
+                &mut self.board,
+                room,
+                event.at,
+                &self.options,
+            ),
+        }
+    }
+
+    // The end of a session.
+    fn close(&mut self, room: &mut Room, event: &HubEvent, answer: Answer, number: u64) -> Decision
+        requires fits { Fits room.old self.old event.now }
+        requires of_this_event { IsTrue (is_closed event.now.kind) }
+        requires named { named_session event.now.kind ≡ Some number }
+        ensures serves { (log : List Entry) → Stands self.old log → Serves self.old self.new log event.now answer result (actions_in room.new) }
+        ensures head { SameHead self.old self.new }
+    {
+        let Some(session) = take(&mut self.sessions, number) else {
+            return Decision::UnknownNumber;
+        };
+        let mut session = session;
+        handlers::closed::handle(
+            &mut session,
+            &event.kind,
+            &mut self.board,
+            room,
+            event.at,
+            &self.options,
+        )
+    }
+}
