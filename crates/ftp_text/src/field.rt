@@ -1,0 +1,306 @@
+//! Reading the fields of a line, each with the bytes behind it. A field begins with the space before it.
+
+ghost use Rattle.std.specs.Prelude.{◌≡◌, ◌^◌, ◌<◌, ◌≤◌, length, IfOk, MatchOption};
+ghost use Rattle.std.specs.List.{prefix_len, position_or_len};
+ghost use Rattle.std.specs.Char.{is_ascii_digit};
+ghost use Rattle.std.specs.Str.Parse.{AllDigits, digits_value};
+ghost use Rattle.ftp_text.specs.Reading.{Gives, after, literal_at, is_space, numeral, number_at, small_at, dotted_at, port_at_colon, ipv4_at, hex_numeral, hex_word_at, ipv6_at, address_at, number_field, small_field, address_field, optional_field, text_field, word_at, hex_field, answer_field};
+
+use crate::fault::LineFault;
+use crate::text::{self, nibble};
+use crate::word::answer_of;
+use ftp_base::{AuthAnswer, Bytes, IpAddr, SocketAddr};
+use std::alloc::Global;
+
+// Behind the byte `c`.
+fn after(c: u8, bytes: &[u8]) -> Result<&[u8], LineFault>
+    ensures { Gives (λ x. x.now) result (after c bytes.now) }
+{
+    match bytes {
+        [b, rest @ ..] if *b == c => Ok(rest),
+        _ => Err(LineFault::Bad),
+    }
+}
+
+/// The bytes behind a text that stands at the front.
+pub fn literal<'a>(text: &[u8], bytes: &'a [u8]) -> Result<&'a [u8], LineFault>
+    ensures { Gives (λ x. x.now) result (literal_at text.now bytes.now) }
+{
+    if bytes.len() < text.len() {
+        return Err(LineFault::Bad);
+    }
+    let (front, rest) = bytes.split_at(text.len());
+    if front == text {
+        Ok(rest)
+    } else {
+        Err(LineFault::Bad)
+    }
+}
+
+// How many digits stand at the front.
+fn digits(bytes: &[u8]) -> usize
+    ensures count { result ≡ prefix_len is_ascii_digit bytes.now }
+    ensures within { result ≤ length bytes.now }
+{
+    for (i, b) in bytes.iter().enumerate() {
+        if !b.is_ascii_digit() {
+            return i;
+        }
+    }
+    bytes.len()
+}
+
+// The value of the digits, or None where it needs more than 64 bits.
+fn value(digits: &[u8]) -> Option<u64>
+    requires { AllDigits 10 digits.now }
+    ensures { MatchOption result (2 ^ 64 ≤ digits_value 10 digits.now)
+        (λ n. (n ≡ digits_value 10 digits.now) × (n < 2 ^ 64)) }
+{
+    let mut value: u64 = 0;
+    for digit in digits {
+        let digit = u64::from(*digit - b'0');
+        if value > (u64::MAX - digit) / 10 {
+            return None;
+        }
+        value = value * 10 + digit;
+    }
+    Some(value)
+}
+
+// The number that the digits spell, without leading zeros.
+fn numeral(digits: &[u8]) -> Result<u64, LineFault>
+    requires { AllDigits 10 digits.now }
+    ensures { Gives (λ x. x) result (numeral digits.now) }
+{
+    if digits.is_empty() {
+        return Err(LineFault::Bad);
+    }
+    if digits.len() > 1 && digits[0] == b'0' {
+        return Err(LineFault::Bad);
+    }
+    match value(digits) {
+        Some(n) => Ok(n),
+        None => Err(LineFault::Bad),
+    }
+}
+
+/// The number whose digits stand at the front.
+#[tactic(auto, unfolding(crate::specs::Reading::number_at))]
+pub fn number_here(bytes: &[u8]) -> Result<(u64, &[u8]), LineFault>
+    ensures { Gives (λ x. (x.0, x.1.now)) result (number_at bytes.now) }
+{
+    let (front, rest) = bytes.split_at(digits(bytes));
+    let n = numeral(front)?;
+    Ok((n, rest))
+}
+
+#[tactic(auto, unfolding(crate::specs::Reading::small_at))]
+fn small_here(limit: u64, bytes: &[u8]) -> Result<(u64, &[u8]), LineFault>
+    ensures read { Gives (λ x. (x.0, x.1.now)) result (small_at limit bytes.now) }
+    ensures limit { IfOk result (λ x. x.0 < limit) }
+{
+    let (n, rest) = number_here(bytes)?;
+    if n < limit {
+        Ok((n, rest))
+    } else {
+        Err(LineFault::Bad)
+    }
+}
+
+// Four numbers joined by dots, as one number.
+#[tactic(auto, unfolding(crate::specs::Reading::dotted_at))]
+fn dotted(bytes: &[u8]) -> Result<(u32, &[u8]), LineFault>
+    ensures { Gives (λ x. (x.0, x.1.now)) result (dotted_at bytes.now) }
+{
+    let (a, rest) = small_here(256, bytes)?;
+    let (b, rest) = small_here(256, after(b'.', rest)?)?;
+    let (c, rest) = small_here(256, after(b'.', rest)?)?;
+    let (d, rest) = small_here(256, after(b'.', rest)?)?;
+    Ok((
+        u32::from_be_bytes([a as u8, b as u8, c as u8, d as u8]),
+        rest,
+    ))
+}
+
+fn port_here(bytes: &[u8]) -> Result<(u16, &[u8]), LineFault>
+    ensures { Gives (λ x. (x.0, x.1.now)) result (small_at (2 ^ 16) bytes.now) }
+{
+    let (n, rest) = small_here(65536, bytes)?;
+    Ok((n as u16, rest))
+}
+
+fn port_at_colon(bytes: &[u8]) -> Result<(u16, &[u8]), LineFault>
+    ensures { Gives (λ x. (x.0, x.1.now)) result (port_at_colon bytes.now) }
+{
+    port_here(after(b':', bytes)?)
+}
+
+#[tactic(auto, unfolding(crate::specs::Reading::ipv4_at))]
+fn ipv4(bytes: &[u8]) -> Result<(SocketAddr, &[u8]), LineFault>
+    ensures { Gives (λ x. (x.0, x.1.now)) result (ipv4_at bytes.now) }
+{
+    let (ip, rest) = dotted(bytes)?;
+    let (port, rest) = port_at_colon(rest)?;
+    let ip = IpAddr::V4(ip);
+    Ok((SocketAddr { ip, port }, rest))
+}
+
+// The number that the hexadecimal digits spell, of which there are 32.
+fn hex_value(digits: &[u8]) -> Option<u128>
+    requires { length digits.now ≡ 32 }
+    ensures { result ≡ hex_numeral digits.now }
+{
+    let mut value: u128 = 0;
+    for c in digits {
+        let Some(digit) = nibble(*c) else {
+            return None;
+        };
+        value = value * 16 + digit as u128;
+    }
+    Some(value)
+}
+
+// The number that 32 hexadecimal digits spell.
+#[tactic(auto, unfolding(crate::specs::Reading::hex_word_at))]
+fn hex_word(bytes: &[u8]) -> Result<(u128, &[u8]), LineFault>
+    ensures { Gives (λ x. (x.0, x.1.now)) result (hex_word_at bytes.now) }
+{
+    if bytes.len() < 32 {
+        return Err(LineFault::Bad);
+    }
+    let (digits, rest) = bytes.split_at(32);
+    match hex_value(digits) {
+        Some(n) => Ok((n, rest)),
+        None => Err(LineFault::Bad),
+    }
+}
+
+#[tactic(auto, unfolding(crate::specs::Reading::ipv6_at))]
+fn ipv6(bytes: &[u8]) -> Result<(SocketAddr, &[u8]), LineFault>
+    ensures { Gives (λ x. (x.0, x.1.now)) result (ipv6_at bytes.now) }
+{
+    let (ip, rest) = hex_word(after(b'[', bytes)?)?;
+    let (port, rest) = port_at_colon(after(b']', rest)?)?;
+    let ip = IpAddr::V6(ip);
+    Ok((SocketAddr { ip, port }, rest))
+}
+
+#[tactic(auto, unfolding(crate::specs::Reading::address_at))]
+fn address_here(bytes: &[u8]) -> Result<(SocketAddr, &[u8]), LineFault>
+    ensures { Gives (λ x. (x.0, x.1.now)) result (address_at bytes.now) }
+{
+    match bytes {
+        [b'[', ..] => ipv6(bytes),
+        _ => ipv4(bytes),
+    }
+}
+
+/// A number of 64 bits.
+pub fn number(bytes: &[u8]) -> Result<(u64, &[u8]), LineFault>
+    ensures { Gives (λ x. (x.0, x.1.now)) result (number_field bytes.now) }
+{
+    number_here(after(b' ', bytes)?)
+}
+
+/// A number below the limit.
+pub fn small(limit: u64, bytes: &[u8]) -> Result<(u64, &[u8]), LineFault>
+    ensures read { Gives (λ x. (x.0, x.1.now)) result (small_field limit bytes.now) }
+    ensures limit { IfOk result (λ x. x.0 < limit) }
+{
+    small_here(limit, after(b' ', bytes)?)
+}
+
+/// A port.
+pub fn port(bytes: &[u8]) -> Result<(u16, &[u8]), LineFault>
+    ensures { Gives (λ x. (x.0, x.1.now)) result (small_field (2 ^ 16) bytes.now) }
+{
+    port_here(after(b' ', bytes)?)
+}
+
+/// An address and a port.
+pub fn address(bytes: &[u8]) -> Result<(SocketAddr, &[u8]), LineFault>
+    ensures { Gives (λ x. (x.0, x.1.now)) result (address_field bytes.now) }
+{
+    address_here(after(b' ', bytes)?)
+}
+
+/// A port that may be missing.
+#[tactic(auto, unfolding(crate::specs::Reading::optional_field))]
+pub fn optional_port(bytes: &[u8]) -> Result<(Option<u16>, &[u8]), LineFault>
+    ensures { Gives (λ x. (x.0, x.1.now)) result (optional_field (small_at (2 ^ 16)) bytes.now) }
+{
+    match after(b' ', bytes)? {
+        [b'-', rest @ ..] => Ok((None, rest)),
+        rest => {
+            let (n, rest) = port_here(rest)?;
+            Ok((Some(n), rest))
+        }
+    }
+}
+
+/// An IPv4 address that may be missing.
+#[tactic(auto, unfolding(crate::specs::Reading::optional_field))]
+pub fn optional_dotted(bytes: &[u8]) -> Result<(Option<u32>, &[u8]), LineFault>
+    ensures { Gives (λ x. (x.0, x.1.now)) result (optional_field dotted_at bytes.now) }
+{
+    match after(b' ', bytes)? {
+        [b'-', rest @ ..] => Ok((None, rest)),
+        rest => {
+            let (ip, rest) = dotted(rest)?;
+            Ok((Some(ip), rest))
+        }
+    }
+}
+
+/// A text, up to the end of the line.
+#[tactic(auto, unfolding(crate::specs::Reading::text_field))]
+pub fn text_to_end(alloc: Global, bytes: &[u8]) -> Result<(Bytes, &[u8]), LineFault>
+    ensures { Gives (λ x. (x.0, x.1.now)) result (text_field bytes.now) }
+{
+    let text = text::text(alloc, after(b' ', bytes)?)?;
+    Ok((text, &[]))
+}
+
+// How many bytes stand before the first space.
+fn word_len(bytes: &[u8]) -> usize
+    ensures count { result ≡ position_or_len is_space bytes.now }
+    ensures within { result ≤ length bytes.now }
+{
+    for (i, b) in bytes.iter().enumerate() {
+        if *b == b' ' {
+            return i;
+        }
+    }
+    bytes.len()
+}
+
+/// A word, up to the next space or the end.
+#[tactic(auto, unfolding(crate::specs::Reading::word_at))]
+pub fn word(bytes: &[u8]) -> Result<(&[u8], &[u8]), LineFault>
+    ensures { Gives (λ x. (x.0.now, x.1.now)) result (word_at bytes.now) }
+{
+    let rest = after(b' ', bytes)?;
+    Ok(rest.split_at(word_len(rest)))
+}
+
+/// Bytes in hexadecimal digits.
+#[tactic(auto, unfolding(crate::specs::Reading::hex_field))]
+pub fn hex_bytes(alloc: Global, bytes: &[u8]) -> Result<(Bytes, &[u8]), LineFault>
+    ensures { Gives (λ x. (x.0, x.1.now)) result (hex_field bytes.now) }
+{
+    let (word, rest) = word(bytes)?;
+    let found = text::hex_bytes(alloc, word)?;
+    Ok((found, rest))
+}
+
+/// What an authenticator says.
+#[tactic(auto, unfolding(crate::specs::Reading::answer_field))]
+pub fn answer(bytes: &[u8]) -> Result<(AuthAnswer, &[u8]), LineFault>
+    ensures { Gives (λ x. (x.0, x.1.now)) result (answer_field bytes.now) }
+{
+    let (text, rest) = word(bytes)?;
+    match answer_of(text) {
+        Some(found) => Ok((found, rest)),
+        None => Err(LineFault::Bad),
+    }
+}

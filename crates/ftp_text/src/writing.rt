@@ -1,0 +1,213 @@
+//! Writing the fields of a line. What is written stands behind what the buffer holds, and after an error the
+//! buffer is thrown away.
+
+ghost use Rattle.std.specs.Prelude.{◌≡◌, ◌++◌, ◌∷◌, ◌<◌, [], false, OnOk, decimal};
+ghost use Rattle.std.specs.List.{flat_map};
+ghost use Rattle.std.specs.Fmt.{digit_glyph, digits};
+ghost use Rattle.ftp_base.specs.Trace.{trace_text};
+ghost use Rattle.ftp_text.specs.Fields.{field, number, hex_byte, hex_digits, hex_text, dotted, ip_text, address_text, escape_byte, escape, optional, answer_text};
+
+use crate::text::is_plain;
+use crate::word::answer_text;
+use ftp_base::{AuthAnswer, IpAddr, SocketAddr};
+use itoa::Buffer;
+use std::alloc::AllocError;
+
+/// Writes the bytes as they are.
+pub fn put(out: &mut Vec<u8>, bytes: &[u8]) -> Result<(), AllocError>
+    ensures { OnOk result (out.new.items ≡ out.old.items ++ bytes.now) }
+{
+    out.extend_from_slice(bytes)
+}
+
+/// Writes one byte.
+pub fn put_byte(out: &mut Vec<u8>, b: u8) -> Result<(), AllocError>
+    ensures { OnOk result (out.new.items ≡ out.old.items ++ b ∷ []) }
+{
+    out.push(b)?;
+    Ok(())
+}
+
+/// Writes a space and the bytes.
+pub fn put_field(out: &mut Vec<u8>, text: &[u8]) -> Result<(), AllocError>
+    ensures { OnOk result (out.new.items ≡ out.old.items ++ field text.now) }
+{
+    put_byte(out, b' ')?;
+    put(out, text)
+}
+
+/// Writes a number without a space before it.
+pub fn put_decimal(out: &mut Vec<u8>, n: u64) -> Result<(), AllocError>
+    ensures { OnOk result (out.new.items ≡ out.old.items ++ decimal n) }
+{
+    let mut buffer = Buffer::new();
+    out.extend_from_slice(buffer.format(n).as_bytes())
+}
+
+/// Writes a space and a number.
+pub fn put_number(out: &mut Vec<u8>, n: u64) -> Result<(), AllocError>
+    ensures { OnOk result (out.new.items ≡ out.old.items ++ number n) }
+{
+    put_byte(out, b' ')?;
+    put_decimal(out, n)
+}
+
+fn put_dot(out: &mut Vec<u8>, n: u8) -> Result<(), AllocError>
+    ensures { OnOk result (out.new.items ≡ out.old.items ++ 46 ∷ decimal n) }
+{
+    put_byte(out, b'.')?;
+    put_decimal(out, u64::from(n))
+}
+
+fn put_dotted(out: &mut Vec<u8>, ip: u32) -> Result<(), AllocError>
+    ensures { OnOk result (out.new.items ≡ out.old.items ++ dotted ip) }
+{
+    let [a, b, c, d] = ip.to_be_bytes();
+    put_decimal(out, u64::from(a))?;
+    put_dot(out, b)?;
+    put_dot(out, c)?;
+    put_dot(out, d)
+}
+
+// The digit of a number below 16.
+fn glyph(n: u8) -> u8
+    requires { n < 16 }
+    ensures { result ≡ digit_glyph false n }
+{
+    if n < 10 { b'0' + n } else { b'a' + (n - 10) }
+}
+
+// The last `count` hexadecimal digits of the number.
+fn put_hex(out: &mut Vec<u8>, count: u32, n: u128) -> Result<(), AllocError>
+    ensures { OnOk result (out.new.items ≡ out.old.items ++ hex_digits count n) }
+{
+    if count == 0 {
+        return Ok(());
+    }
+    put_hex(out, count - 1, n / 16)?;
+    put_byte(out, glyph((n % 16) as u8))
+}
+
+fn put_ip(out: &mut Vec<u8>, ip: IpAddr) -> Result<(), AllocError>
+    ensures { OnOk result (out.new.items ≡ out.old.items ++ ip_text ip) }
+{
+    match ip {
+        IpAddr::V4(ip) => put_dotted(out, ip),
+        IpAddr::V6(ip) => {
+            put_byte(out, b'[')?;
+            put_hex(out, 32, ip)?;
+            put_byte(out, b']')
+        }
+    }
+}
+
+/// Writes a space, an address and its port.
+pub fn put_address(out: &mut Vec<u8>, address: SocketAddr) -> Result<(), AllocError>
+    ensures { OnOk result (out.new.items ≡ out.old.items ++ field (address_text address)) }
+{
+    put_byte(out, b' ')?;
+    put_ip(out, address.ip)?;
+    put_byte(out, b':')?;
+    put_decimal(out, u64::from(address.port))
+}
+
+fn put_text_byte(out: &mut Vec<u8>, b: u8) -> Result<(), AllocError>
+    ensures { OnOk result (out.new.items ≡ out.old.items ++ escape_byte b) }
+{
+    if is_plain(b) {
+        return put_byte(out, b);
+    }
+    put(out, &[b'\\', b'x', glyph(b / 16), glyph(b % 16)])
+}
+
+/// Writes a text with its escapes.
+pub fn put_text(out: &mut Vec<u8>, text: &[u8]) -> Result<(), AllocError>
+    ensures { OnOk result (out.new.items ≡ out.old.items ++ escape text.now) }
+{
+    for b in text {
+        put_text_byte(out, *b)?;
+    }
+    Ok(())
+}
+
+/// Writes a space and a text with its escapes.
+pub fn put_text_field(out: &mut Vec<u8>, text: &[u8]) -> Result<(), AllocError>
+    ensures { OnOk result (out.new.items ≡ out.old.items ++ field (escape text.now)) }
+{
+    put_byte(out, b' ')?;
+    put_text(out, text)
+}
+
+fn put_hex_byte(out: &mut Vec<u8>, b: u8) -> Result<(), AllocError>
+    ensures { OnOk result (out.new.items ≡ out.old.items ++ hex_byte b) }
+{
+    put(out, &[glyph(b / 16), glyph(b % 16)])
+}
+
+fn put_hex_pairs(out: &mut Vec<u8>, bytes: &[u8]) -> Result<(), AllocError>
+    ensures { OnOk result (out.new.items ≡ out.old.items ++ flat_map hex_byte bytes.now) }
+{
+    for b in bytes {
+        put_hex_byte(out, *b)?;
+    }
+    Ok(())
+}
+
+/// Writes bytes in pairs of hexadecimal digits, and a dot for none.
+pub fn put_hex_bytes(out: &mut Vec<u8>, bytes: &[u8]) -> Result<(), AllocError>
+    ensures { OnOk result (out.new.items ≡ out.old.items ++ hex_text bytes.now) }
+{
+    match bytes {
+        [] => put_byte(out, b'.'),
+        _ => put_hex_pairs(out, bytes),
+    }
+}
+
+/// Writes an IPv4 address, or a hyphen for none.
+pub fn put_optional_dotted(out: &mut Vec<u8>, ip: Option<u32>) -> Result<(), AllocError>
+    ensures { OnOk result (out.new.items ≡ out.old.items ++ optional dotted ip) }
+{
+    match ip {
+        None => put(out, b" -"),
+        Some(ip) => {
+            put_byte(out, b' ')?;
+            put_dotted(out, ip)
+        }
+    }
+}
+
+/// Writes a port, or a hyphen for none.
+pub fn put_optional_port(out: &mut Vec<u8>, n: Option<u16>) -> Result<(), AllocError>
+    ensures { OnOk result (out.new.items ≡ out.old.items ++ optional decimal n) }
+{
+    match n {
+        None => put(out, b" -"),
+        Some(n) => put_number(out, u64::from(n)),
+    }
+}
+
+/// Writes a space and what an authenticator says.
+pub fn put_answer(out: &mut Vec<u8>, answer: AuthAnswer) -> Result<(), AllocError>
+    ensures { OnOk result (out.new.items ≡ out.old.items ++ field (answer_text answer)) }
+{
+    put_field(out, answer_text(answer))
+}
+
+/// Writes a space and a trace id.
+pub fn put_trace(out: &mut Vec<u8>, trace: u64) -> Result<(), AllocError>
+    ensures { OnOk result (out.new.items ≡ out.old.items ++ field (trace_text trace)) }
+{
+    put(out, b" 0x")?;
+    put_hex_number(out, trace)
+}
+
+// The hexadecimal digits of the number, without leading zeros.
+fn put_hex_number(out: &mut Vec<u8>, n: u64) -> Result<(), AllocError>
+    ensures { OnOk result (out.new.items ≡ out.old.items ++ digits 16 false n) }
+{
+    if n < 16 {
+        return put_byte(out, glyph(n as u8));
+    }
+    put_hex_number(out, n / 16)?;
+    put_byte(out, glyph((n % 16) as u8))
+}
