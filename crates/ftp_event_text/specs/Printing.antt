@@ -1,0 +1,120 @@
+-- How the log is printed: the lines of each entry.
+use Rattle.std.specs.Prelude.{ℕ, List, [], ◌∷◌, ◌++◌, length, codes, Option, Some, None}
+use Rattle.std.specs.List.{flat_map}
+use Rattle.ftp_base.specs.declared.notice.PresenceEvent.TheVariants as presence
+use Rattle.ftp_base.specs.declared.notice.Notice.{Notice}
+use Rattle.ftp_base.specs.declared.notice.Notice.TheVariants as notice
+use Rattle.ftp_base.specs.declared.notice.EventMeta.{EventMeta}
+use Rattle.ftp_base.specs.declared.reply.Reply.{Reply}
+use Rattle.ftp_base.specs.declared.reply.Reply.TheVariants as reply
+use Rattle.ftp_base.specs.Reply.{code_text}
+use Rattle.ftp_base.specs.Trace.{trace_text}
+use Rattle.ftp_base.specs.declared.login.LockState.{LockState}
+use Rattle.ftp_base.specs.declared.login.LockState.TheVariants as lock
+use Rattle.ftp_events.specs.declared.action.Action.{Action}
+use Rattle.ftp_events.specs.declared.action.Action.TheVariants as action
+use Rattle.ftp_events.specs.declared.decision.Decision.{Decision}
+use Rattle.ftp_events.specs.declared.decision.Decision.TheVariants as decision
+use Rattle.ftp_events.specs.declared.entry.Entry.{Entry}
+use Rattle.ftp_events.specs.declared.event.Answer.{Answer}
+use Rattle.ftp_events.specs.declared.event.Answer.TheVariants as answer
+use Rattle.ftp_text.specs.Fields.{field, number, escape}
+use Rattle.ftp_event_text.specs.Events.{event_line}
+
+-- a line with its line feed
+abbrev pub line : List ℕ → List ℕ
+line text = text ++ 10 ∷ []
+
+-- ---- decisions
+
+-- how a login stands with the lock
+abbrev pub lock_text : Option LockState → List ℕ
+lock_text None = codes "none"
+lock_text (Some lock.MaxFailuresReached) = codes "reached"
+lock_text (Some lock.AlreadyLocked) = codes "locked"
+
+-- the name of a decision
+abbrev pub decision_text : Decision → List ℕ
+decision_text decision.UnknownNumber = codes "unknown"
+decision_text decision.UsedNumber = codes "used"
+decision_text decision.Misplaced = codes "misplaced"
+decision_text decision.NotExpected = codes "notexpected"
+decision_text decision.Opened = codes "opened"
+decision_text decision.Turned = codes "turned"
+decision_text (decision.Attached s) = codes "attached"
+decision_text decision.BadSequence = codes "badsequence"
+decision_text decision.NeedPass = codes "needpass"
+decision_text decision.PassOut = codes "passout"
+decision_text decision.Reauth = codes "reauth"
+decision_text decision.LoggedIn = codes "loggedin"
+decision_text (decision.LoginFailed lock delay) = codes "loginfailed"
+decision_text decision.NotLoggedIn = codes "notloggedin"
+decision_text decision.Full = codes "full"
+decision_text (decision.Granted port) = codes "granted"
+decision_text decision.Closed = codes "closed"
+
+-- the fields behind a decision's name
+abbrev pub decision_fields : Decision → List ℕ
+decision_fields (decision.Attached s) = number s
+decision_fields (decision.LoginFailed lock delay) = field (lock_text lock) ++ number delay
+decision_fields (decision.Granted port) = number port
+decision_fields _ = []
+
+-- the line of a decision
+abbrev pub decision_line : Decision → List ℕ
+decision_line d = line (61 ∷ field (decision_text d) ++ decision_fields d)
+
+-- ---- answers
+
+-- the line of an answer, where something was asked
+abbrev pub answer_line : Answer → List ℕ
+answer_line answer.None = []
+
+-- ---- actions
+
+-- the word of a notice
+abbrev pub notice_text : Notice → List ℕ
+notice_text (notice.Presence presence.LoggedIn) = codes "login"
+notice_text (notice.Presence presence.LoggedOut) = codes "logout"
+
+-- the bytes that a notice tells of, 0 where it tells of none
+abbrev pub notice_bytes : Notice → ℕ
+notice_bytes (notice.Presence p) = 0
+
+-- the paths of a notice, the first and the second
+abbrev pub first_path : Notice → List ℕ
+first_path (notice.Presence p) = []
+
+abbrev pub second_path : Notice → List ℕ
+second_path (notice.Presence p) = []
+
+-- whom a notice is about, what it says, and the lengths of the user name and the first path before all texts as one
+abbrev pub notify_fields : ℕ → EventMeta → Notice → List ℕ
+notify_fields s meta what =
+    number s ++ number meta.sequence_number ++ field (trace_text meta.trace_id.0) ++ field (notice_text what) ++ number (notice_bytes what)
+    ++ number (length meta.username) ++ number (length (first_path what)) ++ field (escape (meta.username ++ first_path what ++ second_path what))
+
+-- the code and the text of a reply
+abbrev pub reply_fields : Reply → List ℕ
+reply_fields reply.None = []
+reply_fields (reply.CodeAndMsg code text) = field (code_text code) ++ field (escape text)
+
+-- the name and the fields of an action
+abbrev pub action_fields : Action → List ℕ
+action_fields (action.Close n) = codes "- close" ++ number n
+action_fields (action.Notify s meta what) = codes "- notify" ++ notify_fields s meta what
+action_fields (action.Reply s delay r) = codes "- reply" ++ number s ++ number delay ++ reply_fields r
+
+-- the line of an action
+abbrev pub action_line : Action → List ℕ
+action_line a = line (action_fields a)
+
+-- ---- entries
+
+-- the lines of an entry: its event, its answer, its decision, and its actions
+abbrev pub entry_lines : Entry → List ℕ
+entry_lines e = line (codes "> " ++ event_line e.event) ++ answer_line e.answer ++ decision_line e.decision ++ flat_map action_line e.actions
+
+-- the printed log, the oldest entry first
+abbrev pub print : List Entry → List ℕ
+print log = flat_map entry_lines log

@@ -1,0 +1,99 @@
+//! Writing the lines of events.
+
+ghost use Rattle.std.specs.Prelude.{◌≡◌, ◌++◌, OnOk};
+ghost use Rattle.ftp_events.specs.declared.event.EventKind.TheVariants as kind;
+ghost use Rattle.ftp_text.specs.Fields.{number};
+ghost use Rattle.ftp_event_text.specs.Events.{word_field, kind_fields, event_line};
+
+use crate::word::{EventWord, event_word_text};
+use ftp_base::SocketAddr;
+use ftp_events::{EventKind, HubEvent};
+use ftp_text::writing::{
+    put_address, put_answer, put_decimal, put_field, put_number, put_optional_dotted,
+    put_optional_port, put_text_field,
+};
+use std::alloc::AllocError;
+
+/// Writes the event's line at the end of the buffer, without a line feed.
+pub fn put_event(out: &mut Vec<u8>, event: &HubEvent) -> Result<(), AllocError>
+    ensures { OnOk result (out.new.items ≡ out.old.items ++ event_line event.now) }
+{
+    put_decimal(out, event.at)?;
+    put_kind(out, &event.kind)
+}
+
+fn put_kind(out: &mut Vec<u8>, kind: &EventKind) -> Result<(), AllocError>
+    ensures { OnOk result (out.new.items ≡ out.old.items ++ kind_fields kind.now) }
+{
+    match kind {
+        EventKind::Connect {
+            session,
+            raw,
+            local,
+            trace,
+        } => put_connect(out, *session, *raw, *local, *trace),
+        EventKind::DataIn { number, raw, port } => put_data_in(out, *number, *raw, *port),
+        EventKind::User { session, name } => {
+            put_numbered(out, EventWord::User, *session)?;
+            put_text_field(out, name.as_slice())
+        }
+        EventKind::Pass { session } => put_numbered(out, EventWord::Pass, *session),
+        EventKind::AuthDone { session, answer } => {
+            put_numbered(out, EventWord::Auth, *session)?;
+            put_answer(out, *answer)
+        }
+        EventKind::Pasv {
+            session,
+            word,
+            lookup,
+            bound,
+        } => put_pasv(out, *session, *word, *lookup, *bound),
+        EventKind::Closed { session } => put_numbered(out, EventWord::Closed, *session),
+    }
+}
+
+fn put_connect(
+    out: &mut Vec<u8>,
+    session: u64,
+    raw: SocketAddr,
+    local: SocketAddr,
+    trace: u64,
+) -> Result<(), AllocError>
+    ensures { OnOk result (out.new.items ≡ out.old.items ++ kind_fields (kind.Connect session raw local trace)) }
+{
+    put_numbered(out, EventWord::Connect, session)?;
+    put_address(out, raw)?;
+    put_address(out, local)?;
+    put_number(out, trace)
+}
+
+fn put_data_in(out: &mut Vec<u8>, number: u64, raw: SocketAddr, port: u16) -> Result<(), AllocError>
+    ensures { OnOk result (out.new.items ≡ out.old.items ++ kind_fields (kind.DataIn number raw port)) }
+{
+    put_numbered(out, EventWord::Data, number)?;
+    put_address(out, raw)?;
+    put_number(out, u64::from(port))
+}
+
+fn put_pasv(
+    out: &mut Vec<u8>,
+    session: u64,
+    word: u16,
+    lookup: Option<u32>,
+    bound: Option<u16>,
+) -> Result<(), AllocError>
+    ensures { OnOk result (out.new.items ≡ out.old.items ++ kind_fields (kind.Pasv session word lookup bound)) }
+{
+    put_numbered(out, EventWord::Pasv, session)?;
+    put_number(out, u64::from(word))?;
+    put_optional_dotted(out, lookup)?;
+    put_optional_port(out, bound)
+}
+
+// The word of an event, and the number that it is about.
+fn put_numbered(out: &mut Vec<u8>, word: EventWord, n: u64) -> Result<(), AllocError>
+    ensures { OnOk result (out.new.items ≡ out.old.items ++ (word_field word ++ number n)) }
+{
+    put_field(out, event_word_text(word))?;
+    put_number(out, n)
+}
