@@ -1,0 +1,3 @@
+pub mod AdmissionLemmas
+pub mod ScriptLemmas
+pub mod Examples

@@ -1,0 +1,40 @@
+use Rattle.std.proofs.Common.{◌+◌, ◌-◌, refl, arith}
+use Rattle.ftp_stream.specs.Lines.{bytes_in}
+use Rattle.ftp_script_text.proofs.ScriptLemmas.{end_told, long_told, bad_told, more_told}
+use Rattle.ftp_script_text.proofs.script.ScriptReader.next_item.Goals as goal
+
+pub returns-in-End-clause-told : goal.returns-in-End-clause-told
+returns-in-End-clause-told g c =
+    λ before script h. end_told before script c.args.self.now c.args.buffer.now (g.S.Source.left c.args.source.now) h c.in-End.ensures.told
+
+pub returns-in-Long-clause-told : goal.returns-in-Long-clause-told
+returns-in-Long-clause-told g c =
+    λ before script h. long_told before script c.args.self.now c.args.buffer.now (g.S.Source.left c.args.source.now) (c.args.self.now.number + 1) h c.in-Long.ensures.told refl
+
+pub returns-in-Ok-clause-told : goal.returns-in-Ok-clause-told
+returns-in-Ok-clause-told g c =
+    λ before script h.
+    more_told before script c.args.self.now
+    (record {
+      admission = c.line.new.self;
+      held = c.advance.new.held;
+      taken = c.args.self.now.taken + (c.advance.new.held.start - c.in-Line.line.start);
+      number = c.args.self.now.number + 1;
+    })
+    c.args.buffer.now (g.S.Source.left c.args.source.now) c.in-Line.line c.advance.new.buffer (g.S.Source.left c.advance.new.source) (c.advance.new.held.start - c.in-Line.line.start) c.in-Ok.item h c.in-Line.ensures.told c.in-Line.ensures.taken refl refl
+    (c.in-Ok.ensures.let_in before h.known)
+
+pub returns-in-Ok-clause-lawful : goal.returns-in-Ok-clause-lawful
+returns-in-Ok-clause-lawful g c = record {
+  len = c.in-Line.ensures.len;
+  within = c.in-Line.ensures.within;
+  number = omega (arith, c.in-Line.ensures.line, c.requires.lawful.number);
+  small = c.in-Ok.ensures.limit;
+}
+
+pub returns-in-Err-Bad-clause-told : goal.returns-in-Err-Bad-clause-told
+returns-in-Err-Bad-clause-told g c =
+    λ before script h.
+    let bad = rw c.in-Err-Bad.field-0-is at (c.in-Err-Bad.ensures.let_in before h.known) in
+    bad_told before script c.args.self.now c.args.buffer.now (g.S.Source.left c.args.source.now) c.in-Line.line c.advance.new.buffer (bytes_in c.advance.new.buffer c.advance.new.held) (g.S.Source.left c.advance.new.source) (c.advance.new.held.start - c.in-Line.line.start)
+    (c.args.self.now.taken + (c.advance.new.held.start - c.in-Line.line.start)) (c.args.self.now.number + 1) h c.in-Line.ensures.told c.in-Line.ensures.taken refl bad.0 refl

@@ -1,0 +1,118 @@
+//! Reading a script from a source.
+
+ghost use Rattle.std.specs.Prelude.{◌≡◌, ℕ, ◌<◌, ◌≤◌, ◌+◌, ◌-◌, ◌++◌, List, [], length, Option, Some, None, IfOk, IfSome, OnOk, IsErrOf};
+ghost use Rattle.ftp_base.specs.Outside.{HasRisen};
+ghost use Rattle.ftp_stream.specs.Lines.{bytes_in, behind_line, IsWithin};
+ghost use Rattle.ftp_event_text.specs.declared.setup.Item.{Item};
+ghost use Rattle.ftp_script_text.specs.Script.{script_of};
+ghost use Rattle.ftp_script_text.specs.ScriptReader.{IsLawful, HasRead, Answers, IfLine, IsFault, NextIs, next_of};
+
+use crate::admission::Admission;
+use ftp_base::Source;
+use ftp_event_text::Item;
+use ftp_stream::{LineError, Span, next_line};
+use ftp_text::LineFault;
+use std::alloc::Global;
+
+/// Why there is no next item.
+#[derive(Clone, Copy, Debug, PartialEq, Eq)]
+pub enum ScriptError {
+    Memory,
+    /// The source failed.
+    Fault,
+    /// The first bad line, counted from 1.
+    BadLine(u64),
+}
+
+/// How far a script is read, by way of a buffer of 65,537 bytes.
+#[derive(Drop)]
+pub struct ScriptReader {
+    admission: Admission,
+    held: Span,
+    taken: usize,
+    number: u64,
+}
+
+impl ScriptReader {
+    /// Nothing is read.
+    pub fn new(alloc: Global) -> ScriptReader
+        ensures lawful { (buffer : List ℕ) → length buffer ≡ 65537 → IsLawful result buffer }
+        ensures start { (buffer bytes : List ℕ) → HasRead [] (script_of bytes) result buffer (Some bytes) }
+    {
+        ScriptReader {
+            admission: Admission::new(alloc),
+            held: Span { start: 0, end: 0 },
+            taken: 0,
+            number: 0,
+        }
+    }
+
+    /// The item of the next line, or None at the end of the script.
+    pub fn next_item<S: Source>(
+        &mut self,
+        alloc: Global,
+        buffer: &mut [u8],
+        source: &mut S,
+    ) -> Result<Option<Item>, ScriptError>
+        requires lawful { IsLawful self.old buffer.old }
+        ensures told { (before : List Item) (script : List Item × Option ℕ) → HasRead before script self.old buffer.old (S.left source.old) →
+            Answers before script result self.new buffer.new (S.left source.new) }
+        ensures fault_rose { IsErrOf result ScriptError.Fault → HasRisen (S.faults source.old) (S.faults source.new) }
+        ensures count { S.faults source.old ≤ S.faults source.new }
+
+        // The next call can be made, and the reader is further on.
+        ensures lawful { OnOk result (IsLawful self.new buffer.new) }
+        ensures moved { IfOk result (λ found. IfSome found (λ i. self.old.taken < self.new.taken)) }
+    {
+        let line = match advance(buffer, &mut self.held, source) {
+            Next::Line(line) => line,
+            Next::End => return Ok(None),
+            Next::Long => return Err(ScriptError::BadLine(self.number + 1)),
+            Next::Fault => return Err(ScriptError::Fault),
+        };
+        self.taken += self.held.start - line.start;
+        self.number += 1;
+        let line = &buffer[line.start..line.end];
+        match self.admission.line(alloc, self.taken, line) {
+            Ok(item) => Ok(Some(item)),
+            Err(LineFault::Bad) => Err(ScriptError::BadLine(self.number)),
+            Err(LineFault::Memory) => Err(ScriptError::Memory),
+        }
+    }
+}
+
+// What comes next of a source.
+enum Next {
+    Line(Span),
+    End,
+    Long,
+    Fault,
+}
+
+fn advance<S: Source>(buffer: &mut [u8], held: &mut Span, source: &mut S) -> Next
+    requires within { IsWithin buffer.old held.old }
+    requires room { length buffer.old ≡ 65537 }
+    ensures told { IfSome (S.left source.old) (λ left. NextIs (bytes_in buffer.old held.old ++ left) result buffer.new (bytes_in buffer.new held.new) (S.left source.new)) }
+    ensures line { IfLine result (λ line. IsWithin buffer.new line × (line.start < held.new.start)) }
+    ensures taken { IfLine result (λ line. IfSome (S.left source.old)
+        (λ left. held.new.start - line.start + length (behind_line (bytes_in buffer.old held.old ++ left)) ≡ length (bytes_in buffer.old held.old ++ left))) }
+    ensures within { IsWithin buffer.new held.new }
+    ensures len { length buffer.new ≡ 65537 }
+    ensures fault_rose { IsFault result → HasRisen (S.faults source.old) (S.faults source.new) }
+    ensures count { S.faults source.old ≤ S.faults source.new }
+{
+    match next_line(buffer, held, source) {
+        Ok(found) => next_of(found),
+        Err(LineError::Long) => Next::Long,
+        Err(LineError::Fault) => Next::Fault,
+    }
+}
+
+fn next_of(found: Option<Span>) -> Next
+    ensures { result ≡ next_of found }
+{
+    match found {
+        Some(line) => Next::Line(line),
+        None => Next::End,
+    }
+}
