@@ -1,37 +1,19 @@
 -- What is held after a change, key by key.
-use Rattle.std.proofs.Common.{◌≡◌, ℕ, Bool, true, false, cond, Option, Some, None, ◌&&◌, inl, inr, refl, sym, ap, ◌∙◌, eq-eqb, arith}
+use Rattle.std.proofs.Common.{◌≡◌, ℕ, Bool, true, false, cond, Option, Some, None, ◌&&◌, inl, inr, refl, sym, ap, ◌∙◌, arith}
 use Rattle.std.specs.FinMap as finmap
-use Rattle.std.specs.Ordering.{eq_by_cmp}
-use Rattle.std.specs.Cmp.{Equal-is}
 use Rattle.std.proofs.lemmas.Bool.{cases_Bool}
 use Rattle.std.proofs.lemmas.Bool.Decides.{nat_tests}
 use Rattle.ftp_switchboard.specs.declared.key.SwitchboardKey.{SwitchboardKey}
-use Rattle.ftp_switchboard.specs.Board.{Held, is_key, is_of, key, key_cmp, present_released, released, still_holder}
-use Rattle.ftp_switchboard.proofs.KeyLemmas.{key_cmp-total, key_cmp-exact, eq_by_cmp-key_cmp}
-
--- A session that holds the key gives it up.
-pub released-own : (held : Held) (k : SwitchboardKey) (session s : ℕ) → finmap.get held k ≡ Some s → s ≡ session → released held k session ≡ finmap.remove held k
-released-own held k session s holds same =
-    ap (λ holder. cond (is_of session holder) (finmap.remove held k) held) holds
-    ∙ ap (λ b. cond b (finmap.remove held k) held) (eq-eqb s session same)
+use Rattle.ftp_switchboard.specs.Board.{Held, is_key, is_of, key, present_released, released, still_holder}
+use Rattle.ftp_switchboard.proofs.KeyLemmas.{key_cmp-total, eq_by_cmp-key_cmp}
 
 -- A session that does not hold the key changes nothing.
-pub released-other : (held : Held) (k : SwitchboardKey) (session : ℕ) → is_of session (finmap.get held k) ≡ false → released held k session ≡ held
+released-other : (held : Held) (k : SwitchboardKey) (session : ℕ) → is_of session (finmap.get held k) ≡ false → released held k session ≡ held
 released-other held k session not_own = ap (λ b. cond b (finmap.remove held k) held) not_own
-
--- Another session does not hold what one holds.
-pub is_of-other : (session s : ℕ) → (s ≡ session → ⊥) → is_of session (Some s) ≡ false
-is_of-other session s other = grind (arith, nat_tests)
 
 same_if : {A : Type 0} (b : Bool) (x y : A) → (b ≡ true → x ≡ y) → cond b x y ≡ y
 same_if true x y same = same refl
 same_if false x y same = refl
-
--- Nothing is taken out where there is nothing.
-pub remove-none : (held : Held) (k : SwitchboardKey) → finmap.get held k ≡ None → finmap.remove held k ≡ held
-remove-none held k none = finmap.same_map key_cmp-total key_cmp-exact _ _ (λ q.
-    finmap.get-remove key_cmp-total held k q
-    ∙ same_if (eq_by_cmp key_cmp q k) None (finmap.get held q) (λ tied. sym none ∙ finmap.get_tied key_cmp-total held q k ((Equal-is (key_cmp q k)).0 tied)))
 
 module _ (held : Held) (a p b q : ℕ) where
   -- A hold is found at its own key.
@@ -75,12 +57,3 @@ module _ (held : Held) (a p b q : ℕ) where
 pub get-present_released : (held : Held) (source : ℕ) (present : Option ℕ) (session a p : ℕ) → finmap.get (present_released held source present session) (key a p) ≡ still_holder source present session a p (finmap.get held (key a p))
 get-present_released held source None session a p = refl
 get-present_released held source (Some port) session a p = get-released held a p source port session
-
-still_holder-none : (source : ℕ) (present : Option ℕ) (session a p : ℕ) (holder : Option ℕ) → holder ≡ None → still_holder source present session a p holder ≡ None
-still_holder-none source None session a p holder none = none
-still_holder-none source (Some port) session a p holder none =
-    ap (cond (is_key a p source port && is_of session holder) None) none ∙ same_if (is_key a p source port && is_of session holder) None None (λ _. refl)
-
--- A key that nobody holds is still free after that.
-pub get-present_released-none : (held : Held) (source : ℕ) (present : Option ℕ) (session a p : ℕ) → finmap.get held (key a p) ≡ None → finmap.get (present_released held source present session) (key a p) ≡ None
-get-present_released-none held source present session a p none = get-present_released held source present session a p ∙ still_holder-none source present session a p _ none

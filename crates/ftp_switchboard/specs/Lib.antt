@@ -1,4 +1,3 @@
 pub mod Board
 pub mod Holds
 pub mod Pairs
-pub mod Ports

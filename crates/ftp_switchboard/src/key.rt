@@ -6,7 +6,7 @@ ghost use Rattle.ftp_switchboard.specs.Pairs.{key_of_pair};
 use ftp_base::{IpAddr, SocketAddrPair};
 
 /// A client's IPv4 address, as one number in network order, and a port of the server.
-#[derive(Clone, Copy, Debug, PartialEq, Eq, PartialOrd, Ord)]
+#[derive(Clone, Copy, Debug, PartialEq, Eq, Hash)]
 pub struct SwitchboardKey {
     pub source: u32,
     pub port: u16,

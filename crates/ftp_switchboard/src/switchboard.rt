@@ -2,16 +2,15 @@
 
 ghost use Rattle.std.specs.Prelude.{◌≡◌, ◌<◌, ◌≤◌, ◌↔◌, ℕ, None, Some, IfErr, IfOk, IsErrOf, IsSome, OnErr, OnOk, is_none, if◌then◌else◌};
 ghost use Rattle.std.specs.FinMap as finmap;
+ghost use Rattle.ftp_base.specs.Ports.{first_free};
 ghost use Rattle.ftp_switchboard.specs.Board.{HasRoom, KeepsRoom, SameHolds, SameRange, holder_at, is_key, key as key_pair, present_released, released, still_holder};
 ghost use Rattle.ftp_switchboard.specs.Pairs.{holder_of_pair, key_of_pair, without};
-ghost use Rattle.ftp_switchboard.specs.Ports.{first_free};
 
-use crate::holds::{
-    Hold, claim, first_free, give_up, give_up_present, holder_of, place_of, put_in, take_out,
-};
+use crate::holds::{Holds, first_free, give_up, give_up_present, holder_of, is_free, put, take};
 use crate::key::{SwitchboardKey, key_of};
 use ftp_base::SocketAddrPair;
 use std::alloc::{AllocError, Global};
+use std::collections::HashMap;
 use std::marker::Model;
 use thiserror::Error;
 
@@ -27,31 +26,35 @@ pub enum SwitchboardError {
 }
 
 /// The ports of a range, and the sessions that hold them, each for one client address.
+///
+/// Look-ups, claims and releases take constant time on average. A reservation takes
+/// time that grows with the run of ports, from the word's on, that the client address holds.
 #[derive(Drop)]
 pub struct Switchboard {
     lo: u16,
     hi: u16,
-    holds: Vec<Hold>,
+    holds: Holds,
 }
 
 impl Model for Switchboard {
-    ghost use Rattle.std.specs.Prelude.{◌≤◌, ◌-◌, vec_capacity, vec_len};
+    ghost use Rattle.std.specs.Prelude.{◌≤◌};
+    ghost use Rattle.std.specs.HashMap.{spare};
     ghost use Rattle.ftp_switchboard.specs.Board.{Board, board_code};
 
     ghost Value = { Board };
 
     ghost coded = { board_code };
 
-    ghost use Rattle.ftp_switchboard.specs.Holds.{IsInOrder, held_by};
+    ghost use Rattle.ftp_switchboard.specs.Holds.{held_by};
 
     ghost view = { λ b. record {
       lo = b.lo;
       hi = b.hi;
-      held = held_by b.holds.items;
-      room = vec_capacity b.holds - vec_len b.holds;
+      held = held_by b.holds;
+      room = spare b.holds;
     } };
 
-    ghost invariant = { λ b. record { from_one : 1 ≤ b.lo; range : b.lo ≤ b.hi; order : IsInOrder b.holds.items } };
+    ghost invariant = { λ b. record { from_one : 1 ≤ b.lo; range : b.lo ≤ b.hi } };
 }
 
 impl Switchboard {
@@ -64,7 +67,7 @@ impl Switchboard {
         Switchboard {
             lo,
             hi,
-            holds: Vec::new(alloc),
+            holds: HashMap::new(alloc),
         }
     }
 
@@ -109,13 +112,11 @@ impl Switchboard {
         ensures range { SameRange self.old self.new }
         ensures unchanged { OnErr result (self.new ≡ self.old) }
     {
-        match place_of(&self.holds, key) {
-            Ok(_) => Err(SwitchboardError::EntryNotAvailable),
-            Err(at) => {
-                put_in(&mut self.holds, at, Hold { key, session });
-                Ok(())
-            }
+        if !is_free(&self.holds, key) {
+            return Err(SwitchboardError::EntryNotAvailable);
         }
+        put(&mut self.holds, key, session);
+        Ok(())
     }
 
     /// Gives the session the first port, from the word's on and round the range once, that nobody
@@ -151,8 +152,7 @@ impl Switchboard {
             return Err(SwitchboardError::MaxRetriesError);
         };
         give_up_present(&mut self.holds, source, present, session);
-        let key = SwitchboardKey { source, port };
-        claim(&mut self.holds, Hold { key, session });
+        put(&mut self.holds, SwitchboardKey { source, port }, session);
         Ok(port)
     }
 
@@ -172,10 +172,7 @@ impl Switchboard {
         ensures range { SameRange self.old self.new }
         ensures room { KeepsRoom self.old self.new }
     {
-        match place_of(&self.holds, *key) {
-            Ok(at) => Some(take_out(&mut self.holds, at, *key)),
-            Err(_) => None,
-        }
+        take(&mut self.holds, *key)
     }
 
     /// Frees the port that a connection came to, for the address that it came from, and gives the
