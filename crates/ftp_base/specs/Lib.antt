@@ -3,6 +3,9 @@ pub mod Reply
 pub mod Trace
 pub mod Outside
 pub mod Ports
+pub mod Command
+pub mod Storage
 pub mod LinkTable
 pub mod Calls
 pub mod Memory
+pub mod MemoryStorage

@@ -87,16 +87,3 @@ pub trait Link: Source {
     fn last_fault(&self) -> Option<LinkFault>
         ensures { result ≡ (Self.sending self.now).last_fault };
 }
-
-/// Keeps the files that transfers read and write.
-pub trait Storage {
-    // What the storage can do, a set of bits.
-    ghost abilities: { Self → ℕ };
-
-    /// What the storage can do: the sum of the `FEATURE_` constants.
-    fn features(&self) -> u32
-        ensures { result ≡ abilities self.now };
-}
-
-/// Transfers can begin at a restart offset.
-pub const FEATURE_RESTART: u32 = 1;

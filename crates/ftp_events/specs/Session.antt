@@ -7,7 +7,9 @@ use Rattle.ftp_events.specs.declared.event.EventKind.{EventKind}
 use Rattle.ftp_events.specs.declared.decision.Decision.{Decision}
 use Rattle.ftp_events.specs.declared.decision.Decision.TheVariants.{Opened, Closed}
 use Rattle.ftp_events.specs.declared.session.Opening.{Opening}
+use Rattle.ftp_events.specs.declared.session.Login.TheVariants as login
 use Rattle.ftp_events.specs.declared.session.Session.{Session}
+use Rattle.ftp_events.specs.declared.session.Slot.TheVariants.{Empty}
 use Rattle.ftp_events.specs.Words.{◌⇒◌∣◌, latest}
 use Rattle.ftp_events.specs.Opening.{opener}
 use Rattle.ftp_events.specs.History.{history}
@@ -68,3 +70,7 @@ live_after _ n = n
 abbrev pub live_count : List Entry → ℕ
 live_count [] = 0
 live_count (e ∷ past) = live_after e.decision (live_count past)
+
+-- a session when it is opened
+abbrev pub new_session : Opening → Session
+new_session opening = record { opening = opening; login = login.New; name = None; slot = Empty; notices = 0 }

@@ -39,14 +39,14 @@ use Rattle.ftp_events.specs.Board.{Target, target, granted_port, gives_up_hold, 
 use Rattle.ftp_events.specs.History.{history, subject, opens, concerns}
 use Rattle.ftp_events.specs.Notices.{is_notice_to, notice_count}
 use Rattle.ftp_events.specs.Slot.{waiting_port}
-use Rattle.ftp_events.specs.Session.{session, lives_on, session_after, live_after, live_count}
+use Rattle.ftp_events.specs.Session.{session, lives_on, session_after, live_after, live_count, new_session}
 use Rattle.ftp_events.specs.ConnectionRows.{connect_row, data_row, arrival_row, holder_row}
 use Rattle.ftp_events.specs.LoginRows.{user_row, pass_row, answer_row, auth_row}
 use Rattle.ftp_events.specs.CommandRows.{is_logged_in, if_logged_in, pasv_row}
 use Rattle.ftp_events.specs.Decide.{if_live, due, decide}
 use Rattle.ftp_events.specs.Acts.{session_acts, refused_link, acts_for, acts_of, acts}
 use Rattle.ftp_events.specs.Right.{IsRight, IsActed}
-use Rattle.ftp_laws.proofs.Laws.{counting-refused, counting-counts, session-other, session-own, session-opened, session_by, session-told, new_session}
+use Rattle.ftp_laws.proofs.Laws.{counting-refused, counting-counts, session-other, session-own, session-opened, session_by, session-told}
 use Rattle.ftp_laws.proofs.Holds.{WaitsFor, holder-waits, same_ip-equal, number-is, port_of, live-used}
 use Rattle.ftp_laws.proofs.Tables.{IsAbout, IsNamed, IsArrival, session-about, holder-named, holder-granted, holder-arrived, holder-other, arrival-about, eq-comm}
 use Rattle.ftp_hub.specs.declared.hub.Hub.{Hub}

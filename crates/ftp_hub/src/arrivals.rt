@@ -13,7 +13,7 @@ ghost use Rattle.ftp_events.specs.Session.{session_after};
 ghost use Rattle.ftp_events.specs.declared.session.Slot.TheVariants.{Empty};
 ghost use Rattle.ftp_events.specs.Slot.{with_link, is_waiting};
 ghost use Rattle.ftp_events.specs.Acts.{session_acts};
-ghost use Rattle.ftp_laws.proofs.Laws.{new_session};
+ghost use Rattle.ftp_events.specs.Session.{new_session};
 ghost use Rattle.ftp_hub.specs.Arrivals.{is_connect, is_data, arrival_of};
 ghost use Rattle.ftp_hub.specs.Rooms.{IsReady, actions_in};
 ghost use Rattle.ftp_hub.specs.Stands.{Stands, Serves, SameHead};

@@ -114,7 +114,7 @@ pub fn run_events<S: Storage, L: Link>(
     ensures events { OnOk result (GoesOn log.old.entries log.new.entries events.now) }
     ensures first { IfErr result (λ e. GoesOn log.old.entries log.new.entries (take (done_of e) events.now)) }
     ensures stopped { IfErr result (λ e. done_of e < length events.now) }
-    ensures exhausted { IfErr result (λ e. IsExhausted e → count_of hub.old + done_of e ≡ 2 ^ 64 - 1) }
+    ensures exhausted { IfErr result (λ e. IsExhausted e ↔ (count_of hub.old + done_of e ≡ 2 ^ 64 - 1)) }
     ensures count { OnOk result (count_of hub.new ≡ count_of hub.old + length events.now) }
     ensures options { options_of hub.new ≡ options_of hub.old }
     ensures storage { storage.new ≡ storage.old }
@@ -142,12 +142,15 @@ fn run_next<S: Storage, L: Link>(
     ensures stands { Stands hub.old log.old.entries → Stands hub.new log.new.entries }
     ensures event { OnOk result (GoesOn log.old.entries log.new.entries (event.now ∷ [])) }
     ensures unchanged { OnErr result (log.new.entries ≡ log.old.entries) }
-    ensures exhausted { IfErr result (λ e. IsExhausted e → count_of hub.old ≡ 2 ^ 64 - 1) }
+    ensures exhausted { IfErr result (λ e. IsExhausted e ↔ (count_of hub.old ≡ 2 ^ 64 - 1)) }
     ensures count { OnOk result (count_of hub.new ≡ count_of hub.old + 1) }
     ensures options { options_of hub.new ≡ options_of hub.old }
     ensures storage { storage.new ≡ storage.old }
     ensures links { links.new ≡ links.old }
 {
+    if hub.events() == u64::MAX {
+        return Err(RunError::Exhausted { done: 0 });
+    }
     let Ok(event) = event.copy(hub.alloc) else {
         return Err(RunError::OutOfMemory { done: 0 });
     };

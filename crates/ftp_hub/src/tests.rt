@@ -4,27 +4,13 @@ ghost use Rattle.std.specs.Prelude.{IfOk, IsTrue};
 ghost use Rattle.ftp_options.specs.Modes.{is_pooled};
 
 use crate::{Hub, RunError, covers, run_events};
-use ftp_base::{
-    AuthAnswer, Bytes, FEATURE_RESTART, IpAddr, LinkTable, MemoryLink, SocketAddr, Storage,
-};
+use ftp_base::{AuthAnswer, Bytes, IpAddr, LinkTable, MemoryLink, MemoryStorage, SocketAddr};
 use ftp_events::{Decision, EventKind, HubEvent, Log};
 use ftp_options::{Options, ServerBuilder};
 use std::alloc::Global;
 use std::test::Fail;
 
 const CLIENT: u32 = 0x0a00_0001;
-
-/// A storage that is asked nothing.
-#[derive(Drop)]
-struct NoFiles;
-
-impl Storage for NoFiles {
-    ghost abilities = { λ s. 1 };
-
-    fn features(&self) -> u32 {
-        FEATURE_RESTART
-    }
-}
 
 fn address(ip: u32, port: u16) -> SocketAddr {
     SocketAddr {
@@ -89,6 +75,7 @@ fn options() -> Result<Options, Fail>
 fn a_data_connection_of_another_client_is_turned_away(rt: HostRuntime) -> Result<(), Fail> {
     let alloc = rt.alloc();
     let mut hub = Hub::new(alloc, options()?);
+    let mut storage = MemoryStorage::new(alloc, 0, Vec::new(alloc));
     let mut links = LinkTable::new(alloc);
     let events = events(alloc)?;
     assert_eq!(rt; covers(&links, &events), false);
@@ -100,7 +87,7 @@ fn a_data_connection_of_another_client_is_turned_away(rt: HostRuntime) -> Result
         return Err(Fail::from("a link is not found"));
     }
     let mut log = Log::new(alloc);
-    let run = run_events(&mut hub, &mut NoFiles, &mut links, &events, &mut log);
+    let run = run_events(&mut hub, &mut storage, &mut links, &events, &mut log);
     assert_eq!(rt; run, Ok(()));
     let expected = [
         Decision::Opened,
@@ -123,6 +110,7 @@ fn a_data_connection_of_another_client_is_turned_away(rt: HostRuntime) -> Result
 fn no_event_runs_at_the_end_of_the_count(rt: HostRuntime) -> Result<(), Fail> {
     let alloc = rt.alloc();
     let mut hub = Hub::with_count(alloc, options()?, u64::MAX);
+    let mut storage = MemoryStorage::new(alloc, 0, Vec::new(alloc));
     let mut links: LinkTable<MemoryLink> = LinkTable::new(alloc);
     let mut log = Log::new(alloc);
     let events = [HubEvent {
@@ -132,9 +120,9 @@ fn no_event_runs_at_the_end_of_the_count(rt: HostRuntime) -> Result<(), Fail> {
     if !covers(&links, &events) {
         return Err(Fail::from("a link is not found"));
     }
-    let run = run_events(&mut hub, &mut NoFiles, &mut links, &events, &mut log);
+    let run = run_events(&mut hub, &mut storage, &mut links, &events, &mut log);
     assert_eq!(rt; run, Err(RunError::Exhausted { done: 0 }));
-    let run = run_events(&mut hub, &mut NoFiles, &mut links, &[], &mut log);
+    let run = run_events(&mut hub, &mut storage, &mut links, &[], &mut log);
     assert_eq!(rt; run, Ok(()));
     assert_eq!(rt; log.len(), 0);
     Ok(())

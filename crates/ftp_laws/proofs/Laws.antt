@@ -14,7 +14,7 @@ use Rattle.ftp_events.specs.Log.{is_refusal, past_of}
 use Rattle.ftp_events.specs.Opening.{opened_number, opening_by, opener}
 use Rattle.ftp_events.specs.History.{concerns, opens, history}
 use Rattle.ftp_events.specs.Notices.{is_notice_to}
-use Rattle.ftp_events.specs.Session.{lives_on, session_after, is_live, session_by_history, session}
+use Rattle.ftp_events.specs.Session.{lives_on, session_after, is_live, session_by_history, session, new_session}
 
 -- a refused entry is not in the past
 pub counting-refused :
@@ -97,10 +97,6 @@ session-own o past e s v known n c =
     let t : IsTold s h (opener past s) v = session-told o past s v known in
     rw (n, c, t.opening, t.alive)
     (subst (λ (w : Session). cond (lives_on e.decision) (Some (session_by_history s (e ∷ h) w.opening)) None ≡ cond (lives_on e.decision) (Some (session_by s e w)) None) t.told refl)
-
--- a session when it is opened
-abbrev pub new_session : Opening → Session
-new_session opening = record { opening = opening; login = login.New; name = None; slot = Empty; notices = 0 }
 
 -- the session after it was opened
 pub session-opened :

@@ -1,0 +1,114 @@
+-- What a storage in memory keeps and refuses.
+use Rattle.std.specs.Prelude.{◌≡◌, ℕ, ◌+◌, List, map as map_list, length, Vec, Option, Some, None, nat_lt, if◌then◌else◌, refl}
+use Rattle.std.specs.Coded.{Coded, code_by, coded×, coded_ℕ, coded_list, coded_option}
+use Rattle.std.specs.Global.{Global}
+use Rattle.std.specs.FinMap as map
+use Rattle.ftp_base.specs.declared.error_kind.ErrorKind.{ErrorKind}
+use Rattle.ftp_base.specs.declared.error_kind.ErrorKind.TheVariants as kind
+use Rattle.ftp_base.specs.declared.memory_storage.Node.{Node}
+use Rattle.ftp_base.specs.declared.storage.Meta.{Meta}
+use Rattle.ftp_base.specs.declared.memory_storage.Standing.{Standing}
+use Rattle.ftp_base.specs.declared.memory_storage.Standing.TheVariants as standing
+use Rattle.ftp_base.specs.Calls.{Calls, calls_code, after_call, after_fault}
+use Rattle.ftp_base.specs.Storage.{Item, Directory, File, Files, Call, Metadata, Listing, ReadAt, Begin, Append, item, bytes_of, contents, parent}
+
+-- the files, how many bytes each may have, and the calls so far
+pub record MemoryState : Type 0 where
+  pub files : Files
+  pub max_file : ℕ
+  pub calls : Calls ℕ
+
+-- an item is stored as the bytes of a file, if it is one
+abbrev pub item_from : Option (List ℕ) → Item
+item_from None = Directory
+item_from (Some bytes) = File bytes
+
+pub item_from-bytes_of : (i : Item) → item_from (bytes_of i) ≡ i
+item_from-bytes_of Directory = refl
+item_from-bytes_of (File bytes) = refl
+
+abbrev pub item_code : Coded Item
+item_code = code_by (Option (List ℕ)) (coded_option (coded_list coded_ℕ)) bytes_of item_from item_from-bytes_of
+
+-- a state is stored as its parts
+abbrev pub state_code : Coded MemoryState
+state_code =
+    code_by (Files × (ℕ × Calls ℕ)) (coded× (map.code (coded_list coded_ℕ) item_code) (coded× coded_ℕ (calls_code coded_ℕ)))
+    (λ s. (s.files, (s.max_file, s.calls))) (λ p. record { files = p.0; max_file = p.1.0; calls = p.1.1 }) (λ _. refl)
+
+-- what a node is
+abbrev pub item_of : Node → Item
+item_of node = if node.is_dir then Directory else File node.bytes.items
+
+-- the items of nodes under their paths
+abbrev pub items : List (Vec ℕ Global × Node) → List (List ℕ × Item)
+items nodes = map_list (λ e. (e.0.items, item_of e.1)) nodes
+
+-- the files of nodes under their paths
+abbrev pub files_of : List (Vec ℕ Global × Node) → Files
+files_of nodes = map.from_entries (items nodes)
+
+-- what is told of children under their names and paths
+abbrev pub placed : List ((Vec ℕ Global × Vec ℕ Global) × Meta) → List ((List ℕ × List ℕ) × Meta)
+placed places = map_list (λ e. ((e.0.0.items, e.0.1.items), e.1)) places
+
+-- where there is none
+abbrev pub unless_there : {A : Type 0} → Option A → ErrorKind → Option ErrorKind
+unless_there None k = Some k
+unless_there (Some x) k = None
+
+-- a directory can be begun as no file
+abbrev pub if_file : Option Item → Option ErrorKind → Option ErrorKind
+if_file (Some Directory) refusal = Some kind.FileNameNotAllowedError
+if_file (Some (File bytes)) refusal = refusal
+if_file None refusal = refusal
+
+-- under a directory
+abbrev pub if_directory : Option Item → ErrorKind → Option ErrorKind → Option ErrorKind
+if_directory (Some Directory) k refusal = refusal
+if_directory (Some (File bytes)) k refusal = Some k
+if_directory None k refusal = Some k
+
+-- so many bytes would be too many
+abbrev pub if_within : ℕ → ℕ → Option ErrorKind
+if_within len max_file = if nat_lt max_file len then Some kind.ExceededStorageAllocationError else None
+
+-- how a file is refused that would have so many bytes: for its parent, for a directory at its path, for its size
+abbrev pub file_refusal : Files → ℕ → List ℕ → ℕ → Option ErrorKind
+file_refusal files max_file path len =
+    if_directory (item files (parent path)) kind.PermanentDirectoryNotAvailable (if_file (item files path) (if_within len max_file))
+
+-- a path is new
+abbrev pub if_new : Option Item → Option ErrorKind
+if_new None = None
+if_new (Some i) = Some kind.FileNameNotAllowedError
+
+-- how a directory is refused: for its parent, for what is at its path
+abbrev pub directory_refusal : Files → List ℕ → Option ErrorKind
+directory_refusal files path = if_directory (item files (parent path)) kind.PermanentDirectoryNotAvailable (if_new (item files path))
+
+-- how bytes are refused that would be put at the end of a file: for want of the file, for the size
+abbrev pub append_refusal : Option (List ℕ) → ℕ → ℕ → Option ErrorKind
+append_refusal None max_file len = Some kind.PermanentFileNotAvailable
+append_refusal (Some had) max_file len = if_within (length had + len) max_file
+
+-- which calls are refused, and how
+abbrev pub memory_meaning : Files → ℕ → Call → Option ErrorKind
+memory_meaning files max_file (Metadata user path) = unless_there (item files path) kind.PermanentFileNotAvailable
+memory_meaning files max_file (Listing user path) = if_directory (item files path) kind.PermanentDirectoryNotAvailable None
+memory_meaning files max_file (ReadAt user path place) = unless_there (contents files path) kind.PermanentFileNotAvailable
+memory_meaning files max_file (Begin user path start) = file_refusal files max_file path start
+memory_meaning files max_file (Append user path bytes) = append_refusal (contents files path) max_file (length bytes)
+
+-- what was found at a path
+abbrev pub standing_item : Standing → Item
+standing_item standing.Directory = Directory
+standing_item (standing.File bytes) = File bytes.now
+
+-- the state after a call that went well
+abbrev pub counted : MemoryState → MemoryState
+counted s = record s { calls = after_call s.calls }
+
+-- the state after a call that failed
+abbrev pub failed : MemoryState → MemoryState
+failed s = record s { calls = after_fault s.calls }

@@ -1,0 +1,558 @@
+//! A storage in memory.
+
+ghost use Rattle.std.specs.Prelude.{◌≡◌, ◌+◌, ◌-◌, ◌^◌, ◌<◌, ◌≤◌, not, length, map as map_list, IfOk};
+ghost use Rattle.std.specs.FinMap as map;
+ghost use Rattle.std.specs.List.{suffix_len};
+ghost use Rattle.std.specs.Str.{bytes_eq};
+ghost use Rattle.ftp_base.specs.MemoryStorage.{standing_item, files_of, placed};
+ghost use Rattle.ftp_base.specs.Storage.{root, is_slash, parent, name, meta_of, is_child, children, info_of, ReadsFrom};
+
+use crate::bytes::Bytes;
+use crate::calls::Calls;
+use crate::error_kind::ErrorKind;
+use crate::storage::{FEATURE_RESTART, FileInfo, Meta, Storage, StoreError};
+use std::alloc::{AllocError, Global};
+use std::collections::BTreeMap;
+use std::marker::Model;
+
+/// A directory, or a file with its bytes.
+#[derive(Drop)]
+pub(crate) struct Node {
+    pub(crate) is_dir: bool,
+    pub(crate) bytes: Vec<u8>,
+}
+
+impl Node {
+    ghost use Rattle.std.specs.Prelude.{◌≡◌, ◌++◌, OnOk, OnErr};
+    ghost use Rattle.ftp_base.specs.Storage.{cut, meta_of};
+    ghost use Rattle.ftp_base.specs.MemoryStorage.{item_of};
+
+    /// Cuts the bytes at a place, or fills them with zeros up to there.
+    fn cut(&mut self, start: usize) -> Result<(), AllocError>
+        ensures kind { self.new.is_dir ≡ self.old.is_dir }
+        ensures begun { OnOk result (self.new.bytes.items ≡ cut self.old.bytes.items start) }
+        ensures unchanged { OnErr result (self.new.bytes.items ≡ self.old.bytes.items) }
+    {
+        self.bytes.resize(start, 0)
+    }
+
+    /// What is told of the node.
+    fn meta(&self) -> Meta
+        ensures { result ≡ meta_of (item_of self.now) }
+    {
+        Meta {
+            is_dir: self.is_dir,
+            len: if self.is_dir {
+                0
+            } else {
+                self.bytes.as_slice().len() as u64
+            },
+        }
+    }
+
+    /// Puts bytes at the end.
+    fn grow(&mut self, bytes: &[u8]) -> Result<(), AllocError>
+        ensures kind { self.new.is_dir ≡ self.old.is_dir }
+        ensures grown { OnOk result (self.new.bytes.items ≡ self.old.bytes.items ++ bytes.now) }
+        ensures unchanged { OnErr result (self.new.bytes.items ≡ self.old.bytes.items) }
+    {
+        self.bytes.extend_from_slice(bytes)
+    }
+}
+
+/// Keeps files under their paths.
+///
+/// `/` is a directory. A path lies in what stands before its last `/`, or in `/` where that is empty. Reads, listings,
+/// looks at metadata, begins and appends are counted together, from 1, and given calls of them fail.
+#[derive(Drop)]
+pub struct MemoryStorage {
+    nodes: BTreeMap<Vec<u8>, Node>,
+    max_file: u64,
+    calls: Calls<u64>,
+    alloc: Global,
+}
+
+/// What was found at a path.
+#[derive(Clone, Copy)]
+pub(crate) enum Standing<'a> {
+    Directory,
+    File(&'a [u8]),
+}
+
+impl Model for MemoryStorage {
+    ghost use Rattle.ftp_base.specs.MemoryStorage.{MemoryState, state_code};
+
+    ghost Value = { MemoryState };
+
+    ghost coded = { state_code };
+
+    ghost use Rattle.ftp_base.specs.MemoryStorage.{files_of};
+
+    ghost view = { λ s. record { files = files_of s.nodes.entries; max_file = s.max_file; calls = s.calls } };
+}
+
+impl MemoryStorage {
+    ghost use Rattle.std.specs.Prelude.{◌≡◌, ◌≢◌, ◌↔◌, ◌++◌, false, length, Some, None, IsTrue, IsSome, IsErr, IfOk, IfErr, OnOk, OnErr, MatchResult, IsPermutation};
+    ghost use Rattle.std.specs.FinMap as map;
+    ghost use Rattle.std.specs.Option.{option_map};
+    ghost use Rattle.ftp_base.specs.Memory.{fails_next};
+    ghost use Rattle.ftp_base.specs.MemoryStorage.{standing_item, counted, failed, item_of, file_refusal, directory_refusal, append_refusal, if_within};
+    ghost use Rattle.std.specs.Str.{bytes_eq};
+    ghost use Rattle.ftp_base.specs.Storage.{Directory, root, item, contents, with_file, old_bytes, cut, listing, Refuses};
+
+    /// An empty storage whose files have at most so many bytes.
+    pub fn new(alloc: Global, max_file: u64, fails: Vec<u64>) -> MemoryStorage
+        ensures files { result.files ≡ map.empty }
+        ensures max_file { result.max_file ≡ max_file }
+        ensures no_call { result.calls.made ≡ 0 }
+        ensures no_fault { result.calls.faults ≡ 0 }
+        ensures failing { IsPermutation fails.items result.calls.failing }
+    {
+        MemoryStorage {
+            nodes: BTreeMap::new(alloc),
+            max_file,
+            calls: Calls::new(fails),
+            alloc,
+        }
+    }
+
+    /// Makes a directory. It is not counted among the calls.
+    pub fn mkdir(&mut self, path: Bytes) -> Result<(), StoreError>
+        ensures made { OnOk result (self.new ≡ record self.old { files = map.insert self.old.files path Directory }) }
+        ensures refused { MatchResult result (λ _. directory_refusal self.old.files path ≡ None) (Refuses (directory_refusal self.old.files path)) }
+        ensures no_fault { IfErr result (λ e. e ≢ StoreError.Failed) }
+        ensures unchanged { OnErr result (self.new ≡ self.old) }
+    {
+        if let Some(kind) = self.directory_refusal(path.as_slice()) {
+            return Err(StoreError::Kind(kind));
+        }
+        let node = Node {
+            is_dir: true,
+            bytes: Vec::new(self.alloc),
+        };
+        match self.put(path.as_slice(), node) {
+            Ok(()) => Ok(()),
+            Err(AllocError) => Err(StoreError::OutOfMemory),
+        }
+    }
+
+    /// Puts a file under a path, where there may be one. It is not counted among the calls.
+    pub fn put_file(&mut self, path: Bytes, bytes: Vec<u8>) -> Result<(), StoreError>
+        ensures stored { OnOk result (self.new ≡ record self.old { files = with_file self.old.files path bytes.items }) }
+        ensures refused { MatchResult result (λ _. file_refusal self.old.files self.old.max_file path (length bytes.items) ≡ None) (Refuses (file_refusal self.old.files self.old.max_file path (length bytes.items))) }
+        ensures no_fault { IfErr result (λ e. e ≢ StoreError.Failed) }
+        ensures unchanged { OnErr result (self.new ≡ self.old) }
+    {
+        if let Some(kind) = self.file_refusal(path.as_slice(), bytes.as_slice().len() as u64) {
+            return Err(StoreError::Kind(kind));
+        }
+        let node = Node {
+            is_dir: false,
+            bytes,
+        };
+        match self.put(path.as_slice(), node) {
+            Ok(()) => Ok(()),
+            Err(AllocError) => Err(StoreError::OutOfMemory),
+        }
+    }
+
+    /// How a directory is refused.
+    fn directory_refusal(&self, path: &[u8]) -> Option<ErrorKind>
+        ensures { result ≡ directory_refusal self.now.files path.now }
+    {
+        let Some(Standing::Directory) = self.find(parent_of(path)) else {
+            return Some(ErrorKind::PermanentDirectoryNotAvailable);
+        };
+        match self.find(path) {
+            Some(_) => Some(ErrorKind::FileNameNotAllowedError),
+            None => None,
+        }
+    }
+
+    /// What stands at a path.
+    fn find(&self, path: &[u8]) -> Option<Standing<'_>>
+        ensures { option_map standing_item result ≡ item self.now.files path.now }
+    {
+        if is_root(path) {
+            return Some(Standing::Directory);
+        }
+        let node = self.nodes.get(path)?;
+        if node.is_dir {
+            Some(Standing::Directory)
+        } else {
+            Some(Standing::File(node.bytes.as_slice()))
+        }
+    }
+
+    /// How a file is refused that would have so many bytes.
+    fn file_refusal(&self, path: &[u8], len: u64) -> Option<ErrorKind>
+        ensures { result ≡ file_refusal self.now.files self.now.max_file path.now len }
+    {
+        let Some(Standing::Directory) = self.find(parent_of(path)) else {
+            return Some(ErrorKind::PermanentDirectoryNotAvailable);
+        };
+        if let Some(Standing::Directory) = self.find(path) {
+            return Some(ErrorKind::FileNameNotAllowedError);
+        }
+        self.size_refusal(len)
+    }
+
+    fn size_refusal(&self, len: u64) -> Option<ErrorKind>
+        ensures { result ≡ if_within len self.now.max_file }
+    {
+        if len > self.max_file {
+            Some(ErrorKind::ExceededStorageAllocationError)
+        } else {
+            None
+        }
+    }
+
+    /// How bytes are refused that would be put at the end of a file.
+    fn append_refusal(&self, path: &[u8], len: usize) -> Option<ErrorKind>
+        ensures { result ≡ append_refusal (contents self.now.files path.now) self.now.max_file len }
+    {
+        let Some(Standing::File(bytes)) = self.find(path) else {
+            return Some(ErrorKind::PermanentFileNotAvailable);
+        };
+        if self.max_file < bytes.len() as u64 || self.max_file - (bytes.len() as u64) < len as u64 {
+            return Some(ErrorKind::ExceededStorageAllocationError);
+        }
+        None
+    }
+
+    /// What a listing shows of a directory.
+    fn children(&self, dir: &[u8]) -> Result<Vec<FileInfo>, AllocError>
+        ensures { IfOk result (λ found. found.items ≡ listing self.now.files dir.now) }
+    {
+        let places = places_in(self.alloc, &self.nodes, dir)?;
+        infos_of(self.alloc, places)
+    }
+
+    /// Cuts the file at a path, absent or not, at a place, or fills it with zeros up to there.
+    fn cut(&mut self, path: &[u8], start: u64) -> Result<(), AllocError>
+        requires other { bytes_eq path.now root ≡ false }
+        requires file { item self.old.files path.now ≢ Some Directory }
+        ensures begun { OnOk result (self.new ≡ record self.old { files = with_file self.old.files path.now (cut (old_bytes self.old.files path.now) start) }) }
+        ensures unchanged { OnErr result (self.new ≡ self.old) }
+    {
+        if let Some(node) = self.nodes.get_mut(path) {
+            node.cut(start as usize)?;
+            return Ok(());
+        }
+        let mut bytes = Vec::new(self.alloc);
+        bytes.resize(start as usize, 0)?;
+        self.put(
+            path,
+            Node {
+                is_dir: false,
+                bytes,
+            },
+        )
+    }
+
+    /// Puts bytes at the end of the file at a path.
+    fn grow(&mut self, path: &[u8], bytes: &[u8]) -> Result<(), AllocError>
+        requires file { IsSome (contents self.old.files path.now) }
+        ensures grown { OnOk result (self.new ≡ record self.old { files = with_file self.old.files path.now (old_bytes self.old.files path.now ++ bytes.now) }) }
+        ensures unchanged { OnErr result (self.new ≡ self.old) }
+    {
+        let Some(node) = self.nodes.get_mut(path) else {
+            return Ok(());
+        };
+        node.grow(bytes)?;
+        Ok(())
+    }
+
+    /// Puts a node under a path.
+    fn put(&mut self, path: &[u8], node: Node) -> Result<(), AllocError>
+        ensures stored { OnOk result (self.new ≡ record self.old { files = map.insert self.old.files path.now (item_of node) }) }
+        ensures unchanged { OnErr result (self.new ≡ self.old) }
+    {
+        let key = Vec::from_slice(self.alloc, path)?;
+        self.nodes.insert(key, node)?;
+        Ok(())
+    }
+
+    /// Counts a call, and says whether it fails.
+    fn count(&mut self) -> Result<(), StoreError>
+        ensures fails { IsErr result ↔ IsTrue (fails_next self.old.calls) }
+        ensures only { IfErr result (λ e. e ≡ StoreError.Failed) }
+        ensures counted { OnOk result (self.new ≡ counted self.old) }
+        ensures fault_counted { OnErr result (self.new ≡ failed self.old) }
+    {
+        if self.calls.next_failing().is_some() {
+            self.calls.count_fault();
+            return Err(StoreError::Failed);
+        }
+        self.calls.count_call();
+        Ok(())
+    }
+}
+
+impl Storage for MemoryStorage {
+    ghost use Rattle.std.specs.Prelude.{◌≡◌, ◌+◌, ◌^◌, ◌<◌, ◌≤◌, ◌↔◌, IsTrue, length, Some, IsSomeAnd, false, IfOk, OnOk, OnErr, IsErrOf};
+    ghost use Rattle.ftp_base.specs.Calls.{after_call};
+    ghost use Rattle.ftp_base.specs.Memory.{fails_next};
+    ghost use Rattle.ftp_base.specs.MemoryStorage.{memory_meaning, failed};
+    ghost use Rattle.ftp_base.specs.Outside.{HasRisen};
+    ghost use Rattle.ftp_base.specs.Storage.{Metadata, Listing, ReadAt, Begin, Append, Answers, item, meta_of, listing, with_file, old_bytes, cut, ReadsFile, Grows};
+
+    ghost abilities = { λ _. 1 };
+
+    ghost files = { λ s. Some s.files };
+
+    ghost meaning = { λ s. memory_meaning s.files s.max_file };
+
+    ghost faults = { λ s. s.calls.faults };
+
+    ghost reads_take_memory = { false };
+
+    fn features(&self) -> u32 {
+        FEATURE_RESTART
+    }
+
+    fn metadata(&mut self, user: &Bytes, path: &Bytes) -> Result<Meta, StoreError>
+        ensures found { IfOk result (λ meta. IsSomeAnd (item self.old.files path.now) (λ i. meta ≡ meta_of i)) }
+        ensures refused { Answers (Some self.old.files) (memory_meaning self.old.files self.old.max_file (Metadata user.now path.now)) result }
+        ensures fault_rose { IsErrOf result StoreError.Failed → HasRisen self.old.calls.faults self.new.calls.faults }
+        ensures unchanged { self.new.files ≡ self.old.files }
+        ensures same_meaning { memory_meaning self.new.files self.new.max_file ≡ memory_meaning self.old.files self.old.max_file }
+        ensures count { self.old.calls.faults ≤ self.new.calls.faults }
+
+        // Exactly the listed calls fail, and each call is counted.
+        ensures fails { IsErrOf result StoreError.Failed ↔ IsTrue (fails_next self.old.calls) }
+        ensures fault_counted { IsErrOf result StoreError.Failed → self.new ≡ failed self.old }
+        ensures counted { (IsErrOf result StoreError.Failed → ⊥) → self.new.calls ≡ after_call self.old.calls }
+        ensures max_file { self.new.max_file ≡ self.old.max_file }
+    {
+        let _ = user;
+        self.count()?;
+        match self.find(path.as_slice()) {
+            Some(standing) => Ok(meta_at(standing)),
+            None => Err(StoreError::Kind(ErrorKind::PermanentFileNotAvailable)),
+        }
+    }
+
+    fn list(&mut self, user: &Bytes, path: &Bytes) -> Result<Vec<FileInfo>, StoreError>
+        ensures listed { IfOk result (λ found. found.items ≡ listing self.old.files path.now) }
+        ensures refused { Answers (Some self.old.files) (memory_meaning self.old.files self.old.max_file (Listing user.now path.now)) result }
+        ensures fault_rose { IsErrOf result StoreError.Failed → HasRisen self.old.calls.faults self.new.calls.faults }
+        ensures unchanged { self.new.files ≡ self.old.files }
+        ensures same_meaning { memory_meaning self.new.files self.new.max_file ≡ memory_meaning self.old.files self.old.max_file }
+        ensures count { self.old.calls.faults ≤ self.new.calls.faults }
+
+        // Exactly the listed calls fail, and each call is counted.
+        ensures fails { IsErrOf result StoreError.Failed ↔ IsTrue (fails_next self.old.calls) }
+        ensures fault_counted { IsErrOf result StoreError.Failed → self.new ≡ failed self.old }
+        ensures counted { (IsErrOf result StoreError.Failed → ⊥) → self.new.calls ≡ after_call self.old.calls }
+        ensures max_file { self.new.max_file ≡ self.old.max_file }
+    {
+        let _ = user;
+        self.count()?;
+        let Some(Standing::Directory) = self.find(path.as_slice()) else {
+            return Err(StoreError::Kind(ErrorKind::PermanentDirectoryNotAvailable));
+        };
+        match self.children(path.as_slice()) {
+            Ok(children) => Ok(children),
+            Err(AllocError) => Err(StoreError::OutOfMemory),
+        }
+    }
+
+    fn read_at(
+        &mut self,
+        user: &Bytes,
+        path: &Bytes,
+        at: u64,
+        out: &mut [u8],
+    ) -> Result<usize, StoreError>
+        ensures within { IfOk result (λ n. n ≤ length out.new) }
+        ensures in_range { IfOk result (λ n. at + n < 2 ^ 64) }
+        ensures read { IfOk result (λ n. ReadsFile self.old.files path.now at n out.new) }
+        ensures takes_memory { IsErrOf result StoreError.OutOfMemory → ⊥ }
+        ensures refused { Answers (Some self.old.files) (memory_meaning self.old.files self.old.max_file (ReadAt user.now path.now at)) result }
+        ensures fault_rose { IsErrOf result StoreError.Failed → HasRisen self.old.calls.faults self.new.calls.faults }
+        ensures unchanged { self.new.files ≡ self.old.files }
+        ensures same_meaning { memory_meaning self.new.files self.new.max_file ≡ memory_meaning self.old.files self.old.max_file }
+        ensures count { self.old.calls.faults ≤ self.new.calls.faults }
+
+        // Exactly the listed calls fail, and each call is counted.
+        ensures fails { IsErrOf result StoreError.Failed ↔ IsTrue (fails_next self.old.calls) }
+        ensures fault_counted { IsErrOf result StoreError.Failed → self.new ≡ failed self.old }
+        ensures counted { (IsErrOf result StoreError.Failed → ⊥) → self.new.calls ≡ after_call self.old.calls }
+        ensures max_file { self.new.max_file ≡ self.old.max_file }
+    {
+        let _ = user;
+        self.count()?;
+        match self.find(path.as_slice()) {
+            Some(Standing::File(bytes)) => Ok(copy_from(bytes, at, out)),
+            _ => Err(StoreError::Kind(ErrorKind::PermanentFileNotAvailable)),
+        }
+    }
+
+    fn begin(&mut self, user: &Bytes, path: &Bytes, start: u64) -> Result<(), StoreError>
+        ensures begun { OnOk result (self.new.files ≡ with_file self.old.files path.now (cut (old_bytes self.old.files path.now) start)) }
+        ensures refused { Answers (Some self.old.files) (memory_meaning self.old.files self.old.max_file (Begin user.now path.now start)) result }
+        ensures fault_rose { IsErrOf result StoreError.Failed → HasRisen self.old.calls.faults self.new.calls.faults }
+        ensures unchanged { OnErr result (self.new.files ≡ self.old.files) }
+        ensures same_meaning { OnErr result (memory_meaning self.new.files self.new.max_file ≡ memory_meaning self.old.files self.old.max_file) }
+        ensures count { self.old.calls.faults ≤ self.new.calls.faults }
+
+        // Exactly the listed calls fail, and each call is counted.
+        ensures fails { IsErrOf result StoreError.Failed ↔ IsTrue (fails_next self.old.calls) }
+        ensures fault_counted { IsErrOf result StoreError.Failed → self.new ≡ failed self.old }
+        ensures counted { (IsErrOf result StoreError.Failed → ⊥) → self.new.calls ≡ after_call self.old.calls }
+        ensures max_file { self.new.max_file ≡ self.old.max_file }
+    {
+        let _ = user;
+        self.count()?;
+        if let Some(kind) = self.file_refusal(path.as_slice(), start) {
+            return Err(StoreError::Kind(kind));
+        }
+        match self.cut(path.as_slice(), start) {
+            Ok(()) => Ok(()),
+            Err(AllocError) => Err(StoreError::OutOfMemory),
+        }
+    }
+
+    fn append(&mut self, user: &Bytes, path: &Bytes, bytes: &[u8]) -> Result<(), StoreError>
+        ensures grown { OnOk result (Grows (Some self.old.files) (Some self.new.files) path.now bytes.now) }
+        ensures refused { Answers (Some self.old.files) (memory_meaning self.old.files self.old.max_file (Append user.now path.now bytes.now)) result }
+        ensures fault_rose { IsErrOf result StoreError.Failed → HasRisen self.old.calls.faults self.new.calls.faults }
+        ensures unchanged { OnErr result (self.new.files ≡ self.old.files) }
+        ensures same_meaning { OnErr result (memory_meaning self.new.files self.new.max_file ≡ memory_meaning self.old.files self.old.max_file) }
+        ensures count { self.old.calls.faults ≤ self.new.calls.faults }
+
+        // Exactly the listed calls fail, and each call is counted.
+        ensures fails { IsErrOf result StoreError.Failed ↔ IsTrue (fails_next self.old.calls) }
+        ensures fault_counted { IsErrOf result StoreError.Failed → self.new ≡ failed self.old }
+        ensures counted { (IsErrOf result StoreError.Failed → ⊥) → self.new.calls ≡ after_call self.old.calls }
+        ensures max_file { self.new.max_file ≡ self.old.max_file }
+    {
+        let _ = user;
+        self.count()?;
+        if let Some(kind) = self.append_refusal(path.as_slice(), bytes.len()) {
+            return Err(StoreError::Kind(kind));
+        }
+        match self.grow(path.as_slice(), bytes) {
+            Ok(()) => Ok(()),
+            Err(AllocError) => Err(StoreError::OutOfMemory),
+        }
+    }
+}
+
+/// A child's name and path.
+type Place = (Vec<u8>, Vec<u8>);
+
+/// The children of a directory under their names and paths.
+fn places_in(
+    alloc: Global,
+    nodes: &BTreeMap<Vec<u8>, Node>,
+    dir: &[u8],
+) -> Result<BTreeMap<Place, Meta>, AllocError>
+    ensures { IfOk result (λ places. placed places.entries ≡ map.entries (children (files_of nodes.now.entries) dir.now)) }
+{
+    let mut places = BTreeMap::new(alloc);
+    for (path, node) in nodes {
+        if is_child(dir, path.as_slice()) {
+            let place = place_of(alloc, path.as_slice())?;
+            places.insert(place, node.meta())?;
+        }
+    }
+    Ok(places)
+}
+
+fn place_of(alloc: Global, path: &[u8]) -> Result<Place, AllocError>
+    ensures { IfOk result (λ place. (place.0.items ≡ name path.now) × (place.1.items ≡ path.now)) }
+{
+    let name = Vec::from_slice(alloc, name_of(path))?;
+    let path = Vec::from_slice(alloc, path)?;
+    Ok((name, path))
+}
+
+/// What a listing shows of children, in their order.
+fn infos_of(alloc: Global, places: BTreeMap<Place, Meta>) -> Result<Vec<FileInfo>, AllocError>
+    ensures { IfOk result (λ found. found.items ≡ map_list info_of (placed places.entries)) }
+{
+    let mut found = Vec::new(alloc);
+    for (place, meta) in places {
+        found.push(FileInfo {
+            name: Bytes::from_vec(place.0),
+            meta,
+        })?;
+    }
+    Ok(found)
+}
+
+/// Says whether a path lies in a directory.
+fn is_child(dir: &[u8], path: &[u8]) -> bool
+    ensures { result ≡ is_child dir.now path.now }
+{
+    parent_of(path) == dir && !is_root(path)
+}
+
+/// What is told of a file or a directory.
+fn meta_at(standing: Standing<'_>) -> Meta
+    ensures { result ≡ meta_of (standing_item standing.entry) }
+{
+    match standing {
+        Standing::Directory => Meta {
+            is_dir: true,
+            len: 0,
+        },
+        Standing::File(bytes) => Meta {
+            is_dir: false,
+            len: bytes.len() as u64,
+        },
+    }
+}
+
+/// Copies what a file has from a place on to the front of `out`, and says how many bytes.
+fn copy_from(bytes: &[u8], at: u64, out: &mut [u8]) -> usize
+    ensures within { result ≤ length out.new }
+    ensures in_range { at + result < 2 ^ 64 }
+    ensures read { ReadsFrom at result out.new bytes.now }
+{
+    let len = bytes.len() as u64;
+    if at >= len {
+        return 0;
+    }
+    let rest = &bytes[at as usize..];
+    let n = rest.len().min(out.len());
+    out[..n].copy_from_slice(&rest[..n]);
+    n
+}
+
+fn is_root(path: &[u8]) -> bool
+    ensures { result ≡ bytes_eq path.now root }
+{
+    path == b"/".as_slice()
+}
+
+/// The directory that a path lies in.
+fn parent_of(path: &[u8]) -> &[u8]
+    ensures { result.now ≡ parent path.now }
+{
+    let start = name_start(path);
+    if start <= 1 {
+        return b"/".as_slice();
+    }
+    &path[..start - 1]
+}
+
+/// What a path is called in its directory.
+fn name_of(path: &[u8]) -> &[u8]
+    ensures { result.now ≡ name path.now }
+{
+    &path[name_start(path)..]
+}
+
+/// Where the name begins that a path ends in: behind its last `/`.
+fn name_start(path: &[u8]) -> usize
+    ensures { result ≡ length path.now - suffix_len (λ b. not (is_slash b)) path.now }
+{
+    let mut start = path.len();
+    while start > 0 && path[start - 1] != b'/' {
+        start -= 1;
+    }
+    start
+}

@@ -1,0 +1,116 @@
+//! What keeps the files that transfers read and write.
+//!
+//! A storage is a map from paths to the bytes of a file or a directory. Its meaning says which calls it refuses.
+//! A call that fails, finds no memory or is refused leaves the storage as it was.
+
+ghost use Rattle.std.specs.Prelude.{◌≡◌, ℕ, ◌+◌, ◌^◌, ◌<◌, ◌≤◌, Bool, true, length, Option, IfSome, IsSomeAnd, IfOk, OnOk, OnErr, IsErrOf};
+ghost use Rattle.ftp_base.specs.Outside.{HasRisen};
+ghost use Rattle.ftp_base.specs.Storage.{Files, Meaning, Metadata, Listing, ReadAt, Begin, Append, Answers, item, meta_of, listing, ReadsFile, Begins, Grows};
+
+use crate::bytes::Bytes;
+use crate::error_kind::ErrorKind;
+
+/// Transfers can begin at a restart offset.
+pub const FEATURE_RESTART: u32 = 1;
+
+/// What is told of a file or a directory.
+#[derive(Clone, Copy, Debug, PartialEq, Eq)]
+pub struct Meta {
+    pub is_dir: bool,
+    /// The file's length in bytes; 0 for a directory.
+    pub len: u64,
+}
+
+/// What a listing shows of a child of a directory.
+#[derive(Debug, Drop)]
+pub struct FileInfo {
+    pub name: Bytes,
+    pub meta: Meta,
+}
+
+/// Why a storage did not do what it was asked for.
+#[derive(Clone, Copy, Debug, PartialEq, Eq)]
+pub enum StoreError {
+    /// The storage refuses the call.
+    Kind(ErrorKind),
+    /// The call failed.
+    Failed,
+    OutOfMemory,
+}
+
+/// Keeps the files that transfers read and write.
+pub trait Storage {
+    // What the storage can do, a set of bits.
+    ghost abilities: { Self → ℕ };
+
+    // What stands at each path, where the storage tells it.
+    ghost files: { Self → Option Files };
+
+    // Which calls the storage refuses, and how; it binds where the storage tells what it keeps.
+    ghost meaning: { Self → Meaning };
+
+    // How many calls failed.
+    ghost faults: { Self → ℕ };
+
+    // Whether reading a file may fail for want of memory.
+    ghost reads_take_memory: { Bool };
+
+    /// What the storage can do: the sum of the `FEATURE_` constants.
+    fn features(&self) -> u32
+        ensures { result ≡ abilities self.now };
+
+    /// What stands at a path.
+    fn metadata(&mut self, user: &Bytes, path: &Bytes) -> Result<Meta, StoreError>
+        ensures found { IfOk result (λ meta. IfSome (files self.old) (λ f. IsSomeAnd (item f path.now) (λ i. meta ≡ meta_of i))) }
+        ensures refused { Answers (files self.old) (meaning self.old (Metadata user.now path.now)) result }
+        ensures fault_rose { IsErrOf result StoreError.Failed → HasRisen (faults self.old) (faults self.new) }
+        ensures unchanged { files self.new ≡ files self.old }
+        ensures same_meaning { meaning self.new ≡ meaning self.old }
+        ensures count { faults self.old ≤ faults self.new };
+
+    /// The direct children of a directory in byte order of their names, equal names in byte order of their paths.
+    fn list(&mut self, user: &Bytes, path: &Bytes) -> Result<Vec<FileInfo>, StoreError>
+        ensures listed { IfOk result (λ found. IfSome (files self.old) (λ f. found.items ≡ listing f path.now)) }
+        ensures refused { Answers (files self.old) (meaning self.old (Listing user.now path.now)) result }
+        ensures fault_rose { IsErrOf result StoreError.Failed → HasRisen (faults self.old) (faults self.new) }
+        ensures unchanged { files self.new ≡ files self.old }
+        ensures same_meaning { meaning self.new ≡ meaning self.old }
+        ensures count { faults self.old ≤ faults self.new };
+
+    /// Reads to the front of `out` from a place in a file, and says how many bytes: none exactly at or past the end,
+    /// where `out` has room.
+    fn read_at(
+        &mut self,
+        user: &Bytes,
+        path: &Bytes,
+        at: u64,
+        out: &mut [u8],
+    ) -> Result<usize, StoreError>
+        ensures within { IfOk result (λ n. n ≤ length out.new) }
+        ensures in_range { IfOk result (λ n. at + n < 2 ^ 64) }
+        ensures read { IfOk result (λ n. IfSome (files self.old) (λ f. ReadsFile f path.now at n out.new)) }
+        ensures refused { Answers (files self.old) (meaning self.old (ReadAt user.now path.now at)) result }
+        ensures fault_rose { IsErrOf result StoreError.Failed → HasRisen (faults self.old) (faults self.new) }
+        ensures takes_memory { IsErrOf result StoreError.OutOfMemory → reads_take_memory ≡ true }
+        ensures unchanged { files self.new ≡ files self.old }
+        ensures same_meaning { meaning self.new ≡ meaning self.old }
+        ensures count { faults self.old ≤ faults self.new };
+
+    /// Cuts a file at a place, or fills it with zeros up to there; an absent file counts as empty.
+    fn begin(&mut self, user: &Bytes, path: &Bytes, start: u64) -> Result<(), StoreError>
+        ensures begun { OnOk result (Begins (files self.old) (files self.new) path.now start) }
+        ensures refused { Answers (files self.old) (meaning self.old (Begin user.now path.now start)) result }
+        ensures fault_rose { IsErrOf result StoreError.Failed → HasRisen (faults self.old) (faults self.new) }
+        ensures unchanged { OnErr result (files self.new ≡ files self.old) }
+        ensures same_meaning { OnErr result (meaning self.new ≡ meaning self.old) }
+        ensures count { faults self.old ≤ faults self.new };
+
+    /// Puts bytes at the end of a file.
+    fn append(&mut self, user: &Bytes, path: &Bytes, bytes: &[u8]) -> Result<(), StoreError>
+        ensures grown { OnOk result (Grows (files self.old) (files self.new) path.now bytes.now) }
+        ensures refused { Answers (files self.old) (meaning self.old (Append user.now path.now bytes.now)) result }
+        ensures fault_rose { IsErrOf result StoreError.Failed → HasRisen (faults self.old) (faults self.new) }
+        ensures unchanged { OnErr result (files self.new ≡ files self.old) }
+        ensures same_meaning { OnErr result (meaning self.new ≡ meaning self.old) }
+        ensures count { faults self.old ≤ faults self.new };
+}
