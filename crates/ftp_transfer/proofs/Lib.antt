@@ -1,0 +1,4 @@
+pub mod Pieces
+pub mod RunLemmas
+pub mod StoreLemmas
+pub mod Appended

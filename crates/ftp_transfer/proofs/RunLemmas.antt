@@ -1,0 +1,67 @@
+-- Runs that go on from where a part of them ended.
+use Rattle.std.proofs.Common.{◌≡◌, ◌⊎◌, inl, inr, ℕ, ◌+◌, ◌<◌, ◌≤◌, List, length, length-drop, take, drop, Option, Some, None, refl, sym, ◌∙◌, subst, arith}
+use Rattle.std.specs.Prelude.{IfSome}
+use Rattle.std.proofs.lemmas.List.{drop-drop}
+use Rattle.ftp_base.specs.declared.error_kind.ErrorKind.{ErrorKind}
+use Rattle.ftp_base.specs.declared.fault.LinkFault.{LinkFault}
+use Rattle.ftp_base.specs.Outside.{HasRisen, Writes}
+use Rattle.ftp_base.specs.Storage.{Files, get, old_bytes}
+use Rattle.ftp_transfer.specs.declared.job.Completion.{Completion}
+use Rattle.ftp_transfer.specs.declared.job.Completion.TheVariants as result
+use Rattle.ftp_transfer.specs.Run.{SendsFront, RefusedBy, Caused, RefusedFirst}
+use Rattle.ftp_transfer.proofs.Pieces.{Writes-more}
+
+-- a count that rose later rose
+pub HasRisen_later : (a b c : ℕ) → a ≤ b → b ≤ c → HasRisen b c → HasRisen a c
+HasRisen_later a b c le le' rose = grind arith
+
+-- the next bytes of a text were sent after the first
+pub SendsFront-more : (text : List ℕ) (m n : ℕ) (a b c : Option (List ℕ)) →
+    SendsFront text m a b → SendsFront (drop m text) n b c → SendsFront text (m + n) a c
+SendsFront-more text m n a b c first next =
+    (omega (arith, length-drop m text), Writes-more a b c m n text first.1 next.1)
+
+-- the bytes from a place on, and of these from another on
+pub get-get : (bytes : List ℕ) (i j : ℕ) → get bytes (i + j) ≡ drop j (get bytes i)
+get-get bytes i j = sym (drop-drop j i bytes)
+
+-- the same of a file, where the storage tells it
+pub SendsFront-file : (told : Option Files) (path : List ℕ) (offset m n : ℕ) (a b c : Option (List ℕ)) →
+    IfSome told (λ f. SendsFront (get (old_bytes f path) offset) m a b) →
+    IfSome told (λ f. SendsFront (get (old_bytes f path) (offset + m)) n b c) →
+    IfSome told (λ f. SendsFront (get (old_bytes f path) offset) (m + n) a c)
+SendsFront-file None path offset m n a b c first next = tt
+SendsFront-file (Some f) path offset m n a b c first next =
+    SendsFront-more (get (old_bytes f path) offset) m n a b c first (rw get-get at next)
+
+-- a refusal has its cause in the longer run too
+RefusedBy_later : (s s' : Type 0) (r r' : ErrorKind → Type 0) (m : ℕ) (k : ErrorKind) → (s → s') → ((x : ErrorKind) → r x → r' x) →
+    RefusedBy s r m k → RefusedBy s' r' m k
+RefusedBy_later s s' r r' m k rose refuses (inl (e, inl h)) = inl (e, inl (rose h))
+RefusedBy_later s s' r r' m k rose refuses (inl (e, inr h)) = inl (e, inr h)
+RefusedBy_later s s' r r' m k rose refuses (inr h) = inr (refuses k h)
+
+-- an end has its cause in the longer run too
+pub Caused_later : (l l' s s' : Type 0) (r r' : ErrorKind → Type 0) (last : Option LinkFault) (m : ℕ) (c : Completion) (f : Option LinkFault) →
+    (l → l') → (s → s') → ((x : ErrorKind) → r x → r' x) → Caused l last s r m c f → Caused l' last s' r' m c f
+Caused_later l l' s s' r r' last m result.WriteFailed f rose rose' refuses (h, e) = (rose h, e)
+Caused_later l l' s s' r r' last m (result.Refused k) f rose rose' refuses (inl (e, h, e')) = inl (e, rose h, e')
+Caused_later l l' s s' r r' last m (result.Refused k) f rose rose' refuses (inr (e, h)) = inr (e, RefusedBy_later s s' r r' m k rose' refuses h)
+Caused_later l l' s s' r r' last m result.Sent f rose rose' refuses h = h
+Caused_later l l' s s' r r' last m result.Written f rose rose' refuses h = h
+Caused_later l l' s s' r r' last m result.Listed f rose rose' refuses h = h
+Caused_later l l' s s' r r' last m result.OutOfMemory f rose rose' refuses h = h
+
+-- a refusal of the first call is the result of the longer run too
+pub RefusedFirst_later : (o : Option ErrorKind) (s s' : Type 0) (m m' : ℕ) (r : Completion) → (s → s') → m' ≡ m →
+    IfSome o (λ k. RefusedFirst s k m r) → IfSome o (λ k. RefusedFirst s' k m' r)
+RefusedFirst_later None s s' m m' r rose same h = tt
+RefusedFirst_later (Some k) s s' m m' r rose same (zero, inl h) = (same ∙ zero, inl h)
+RefusedFirst_later (Some k) s s' m m' r rose same (zero, inr (inl h)) = (same ∙ zero, inr (inl h))
+RefusedFirst_later (Some k) s s' m m' r rose same (zero, inr (inr (h, e))) = (same ∙ zero, inr (inr (rose h, e)))
+
+-- a refusal of the first call is the result where more may have failed
+pub RefusedFirst_more : (s s' : Type 0) (k : ErrorKind) (m : ℕ) (r : Completion) → (s → s') → RefusedFirst s k m r → RefusedFirst s' k m r
+RefusedFirst_more s s' k m r rose (zero, inl h) = (zero, inl h)
+RefusedFirst_more s s' k m r rose (zero, inr (inl h)) = (zero, inr (inl h))
+RefusedFirst_more s s' k m r rose (zero, inr (inr (h, e))) = (zero, inr (inr (rose h, e)))

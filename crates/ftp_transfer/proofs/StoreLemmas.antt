@@ -1,0 +1,126 @@
+-- A file that grows piece by piece.
+use Rattle.std.proofs.Common.{◌≡◌, ◌⊎◌, inl, inr, ℕ, ◌+◌, ◌<◌, ◌≤◌, List, [], ◌++◌, length, length-drop, take, drop, Option, Some, None, refl, sym, ap, ◌∙◌, append_assoc, arith, zero-add, add-zero}
+use Rattle.std.specs.Prelude.{IfSome, IsSomeAnd, Result, Ok, Err, IfOk, MatchResult, unwrap_or}
+use Rattle.std.specs.Option.{option_and_then}
+use Rattle.std.proofs.lemmas.List.{drop-drop, append-nil}
+use Rattle.std.proofs.lemmas.Option.{IfSome_then}
+use Rattle.ftp_base.specs.declared.error_kind.ErrorKind.{ErrorKind}
+use Rattle.ftp_base.specs.declared.error_kind.ErrorKind.TheVariants as kind
+use Rattle.ftp_base.specs.declared.storage.Meta.{Meta}
+use Rattle.ftp_base.specs.declared.storage.StoreError.{StoreError}
+use Rattle.ftp_base.specs.declared.storage.StoreError.TheVariants.{Kind, Failed, OutOfMemory}
+use Rattle.ftp_base.specs.Storage.{Item, Directory, File, Files, Meaning, Metadata, Begin, item, bytes_of, contents, with_file, old_bytes, cut, meta_of, Begins, Refuses}
+use Rattle.ftp_base.proofs.Files.{with_file-with_file, contents-with_file}
+use Rattle.ftp_transfer.specs.declared.job.Outcome.{Outcome}
+use Rattle.ftp_transfer.specs.Run.{GrowsFront, TakesFront, Stores, append_place, append_refusal}
+use Rattle.ftp_transfer.specs.Turn.{start_after}
+use Rattle.ftp_transfer.proofs.Pieces.{take-plus}
+
+-- what is there and has a property
+pub value_with : {A : Type 0} (P : A → Type 0) (o : Option A) → IsSomeAnd o P → (x : A) × (o ≡ Some x) × P x
+value_with P None h = absurd h
+value_with P (Some x) h = (x, refl, h)
+
+-- the file of a path, which grew, grows more
+grown_again : (f : Files) (fn : Option Files) (path l had : List ℕ) (m n : ℕ) → contents f path ≡ Some had →
+    GrowsFront (with_file f path (had ++ take m l)) fn path (drop m l) n → fn ≡ Some (with_file f path (had ++ take (m + n) l))
+grown_again f fn path l had m n found (le, inl (none, same)) =
+    let e : m + n ≡ m = omega arith in
+    same ∙ ap (λ (k : ℕ). Some (with_file f path (had ++ take k l))) (sym e)
+grown_again f fn path l had m n found (le, inr more) =
+    let next = value_with (λ x. fn ≡ Some (with_file (with_file f path (had ++ take m l)) path (x ++ take n (drop m l)))) (contents (with_file f path (had ++ take m l)) path) more in
+    let e = contents-with_file f path (had ++ take m l) next.0 next.1 in
+    next.2
+    ∙ ap Some
+    (with_file-with_file f path (had ++ take m l) (next.0 ++ take n (drop m l))
+    ∙ ap (with_file f path)
+    (ap (λ (x : List ℕ). x ++ take n (drop m l)) e
+    ∙ append_assoc had (take m l) (take n (drop m l))
+    ∙ ap (λ (x : List ℕ). had ++ x) (sym (take-plus m n l))))
+
+-- the next bytes of the input were put behind the first
+GrowsFront-more : (f : Files) (fs fn : Option Files) (path l : List ℕ) (m n : ℕ) →
+    GrowsFront f fs path l m → IfSome fs (λ g. GrowsFront g fn path (drop m l) n) → GrowsFront f fn path l (m + n)
+GrowsFront-more f fs fn path l m n (le, inl (none, same)) next =
+    let later : GrowsFront f fn path (drop m l) n = rw same at next in
+    let e : m + n ≡ n = omega arith in
+    rw e (rw none at later)
+GrowsFront-more f fs fn path l m n (le, inr grown) next =
+    let found = value_with (λ had. fs ≡ Some (with_file f path (had ++ take m l))) (contents f path) grown in
+    let later : GrowsFront (with_file f path (found.0 ++ take m l)) fn path (drop m l) n = rw found.2 at next in
+    (omega (arith, later.0, length-drop m l), inr (rw found.1 (grown_again f fn path l found.0 m n found.1 later)))
+
+-- the next bytes of the input were taken after the first
+pub TakesFront-told : (l rest later : Option (List ℕ)) (m n : ℕ) →
+    IfSome l (λ l. TakesFront l rest m) → IfSome rest (λ l. TakesFront l later n) → IfSome l (λ l. TakesFront l later (m + n))
+TakesFront-told None rest later m n first next = tt
+TakesFront-told (Some l) rest later m n (le, taken) next =
+    let again : TakesFront (drop m l) later n = rw taken at next in
+    (omega (arith, again.0, length-drop m l), again.1 ∙ ap Some (drop-drop n m l))
+
+-- nothing is left where all was taken
+pub TakesFront-whole : (l rest later : Option (List ℕ)) (m : ℕ) →
+    IfSome l (λ l. TakesFront l rest m) → IfSome rest (λ l. (l ≡ []) × (later ≡ Some [])) → IfSome l (λ l. (m ≡ length l) × (later ≡ Some []))
+TakesFront-whole None rest later m first end = tt
+TakesFront-whole (Some l) rest later m (le, taken) end =
+    let done : (drop m l ≡ []) × (later ≡ Some []) = rw taken at end in
+    (omega (arith, length-drop m l, ap length done.0), done.1)
+
+-- the same, where storage and link tell what they hold
+pub GrowsFront-told : (f fs fn : Option Files) (path : List ℕ) (l rest : Option (List ℕ)) (m n : ℕ) →
+    IfSome f (λ f. IfSome l (λ l. GrowsFront f fs path l m)) →
+    IfSome l (λ l. TakesFront l rest m) →
+    IfSome fs (λ f. IfSome rest (λ l. GrowsFront f fn path l n)) →
+    IfSome f (λ f. IfSome l (λ l. GrowsFront f fn path l (m + n)))
+GrowsFront-told None fs fn path l rest m n first taken next = tt
+GrowsFront-told (Some f) fs fn path None rest m n first taken next = tt
+GrowsFront-told (Some f) fs fn path (Some l) rest m n first taken next = GrowsFront-more f fs fn path l m n first (rw taken.1 at next)
+
+-- what was put behind a begun file stands there
+put_begun : (f : Files) (fn : Option Files) (path had l : List ℕ) (m : ℕ) →
+    GrowsFront (with_file f path had) fn path l m → fn ≡ Some (with_file f path (had ++ take m l))
+put_begun f fn path had l m (le, inl (none, same)) = same ∙ ap (λ (x : List ℕ). Some (with_file f path x)) (sym (ap (λ (k : ℕ). had ++ take k l) none ∙ append-nil had))
+put_begun f fn path had l m (le, inr grown) =
+    let next = value_with (λ x. fn ≡ Some (with_file (with_file f path had) path (x ++ take m l))) (contents (with_file f path had) path) grown in
+    next.2
+    ∙ ap Some
+    (with_file-with_file f path had (next.0 ++ take m l)
+    ∙ ap (λ (x : List ℕ). with_file f path (x ++ take m l)) (contents-with_file f path had next.0 next.1))
+
+-- a file that was begun and grew is stored
+pub Stores-begun : (f fs fn : Option Files) (path : List ℕ) (place : ℕ) (l : Option (List ℕ)) (o : Outcome) →
+    Begins f fs path place → IfSome l (λ l. o.bytes ≤ length l) → IfSome fs (λ g. IfSome l (λ l. GrowsFront g fn path l o.bytes)) → IfSome f (λ f. IfSome l (λ l. Stores f fn path place l o))
+Stores-begun None fs fn path place l o begun within grown = tt
+Stores-begun (Some f) fs fn path place None o begun within grown = tt
+Stores-begun (Some f) fs fn path place (Some l) o begun within grown =
+    (within, inl (put_begun f fn path (cut (old_bytes f path) place) l o.bytes (rw begun at grown)))
+
+length_of : (o : Option Item) (meta : Meta) → IsSomeAnd o (λ i. meta ≡ meta_of i) → meta.len ≡ length (unwrap_or (option_and_then bytes_of o) [])
+length_of None meta h = absurd h
+length_of (Some Directory) meta h = ap (λ (m : Meta). m.len) h
+length_of (Some (File bytes)) meta h = ap (λ (m : Meta). m.len) h
+
+-- an APPE begins at its place
+pub append_place-start : (f : Files) (path : List ℕ) (refusal : Option ErrorKind) (r : Result Meta StoreError) (n : ℕ) →
+    MatchResult r (λ _. refusal ≡ None) (Refuses refusal) → IfOk r (λ meta. IsSomeAnd (item f path) (λ i. meta ≡ meta_of i)) →
+    start_after r ≡ Ok n → append_place refusal (length (old_bytes f path)) ≡ Some n
+append_place-start f path refusal (Ok meta) n answer found e =
+    let long = length_of (item f path) meta found in
+    let same : meta.len ≡ n = cc in
+    rw answer (ap Some (sym long ∙ same))
+append_place-start f path refusal (Err (Kind kind.PermanentFileNotAvailable)) n answer found e =
+    let zero : 0 ≡ n = cc in
+    rw answer (ap Some zero)
+append_place-start f path refusal (Err (Kind k)) n answer found e = cc
+append_place-start f path refusal (Err Failed) n answer found e = cc
+append_place-start f path refusal (Err OutOfMemory) n answer found e = cc
+
+-- the first call of an APPE after metadata is refused as it would be alone
+pub append_refusal-begin : (told : Option Files) (meaning : Meaning) (user path : List ℕ) (n : ℕ) (P Q : Files → ErrorKind → Type 0) →
+    ((f : Files) (k : ErrorKind) → P f k → Q f k) →
+    ((f : Files) → told ≡ Some f → append_place (meaning (Metadata user path)) (length (old_bytes f path)) ≡ Some n) →
+    IfSome told (λ f. IfSome (meaning (Begin user path n)) (P f)) →
+    IfSome told (λ f. IfSome (append_refusal meaning user path (length (old_bytes f path))) (Q f))
+append_refusal-begin None meaning user path n P Q turn place h = tt
+append_refusal-begin (Some f) meaning user path n P Q turn place h =
+    rw (place f refl) (IfSome_then (meaning (Begin user path n)) h (turn f))

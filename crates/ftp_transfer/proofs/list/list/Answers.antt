@@ -1,0 +1,51 @@
+use Rattle.std.proofs.Common.{◌≡◌, ◌⊎◌, inl, inr, Option, Some, None, refl, ap, Err}
+use Rattle.std.specs.Prelude.{IfSome}
+use Rattle.ftp_base.specs.declared.command.DataChanCmd.{DataChanCmd}
+use Rattle.ftp_base.specs.declared.command.DataChanCmd.TheVariants as command
+use Rattle.ftp_base.specs.declared.error_kind.ErrorKind.{ErrorKind}
+use Rattle.ftp_base.specs.declared.error_kind.ErrorKind.TheVariants as kind
+use Rattle.ftp_transfer.specs.declared.job.Completion.TheVariants as result
+use Rattle.ftp_base.specs.declared.storage.StoreError.{StoreError}
+use Rattle.ftp_base.specs.declared.storage.StoreError.TheVariants.{Kind, Failed, OutOfMemory}
+use Rattle.ftp_base.specs.Storage.{Listing, Refuses}
+use Rattle.ftp_transfer.specs.Ran.{shown_refusal}
+use Rattle.ftp_transfer.specs.Run.{RefusedFirst}
+use Rattle.ftp_transfer.specs.Turn.{listing_end}
+use Rattle.ftp_transfer.proofs.list.list.Goals as goal
+
+any_first : (refusal : Option ErrorKind) (P : ErrorKind → Type 0) → ((k : ErrorKind) → P k) → IfSome refusal P
+any_first None P h = tt
+any_first (Some k) P h = h k
+
+-- a listing ends so whatever the command
+ends_failed : (c : DataChanCmd) → listing_end c Failed ≡ result.Refused kind.LocalError
+ends_failed (command.Retr p) = refl
+ends_failed (command.Stor p) = refl
+ends_failed (command.Appe p) = refl
+ends_failed (command.List o p) = refl
+ends_failed (command.Nlst p) = refl
+ends_failed (command.Mlsd p) = refl
+
+-- a listing ends so whatever the command
+ends_memory : (c : DataChanCmd) → listing_end c OutOfMemory ≡ result.OutOfMemory
+ends_memory (command.Retr p) = refl
+ends_memory (command.Stor p) = refl
+ends_memory (command.Appe p) = refl
+ends_memory (command.List o p) = refl
+ends_memory (command.Nlst p) = refl
+ends_memory (command.Mlsd p) = refl
+
+-- a listing that is refused ends so
+refused_so : (c : DataChanCmd) (refusal : Option ErrorKind) (e : StoreError) (rose : Type 0) → Refuses refusal e → (e ≡ Failed → rose) →
+    IfSome refusal (λ k. RefusedFirst rose (shown_refusal c k) 0 (listing_end c e))
+refused_so (command.Nlst path) refusal (Kind k) rose so failed = rw so (refl, inl refl)
+refused_so c refusal (Kind k) rose so failed = rw so (refl, inl refl)
+refused_so c refusal Failed rose so failed = any_first refusal _ (λ k. (refl, inr (inr (failed refl, ends_failed c))))
+refused_so c refusal OutOfMemory rose so failed = any_first refusal _ (λ k. (refl, inr (inl (ends_memory c))))
+
+pub returns-in-Err-clause-refused : goal.returns-in-Err-clause-refused
+returns-in-Err-clause-refused g c told =
+    rw (c.nothing_moved.ensures, c.listing_end.ensures)
+    (refused_so c.args.job.now.command (g.S.Storage.meaning c.args.storage.now (Listing c.args.job.now.user c.args.job.now.path)) c.in-Err.error _
+    (c.in-Err.ensures.refused told)
+    (λ e. c.in-Err.ensures.fault_rose (ap Err e)))

@@ -1,0 +1,58 @@
+use Rattle.std.proofs.Common.{◌≡◌, ◌≤◌, ◌+◌, ◌∙◌, inl, inr, arith, rules, refl}
+use Rattle.std.proofs.lemmas.Bool.{cases_lt}
+use Rattle.ftp_base.specs.Storage.{ReadAt}
+use Rattle.ftp_transfer.proofs.RunLemmas.{HasRisen_later, SendsFront-file, Caused_later, RefusedFirst_later}
+use Rattle.ftp_transfer.proofs.retrieve.retrieve.Goals as goal
+
+pub returns-in-Some-clause-sent : goal.returns-in-Some-clause-sent
+returns-in-Some-clause-sent g c =
+    let next = rw c.pieces.invariant.files at c.send_piece-turn.ensures.sent in
+    rw c.outcome.ensures (SendsFront-file (g.S.Storage.files c.args.storage.now) c.args.job.now.path c.args.job.now.offset c.pieces.moved c.send_piece-turn.result.bytes (g.L.Source.sending c.args.link.now).sent (g.L.Source.sending c.pieces.link).sent (g.L.Source.sending c.send_piece-turn.new.link).sent c.pieces.invariant.sent next)
+
+pub returns-in-Some-clause-cause : goal.returns-in-Some-clause-cause
+returns-in-Some-clause-cause g c =
+    let cause = rw (c.in-Some.is, c.pieces.invariant.files, c.pieces.invariant.meaning) at c.send_piece-turn.ensures.cause in
+    let place : c.args.job.now.offset + c.pieces.moved + c.send_piece-turn.result.bytes ≡ c.args.job.now.offset + (c.pieces.moved + c.send_piece-turn.result.bytes) = omega arith in
+    rw c.outcome.ensures
+    (Caused_later _ _ _ _ _ _ _ _ c.in-Some.end.result c.in-Some.end.fault
+    (HasRisen_later _ _ _ c.pieces.invariant.link_count c.send_piece-turn.ensures.link_count)
+    (HasRisen_later _ _ _ c.pieces.invariant.storage_count c.send_piece-turn.ensures.storage_count)
+    (λ k h. rw place at h)
+    cause)
+
+pub returns-in-Some-clause-refused : goal.returns-in-Some-clause-refused
+returns-in-Some-clause-refused g c told =
+    elim (cases_lt 0 c.pieces.moved) [
+      | inl begun ↦ rw (c.pieces.invariant.begun begun told) tt
+      | inr ge ↦
+          let none : c.pieces.moved ≡ 0 = omega arith in
+          let place : c.args.job.now.offset + c.pieces.moved ≡ c.args.job.now.offset = omega arith in
+          let refused = rw (c.in-Some.is, c.pieces.invariant.files, c.pieces.invariant.meaning, place) at c.send_piece-turn.ensures.refused in
+          rw c.outcome.ensures
+          (RefusedFirst_later (g.S.Storage.meaning c.args.storage.now (ReadAt c.args.job.now.user c.args.job.now.path c.args.job.now.offset)) _ _ c.send_piece-turn.result.bytes _ c.in-Some.end.result
+          (HasRisen_later _ _ _ c.pieces.invariant.storage_count c.send_piece-turn.ensures.storage_count)
+          (omega arith)
+          (refused told (omega arith)))
+    ]
+
+pub pieces-preserved : goal.pieces-preserved
+pieces-preserved g c =
+    let next = rw c.pieces.invariant.files at c.send_piece-turn.ensures.sent in
+    record {
+      in_range = omega (arith, c.send_piece-turn.ensures.in_range);
+      sent = SendsFront-file (g.S.Storage.files c.args.storage.now) c.args.job.now.path c.args.job.now.offset c.pieces.moved c.send_piece-turn.result.bytes (g.L.Source.sending c.args.link.now).sent (g.L.Source.sending c.pieces.link).sent (g.L.Source.sending c.send_piece-turn.new.link).sent c.pieces.invariant.sent next;
+      begun = λ more told.
+          elim (cases_lt 0 c.pieces.moved) [
+            | inl begun ↦ c.pieces.invariant.begun begun told
+            | inr ge ↦
+                let place : c.args.job.now.offset + c.pieces.moved ≡ c.args.job.now.offset = omega arith in
+                let goes_on = rw (c.pieces.invariant.files, c.pieces.invariant.meaning, place) at c.send_piece-turn.ensures.goes_on in
+                goes_on told (search rules)
+          ];
+      files = c.send_piece-turn.ensures.files ∙ c.pieces.invariant.files;
+      meaning = c.send_piece-turn.ensures.meaning ∙ c.pieces.invariant.meaning;
+      left = c.send_piece-turn.ensures.left ∙ c.pieces.invariant.left;
+      closed = c.send_piece-turn.ensures.closed ∙ c.pieces.invariant.closed;
+      storage_count = omega (arith, c.send_piece-turn.ensures.storage_count);
+      link_count = omega (arith, c.send_piece-turn.ensures.link_count);
+    }

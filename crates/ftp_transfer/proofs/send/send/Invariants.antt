@@ -1,0 +1,15 @@
+use Rattle.std.proofs.Common.{length, ◌-◌, ◌≡◌, ◌≤◌, take}
+use Rattle.ftp_base.specs.Outside.{Writes}
+use Rattle.ftp_transfer.proofs.send.send.Given as goal
+
+-- what went so far is the front of the bytes
+abbrev pub invariant-loop-sent : goal.invariant-loop-sent
+invariant-loop-sent g l =
+    (l.sent ≤ length l.bytes)
+    × Writes (g.L.Source.sending l.fn.link).sent (g.L.Source.sending l.link).sent (take l.sent l.bytes)
+    × (g.L.Source.left l.link ≡ g.L.Source.left l.fn.link)
+    × ((g.L.Source.sending l.link).closed ≡ (g.L.Source.sending l.fn.link).closed)
+    × (g.L.Source.faults l.fn.link ≤ g.L.Source.faults l.link)
+
+abbrev pub decreases-loop-sent : goal.decreases-loop-sent
+decreases-loop-sent g l = length l.bytes - l.sent

@@ -1,0 +1,24 @@
+use Rattle.std.proofs.Common.{◌≡◌, ◌∙◌, sym, refl, Some}
+use Rattle.std.specs.Prelude.{IsSome}
+use Rattle.ftp_base.specs.declared.error_kind.ErrorKind.{ErrorKind}
+use Rattle.ftp_base.specs.Outside.{HasRisen}
+use Rattle.ftp_base.specs.Storage.{Files, Metadata}
+use Rattle.ftp_transfer.specs.Run.{RefusedFirst}
+use Rattle.ftp_transfer.proofs.RunLemmas.{HasRisen_later, RefusedFirst_more}
+use Rattle.ftp_transfer.proofs.StoreLemmas.{append_place-start, append_refusal-begin}
+use Rattle.ftp_transfer.proofs.store.append.Goals as goal
+
+pub returns-in-Ok-clause-refused : goal.returns-in-Ok-clause-refused
+returns-in-Ok-clause-refused g c =
+    let refused = rw (c.metadata.ensures.unchanged, c.metadata.ensures.same_meaning) at c.store.ensures.refused in
+    let rose = HasRisen_later _ _ _ c.metadata.ensures.count c.store.ensures.storage_count in
+    append_refusal-begin (g.S.Storage.files c.args.storage.now) (g.S.Storage.meaning c.args.storage.now) c.args.job.now.user c.args.job.now.path c.in-Ok.start
+    (λ (f : Files) (k : ErrorKind). RefusedFirst (HasRisen (g.S.Storage.faults c.metadata.new.self) (g.S.Storage.faults c.store.new.storage)) k c.store.result.bytes c.store.result.result × (g.S.Storage.files c.store.new.storage ≡ Some f))
+    (λ (f : Files) (k : ErrorKind). RefusedFirst (HasRisen (g.S.Storage.faults c.args.storage.now) (g.S.Storage.faults c.store.new.storage)) k c.store.result.bytes c.store.result.result × (g.S.Storage.files c.store.new.storage ≡ Some f))
+    (λ f k h. (RefusedFirst_more _ _ k c.store.result.bytes c.store.result.result rose h.0, h.1))
+    (λ f told.
+    append_place-start f c.args.job.now.path (g.S.Storage.meaning c.args.storage.now (Metadata c.args.job.now.user c.args.job.now.path)) c.metadata.result c.in-Ok.start
+    (c.metadata.ensures.refused (rw told refl))
+    (rw told at c.metadata.ensures.found)
+    (sym c.start_after.ensures ∙ c.in-Ok.is))
+    refused

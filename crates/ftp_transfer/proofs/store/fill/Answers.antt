@@ -1,0 +1,25 @@
+use Rattle.std.proofs.Common.{◌≡◌, ◌≤◌, ◌+◌, ◌∙◌, arith, rules, refl}
+use Rattle.ftp_transfer.proofs.StoreLemmas.{GrowsFront-told, TakesFront-told, TakesFront-whole}
+use Rattle.ftp_transfer.proofs.store.fill.Goals as goal
+
+pub returns-in-Some-clause-whole : goal.returns-in-Some-clause-whole
+returns-in-Some-clause-whole g c written =
+    let none : c.store_piece-turn.result.bytes ≡ 0 = c.store_piece-turn.ensures.last (search rules) in
+    let sum : c.pieces.moved + c.store_piece-turn.result.bytes ≡ c.pieces.moved = omega arith in
+    let whole = rw c.in-Some.is at c.store_piece-turn.ensures.whole in
+    let end = whole (rw c.outcome.ensures at written) in
+    rw c.outcome.ensures
+    (rw sum
+    (TakesFront-whole (g.L.Source.left c.args.link.now) (g.L.Source.left c.pieces.link) (g.L.Source.left c.store_piece-turn.new.link) c.pieces.moved c.pieces.invariant.taken end))
+
+pub pieces-preserved : goal.pieces-preserved
+pieces-preserved g c =
+    record {
+      grown = GrowsFront-told (g.S.Storage.files c.args.storage.now) (g.S.Storage.files c.pieces.storage) (g.S.Storage.files c.store_piece-turn.new.storage) c.args.job.now.path (g.L.Source.left c.args.link.now) (g.L.Source.left c.pieces.link) c.pieces.moved c.store_piece-turn.result.bytes c.pieces.invariant.grown c.pieces.invariant.taken c.store_piece-turn.ensures.grown;
+      taken = TakesFront-told (g.L.Source.left c.args.link.now) (g.L.Source.left c.pieces.link) (g.L.Source.left c.store_piece-turn.new.link) c.pieces.moved c.store_piece-turn.result.bytes c.pieces.invariant.taken (c.store_piece-turn.ensures.taken (search rules));
+      told = λ told. c.store_piece-turn.ensures.told (c.pieces.invariant.told told);
+      sent = c.store_piece-turn.ensures.sent ∙ c.pieces.invariant.sent;
+      closed = c.store_piece-turn.ensures.closed ∙ c.pieces.invariant.closed;
+      storage_count = omega (arith, c.store_piece-turn.ensures.storage_count);
+      link_count = omega (arith, c.store_piece-turn.ensures.link_count);
+    }

@@ -1,0 +1,19 @@
+use Rattle.std.proofs.Common.{◌≡◌, ◌≤◌, ◌-◌, ◌^◌, drop, Some}
+use Rattle.std.specs.Prelude.{IsSome, IfSome}
+use Rattle.ftp_transfer.specs.Run.{GrowsFront, TakesFront}
+use Rattle.ftp_transfer.proofs.store.fill.Given as goal
+
+-- what moved so far is the front of what the link gave, and stands at the end of the file
+abbrev pub invariant-pieces : goal.invariant-pieces
+invariant-pieces g l = record {
+  grown : IfSome (g.S.Storage.files l.fn.storage) (λ f. IfSome (g.L.Source.left l.fn.link) (λ input. GrowsFront f (g.S.Storage.files l.storage) l.job.path input l.moved));
+  taken : IfSome (g.L.Source.left l.fn.link) (λ input. TakesFront input (g.L.Source.left l.link) l.moved);
+  told : IsSome (g.S.Storage.files l.fn.storage) → IsSome (g.S.Storage.files l.storage);
+  sent : (g.L.Source.sending l.link).sent ≡ (g.L.Source.sending l.fn.link).sent;
+  closed : (g.L.Source.sending l.link).closed ≡ (g.L.Source.sending l.fn.link).closed;
+  storage_count : g.S.Storage.faults l.fn.storage ≤ g.S.Storage.faults l.storage;
+  link_count : g.L.Source.faults l.fn.link ≤ g.L.Source.faults l.link;
+}
+
+abbrev pub decreases-pieces : goal.decreases-pieces
+decreases-pieces g l = 2 ^ 64 - l.moved

@@ -1,0 +1,122 @@
+-- What a run of a job leaves, by what the storage and the link told before and after it.
+use Rattle.std.specs.Prelude.{◌≡◌, ◌⊎◌, ℕ, ◌+◌, ◌-◌, ◌^◌, ◌<◌, ◌≤◌, Bool, true, false, List, [], length, take, drop, Option, Some, None, IsSome, IfSome}
+use Rattle.std.specs.Option.{option_map}
+use Rattle.ftp_base.specs.declared.command.DataChanCmd.{DataChanCmd}
+use Rattle.ftp_base.specs.declared.command.DataChanCmd.TheVariants as command
+use Rattle.ftp_base.specs.declared.error_kind.ErrorKind.{ErrorKind}
+use Rattle.ftp_base.specs.declared.error_kind.ErrorKind.TheVariants as kind
+use Rattle.ftp_base.specs.Outside.{HasRisen, Writes, Sending}
+use Rattle.ftp_base.specs.Storage.{Files, Meaning, Call, Listing, ReadAt, Begin, get, old_bytes, listing}
+use Rattle.ftp_transfer.specs.declared.job.Job.{Job}
+use Rattle.ftp_transfer.specs.declared.job.Outcome.{Outcome}
+use Rattle.ftp_transfer.specs.declared.job.Completion.{Completion}
+use Rattle.ftp_transfer.specs.declared.job.Completion.TheVariants as result
+use Rattle.ftp_transfer.specs.Listing.{listing_text}
+use Rattle.ftp_transfer.specs.Run.{Caused, RefusedFirst, Stores, RefusesStore, Appends, RefusesAppe, append_refusal}
+use Rattle.ftp_transfer.specs.Transfer.{is_store}
+
+-- what a storage and a link tell, and their counts of faults
+pub record Told : Type 0 where
+  pub files : Option Files
+  pub meaning : Meaning
+  pub storage_faults : ℕ
+  pub left : Option (List ℕ)
+  pub sending : Sending
+  pub link_faults : ℕ
+
+abbrev pub told : Option Files → Meaning → ℕ → Option (List ℕ) → Sending → ℕ → Told
+told files meaning storage_faults left sending link_faults =
+    record { files = files; meaning = meaning; storage_faults = storage_faults; left = left; sending = sending; link_faults = link_faults }
+
+-- what a command sends whole: a RETR the file from the offset on, a listing its text, and a STOR and an APPE nothing
+abbrev pub due_of : DataChanCmd → Files → List ℕ → ℕ → List ℕ
+due_of (command.Retr _) files path offset = get (old_bytes files path) offset
+due_of (command.Stor _) files path offset = []
+due_of (command.Appe _) files path offset = []
+due_of (command.List o p) files path offset = listing_text (command.List o p) (listing files path)
+due_of (command.Nlst p) files path offset = listing_text (command.Nlst p) (listing files path)
+due_of (command.Mlsd p) files path offset = listing_text (command.Mlsd p) (listing files path)
+
+-- what a job sends whole
+abbrev pub due : Job → Files → List ℕ
+due job files = due_of job.command files job.path job.offset
+
+-- what a command stores of the input: a STOR at the offset, an APPE behind the file
+abbrev pub StoresAs : DataChanCmd → Job → Files → Meaning → Option Files → List ℕ → Outcome → Type 0
+StoresAs (command.Stor _) job files meaning new input outcome = Stores files new job.path job.offset input outcome
+StoresAs (command.Appe _) job files meaning new input outcome = Appends meaning job.user files new job.path input outcome
+StoresAs _ job files meaning new input outcome = new ≡ Some files
+
+-- what a listing answers for a refusal: NLST turns each
+abbrev pub shown_refusal : DataChanCmd → ErrorKind → ErrorKind
+shown_refusal (command.Nlst _) k = kind.PermanentDirectoryNotAvailable
+shown_refusal _ k = k
+
+-- the storage refuses to list
+abbrev pub RefusesListing : DataChanCmd → Meaning → List ℕ → List ℕ → ErrorKind → Type 0
+RefusesListing c meaning user path k =
+    (refusal : ErrorKind) × (meaning (Listing user path) ≡ Some refusal) × (k ≡ shown_refusal c refusal)
+
+-- the storage's meaning refuses a call of the command that counts, before the run or where it ended after m bytes
+abbrev pub Refuses : DataChanCmd → Job → Files → Meaning → Meaning → Option (List ℕ) → ℕ → ErrorKind → Type 0
+Refuses (command.Retr _) job files old new rest m k = old (ReadAt job.user job.path (job.offset + m)) ≡ Some k
+Refuses (command.Stor _) job files old new rest m k = RefusesStore old new job.user job.path job.offset rest m k
+Refuses (command.Appe _) job files old new rest m k =
+    RefusesAppe old new job.user job.path (length (old_bytes files job.path)) rest m k
+Refuses c job files old new rest m k = RefusesListing c old job.user job.path k
+
+-- how the meaning refuses the first call of the command that counts
+abbrev pub first_refusal : DataChanCmd → Job → Files → Meaning → Option ErrorKind
+first_refusal (command.Retr _) job files meaning = meaning (ReadAt job.user job.path job.offset)
+first_refusal (command.Stor _) job files meaning = meaning (Begin job.user job.path job.offset)
+first_refusal (command.Appe _) job files meaning = append_refusal meaning job.user job.path (length (old_bytes files job.path))
+first_refusal c job files meaning = option_map (shown_refusal c) (meaning (Listing job.user job.path))
+
+-- all that is due was sent
+abbrev pub IsSentWhole : Completion → Type 0
+IsSentWhole result.Sent = Unit {0}
+IsSentWhole result.Listed = Unit {0}
+IsSentWhole _ = ⊥
+
+-- what a run moved, what it left, and why it ended
+pub record Moves (job : Job) (old new : Told) (outcome : Outcome) : Type 0 where
+  -- what was sent is the front of what is due, and all of it where the result says so
+  pub sent : IfSome old.files (λ f. Writes old.sending.sent new.sending.sent (take outcome.bytes (due job f)))
+  pub within : is_store job.command ≡ false → IfSome old.files (λ f. outcome.bytes ≤ length (due job f))
+  pub whole : IsSentWhole outcome.result → IfSome old.files (λ f. outcome.bytes ≡ length (due job f))
+  -- a store sends nothing, and every other command stores and takes nothing
+  pub silent : is_store job.command ≡ true → new.sending.sent ≡ old.sending.sent
+  pub kept : is_store job.command ≡ false → (new.files ≡ old.files) × (new.left ≡ old.left)
+  -- what was stored is the front of the input, and all of it where the result says so
+  pub stored : IfSome old.files (λ f. IfSome old.left (λ l. StoresAs job.command job f old.meaning new.files l outcome))
+  pub written : outcome.result ≡ result.Written → IfSome old.left (λ l. (outcome.bytes ≡ length l) × (new.left ≡ Some []))
+  -- why it ended
+  pub cause : Caused (HasRisen old.link_faults new.link_faults) new.sending.last_fault (HasRisen old.storage_faults new.storage_faults) (λ k. IfSome old.files (λ f. Refuses job.command job f old.meaning new.meaning (option_map (drop outcome.bytes) old.left) outcome.bytes k)) outcome.bytes outcome.result outcome.fault
+  -- a refusal of the first call is the result, and then nothing is stored
+  pub refused : IfSome old.files (λ f. IfSome (first_refusal job.command job f old.meaning) (λ k. RefusedFirst (HasRisen old.storage_faults new.storage_faults) k outcome.bytes outcome.result × (new.files ≡ Some f)))
+
+-- a run of a job, after which the link is closed or failed
+pub record Ran (job : Job) (old new : Told) (outcome : Outcome) : Type 0 where
+  pub moves : Moves job old new outcome
+  pub closed : (new.sending.closed ≡ true) ⊎ HasRisen old.link_faults new.link_faults
+
+-- the storage's meaning refuses nothing
+abbrev pub RefusesNothing : Meaning → Type 0
+RefusesNothing meaning = (call : Call) → meaning call ≡ None
+
+-- the command did what it was asked for
+abbrev pub IsDone : Completion → Type 0
+IsDone result.Sent = Unit {0}
+IsDone result.Written = Unit {0}
+IsDone result.Listed = Unit {0}
+IsDone _ = ⊥
+
+-- nothing was refused, no call failed, memory was found, and the byte count is below its end
+pub record IsClean (files : Option Files) (old new : Meaning) (storage_rose link_rose : Type 0) (outcome : Outcome) : Type 0 where
+  pub tells : IsSome files
+  pub before : RefusesNothing old
+  pub after : RefusesNothing new
+  pub storage : storage_rose → ⊥
+  pub link : link_rose → ⊥
+  pub memory : outcome.result ≡ result.OutOfMemory → ⊥
+  pub count : outcome.bytes < 2 ^ 64 - 1

@@ -1,0 +1,99 @@
+-- What a run of a job sends and stores, and why it ends.
+--   m        how many bytes moved
+--   due f j  what job j sends of the files f
+use Rattle.std.specs.Prelude.{◌≡◌, ◌≢◌, ◌⊎◌, ℕ, ◌+◌, ◌-◌, ◌^◌, ◌<◌, ◌≤◌, Bool, true, false, List, [], ◌++◌, length, take, drop, Option, Some, None, IsSome, IfSome, IsSomeAnd, MatchOption}
+use Rattle.std.specs.Option.{option_map_or}
+use Rattle.ftp_base.specs.declared.command.DataChanCmd.{DataChanCmd}
+use Rattle.ftp_base.specs.declared.command.DataChanCmd.TheVariants as command
+use Rattle.ftp_base.specs.declared.error_kind.ErrorKind.{ErrorKind}
+use Rattle.ftp_base.specs.declared.error_kind.ErrorKind.TheVariants as kind
+use Rattle.ftp_base.specs.declared.fault.LinkFault.{LinkFault}
+use Rattle.ftp_base.specs.Outside.{Writes}
+use Rattle.ftp_base.specs.Storage.{Files, Meaning, Metadata, Begin, Append, contents, with_file, old_bytes, get, put}
+use Rattle.ftp_transfer.specs.declared.job.Outcome.{Outcome}
+use Rattle.ftp_transfer.specs.declared.job.Completion.{Completion}
+use Rattle.ftp_transfer.specs.declared.job.Completion.TheVariants as result
+
+-- the first n bytes of a text were sent
+abbrev pub SendsFront : List ℕ → ℕ → Option (List ℕ) → Option (List ℕ) → Type 0
+SendsFront text n old new = (n ≤ length text) × Writes old new (take n text)
+
+-- a run ended with a refusal: the storage failed, the byte count stands at its end, or the storage refuses so
+abbrev pub RefusedBy : Type 0 → (ErrorKind → Type 0) → ℕ → ErrorKind → Type 0
+RefusedBy storage_rose refuses bytes k =
+    ((k ≡ kind.LocalError) × (storage_rose ⊎ (bytes ≡ 2 ^ 64 - 1))) ⊎ refuses k
+
+-- why a run ended: where the link failed, the fault is what it met, and there is none otherwise
+abbrev pub Caused : Type 0 → Option LinkFault → Type 0 → (ErrorKind → Type 0) → ℕ → Completion → Option LinkFault → Type 0
+Caused link_rose last storage_rose refuses bytes result.WriteFailed fault = link_rose × (fault ≡ last)
+Caused link_rose last storage_rose refuses bytes (result.Refused k) fault =
+    ((k ≡ kind.ConnectionClosed) × link_rose × (fault ≡ last)) ⊎ ((fault ≡ None) × RefusedBy storage_rose refuses bytes k)
+Caused link_rose last storage_rose refuses bytes _ fault = fault ≡ None
+
+-- the refusal of a first call is the result, unless that call failed or memory ran out
+abbrev pub RefusedFirst : Type 0 → ErrorKind → ℕ → Completion → Type 0
+RefusedFirst storage_rose k bytes r =
+    (bytes ≡ 0) × ((r ≡ result.Refused k) ⊎ (r ≡ result.OutOfMemory) ⊎ (storage_rose × (r ≡ result.Refused kind.LocalError)))
+
+-- the first n bytes of the input were taken
+abbrev pub TakesFront : List ℕ → Option (List ℕ) → ℕ → Type 0
+TakesFront input later n = (n ≤ length input) × (later ≡ Some (drop n input))
+
+-- the first n bytes of the input were put at the end of the file at a path; no byte changes nothing
+abbrev pub GrowsFront : Files → Option Files → List ℕ → List ℕ → ℕ → Type 0
+GrowsFront files new path input n =
+    (n ≤ length input)
+    × (((n ≡ 0) × (new ≡ Some files))
+    ⊎ IsSomeAnd (contents files path) (λ had. new ≡ Some (with_file files path (had ++ take n input))))
+
+-- the storage refuses to append some next bytes of what the link gives, as many as one read can give
+abbrev pub RefusesAppend : Meaning → List ℕ → List ℕ → Option (List ℕ) → ErrorKind → Type 0
+RefusesAppend meaning user path rest k =
+    (piece : List ℕ)
+    × (0 < length piece)
+    × (length piece ≤ 8192)
+    × IfSome rest (λ l. (length piece ≤ length l) × (piece ≡ take (length piece) l))
+    × (meaning (Append user path piece) ≡ Some k)
+
+-- the storage refuses to begin, or to append some next bytes
+abbrev pub RefusesStore : Meaning → Meaning → List ℕ → List ℕ → ℕ → Option (List ℕ) → ℕ → ErrorKind → Type 0
+RefusesStore old new user path place rest m k =
+    ((m ≡ 0) × (old (Begin user path place) ≡ Some k)) ⊎ RefusesAppend new user path rest k
+
+-- the storage stopped a job, or memory ran out
+abbrev pub IsStopped : Completion → Type 0
+IsStopped (result.Refused k) = Unit {0}
+IsStopped result.OutOfMemory = Unit {0}
+IsStopped _ = ⊥
+
+-- nothing was begun
+abbrev pub NotBegun : Outcome → Type 0
+NotBegun outcome = (outcome.bytes ≡ 0) × (outcome.fault ≡ None) × IsStopped outcome.result
+
+-- the file is the old one with the first bytes of the input put at a place, or nothing was begun
+abbrev pub Stores : Files → Option Files → List ℕ → ℕ → List ℕ → Outcome → Type 0
+Stores files new path place input outcome =
+    (outcome.bytes ≤ length input)
+    × ((new ≡ Some (with_file files path (put (old_bytes files path) place (take outcome.bytes input))))
+    ⊎ ((new ≡ Some files) × NotBegun outcome))
+
+-- where an APPE begins: behind the file, at 0 where there is said to be none, and nowhere after another refusal
+abbrev pub append_place : Option ErrorKind → ℕ → Option ℕ
+append_place None len = Some len
+append_place (Some kind.PermanentFileNotAvailable) len = Some 0
+append_place (Some _) len = None
+
+-- the storage refuses metadata, to begin, or to append some next bytes
+abbrev pub RefusesAppe : Meaning → Meaning → List ℕ → List ℕ → ℕ → Option (List ℕ) → ℕ → ErrorKind → Type 0
+RefusesAppe old new user path len rest m k =
+    MatchOption (append_place (old (Metadata user path)) len) ((m ≡ 0) × (old (Metadata user path) ≡ Some k)) (λ place. RefusesStore old new user path place rest m k)
+
+-- the file is the old one with the first bytes of the input put behind it, or nothing was begun
+abbrev pub Appends : Meaning → List ℕ → Files → Option Files → List ℕ → List ℕ → Outcome → Type 0
+Appends meaning user files new path input outcome =
+    MatchOption (append_place (meaning (Metadata user path)) (length (old_bytes files path))) ((new ≡ Some files) × NotBegun outcome) (λ place. Stores files new path place input outcome)
+
+-- how the first call of an APPE is refused that counts
+abbrev pub append_refusal : Meaning → List ℕ → List ℕ → ℕ → Option ErrorKind
+append_refusal meaning user path len =
+    option_map_or (λ place. meaning (Begin user path place)) (append_place (meaning (Metadata user path)) len) (meaning (Metadata user path))

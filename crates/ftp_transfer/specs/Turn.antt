@@ -1,0 +1,48 @@
+-- What stops a turn.
+use Rattle.std.specs.Prelude.{◌≡◌, ◌⊎◌, ℕ, Option, None, Result, Ok, Err}
+use Rattle.ftp_base.specs.declared.command.DataChanCmd.{DataChanCmd}
+use Rattle.ftp_base.specs.declared.command.DataChanCmd.TheVariants as command
+use Rattle.ftp_base.specs.declared.fault.LinkFault.{LinkFault}
+use Rattle.ftp_base.specs.declared.error_kind.ErrorKind.{ErrorKind}
+use Rattle.ftp_base.specs.declared.error_kind.ErrorKind.TheVariants as kind
+use Rattle.ftp_base.specs.declared.storage.Meta.{Meta}
+use Rattle.ftp_base.specs.declared.storage.StoreError.{StoreError}
+use Rattle.ftp_base.specs.declared.storage.StoreError.TheVariants.{Kind, Failed, OutOfMemory}
+use Rattle.ftp_transfer.specs.declared.job.Completion.{Completion}
+use Rattle.ftp_transfer.specs.declared.job.Completion.TheVariants as result
+
+-- the result of a transfer that a storage stopped
+abbrev pub completion_of : StoreError → Completion
+completion_of (Kind k) = result.Refused k
+completion_of Failed = result.Refused kind.LocalError
+completion_of OutOfMemory = result.OutOfMemory
+
+-- a link failed, or found no memory, as bytes of a file were sent
+abbrev pub StopsSending : Type 0 → Option LinkFault → Completion → Option LinkFault → Type 0
+StopsSending link_rose last r fault =
+    ((r ≡ result.Refused kind.ConnectionClosed) × link_rose × (fault ≡ last)) ⊎ ((r ≡ result.OutOfMemory) × (fault ≡ None))
+
+-- a storage failed, refused, or found no memory
+abbrev pub StopsStoring : Type 0 → (ErrorKind → Type 0) → Completion → Type 0
+StopsStoring storage_rose refuses r =
+    ((r ≡ result.Refused kind.LocalError) × storage_rose)
+    ⊎ ((k : ErrorKind) × (r ≡ result.Refused k) × refuses k)
+    ⊎ (r ≡ result.OutOfMemory)
+
+-- where an APPE begins after an answer of metadata, or how it ends
+abbrev pub start_after : Result Meta StoreError → Result ℕ Completion
+start_after (Ok meta) = Ok meta.len
+start_after (Err (Kind kind.PermanentFileNotAvailable)) = Ok 0
+start_after (Err e) = Err (completion_of e)
+
+-- a link failed, or found no memory, as a listing was sent
+abbrev pub StopsListing : Type 0 → Option LinkFault → Completion → Option LinkFault → Type 0
+StopsListing link_rose last r fault =
+    ((r ≡ result.Listed) × (fault ≡ None))
+    ⊎ ((r ≡ result.WriteFailed) × link_rose × (fault ≡ last))
+    ⊎ ((r ≡ result.OutOfMemory) × (fault ≡ None))
+
+-- how a listing ends that the storage stopped: NLST turns each refusal
+abbrev pub listing_end : DataChanCmd → StoreError → Completion
+listing_end (command.Nlst path) (Kind k) = result.Refused kind.PermanentDirectoryNotAvailable
+listing_end c e = completion_of e

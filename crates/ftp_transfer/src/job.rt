@@ -1,0 +1,67 @@
+//! Jobs, and what became of them.
+
+ghost use Rattle.std.specs.Prelude.{◌≡◌};
+ghost use Rattle.ftp_transfer.specs.Transfer.{suits};
+
+use ftp_base::{Bytes, DataChanCmd, ErrorKind, LinkFault};
+
+/// Names a transfer: those of a session are numbered from 1.
+#[derive(Clone, Copy, Debug, PartialEq, Eq)]
+pub struct Ticket {
+    pub session: u64,
+    pub nr: u64,
+}
+
+/// A transfer, as it was fixed when it was asked for.
+#[derive(Debug, Drop)]
+pub struct Job {
+    pub ticket: Ticket,
+    pub user: Bytes,
+    pub command: DataChanCmd,
+    /// The file or the directory.
+    pub path: Bytes,
+    /// Where a RETR or a STOR begins, in bytes.
+    pub offset: u64,
+    /// The link's number.
+    pub number: u64,
+}
+
+/// How a transfer ended.
+#[derive(Clone, Copy, Debug, PartialEq, Eq)]
+pub enum Completion {
+    Sent,
+    Written,
+    Listed,
+    /// A listing could not be sent.
+    WriteFailed,
+    Refused(ErrorKind),
+    OutOfMemory,
+}
+
+#[derive(Clone, Copy, Debug, PartialEq, Eq)]
+pub struct Outcome {
+    pub result: Completion,
+    /// How many bytes moved, also where the transfer did not succeed.
+    pub bytes: u64,
+    /// What the link met, where that ended the transfer.
+    pub fault: Option<LinkFault>,
+}
+
+impl Outcome {
+    /// Says whether the command can end so.
+    pub fn suits(&self, command: &DataChanCmd) -> bool
+        ensures { result ≡ suits self.now.result command.now }
+    {
+        match self.result {
+            Completion::Sent => matches!(command, DataChanCmd::Retr { .. }),
+            Completion::Written => {
+                matches!(command, DataChanCmd::Stor { .. } | DataChanCmd::Appe { .. })
+            }
+            Completion::Listed | Completion::WriteFailed => matches!(
+                command,
+                DataChanCmd::List { .. } | DataChanCmd::Nlst { .. } | DataChanCmd::Mlsd { .. }
+            ),
+            Completion::Refused(_) | Completion::OutOfMemory => true,
+        }
+    }
+}

@@ -1,0 +1,55 @@
+//! Paths that commands name.
+
+ghost use Rattle.std.specs.Prelude.{◌≡◌, IfOk};
+ghost use Rattle.ftp_transfer.specs.Path.{join_path as joined, with_slash};
+
+use ftp_base::Bytes;
+use std::alloc::{AllocError, Global};
+
+/// Where an argument leads from a directory. Nothing is resolved: `..` stays as it is.
+pub fn join_path(alloc: Global, cwd: &Bytes, arg: &Bytes) -> Result<Bytes, AllocError>
+    ensures { IfOk result (λ path. path ≡ joined cwd.now arg.now) }
+{
+    if let Some(b'/') = arg.as_slice().first() {
+        return arg.copy(alloc);
+    }
+    let mut path = directory(alloc, cwd.as_slice())?;
+    path.extend_from_slice(arg.as_slice())?;
+    Ok(Bytes::from_vec(path))
+}
+
+/// Copies a directory's path, ended by a slash.
+fn directory(alloc: Global, dir: &[u8]) -> Result<Vec<u8>, AllocError>
+    ensures { IfOk result (λ path. path.items ≡ with_slash dir.now) }
+{
+    let mut path = Vec::from_slice(alloc, dir)?;
+    if let Some(b'/') = dir.last() {
+        return Ok(path);
+    }
+    path.push(b'/')?;
+    Ok(path)
+}
+
+#[cfg(test)]
+mod tests {
+    use super::*;
+    use std::test::Fail;
+
+    #[test]
+    fn an_argument_leads_from_a_directory(rt: HostRuntime) -> Result<(), Fail> {
+        let rows: [(&[u8], &[u8], &[u8]); 5] = [
+            (b"/uploads", b"a", b"/uploads/a"),
+            (b"/uploads", b"../a", b"/uploads/../a"),
+            (b"/", b"a", b"/a"),
+            (b"/uploads", b"/a", b"/a"),
+            (b"/uploads", b"", b"/uploads/"),
+        ];
+        for (cwd, arg, joined) in rows {
+            let cwd = Bytes::from_slice(rt.alloc(), cwd)?;
+            let arg = Bytes::from_slice(rt.alloc(), arg)?;
+            let path = join_path(rt.alloc(), &cwd, &arg)?;
+            assert_eq!(rt; path.as_slice(), joined);
+        }
+        Ok(())
+    }
+}

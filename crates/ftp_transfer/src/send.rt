@@ -1,0 +1,43 @@
+//! Bytes that are sent whole.
+
+ghost use Rattle.std.specs.Prelude.{◌≡◌, ◌≤◌, false, length, take, Some, None};
+ghost use Rattle.ftp_base.specs.declared.fault.Failed.TheVariants.{Fault, Memory};
+ghost use Rattle.ftp_base.specs.Outside.{HasRisen, Writes};
+
+use ftp_base::{Failed, Link};
+
+/// How many bytes went, and why not all of them, where they did not.
+#[derive(Clone, Copy, Debug, PartialEq, Eq)]
+pub struct SendResult {
+    pub sent: usize,
+    pub stopped: Option<Failed>,
+}
+
+/// Sends bytes from the front until all of them went, or the link does not take more.
+pub fn send<L: Link>(link: &mut L, bytes: &[u8]) -> SendResult
+    ensures within { result.sent ≤ length bytes.now }
+    ensures all { result.stopped ≡ None → result.sent ≡ length bytes.now }
+    ensures wrote { Writes (L.sending link.old).sent (L.sending link.new).sent (take result.sent bytes.now) }
+    ensures left { L.left link.new ≡ L.left link.old }
+    ensures closed { (L.sending link.new).closed ≡ (L.sending link.old).closed }
+    ensures fault_rose { result.stopped ≡ Some Fault → HasRisen (L.faults link.old) (L.faults link.new) }
+    ensures no_memory { L.takes_memory ≡ false → result.stopped ≡ Some Memory → ⊥ }
+    ensures count { L.faults link.old ≤ L.faults link.new }
+{
+    let mut sent = 0;
+    while sent < bytes.len() {
+        match link.write(&bytes[sent..]) {
+            Ok(n) => sent += n,
+            Err(failed) => {
+                return SendResult {
+                    sent,
+                    stopped: Some(failed),
+                };
+            }
+        }
+    }
+    SendResult {
+        sent,
+        stopped: None,
+    }
+}

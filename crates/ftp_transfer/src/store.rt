@@ -1,0 +1,162 @@
+//! STOR and APPE (RFC 959, section 4.1.3): what the link gives goes to the end of a file.
+
+ghost use Rattle.std.specs.Prelude.{◌≡◌, ◌≢◌, ◌+◌, ◌-◌, ◌^◌, ◌<◌, ◌≤◌, true, [], length, drop, Some, None, IsSome, IsNone, IfSome};
+ghost use Rattle.std.specs.Option.{option_map};
+ghost use Rattle.ftp_base.specs.Outside.{HasRisen};
+ghost use Rattle.ftp_base.specs.Storage.{Begin, Append, Grows, old_bytes};
+ghost use Rattle.ftp_transfer.specs.declared.job.Completion.TheVariants as done;
+ghost use Rattle.ftp_transfer.specs.Run.{Caused, RefusedFirst, GrowsFront, RefusesAppend, TakesFront, Stores, RefusesStore, Appends, RefusesAppe, append_refusal};
+ghost use Rattle.ftp_transfer.specs.Transfer.{is_store, suits};
+ghost use Rattle.ftp_transfer.specs.Turn.{StopsStoring, start_after};
+
+use crate::job::{Completion, Job, Outcome};
+use crate::turn::{PIECE_LEN, Turn, nothing_moved, piece_room, stopped_by};
+use ftp_base::{ErrorKind, Link, Meta, Storage, StoreError};
+
+/// Puts what the link gives, up to its end, at a place of the file.
+pub fn store<S: Storage, L: Link>(job: &Job, start: u64, storage: &mut S, link: &mut L) -> Outcome
+    requires command { is_store job.now.command ≡ true }
+
+    ensures stored { IfSome (S.files storage.old) (λ f. IfSome (L.left link.old) (λ l. Stores f (S.files storage.new) job.now.path start l result)) }
+    ensures within { IfSome (L.left link.old) (λ l. result.bytes ≤ length l) }
+    ensures whole { result.result ≡ done.Written → IfSome (L.left link.old) (λ l. (result.bytes ≡ length l) × (L.left link.new ≡ Some [])) }
+
+    ensures suits { suits result.result job.now.command ≡ true }
+    ensures cause { Caused (HasRisen (L.faults link.old) (L.faults link.new)) (L.sending link.new).last_fault (HasRisen (S.faults storage.old) (S.faults storage.new)) (λ k. IfSome (S.files storage.old) (λ f. RefusesStore (S.meaning storage.old) (S.meaning storage.new) job.now.user job.now.path start (option_map (drop result.bytes) (L.left link.old)) result.bytes k)) result.bytes result.result result.fault }
+    ensures refused { IfSome (S.files storage.old) (λ f. IfSome (S.meaning storage.old (Begin job.now.user job.now.path start)) (λ k. RefusedFirst (HasRisen (S.faults storage.old) (S.faults storage.new)) k result.bytes result.result × (S.files storage.new ≡ Some f))) }
+
+    ensures sent { (L.sending link.new).sent ≡ (L.sending link.old).sent }
+    ensures closed { (L.sending link.new).closed ≡ (L.sending link.old).closed }
+    ensures storage_count { S.faults storage.old ≤ S.faults storage.new }
+    ensures link_count { L.faults link.old ≤ L.faults link.new }
+{
+    match storage.begin(&job.user, &job.path, start) {
+        Ok(()) => fill(job, storage, link),
+        Err(error) => nothing_moved(stopped_by(error)),
+    }
+}
+
+/// Puts what the link gives, up to its end, behind the file.
+pub fn append<S: Storage, L: Link>(job: &Job, storage: &mut S, link: &mut L) -> Outcome
+    requires command { is_store job.now.command ≡ true }
+
+    ensures stored { IfSome (S.files storage.old) (λ f. IfSome (L.left link.old) (λ l. Appends (S.meaning storage.old) job.now.user f (S.files storage.new) job.now.path l result)) }
+    ensures within { IfSome (L.left link.old) (λ l. result.bytes ≤ length l) }
+    ensures whole { result.result ≡ done.Written → IfSome (L.left link.old) (λ l. (result.bytes ≡ length l) × (L.left link.new ≡ Some [])) }
+
+    ensures suits { suits result.result job.now.command ≡ true }
+    ensures cause { Caused (HasRisen (L.faults link.old) (L.faults link.new)) (L.sending link.new).last_fault (HasRisen (S.faults storage.old) (S.faults storage.new)) (λ k. IfSome (S.files storage.old) (λ f. RefusesAppe (S.meaning storage.old) (S.meaning storage.new) job.now.user job.now.path (length (old_bytes f job.now.path)) (option_map (drop result.bytes) (L.left link.old)) result.bytes k)) result.bytes result.result result.fault }
+    ensures refused { IfSome (S.files storage.old) (λ f. IfSome (append_refusal (S.meaning storage.old) job.now.user job.now.path (length (old_bytes f job.now.path))) (λ k. RefusedFirst (HasRisen (S.faults storage.old) (S.faults storage.new)) k result.bytes result.result × (S.files storage.new ≡ Some f))) }
+
+    ensures sent { (L.sending link.new).sent ≡ (L.sending link.old).sent }
+    ensures closed { (L.sending link.new).closed ≡ (L.sending link.old).closed }
+    ensures storage_count { S.faults storage.old ≤ S.faults storage.new }
+    ensures link_count { L.faults link.old ≤ L.faults link.new }
+{
+    match start_after(storage.metadata(&job.user, &job.path)) {
+        Ok(start) => store(job, start, storage, link),
+        Err(completion) => nothing_moved(completion),
+    }
+}
+
+/// Where an APPE begins after an answer of metadata, or how it ends.
+fn start_after(found: Result<Meta, StoreError>) -> Result<u64, Completion>
+    ensures { result ≡ start_after found }
+{
+    match found {
+        Ok(meta) => Ok(meta.len),
+        Err(StoreError::Kind(ErrorKind::PermanentFileNotAvailable)) => Ok(0),
+        Err(error) => Err(stopped_by(error)),
+    }
+}
+
+/// Puts what the link gives, up to its end, behind what the file has.
+pub fn fill<S: Storage, L: Link>(job: &Job, storage: &mut S, link: &mut L) -> Outcome
+    requires command { is_store job.now.command ≡ true }
+
+    ensures grown { IfSome (S.files storage.old) (λ f. IfSome (L.left link.old) (λ l. GrowsFront f (S.files storage.new) job.now.path l result.bytes)) }
+    ensures within { IfSome (L.left link.old) (λ l. result.bytes ≤ length l) }
+    ensures whole { result.result ≡ done.Written → IfSome (L.left link.old) (λ l. (result.bytes ≡ length l) × (L.left link.new ≡ Some [])) }
+
+    ensures suits { suits result.result job.now.command ≡ true }
+    ensures cause { Caused (HasRisen (L.faults link.old) (L.faults link.new)) (L.sending link.new).last_fault (HasRisen (S.faults storage.old) (S.faults storage.new)) (λ k. IsSome (S.files storage.old) → RefusesAppend (S.meaning storage.new) job.now.user job.now.path (option_map (drop result.bytes) (L.left link.old)) k) result.bytes result.result result.fault }
+
+    ensures sent { (L.sending link.new).sent ≡ (L.sending link.old).sent }
+    ensures closed { (L.sending link.new).closed ≡ (L.sending link.old).closed }
+    ensures storage_count { S.faults storage.old ≤ S.faults storage.new }
+    ensures link_count { L.faults link.old ≤ L.faults link.new }
+{
+    let mut buffer = [0; PIECE_LEN];
+    let mut moved: u64 = 0;
+    'pieces: loop {
+        let turn = store_piece(job, moved, &mut buffer, storage, link);
+        moved += turn.bytes;
+        if let Some(end) = turn.end {
+            return end.outcome(moved);
+        }
+    }
+}
+
+/// Appends what one read of the link gives, where so many bytes moved before.
+pub fn store_piece<S: Storage, L: Link>(
+    job: &Job,
+    moved: u64,
+    buffer: &mut [u8],
+    storage: &mut S,
+    link: &mut L,
+) -> Turn
+    requires buffer { length buffer.old ≡ PIECE_LEN }
+    requires command { is_store job.now.command ≡ true }
+
+    ensures some { IsNone result.end → 0 < result.bytes }
+    ensures within { result.bytes ≤ PIECE_LEN }
+    ensures in_range { moved + result.bytes < 2 ^ 64 }
+    ensures grown { IfSome (S.files storage.old) (λ f. IfSome (L.left link.old) (λ l. GrowsFront f (S.files storage.new) job.now.path l result.bytes)) }
+    ensures told { IsSome (S.files storage.old) → IsSome (S.files storage.new) }
+    ensures taken { IsNone result.end → IfSome (L.left link.old) (λ l. TakesFront l (L.left link.new) result.bytes) }
+    ensures last { IsSome result.end → result.bytes ≡ 0 }
+    ensures unchanged { IsSome result.end → S.files storage.new ≡ S.files storage.old }
+    ensures same_meaning { IsSome result.end → S.meaning storage.new ≡ S.meaning storage.old }
+    ensures whole { IfSome result.end (λ e. e.result ≡ done.Written → IfSome (L.left link.old) (λ l. (l ≡ []) × (L.left link.new ≡ Some []))) }
+
+    ensures suits { IfSome result.end (λ e. suits e.result job.now.command ≡ true) }
+    ensures cause { IfSome result.end (λ e. Caused (HasRisen (L.faults link.old) (L.faults link.new)) (L.sending link.new).last_fault (HasRisen (S.faults storage.old) (S.faults storage.new)) (λ k. IsSome (S.files storage.old) → RefusesAppend (S.meaning storage.new) job.now.user job.now.path (L.left link.old) k) (moved + result.bytes) e.result e.fault) }
+
+    ensures sent { (L.sending link.new).sent ≡ (L.sending link.old).sent }
+    ensures closed { (L.sending link.new).closed ≡ (L.sending link.old).closed }
+    ensures storage_count { S.faults storage.old ≤ S.faults storage.new }
+    ensures link_count { L.faults link.old ≤ L.faults link.new }
+{
+    let room = piece_room(moved);
+    if room == 0 {
+        return Turn::last(0, Completion::Refused(ErrorKind::LocalError), None);
+    }
+    match link.read(&mut buffer[..room]) {
+        Ok(0) => Turn::last(0, Completion::Written, None),
+        Ok(n) => append_read(job, &buffer[..n], storage),
+        Err(_) => Turn::last(
+            0,
+            Completion::Refused(ErrorKind::ConnectionClosed),
+            link.last_fault(),
+        ),
+    }
+}
+
+/// Appends what was read of the link.
+fn append_read<S: Storage>(job: &Job, bytes: &[u8], storage: &mut S) -> Turn
+    requires some { 0 < length bytes.now }
+    requires within { length bytes.now ≤ PIECE_LEN }
+
+    ensures more { IsNone result.end → result.bytes ≡ length bytes.now }
+    ensures grown { IsNone result.end → Grows (S.files storage.old) (S.files storage.new) job.now.path bytes.now }
+    ensures last { IsSome result.end → result.bytes ≡ 0 }
+    ensures unchanged { IsSome result.end → S.files storage.new ≡ S.files storage.old }
+    ensures same_meaning { IsSome result.end → S.meaning storage.new ≡ S.meaning storage.old }
+    ensures refused { IfSome result.end (λ e. (e.fault ≡ None) × StopsStoring (HasRisen (S.faults storage.old) (S.faults storage.new)) (λ k. IsSome (S.files storage.old) → S.meaning storage.old (Append job.now.user job.now.path bytes.now) ≡ Some k) e.result) }
+    ensures storage_count { S.faults storage.old ≤ S.faults storage.new }
+{
+    match storage.append(&job.user, &job.path, bytes) {
+        Ok(()) => Turn::more(bytes.len() as u64),
+        Err(error) => Turn::last(0, stopped_by(error), None),
+    }
+}
