@@ -18,10 +18,15 @@ pub script_of-whole : script_of (options ++ codes "link 11 65536 - .\n0 pass 1")
 unfolding script_from item_of options_at link_at event_of event_word_field pass_at number_at small_at hex_field hex_of word_at digits
 script_of-whole = refl
 
--- skipped lines are counted, and nothing stands before the options
-pub script_of-no_options : script_of (codes "# a comment\n\nlink 11 65536 - .\n") ≡ (item.Skip ∷ item.Skip ∷ [], Some 3)
-unfolding script_from item_of link_at number_at small_at hex_field hex_of word_at digits
+-- skipped lines are counted, and an event needs the options
+pub script_of-no_options : script_of (codes "# a comment\n\n0 pass 1\n") ≡ (item.Skip ∷ item.Skip ∷ [], Some 3)
+unfolding script_from item_of event_of event_word_field pass_at number_at small_at word_at digits
 script_of-no_options = refl
+
+-- the options come before the links
+pub script_of-late_options : script_of (codes "# a comment\nlink 11 65536 - .\n" ++ options) ≡ (item.Skip ∷ item.Link 11 65536 [] ∷ [], Some 3)
+unfolding script_from item_of options_at link_at number_at small_at hex_field hex_of word_at digits
+script_of-late_options = refl
 
 -- a data connection needs its link
 pub script_of-no_link : script_of (options ++ codes "0 data 11 10.0.0.1:4001 50000\n") ≡ (item.Options 50000 50001 600 ∷ [], Some 2)

@@ -19,6 +19,11 @@ abbrev pub is_link : ℕ → Item → Bool
 is_link n (item.Link m chunk bytes) = n == m
 is_link n _ = false
 
+-- whether the item says something: its line is not skipped
+abbrev pub says : Item → Bool
+says item.Skip = false
+says _ = true
+
 -- whether the options are among these items
 abbrev pub has_options : List Item → Bool
 has_options items = list_any is_options items
@@ -32,12 +37,12 @@ abbrev pub is_covered : (ℕ → Bool) → EventKind → Bool
 is_covered linked (kind.DataIn n raw port) = linked n
 is_covered linked _ = true
 
--- whether the line of an item may stand behind the lines of these: the options come first, a link has a new number,
--- and the link of an event comes before it
+-- whether the line of an item may stand behind the lines of these: the options are the first that says something, a link
+-- has a new number, and an event comes behind the options and its link
 abbrev pub may_stand : List Item → Item → Bool
 may_stand before item.Skip = true
-may_stand before (item.Options lo hi idle) = not (has_options before)
-may_stand before (item.Link n chunk bytes) = has_options before && not (has_link n before)
+may_stand before (item.Options lo hi idle) = not (list_any says before)
+may_stand before (item.Link n chunk bytes) = not (has_link n before)
 may_stand before (item.Event e) = has_options before && is_covered (λ n. has_link n before) e.kind
 
 -- the item of a line behind these items, where the source has given so many bytes up to the line's end

@@ -1,6 +1,6 @@
 -- How far a script is read.
-use Rattle.std.specs.Prelude.{◌≡◌, ℕ, ◌≤◌, List, [], ◌∷◌, ◌++◌, length, Option, Some, None, Result, Ok, Err}
-use Rattle.ftp_stream.specs.Lines.{bytes_in, IsWithin, Rest, IsNext}
+use Rattle.std.specs.Prelude.{◌≡◌, ℕ, ◌≤◌, ◌⊎◌, true, List, [], ◌∷◌, ◌++◌, length, Option, Some, None, Result, Ok, Err}
+use Rattle.ftp_stream.specs.Lines.{bytes_in, IsWithin, Rest, HasNoFeed, IsNext}
 use Rattle.ftp_stream.specs.declared.lines.Span.{Span}
 use Rattle.ftp_stream.specs.declared.lines.LineError.TheVariants as line_error
 use Rattle.ftp_event_text.specs.declared.setup.Item.{Item}
@@ -9,7 +9,7 @@ use Rattle.ftp_script_text.specs.declared.script.ScriptError.{ScriptError}
 use Rattle.ftp_script_text.specs.declared.script.ScriptError.TheVariants as error
 use Rattle.ftp_script_text.specs.declared.script.Next.{Next}
 use Rattle.ftp_script_text.specs.declared.script.Next.TheVariants as next
-use Rattle.ftp_script_text.specs.Script.{script_behind}
+use Rattle.ftp_script_text.specs.Script.{may_stand, script_behind, script_of}
 use Rattle.ftp_script_text.specs.Admission.{Stands}
 
 -- the reader and its buffer belong together, and no more than the limit was read
@@ -19,21 +19,53 @@ pub record IsLawful (reader : ScriptReader) (buffer : List ℕ) : Type 0 where
   pub number : reader.number ≤ reader.taken
   pub small : reader.taken ≤ 16777216
 
--- these items of the script were read, and it goes on with what the buffer holds and what is left
-pub record HasRead (before : List Item) (script : List Item × Option ℕ) (reader : ScriptReader) (buffer : List ℕ) (left : Option (List ℕ)) : Type 0 where
-  pub number : reader.number ≡ length before
-  pub known : Stands reader.admission before
-  pub bytes : List ℕ
-  pub rest : Rest (bytes_in buffer reader.held) left bytes
-  pub same : script_behind before reader.taken bytes ≡ script
+-- the reader knows which lines may follow these items
+abbrev pub Follows : ScriptReader → List Item → Type 0
+Follows reader before = Stands reader.admission before
 
--- what is answered behind these items of the script: its next item, its end, or the number of its bad line
-abbrev pub Answers : List Item → List Item × Option ℕ → Result (Option Item) ScriptError → ScriptReader → List ℕ → Option (List ℕ) → Type 0
-Answers before script (Ok (Some i)) reader buffer left = HasRead (before ++ i ∷ []) script reader buffer left
-Answers before script (Ok None) reader buffer left = script ≡ (before, None)
-Answers before script (Err (error.BadLine k)) reader buffer left = script ≡ (before, Some k)
-Answers before script (Err error.Fault) reader buffer left = Unit {0}
-Answers before script (Err error.Memory) reader buffer left = Unit {0}
+-- nothing, or lines of which the last has its line feed
+abbrev pub EndsLine : List ℕ → Type 0
+EndsLine bytes = (bytes ≡ []) ⊎ ((front : List ℕ) × (bytes ≡ front ++ 10 ∷ []))
+
+-- the bytes that were read are whole lines, of which the last of all may lack its line feed
+abbrev pub AreWhole : List ℕ → List ℕ → Type 0
+AreWhole read rest = EndsLine read ⊎ (rest ≡ [])
+
+-- these items are those of the lines read, and the script goes on with what the buffer holds and what is left
+pub record HasRead (before : List Item) (all : List ℕ) (reader : ScriptReader) (buffer : List ℕ) (left : Option (List ℕ)) : Type 0 where
+  pub number : reader.number ≡ length before
+  pub known : Follows reader before
+  pub read : List ℕ
+  pub bytes : List ℕ
+  pub all_is : read ++ bytes ≡ all
+  pub rest : Rest (bytes_in buffer reader.held) left bytes
+  pub whole : AreWhole read bytes
+  pub items : script_of read ≡ (before, None)
+  pub same : script_of all ≡ script_behind before reader.taken bytes
+  pub open_end : ((more : List ℕ) → script_of (read ++ more) ≡ script_behind before reader.taken more) ⊎ (bytes ≡ [])
+
+-- whole lines of the bytes were read, with these items; behind them the begin of a line is held, and the rest is left
+pub record StopsBehind (before : List Item) (all : List ℕ) (left : Option (List ℕ)) : Type 0 where
+  pub read : List ℕ
+  pub held : List ℕ
+  pub rest : List ℕ
+  pub all_is : read ++ (held ++ rest) ≡ all
+  pub left_is : left ≡ Some rest
+  pub whole : AreWhole read (held ++ rest)
+  pub no_feed : HasNoFeed held
+  pub items : script_of read ≡ (before, None)
+
+-- what is answered behind these items of the script: its next item, its end, the number of its bad line, or a fault between lines
+abbrev pub Answers : List Item → List ℕ → Result (Option Item) ScriptError → ScriptReader → List ℕ → Option (List ℕ) → Type 0
+Answers before all (Ok (Some i)) reader buffer left = HasRead (before ++ i ∷ []) all reader buffer left
+Answers before all (Ok None) reader buffer left = (script_of all ≡ (before, None)) × (left ≡ Some [])
+Answers before all (Err (error.BadLine k)) reader buffer left = script_of all ≡ (before, Some k)
+Answers before all (Err error.Fault) reader buffer left = StopsBehind before all left
+Answers before all (Err error.Memory) reader buffer left = Unit {0}
+
+-- an item may stand behind these, and is then among them
+abbrev pub IsLetIn : List Item → Item → ScriptReader → Type 0
+IsLetIn before i reader = (may_stand before i ≡ true) × Follows reader (before ++ i ∷ [])
 
 -- the line that was found, or none
 abbrev pub next_of : Option Span → Next

@@ -1,9 +1,11 @@
 //! Which lines may follow those that were read.
 
-ghost use Rattle.std.specs.Prelude.{◌≡◌, ◌≤◌, List, [], IfOk, OnOk};
+ghost use Rattle.std.specs.Prelude.{◌≡◌, ℕ, ◌≤◌, List, [], IfOk, OnOk};
 ghost use Rattle.std.specs.Ordering.{nat_cmp};
 ghost use Rattle.std.specs.BTreeSet.{contains};
 ghost use Rattle.ftp_event_text.specs.declared.setup.Item.{Item};
+ghost use Rattle.ftp_event_text.specs.declared.setup.Item.TheVariants as item;
+ghost use Rattle.ftp_event_text.specs.Setup.{IsItem};
 ghost use Rattle.ftp_script_text.specs.Script.{is_covered};
 ghost use Rattle.ftp_script_text.specs.Admission.{Stands, LetsIn, GivesItem};
 
@@ -13,10 +15,12 @@ use ftp_text::LineFault;
 use std::alloc::Global;
 use std::collections::BTreeSet;
 
-/// What is kept of the lines of a script: whether the options came, and the numbers of the links.
+/// What is kept of the lines of a script: whether one said something, whether the options came, and the
+/// numbers of the links.
 #[derive(Drop)]
 pub struct Admission {
-    started: bool,
+    begun: bool,
+    has_options: bool,
     links: BTreeSet<u64>,
 }
 
@@ -26,7 +30,8 @@ impl Admission {
         ensures { Stands result [] }
     {
         Admission {
-            started: false,
+            begun: false,
+            has_options: false,
             links: BTreeSet::new(alloc),
         }
     }
@@ -34,6 +39,7 @@ impl Admission {
     /// The item of a line that may stand there. The source has given `taken` bytes up to the line's end.
     pub fn line(&mut self, alloc: Global, taken: usize, line: &[u8]) -> Result<Item, LineFault>
         ensures let_in { (before : List Item) → Stands self.old before → GivesItem before taken line.now result self.new }
+        ensures item { IfOk result IsItem }
         ensures limit { OnOk result (taken ≤ 16777216) }
     {
         if line.len() > 65536 || taken > 16_777_216 {
@@ -65,31 +71,37 @@ impl Admission {
         match item {
             Item::Skip => Ok(()),
             Item::Options { .. } => {
-                if self.started {
+                if self.begun {
                     return Err(LineFault::Bad);
                 }
-                self.started = true;
+                self.begun = true;
+                self.has_options = true;
                 Ok(())
             }
             Item::Link {
                 number,
                 chunk: _,
                 bytes: _,
-            } => {
-                if !self.started {
+            } => self.let_link_in(*number),
+            Item::Event(event) => {
+                if !self.has_options || !self.covers(&event.kind) {
                     return Err(LineFault::Bad);
                 }
-                let is_new = self.links.insert(*number)?;
-                if is_new { Ok(()) } else { Err(LineFault::Bad) }
-            }
-            Item::Event(event) => {
-                if self.started && self.covers(&event.kind) {
-                    Ok(())
-                } else {
-                    Err(LineFault::Bad)
-                }
+                self.begun = true;
+                Ok(())
             }
         }
+    }
+
+    // A link, where its number is new.
+    fn let_link_in(&mut self, number: u64) -> Result<(), LineFault>
+        ensures { (before : List Item) (chunk : ℕ) (bytes : List ℕ) → Stands self.old before → LetsIn before (item.Link number chunk bytes) result self.new }
+    {
+        if !self.links.insert(number)? {
+            return Err(LineFault::Bad);
+        }
+        self.begun = true;
+        Ok(())
     }
 
     // Whether the number that an event carries is linked.

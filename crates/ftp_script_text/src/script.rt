@@ -4,8 +4,8 @@ ghost use Rattle.std.specs.Prelude.{◌≡◌, ℕ, ◌<◌, ◌≤◌, ◌+◌,
 ghost use Rattle.ftp_base.specs.Outside.{HasRisen};
 ghost use Rattle.ftp_stream.specs.Lines.{bytes_in, behind_line, IsWithin};
 ghost use Rattle.ftp_event_text.specs.declared.setup.Item.{Item};
-ghost use Rattle.ftp_script_text.specs.Script.{script_of};
-ghost use Rattle.ftp_script_text.specs.ScriptReader.{IsLawful, HasRead, Answers, IfLine, IsFault, NextIs, next_of};
+ghost use Rattle.ftp_event_text.specs.Setup.{IsItem};
+ghost use Rattle.ftp_script_text.specs.ScriptReader.{IsLawful, Follows, HasRead, Answers, IsLetIn, IfLine, IsFault, NextIs, next_of};
 
 use crate::admission::Admission;
 use ftp_base::Source;
@@ -37,7 +37,8 @@ impl ScriptReader {
     /// Nothing is read.
     pub fn new(alloc: Global) -> ScriptReader
         ensures lawful { (buffer : List ℕ) → length buffer ≡ 65537 → IsLawful result buffer }
-        ensures start { (buffer bytes : List ℕ) → HasRead [] (script_of bytes) result buffer (Some bytes) }
+        ensures start { (buffer bytes : List ℕ) → HasRead [] bytes result buffer (Some bytes) }
+        ensures none { Follows result [] }
     {
         ScriptReader {
             admission: Admission::new(alloc),
@@ -55,8 +56,12 @@ impl ScriptReader {
         source: &mut S,
     ) -> Result<Option<Item>, ScriptError>
         requires lawful { IsLawful self.old buffer.old }
-        ensures told { (before : List Item) (script : List Item × Option ℕ) → HasRead before script self.old buffer.old (S.left source.old) →
-            Answers before script result self.new buffer.new (S.left source.new) }
+        ensures told { (before : List Item) (all : List ℕ) → HasRead before all self.old buffer.old (S.left source.old) →
+            Answers before all result self.new buffer.new (S.left source.new) }
+
+        // Whether or not the source tells its bytes, the item is lawful and may stand there.
+        ensures item { IfOk result (λ found. IfSome found IsItem) }
+        ensures let_in { (before : List Item) → Follows self.old before → IfOk result (λ found. IfSome found (λ i. IsLetIn before i self.new)) }
         ensures fault_rose { IsErrOf result ScriptError.Fault → HasRisen (S.faults source.old) (S.faults source.new) }
         ensures count { S.faults source.old ≤ S.faults source.new }
 

@@ -100,7 +100,7 @@ read_on bytes out k start end n l later le within short p =
 
 -- ---- lines of what is held and left
 
-pos_found : (xs ys : List ℕ) (i : ℕ) → position_or_len is_line_feed xs ≡ i → i < length xs → position_or_len is_line_feed (xs ++ ys) ≡ i
+pub pos_found : (xs ys : List ℕ) (i : ℕ) → position_or_len is_line_feed xs ≡ i → i < length xs → position_or_len is_line_feed (xs ++ ys) ≡ i
 pos_found xs ys i e lt =
     let d : eqb (position_or_len is_line_feed xs) (length xs) ≡ false = grind (arith, nat_tests) in
     prefix_len-append (λ b. not (is_line_feed b)) xs ys ∙ rw d e

@@ -30,10 +30,15 @@ abbrev pub Rest : List ℕ → Option (List ℕ) → List ℕ → Type 0
 Rest held None bytes = ⊥
 Rest held (Some left) bytes = held ++ left ≡ bytes
 
--- what a search over these bytes answers: the first line, which stands in the buffer, and what is held and left is behind it
+-- no line feed is among the bytes
+abbrev pub HasNoFeed : List ℕ → Type 0
+HasNoFeed bytes = position_or_len is_line_feed bytes ≡ length bytes
+
+-- what a search over these bytes answers: the first line, which stands in the buffer, and what is held and left is behind it;
+-- at the end nothing is held or left, and after a fault what is held is the begin of a line
 abbrev pub IsNext : ℕ → List ℕ → Result (Option Span) LineError → List ℕ → List ℕ → Option (List ℕ) → Type 0
 IsNext limit bytes (Ok (Some line)) buffer held left =
     (0 < length bytes) × (bytes_in buffer line ≡ first_line bytes) × (length (first_line bytes) ≤ limit) × Rest held left (behind_line bytes)
-IsNext limit bytes (Ok None) buffer held left = bytes ≡ []
+IsNext limit bytes (Ok None) buffer held left = (bytes ≡ []) × (held ≡ []) × (left ≡ Some [])
 IsNext limit bytes (Err error.Long) buffer held left = limit < length (first_line bytes)
-IsNext limit bytes (Err error.Fault) buffer held left = Rest held left bytes
+IsNext limit bytes (Err error.Fault) buffer held left = Rest held left bytes × HasNoFeed held
