@@ -1,0 +1,44 @@
+//! Runs a script of events from standard input, and prints the log that is due for it.
+//!
+//! `ftp_script script` is the one command. It ends with 0 where all was read and written, 2 at a bad line, 3 where
+//! standard input fails, 4 where standard output fails, 5 where memory runs out, and 64 where the words are no command.
+//! Begin with `script`.
+#![tactic(auto)]
+
+mod printing;
+mod run;
+mod script;
+mod status;
+mod streams;
+
+use script::run_script;
+use status::Status;
+use std::process::ExitCode;
+use std::{env, io};
+use streams::{Input, Output};
+
+/// The words behind the program's name.
+fn words(rt: &HostRuntime) -> io::Result<Vec<Vec<u8>>> {
+    let mut words = Vec::new(rt.alloc());
+    for word in env::args(rt)?.skip(1) {
+        words.push(word.into_bytes())?;
+    }
+    Ok(words)
+}
+
+fn main(rt: HostRuntime) -> ExitCode {
+    let status = match words(&rt) {
+        Ok(words) => run_script(
+            rt.alloc(),
+            words.as_slice(),
+            &mut Input::new(rt.stdin()),
+            &mut Output::new(rt.stdout()),
+        ),
+        Err(error) if error.kind() == io::ErrorKind::OutOfMemory => Status::OutOfMemory,
+        Err(_) => Status::Usage,
+    };
+    ExitCode::from(status.code())
+}
+
+#[cfg(test)]
+mod tests;
