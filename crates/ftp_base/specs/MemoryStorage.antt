@@ -1,5 +1,5 @@
 -- What a storage in memory keeps and refuses.
-use Rattle.std.specs.Prelude.{◌≡◌, ℕ, ◌+◌, List, map as map_list, length, Vec, Option, Some, None, nat_lt, if◌then◌else◌, refl}
+use Rattle.std.specs.Prelude.{◌≡◌, ℕ, ◌+◌, List, map as map_list, length, Vec, Option, Some, None, Result, IsErrOf, IsTrue, ◌↔◌, nat_lt, if◌then◌else◌, refl}
 use Rattle.std.specs.Coded.{Coded, code_by, coded×, coded_ℕ, coded_list, coded_option}
 use Rattle.std.specs.Global.{Global}
 use Rattle.std.specs.FinMap as map
@@ -7,9 +7,12 @@ use Rattle.ftp_base.specs.declared.error_kind.ErrorKind.{ErrorKind}
 use Rattle.ftp_base.specs.declared.error_kind.ErrorKind.TheVariants as kind
 use Rattle.ftp_base.specs.declared.memory_storage.Node.{Node}
 use Rattle.ftp_base.specs.declared.storage.Meta.{Meta}
+use Rattle.ftp_base.specs.declared.storage.StoreError.{StoreError}
+use Rattle.ftp_base.specs.declared.storage.StoreError.TheVariants.{Failed}
 use Rattle.ftp_base.specs.declared.memory_storage.Standing.{Standing}
 use Rattle.ftp_base.specs.declared.memory_storage.Standing.TheVariants as standing
 use Rattle.ftp_base.specs.Calls.{Calls, calls_code, after_call, after_fault}
+use Rattle.ftp_base.specs.Memory.{fails_next}
 use Rattle.ftp_base.specs.Storage.{Item, Directory, File, Files, Call, Metadata, Listing, ReadAt, Begin, Append, item, bytes_of, contents, parent}
 
 -- the files, how many bytes each may have, and the calls so far
@@ -112,3 +115,10 @@ counted s = record s { calls = after_call s.calls }
 -- the state after a call that failed
 abbrev pub failed : MemoryState → MemoryState
 failed s = record s { calls = after_fault s.calls }
+
+-- exactly the listed calls fail, each call is counted, and the limit stays
+pub record Counts {A : Type 0} (old new : MemoryState) (result : Result A StoreError) : Type 0 where
+  pub fails : IsErrOf result Failed ↔ IsTrue (fails_next old.calls)
+  pub fault_counted : IsErrOf result Failed → new ≡ failed old
+  pub counted : (IsErrOf result Failed → ⊥) → new.calls ≡ after_call old.calls
+  pub max_file : new.max_file ≡ old.max_file

@@ -20,6 +20,7 @@ mod message;
 mod net;
 mod notice;
 mod outside;
+mod path;
 mod reply;
 mod storage;
 mod trace;

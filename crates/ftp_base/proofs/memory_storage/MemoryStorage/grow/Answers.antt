@@ -5,8 +5,8 @@ use Rattle.ftp_base.specs.MemoryStorage.{files_of}
 use Rattle.ftp_base.proofs.MemoryFiles.{state, contents_apart, file_there, files_of-same, files_of-file, file_has_node, after_error}
 use Rattle.ftp_base.proofs.memory_storage.MemoryStorage.grow.Goals as goal
 
-pub returns-in_default-clause-grown : goal.returns-in_default-clause-grown
-returns-in_default-clause-grown c =
+pub unreachable-requires : goal.unreachable-requires
+unreachable-requires c =
     let file : IsSome (contents (files_of c.self.inside.nodes.entries) c.args.path.now) = rw (← c.self.view_is) at c.requires.file in
     absurd (file_has_node c.self.inside.nodes.entries c.args.path.now file (sym c.in_default.ensures.value))
 

@@ -1,7 +1,7 @@
 use Rattle.std.proofs.Common.{◌≡◌, ◌≤◌, ◌+◌, length, take, not}
 use Rattle.std.specs.List.{suffix_len}
 use Rattle.ftp_base.specs.Storage.{is_slash}
-use Rattle.ftp_base.proofs.memory_storage.name_start.Given as goal
+use Rattle.ftp_base.proofs.path.name_start.Given as goal
 
 -- no slash stands behind
 abbrev pub invariant-loop-start : goal.invariant-loop-start

@@ -9,7 +9,7 @@ use Rattle.ftp_base.proofs.MemoryFiles.{Nodes}
 use Rattle.ftp_base.specs.Storage.{Item, name, is_child, with_place, meta_of}
 use Rattle.ftp_base.specs.MemoryStorage.{items, item_of, placed}
 use Rattle.ftp_base.proofs.MemoryListing.{place_total, placed-insert_entry, children-push, entries-empty, entries-files_of}
-use Rattle.ftp_base.proofs.memory_storage.places_in.Goals as goal
+use Rattle.ftp_base.proofs.memory_storage.listing.places_in.Goals as goal
 
 pub loop-path-init : goal.loop-path-init
 loop-path-init c = rw c.new-places.ensures.empty (sym entries-empty)

@@ -1,0 +1,166 @@
+//! The calls that a storage in memory answers.
+
+ghost use Rattle.std.specs.Prelude.{◌≡◌, ◌+◌, ◌^◌, ◌<◌, ◌≤◌, length};
+ghost use Rattle.ftp_base.specs.MemoryStorage.{standing_item};
+ghost use Rattle.ftp_base.specs.Storage.{meta_of, ReadsFrom};
+
+use super::{MemoryStorage, Standing};
+use crate::bytes::Bytes;
+use crate::error_kind::ErrorKind;
+use crate::storage::{FEATURE_RESTART, FileInfo, Meta, Storage, StoreError};
+use std::alloc::AllocError;
+
+impl Storage for MemoryStorage {
+    ghost use Rattle.std.specs.Prelude.{◌≡◌, ◌+◌, ◌^◌, ◌<◌, ◌≤◌, length, Some, IsSomeAnd, false, IfOk, OnOk, OnErr, IsErrOf};
+    ghost use Rattle.ftp_base.specs.MemoryStorage.{Counts, memory_meaning};
+    ghost use Rattle.ftp_base.specs.Outside.{HasRisen};
+    ghost use Rattle.ftp_base.specs.Storage.{Metadata, Listing, ReadAt, Begin, Append, Answers, item, meta_of, listing, with_file, old_bytes, cut, ReadsFile, Grows};
+
+    ghost abilities = { λ _. 1 };
+
+    ghost files = { λ s. Some s.files };
+
+    ghost meaning = { λ s. memory_meaning s.files s.max_file };
+
+    ghost faults = { λ s. s.calls.faults };
+
+    ghost reads_take_memory = { false };
+
+    fn features(&self) -> u32 {
+        FEATURE_RESTART
+    }
+
+    fn metadata(&mut self, user: &Bytes, path: &Bytes) -> Result<Meta, StoreError>
+        ensures found { IfOk result (λ meta. IsSomeAnd (item self.old.files path.now) (λ i. meta ≡ meta_of i)) }
+        ensures refused { Answers (Some self.old.files) (memory_meaning self.old.files self.old.max_file (Metadata user.now path.now)) result }
+        ensures fault_rose { IsErrOf result StoreError.Failed → HasRisen self.old.calls.faults self.new.calls.faults }
+        ensures unchanged { self.new.files ≡ self.old.files }
+        ensures same_meaning { memory_meaning self.new.files self.new.max_file ≡ memory_meaning self.old.files self.old.max_file }
+        ensures count { self.old.calls.faults ≤ self.new.calls.faults }
+        ensures counted { Counts self.old self.new result }
+    {
+        let _ = user;
+        self.count()?;
+        match self.find(path.as_slice()) {
+            Some(standing) => Ok(meta_at(standing)),
+            None => Err(StoreError::Kind(ErrorKind::PermanentFileNotAvailable)),
+        }
+    }
+
+    fn list(&mut self, user: &Bytes, path: &Bytes) -> Result<Vec<FileInfo>, StoreError>
+        ensures listed { IfOk result (λ found. found.items ≡ listing self.old.files path.now) }
+        ensures refused { Answers (Some self.old.files) (memory_meaning self.old.files self.old.max_file (Listing user.now path.now)) result }
+        ensures fault_rose { IsErrOf result StoreError.Failed → HasRisen self.old.calls.faults self.new.calls.faults }
+        ensures unchanged { self.new.files ≡ self.old.files }
+        ensures same_meaning { memory_meaning self.new.files self.new.max_file ≡ memory_meaning self.old.files self.old.max_file }
+        ensures count { self.old.calls.faults ≤ self.new.calls.faults }
+        ensures counted { Counts self.old self.new result }
+    {
+        let _ = user;
+        self.count()?;
+        let Some(Standing::Directory) = self.find(path.as_slice()) else {
+            return Err(StoreError::Kind(ErrorKind::PermanentDirectoryNotAvailable));
+        };
+        match self.children(path.as_slice()) {
+            Ok(children) => Ok(children),
+            Err(AllocError) => Err(StoreError::OutOfMemory),
+        }
+    }
+
+    fn read_at(
+        &mut self,
+        user: &Bytes,
+        path: &Bytes,
+        at: u64,
+        out: &mut [u8],
+    ) -> Result<usize, StoreError>
+        ensures within { IfOk result (λ n. n ≤ length out.new) }
+        ensures in_range { IfOk result (λ n. at + n < 2 ^ 64) }
+        ensures read { IfOk result (λ n. ReadsFile self.old.files path.now at n out.new) }
+        ensures takes_memory { IsErrOf result StoreError.OutOfMemory → ⊥ }
+        ensures refused { Answers (Some self.old.files) (memory_meaning self.old.files self.old.max_file (ReadAt user.now path.now at)) result }
+        ensures fault_rose { IsErrOf result StoreError.Failed → HasRisen self.old.calls.faults self.new.calls.faults }
+        ensures unchanged { self.new.files ≡ self.old.files }
+        ensures same_meaning { memory_meaning self.new.files self.new.max_file ≡ memory_meaning self.old.files self.old.max_file }
+        ensures count { self.old.calls.faults ≤ self.new.calls.faults }
+        ensures counted { Counts self.old self.new result }
+    {
+        let _ = user;
+        self.count()?;
+        match self.find(path.as_slice()) {
+            Some(Standing::File(bytes)) => Ok(copy_from(bytes, at, out)),
+            _ => Err(StoreError::Kind(ErrorKind::PermanentFileNotAvailable)),
+        }
+    }
+
+    fn begin(&mut self, user: &Bytes, path: &Bytes, start: u64) -> Result<(), StoreError>
+        ensures begun { OnOk result (self.new.files ≡ with_file self.old.files path.now (cut (old_bytes self.old.files path.now) start)) }
+        ensures refused { Answers (Some self.old.files) (memory_meaning self.old.files self.old.max_file (Begin user.now path.now start)) result }
+        ensures fault_rose { IsErrOf result StoreError.Failed → HasRisen self.old.calls.faults self.new.calls.faults }
+        ensures unchanged { OnErr result (self.new.files ≡ self.old.files) }
+        ensures same_meaning { OnErr result (memory_meaning self.new.files self.new.max_file ≡ memory_meaning self.old.files self.old.max_file) }
+        ensures count { self.old.calls.faults ≤ self.new.calls.faults }
+        ensures counted { Counts self.old self.new result }
+    {
+        let _ = user;
+        self.count()?;
+        if let Some(kind) = self.file_refusal(path.as_slice(), start) {
+            return Err(StoreError::Kind(kind));
+        }
+        match self.cut(path.as_slice(), start) {
+            Ok(()) => Ok(()),
+            Err(AllocError) => Err(StoreError::OutOfMemory),
+        }
+    }
+
+    fn append(&mut self, user: &Bytes, path: &Bytes, bytes: &[u8]) -> Result<(), StoreError>
+        ensures grown { OnOk result (Grows (Some self.old.files) (Some self.new.files) path.now bytes.now) }
+        ensures refused { Answers (Some self.old.files) (memory_meaning self.old.files self.old.max_file (Append user.now path.now bytes.now)) result }
+        ensures fault_rose { IsErrOf result StoreError.Failed → HasRisen self.old.calls.faults self.new.calls.faults }
+        ensures unchanged { OnErr result (self.new.files ≡ self.old.files) }
+        ensures same_meaning { OnErr result (memory_meaning self.new.files self.new.max_file ≡ memory_meaning self.old.files self.old.max_file) }
+        ensures count { self.old.calls.faults ≤ self.new.calls.faults }
+        ensures counted { Counts self.old self.new result }
+    {
+        let _ = user;
+        self.count()?;
+        if let Some(kind) = self.append_refusal(path.as_slice(), bytes.len()) {
+            return Err(StoreError::Kind(kind));
+        }
+        match self.grow(path.as_slice(), bytes) {
+            Ok(()) => Ok(()),
+            Err(AllocError) => Err(StoreError::OutOfMemory),
+        }
+    }
+}
+/// What is told of a file or a directory.
+fn meta_at(standing: Standing<'_>) -> Meta
+    ensures { result ≡ meta_of (standing_item standing.entry) }
+{
+    match standing {
+        Standing::Directory => Meta {
+            is_dir: true,
+            len: 0,
+        },
+        Standing::File(bytes) => Meta {
+            is_dir: false,
+            len: bytes.len() as u64,
+        },
+    }
+}
+
+/// Copies what a file has from a place on to the front of `out`, and says how many bytes.
+fn copy_from(bytes: &[u8], at: u64, out: &mut [u8]) -> usize
+    ensures within { result ≤ length out.new }
+    ensures in_range { at + result < 2 ^ 64 }
+    ensures read { ReadsFrom at result out.new bytes.now }
+{
+    let len = bytes.len() as u64;
+    if at >= len {
+        return 0;
+    }
+    let rest = &bytes[at as usize..];
+    let n = rest.len().min(out.len());
+    out[..n].copy_from_slice(&rest[..n]);
+    n
+}
