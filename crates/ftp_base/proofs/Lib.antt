@@ -5,3 +5,7 @@ pub mod Files
 pub mod LinkTableLemmas
 pub mod MemoryFiles
 pub mod MemoryListing
+pub mod PathOrder
+pub mod Under
+pub mod ListingSteps
+pub mod Ranges

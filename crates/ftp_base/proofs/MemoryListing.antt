@@ -1,6 +1,5 @@
 -- Listings of nodes in a map.
-use Rattle.std.proofs.Common.{◌≡◌, ℕ, true, List, [], ◌∷◌, ◌++◌, map as map_list, Vec, Global, length, refl, sym, ap, ◌∙◌, arith}
-use Rattle.std.specs.Prelude.{filter, fold}
+use Rattle.std.proofs.Common.{◌≡◌, ℕ, List, [], ◌∷◌, map as map_list, Vec, Global, length, refl, sym, ap, ◌∙◌, arith}
 use Rattle.std.specs.FinMap as map
 use Rattle.std.specs.FinMap.{put}
 use Rattle.std.specs.BTreeMap.{insert_entry}
@@ -10,11 +9,9 @@ use Rattle.std.specs.declared.cmp.Ordering.TheVariants.{Less, Equal, Greater}
 use Rattle.std.specs.Ordering.{nat_cmp, ordering_then}
 use Rattle.std.specs.Cmp.{IsTotalOrder, then_total, on_total}
 use Rattle.std.specs.Cmp.Lexicographic.{slice_cmp, nat_list_cmp_total}
-use Rattle.std.proofs.lemmas.List.Elements.{filter-append}
-use Rattle.std.proofs.lemmas.List.Sums.{fold-append}
 use Rattle.ftp_base.specs.declared.storage.Meta.{Meta}
 use Rattle.ftp_base.specs.MemoryStorage.{item_of, items, files_of, placed}
-use Rattle.ftp_base.specs.Storage.{Item, is_child, place_cmp, with_place}
+use Rattle.ftp_base.specs.Storage.{Item, place_cmp}
 use Rattle.ftp_base.proofs.MemoryFiles.{Nodes}
 
 -- places are in one order
@@ -39,14 +36,6 @@ placed-insert_entry (e ∷ places) k v =
       | Equal ↦ λ p. rw p refl
       | Greater ↦ λ p. rw p (ap (λ (rest : List ((List ℕ × List ℕ) × Meta)). ((e.0.0.items, e.0.1.items), e.1) ∷ rest) (placed-insert_entry places k v))
     ] refl
-
--- the last child is put behind the others
-pub children-push : (dir : List ℕ) (es : List (List ℕ × Item)) (e : List ℕ × Item) → is_child dir e.0 ≡ true →
-    fold with_place map.empty (filter (λ e. is_child dir e.0) (es ++ e ∷ [])) ≡ with_place (fold with_place map.empty (filter (λ e. is_child dir e.0) es)) e
-children-push dir es e child =
-    ap (fold with_place map.empty) (filter-append (λ e. is_child dir e.0) es (e ∷ []))
-    ∙ fold-append with_place map.empty (filter (λ e. is_child dir e.0) es) (filter (λ e. is_child dir e.0) (e ∷ []))
-    ∙ rw child refl
 
 none_there : {A : Type 0} (es : List A) → length es ≡ 0 → es ≡ []
 none_there [] e = refl

@@ -1,8 +1,13 @@
 -- What a storage in memory keeps and refuses.
-use Rattle.std.specs.Prelude.{◌≡◌, ℕ, ◌+◌, List, map as map_list, length, Vec, Option, Some, None, Result, IsErrOf, IsTrue, ◌↔◌, nat_lt, if◌then◌else◌, refl}
+use Rattle.std.specs.Prelude.{◌≡◌, ℕ, ◌+◌, false, List, [], ◌++◌, map as map_list, length, Vec, Option, Some, None, Result, IsErrOf, IsTrue, ◌↔◌, nat_lt, if◌then◌else◌, refl}
 use Rattle.std.specs.Coded.{Coded, code_by, coded×, coded_ℕ, coded_list, coded_option}
 use Rattle.std.specs.Global.{Global}
+use Rattle.std.specs.Cmp.Lexicographic.{slice_cmp}
 use Rattle.std.specs.FinMap as map
+use Rattle.std.specs.List.{filter_map}
+use Rattle.std.specs.Ordering.{nat_cmp}
+use Rattle.std.specs.Str.{bytes_eq}
+use Rattle.std.specs.declared.cmp.Ordering.TheVariants.{Less}
 use Rattle.ftp_base.specs.declared.error_kind.ErrorKind.{ErrorKind}
 use Rattle.ftp_base.specs.declared.error_kind.ErrorKind.TheVariants as kind
 use Rattle.ftp_base.specs.declared.memory_storage.Node.{Node}
@@ -13,7 +18,7 @@ use Rattle.ftp_base.specs.declared.memory_storage.Standing.{Standing}
 use Rattle.ftp_base.specs.declared.memory_storage.Standing.TheVariants as standing
 use Rattle.ftp_base.specs.Calls.{Calls, calls_code, after_call, after_fault}
 use Rattle.ftp_base.specs.Memory.{fails_next}
-use Rattle.ftp_base.specs.Storage.{Item, Directory, File, Files, Call, Metadata, Listing, ReadAt, Begin, Append, item, bytes_of, contents, parent}
+use Rattle.ftp_base.specs.Storage.{Item, Directory, File, Files, Call, Metadata, Listing, ReadAt, Begin, Append, item, bytes_of, contents, parent, root, is_child, file_at}
 
 -- the files, how many bytes each may have, and the calls so far
 pub record MemoryState : Type 0 where
@@ -51,9 +56,22 @@ items nodes = map_list (λ e. (e.0.items, item_of e.1)) nodes
 abbrev pub files_of : List (Vec ℕ Global × Node) → Files
 files_of nodes = map.from_entries (items nodes)
 
+-- the files among nodes, under their paths
+abbrev pub files_among : List (Vec ℕ Global × Node) → List (List ℕ × List ℕ)
+files_among nodes = filter_map file_at (items nodes)
+
 -- what is told of children under their names and paths
 abbrev pub placed : List ((Vec ℕ Global × Vec ℕ Global) × Meta) → List ((List ℕ × List ℕ) × Meta)
 placed places = map_list (λ e. ((e.0.0.items, e.0.1.items), e.1)) places
+
+-- what each path in a directory begins with; in the root they begin in more ways than one
+abbrev pub front : List ℕ → List ℕ
+front dir = if bytes_eq dir root then [] else dir ++ root
+
+-- no path between these two lies in the directory
+abbrev pub NoneBetween : List ℕ → List ℕ → List ℕ → Type 0
+NoneBetween dir from to =
+    (path : List ℕ) → slice_cmp nat_cmp from path ≡ Less → slice_cmp nat_cmp path to ≡ Less → is_child dir path ≡ false
 
 -- where there is none
 abbrev pub unless_there : {A : Type 0} → Option A → ErrorKind → Option ErrorKind

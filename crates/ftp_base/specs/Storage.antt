@@ -2,11 +2,12 @@
 --   item files path      what stands at a path
 --   contents files path  the bytes of the file at a path
 --   listing files dir    what a listing of a directory shows
+--   files_in_order files the files under their paths, in byte order of paths
 --   get bytes place      the bytes from a place on
 --   put bytes place new  the bytes with others put at a place
 use Rattle.std.specs.Prelude.{◌≡◌, ℕ, ◌-◌, ◌<◌, ◌≤◌, Bool, true, false, not, ◌&&◌, ◌==◌, List, [], ◌∷◌, ◌++◌, map, length, take, drop, replicate, filter, fold, Option, Some, None, IsSome, IfSome, IsSomeAnd, unwrap_or, Result, MatchResult, if◌then◌else◌}
-use Rattle.std.specs.List.{before_last, after_last}
-use Rattle.std.specs.Option.{option_and_then}
+use Rattle.std.specs.List.{before_last, after_last, filter_map}
+use Rattle.std.specs.Option.{option_and_then, option_map}
 use Rattle.std.specs.Ordering.{nat_cmp, ordering_then}
 use Rattle.std.specs.declared.cmp.Ordering.{Ordering}
 use Rattle.std.specs.Cmp.Lexicographic.{slice_cmp}
@@ -109,6 +110,14 @@ info_of child = record { name = child.0.0; meta = child.1 }
 -- what a listing of a directory shows, in byte order of names and equal names in byte order of paths
 abbrev pub listing : Files → List ℕ → List FileInfo
 listing files dir = map info_of (map.entries (children files dir))
+
+-- the file under a path, where one is
+abbrev pub file_at : List ℕ × Item → Option (List ℕ × List ℕ)
+file_at entry = option_map (λ bytes. (entry.0, bytes)) (bytes_of entry.1)
+
+-- the files under their paths, in byte order of paths
+abbrev pub files_in_order : Files → List (List ℕ × List ℕ)
+files_in_order files = filter_map file_at (map.entries files)
 
 -- a call whose refusal is told, with who calls
 pub data Call : Type 0 where

@@ -34,7 +34,7 @@ pub use login::{AuthAnswer, LockState, SessionState};
 pub use memory_link::MemoryLink;
 pub use memory_sink::MemorySink;
 pub use memory_source::MemorySource;
-pub use memory_storage::MemoryStorage;
+pub use memory_storage::{MemoryStorage, StoredFiles};
 pub use message::ControlChanMsg;
 pub use net::{IpAddr, SocketAddr, SocketAddrPair};
 pub use notice::{EventMeta, Notice, PresenceEvent};

@@ -2,6 +2,7 @@
 
 mod listing;
 mod storage;
+mod stored_files;
 
 use crate::bytes::Bytes;
 use crate::calls::Calls;
@@ -12,6 +13,7 @@ use listing::{infos_of, places_in};
 use std::alloc::{AllocError, Global};
 use std::collections::BTreeMap;
 use std::marker::Model;
+pub use stored_files::StoredFiles;
 
 /// A directory, or a file with its bytes.
 #[derive(Drop)]
@@ -96,7 +98,7 @@ impl MemoryStorage {
     ghost use Rattle.ftp_base.specs.Memory.{fails_next};
     ghost use Rattle.ftp_base.specs.MemoryStorage.{standing_item, counted, failed, item_of, file_refusal, directory_refusal, append_refusal, if_within};
     ghost use Rattle.std.specs.Str.{bytes_eq};
-    ghost use Rattle.ftp_base.specs.Storage.{Directory, root, item, contents, with_file, old_bytes, cut, listing, Refuses};
+    ghost use Rattle.ftp_base.specs.Storage.{Directory, root, item, contents, with_file, old_bytes, cut, listing, files_in_order, Refuses};
 
     /// An empty storage whose files have at most so many bytes.
     pub fn new(alloc: Global, max_file: u64, fails: Vec<u64>) -> MemoryStorage
@@ -151,6 +153,15 @@ impl MemoryStorage {
         match self.put(path.as_slice(), node) {
             Ok(()) => Ok(()),
             Err(AllocError) => Err(StoreError::OutOfMemory),
+        }
+    }
+
+    /// The files, each with its path and its bytes, in byte order of paths.
+    pub fn files(&self) -> StoredFiles<'_>
+        ensures { result ≡ files_in_order self.now.files }
+    {
+        StoredFiles {
+            nodes: self.nodes.iter(),
         }
     }
 
