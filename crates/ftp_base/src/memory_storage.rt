@@ -297,3 +297,6 @@ impl MemoryStorage {
         Ok(())
     }
 }
+
+#[cfg(test)]
+mod tests;
