@@ -1,19 +1,23 @@
 -- Runs that go on from where a part of them ended.
-use Rattle.std.proofs.Common.{◌≡◌, ◌⊎◌, inl, inr, ℕ, ◌+◌, ◌<◌, ◌≤◌, List, length, length-drop, take, drop, Option, Some, None, refl, sym, ◌∙◌, subst, arith}
+use Rattle.std.proofs.Common.{◌≡◌, inl, inr, ℕ, ◌+◌, ◌≤◌, List, length-drop, drop, Option, Some, None, sym, ◌∙◌, arith}
 use Rattle.std.specs.Prelude.{IfSome}
 use Rattle.std.proofs.lemmas.List.{drop-drop}
 use Rattle.ftp_base.specs.declared.error_kind.ErrorKind.{ErrorKind}
 use Rattle.ftp_base.specs.declared.fault.LinkFault.{LinkFault}
-use Rattle.ftp_base.specs.Outside.{HasRisen, Writes}
+use Rattle.ftp_base.specs.Outside.{HasRisen}
 use Rattle.ftp_base.specs.Storage.{Files, get, old_bytes}
 use Rattle.ftp_transfer.specs.declared.job.Completion.{Completion}
 use Rattle.ftp_transfer.specs.declared.job.Completion.TheVariants as result
-use Rattle.ftp_transfer.specs.Run.{SendsFront, RefusedBy, Caused, RefusedFirst}
+use Rattle.ftp_transfer.specs.Run.{SendsFront, RefusedBy, Caused, EndsRefused, RefusedFirst}
 use Rattle.ftp_transfer.proofs.Pieces.{Writes-more}
 
 -- a count that rose later rose
 pub HasRisen_later : (a b c : ℕ) → a ≤ b → b ≤ c → HasRisen b c → HasRisen a c
 HasRisen_later a b c le le' rose = grind arith
+
+-- a count that rose and does not fall rose
+pub HasRisen-more : (a b c : ℕ) → b ≤ c → HasRisen a b → HasRisen a c
+HasRisen-more a b c le rose = grind arith
 
 -- the next bytes of a text were sent after the first
 pub SendsFront-more : (text : List ℕ) (m n : ℕ) (a b c : Option (List ℕ)) →
@@ -65,3 +69,9 @@ pub RefusedFirst_more : (s s' : Type 0) (k : ErrorKind) (m : ℕ) (r : Completio
 RefusedFirst_more s s' k m r rose (zero, inl h) = (zero, inl h)
 RefusedFirst_more s s' k m r rose (zero, inr (inl h)) = (zero, inr (inl h))
 RefusedFirst_more s s' k m r rose (zero, inr (inr (h, e))) = (zero, inr (inr (rose h, e)))
+
+-- a refusal is the result where more may have failed
+pub EndsRefused_later : (s s' : Type 0) (k : ErrorKind) (r : Completion) → (s → s') → EndsRefused s k r → EndsRefused s' k r
+EndsRefused_later s s' k r rose (inl h) = inl h
+EndsRefused_later s s' k r rose (inr (inl h)) = inr (inl h)
+EndsRefused_later s s' k r rose (inr (inr (h, e))) = inr (inr (rose h, e))

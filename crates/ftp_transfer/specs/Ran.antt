@@ -1,5 +1,5 @@
 -- What a run of a job leaves, by what the storage and the link told before and after it.
-use Rattle.std.specs.Prelude.{◌≡◌, ◌⊎◌, ℕ, ◌+◌, ◌-◌, ◌^◌, ◌<◌, ◌≤◌, Bool, true, false, List, [], length, take, drop, Option, Some, None, IsSome, IfSome}
+use Rattle.std.specs.Prelude.{◌≡◌, ◌⊎◌, ℕ, ◌+◌, ◌-◌, ◌^◌, ◌<◌, ◌≤◌, true, false, List, [], length, take, drop, Option, Some, None, IsSome, IfSome}
 use Rattle.std.specs.Option.{option_map}
 use Rattle.ftp_base.specs.declared.command.DataChanCmd.{DataChanCmd}
 use Rattle.ftp_base.specs.declared.command.DataChanCmd.TheVariants as command
@@ -12,7 +12,7 @@ use Rattle.ftp_transfer.specs.declared.job.Outcome.{Outcome}
 use Rattle.ftp_transfer.specs.declared.job.Completion.{Completion}
 use Rattle.ftp_transfer.specs.declared.job.Completion.TheVariants as result
 use Rattle.ftp_transfer.specs.Listing.{listing_text}
-use Rattle.ftp_transfer.specs.Run.{Caused, RefusedFirst, Stores, RefusesStore, Appends, RefusesAppe, append_refusal}
+use Rattle.ftp_transfer.specs.Run.{Caused, RefusedFirst, RefusedLast, Stores, RefusesStore, Appends, RefusesAppe, append_refusal}
 use Rattle.ftp_transfer.specs.Transfer.{is_store}
 
 -- what a storage and a link tell, and their counts of faults
@@ -94,6 +94,8 @@ pub record Moves (job : Job) (old new : Told) (outcome : Outcome) : Type 0 where
   pub cause : Caused (HasRisen old.link_faults new.link_faults) new.sending.last_fault (HasRisen old.storage_faults new.storage_faults) (λ k. IfSome old.files (λ f. Refuses job.command job f old.meaning new.meaning (option_map (drop outcome.bytes) old.left) outcome.bytes k)) outcome.bytes outcome.result outcome.fault
   -- a refusal of the first call is the result, and then nothing is stored
   pub refused : IfSome old.files (λ f. IfSome (first_refusal job.command job f old.meaning) (λ k. RefusedFirst (HasRisen old.storage_faults new.storage_faults) k outcome.bytes outcome.result × (new.files ≡ Some f)))
+  -- a refusal of the piece that a store took last is the result
+  pub refused_last : is_store job.command ≡ true → IsSome old.files → RefusedLast (HasRisen old.storage_faults new.storage_faults) new.meaning job.user job.path (option_map (drop outcome.bytes) old.left) new.left outcome.result
 
 -- a run of a job, after which the link is closed or failed
 pub record Ran (job : Job) (old new : Told) (outcome : Outcome) : Type 0 where

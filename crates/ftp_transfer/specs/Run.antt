@@ -1,15 +1,13 @@
 -- What a run of a job sends and stores, and why it ends.
 --   m        how many bytes moved
 --   due f j  what job j sends of the files f
-use Rattle.std.specs.Prelude.{◌≡◌, ◌≢◌, ◌⊎◌, ℕ, ◌+◌, ◌-◌, ◌^◌, ◌<◌, ◌≤◌, Bool, true, false, List, [], ◌++◌, length, take, drop, Option, Some, None, IsSome, IfSome, IsSomeAnd, MatchOption}
+use Rattle.std.specs.Prelude.{◌≡◌, ◌⊎◌, ℕ, ◌-◌, ◌^◌, ◌<◌, ◌≤◌, List, ◌++◌, length, take, drop, Option, Some, None, IfSome, IsSomeAnd, MatchOption}
 use Rattle.std.specs.Option.{option_map_or}
-use Rattle.ftp_base.specs.declared.command.DataChanCmd.{DataChanCmd}
-use Rattle.ftp_base.specs.declared.command.DataChanCmd.TheVariants as command
 use Rattle.ftp_base.specs.declared.error_kind.ErrorKind.{ErrorKind}
 use Rattle.ftp_base.specs.declared.error_kind.ErrorKind.TheVariants as kind
 use Rattle.ftp_base.specs.declared.fault.LinkFault.{LinkFault}
 use Rattle.ftp_base.specs.Outside.{Writes}
-use Rattle.ftp_base.specs.Storage.{Files, Meaning, Metadata, Begin, Append, contents, with_file, old_bytes, get, put}
+use Rattle.ftp_base.specs.Storage.{Files, Meaning, Metadata, Begin, Append, contents, with_file, old_bytes, put}
 use Rattle.ftp_transfer.specs.declared.job.Outcome.{Outcome}
 use Rattle.ftp_transfer.specs.declared.job.Completion.{Completion}
 use Rattle.ftp_transfer.specs.declared.job.Completion.TheVariants as result
@@ -30,10 +28,14 @@ Caused link_rose last storage_rose refuses bytes (result.Refused k) fault =
     ((k ≡ kind.ConnectionClosed) × link_rose × (fault ≡ last)) ⊎ ((fault ≡ None) × RefusedBy storage_rose refuses bytes k)
 Caused link_rose last storage_rose refuses bytes _ fault = fault ≡ None
 
--- the refusal of a first call is the result, unless that call failed or memory ran out
+-- the refusal of a call is the result, unless that call failed or memory ran out
+abbrev pub EndsRefused : Type 0 → ErrorKind → Completion → Type 0
+EndsRefused storage_rose k r =
+    (r ≡ result.Refused k) ⊎ (r ≡ result.OutOfMemory) ⊎ (storage_rose × (r ≡ result.Refused kind.LocalError))
+
+-- the refusal of a first call is the result, and no byte moved
 abbrev pub RefusedFirst : Type 0 → ErrorKind → ℕ → Completion → Type 0
-RefusedFirst storage_rose k bytes r =
-    (bytes ≡ 0) × ((r ≡ result.Refused k) ⊎ (r ≡ result.OutOfMemory) ⊎ (storage_rose × (r ≡ result.Refused kind.LocalError)))
+RefusedFirst storage_rose k bytes r = (bytes ≡ 0) × EndsRefused storage_rose k r
 
 -- the first n bytes of the input were taken
 abbrev pub TakesFront : List ℕ → Option (List ℕ) → ℕ → Type 0
@@ -54,6 +56,12 @@ RefusesAppend meaning user path rest k =
     × (length piece ≤ 8192)
     × IfSome rest (λ l. (length piece ≤ length l) × (piece ≡ take (length piece) l))
     × (meaning (Append user path piece) ≡ Some k)
+
+-- where the storage refuses to append what was taken of the link's rest and not stored, that is the result
+abbrev pub RefusedLast : Type 0 → Meaning → List ℕ → List ℕ → Option (List ℕ) → Option (List ℕ) → Completion → Type 0
+RefusedLast storage_rose meaning user path rest later r =
+    (piece left : List ℕ) (k : ErrorKind) →
+    0 < length piece → rest ≡ Some (piece ++ left) → later ≡ Some left → meaning (Append user path piece) ≡ Some k → EndsRefused storage_rose k r
 
 -- the storage refuses to begin, or to append some next bytes
 abbrev pub RefusesStore : Meaning → Meaning → List ℕ → List ℕ → ℕ → Option (List ℕ) → ℕ → ErrorKind → Type 0

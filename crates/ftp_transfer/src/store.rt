@@ -5,7 +5,7 @@ ghost use Rattle.std.specs.Option.{option_map};
 ghost use Rattle.ftp_base.specs.Outside.{HasRisen};
 ghost use Rattle.ftp_base.specs.Storage.{Begin, Append, Grows, old_bytes};
 ghost use Rattle.ftp_transfer.specs.declared.job.Completion.TheVariants as done;
-ghost use Rattle.ftp_transfer.specs.Run.{Caused, RefusedFirst, GrowsFront, RefusesAppend, TakesFront, Stores, RefusesStore, Appends, RefusesAppe, append_refusal};
+ghost use Rattle.ftp_transfer.specs.Run.{Caused, EndsRefused, RefusedFirst, RefusedLast, GrowsFront, RefusesAppend, TakesFront, Stores, RefusesStore, Appends, RefusesAppe, append_refusal};
 ghost use Rattle.ftp_transfer.specs.Transfer.{is_store, suits};
 ghost use Rattle.ftp_transfer.specs.Turn.{StopsStoring, start_after};
 
@@ -24,6 +24,7 @@ pub fn store<S: Storage, L: Link>(job: &Job, start: u64, storage: &mut S, link: 
     ensures suits { suits result.result job.now.command ≡ true }
     ensures cause { Caused (HasRisen (L.faults link.old) (L.faults link.new)) (L.sending link.new).last_fault (HasRisen (S.faults storage.old) (S.faults storage.new)) (λ k. IfSome (S.files storage.old) (λ f. RefusesStore (S.meaning storage.old) (S.meaning storage.new) job.now.user job.now.path start (option_map (drop result.bytes) (L.left link.old)) result.bytes k)) result.bytes result.result result.fault }
     ensures refused { IfSome (S.files storage.old) (λ f. IfSome (S.meaning storage.old (Begin job.now.user job.now.path start)) (λ k. RefusedFirst (HasRisen (S.faults storage.old) (S.faults storage.new)) k result.bytes result.result × (S.files storage.new ≡ Some f))) }
+    ensures refused_last { IsSome (S.files storage.old) → RefusedLast (HasRisen (S.faults storage.old) (S.faults storage.new)) (S.meaning storage.new) job.now.user job.now.path (option_map (drop result.bytes) (L.left link.old)) (L.left link.new) result.result }
 
     ensures sent { (L.sending link.new).sent ≡ (L.sending link.old).sent }
     ensures closed { (L.sending link.new).closed ≡ (L.sending link.old).closed }
@@ -47,6 +48,7 @@ pub fn append<S: Storage, L: Link>(job: &Job, storage: &mut S, link: &mut L) -> 
     ensures suits { suits result.result job.now.command ≡ true }
     ensures cause { Caused (HasRisen (L.faults link.old) (L.faults link.new)) (L.sending link.new).last_fault (HasRisen (S.faults storage.old) (S.faults storage.new)) (λ k. IfSome (S.files storage.old) (λ f. RefusesAppe (S.meaning storage.old) (S.meaning storage.new) job.now.user job.now.path (length (old_bytes f job.now.path)) (option_map (drop result.bytes) (L.left link.old)) result.bytes k)) result.bytes result.result result.fault }
     ensures refused { IfSome (S.files storage.old) (λ f. IfSome (append_refusal (S.meaning storage.old) job.now.user job.now.path (length (old_bytes f job.now.path))) (λ k. RefusedFirst (HasRisen (S.faults storage.old) (S.faults storage.new)) k result.bytes result.result × (S.files storage.new ≡ Some f))) }
+    ensures refused_last { IsSome (S.files storage.old) → RefusedLast (HasRisen (S.faults storage.old) (S.faults storage.new)) (S.meaning storage.new) job.now.user job.now.path (option_map (drop result.bytes) (L.left link.old)) (L.left link.new) result.result }
 
     ensures sent { (L.sending link.new).sent ≡ (L.sending link.old).sent }
     ensures closed { (L.sending link.new).closed ≡ (L.sending link.old).closed }
@@ -80,6 +82,7 @@ pub fn fill<S: Storage, L: Link>(job: &Job, storage: &mut S, link: &mut L) -> Ou
 
     ensures suits { suits result.result job.now.command ≡ true }
     ensures cause { Caused (HasRisen (L.faults link.old) (L.faults link.new)) (L.sending link.new).last_fault (HasRisen (S.faults storage.old) (S.faults storage.new)) (λ k. IsSome (S.files storage.old) → RefusesAppend (S.meaning storage.new) job.now.user job.now.path (option_map (drop result.bytes) (L.left link.old)) k) result.bytes result.result result.fault }
+    ensures refused_last { IsSome (S.files storage.old) → RefusedLast (HasRisen (S.faults storage.old) (S.faults storage.new)) (S.meaning storage.new) job.now.user job.now.path (option_map (drop result.bytes) (L.left link.old)) (L.left link.new) result.result }
 
     ensures sent { (L.sending link.new).sent ≡ (L.sending link.old).sent }
     ensures closed { (L.sending link.new).closed ≡ (L.sending link.old).closed }
@@ -121,6 +124,7 @@ pub fn store_piece<S: Storage, L: Link>(
 
     ensures suits { IfSome result.end (λ e. suits e.result job.now.command ≡ true) }
     ensures cause { IfSome result.end (λ e. Caused (HasRisen (L.faults link.old) (L.faults link.new)) (L.sending link.new).last_fault (HasRisen (S.faults storage.old) (S.faults storage.new)) (λ k. IsSome (S.files storage.old) → RefusesAppend (S.meaning storage.new) job.now.user job.now.path (L.left link.old) k) (moved + result.bytes) e.result e.fault) }
+    ensures refused_last { IfSome result.end (λ e. IsSome (S.files storage.old) → RefusedLast (HasRisen (S.faults storage.old) (S.faults storage.new)) (S.meaning storage.new) job.now.user job.now.path (L.left link.old) (L.left link.new) e.result) }
 
     ensures sent { (L.sending link.new).sent ≡ (L.sending link.old).sent }
     ensures closed { (L.sending link.new).closed ≡ (L.sending link.old).closed }
@@ -153,6 +157,7 @@ fn append_read<S: Storage>(job: &Job, bytes: &[u8], storage: &mut S) -> Turn
     ensures unchanged { IsSome result.end → S.files storage.new ≡ S.files storage.old }
     ensures same_meaning { IsSome result.end → S.meaning storage.new ≡ S.meaning storage.old }
     ensures refused { IfSome result.end (λ e. (e.fault ≡ None) × StopsStoring (HasRisen (S.faults storage.old) (S.faults storage.new)) (λ k. IsSome (S.files storage.old) → S.meaning storage.old (Append job.now.user job.now.path bytes.now) ≡ Some k) e.result) }
+    ensures refused_last { IfSome result.end (λ e. IsSome (S.files storage.old) → IfSome (S.meaning storage.old (Append job.now.user job.now.path bytes.now)) (λ k. EndsRefused (HasRisen (S.faults storage.old) (S.faults storage.new)) k e.result)) }
     ensures storage_count { S.faults storage.old ≤ S.faults storage.new }
 {
     match storage.append(&job.user, &job.path, bytes) {

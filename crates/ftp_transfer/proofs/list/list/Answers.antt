@@ -1,4 +1,4 @@
-use Rattle.std.proofs.Common.{◌≡◌, ◌⊎◌, inl, inr, Option, Some, None, refl, ap, Err}
+use Rattle.std.proofs.Common.{◌≡◌, inl, inr, Option, Some, None, refl, ap, Err}
 use Rattle.std.specs.Prelude.{IfSome}
 use Rattle.ftp_base.specs.declared.command.DataChanCmd.{DataChanCmd}
 use Rattle.ftp_base.specs.declared.command.DataChanCmd.TheVariants as command

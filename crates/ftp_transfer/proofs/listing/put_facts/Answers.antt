@@ -1,4 +1,3 @@
-use Rattle.std.proofs.Common.{◌∷◌, []}
 use Rattle.ftp_transfer.proofs.Appended.{appended-3}
 use Rattle.ftp_transfer.proofs.listing.put_facts.Goals as goal
 

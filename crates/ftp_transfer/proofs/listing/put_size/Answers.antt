@@ -1,4 +1,4 @@
-use Rattle.std.proofs.Common.{◌≡◌, ◌∙◌, ◌-◌, ◌++◌, ℕ, List, length, replicate, take, min, ap, sym, decimal, arith}
+use Rattle.std.proofs.Common.{◌≡◌, ◌∙◌, ◌-◌, ◌++◌, ℕ, List, length, replicate, take, min, ap, decimal, arith}
 use Rattle.std.proofs.lemmas.List.{take-replicate}
 use Rattle.ftp_transfer.proofs.Appended.{appended-2}
 use Rattle.ftp_transfer.proofs.listing.put_size.Goals as goal

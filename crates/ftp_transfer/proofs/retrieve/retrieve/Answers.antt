@@ -1,4 +1,4 @@
-use Rattle.std.proofs.Common.{◌≡◌, ◌≤◌, ◌+◌, ◌∙◌, inl, inr, arith, rules, refl}
+use Rattle.std.proofs.Common.{◌≡◌, ◌+◌, ◌∙◌, inl, inr, arith, rules}
 use Rattle.std.proofs.lemmas.Bool.{cases_lt}
 use Rattle.ftp_base.specs.Storage.{ReadAt}
 use Rattle.ftp_transfer.proofs.RunLemmas.{HasRisen_later, SendsFront-file, Caused_later, RefusedFirst_later}

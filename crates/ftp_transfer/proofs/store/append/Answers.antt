@@ -1,11 +1,10 @@
 use Rattle.std.proofs.Common.{◌≡◌, ◌∙◌, sym, refl, Some}
-use Rattle.std.specs.Prelude.{IsSome}
 use Rattle.ftp_base.specs.declared.error_kind.ErrorKind.{ErrorKind}
 use Rattle.ftp_base.specs.Outside.{HasRisen}
 use Rattle.ftp_base.specs.Storage.{Files, Metadata}
 use Rattle.ftp_transfer.specs.Run.{RefusedFirst}
 use Rattle.ftp_transfer.proofs.RunLemmas.{HasRisen_later, RefusedFirst_more}
-use Rattle.ftp_transfer.proofs.StoreLemmas.{append_place-start, append_refusal-begin}
+use Rattle.ftp_transfer.proofs.StoreLemmas.{append_place-start, append_refusal-begin, RefusedLast-none, RefusedLast_later, drop-nothing}
 use Rattle.ftp_transfer.proofs.store.append.Goals as goal
 
 pub returns-in-Ok-clause-refused : goal.returns-in-Ok-clause-refused
@@ -22,3 +21,13 @@ returns-in-Ok-clause-refused g c =
     (rw told at c.metadata.ensures.found)
     (sym c.start_after.ensures ∙ c.in-Ok.is))
     refused
+
+pub returns-in-Ok-clause-refused_last : goal.returns-in-Ok-clause-refused_last
+returns-in-Ok-clause-refused_last g c told =
+    RefusedLast_later _ _ (g.S.Storage.meaning c.store.new.storage) c.args.job.now.user c.args.job.now.path _ _ _
+    (HasRisen_later _ _ _ c.metadata.ensures.count c.store.ensures.storage_count)
+    (c.store.ensures.refused_last (rw c.metadata.ensures.unchanged told))
+
+pub returns-in-Err-clause-refused_last : goal.returns-in-Err-clause-refused_last
+returns-in-Err-clause-refused_last g c told =
+    rw c.nothing_moved.ensures (RefusedLast-none _ (g.S.Storage.meaning c.metadata.new.self) c.args.job.now.user c.args.job.now.path _ _ _ (drop-nothing (g.L.Source.left c.args.link.now)))

@@ -1,5 +1,6 @@
-use Rattle.std.proofs.Common.{◌≡◌, ◌≤◌, ◌+◌, ◌∙◌, arith, rules, refl}
-use Rattle.ftp_transfer.proofs.StoreLemmas.{GrowsFront-told, TakesFront-told, TakesFront-whole}
+use Rattle.std.proofs.Common.{◌≡◌, ◌+◌, ◌∙◌, arith, rules}
+use Rattle.ftp_transfer.proofs.RunLemmas.{HasRisen_later}
+use Rattle.ftp_transfer.proofs.StoreLemmas.{GrowsFront-told, TakesFront-told, TakesFront-whole, RefusedLast-told}
 use Rattle.ftp_transfer.proofs.store.fill.Goals as goal
 
 pub returns-in-Some-clause-whole : goal.returns-in-Some-clause-whole
@@ -11,6 +12,18 @@ returns-in-Some-clause-whole g c written =
     rw c.outcome.ensures
     (rw sum
     (TakesFront-whole (g.L.Source.left c.args.link.now) (g.L.Source.left c.pieces.link) (g.L.Source.left c.store_piece-turn.new.link) c.pieces.moved c.pieces.invariant.taken end))
+
+pub returns-in-Some-clause-refused_last : goal.returns-in-Some-clause-refused_last
+returns-in-Some-clause-refused_last g c told =
+    let none : c.store_piece-turn.result.bytes ≡ 0 = c.store_piece-turn.ensures.last (search rules) in
+    let sum : c.pieces.moved + c.store_piece-turn.result.bytes ≡ c.pieces.moved = omega arith in
+    let last = rw c.in-Some.is at c.store_piece-turn.ensures.refused_last in
+    rw c.outcome.ensures
+    (rw sum
+    (RefusedLast-told _ _ (g.S.Storage.meaning c.store_piece-turn.new.storage) c.args.job.now.user c.args.job.now.path (g.L.Source.left c.args.link.now) (g.L.Source.left c.pieces.link) _ c.pieces.moved _
+    (HasRisen_later _ _ _ c.pieces.invariant.storage_count c.store_piece-turn.ensures.storage_count)
+    c.pieces.invariant.taken
+    (last (c.pieces.invariant.told told))))
 
 pub pieces-preserved : goal.pieces-preserved
 pieces-preserved g c =

@@ -1,4 +1,4 @@
-use Rattle.std.proofs.Common.{◌≡◌, ◌≤◌, ◌-◌, ◌^◌, drop, Some}
+use Rattle.std.proofs.Common.{◌≡◌, ◌≤◌, ◌-◌, ◌^◌}
 use Rattle.std.specs.Prelude.{IsSome, IfSome}
 use Rattle.ftp_transfer.specs.Run.{GrowsFront, TakesFront}
 use Rattle.ftp_transfer.proofs.store.fill.Given as goal
