@@ -1,36 +1,50 @@
 //! ftp_bench: moves the same bytes through transfers and plainly, to be timed from outside.
 //!
 //! `ftp_bench KIND MEBIBYTES ROUNDS` moves so many mebibytes so often, in chunks of 64 KiB, and writes how many bytes
-//! moved in all. KIND is `retr`, `stor`, or `copy` for a plain copy. Other words are answered by status 64.
+//! moved in all. KIND is `retr`, `stor`, or `copy` for a plain copy. `ftp_bench --help` and `ftp_bench --version` write
+//! a text. All end with status 0; other words are answered by 64, and what goes wrong by 1.
 #![tactic(auto)]
 
+mod command;
 mod moving;
 
-use moving::{Kind, move_bytes};
+use command::Command;
+use moving::move_bytes;
 use std::env;
 use std::process::ExitCode;
+
+const HELP: &str = "\
+Usage: ftp_bench KIND MEBIBYTES ROUNDS
+Moves so many mebibytes so often over memory, and writes how many bytes moved in all.
+KIND is retr for downloads, stor for uploads, or copy for plain copies.
+";
+
+const VERSION: &str = "ftp_bench 0.1.0\n";
 
 fn main(rt: HostRuntime) -> ExitCode {
     let Ok(words) = env::args(&rt) else {
         return ExitCode::from(1);
     };
-    let Ok(words) = words.collect::<Vec<String>>(rt.alloc()) else {
+    let Ok(words) = words.skip(1).collect::<Vec<String>>(rt.alloc()) else {
         return ExitCode::from(1);
     };
-    let [_, kind, mebibytes, rounds] = words.as_slice() else {
-        return ExitCode::from(64);
+    match Command::of(words.as_slice()) {
+        Some(command) => answer(&rt, command),
+        None => ExitCode::from(64),
+    }
+}
+
+/// Does what a command asks for, and writes its answer.
+fn answer(rt: &HostRuntime, command: Command) -> ExitCode {
+    let written = match command {
+        Command::Help => print!(rt; "{HELP}"),
+        Command::Version => print!(rt; "{VERSION}"),
+        Command::Move(load) => match move_bytes(rt.alloc(), load) {
+            Ok(moved) => println!(rt; "{moved}"),
+            Err(_) => return ExitCode::from(1),
+        },
     };
-    let (Some(kind), Ok(mebibytes), Ok(rounds)) = (
-        Kind::named(kind.as_str()),
-        mebibytes.as_str().parse::<u8>(),
-        rounds.as_str().parse::<u16>(),
-    ) else {
-        return ExitCode::from(64);
-    };
-    let Ok(moved) = move_bytes(rt.alloc(), kind, mebibytes, rounds) else {
-        return ExitCode::from(1);
-    };
-    match println!(rt; "{moved}") {
+    match written {
         Ok(()) => ExitCode::SUCCESS,
         Err(_) => ExitCode::from(1),
     }

@@ -1,59 +1,97 @@
 //! The rounds that are timed.
 
-use ftp_base::{Bytes, DataChanCmd, MemoryLink, MemoryStorage};
-use ftp_transfer::{Job, Ticket, execute};
+ghost use Rattle.std.specs.Prelude.{◌≡◌, length, codes, IfOk};
+ghost use Rattle.ftp_base.specs.Storage.{old_bytes};
+ghost use Rattle.ftp_transfer.specs.Ran.{IsDone};
+
+use crate::command::{Kind, Load};
+use ftp_base::{Bytes, DataChanCmd, MemoryLink, MemoryStorage, StoreError};
+use ftp_transfer::{Completion, Job, Outcome, Ticket, execute};
 use std::alloc::{AllocError, Global};
 
 /// How many bytes a link moves in a call, and a plain copy in a piece.
 const CHUNK: u32 = 65_536;
 
-/// What is timed.
+/// Why bytes did not move.
 #[derive(Clone, Copy, Debug, PartialEq, Eq)]
-pub enum Kind {
-    Retr,
-    Stor,
-    Copy,
+pub enum MoveError {
+    /// The storage did not take the file.
+    Storage(StoreError),
+    /// A transfer ended so before all bytes moved.
+    Transfer(Completion),
+    OutOfMemory,
 }
 
-impl Kind {
-    pub fn named(word: &str) -> Option<Kind> {
-        match word.as_bytes() {
-            b"retr" => Some(Kind::Retr),
-            b"stor" => Some(Kind::Stor),
-            b"copy" => Some(Kind::Copy),
-            _ => None,
-        }
+impl From<AllocError> for MoveError {
+    fn from(_: AllocError) -> MoveError {
+        MoveError::OutOfMemory
     }
 }
 
-/// Moves so many mebibytes so often, and says how many bytes moved in all.
-pub fn move_bytes(
-    alloc: Global,
-    kind: Kind,
-    mebibytes: u8,
-    rounds: u16,
-) -> Result<u64, AllocError> {
-    let size = mebibytes as usize * 1_048_576;
+impl From<StoreError> for MoveError {
+    fn from(error: StoreError) -> MoveError {
+        MoveError::Storage(error)
+    }
+}
+
+/// Moves a load, and says how many bytes moved in all.
+pub fn move_bytes(alloc: Global, load: Load) -> Result<u64, MoveError> {
     let mut bytes = Vec::new(alloc);
-    bytes.resize(size, b'a')?;
+    bytes.resize(load.mebibytes as usize * 1_048_576, b'a')?;
     let mut storage = MemoryStorage::new(alloc, u64::MAX, Vec::new(alloc));
-    if kind == Kind::Retr {
+    if load.kind == Kind::Retr {
         let file = Vec::from_slice(alloc, bytes.as_slice())?;
-        let _ = storage.put_file(Bytes::from_slice(alloc, b"/a")?, file);
+        storage.put_file(Bytes::from_slice(alloc, b"/a")?, file)?;
     }
     let mut moved: u64 = 0;
-    for _ in 0..rounds {
-        let here = match kind {
-            Kind::Retr => retrieve(alloc, &mut storage)?,
-            Kind::Stor => store(alloc, &mut storage, bytes.as_slice())?,
-            Kind::Copy => copy(alloc, bytes.as_slice())?,
-        };
+    for _ in 0..load.rounds {
+        let here = round(alloc, load.kind, &mut storage, bytes.as_slice())?;
         moved = moved.saturating_add(here);
     }
     Ok(moved)
 }
 
-fn job(alloc: Global, command: DataChanCmd) -> Result<Job, AllocError> {
+/// Moves the bytes once, and says how many moved.
+fn round(
+    alloc: Global,
+    kind: Kind,
+    storage: &mut MemoryStorage,
+    bytes: &[u8],
+) -> Result<u64, MoveError> {
+    match kind {
+        Kind::Retr => retrieve(alloc, storage),
+        Kind::Stor => store(alloc, storage, bytes),
+        Kind::Copy => Ok(copy(alloc, bytes)?),
+    }
+}
+
+/// Sends the file.
+fn retrieve(alloc: Global, storage: &mut MemoryStorage) -> Result<u64, MoveError>
+    ensures whole { IfOk result (λ n. n ≡ length (old_bytes storage.old.files (codes "/a"))) }
+{
+    let path = Bytes::from_slice(alloc, b"/a")?;
+    let job = job(alloc, DataChanCmd::Retr { path })?;
+    let mut link = MemoryLink::new(alloc, Vec::new(alloc), CHUNK, Vec::new(alloc));
+    moved(execute(alloc, job, storage, &mut link))
+}
+
+/// Stores the bytes.
+fn store(alloc: Global, storage: &mut MemoryStorage, bytes: &[u8]) -> Result<u64, MoveError>
+    ensures whole { IfOk result (λ n. n ≡ length bytes.now) }
+{
+    let path = Bytes::from_slice(alloc, b"/a")?;
+    let job = job(alloc, DataChanCmd::Stor { path })?;
+    let bytes = Vec::from_slice(alloc, bytes)?;
+    let mut link = MemoryLink::new(alloc, bytes, CHUNK, Vec::new(alloc));
+    moved(execute(alloc, job, storage, &mut link))
+}
+
+/// A job on the file, from its front.
+fn job(alloc: Global, command: DataChanCmd) -> Result<Job, AllocError>
+    ensures command { IfOk result (λ job. job.command ≡ command) }
+    ensures path { IfOk result (λ job. job.path ≡ codes "/a") }
+    ensures front { IfOk result (λ job. job.offset ≡ 0) }
+{
     Ok(Job {
         ticket: Ticket { session: 1, nr: 1 },
         user: Bytes::from_slice(alloc, b"ann")?,
@@ -64,19 +102,14 @@ fn job(alloc: Global, command: DataChanCmd) -> Result<Job, AllocError> {
     })
 }
 
-fn retrieve(alloc: Global, storage: &mut MemoryStorage) -> Result<u64, AllocError> {
-    let path = Bytes::from_slice(alloc, b"/a")?;
-    let job = job(alloc, DataChanCmd::Retr { path })?;
-    let mut link = MemoryLink::new(alloc, Vec::new(alloc), CHUNK, Vec::new(alloc));
-    Ok(execute(alloc, job, storage, &mut link).bytes)
-}
-
-fn store(alloc: Global, storage: &mut MemoryStorage, bytes: &[u8]) -> Result<u64, AllocError> {
-    let path = Bytes::from_slice(alloc, b"/a")?;
-    let job = job(alloc, DataChanCmd::Stor { path })?;
-    let bytes = Vec::from_slice(alloc, bytes)?;
-    let mut link = MemoryLink::new(alloc, bytes, CHUNK, Vec::new(alloc));
-    Ok(execute(alloc, job, storage, &mut link).bytes)
+/// How many bytes a transfer moved, where it went well.
+fn moved(outcome: Outcome) -> Result<u64, MoveError>
+    ensures moved { IfOk result (λ n. (n ≡ outcome.bytes) × IsDone outcome.result) }
+{
+    match outcome.result {
+        Completion::Sent | Completion::Written | Completion::Listed => Ok(outcome.bytes),
+        stopped => Err(MoveError::Transfer(stopped)),
+    }
 }
 
 /// Copies bytes chunk by chunk behind one another.

@@ -1,0 +1,80 @@
+//! What the words of the program ask for.
+
+ghost use Rattle.std.specs.Prelude.{◌≡◌};
+ghost use Rattle.ftp_bench.specs.Words.{command_of, kind_of};
+
+/// What is moved.
+#[derive(Clone, Copy, Debug, PartialEq, Eq)]
+pub enum Kind {
+    Retr,
+    Stor,
+    Copy,
+}
+
+/// So many mebibytes, moved so often.
+#[derive(Clone, Copy, Debug, PartialEq, Eq)]
+pub struct Load {
+    pub kind: Kind,
+    pub mebibytes: u8,
+    pub rounds: u16,
+}
+
+#[derive(Clone, Copy, Debug, PartialEq, Eq)]
+pub enum Command {
+    Help,
+    Version,
+    Move(Load),
+}
+
+impl Kind {
+    pub fn named(word: &[u8]) -> Option<Kind>
+        ensures { result ≡ kind_of word.now }
+    {
+        if word == b"retr".as_slice() {
+            Some(Kind::Retr)
+        } else if word == b"stor".as_slice() {
+            Some(Kind::Stor)
+        } else if word == b"copy".as_slice() {
+            Some(Kind::Copy)
+        } else {
+            None
+        }
+    }
+}
+
+impl Command {
+    /// What the words behind the program's name ask for, where they are a command.
+    pub fn of(words: &[String]) -> Option<Command> {
+        match words {
+            [word] => Command::of_word(word.as_bytes()),
+            [kind, mebibytes, rounds] => {
+                let (Some(kind), Ok(mebibytes), Ok(rounds)) = (
+                    Kind::named(kind.as_bytes()),
+                    mebibytes.as_str().parse::<u8>(),
+                    rounds.as_str().parse::<u16>(),
+                ) else {
+                    return None;
+                };
+                Some(Command::Move(Load {
+                    kind,
+                    mebibytes,
+                    rounds,
+                }))
+            }
+            _ => None,
+        }
+    }
+
+    /// What a word by itself asks for.
+    fn of_word(word: &[u8]) -> Option<Command>
+        ensures { result ≡ command_of word.now }
+    {
+        if word == b"--help".as_slice() {
+            Some(Command::Help)
+        } else if word == b"--version".as_slice() {
+            Some(Command::Version)
+        } else {
+            None
+        }
+    }
+}
