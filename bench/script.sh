@@ -7,25 +7,7 @@ program=${1:-$here/../crates/ftp_script/out/ftp_script}
 scratch=$(mktemp -d)
 trap 'rm -rf "$scratch"' EXIT
 
-# Runs the program once: its processor time in seconds and its peak memory in kilobytes.
-measure() {
-    if [ -x /usr/bin/time ]; then
-        /usr/bin/time -o "$scratch/time" -f '%U %S %M' "$program" script < "$1" > /dev/null
-        awk '{ print $1 + $2, $3 }' "$scratch/time"
-        return
-    fi
-    "$program" script < "$1" > /dev/null &
-    child=$!
-    peak=0
-    ticks=0
-    while [ -r "/proc/$child/status" ] && grep -q VmHWM "/proc/$child/status"; do
-        peak=$(awk '/VmHWM/ { print $2 }' "/proc/$child/status" || echo "$peak")
-        ticks=$(awk '{ print $14 + $15 }' "/proc/$child/stat" || echo "$ticks")
-        sleep 0.01
-    done
-    wait "$child"
-    echo "$ticks ${peak:-0}" | awk -v hertz="$(getconf CLK_TCK)" '{ print $1 / hertz, $2 }'
-}
+. "$here/measure.sh"
 
 echo "machine: $(uname -m), $(awk -F': ' '/model name/ { print $2; exit }' /proc/cpuinfo)"
 for sessions in 10 1000 100000; do

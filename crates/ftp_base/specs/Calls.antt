@@ -1,5 +1,5 @@
 -- The calls of an object in memory: how many were made, how many failed, and which ones fail.
-use Rattle.std.specs.Prelude.{ℕ, ◌+◌, ◌-◌, ◌^◌, ◌==◌, nat_lt, if◌then◌else◌, Bool, List, refl}
+use Rattle.std.specs.Prelude.{ℕ, ◌+◌, ◌-◌, ◌^◌, ◌==◌, ◌&&◌, nat_lt, if◌then◌else◌, Bool, true, List, [], ◌∷◌, refl}
 use Rattle.std.specs.List.{list_any}
 use Rattle.std.specs.Coded.{Coded, code_by, coded×, coded_ℕ, coded_list}
 
@@ -22,6 +22,11 @@ one_more n = if nat_lt n (2 ^ 64 - 1) then n + 1 else n
 -- whether the call that comes next is one of those that fail
 abbrev pub fails_next_by : {T : Type 0} → (T → ℕ) → Calls T → Bool
 fails_next_by number c = list_any (λ f. number f == one_more c.made) c.failing
+
+-- the numbers rise, from above n on
+abbrev pub rises_above : {T : Type 0} → (T → ℕ) → ℕ → List T → Bool
+rises_above number n [] = true
+rises_above number n (call ∷ calls) = nat_lt n (number call) && rises_above number (number call) calls
 
 -- the calls after one more that went well
 abbrev pub after_call : {T : Type 0} → Calls T → Calls T

@@ -1,10 +1,10 @@
 //! The calls of an object in memory, and which of them fail.
 
-ghost use Rattle.std.specs.Prelude.{◌≡◌, ◌==◌, ℕ, is_some, IfSome, Contains, IsPermutation};
+ghost use Rattle.std.specs.Prelude.{◌≡◌, ◌==◌, ℕ, is_some, IfSome, IsTrue, Contains, IsPermutation};
 ghost use Rattle.std.specs.List.{list_any};
 ghost use Rattle.std.specs.List.Sorted.{IsSortedByKey};
 ghost use Rattle.std.specs.Ordering.{nat_cmp};
-ghost use Rattle.ftp_base.specs.Calls.{one_more, fails_next_by, after_call, after_fault};
+ghost use Rattle.ftp_base.specs.Calls.{one_more, fails_next_by, rises_above, after_call, after_fault};
 
 use crate::fault::LinkFault;
 use std::marker::Model;
@@ -62,9 +62,12 @@ impl<T: FailingCall> Calls<T> {
         ensures made { result.made ≡ 0 }
         ensures faults { result.faults ≡ 0 }
         ensures failing { IsPermutation failing.items result.failing }
+        ensures kept { IsTrue (rises_above T.number 0 failing.items) → result.failing ≡ failing.items }
     {
         let mut failing = failing;
-        failing.sort_unstable_by_key(|call| call.number());
+        if !rise(failing.as_slice()) {
+            failing.sort_unstable_by_key(|call| call.number());
+        }
         Calls {
             made: 0,
             faults: 0,
@@ -95,6 +98,20 @@ impl<T: FailingCall> Calls<T> {
         self.made = self.made.saturating_add(1);
         self.faults = self.faults.saturating_add(1);
     }
+}
+
+/// Says whether the numbers of the calls rise, the first from 1 on.
+pub fn rise<T: FailingCall>(calls: &[T]) -> bool
+    ensures { result ≡ rises_above T.number 0 calls.now }
+{
+    let mut last = 0;
+    for call in calls {
+        if call.number() <= last {
+            return false;
+        }
+        last = call.number();
+    }
+    true
 }
 
 /// The call with this number, among calls in the order of their numbers.

@@ -1,10 +1,11 @@
 //! Commands that move bytes over a data connection (RFC 959, section 4.1.3; RFC 3659, section 7).
 
-ghost use Rattle.std.specs.Prelude.{◌≡◌};
+ghost use Rattle.std.specs.Prelude.{◌≡◌, IfOk};
 ghost use Rattle.std.specs.Option.{option_copied};
 ghost use Rattle.ftp_base.specs.Command.{path_of};
 
 use crate::bytes::Bytes;
+use std::alloc::{AllocError, Global};
 
 #[derive(Debug, Drop)]
 pub enum DataChanCmd {
@@ -41,5 +42,42 @@ impl DataChanCmd {
             | DataChanCmd::Nlst { path }
             | DataChanCmd::Mlsd { path } => path.as_ref(),
         }
+    }
+
+    /// Gives an equal command.
+    pub fn copy(&self, alloc: Global) -> Result<DataChanCmd, AllocError>
+        ensures { IfOk result (λ copy. copy ≡ self.now) }
+    {
+        match self {
+            DataChanCmd::Retr { path } => Ok(DataChanCmd::Retr {
+                path: path.copy(alloc)?,
+            }),
+            DataChanCmd::Stor { path } => Ok(DataChanCmd::Stor {
+                path: path.copy(alloc)?,
+            }),
+            DataChanCmd::Appe { path } => Ok(DataChanCmd::Appe {
+                path: path.copy(alloc)?,
+            }),
+            DataChanCmd::List { options, path } => Ok(DataChanCmd::List {
+                options: copy_of(alloc, options)?,
+                path: copy_of(alloc, path)?,
+            }),
+            DataChanCmd::Nlst { path } => Ok(DataChanCmd::Nlst {
+                path: copy_of(alloc, path)?,
+            }),
+            DataChanCmd::Mlsd { path } => Ok(DataChanCmd::Mlsd {
+                path: copy_of(alloc, path)?,
+            }),
+        }
+    }
+}
+
+/// Gives equal bytes, where there are any.
+fn copy_of(alloc: Global, bytes: &Option<Bytes>) -> Result<Option<Bytes>, AllocError>
+    ensures { IfOk result (λ copy. copy ≡ bytes.now) }
+{
+    match bytes {
+        Some(bytes) => Ok(Some(bytes.copy(alloc)?)),
+        None => Ok(None),
     }
 }

@@ -26,6 +26,7 @@ mod storage;
 mod trace;
 
 pub use bytes::Bytes;
+pub use calls::{FailingCall, rise};
 pub use command::DataChanCmd;
 pub use error_kind::ErrorKind;
 pub use fault::{Failed, LinkFault};
@@ -37,7 +38,7 @@ pub use memory_source::MemorySource;
 pub use memory_storage::{MemoryStorage, StoredFiles};
 pub use message::ControlChanMsg;
 pub use net::{IpAddr, SocketAddr, SocketAddrPair};
-pub use notice::{EventMeta, Notice, PresenceEvent};
+pub use notice::{DataEvent, EventMeta, Notice, PresenceEvent};
 pub use outside::{Link, Sink, Source};
 pub use reply::{Reply, ReplyCode};
 pub use storage::{FEATURE_RESTART, FileInfo, Meta, Storage, StoreError};

@@ -3,7 +3,7 @@
 ghost use Rattle.std.specs.Prelude.{◌≡◌, ◌↔◌, ◌<◌, ◌≤◌, [], ◌++◌, true, false, IsTrue, min, length, take, Some, None, IfOk, IfErr, OnOk, OnErr, IsErrOf, IsPermutation};
 ghost use Rattle.ftp_base.specs.declared.fault.Failed.TheVariants.{Fault, Memory};
 ghost use Rattle.ftp_base.specs.declared.fault.LinkFault.{LinkFault};
-ghost use Rattle.ftp_base.specs.Calls.{after_call, after_fault};
+ghost use Rattle.ftp_base.specs.Calls.{rises_above, after_call, after_fault};
 ghost use Rattle.ftp_base.specs.Memory.{link_fails_next, IsNextFault};
 ghost use Rattle.ftp_base.specs.Outside.{HasRisen, ReadsFront, Sending};
 
@@ -57,6 +57,7 @@ impl MemoryLink {
         ensures no_call { result.calls.made ≡ 0 }
         ensures no_fault { result.calls.faults ≡ 0 }
         ensures failing { IsPermutation fails.items result.calls.failing }
+        ensures kept { IsTrue (rises_above (λ call. call.0) 0 fails.items) → result.calls.failing ≡ fails.items }
     {
         MemoryLink {
             bytes,

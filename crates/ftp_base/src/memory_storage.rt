@@ -95,6 +95,7 @@ impl MemoryStorage {
     ghost use Rattle.std.specs.Prelude.{◌≡◌, ◌≢◌, ◌↔◌, ◌++◌, false, length, Some, None, IsTrue, IsSome, IsErr, IfOk, IfErr, OnOk, OnErr, MatchResult, IsPermutation};
     ghost use Rattle.std.specs.FinMap as map;
     ghost use Rattle.std.specs.Option.{option_map};
+    ghost use Rattle.ftp_base.specs.Calls.{rises_above};
     ghost use Rattle.ftp_base.specs.Memory.{fails_next};
     ghost use Rattle.ftp_base.specs.MemoryStorage.{standing_item, counted, failed, item_of, file_refusal, directory_refusal, append_refusal, if_within};
     ghost use Rattle.std.specs.Str.{bytes_eq};
@@ -107,6 +108,7 @@ impl MemoryStorage {
         ensures no_call { result.calls.made ≡ 0 }
         ensures no_fault { result.calls.faults ≡ 0 }
         ensures failing { IsPermutation fails.items result.calls.failing }
+        ensures kept { IsTrue (rises_above (λ call. call) 0 fails.items) → result.calls.failing ≡ fails.items }
     {
         MemoryStorage {
             nodes: BTreeMap::new(alloc),
@@ -166,7 +168,7 @@ impl MemoryStorage {
     }
 
     /// How a directory is refused.
-    fn directory_refusal(&self, path: &[u8]) -> Option<ErrorKind>
+    pub fn directory_refusal(&self, path: &[u8]) -> Option<ErrorKind>
         ensures { result ≡ directory_refusal self.now.files path.now }
     {
         let Some(Standing::Directory) = self.find(parent_of(path)) else {

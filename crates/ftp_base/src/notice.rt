@@ -9,6 +9,15 @@ pub enum PresenceEvent {
     LoggedOut,
 }
 
+/// What was done with a file; the path is that in the storage.
+#[derive(Debug, Drop)]
+pub enum DataEvent {
+    /// A client has got so many bytes of the file.
+    Got { path: Bytes, bytes: u64 },
+    /// A client has put so many bytes into the file.
+    Put { path: Bytes, bytes: u64 },
+}
+
 /// Whom a notification is about, and its place among those of the session, counted from 1.
 #[derive(Debug, Drop)]
 pub struct EventMeta {
@@ -20,4 +29,5 @@ pub struct EventMeta {
 #[derive(Debug, Drop)]
 pub enum Notice {
     Presence(PresenceEvent),
+    Data(DataEvent),
 }

@@ -1,3 +1,4 @@
 pub mod EventLemmas
 pub mod SetupLemmas
 pub mod Examples
+pub mod TransferExamples

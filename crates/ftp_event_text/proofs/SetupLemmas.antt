@@ -1,5 +1,5 @@
 -- Each line of a script is read exactly.
-use Rattle.std.proofs.Common.{◌≡◌, ℕ, ◌^◌, ◌<◌, ◌≤◌, Bool, true, false, cond, ◌&&◌, eqb, leb, List, [], ◌∷◌, ◌++◌, length, Option, Some, None, refl, sym, ap, subst, ◌∙◌, arith}
+use Rattle.std.proofs.Common.{◌≡◌, ℕ, ◌^◌, ◌<◌, ◌≤◌, Bool, true, false, cond, ◌&&◌, eqb, leb, List, [], ◌∷◌, ◌++◌, length, Option, Some, None, refl, sym, ap, subst, ◌∙◌, arith, rules}
 use Rattle.std.specs.Prelude.{codes, Result, Ok, Err, IfOk, IsErrOf}
 use Rattle.std.specs.Fmt.{decimal}
 use Rattle.std.specs.Char.{is_ascii_digit}
@@ -12,17 +12,18 @@ use Rattle.ftp_text.specs.declared.fault.LineFault.{LineFault}
 use Rattle.ftp_text.specs.declared.fault.LineFault.TheVariants as fault
 use Rattle.ftp_event_text.specs.declared.setup.Item.{Item}
 use Rattle.ftp_event_text.specs.declared.setup.Item.TheVariants as item
-use Rattle.ftp_text.specs.Fields.{field, number, hex_text, IsText}
+use Rattle.ftp_base.specs.declared.fault.LinkFault.{LinkFault}
+use Rattle.ftp_text.specs.Fields.{field, number, hex_text, escape, listed, link_call_text, IsText, AreCalls}
 use Rattle.ftp_event_text.specs.Events.{kind_fields, event_line, IsEvent}
-use Rattle.ftp_event_text.specs.Setup.{is_skipped, item_line, IsItem, IsItemOf}
-use Rattle.ftp_text.specs.Reading.{◌>>=◌, Gives, pair, tested, begins, behind_text, hex_field}
+use Rattle.ftp_event_text.specs.Setup.{is_skipped, restart_text, item_line, is_absolute, IsItem, IsItemOf}
+use Rattle.ftp_text.specs.Reading.{◌>>=◌, Reader, Gives, pair, tested, begins, behind_text, number_field, hex_field, text_field, find_word, calls_field, call_of}
 use Rattle.ftp_event_text.specs.EventReading.{event_of}
-use Rattle.ftp_event_text.specs.SetupReading.{is_range, moves, ports_at, idle_at, link_number_at, options_at, link_at, whole, item_of}
-use Rattle.ftp_text.proofs.Exact.{Ends, IsExact, bind_ok, some_is, pair_exact, made_takes, made_again, behind_text_exact, before_text_exact, tested_exact}
-use Rattle.ftp_text.proofs.Values.{begins_decimal}
+use Rattle.ftp_event_text.specs.SetupReading.{is_range, moves, ports_at, restarts, restart_at, idle_at, link_calls_at, options_at, storage_at, dir_at, is_placed, file_at, link_at, whole, item_of}
+use Rattle.ftp_text.proofs.Exact.{Ends, IsNil, IsExact, Pass, is_word_byte, bind_ok, some_is, table_exact, pair_exact, made_takes, made_again, behind_text_exact, before_text_exact, tested_exact}
+use Rattle.ftp_text.proofs.Values.{begins_decimal, text_exact}
 use Rattle.ftp_text.proofs.HexTexts.{hex_exact}
 use Rattle.ftp_event_text.proofs.EventLemmas.{event_takes, event_again}
-use Rattle.ftp_text.proofs.FieldLemmas.{number_is, small_is}
+use Rattle.ftp_text.proofs.FieldLemmas.{number_is, small_is, calls_is, link_calls_is}
 
 abbrev Any : List ℕ → Type 0
 Any rest = Unit {0}
@@ -32,29 +33,60 @@ abbrev IsSpelled : Item → Type 0
 IsSpelled item.Skip = ⊥
 IsSpelled _ = Unit {0}
 
--- the options, as three numbers
-options_exact : IsExact (λ (x : (ℕ × ℕ) × ℕ). codes "options pooled" ++ (((number x.0.0 ++ number x.0.1) ++ codes " connection passive") ++ (number x.1 ++ codes " off restart")))
-    (λ (x : (ℕ × ℕ) × ℕ). (((x.0.0 < 2 ^ 16) × (x.0.1 < 2 ^ 16)) × (x.1 < 2 ^ 32)) × (is_range x ≡ true)) Any
+restart_passes : (v : Bool) → Pass is_word_byte (restart_text v)
+restart_passes true = search rules
+restart_passes false = search rules
+
+restart_found : (v : Bool) → find_word restart_text restarts (restart_text v) ≡ Some v
+restart_found true = refl
+restart_found false = refl
+
+restart_is : IsExact (λ (v : Bool). field (restart_text v)) (λ v. Unit {0}) Ends restart_at
+unfolding restart_at
+restart_is = table_exact restart_text restarts restart_passes restart_found
+
+-- the options, as three numbers and a word
+options_exact : IsExact (λ (x : (ℕ × ℕ) × (ℕ × Bool)). codes "options pooled" ++ (((number x.0.0 ++ number x.0.1) ++ codes " connection passive") ++ ((number x.1.0 ++ codes " off") ++ field (restart_text x.1.1))))
+    (λ (x : (ℕ × ℕ) × (ℕ × Bool)). (((x.0.0 < 2 ^ 16) × (x.0.1 < 2 ^ 16)) × ((x.1.0 < 2 ^ 32) × Unit {0})) × (is_range x ≡ true)) Ends
     (tested is_range (behind_text (codes "options pooled") (pair ports_at idle_at)))
 options_exact =
     tested_exact is_range
     (behind_text_exact (codes "options pooled")
     (pair_exact
     (before_text_exact {V = Any} (codes " connection passive") (pair_exact (small_is (2 ^ 16) (omega arith)) (small_is (2 ^ 16) (omega arith)) (λ y rest h. refl)) (λ rest h. refl))
-    (before_text_exact {V = Any} (codes " off restart") (small_is (2 ^ 32) (omega arith)) (λ rest h. refl))
+    (pair_exact (before_text_exact {V = Any} (codes " off") (small_is (2 ^ 32) (omega arith)) (λ rest h. refl)) restart_is (λ y rest h. tt))
     (λ y rest h. tt)))
 
--- a link, as its number, its chunk and its bytes
-link_exact : IsExact (λ (x : (ℕ × ℕ) × List ℕ). codes "link" ++ (((number x.0.0 ++ number x.0.1) ++ codes " -") ++ field (hex_text x.1)))
-    (λ (x : (ℕ × ℕ) × List ℕ). (((x.0.0 < 2 ^ 64) × (x.0.1 < 65537)) × IsText x.1) × (moves x ≡ true)) Ends
-    (tested moves (behind_text (codes "link") (pair link_number_at hex_field)))
+-- the storage, as a number and the calls that fail
+storage_exact : IsExact (λ (x : ℕ × List ℕ). codes "storage" ++ (number x.0 ++ field (listed decimal x.1)))
+    (λ (x : ℕ × List ℕ). (x.0 < 2 ^ 64) × AreCalls (λ call. call) x.1) Ends
+    (behind_text (codes "storage") (pair number_field (calls_field call_of (λ call. call))))
+storage_exact = behind_text_exact (codes "storage") (pair_exact number_is calls_is (λ y rest h. refl))
+
+dir_exact : IsExact (λ (path : List ℕ). codes "dir" ++ field (escape path)) (λ (path : List ℕ). IsText path × (is_absolute path ≡ true)) IsNil
+    (tested is_absolute (behind_text (codes "dir") text_field))
+dir_exact = tested_exact is_absolute (behind_text_exact (codes "dir") text_exact)
+
+-- a file, as its bytes and its path
+file_exact : IsExact (λ (x : List ℕ × List ℕ). codes "file" ++ (field (hex_text x.0) ++ field (escape x.1)))
+    (λ (x : List ℕ × List ℕ). (IsText x.0 × IsText x.1) × (is_placed x ≡ true)) IsNil
+    (tested is_placed (behind_text (codes "file") (pair hex_field text_field)))
+file_exact = tested_exact is_placed (behind_text_exact (codes "file") (pair_exact hex_exact text_exact (λ y rest h. refl)))
+
+abbrev LinkFields : Type 0
+LinkFields = ((ℕ × ℕ) × List (ℕ × LinkFault)) × List ℕ
+
+-- a link, as its number, its chunk, its failing calls and its bytes
+link_exact : IsExact (λ (x : LinkFields). codes "link" ++ (((number x.0.0.0 ++ number x.0.0.1) ++ field (listed link_call_text x.0.1)) ++ field (hex_text x.1)))
+    (λ (x : LinkFields). ((((x.0.0.0 < 2 ^ 64) × (x.0.0.1 < 65537)) × AreCalls (λ call. call.0) x.0.1) × IsText x.1) × (moves x ≡ true)) Ends
+    (tested moves (behind_text (codes "link") (pair link_calls_at hex_field)))
 link_exact =
     tested_exact moves
     (behind_text_exact (codes "link")
     (pair_exact
-    (before_text_exact {V = Any} (codes " -") (pair_exact number_is (small_is 65537 (omega arith)) (λ y rest h. refl)) (λ rest h. refl))
+    (pair_exact (pair_exact number_is (small_is 65537 (omega arith)) (λ y rest h. refl)) link_calls_is (λ y rest h. refl))
     hex_exact
-    (λ y rest h. tt)))
+    (λ y rest h. refl)))
 
 range_true : (lo hi : ℕ) → leb 1 lo && leb lo hi ≡ true → (1 ≤ lo) × (lo ≤ hi)
 range_true lo hi e = let b = both_true (leb 1 lo) (leb lo hi) e in (leb-true _ _ b.0, leb-true _ _ b.1) where
@@ -65,22 +97,43 @@ range_true lo hi e = let b = both_true (leb 1 lo) (leb lo hi) e in (leb-true _ _
 true_range : (lo hi : ℕ) → 1 ≤ lo → lo ≤ hi → leb 1 lo && leb lo hi ≡ true
 true_range lo hi some le = rw (le-leb 1 lo some, le-leb lo hi le) refl
 
-options_takes : (line : List ℕ) (y : Item × List ℕ) → options_at line ≡ Some y → (line ≡ item_line y.0 ++ y.1) × (IsItem y.0 × IsSpelled y.0)
+-- what a reader of lines finds is an item that the line spells
+abbrev Takes : Reader Item → Type 0
+Takes read = (line : List ℕ) (y : Item × List ℕ) → read line ≡ Some y → (line ≡ item_line y.0 ++ y.1) × (IsItem y.0 × IsSpelled y.0)
+
+options_takes : Takes options_at
 unfolding options_at
 options_takes line y e =
-    made_takes options_exact (λ x. item.Options x.0.0 x.0.1 x.1) item_line (λ i. IsItem i × IsSpelled i) [] (λ x. refl)
-    (λ x f. let r = range_true x.0.0 x.0.1 f.1 in ((r.0, r.1, f.0.0.1, f.0.1), tt)) line y e
+    made_takes options_exact (λ x. item.Options x.0.0 x.0.1 x.1.0 x.1.1) item_line (λ i. IsItem i × IsSpelled i) [] (λ x. refl)
+    (λ x f. let r = range_true x.0.0 x.0.1 f.1 in ((r.0, r.1, f.0.0.1, f.0.1.0), tt)) line y e
 
-link_takes : (line : List ℕ) (y : Item × List ℕ) → link_at line ≡ Some y → (line ≡ item_line y.0 ++ y.1) × (IsItem y.0 × IsSpelled y.0)
+storage_takes : Takes storage_at
+unfolding storage_at
+storage_takes line y e =
+    made_takes storage_exact (λ x. item.Storage x.0 x.1) item_line (λ i. IsItem i × IsSpelled i) [] (λ x. refl) (λ x f. (f, tt)) line y e
+
+dir_takes : Takes dir_at
+unfolding dir_at
+dir_takes line y e = made_takes dir_exact (λ path. item.Dir path) item_line (λ i. IsItem i × IsSpelled i) [] (λ x. refl) (λ x f. (f, tt)) line y e
+
+file_takes : Takes file_at
+unfolding file_at
+file_takes line y e =
+    made_takes file_exact (λ x. item.File x.0 x.1) item_line (λ i. IsItem i × IsSpelled i) [] (λ x. refl) (λ x f. ((f.0.0, f.0.1, f.1), tt)) line y e
+
+link_takes : Takes link_at
 unfolding link_at
 link_takes line y e =
-    made_takes link_exact (λ x. item.Link x.0.0 x.0.1 x.1) item_line (λ i. IsItem i × IsSpelled i) [] (λ x. refl)
-    (λ x f. ((f.0.0.0, leb-true 1 x.0.1 f.1, omega (arith, f.0.0.1), f.0.1), tt)) line y e
+    made_takes link_exact (λ x. item.Link x.0.0.0 x.0.0.1 x.0.1 x.1) item_line (λ i. IsItem i × IsSpelled i) [] (λ x. refl)
+    (λ x f. ((f.0.0.0.0, leb-true 1 x.0.0.1 f.1, omega (arith, f.0.0.0.1), f.0.0.1, f.0.1), tt)) line y e
 
 spelled_is : (line : List ℕ) (i : Item) → IsSpelled i → item_line i ≡ line → IsItem i → IsItemOf line i
 spelled_is line item.Skip s e f = absurd s
-spelled_is line (item.Options lo hi idle) s e f = (e, f)
-spelled_is line (item.Link n chunk bytes) s e f = (e, f)
+spelled_is line (item.Options lo hi idle restart) s e f = (e, f)
+spelled_is line (item.Storage max fails) s e f = (e, f)
+spelled_is line (item.Dir path) s e f = (e, f)
+spelled_is line (item.File bytes path) s e f = (e, f)
+spelled_is line (item.Link n chunk fails bytes) s e f = (e, f)
 spelled_is line (item.Event d) s e f = (e, f)
 
 whole_takes : (line : List ℕ) (i : Item) (read : Option (Item × List ℕ)) → ((y : Item × List ℕ) → read ≡ Some y → (line ≡ item_line y.0 ++ y.1) × (IsItem y.0 × IsSpelled y.0)) → whole read ≡ Some i → IsItemOf line i
@@ -92,55 +145,98 @@ whole_takes line i read takes e =
     let same : item_line a.0.0 ≡ line = sym (t.0 ∙ ap (λ (x : List ℕ). item_line a.0.0 ++ x) nothing ∙ append-nil (item_line a.0.0)) in
     subst (λ (x : Item). IsItemOf line x) p.1 (spelled_is line a.0.0 t.1.1 same t.1.0)
 
-options_again : (lo hi idle : ℕ) → IsItem (item.Options lo hi idle) → item_of (item_line (item.Options lo hi idle)) ≡ Some (item.Options lo hi idle)
-unfolding item_of options_at
-options_again lo hi idle f =
-    let x : (ℕ × ℕ) × ℕ = ((lo, hi), idle) in
-    let read = made_again options_exact (λ y. item.Options y.0.0 y.0.1 y.1) x [] (((omega (arith, f.1, f.2), f.2), f.3), true_range lo hi f.0 f.1) tt in
-    ap whole (ap options_at (sym (append-nil (item_line (item.Options lo hi idle)))) ∙ read)
+-- the item's line is read as the item
+abbrev IsRead : Item → Type 0
+IsRead i = item_of (item_line i) ≡ Some i
 
-link_again : (n chunk : ℕ) (bytes : List ℕ) → IsItem (item.Link n chunk bytes) → item_of (item_line (item.Link n chunk bytes)) ≡ Some (item.Link n chunk bytes)
+-- the line with nothing behind it is read as what it spells
+read_whole : (read : Reader Item) (i : Item) → read (item_line i ++ []) ≡ Some (i, []) → whole (read (item_line i)) ≡ Some i
+read_whole read i e = ap whole (ap read (sym (append-nil (item_line i))) ∙ e)
+
+options_again : (lo hi idle : ℕ) (restart : Bool) → IsItem (item.Options lo hi idle restart) → IsRead (item.Options lo hi idle restart)
+unfolding item_of options_at
+options_again lo hi idle restart f =
+    let x : (ℕ × ℕ) × (ℕ × Bool) = ((lo, hi), (idle, restart)) in
+    read_whole options_at (item.Options lo hi idle restart)
+    (made_again options_exact (λ y. item.Options y.0.0 y.0.1 y.1.0 y.1.1) x [] (((omega (arith, f.1, f.2), f.2), (f.3, tt)), true_range lo hi f.0 f.1) tt)
+
+storage_again : (max : ℕ) (fails : List ℕ) → IsItem (item.Storage max fails) → IsRead (item.Storage max fails)
+unfolding item_of storage_at
+storage_again max fails f =
+    let x : ℕ × List ℕ = (max, fails) in
+    read_whole storage_at (item.Storage max fails) (made_again storage_exact (λ y. item.Storage y.0 y.1) x [] f tt)
+
+dir_again : (path : List ℕ) → IsItem (item.Dir path) → IsRead (item.Dir path)
+unfolding item_of dir_at
+dir_again path f = read_whole dir_at (item.Dir path) (made_again dir_exact (λ p. item.Dir p) path [] f tt)
+
+file_again : (bytes path : List ℕ) → IsItem (item.File bytes path) → IsRead (item.File bytes path)
+unfolding item_of file_at
+file_again bytes path f =
+    let x : List ℕ × List ℕ = (bytes, path) in
+    read_whole file_at (item.File bytes path) (made_again file_exact (λ y. item.File y.0 y.1) x [] ((f.0, f.1), f.2) tt)
+
+link_again : (n chunk : ℕ) (fails : List (ℕ × LinkFault)) (bytes : List ℕ) → IsItem (item.Link n chunk fails bytes) → IsRead (item.Link n chunk fails bytes)
 unfolding item_of link_at
-link_again n chunk bytes f =
-    let x : (ℕ × ℕ) × List ℕ = ((n, chunk), bytes) in
-    let read = made_again link_exact (λ y. item.Link y.0.0 y.0.1 y.1) x [] (((f.0, omega (arith, f.2)), f.3), le-leb 1 chunk f.1) tt in
-    ap whole (ap link_at (sym (append-nil (item_line (item.Link n chunk bytes)))) ∙ read)
+link_again n chunk fails bytes f =
+    let x : LinkFields = (((n, chunk), fails), bytes) in
+    read_whole link_at (item.Link n chunk fails bytes)
+    (made_again link_exact (λ y. item.Link y.0.0.0 y.0.0.1 y.0.1 y.1) x [] ((((f.0, omega (arith, f.2)), f.3), f.4), le-leb 1 chunk f.1) tt)
 
 not_skipped : (line : List ℕ) → begins 35 line ≡ false → 0 < length line → is_skipped line ≡ false
 not_skipped [] h some = absurd (omega arith)
 not_skipped (c ∷ line) h some = h
 
+-- what a line is read as, by what it begins with
+abbrev chosen : (skipped o s d f l : Bool) → List ℕ → Option Item
+chosen skipped o s d f l line =
+    cond skipped (Some item.Skip)
+    (cond o (whole (options_at line))
+    (cond s (whole (storage_at line))
+    (cond d (whole (dir_at line)) (cond f (whole (file_at line)) (cond l (whole (link_at line)) (event_of line >>= λ e. Some (item.Event e)))))))
+
+-- a line that begins with nothing of the set-up is an event's
+chosen_event : (line : List ℕ) (skipped o s d f l : Bool) → skipped ≡ false → o ≡ false → s ≡ false → d ≡ false → f ≡ false → l ≡ false →
+    chosen skipped o s d f l line ≡ (event_of line >>= λ e. Some (item.Event e))
+chosen_event line skipped o s d f l no_skip no_o no_s no_d no_f no_l = λ i. chosen (no_skip i) (no_o i) (no_s i) (no_d i) (no_f i) (no_l i) line
+
 -- a line of an event begins with a digit
-event_again_item : (e : HubEvent) → IsEvent e → item_of (event_line e) ≡ Some (item.Event e)
+event_again_item : (e : HubEvent) → IsEvent e → IsRead (item.Event e)
 unfolding item_of
 event_again_item e fits =
+    let line = event_line e in
     let no = λ (c : ℕ) (h : is_ascii_digit c ≡ false). begins_decimal c e.at (kind_fields e.kind) h fits.0 in
-    let some : is_skipped (event_line e) ≡ false = not_skipped (event_line e) (no 35 refl) (omega (arith, length-append (decimal e.at) (kind_fields e.kind), decimal_nonempty e.at fits.0)) in
-    ap (λ b. cond b (Some item.Skip) (cond (begins 111 (event_line e)) (whole (options_at (event_line e))) (cond (begins 108 (event_line e)) (whole (link_at (event_line e))) (event_of (event_line e) >>= λ d. Some (item.Event d))))) some
-    ∙ ap (λ b. cond b (whole (options_at (event_line e))) (cond (begins 108 (event_line e)) (whole (link_at (event_line e))) (event_of (event_line e) >>= λ d. Some (item.Event d)))) (no 111 refl)
-    ∙ ap (λ b. cond b (whole (link_at (event_line e))) (event_of (event_line e) >>= λ d. Some (item.Event d))) (no 108 refl)
+    let some : is_skipped line ≡ false = not_skipped line (no 35 refl) (omega (arith, length-append (decimal e.at) (kind_fields e.kind), decimal_nonempty e.at fits.0)) in
+    chosen_event line (is_skipped line) (begins 111 line) (begins 115 line) (begins 100 line) (begins 102 line) (begins 108 line)
+    some (no 111 refl) (no 115 refl) (no 100 refl) (no 102 refl) (no 108 refl)
     ∙ ap (λ r. r >>= λ d. Some (item.Event d)) (event_again e fits)
 
-item_cases : (a b c : Bool) (line : List ℕ) (i : Item) → is_skipped line ≡ a → cond a (Some item.Skip) (cond b (whole (options_at line)) (cond c (whole (link_at line)) (event_of line >>= λ e. Some (item.Event e)))) ≡ Some i → IsItemOf line i
-item_cases true b c line i p e = subst (λ (x : Item). IsItemOf line x) (some_is item.Skip i e) p
-item_cases false true c line i p e = whole_takes line i (options_at line) (options_takes line) e
-item_cases false false true line i p e = whole_takes line i (link_at line) (link_takes line) e
-item_cases false false false line i p e =
+item_cases : (skipped o s d f l : Bool) (line : List ℕ) (i : Item) → is_skipped line ≡ skipped → chosen skipped o s d f l line ≡ Some i → IsItemOf line i
+item_cases true o s d f l line i p e = subst (λ (x : Item). IsItemOf line x) (some_is item.Skip i e) p
+item_cases false true s d f l line i p e = whole_takes line i (options_at line) (options_takes line) e
+item_cases false false true d f l line i p e = whole_takes line i (storage_at line) (storage_takes line) e
+item_cases false false false true f l line i p e = whole_takes line i (dir_at line) (dir_takes line) e
+item_cases false false false false true l line i p e = whole_takes line i (file_at line) (file_takes line) e
+item_cases false false false false false true line i p e = whole_takes line i (link_at line) (link_takes line) e
+item_cases false false false false false false line i p e =
     let first = bind_ok (event_of line) (λ x. Some (item.Event x)) i e in
     subst (λ (x : Item). IsItemOf line x) (some_is (item.Event first.0) i first.2) (event_takes line first.0 first.1)
 
 -- what is read has this line
 pub item_takes : (line : List ℕ) (i : Item) → item_of line ≡ Some i → IsItemOf line i
 unfolding item_of
-item_takes line i e = item_cases (is_skipped line) (begins 111 line) (begins 108 line) line i refl e
+item_takes line i e = item_cases (is_skipped line) (begins 111 line) (begins 115 line) (begins 100 line) (begins 102 line) (begins 108 line) line i refl e
 
 -- what has this line is read
 pub item_again : (line : List ℕ) (i : Item) → IsItemOf line i → item_of line ≡ Some i
 unfolding item_of
 item_again line item.Skip p = rw p refl
-item_again line (item.Options lo hi idle) p = subst (λ (x : List ℕ). item_of x ≡ Some (item.Options lo hi idle)) p.0 (options_again lo hi idle p.1)
-item_again line (item.Link n chunk bytes) p = subst (λ (x : List ℕ). item_of x ≡ Some (item.Link n chunk bytes)) p.0 (link_again n chunk bytes p.1)
-item_again line (item.Event e) p = subst (λ (x : List ℕ). item_of x ≡ Some (item.Event e)) p.0 (event_again_item e p.1)
+item_again line (item.Options lo hi idle restart) p = ap item_of (sym p.0) ∙ options_again lo hi idle restart p.1
+item_again line (item.Storage max fails) p = ap item_of (sym p.0) ∙ storage_again max fails p.1
+item_again line (item.Dir path) p = ap item_of (sym p.0) ∙ dir_again path p.1
+item_again line (item.File bytes path) p = ap item_of (sym p.0) ∙ file_again bytes path p.1
+item_again line (item.Link n chunk fails bytes) p = ap item_of (sym p.0) ∙ link_again n chunk fails bytes p.1
+item_again line (item.Event e) p = ap item_of (sym p.0) ∙ event_again_item e p.1
 
 -- the two laws of what a function returned
 pub is_found : (line : List ℕ) (r : Result Item LineFault) → Gives (λ x. x) r (item_of line) → IfOk r (λ i. IsItemOf line i)

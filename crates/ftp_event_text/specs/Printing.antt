@@ -1,7 +1,8 @@
 -- How the log is printed: the lines of each entry.
-use Rattle.std.specs.Prelude.{ℕ, List, [], ◌∷◌, ◌++◌, length, codes, Option, Some, None}
+use Rattle.std.specs.Prelude.{ℕ, Bool, true, false, List, [], ◌∷◌, ◌++◌, length, codes, Option, Some, None}
 use Rattle.std.specs.List.{flat_map}
 use Rattle.ftp_base.specs.declared.notice.PresenceEvent.TheVariants as presence
+use Rattle.ftp_base.specs.declared.notice.DataEvent.TheVariants.{Got, Put}
 use Rattle.ftp_base.specs.declared.notice.Notice.{Notice}
 use Rattle.ftp_base.specs.declared.notice.Notice.TheVariants as notice
 use Rattle.ftp_base.specs.declared.notice.EventMeta.{EventMeta}
@@ -11,6 +12,9 @@ use Rattle.ftp_base.specs.Reply.{code_text}
 use Rattle.ftp_base.specs.Trace.{trace_text}
 use Rattle.ftp_base.specs.declared.login.LockState.{LockState}
 use Rattle.ftp_base.specs.declared.login.LockState.TheVariants as lock
+use Rattle.ftp_transfer.specs.declared.job.Completion.{Completion}
+use Rattle.ftp_transfer.specs.declared.job.Completion.TheVariants as result
+use Rattle.ftp_transfer.specs.declared.job.Outcome.{Outcome}
 use Rattle.ftp_events.specs.declared.action.Action.{Action}
 use Rattle.ftp_events.specs.declared.action.Action.TheVariants as action
 use Rattle.ftp_events.specs.declared.decision.Decision.{Decision}
@@ -18,7 +22,7 @@ use Rattle.ftp_events.specs.declared.decision.Decision.TheVariants as decision
 use Rattle.ftp_events.specs.declared.entry.Entry.{Entry}
 use Rattle.ftp_events.specs.declared.event.Answer.{Answer}
 use Rattle.ftp_events.specs.declared.event.Answer.TheVariants as answer
-use Rattle.ftp_text.specs.Fields.{field, number, escape}
+use Rattle.ftp_text.specs.Fields.{field, number, escape, optional, ticket, kind_text, fault_text}
 use Rattle.ftp_event_text.specs.Events.{event_line}
 
 -- a line with its line feed
@@ -51,6 +55,13 @@ decision_text (decision.LoginFailed lock delay) = codes "loginfailed"
 decision_text decision.NotLoggedIn = codes "notloggedin"
 decision_text decision.Full = codes "full"
 decision_text (decision.Granted port) = codes "granted"
+decision_text decision.NoSlot = codes "noslot"
+decision_text (decision.Queued t) = codes "queued"
+decision_text decision.Finished = codes "finished"
+decision_text decision.NoRestart = codes "norestart"
+decision_text decision.RestOk = codes "restok"
+decision_text (decision.CwdRefused kind) = codes "cwdrefused"
+decision_text decision.CwdOk = codes "cwdok"
 decision_text decision.Closed = codes "closed"
 
 -- the fields behind a decision's name
@@ -58,6 +69,8 @@ abbrev pub decision_fields : Decision → List ℕ
 decision_fields (decision.Attached s) = number s
 decision_fields (decision.LoginFailed lock delay) = field (lock_text lock) ++ number delay
 decision_fields (decision.Granted port) = number port
+decision_fields (decision.Queued t) = ticket t.session t.nr
+decision_fields (decision.CwdRefused kind) = field (kind_text kind)
 decision_fields _ = []
 
 -- the line of a decision
@@ -66,9 +79,23 @@ decision_line d = line (61 ∷ field (decision_text d) ++ decision_fields d)
 
 -- ---- answers
 
+-- how a transfer ended
+abbrev pub result_text : Completion → List ℕ
+result_text result.Sent = codes "sent"
+result_text result.Written = codes "written"
+result_text result.Listed = codes "listed"
+result_text result.WriteFailed = codes "writefailed"
+result_text (result.Refused kind) = kind_text kind
+result_text result.OutOfMemory = codes "memory"
+
+-- how a transfer ended, how many bytes it moved, and what its link met
+abbrev pub outcome_fields : Outcome → List ℕ
+outcome_fields o = field (result_text o.result) ++ number o.bytes ++ optional fault_text o.fault
+
 -- the line of an answer, where something was asked
 abbrev pub answer_line : Answer → List ℕ
 answer_line answer.None = []
+answer_line (answer.Done o) = line (codes "? done" ++ outcome_fields o)
 
 -- ---- actions
 
@@ -76,17 +103,24 @@ answer_line answer.None = []
 abbrev pub notice_text : Notice → List ℕ
 notice_text (notice.Presence presence.LoggedIn) = codes "login"
 notice_text (notice.Presence presence.LoggedOut) = codes "logout"
+notice_text (notice.Data (Got path bytes)) = codes "got"
+notice_text (notice.Data (Put path bytes)) = codes "put"
 
 -- the bytes that a notice tells of, 0 where it tells of none
 abbrev pub notice_bytes : Notice → ℕ
 notice_bytes (notice.Presence p) = 0
+notice_bytes (notice.Data (Got path bytes)) = bytes
+notice_bytes (notice.Data (Put path bytes)) = bytes
 
 -- the paths of a notice, the first and the second
 abbrev pub first_path : Notice → List ℕ
 first_path (notice.Presence p) = []
+first_path (notice.Data (Got path bytes)) = path
+first_path (notice.Data (Put path bytes)) = path
 
 abbrev pub second_path : Notice → List ℕ
 second_path (notice.Presence p) = []
+second_path (notice.Data d) = []
 
 -- whom a notice is about, what it says, and the lengths of the user name and the first path before all texts as one
 abbrev pub notify_fields : ℕ → EventMeta → Notice → List ℕ
@@ -99,11 +133,19 @@ abbrev pub reply_fields : Reply → List ℕ
 reply_fields reply.None = []
 reply_fields (reply.CodeAndMsg code text) = field (code_text code) ++ field (escape text)
 
+-- whether a session was told of the end
+abbrev pub delivered_text : Bool → List ℕ
+delivered_text true = codes "delivered"
+delivered_text false = codes "lost"
+
 -- the name and the fields of an action
 abbrev pub action_fields : Action → List ℕ
+action_fields (action.Completed t delivered) = codes "- completed" ++ ticket t.session t.nr ++ field (delivered_text delivered)
+action_fields (action.Cancelled t) = codes "- cancelled" ++ ticket t.session t.nr
 action_fields (action.Close n) = codes "- close" ++ number n
 action_fields (action.Notify s meta what) = codes "- notify" ++ notify_fields s meta what
 action_fields (action.Reply s delay r) = codes "- reply" ++ number s ++ number delay ++ reply_fields r
+action_fields (action.Start t n) = codes "- start" ++ ticket t.session t.nr ++ number n
 
 -- the line of an action
 abbrev pub action_line : Action → List ℕ

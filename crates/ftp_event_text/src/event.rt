@@ -5,11 +5,13 @@ ghost use Rattle.ftp_events.specs.declared.event.HubEvent.{HubEvent};
 ghost use Rattle.ftp_text.specs.declared.fault.LineFault.TheVariants as fault;
 ghost use Rattle.ftp_event_text.specs.Events.{event_line, IsEvent};
 ghost use Rattle.ftp_text.specs.Reading.{Gives};
-ghost use Rattle.ftp_event_text.specs.EventReading.{connect_at, data_at, user_at, pass_at, auth_at, pasv_at, closed_at, fields_at, event_of};
+ghost use Rattle.ftp_event_text.specs.EventReading.{connect_at, data_at, user_at, pass_at, auth_at, pasv_at, retr_at, stor_at, appe_at, list_at, nlst_at, mlsd_at, stou_at, rest_at, cwd_at, closed_at, end_at, fields_at, event_of};
 
 use crate::word::{EventWord, event_word};
+use ftp_base::DataChanCmd;
 use ftp_events::{EventKind, HubEvent};
 use ftp_text::{LineFault, field};
+use ftp_transfer::Ticket;
 use std::alloc::Global;
 
 /// The event that the line spells. Its line feed is no part of the line.
@@ -52,7 +54,17 @@ fn fields(alloc: Global, word: EventWord, bytes: &[u8]) -> Result<(EventKind, &[
         EventWord::Pass => pass(bytes),
         EventWord::Auth => auth(bytes),
         EventWord::Pasv => pasv(bytes),
+        EventWord::Retr => retr(alloc, bytes),
+        EventWord::Stor => stor(alloc, bytes),
+        EventWord::Appe => appe(alloc, bytes),
+        EventWord::List => list(alloc, bytes),
+        EventWord::Nlst => nlst(alloc, bytes),
+        EventWord::Mlsd => mlsd(alloc, bytes),
+        EventWord::Stou => stou(bytes),
+        EventWord::Rest => restart(bytes),
+        EventWord::Cwd => cwd(alloc, bytes),
         EventWord::Closed => closed(bytes),
+        EventWord::End => end(bytes),
     }
 }
 
@@ -126,10 +138,113 @@ fn pasv(bytes: &[u8]) -> Result<(EventKind, &[u8]), LineFault>
     Ok((kind, rest))
 }
 
+#[tactic(auto, unfolding(crate::specs::EventReading::retr_at))]
+fn retr(alloc: Global, bytes: &[u8]) -> Result<(EventKind, &[u8]), LineFault>
+    ensures { Gives (λ x. (x.0, x.1.now)) result (retr_at bytes.now) }
+{
+    let (session, rest) = field::number(bytes)?;
+    let (path, rest) = field::text_to_end(alloc, rest)?;
+    let command = DataChanCmd::Retr { path };
+    Ok((EventKind::Transfer { session, command }, rest))
+}
+
+#[tactic(auto, unfolding(crate::specs::EventReading::stor_at))]
+fn stor(alloc: Global, bytes: &[u8]) -> Result<(EventKind, &[u8]), LineFault>
+    ensures { Gives (λ x. (x.0, x.1.now)) result (stor_at bytes.now) }
+{
+    let (session, rest) = field::number(bytes)?;
+    let (path, rest) = field::text_to_end(alloc, rest)?;
+    let command = DataChanCmd::Stor { path };
+    Ok((EventKind::Transfer { session, command }, rest))
+}
+
+#[tactic(auto, unfolding(crate::specs::EventReading::appe_at))]
+fn appe(alloc: Global, bytes: &[u8]) -> Result<(EventKind, &[u8]), LineFault>
+    ensures { Gives (λ x. (x.0, x.1.now)) result (appe_at bytes.now) }
+{
+    let (session, rest) = field::number(bytes)?;
+    let (path, rest) = field::text_to_end(alloc, rest)?;
+    let command = DataChanCmd::Appe { path };
+    Ok((EventKind::Transfer { session, command }, rest))
+}
+
+#[tactic(auto, unfolding(crate::specs::EventReading::list_at))]
+fn list(alloc: Global, bytes: &[u8]) -> Result<(EventKind, &[u8]), LineFault>
+    ensures { Gives (λ x. (x.0, x.1.now)) result (list_at bytes.now) }
+{
+    let (session, rest) = field::number(bytes)?;
+    let (path, rest) = field::optional_text(alloc, rest)?;
+    let options = None;
+    let command = DataChanCmd::List { options, path };
+    Ok((EventKind::Transfer { session, command }, rest))
+}
+
+#[tactic(auto, unfolding(crate::specs::EventReading::nlst_at))]
+fn nlst(alloc: Global, bytes: &[u8]) -> Result<(EventKind, &[u8]), LineFault>
+    ensures { Gives (λ x. (x.0, x.1.now)) result (nlst_at bytes.now) }
+{
+    let (session, rest) = field::number(bytes)?;
+    let (path, rest) = field::optional_text(alloc, rest)?;
+    let command = DataChanCmd::Nlst { path };
+    Ok((EventKind::Transfer { session, command }, rest))
+}
+
+#[tactic(auto, unfolding(crate::specs::EventReading::mlsd_at))]
+fn mlsd(alloc: Global, bytes: &[u8]) -> Result<(EventKind, &[u8]), LineFault>
+    ensures { Gives (λ x. (x.0, x.1.now)) result (mlsd_at bytes.now) }
+{
+    let (session, rest) = field::number(bytes)?;
+    let (path, rest) = field::optional_text(alloc, rest)?;
+    let command = DataChanCmd::Mlsd { path };
+    Ok((EventKind::Transfer { session, command }, rest))
+}
+
+#[tactic(auto, unfolding(crate::specs::EventReading::stou_at))]
+fn stou(bytes: &[u8]) -> Result<(EventKind, &[u8]), LineFault>
+    ensures { Gives (λ x. (x.0, x.1.now)) result (stou_at bytes.now) }
+{
+    let (session, rest) = field::number(bytes)?;
+    let (word, rest) = field::hex_word(rest)?;
+    Ok((EventKind::Stou { session, word }, rest))
+}
+
+#[tactic(auto, unfolding(crate::specs::EventReading::rest_at))]
+fn restart(bytes: &[u8]) -> Result<(EventKind, &[u8]), LineFault>
+    ensures { Gives (λ x. (x.0, x.1.now)) result (rest_at bytes.now) }
+{
+    let (session, rest) = field::number(bytes)?;
+    let (offset, rest) = field::number(rest)?;
+    Ok((EventKind::Rest { session, offset }, rest))
+}
+
+#[tactic(auto, unfolding(crate::specs::EventReading::cwd_at))]
+fn cwd(alloc: Global, bytes: &[u8]) -> Result<(EventKind, &[u8]), LineFault>
+    ensures { Gives (λ x. (x.0, x.1.now)) result (cwd_at bytes.now) }
+{
+    let (session, rest) = field::number(bytes)?;
+    let (refusal, rest) = field::refusal(rest)?;
+    let (path, rest) = field::text_to_end(alloc, rest)?;
+    let kind = EventKind::Cwd {
+        session,
+        path,
+        refusal,
+    };
+    Ok((kind, rest))
+}
+
 #[tactic(auto, unfolding(crate::specs::EventReading::closed_at))]
 fn closed(bytes: &[u8]) -> Result<(EventKind, &[u8]), LineFault>
     ensures { Gives (λ x. (x.0, x.1.now)) result (closed_at bytes.now) }
 {
     let (session, rest) = field::number(bytes)?;
     Ok((EventKind::Closed { session }, rest))
+}
+
+#[tactic(auto, unfolding(crate::specs::EventReading::end_at))]
+fn end(bytes: &[u8]) -> Result<(EventKind, &[u8]), LineFault>
+    ensures { Gives (λ x. (x.0, x.1.now)) result (end_at bytes.now) }
+{
+    let (session, nr, rest) = field::ticket(bytes)?;
+    let ticket = Ticket { session, nr };
+    Ok((EventKind::End { ticket }, rest))
 }

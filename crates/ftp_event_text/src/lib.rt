@@ -12,5 +12,5 @@ mod writing;
 
 pub use event::read_event;
 pub use printing::put_entry;
-pub use setup::{Item, put_sent, read_item};
+pub use setup::{Item, put_file, put_sent, read_item};
 pub use writing::put_event;

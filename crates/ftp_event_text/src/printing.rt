@@ -3,14 +3,18 @@
 ghost use Rattle.std.specs.Prelude.{◌≡◌, ◌++◌, OnOk, length};
 ghost use Rattle.std.specs.List.{flat_map};
 ghost use Rattle.ftp_text.specs.Fields.{field, escape};
-ghost use Rattle.ftp_event_text.specs.Printing.{lock_text, decision_text, decision_fields, decision_line, answer_line, notice_text, notice_bytes, first_path, second_path, notify_fields, reply_fields, action_fields, action_line, entry_lines};
+ghost use Rattle.ftp_events.specs.declared.action.Action.TheVariants as action;
+ghost use Rattle.ftp_events.specs.declared.event.Answer.TheVariants as answer;
+ghost use Rattle.ftp_event_text.specs.Printing.{lock_text, decision_text, decision_fields, decision_line, result_text, outcome_fields, answer_line, notice_text, notice_bytes, first_path, second_path, notify_fields, reply_fields, delivered_text, action_fields, action_line, entry_lines};
 
 use crate::writing::put_event;
-use ftp_base::{EventMeta, LockState, Notice, PresenceEvent, Reply};
+use ftp_base::{DataEvent, EventMeta, LockState, Notice, PresenceEvent, Reply};
 use ftp_events::{Action, Answer, Decision, Entry};
 use ftp_text::writing::{
-    put, put_byte, put_field, put_number, put_text, put_text_field, put_trace,
+    put, put_byte, put_error_kind, put_field, put_number, put_optional_fault, put_text,
+    put_text_field, put_ticket, put_trace,
 };
+use ftp_transfer::{Completion, Outcome, Ticket};
 use std::alloc::AllocError;
 
 /// Writes the lines of an entry at the end of the buffer. After an error the buffer is thrown away.
@@ -25,11 +29,41 @@ pub fn put_entry(out: &mut Vec<u8>, entry: &Entry) -> Result<(), AllocError>
     put_actions(out, entry.actions.as_slice())
 }
 
-fn put_answer(_out: &mut Vec<u8>, answer: Answer) -> Result<(), AllocError>
-    ensures { OnOk result (_out.new.items ≡ _out.old.items ++ answer_line answer) }
+fn put_answer(out: &mut Vec<u8>, answer: Answer) -> Result<(), AllocError>
+    ensures { OnOk result (out.new.items ≡ out.old.items ++ answer_line answer) }
 {
     match answer {
         Answer::None => Ok(()),
+        Answer::Done(outcome) => put_done(out, outcome),
+    }
+}
+
+fn put_done(out: &mut Vec<u8>, outcome: Outcome) -> Result<(), AllocError>
+    ensures { OnOk result (out.new.items ≡ out.old.items ++ answer_line (answer.Done outcome)) }
+{
+    put(out, b"? done")?;
+    put_outcome(out, outcome)?;
+    put_byte(out, b'\n')
+}
+
+fn put_outcome(out: &mut Vec<u8>, outcome: Outcome) -> Result<(), AllocError>
+    ensures { OnOk result (out.new.items ≡ out.old.items ++ outcome_fields outcome) }
+{
+    put_result(out, outcome.result)?;
+    put_number(out, outcome.bytes)?;
+    put_optional_fault(out, outcome.fault)
+}
+
+fn put_result(out: &mut Vec<u8>, completion: Completion) -> Result<(), AllocError>
+    ensures { OnOk result (out.new.items ≡ out.old.items ++ field (result_text completion)) }
+{
+    match completion {
+        Completion::Sent => put_field(out, b"sent"),
+        Completion::Written => put_field(out, b"written"),
+        Completion::Listed => put_field(out, b"listed"),
+        Completion::WriteFailed => put_field(out, b"writefailed"),
+        Completion::Refused(kind) => put_error_kind(out, kind),
+        Completion::OutOfMemory => put_field(out, b"memory"),
     }
 }
 
@@ -62,6 +96,13 @@ fn decision_text(decision: Decision) -> &'static [u8]
         Decision::NotLoggedIn => b"notloggedin",
         Decision::Full => b"full",
         Decision::Granted { port: _ } => b"granted",
+        Decision::NoSlot => b"noslot",
+        Decision::Queued { ticket: _ } => b"queued",
+        Decision::Finished => b"finished",
+        Decision::NoRestart => b"norestart",
+        Decision::RestOk => b"restok",
+        Decision::CwdRefused(_) => b"cwdrefused",
+        Decision::CwdOk => b"cwdok",
         Decision::Closed => b"closed",
     }
 }
@@ -76,6 +117,8 @@ fn put_decision_fields(out: &mut Vec<u8>, decision: Decision) -> Result<(), Allo
             put_number(out, u64::from(delay))
         }
         Decision::Granted { port } => put_number(out, u64::from(port)),
+        Decision::Queued { ticket } => put_ticket(out, ticket.session, ticket.nr),
+        Decision::CwdRefused(kind) => put_error_kind(out, kind),
         _ => Ok(()),
     }
 }
@@ -110,6 +153,11 @@ fn put_action(out: &mut Vec<u8>, action: &Action) -> Result<(), AllocError>
     ensures { OnOk result (out.new.items ≡ out.old.items ++ action_fields action.now) }
 {
     match action {
+        Action::Completed { ticket, delivered } => put_completed(out, *ticket, *delivered),
+        Action::Cancelled { ticket } => {
+            put(out, b"- cancelled")?;
+            put_ticket(out, ticket.session, ticket.nr)
+        }
         Action::Close { number } => {
             put(out, b"- close")?;
             put_number(out, *number)
@@ -132,7 +180,30 @@ fn put_action(out: &mut Vec<u8>, action: &Action) -> Result<(), AllocError>
             put_number(out, u64::from(*delay))?;
             put_reply(out, reply)
         }
+        Action::Start { ticket, number } => put_start(out, *ticket, *number),
     }
+}
+
+fn put_completed(out: &mut Vec<u8>, ticket: Ticket, delivered: bool) -> Result<(), AllocError>
+    ensures { OnOk result (out.new.items ≡ out.old.items ++ action_fields (action.Completed ticket delivered)) }
+{
+    put(out, b"- completed")?;
+    put_ticket(out, ticket.session, ticket.nr)?;
+    put_field(out, delivered_text(delivered))
+}
+
+fn delivered_text(delivered: bool) -> &'static [u8]
+    ensures { result.now ≡ delivered_text delivered }
+{
+    if delivered { b"delivered" } else { b"lost" }
+}
+
+fn put_start(out: &mut Vec<u8>, ticket: Ticket, number: u64) -> Result<(), AllocError>
+    ensures { OnOk result (out.new.items ≡ out.old.items ++ action_fields (action.Start ticket number)) }
+{
+    put(out, b"- start")?;
+    put_ticket(out, ticket.session, ticket.nr)?;
+    put_number(out, number)
 }
 
 fn put_reply(out: &mut Vec<u8>, reply: &Reply) -> Result<(), AllocError>
@@ -173,6 +244,8 @@ fn notice_text(what: &Notice) -> &'static [u8]
     match what {
         Notice::Presence(PresenceEvent::LoggedIn) => b"login",
         Notice::Presence(PresenceEvent::LoggedOut) => b"logout",
+        Notice::Data(DataEvent::Got { .. }) => b"got",
+        Notice::Data(DataEvent::Put { .. }) => b"put",
     }
 }
 
@@ -181,6 +254,7 @@ fn notice_bytes(what: &Notice) -> u64
 {
     match what {
         Notice::Presence(_) => 0,
+        Notice::Data(DataEvent::Got { bytes, .. } | DataEvent::Put { bytes, .. }) => *bytes,
     }
 }
 
@@ -189,6 +263,7 @@ fn first_path(what: &Notice) -> &[u8]
 {
     match what {
         Notice::Presence(_) => &[],
+        Notice::Data(DataEvent::Got { path, .. } | DataEvent::Put { path, .. }) => path.as_slice(),
     }
 }
 
@@ -196,7 +271,7 @@ fn second_path(what: &Notice) -> &[u8]
     ensures { result.now ≡ second_path what.now }
 {
     match what {
-        Notice::Presence(_) => &[],
+        Notice::Presence(_) | Notice::Data(_) => &[],
     }
 }
 

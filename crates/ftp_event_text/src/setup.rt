@@ -1,35 +1,54 @@
 //! The lines of a script, and the lines behind the log.
 
-ghost use Rattle.std.specs.Prelude.{◌≡◌, ◌++◌, ◌^◌, ◌<◌, ℕ, IfOk, OnOk, IsErrOf, Some};
+ghost use Rattle.std.specs.Prelude.{◌≡◌, ◌++◌, ◌^◌, ◌<◌, ℕ, true, IfOk, OnOk, IsErrOf, Some};
 ghost use Rattle.ftp_text.specs.declared.fault.LineFault.TheVariants as fault;
 ghost use Rattle.ftp_event_text.specs.declared.setup.Item.{Item};
-ghost use Rattle.ftp_event_text.specs.Setup.{is_skipped, IsItemOf, sent_line};
-ghost use Rattle.ftp_text.specs.Reading.{Gives};
-ghost use Rattle.ftp_event_text.specs.SetupReading.{ports_at, idle_at, options_at, link_number_at, link_at, whole, item_of};
+ghost use Rattle.ftp_event_text.specs.Setup.{is_skipped, restart_text, is_absolute, IsItemOf, sent_line, file_line};
+ghost use Rattle.ftp_text.specs.Reading.{Gives, find_word};
+ghost use Rattle.ftp_event_text.specs.SetupReading.{ports_at, restarts, restart_at, idle_at, options_at, storage_at, dir_at, file_at, link_calls_at, link_at, whole, item_of};
 
 use crate::event::read_event;
-use ftp_base::Bytes;
+use ftp_base::{Bytes, LinkFault};
 use ftp_events::HubEvent;
-use ftp_text::LineFault;
 use ftp_text::field::{self, literal};
-use ftp_text::writing::{put, put_byte, put_hex_bytes, put_number};
+use ftp_text::writing::{put, put_byte, put_hex_bytes, put_number, put_text_field};
+use ftp_text::{FailingCalls, LineFault, failing_calls};
 use std::alloc::{AllocError, Global};
+
+const RESTARTS: [bool; 2] = [true, false];
 
 /// What a line of a script says.
 #[derive(Drop)]
 pub enum Item {
     /// Nothing: the line is empty or a comment.
     Skip,
-    /// Pooled mode with these passive ports, both included, and an idle time in seconds.
+    /// Pooled mode with these passive ports, both included, and an idle time in seconds. Transfers can begin at a
+    /// restart offset, or cannot.
     Options {
         lo: u16,
         hi: u16,
         idle: u32,
+        restart: bool,
     },
-    /// A link that gives these bytes, and moves at most `chunk` bytes a call.
+    /// A storage whose files have at most `max` bytes, of whose calls these fail.
+    Storage {
+        max: u64,
+        fails: FailingCalls<u64>,
+    },
+    /// A directory.
+    Dir {
+        path: Bytes,
+    },
+    /// A file.
+    File {
+        bytes: Bytes,
+        path: Bytes,
+    },
+    /// A link that gives these bytes, and moves at most `chunk` bytes a call. Of its calls these fail.
     Link {
         number: u64,
         chunk: u32,
+        fails: FailingCalls<(u64, LinkFault)>,
         bytes: Bytes,
     },
     Event(HubEvent),
@@ -61,6 +80,9 @@ fn item_in(alloc: Global, line: &[u8]) -> Result<Item, LineFault>
     }
     match line {
         [b'o', ..] => whole(options(line)?),
+        [b's', ..] => whole(storage(alloc, line)?),
+        [b'd', ..] => whole(dir(alloc, line)?),
+        [b'f', ..] => whole(file(alloc, line)?),
         [b'l', ..] => whole(link(alloc, line)?),
         _ => Ok(Item::Event(read_event(alloc, line)?)),
     }
@@ -94,7 +116,7 @@ fn options(bytes: &[u8]) -> Result<(Item, &[u8]), LineFault>
 {
     let rest = literal(b"options pooled", bytes)?;
     let ((lo, hi), rest) = ports(rest)?;
-    let (idle, rest) = idle(rest)?;
+    let ((idle, restart), rest) = idle(rest)?;
     if lo < 1 || hi < lo {
         return Err(LineFault::Bad);
     }
@@ -102,6 +124,7 @@ fn options(bytes: &[u8]) -> Result<(Item, &[u8]), LineFault>
         lo: lo as u16,
         hi: hi as u16,
         idle: idle as u32,
+        restart,
     };
     Ok((item, rest))
 }
@@ -116,13 +139,85 @@ fn ports(bytes: &[u8]) -> Result<((u64, u64), &[u8]), LineFault>
     Ok(((lo, hi), rest))
 }
 
-fn idle(bytes: &[u8]) -> Result<(u64, &[u8]), LineFault>
+fn idle(bytes: &[u8]) -> Result<((u64, bool), &[u8]), LineFault>
     ensures read { Gives (λ x. (x.0, x.1.now)) result (idle_at bytes.now) }
-    ensures limit { IfOk result (λ x. x.0 < 2 ^ 32) }
+    ensures limit { IfOk result (λ x. x.0.0 < 2 ^ 32) }
 {
     let (idle, rest) = field::small(4294967296, bytes)?;
-    let rest = literal(b" off restart", rest)?;
-    Ok((idle, rest))
+    let rest = literal(b" off", rest)?;
+    let (restart, rest) = restart(rest)?;
+    Ok(((idle, restart), rest))
+}
+
+#[tactic(auto, unfolding(crate::specs::SetupReading::restart_at))]
+fn restart(bytes: &[u8]) -> Result<(bool, &[u8]), LineFault>
+    ensures { Gives (λ x. (x.0, x.1.now)) result (restart_at bytes.now) }
+{
+    let (text, rest) = field::word(bytes)?;
+    match restart_of(text) {
+        Some(restart) => Ok((restart, rest)),
+        None => Err(LineFault::Bad),
+    }
+}
+
+fn restart_of(text: &[u8]) -> Option<bool>
+    ensures { result ≡ find_word restart_text restarts text.now }
+{
+    RESTARTS
+        .iter()
+        .copied()
+        .find(|restart| restart_text(*restart) == text)
+}
+
+fn restart_text(restart: bool) -> &'static [u8]
+    ensures { result.now ≡ restart_text restart }
+{
+    if restart { b"restart" } else { b"norestart" }
+}
+
+#[tactic(auto, unfolding(crate::specs::SetupReading::storage_at))]
+fn storage(alloc: Global, bytes: &[u8]) -> Result<(Item, &[u8]), LineFault>
+    ensures { Gives (λ x. (x.0, x.1.now)) result (storage_at bytes.now) }
+{
+    let rest = literal(b"storage", bytes)?;
+    let (max, rest) = field::number(rest)?;
+    let (fails, rest) = failing_calls(alloc, rest)?;
+    Ok((Item::Storage { max, fails }, rest))
+}
+
+#[tactic(auto, unfolding(crate::specs::SetupReading::dir_at))]
+fn dir(alloc: Global, bytes: &[u8]) -> Result<(Item, &[u8]), LineFault>
+    ensures { Gives (λ x. (x.0, x.1.now)) result (dir_at bytes.now) }
+{
+    let rest = literal(b"dir", bytes)?;
+    let (path, rest) = field::text_to_end(alloc, rest)?;
+    if !is_absolute(path.as_slice()) {
+        return Err(LineFault::Bad);
+    }
+    Ok((Item::Dir { path }, rest))
+}
+
+#[tactic(auto, unfolding(crate::specs::SetupReading::file_at))]
+fn file(alloc: Global, bytes: &[u8]) -> Result<(Item, &[u8]), LineFault>
+    ensures { Gives (λ x. (x.0, x.1.now)) result (file_at bytes.now) }
+{
+    let rest = literal(b"file", bytes)?;
+    let (bytes, rest) = field::hex_bytes(alloc, rest)?;
+    let (path, rest) = field::text_to_end(alloc, rest)?;
+    if !is_absolute(path.as_slice()) {
+        return Err(LineFault::Bad);
+    }
+    Ok((Item::File { bytes, path }, rest))
+}
+
+// Whether the path begins at the root.
+fn is_absolute(path: &[u8]) -> bool
+    ensures { result ≡ is_absolute path.now }
+{
+    match path {
+        [b'/', ..] => true,
+        _ => false,
+    }
 }
 
 #[tactic(auto, unfolding(crate::specs::SetupReading::link_at))]
@@ -130,7 +225,7 @@ fn link(alloc: Global, bytes: &[u8]) -> Result<(Item, &[u8]), LineFault>
     ensures { Gives (λ x. (x.0, x.1.now)) result (link_at bytes.now) }
 {
     let rest = literal(b"link", bytes)?;
-    let ((number, chunk), rest) = link_number(rest)?;
+    let (((number, chunk), fails), rest) = link_calls(alloc, rest)?;
     let (bytes, rest) = field::hex_bytes(alloc, rest)?;
     if chunk < 1 {
         return Err(LineFault::Bad);
@@ -138,19 +233,23 @@ fn link(alloc: Global, bytes: &[u8]) -> Result<(Item, &[u8]), LineFault>
     let item = Item::Link {
         number,
         chunk: chunk as u32,
+        fails,
         bytes,
     };
     Ok((item, rest))
 }
 
-fn link_number(bytes: &[u8]) -> Result<((u64, u64), &[u8]), LineFault>
-    ensures read { Gives (λ x. (x.0, x.1.now)) result (link_number_at bytes.now) }
-    ensures limit { IfOk result (λ x. x.0.1 < 65537) }
+/// The number and the chunk of a link, and its calls that fail.
+type LinkCalls = ((u64, u64), FailingCalls<(u64, LinkFault)>);
+
+fn link_calls(alloc: Global, bytes: &[u8]) -> Result<(LinkCalls, &[u8]), LineFault>
+    ensures read { Gives (λ x. (x.0, x.1.now)) result (link_calls_at bytes.now) }
+    ensures limit { IfOk result (λ x. x.0.0.1 < 65537) }
 {
     let (number, rest) = field::number(bytes)?;
     let (chunk, rest) = field::small(65537, rest)?;
-    let rest = literal(b" -", rest)?;
-    Ok(((number, chunk), rest))
+    let (fails, rest) = failing_calls(alloc, rest)?;
+    Ok((((number, chunk), fails), rest))
 }
 
 /// Writes the line on what was sent on a link.
@@ -161,5 +260,15 @@ pub fn put_sent(out: &mut Vec<u8>, number: u64, bytes: &[u8]) -> Result<(), Allo
     put_number(out, number)?;
     put(out, b" sent ")?;
     put_hex_bytes(out, bytes)?;
+    put_byte(out, b'\n')
+}
+
+/// Writes the line on a file of the storage.
+pub fn put_file(out: &mut Vec<u8>, path: &[u8], bytes: &[u8]) -> Result<(), AllocError>
+    ensures { OnOk result (out.new.items ≡ out.old.items ++ file_line (path.now, bytes.now)) }
+{
+    put(out, b"file ")?;
+    put_hex_bytes(out, bytes)?;
+    put_text_field(out, path)?;
     put_byte(out, b'\n')
 }

@@ -2,9 +2,10 @@
 
 ghost use Rattle.std.specs.Prelude.{◌≡◌};
 ghost use Rattle.ftp_text.specs.Reading.{Gives, find_word};
-ghost use Rattle.ftp_event_text.specs.Events.{event_word_text};
+ghost use Rattle.ftp_event_text.specs.Events.{event_word_text, command_word};
 ghost use Rattle.ftp_event_text.specs.EventReading.{event_words, event_word_field};
 
+use ftp_base::DataChanCmd;
 use ftp_text::{LineFault, field};
 
 /// The word of a kind of event.
@@ -16,17 +17,37 @@ pub enum EventWord {
     Pass,
     Auth,
     Pasv,
+    Retr,
+    Stor,
+    Appe,
+    List,
+    Nlst,
+    Mlsd,
+    Stou,
+    Rest,
+    Cwd,
     Closed,
+    End,
 }
 
-const EVENT_WORDS: [EventWord; 7] = [
+const EVENT_WORDS: [EventWord; 17] = [
     EventWord::Connect,
     EventWord::Data,
     EventWord::User,
     EventWord::Pass,
     EventWord::Auth,
     EventWord::Pasv,
+    EventWord::Retr,
+    EventWord::Stor,
+    EventWord::Appe,
+    EventWord::List,
+    EventWord::Nlst,
+    EventWord::Mlsd,
+    EventWord::Stou,
+    EventWord::Rest,
+    EventWord::Cwd,
     EventWord::Closed,
+    EventWord::End,
 ];
 
 pub fn event_word_text(word: EventWord) -> &'static [u8]
@@ -39,7 +60,30 @@ pub fn event_word_text(word: EventWord) -> &'static [u8]
         EventWord::Pass => b"pass",
         EventWord::Auth => b"auth",
         EventWord::Pasv => b"pasv",
+        EventWord::Retr => b"retr",
+        EventWord::Stor => b"stor",
+        EventWord::Appe => b"appe",
+        EventWord::List => b"list",
+        EventWord::Nlst => b"nlst",
+        EventWord::Mlsd => b"mlsd",
+        EventWord::Stou => b"stou",
+        EventWord::Rest => b"rest",
+        EventWord::Cwd => b"cwd",
         EventWord::Closed => b"closed",
+        EventWord::End => b"end",
+    }
+}
+
+pub fn command_word(command: &DataChanCmd) -> EventWord
+    ensures { result ≡ command_word command.now }
+{
+    match command {
+        DataChanCmd::Retr { .. } => EventWord::Retr,
+        DataChanCmd::Stor { .. } => EventWord::Stor,
+        DataChanCmd::Appe { .. } => EventWord::Appe,
+        DataChanCmd::List { .. } => EventWord::List,
+        DataChanCmd::Nlst { .. } => EventWord::Nlst,
+        DataChanCmd::Mlsd { .. } => EventWord::Mlsd,
     }
 }
 

@@ -5,13 +5,14 @@ ghost use Rattle.ftp_events.specs.declared.event.EventKind.TheVariants as kind;
 ghost use Rattle.ftp_text.specs.Fields.{number};
 ghost use Rattle.ftp_event_text.specs.Events.{word_field, kind_fields, event_line};
 
-use crate::word::{EventWord, event_word_text};
-use ftp_base::SocketAddr;
+use crate::word::{EventWord, command_word, event_word_text};
+use ftp_base::{DataChanCmd, ErrorKind, SocketAddr};
 use ftp_events::{EventKind, HubEvent};
 use ftp_text::writing::{
-    put_address, put_answer, put_decimal, put_field, put_number, put_optional_dotted,
-    put_optional_port, put_text_field,
+    put_address, put_answer, put_decimal, put_field, put_hex_word, put_number, put_optional_dotted,
+    put_optional_port, put_optional_text, put_refusal, put_text_field, put_ticket,
 };
+use ftp_transfer::Ticket;
 use std::alloc::AllocError;
 
 /// Writes the event's line at the end of the buffer, without a line feed.
@@ -48,7 +49,16 @@ fn put_kind(out: &mut Vec<u8>, kind: &EventKind) -> Result<(), AllocError>
             lookup,
             bound,
         } => put_pasv(out, *session, *word, *lookup, *bound),
+        EventKind::Transfer { session, command } => put_transfer(out, *session, command),
+        EventKind::Stou { session, word } => put_stou(out, *session, *word),
+        EventKind::Rest { session, offset } => put_rest(out, *session, *offset),
+        EventKind::Cwd {
+            session,
+            path,
+            refusal,
+        } => put_cwd(out, *session, path.as_slice(), *refusal),
         EventKind::Closed { session } => put_numbered(out, EventWord::Closed, *session),
+        EventKind::End { ticket } => put_end(out, *ticket),
     }
 }
 
@@ -88,6 +98,47 @@ fn put_pasv(
     put_number(out, u64::from(word))?;
     put_optional_dotted(out, lookup)?;
     put_optional_port(out, bound)
+}
+
+fn put_transfer(out: &mut Vec<u8>, session: u64, command: &DataChanCmd) -> Result<(), AllocError>
+    ensures { OnOk result (out.new.items ≡ out.old.items ++ kind_fields (kind.Transfer session command.now)) }
+{
+    put_numbered(out, command_word(command), session)?;
+    put_optional_text(out, command.path())
+}
+
+fn put_stou(out: &mut Vec<u8>, session: u64, word: u128) -> Result<(), AllocError>
+    ensures { OnOk result (out.new.items ≡ out.old.items ++ kind_fields (kind.Stou session word)) }
+{
+    put_numbered(out, EventWord::Stou, session)?;
+    put_hex_word(out, word)
+}
+
+fn put_rest(out: &mut Vec<u8>, session: u64, offset: u64) -> Result<(), AllocError>
+    ensures { OnOk result (out.new.items ≡ out.old.items ++ kind_fields (kind.Rest session offset)) }
+{
+    put_numbered(out, EventWord::Rest, session)?;
+    put_number(out, offset)
+}
+
+fn put_cwd(
+    out: &mut Vec<u8>,
+    session: u64,
+    path: &[u8],
+    refusal: Option<ErrorKind>,
+) -> Result<(), AllocError>
+    ensures { OnOk result (out.new.items ≡ out.old.items ++ kind_fields (kind.Cwd session path.now refusal)) }
+{
+    put_numbered(out, EventWord::Cwd, session)?;
+    put_refusal(out, refusal)?;
+    put_text_field(out, path)
+}
+
+fn put_end(out: &mut Vec<u8>, ticket: Ticket) -> Result<(), AllocError>
+    ensures { OnOk result (out.new.items ≡ out.old.items ++ kind_fields (kind.End ticket)) }
+{
+    put_field(out, event_word_text(EventWord::End))?;
+    put_ticket(out, ticket.session, ticket.nr)
 }
 
 // The word of an event, and the number that it is about.

@@ -1,13 +1,19 @@
 -- Worked examples, each by computation.
-use Rattle.std.specs.Prelude.{◌≡◌, ◌++◌, refl, [], ◌∷◌, codes, None}
+use Rattle.std.specs.Prelude.{ℕ, ◌≡◌, ◌++◌, refl, true, false, List, [], ◌∷◌, map, reverse, codes, Option, Some, None}
 use Rattle.ftp_base.specs.declared.login.AuthAnswer.TheVariants.{Good, Refused}
-use Rattle.ftp_base.specs.declared.notice.Notice.TheVariants.{Presence}
+use Rattle.ftp_base.specs.declared.error_kind.ErrorKind.TheVariants as error
+use Rattle.ftp_base.specs.declared.command.DataChanCmd.TheVariants.{Retr, Stor}
+use Rattle.ftp_base.specs.declared.notice.DataEvent.TheVariants.{Got, Put}
+use Rattle.ftp_base.specs.declared.notice.Notice.TheVariants.{Presence, Data}
 use Rattle.ftp_base.specs.declared.notice.PresenceEvent.TheVariants as presence
 use Rattle.ftp_base.specs.declared.reply.ReplyCode.TheVariants as code
 use Rattle.ftp_events.specs.declared.event.EventKind.TheVariants as kind
 use Rattle.ftp_events.specs.declared.decision.Decision.TheVariants as decision
 use Rattle.ftp_events.specs.declared.action.Action.TheVariants as action
-use Rattle.ftp_events.proofs.Script.{everything, addr, two_ports, one_port, all_ports, opened, event, login, pasv, told_after, decided_after, say, data_in, a1, a2}
+use Rattle.ftp_transfer.specs.declared.job.Completion.TheVariants.{Sent, Written}
+use Rattle.ftp_events.specs.Fate.{Fate, CompletedAt, CancelledAt, AwaitsConnection, AwaitsItsEnd, AwaitsEarlierEnd, fate}
+use Rattle.ftp_events.specs.Right.{log_of}
+use Rattle.ftp_events.proofs.Script.{Event, everything, ticket, ended, addr, two_ports, one_port, all_ports, opened, event, login, pasv, told_after, decided_after, say, data_in, a1, a2}
 
 -- the login itself
 a_login : told_after 0 two_ports (login 1 a1)
@@ -84,3 +90,115 @@ ending_frees : told_after 8 one_port
     ∷ (decision.UnknownNumber, []) ∷ [])
 unfolding everything
 ending_frees = refl
+
+-- a restart offset is told, and a directory changes where the storage does not refuse it
+offset_and_directory : told_after 4 two_ports
+    (login 1 a1 ++ event 1 (kind.Rest 1 6) ∷ event 1 (kind.Cwd 1 (codes "uploads") None) ∷ event 1 (kind.Cwd 1 (codes "none") (Some error.PermanentDirectoryNotAvailable)) ∷ [])
+    ≡ ((decision.RestOk, say 1 code.FileActionPending (codes "Restarting at 6. Now send STORE or RETRIEVE.") ∷ [])
+    ∷ (decision.CwdOk, say 1 code.FileActionOkay (codes "Successfully changed working directory") ∷ [])
+    ∷ (decision.CwdRefused error.PermanentDirectoryNotAvailable, say 1 code.FileError (codes "Directory not found") ∷ []) ∷ [])
+unfolding everything
+offset_and_directory = refl
+
+-- a download: its link comes, it starts, and at its end the session and the listeners are told
+download : told_after 5 two_ports
+    (login 1 a1 ++ pasv 1 0 ∷ event 1 (kind.Transfer 1 (Retr (codes "a.txt"))) ∷ data_in 11 (addr a1 4001) 50000 ∷ ended 1 1 Sent 5 ∷ [])
+    ≡ ((decision.Queued (ticket 1 1), say 1 code.FileStatusOkay (codes "Sending data") ∷ [])
+    ∷ (decision.Attached 1, action.Start (ticket 1 1) 11 ∷ [])
+    ∷ (
+      decision.Finished,
+      action.Completed (ticket 1 1) true
+          ∷ action.Notify 1 (record { username = codes "ann"; trace_id = record { 0 = 1 }; sequence_number = 2 }) (Data (Got (codes "/a.txt") 5))
+          ∷ say 1 code.ClosingDataConnection (codes "Successfully sent") ∷ [],
+    ) ∷ [])
+unfolding everything
+download = refl
+
+-- a unique name is told with its 150
+unique_reply : told_after 5 two_ports (login 1 a1 ++ pasv 1 0 ∷ event 1 (kind.Stou 1 0) ∷ [])
+    ≡ ((decision.Queued (ticket 1 1), say 1 code.FileStatusOkay (codes "00000000-0000-4000-8000-000000000000") ∷ []) ∷ [])
+unfolding everything
+unique_reply = refl
+
+-- a second transfer waits for the end of the first, and one that has no slot is refused
+two_transfers : told_after 7 two_ports
+    (login 1 a1 ++ pasv 1 0 ∷ event 1 (kind.Transfer 1 (Retr (codes "a"))) ∷ data_in 11 (addr a1 4001) 50000
+    ∷ event 1 (kind.Transfer 1 (Retr (codes "b"))) ∷ pasv 1 0 ∷ event 1 (kind.Transfer 1 (Stor (codes "b"))) ∷ data_in 12 (addr a1 4002) 50000 ∷ ended 1 1 Sent 5 ∷ [])
+    ≡ ((decision.NoSlot, say 1 code.CantOpenDataConnection (codes "No data connection established") ∷ [])
+    ∷ (decision.Granted 50000, say 1 code.EnteringPassiveMode (codes "Entering Passive Mode (10,0,0,9,195,80)") ∷ [])
+    ∷ (decision.Queued (ticket 1 2), say 1 code.FileStatusOkay (codes "Ready to receive data") ∷ [])
+    ∷ (decision.Attached 1, [])
+    ∷ (
+      decision.Finished,
+      action.Completed (ticket 1 1) true
+          ∷ action.Notify 1 (record { username = codes "ann"; trace_id = record { 0 = 1 }; sequence_number = 2 }) (Data (Got (codes "/a") 5))
+          ∷ say 1 code.ClosingDataConnection (codes "Successfully sent") ∷ action.Start (ticket 1 2) 12 ∷ [],
+    ) ∷ [])
+unfolding everything
+two_transfers = refl
+
+-- a transfer whose slot goes is cancelled, and a job whose session has ended is lost
+cancelled_and_lost : told_after 6 two_ports
+    (login 1 a1 ++ pasv 1 0 ∷ event 1 (kind.Transfer 1 (Retr (codes "a"))) ∷ pasv 1 0 ∷ event 1 (kind.Transfer 1 (Retr (codes "a"))) ∷ data_in 11 (addr a1 4001) 50001
+    ∷ event 1 (kind.Closed 1) ∷ ended 1 2 Sent 5 ∷ ended 1 2 Sent 5 ∷ [])
+    ≡ ((
+      decision.Granted 50001,
+      action.Cancelled (ticket 1 1) ∷ say 1 code.ConnectionClosed (codes "Datachannel unexpectedly closed")
+          ∷ say 1 code.EnteringPassiveMode (codes "Entering Passive Mode (10,0,0,9,195,81)") ∷ [],
+    )
+    ∷ (decision.Queued (ticket 1 2), say 1 code.FileStatusOkay (codes "Sending data") ∷ [])
+    ∷ (decision.Attached 1, action.Start (ticket 1 2) 11 ∷ [])
+    ∷ (decision.Closed, action.Notify 1 (record { username = codes "ann"; trace_id = record { 0 = 1 }; sequence_number = 2 }) (Presence presence.LoggedOut) ∷ action.Close 1 ∷ [])
+    ∷ (decision.Finished, action.Completed (ticket 1 2) false ∷ [])
+    ∷ (decision.UnknownNumber, []) ∷ [])
+unfolding everything
+cancelled_and_lost = refl
+
+-- an upload at a restart offset, in the directory of its 150; then no offset is left
+upload_in_a_directory : told_after 4 two_ports
+    (login 1 a1 ++ event 1 (kind.Cwd 1 (codes "/up") None) ∷ event 1 (kind.Rest 1 3) ∷ pasv 1 0 ∷ event 1 (kind.Transfer 1 (Stor (codes "n")))
+    ∷ event 1 (kind.Cwd 1 (codes "/") None) ∷ data_in 11 (addr a1 4001) 50000 ∷ ended 1 1 Written 2 ∷ [])
+    ≡ ((decision.CwdOk, say 1 code.FileActionOkay (codes "Successfully changed working directory") ∷ [])
+    ∷ (decision.RestOk, say 1 code.FileActionPending (codes "Restarting at 3. Now send STORE or RETRIEVE.") ∷ [])
+    ∷ (decision.Granted 50000, say 1 code.EnteringPassiveMode (codes "Entering Passive Mode (10,0,0,9,195,80)") ∷ [])
+    ∷ (decision.Queued (ticket 1 1), say 1 code.FileStatusOkay (codes "Ready to receive data") ∷ [])
+    ∷ (decision.CwdOk, say 1 code.FileActionOkay (codes "Successfully changed working directory") ∷ [])
+    ∷ (decision.Attached 1, action.Start (ticket 1 1) 11 ∷ [])
+    ∷ (
+      decision.Finished,
+      action.Completed (ticket 1 1) true
+          ∷ action.Notify 1 (record { username = codes "ann"; trace_id = record { 0 = 1 }; sequence_number = 2 }) (Data (Put (codes "/up/n") 2))
+          ∷ say 1 code.ClosingDataConnection (codes "File successfully written") ∷ [],
+    ) ∷ [])
+unfolding everything
+upload_in_a_directory = refl
+
+-- it asks for a file
+abbrev retr : Event
+retr = event 1 (kind.Transfer 1 (Retr (codes "/a")))
+
+-- the file was sent
+abbrev sent : ℕ → Event
+sent nr = ended 1 nr Sent 5
+
+-- the fates of the first four transfers of session 1, after events, oldest first
+abbrev fates_after : List Event → List (Option Fate)
+fates_after events = map (λ nr. fate two_ports (log_of two_ports (reverse events)) (ticket 1 nr)) (1 ∷ 2 ∷ 3 ∷ 4 ∷ [])
+
+-- completed by its end, cancelled by another grant, and without a connection
+fates_apart : fates_after (login 1 a1 ++ pasv 1 0 ∷ data_in 11 (addr a1 4001) 50000 ∷ retr ∷ sent 1 ∷ pasv 1 0 ∷ retr ∷ pasv 1 0 ∷ retr ∷ [])
+    ≡ (Some (CompletedAt 7) ∷ Some (CancelledAt 10) ∷ Some AwaitsConnection ∷ None ∷ [])
+unfolding everything
+fates_apart = refl
+
+-- while one runs the next waits for the end of it
+fates_in_turn : fates_after (login 1 a1 ++ pasv 1 0 ∷ data_in 11 (addr a1 4001) 50000 ∷ retr ∷ pasv 1 0 ∷ data_in 12 (addr a1 4002) 50000 ∷ retr ∷ [])
+    ≡ (Some AwaitsItsEnd ∷ Some AwaitsEarlierEnd ∷ None ∷ None ∷ [])
+unfolding everything
+fates_in_turn = refl
+
+-- the end of the one starts the next, and the end of the session cancels what waits
+fates_at_the_end : fates_after (login 1 a1 ++ pasv 1 0 ∷ data_in 11 (addr a1 4001) 50000 ∷ retr ∷ pasv 1 0 ∷ data_in 12 (addr a1 4002) 50000 ∷ retr ∷ sent 1 ∷ pasv 1 0 ∷ retr ∷ event 2 (kind.Closed 1) ∷ sent 2 ∷ [])
+    ≡ (Some (CompletedAt 10) ∷ Some (CompletedAt 14) ∷ Some (CancelledAt 13) ∷ None ∷ [])
+unfolding everything
+fates_at_the_end = refl

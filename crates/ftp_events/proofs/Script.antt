@@ -8,6 +8,8 @@ use Rattle.ftp_base.specs.declared.login.AuthAnswer.TheVariants.{Good}
 use Rattle.ftp_base.specs.declared.reply.Reply.TheVariants.{CodeAndMsg}
 use Rattle.ftp_base.specs.declared.reply.ReplyCode.{ReplyCode}
 use Rattle.ftp_options.specs.declared.options.Options.{Options}
+use Rattle.ftp_transfer.specs.declared.job.Ticket.{Ticket}
+use Rattle.ftp_transfer.specs.declared.job.Completion.{Completion}
 use Rattle.ftp_options.specs.declared.options.ListenerMode.TheVariants.{Pooled}
 use Rattle.ftp_options.specs.declared.options.PassiveHost.TheVariants.{FromConnection}
 use Rattle.ftp_options.specs.declared.options.ActivePassiveMode.TheVariants.{PassiveOnly}
@@ -24,6 +26,7 @@ use Rattle.ftp_events.specs.Decide.{decide}
 use Rattle.ftp_events.specs.Acts.{acts}
 use Rattle.ftp_events.specs.Right.{log_of}
 use Rattle.std.specs.Fmt.{digits}
+use Rattle.uuid.specs.Text.{by_index}
 
 -- an address by its four numbers
 abbrev pub ip : ℕ → ℕ → ℕ → ℕ → IpAddr
@@ -35,15 +38,15 @@ addr a p = record { ip = a; port = p }
 
 -- pooled mode with the passive ports 50000 to 50001
 abbrev pub two_ports : Options
-two_ports = record { mode = Pooled; lo = 50000; hi = 50001; host = FromConnection; active_passive = PassiveOnly; idle_ms = 600000; ordered = lit≤ tt; listens = λ _. lit≤ tt }
+two_ports = record { mode = Pooled; lo = 50000; hi = 50001; host = FromConnection; active_passive = PassiveOnly; idle_ms = 600000; features = 1; ordered = lit≤ tt; listens = λ _. lit≤ tt }
 
 -- with the port 50000 alone
 abbrev pub one_port : Options
-one_port = record { mode = Pooled; lo = 50000; hi = 50000; host = FromConnection; active_passive = PassiveOnly; idle_ms = 600000; ordered = lit≤ tt; listens = λ _. lit≤ tt }
+one_port = record { mode = Pooled; lo = 50000; hi = 50000; host = FromConnection; active_passive = PassiveOnly; idle_ms = 600000; features = 1; ordered = lit≤ tt; listens = λ _. lit≤ tt }
 
 -- with all ports
 abbrev pub all_ports : Options
-all_ports = record { mode = Pooled; lo = 1; hi = 65535; host = FromConnection; active_passive = PassiveOnly; idle_ms = 600000; ordered = lit≤ tt; listens = λ _. lit≤ tt }
+all_ports = record { mode = Pooled; lo = 1; hi = 65535; host = FromConnection; active_passive = PassiveOnly; idle_ms = 600000; features = 1; ordered = lit≤ tt; listens = λ _. lit≤ tt }
 
 -- an event and its answer
 abbrev pub Event : Type 0
@@ -70,6 +73,18 @@ pasv s word = event 1 (kind.Pasv s word None None)
 abbrev pub data_in : ℕ → SocketAddr → ℕ → Event
 data_in number raw port = event 1 (kind.DataIn number raw port)
 
+-- a ticket
+abbrev pub ticket : ℕ → ℕ → Ticket
+ticket s nr = record { session = s; nr = nr }
+
+-- a transfer that was run without a fault
+abbrev pub done : Completion → ℕ → Answer
+done r n = answer.Done (record { result = r; bytes = n; fault = None })
+
+-- the end of a transfer of session s
+abbrev pub ended : ℕ → ℕ → Completion → ℕ → Event
+ended s nr r n = (record { at = 1; kind = kind.End (ticket s nr) }, done r n)
+
 -- what an entry decided and did
 abbrev pub said : Entry → Decision × List Action
 said e = (e.decision, e.actions)
@@ -95,5 +110,5 @@ a2 = ip 10 0 0 2
 
 -- opens all that the definitions compute with
 unfoldable pub everything : ℕ
-unfolding decide acts digits
+unfolding decide acts digits by_index
 everything = 0

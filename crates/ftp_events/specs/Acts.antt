@@ -1,20 +1,25 @@
 -- What is done because of an entry, in order.
-use Rattle.std.specs.Prelude.{ℕ, ◌+◌, List, [], ◌∷◌, ◌++◌, Option, Some, None, unwrap_or, if◌then◌else◌}
-use Rattle.std.specs.Option.{option_map, option_map_or}
+use Rattle.std.specs.Prelude.{ℕ, ◌+◌, ◌&&◌, Bool, List, [], ◌∷◌, ◌++◌, Option, Some, None, codes, is_some, unwrap_or, if◌then◌else◌}
+use Rattle.std.specs.Option.{option_and_then, option_map, option_map_or}
+use Rattle.ftp_base.specs.declared.message.ControlChanMsg.{ControlChanMsg}
 use Rattle.ftp_base.specs.declared.notice.Notice.{Notice}
-use Rattle.ftp_base.specs.declared.notice.Notice.TheVariants.{Presence}
+use Rattle.ftp_base.specs.declared.notice.Notice.TheVariants.{Presence, Data}
 use Rattle.ftp_base.specs.declared.notice.PresenceEvent.{PresenceEvent}
 use Rattle.ftp_base.specs.declared.notice.PresenceEvent.TheVariants as presence
 use Rattle.ftp_base.specs.declared.reply.Reply.{Reply}
 use Rattle.ftp_base.specs.declared.reply.Reply.TheVariants as reply
+use Rattle.ftp_base.specs.declared.reply.ReplyCode.TheVariants as code
+use Rattle.ftp_transfer.specs.declared.job.Job.{Job}
 use Rattle.ftp_options.specs.declared.options.Options.{Options}
 use Rattle.ftp_events.specs.declared.action.Action.{Action}
 use Rattle.ftp_events.specs.declared.action.Action.TheVariants as action
 use Rattle.ftp_events.specs.declared.entry.Entry.{Entry}
 use Rattle.ftp_events.specs.declared.event.EventKind.{EventKind}
+use Rattle.ftp_events.specs.declared.event.EventKind.TheVariants.{End}
 use Rattle.ftp_events.specs.declared.event.Answer.{Answer}
 use Rattle.ftp_events.specs.declared.decision.Decision.{Decision}
-use Rattle.ftp_events.specs.declared.decision.Decision.TheVariants.{Turned, LoggedIn}
+use Rattle.ftp_events.specs.declared.decision.Decision.TheVariants.{Turned, LoggedIn, Finished}
+use Rattle.ftp_events.specs.declared.session.Pending.{Pending}
 use Rattle.ftp_events.specs.declared.session.Slot.{Slot}
 use Rattle.ftp_events.specs.declared.session.Slot.TheVariants.{Empty, Linked}
 use Rattle.ftp_events.specs.declared.session.Session.{Session}
@@ -22,14 +27,26 @@ use Rattle.ftp_events.specs.Words.{◌⇒◌∣◌}
 use Rattle.ftp_events.specs.Log.{is_refusal, past_of, new_number, is_ending}
 use Rattle.ftp_events.specs.History.{subject}
 use Rattle.ftp_events.specs.Login.{login_by, logged_user}
-use Rattle.ftp_events.specs.Slot.{drops}
-use Rattle.ftp_events.specs.Session.{session}
+use Rattle.ftp_events.specs.Slot.{drops, started_by}
+use Rattle.ftp_events.specs.Session.{lives_on, queued_for, lane_in, session, running_job}
+use Rattle.ftp_events.specs.Message.{notice_of}
 use Rattle.ftp_events.specs.Reply.{trace_of, message_for, reply_for, delay_of}
 
 -- the link that a slot has
 abbrev pub link_in : Slot → Option ℕ
 link_in (Linked number) = Some number
 link_in _ = None
+
+-- the end of a job is told to the session, where that is live
+abbrev pub completions : EventKind → Decision → Bool → List Action
+completions (End ticket) Finished delivered = action.Completed ticket delivered ∷ []
+completions _ _ delivered = []
+
+-- a transfer that is dropped is cancelled, and a session that stays is told
+abbrev pub cancellations : ℕ → Bool → Option Pending → List Action
+cancellations s stays None = []
+cancellations s stays (Some p) =
+    action.Cancelled p.ticket ∷ (if stays then action.Reply s 0 (reply.CodeAndMsg code.ConnectionClosed (codes "Datachannel unexpectedly closed")) ∷ [] else [])
 
 -- a link that is dropped is closed
 abbrev pub closings : Option ℕ → List Action
@@ -41,9 +58,10 @@ abbrev pub presence_for : Decision → Option PresenceEvent
 presence_for LoggedIn = Some presence.LoggedIn
 presence_for d = is_ending d ⇒ Some presence.LoggedOut ∣ None
 
--- what listeners are told
-abbrev pub notice_for : Option PresenceEvent → Option Notice
-notice_for p = option_map Presence p
+-- what listeners are told: a coming or going, or what a message notifies
+abbrev pub notice_for : Option ControlChanMsg → Option PresenceEvent → Option Notice
+notice_for m (Some p) = Some (Presence p)
+notice_for m None = option_map Data (option_and_then notice_of m)
 
 -- a notification has the next number of the session
 abbrev pub notifications : ℕ → Session → List ℕ → Option Notice → List Action
@@ -66,31 +84,52 @@ abbrev pub farewells : ℕ → Decision → List Action
 farewells s d = is_ending d ⇒ action.Close s ∷ [] ∣ []
 
 -- what a live session gets: a notice, and a reply
-abbrev pub notice_and_reply : Options → ℕ → EventKind → Answer → Decision → Session → List Action
-notice_and_reply o s k answer d v =
-    notifications s v (logged_user (unwrap_or (login_by d) v.login) v.name) (notice_for (presence_for d)) ++
-    reply_acts s (delay_of d) (reply_for o v (message_for v k answer d) k d)
+abbrev pub notice_and_reply : Options → ℕ → EventKind → Answer → Decision → Option Job → Session → List Action
+notice_and_reply o s k answer d job v =
+    let m = message_for v job k answer d in
+    notifications s v (logged_user (unwrap_or (login_by d) v.login) v.name) (notice_for m (presence_for d)) ++
+    reply_acts s (delay_of d) (reply_for o v m k d)
 
 -- the slot of a session that is live
 abbrev pub slot_of : Option Session → Slot
 slot_of None = Empty
 slot_of (Some v) = v.slot
 
--- what a session loses with its slot
-abbrev pub drop_acts : Decision → Slot → List Action
-drop_acts d slot = if drops d slot then closings (link_in slot) else []
+-- the transfer that waits in the slot of a session that is live
+abbrev pub pending_in : Option Session → Option Pending
+pending_in None = None
+pending_in (Some v) = v.pending
 
--- what an event does for the session that it is about, in order, from what the session is before
-abbrev pub session_acts : Options → ℕ → EventKind → Answer → Decision → Option Session → List Action
-session_acts o s k answer d v =
-    drop_acts d (slot_of v) ++
+-- the session is live after a decision
+abbrev pub stays : Decision → Option Session → Bool
+stays d v = is_some v && lives_on d
+
+-- what a session loses with its slot
+abbrev pub drop_acts : ℕ → Bool → Decision → Slot → Option Pending → List Action
+drop_acts s staying d slot pending = if drops d slot then cancellations s staying pending ++ closings (link_in slot) else []
+
+-- the job that starts
+abbrev pub start_acts : Option Job → List Action
+start_acts None = []
+start_acts (Some job) = action.Start job.ticket job.number ∷ []
+
+-- the job of a live session that starts with an event
+abbrev pub starting : EventKind → Decision → Option Job → Session → Option Job
+starting k d job v = started_by k d (queued_for d k v) (lane_in v job)
+
+-- what an event does for the session that it is about, in order, from what the session is before and the job that ran
+abbrev pub session_acts : Options → ℕ → EventKind → Answer → Decision → Option Job → Option Session → List Action
+session_acts o s k answer d job v =
+    completions k d (stays d v) ++
+    drop_acts s (stays d v) d (slot_of v) (pending_in v) ++
     refused_link k d ++
-    option_map_or (notice_and_reply o s k answer d) v [] ++
+    option_map_or (notice_and_reply o s k answer d job) v [] ++
+    start_acts (option_and_then (starting k d job) v) ++
     farewells s d
 
 -- what an entry does for the session that it is about
 abbrev pub acts_for : Options → List Entry → Entry → ℕ → List Action
-acts_for o past e s = session_acts o s e.event.kind e.answer e.decision (session o past s)
+acts_for o past e s = session_acts o s e.event.kind e.answer e.decision (running_job o past s) (session o past s)
 
 -- what an entry does
 abbrev pub acts_of : Options → List Entry → Entry → List Action

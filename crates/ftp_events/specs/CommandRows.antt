@@ -1,13 +1,18 @@
 -- What is decided on the commands of a session.
-use Rattle.std.specs.Prelude.{ℕ, Bool, true, false, List}
+use Rattle.std.specs.Prelude.{ℕ, ◌+◌, Bool, true, false, List, Option, Some, None}
 use Rattle.std.specs.Option.{option_map_or}
+use Rattle.ftp_base.specs.declared.error_kind.ErrorKind.{ErrorKind}
 use Rattle.ftp_options.specs.declared.options.Options.{Options}
+use Rattle.ftp_options.specs.Features.{has_restart}
 use Rattle.ftp_events.specs.declared.entry.Entry.{Entry}
 use Rattle.ftp_events.specs.declared.decision.Decision.{Decision}
-use Rattle.ftp_events.specs.declared.decision.Decision.TheVariants.{NotLoggedIn, Full, Granted}
+use Rattle.ftp_events.specs.declared.decision.Decision.TheVariants.{NotLoggedIn, Full, Granted, NoSlot, Queued, NoRestart, RestOk, CwdRefused, CwdOk}
 use Rattle.ftp_events.specs.declared.session.Login.{Login}
 use Rattle.ftp_events.specs.declared.session.Login.TheVariants as login
+use Rattle.ftp_events.specs.declared.session.Pending.{Pending}
 use Rattle.ftp_events.specs.declared.session.Session.{Session}
+use Rattle.ftp_events.specs.declared.session.Slot.{Slot}
+use Rattle.ftp_events.specs.declared.session.Slot.TheVariants.{Empty}
 use Rattle.ftp_events.specs.Words.{◌⇒◌∣◌}
 use Rattle.ftp_events.specs.Board.{first_free_port}
 
@@ -23,3 +28,22 @@ if_logged_in v d = is_logged_in v.login ⇒ d ∣ NotLoggedIn
 -- PASV: the first free port
 abbrev pub pasv_row : Options → List Entry → ℕ → Session → Decision
 pasv_row o past word v = option_map_or Granted (first_free_port o past v.opening.client word) Full
+
+-- the slot can take a transfer
+abbrev pub can_queue : Slot → Option Pending → Bool
+can_queue Empty pending = false
+can_queue slot (Some p) = false
+can_queue slot None = true
+
+-- a transfer waits in the slot, under the next number of the session
+abbrev pub transfer_row : ℕ → Session → Decision
+transfer_row s v = can_queue v.slot v.pending ⇒ Queued (record { session = s; nr = v.tickets + 1 }) ∣ NoSlot
+
+-- REST
+abbrev pub rest_row : Options → Decision
+rest_row o = has_restart o.features ⇒ RestOk ∣ NoRestart
+
+-- CWD: by what the storage said
+abbrev pub cwd_row : Option ErrorKind → Decision
+cwd_row None = CwdOk
+cwd_row (Some refusal) = CwdRefused refusal

@@ -11,10 +11,11 @@ use Rattle.ftp_events.specs.declared.decision.Decision.{Decision}
 use Rattle.ftp_events.specs.declared.decision.Decision.TheVariants.{UnknownNumber, Closed}
 use Rattle.ftp_events.specs.declared.session.Session.{Session}
 use Rattle.ftp_events.specs.Log.{past_of}
-use Rattle.ftp_events.specs.Session.{session}
+use Rattle.ftp_events.specs.Session.{session, running_job}
 use Rattle.ftp_events.specs.ConnectionRows.{connect_row, data_row}
 use Rattle.ftp_events.specs.LoginRows.{user_row, pass_row, auth_row}
-use Rattle.ftp_events.specs.CommandRows.{if_logged_in, pasv_row}
+use Rattle.ftp_events.specs.CommandRows.{if_logged_in, pasv_row, transfer_row, rest_row, cwd_row}
+use Rattle.ftp_events.specs.EndRows.{end_row}
 
 -- the rows of a session that has to be live
 abbrev pub if_live : Option Session → (Session → Decision) → Decision
@@ -28,6 +29,11 @@ due o past at (kind.User s name) answer = if_live (session o past s) (λ v. user
 due o past at (kind.Pass s) answer = if_live (session o past s) (λ v. pass_row v.login)
 due o past at (kind.AuthDone s said) answer = if_live (session o past s) (λ v. auth_row said v.login)
 due o past at (kind.Pasv s word lookup bound) answer = if_live (session o past s) (λ v. if_logged_in v (pasv_row o past word v))
+due o past at (kind.Transfer s c) answer = if_live (session o past s) (λ v. if_logged_in v (transfer_row s v))
+due o past at (kind.Stou s word) answer = if_live (session o past s) (λ v. if_logged_in v (transfer_row s v))
+due o past at (kind.Rest s offset) answer = if_live (session o past s) (λ v. if_logged_in v (rest_row o))
+due o past at (kind.Cwd s path refusal) answer = if_live (session o past s) (λ v. if_logged_in v (cwd_row refusal))
+due o past at (kind.End ticket) answer = end_row ticket answer (running_job o past ticket.session)
 due o past at (kind.Closed s) answer = if_live (session o past s) (λ v. Closed)
 
 -- the decision on an event and its answer, after a log

@@ -3,7 +3,7 @@ use Rattle.std.specs.Prelude.{ℕ, Bool, true, false, not, List, filter, Option,
 use Rattle.std.specs.List.{list_any}
 use Rattle.ftp_events.specs.declared.entry.Entry.{Entry}
 use Rattle.ftp_events.specs.declared.event.EventKind.{EventKind}
-use Rattle.ftp_events.specs.declared.event.EventKind.TheVariants.{Connect, DataIn, User, Pass, AuthDone, Pasv}
+use Rattle.ftp_events.specs.declared.event.EventKind.TheVariants.{Connect, DataIn, User, Pass, AuthDone, Pasv, Transfer, Stou, Rest, Cwd, End}
 use Rattle.ftp_events.specs.declared.event.EventKind.TheVariants as kind
 use Rattle.ftp_events.specs.declared.decision.Decision.{Decision}
 use Rattle.ftp_events.specs.declared.decision.Decision.TheVariants.{UnknownNumber, UsedNumber, Misplaced, NotExpected, Closed}
@@ -36,12 +36,17 @@ new_number _ _ = None
 abbrev pub is_used : List Entry → ℕ → Bool
 is_used past n = list_any (λ e. is_number (new_number e.event.kind e.decision) n) past
 
--- the session that an event names
+-- the session that an event or its ticket names
 abbrev pub named_session : EventKind → Option ℕ
 named_session (User session name) = Some session
 named_session (Pass session) = Some session
 named_session (AuthDone session answer) = Some session
 named_session (Pasv session word lookup bound) = Some session
+named_session (Transfer session command) = Some session
+named_session (Stou session word) = Some session
+named_session (Rest session offset) = Some session
+named_session (Cwd session path refusal) = Some session
+named_session (End ticket) = Some ticket.session
 named_session (kind.Closed session) = Some session
 named_session _ = None
 

@@ -7,19 +7,22 @@ use Rattle.ftp_base.specs.declared.reply.Reply.{Reply}
 use Rattle.ftp_base.specs.declared.reply.Reply.TheVariants as reply
 use Rattle.ftp_base.specs.declared.trace.TraceId.{TraceId}
 use Rattle.ftp_base.specs.Net.{ipv4}
+use Rattle.ftp_base.specs.declared.command.DataChanCmd.TheVariants.{Retr, Stor, Appe}
+use Rattle.ftp_transfer.specs.declared.job.Job.{Job}
 use Rattle.ftp_options.specs.declared.options.Options.{Options}
 use Rattle.ftp_options.specs.declared.options.PassiveHost.{PassiveHost}
 use Rattle.ftp_options.specs.declared.options.PassiveHost.TheVariants.{FromConnection}
 use Rattle.ftp_events.specs.declared.event.EventKind.{EventKind}
 use Rattle.ftp_events.specs.declared.event.EventKind.TheVariants as kind
 use Rattle.ftp_events.specs.declared.event.Answer.{Answer}
+use Rattle.ftp_events.specs.declared.event.Answer.TheVariants.{Done}
 use Rattle.ftp_events.specs.declared.decision.Decision.{Decision}
-use Rattle.ftp_events.specs.declared.decision.Decision.TheVariants.{BadSequence, NeedPass, Reauth, LoggedIn, LoginFailed, NotLoggedIn, Full, Granted}
+use Rattle.ftp_events.specs.declared.decision.Decision.TheVariants.{BadSequence, NeedPass, Reauth, LoggedIn, LoginFailed, NotLoggedIn, Full, Granted, NoSlot, Queued, NoRestart, RestOk, CwdRefused, CwdOk, Finished}
 use Rattle.ftp_events.specs.declared.session.Login.{Login}
 use Rattle.ftp_events.specs.declared.session.Login.TheVariants as login
 use Rattle.ftp_events.specs.declared.session.Session.{Session}
-use Rattle.ftp_events.specs.Text.{passive_text}
-use Rattle.ftp_events.specs.Message.{reply_of}
+use Rattle.ftp_events.specs.Text.{passive_text, offset_text, unique_name}
+use Rattle.ftp_events.specs.Message.{reply_of, message_of_outcome}
 
 -- the reply that advertises a port: at the address that the client came to
 abbrev pub passive_reply : PassiveHost → ℕ → Option ℕ → ℕ → Reply
@@ -36,15 +39,36 @@ sequence_text (kind.Pass session) login.New = codes "Please supply a username fi
 sequence_text (kind.User session name) login.LoggedIn = codes "Already logged in"
 sequence_text _ _ = codes "A password is being checked"
 
+-- the text that answers a REST
+abbrev pub restart_text : EventKind → List ℕ
+restart_text (kind.Rest session offset) = offset_text offset
+restart_text _ = []
+
+-- the text of a 150
+abbrev pub queued_text : EventKind → List ℕ
+queued_text (kind.Stou session word) = unique_name word
+queued_text (kind.Transfer session (Retr path)) = codes "Sending data"
+queued_text (kind.Transfer session (Stor path)) = codes "Ready to receive data"
+queued_text (kind.Transfer session (Appe path)) = codes "Ready to receive data"
+queued_text _ = codes "Sending directory list"
+
+-- the path of a job, where there is one
+abbrev pub path_of_job : Option Job → List ℕ
+path_of_job None = []
+path_of_job (Some job) = job.path
+
 -- a trace id
 abbrev pub trace_of : ℕ → TraceId
 trace_of trace = record { 0 = trace }
 
 -- the message to the control layer that goes with a decision
-abbrev pub message_for : Session → EventKind → Answer → Decision → Option ControlChanMsg
-message_for v k answer LoggedIn = Some (message.AuthSuccess (unwrap_or v.name []) (trace_of v.opening.trace))
-message_for v k answer (LoginFailed lock delay) = Some message.AuthFailed
-message_for v k answer _ = None
+abbrev pub message_for : Session → Option Job → EventKind → Answer → Decision → Option ControlChanMsg
+message_for v job k answer LoggedIn = Some (message.AuthSuccess (unwrap_or v.name []) (trace_of v.opening.trace))
+message_for v job k answer (LoginFailed lock delay) = Some message.AuthFailed
+message_for v job k (Done outcome) Finished = Some (message_of_outcome (path_of_job job) outcome outcome.result)
+message_for v job k answer CwdOk = Some message.CwdSuccess
+message_for v job k answer (CwdRefused refusal) = Some (message.StorageError refusal)
+message_for v job k answer _ = None
 
 -- the reply that goes with a decision: of its own, or that of its message
 abbrev pub reply_for : Options → Session → Option ControlChanMsg → EventKind → Decision → Reply
@@ -54,6 +78,10 @@ reply_for o v m k Reauth = reply.CodeAndMsg code.NotLoggedIn (codes "Please open
 reply_for o v m k NotLoggedIn = reply.CodeAndMsg code.NotLoggedIn (codes "Please authenticate")
 reply_for o v m k (Granted port) = passive_reply o.host (ipv4 v.opening.local.ip) (lookup_of k) port
 reply_for o v m k Full = reply.CodeAndMsg code.CantOpenDataConnection (codes "Could not allocate passive port")
+reply_for o v m k NoSlot = reply.CodeAndMsg code.CantOpenDataConnection (codes "No data connection established")
+reply_for o v m k (Queued ticket) = reply.CodeAndMsg code.FileStatusOkay (queued_text k)
+reply_for o v m k RestOk = reply.CodeAndMsg code.FileActionPending (restart_text k)
+reply_for o v m k NoRestart = reply.CodeAndMsg code.CommandNotImplemented (codes "Not supported by the selected storage back-end.")
 reply_for o v (Some m) k _ = reply_of m
 reply_for o v None k _ = reply.None
 

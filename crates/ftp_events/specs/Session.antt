@@ -1,21 +1,26 @@
 -- What the log tells of a session.
-use Rattle.std.specs.Prelude.{ℕ, ◌+◌, ◌-◌, Bool, true, false, List, [], ◌∷◌, Option, Some, None, unwrap_or}
+use Rattle.std.specs.Prelude.{ℕ, ◌+◌, ◌-◌, Bool, true, false, List, [], ◌∷◌, Option, Some, None, unwrap_or, if◌then◌else◌}
 use Rattle.std.specs.Option.{option_map}
+use Rattle.ftp_base.specs.Storage.{root}
 use Rattle.ftp_options.specs.declared.options.Options.{Options}
+use Rattle.ftp_transfer.specs.declared.job.Job.{Job}
 use Rattle.ftp_events.specs.declared.entry.Entry.{Entry}
 use Rattle.ftp_events.specs.declared.event.EventKind.{EventKind}
+use Rattle.ftp_events.specs.declared.event.Answer.{Answer}
 use Rattle.ftp_events.specs.declared.decision.Decision.{Decision}
 use Rattle.ftp_events.specs.declared.decision.Decision.TheVariants.{Opened, Closed}
 use Rattle.ftp_events.specs.declared.session.Opening.{Opening}
 use Rattle.ftp_events.specs.declared.session.Login.TheVariants as login
+use Rattle.ftp_events.specs.declared.session.Pending.{Pending}
 use Rattle.ftp_events.specs.declared.session.Session.{Session}
 use Rattle.ftp_events.specs.declared.session.Slot.TheVariants.{Empty}
 use Rattle.ftp_events.specs.Words.{◌⇒◌∣◌, latest}
 use Rattle.ftp_events.specs.Opening.{opener}
 use Rattle.ftp_events.specs.History.{history}
-use Rattle.ftp_events.specs.Login.{login_by, name_by, login_state, user_name}
+use Rattle.ftp_events.specs.Login.{login_by, name_by, login_state, user_name, logged_user}
 use Rattle.ftp_events.specs.Notices.{notice_count}
-use Rattle.ftp_events.specs.Slot.{slot_after, slot_of_history}
+use Rattle.ftp_events.specs.Place.{cwd_after, cwd, offset_by, offset, is_queued, ticket_count}
+use Rattle.ftp_events.specs.Slot.{Lane, lane_after, lane, queued_by}
 
 -- what a decision makes of the session's life
 abbrev pub life_by : Decision → Option Bool
@@ -34,7 +39,11 @@ session_by_history s h opening =
       opening = opening;
       login = login_state h;
       name = user_name h;
-      slot = slot_of_history h;
+      cwd = cwd h;
+      offset = offset h;
+      slot = (lane h).slot;
+      pending = (lane h).pending;
+      tickets = ticket_count h;
       notices = notice_count s h;
     }
 
@@ -45,18 +54,38 @@ session o past s =
     is_live h ⇒ option_map (session_by_history s h) (opener past s)
     ∣ None
 
+-- the job of session s that runs, also of a session that has ended
+abbrev pub running_job : Options → List Entry → ℕ → Option Job
+running_job o past s = (lane (history o past s)).running
+
 -- a session that is live goes on living
 abbrev pub lives_on : Decision → Bool
 lives_on d = unwrap_or (life_by d) true
 
--- what an event makes of a live session, with its decision and how many notices it sends
-abbrev pub session_after : EventKind → Decision → ℕ → Session → Session
-session_after k d sent v =
+-- the transfer that an event queues for a session
+abbrev pub queued_for : Decision → EventKind → Session → Option Pending
+queued_for d k v = queued_by d k (logged_user v.login v.name) v.cwd v.offset
+
+-- the slot of a session, with the job that runs
+abbrev pub lane_in : Session → Option Job → Lane
+lane_in v job = record { slot = v.slot; pending = v.pending; running = job }
+
+-- the slot and the job after an event
+abbrev pub next_lane : EventKind → Decision → Option Job → Session → Lane
+next_lane k d job v = lane_after k d (queued_for d k v) (lane_in v job)
+
+-- what an event makes of a live session, with its answer, its decision, how many notices it sends and the job that ran before it
+abbrev pub session_after : EventKind → Answer → Decision → ℕ → Option Job → Session → Session
+session_after k answer d sent job v =
     record {
       opening = v.opening;
       login = unwrap_or (login_by d) v.login;
       name = unwrap_or (name_by d k) v.name;
-      slot = slot_after k d v.slot;
+      cwd = cwd_after d k v.cwd;
+      offset = unwrap_or (offset_by d k answer) v.offset;
+      slot = (next_lane k d job v).slot;
+      pending = (next_lane k d job v).pending;
+      tickets = v.tickets + (if is_queued d then 1 else 0);
       notices = v.notices + sent;
     }
 
@@ -73,4 +102,4 @@ live_count (e ∷ past) = live_after e.decision (live_count past)
 
 -- a session when it is opened
 abbrev pub new_session : Opening → Session
-new_session opening = record { opening = opening; login = login.New; name = None; slot = Empty; notices = 0 }
+new_session opening = record { opening = opening; login = login.New; name = None; cwd = root; offset = 0; slot = Empty; pending = None; tickets = 0; notices = 0 }

@@ -1,10 +1,20 @@
 //! What the server does because of an event.
 
 use ftp_base::{EventMeta, Notice, Reply};
+use ftp_transfer::Ticket;
 use std::marker::Model;
 
 #[derive(Drop)]
 pub enum Action {
+    /// The transfer has ended; the session is told of it where it is live.
+    Completed {
+        ticket: Ticket,
+        delivered: bool,
+    },
+    /// The transfer is dropped before it ran.
+    Cancelled {
+        ticket: Ticket,
+    },
     /// A connection is closed.
     Close {
         number: u64,
@@ -20,6 +30,11 @@ pub enum Action {
         session: u64,
         delay: u32,
         reply: Reply,
+    },
+    /// The transfer runs from now on, on the link of this number.
+    Start {
+        ticket: Ticket,
+        number: u64,
     },
 }
 

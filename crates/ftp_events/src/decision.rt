@@ -1,6 +1,7 @@
 //! What the server decides on an event.
 
-use ftp_base::LockState;
+use ftp_base::{ErrorKind, LockState};
+use ftp_transfer::Ticket;
 
 #[derive(Clone, Copy, Debug, PartialEq, Eq)]
 pub enum Decision {
@@ -32,6 +33,19 @@ pub enum Decision {
     Full,
     /// The passive port is reserved.
     Granted { port: u16 },
+    /// No data connection waits or is awaited for the transfer.
+    NoSlot,
+    /// The transfer waits for its data connection, or runs.
+    Queued { ticket: Ticket },
+    /// The transfer has ended.
+    Finished,
+    /// The storage cannot begin at a restart offset.
+    NoRestart,
+    /// The restart offset is kept for the next RETR or STOR.
+    RestOk,
+    CwdRefused(ErrorKind),
+    /// The working directory has changed.
+    CwdOk,
     /// The session has ended with its control connection.
     Closed,
 }

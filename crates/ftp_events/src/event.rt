@@ -2,7 +2,8 @@
 
 ghost use Rattle.std.specs.Prelude.{◌≡◌, IfOk};
 
-use ftp_base::{AuthAnswer, Bytes, SocketAddr};
+use ftp_base::{AuthAnswer, Bytes, DataChanCmd, ErrorKind, SocketAddr};
+use ftp_transfer::{Outcome, Ticket};
 use std::alloc::{AllocError, Global};
 
 /// What happens to the server.
@@ -44,6 +45,31 @@ pub enum EventKind {
         /// The port that was bound for the session alone.
         bound: Option<u16>,
     },
+    /// RETR, STOR, APPE, LIST, NLST (RFC 959, section 4.1.3) or MLSD (RFC 3659, section 7).
+    Transfer {
+        session: u64,
+        command: DataChanCmd,
+    },
+    /// STOU (RFC 959, section 4.1.3), with a random word that chooses the name.
+    Stou {
+        session: u64,
+        word: u128,
+    },
+    /// REST (RFC 3659, section 5): the next RETR or STOR begins at this byte.
+    Rest {
+        session: u64,
+        offset: u64,
+    },
+    /// CWD (RFC 959, section 4.1.1), with what the storage said of the directory.
+    Cwd {
+        session: u64,
+        path: Bytes,
+        refusal: Option<ErrorKind>,
+    },
+    /// A transfer that runs has ended.
+    End {
+        ticket: Ticket,
+    },
     /// The control connection has ended.
     Closed {
         session: u64,
@@ -62,6 +88,8 @@ pub struct HubEvent {
 pub enum Answer {
     /// Nothing was asked.
     None,
+    /// The transfer was run, with this outcome.
+    Done(Outcome),
 }
 
 impl EventKind {
@@ -105,6 +133,28 @@ impl EventKind {
                 word: *word,
                 lookup: *lookup,
                 bound: *bound,
+            }),
+            EventKind::Transfer { session, command } => Ok(EventKind::Transfer {
+                session: *session,
+                command: command.copy(alloc)?,
+            }),
+            EventKind::Stou { session, word } => Ok(EventKind::Stou {
+                session: *session,
+                word: *word,
+            }),
+            EventKind::End { ticket } => Ok(EventKind::End { ticket: *ticket }),
+            EventKind::Rest { session, offset } => Ok(EventKind::Rest {
+                session: *session,
+                offset: *offset,
+            }),
+            EventKind::Cwd {
+                session,
+                path,
+                refusal,
+            } => Ok(EventKind::Cwd {
+                session: *session,
+                path: path.copy(alloc)?,
+                refusal: *refusal,
             }),
             EventKind::Closed { session } => Ok(EventKind::Closed { session: *session }),
         }

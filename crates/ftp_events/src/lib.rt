@@ -19,5 +19,7 @@ pub use entry::Entry;
 pub use event::{Answer, EventKind, HubEvent};
 pub use log::Log;
 pub use questions::{holder_of, replies_of};
-pub use session::{Login, Opening, Session, Slot};
-pub use text::{make_pasv_reply, reply_of, write_passive_text};
+pub use session::{Login, Opening, Pending, Session, Slot};
+pub use text::{
+    make_pasv_reply, refusal, reply_of, unique_name, write_offset_text, write_passive_text,
+};

@@ -244,10 +244,15 @@ fn named_session(kind: &EventKind) -> Option<u64>
 {
     match kind {
         EventKind::User { session, .. }
+        | EventKind::Transfer { session, .. }
+        | EventKind::Stou { session, .. }
         | EventKind::Pass { session }
         | EventKind::AuthDone { session, .. }
         | EventKind::Pasv { session, .. }
+        | EventKind::Rest { session, .. }
+        | EventKind::Cwd { session, .. }
         | EventKind::Closed { session } => Some(*session),
+        EventKind::End { ticket } => Some(ticket.session),
         EventKind::Connect { .. } | EventKind::DataIn { .. } => None,
     }
 }
@@ -290,6 +295,7 @@ mod tests {
             host: PassiveHost::FromConnection,
             active_passive: ActivePassiveMode::PassiveOnly,
             idle_ms: 600_000,
+            features: 1,
         };
         let raw = SocketAddr {
             ip: IpAddr::V4(CLIENT),

@@ -2,8 +2,10 @@
 
 ghost use Rattle.std.specs.Prelude.{◌≡◌};
 ghost use Rattle.ftp_events.specs.Login.{state_of};
+ghost use Rattle.ftp_events.specs.Transfer.{job_of};
 
-use ftp_base::{Bytes, IpAddr, SessionState, SocketAddr};
+use ftp_base::{Bytes, DataChanCmd, IpAddr, SessionState, SocketAddr};
+use ftp_transfer::{Job, Ticket};
 
 /// How a session came: its peer, the address that it came to, its client and its trace.
 #[derive(Clone, Copy, Debug, PartialEq, Eq)]
@@ -49,13 +51,49 @@ pub enum Slot {
     Linked { number: u64 },
 }
 
+/// A transfer that waits for its link, as it was fixed when it was asked for.
+#[derive(Debug, Drop)]
+pub struct Pending {
+    pub ticket: Ticket,
+    pub user: Bytes,
+    pub command: DataChanCmd,
+    /// The file or the directory.
+    pub path: Bytes,
+    /// Where a RETR or a STOR begins, in bytes.
+    pub offset: u64,
+}
+
+impl Pending {
+    /// The transfer on the link of this number.
+    pub fn on(self, number: u64) -> Job
+        ensures { result ≡ job_of self number }
+    {
+        Job {
+            ticket: self.ticket,
+            user: self.user,
+            command: self.command,
+            path: self.path,
+            offset: self.offset,
+            number,
+        }
+    }
+}
+
 #[derive(Drop)]
 pub struct Session {
     pub opening: Opening,
     pub login: Login,
     /// The name that was given last.
     pub name: Option<Bytes>,
+    /// The working directory, as a path that begins with `/`.
+    pub cwd: Bytes,
+    /// Where the next RETR or STOR begins, in bytes.
+    pub offset: u64,
     pub slot: Slot,
+    /// The transfer that waits in the slot.
+    pub pending: Option<Pending>,
+    /// How many transfers were queued.
+    pub tickets: u64,
     /// How many notifications were sent.
     pub notices: u64,
 }

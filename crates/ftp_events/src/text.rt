@@ -2,14 +2,16 @@
 
 ghost use Rattle.std.specs.Prelude.{◌≡◌, ◌+◌, ◌≤◌, ◌<◌, ◌^◌, ◌++◌, [], ◌∷◌, length, decimal, IfOk};
 ghost use Rattle.std.specs.Vec.{vec_len, vec_capacity};
-ghost use Rattle.ftp_events.specs.Text.{passive_text, passive_numbers};
-ghost use Rattle.ftp_events.specs.Message.{reply_of};
+ghost use Rattle.ftp_base.specs.declared.reply.Reply.TheVariants as reply;
+ghost use Rattle.ftp_events.specs.Text.{passive_text, passive_numbers, offset_text, unique_name};
+ghost use Rattle.ftp_events.specs.Message.{reply_of, reply_of_kind};
 ghost use Rattle.ftp_events.specs.Reply.{passive_reply};
 
-use ftp_base::{Bytes, ControlChanMsg, Reply, ReplyCode};
+use ftp_base::{Bytes, ControlChanMsg, ErrorKind, Reply, ReplyCode};
 use ftp_options::PassiveHost;
 use itoa::Buffer;
 use std::alloc::{AllocError, Global};
+use uuid::Builder;
 
 /// No passive reply's text is longer, in bytes.
 pub const PASSIVE_TEXT: usize = 64;
@@ -28,9 +30,71 @@ pub fn reply_of(alloc: Global, message: &ControlChanMsg) -> Result<Reply, AllocE
         ControlChanMsg::AuthFailed => {
             (ReplyCode::NotLoggedIn, b"Authentication failed".as_slice())
         }
+        ControlChanMsg::CwdSuccess => {
+            (
+                ReplyCode::FileActionOkay,
+                b"Successfully changed working directory".as_slice(),
+            )
+        }
+        ControlChanMsg::StorageError(kind) => refusal(*kind),
+        ControlChanMsg::SentData { .. } => {
+            (
+                ReplyCode::ClosingDataConnection,
+                b"Successfully sent".as_slice(),
+            )
+        }
+        ControlChanMsg::WrittenData { .. } => {
+            (
+                ReplyCode::ClosingDataConnection,
+                b"File successfully written".as_slice(),
+            )
+        }
+        ControlChanMsg::WriteFailed => {
+            (
+                ReplyCode::TransientFileError,
+                b"Failed to write file".as_slice(),
+            )
+        }
+        ControlChanMsg::DirectorySuccessfullyListed => {
+            (
+                ReplyCode::ClosingDataConnection,
+                b"Listed the directory".as_slice(),
+            )
+        }
+        ControlChanMsg::CommandChannelReply(reply) => return reply.copy(alloc),
     };
     let msg = Bytes::from_slice(alloc, msg)?;
     Ok(Reply::CodeAndMsg { code, msg })
+}
+
+/// The code and the text that answer a refusal by the storage.
+pub fn refusal(kind: ErrorKind) -> (ReplyCode, &'static [u8])
+    ensures reply { reply.CodeAndMsg result.0 result.1.now ≡ reply_of_kind kind }
+    ensures short { length result.1.now ≤ 64 }
+{
+    match kind {
+        ErrorKind::TransientFileNotAvailable => (ReplyCode::TransientFileError, b"File not found"),
+        ErrorKind::PermanentFileNotAvailable => (ReplyCode::FileError, b"File not found"),
+        ErrorKind::PermanentDirectoryNotAvailable => (ReplyCode::FileError, b"Directory not found"),
+        ErrorKind::PermanentDirectoryNotEmpty => (ReplyCode::FileError, b"Directory not empty"),
+        ErrorKind::PermissionDenied => (ReplyCode::FileError, b"Permission denied"),
+        ErrorKind::ConnectionClosed => (ReplyCode::ConnectionClosed, b"Connection closed"),
+        ErrorKind::LocalError => (ReplyCode::LocalError, b"Local error"),
+        ErrorKind::PageTypeUnknown => (ReplyCode::PageTypeUnknown, b"Page type unknown"),
+        ErrorKind::InsufficientStorageSpaceError => (
+            ReplyCode::OutOfSpace,
+            b"Insufficient storage space",
+        ),
+        ErrorKind::ExceededStorageAllocationError => (
+            ReplyCode::ExceededStorageAllocation,
+            b"Exceeded storage allocation",
+        ),
+        ErrorKind::FileNameNotAllowedError => (ReplyCode::BadFileName, b"File name not allowed"),
+        ErrorKind::CommandNotImplemented => (
+            ReplyCode::CommandNotImplemented,
+            b"Command not implemented",
+        ),
+    }
 }
 
 /// The reply that advertises a passive port (RFC 959, section 4.1.2). The addresses are IPv4, as one
@@ -60,6 +124,37 @@ pub fn write_passive_text(text: &mut Vec<u8>, ip: u32, port: u16)
 {
     let [a, b, c, d] = ip.to_be_bytes();
     write_numbers(text, a, b, c, d, (port / 256) as u8, (port % 256) as u8);
+}
+
+/// The name of a unique file: the text of the UUID of version 4 that a random word gives.
+pub fn unique_name(alloc: Global, word: u128) -> Result<Bytes, AllocError>
+    ensures { IfOk result (λ name. name ≡ unique_name word) }
+{
+    let mut text = [0; 36];
+    let id = Builder::from_random_bytes(word.to_be_bytes()).into_uuid();
+    let name = id.hyphenated().encode_lower(&mut text);
+    Bytes::from_slice(alloc, name.as_bytes())
+}
+
+/// Writes the text that answers a restart offset (RFC 3659, section 5) behind the text, in room that it has.
+pub fn write_offset_text(text: &mut Vec<u8>, offset: u64)
+    requires { vec_len text.old + 64 ≤ vec_capacity text.old }
+    ensures { text.new.items ≡ text.old.items ++ offset_text offset }
+{
+    write(text, b"Restarting at ");
+    write_offset(text, offset);
+    write(text, b". Now send STORE or RETRIEVE.");
+}
+
+// Writes the digits of an offset.
+fn write_offset(text: &mut Vec<u8>, offset: u64)
+    requires room { vec_len text.old + 20 ≤ vec_capacity text.old }
+    ensures items { text.new.items ≡ text.old.items ++ decimal offset }
+    ensures len { vec_len text.new ≤ vec_len text.old + 20 }
+    ensures capacity { vec_capacity text.old ≤ vec_capacity text.new }
+{
+    let mut buffer = Buffer::new();
+    write(text, buffer.format(offset).as_bytes());
 }
 
 // Writes six numbers in their frame.

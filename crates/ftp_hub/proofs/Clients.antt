@@ -1,5 +1,5 @@
 -- Where sessions share the ports, every client has an address of version 4.
-use Rattle.std.proofs.Common.{◌≡◌, refl, sym, ap, ◌∙◌, subst, ℕ, Bool, true, false, cond, ◌&&◌, ◌||◌, List, [], ◌∷◌, Option, Some, None, arith}
+use Rattle.std.proofs.Common.{◌≡◌, refl, sym, ap, ◌∙◌, subst, ℕ, Bool, true, false, List, [], ◌∷◌, Some}
 use Rattle.std.proofs.lemmas.Option.{same_Some}
 use Rattle.std.specs.Prelude.{unwrap_or}
 use Rattle.std.specs.Bool.{then_some}
@@ -11,7 +11,6 @@ use Rattle.ftp_options.specs.declared.options.Options.{Options}
 use Rattle.ftp_options.specs.declared.options.ListenerMode.{ListenerMode}
 use Rattle.ftp_options.specs.declared.options.ListenerMode.TheVariants.{Legacy, Pooled}
 use Rattle.ftp_options.specs.Modes.{is_legacy, is_pooled}
-use Rattle.ftp_events.specs.declared.decision.Decision.{Decision}
 use Rattle.ftp_events.specs.declared.decision.Decision.TheVariants as decision
 use Rattle.ftp_events.specs.declared.entry.Entry.{Entry}
 use Rattle.ftp_events.specs.declared.event.Answer.{Answer}
@@ -19,8 +18,8 @@ use Rattle.ftp_events.specs.declared.event.EventKind.{EventKind}
 use Rattle.ftp_events.specs.declared.event.EventKind.TheVariants as kind
 use Rattle.ftp_events.specs.declared.session.Opening.{Opening}
 use Rattle.ftp_events.specs.declared.session.Session.{Session}
-use Rattle.ftp_events.specs.Words.{◌⇒◌∣◌, is_number}
-use Rattle.ftp_events.specs.Log.{past_of, is_refusal, is_used}
+use Rattle.ftp_events.specs.Words.{is_number}
+use Rattle.ftp_events.specs.Log.{past_of, is_refusal}
 use Rattle.ftp_events.specs.Opening.{opened_number, opening_by, opener}
 use Rattle.ftp_events.specs.Session.{session}
 use Rattle.ftp_events.specs.ConnectionRows.{connect_row}
@@ -54,6 +53,11 @@ told-v4 o past at (kind.User s name) answer opening m d t = cc
 told-v4 o past at (kind.Pass s) answer opening m d t = cc
 told-v4 o past at (kind.AuthDone s said) answer opening m d t = cc
 told-v4 o past at (kind.Pasv s word lookup bound) answer opening m d t = cc
+told-v4 o past at (kind.Rest s offset) answer opening m d t = cc
+told-v4 o past at (kind.Cwd s path refusal) answer opening m d t = cc
+told-v4 o past at (kind.Transfer s c) answer opening m d t = cc
+told-v4 o past at (kind.Stou s word) answer opening m d t = cc
+told-v4 o past at (kind.End ticket) answer opening m d t = cc
 told-v4 o past at (kind.Closed s) answer opening m d t = cc
 
 -- every session's client has an address of version 4

@@ -1,4 +1,13 @@
 pub mod Counts
 pub mod Clients
-pub mod Steps
+pub mod Running
+pub mod Refusals
+pub mod Openings
+pub mod Named
+pub mod Decisions
+pub mod DataLinks
+pub mod Commands
+pub mod Rows
+pub mod Ends
+pub mod Links
 pub mod Runs

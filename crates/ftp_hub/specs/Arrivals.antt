@@ -1,5 +1,5 @@
 -- What becomes of a data connection that has a holder.
-use Rattle.std.specs.Prelude.{ℕ, ◌<◌, Bool, true, false, not, ◌&&◌, nat_le}
+use Rattle.std.specs.Prelude.{ℕ, Bool, true, false, not}
 use Rattle.ftp_events.specs.declared.decision.Decision.{Decision}
 use Rattle.ftp_events.specs.declared.decision.Decision.TheVariants.{Attached, Turned}
 use Rattle.ftp_events.specs.declared.event.EventKind.{EventKind}

@@ -1,10 +1,11 @@
 -- When a hub stands for a log.
-use Rattle.std.specs.Prelude.{◌≡◌, ℕ, ◌+◌, ◌-◌, ◌^◌, ◌<◌, ◌∷◌, List, [], length, Option, nat_eq, unwrap_or}
-use Rattle.std.specs.Option.{option_map_or}
+use Rattle.std.specs.Prelude.{◌≡◌, ℕ, ◌+◌, ◌-◌, ◌^◌, ◌<◌, ◌∷◌, List, length, Option, Some, None, nat_eq, unwrap_or}
+use Rattle.std.specs.Option.{option_and_then, option_map_or}
 use Rattle.std.specs.HashMap as map
 use Rattle.ftp_base.specs.declared.net.IpAddr.TheVariants.{V4}
 use Rattle.ftp_base.specs.Net.{ipv4}
 use Rattle.ftp_options.specs.declared.options.Options.{Options}
+use Rattle.ftp_transfer.specs.declared.job.Job.{Job}
 use Rattle.ftp_switchboard.specs.Board.{holder_at, HasRoom}
 use Rattle.ftp_numbers.specs.Used.{has}
 use Rattle.ftp_events.specs.declared.action.Action.{Action}
@@ -12,18 +13,24 @@ use Rattle.ftp_events.specs.declared.decision.Decision.{Decision}
 use Rattle.ftp_events.specs.declared.entry.Entry.{Entry}
 use Rattle.ftp_events.specs.declared.event.Answer.{Answer}
 use Rattle.ftp_events.specs.declared.event.EventKind.{EventKind}
+use Rattle.ftp_events.specs.declared.event.EventKind.TheVariants as kind
 use Rattle.ftp_events.specs.declared.event.HubEvent.{HubEvent}
+use Rattle.ftp_events.specs.declared.session.Pending.{Pending}
 use Rattle.ftp_events.specs.declared.session.Session.{Session}
 use Rattle.ftp_events.specs.Log.{past_of, is_used, named_session}
 use Rattle.ftp_events.specs.Board.{holder}
-use Rattle.ftp_events.specs.Session.{session, live_count}
+use Rattle.ftp_events.specs.Session.{session, running_job, live_count}
+use Rattle.ftp_events.specs.Leads.{job_of_ticket}
+use Rattle.ftp_events.specs.Running.{running_count}
 use Rattle.ftp_events.specs.Decide.{decide}
 use Rattle.ftp_events.specs.Acts.{acts}
 use Rattle.ftp_events.specs.Right.{IsRight, IsActed}
 use Rattle.ftp_hub.specs.declared.hub.Hub.{Hub}
+use Rattle.ftp_hub.specs.declared.room.Need.{Need}
+use Rattle.ftp_hub.specs.declared.room.Need.TheVariants.{Nothing, Run}
 use Rattle.ftp_hub.specs.declared.room.Room.{Room}
-use Rattle.ftp_hub.specs.Rooms.{IsReady, name_in}
-use Rattle.ftp_hub.specs.Handlers.{name_told}
+use Rattle.ftp_hub.specs.Rooms.{IsReady, kept_in, need_in}
+use Rattle.ftp_hub.specs.Handlers.{kept_alone, kept_by, asked_for}
 
 -- the options that a hub was made from
 abbrev pub options_of : Hub → Options
@@ -37,6 +44,8 @@ count_of hub = hub.count
 pub record Tables (hub : Hub) (past : List Entry) : Type 0 where
   pub sessions : (s : ℕ) → map.get nat_eq hub.sessions s ≡ session hub.options past s
   pub live : map.hash_map_len hub.sessions ≡ live_count past
+  pub jobs : (s : ℕ) → map.get nat_eq hub.jobs s ≡ running_job hub.options past s
+  pub running : map.hash_map_len hub.jobs ≡ running_count past
   pub numbers : (n : ℕ) → has hub.numbers n ≡ is_used past n
   pub holders : (a p : ℕ) → holder_at hub.board a p ≡ holder hub.options past (V4 a) p
 
@@ -67,6 +76,8 @@ pub record SameHead (old new : Hub) : Type 0 where
 pub record SameTables (old new : Hub) : Type 0 where
   pub sessions : (s : ℕ) → map.get nat_eq new.sessions s ≡ map.get nat_eq old.sessions s
   pub live : map.hash_map_len new.sessions ≡ map.hash_map_len old.sessions
+  pub jobs : (s : ℕ) → map.get nat_eq new.jobs s ≡ map.get nat_eq old.jobs s
+  pub running : map.hash_map_len new.jobs ≡ map.hash_map_len old.jobs
   pub numbers : (n : ℕ) → has new.numbers n ≡ has old.numbers n
   pub holders : (a p : ℕ) → holder_at new.board a p ≡ holder_at old.board a p
 
@@ -79,9 +90,23 @@ pub record SameAnswers (old new : Hub) : Type 0 where
 abbrev pub named_in : Hub → EventKind → Option Session
 named_in hub k = map.get nat_eq hub.sessions (unwrap_or (named_session k) 0)
 
--- the name that an event keeps or tells
-abbrev pub name_for : Hub → EventKind → List ℕ
-name_for hub k = option_map_or (name_told k) (named_in hub k) []
+-- the name or the path that an event keeps or tells
+abbrev pub kept_for : Hub → EventKind → List ℕ
+kept_for hub k = option_map_or (kept_by k) (named_in hub k) (kept_alone k)
+
+-- the transfer that an event asks for
+abbrev pub pending_for : Hub → EventKind → Option Pending
+pending_for hub k = option_and_then (asked_for k) (named_in hub k)
+
+-- the job that is to be run for an event: that whose end it is
+abbrev pub job_for : Hub → EventKind → Option Job
+job_for hub (kind.End ticket) = job_of_ticket (map.get nat_eq hub.jobs ticket.session) ticket
+job_for hub _ = None
+
+-- what has to be done outside before the step
+abbrev pub need_for : Option Job → Need
+need_for None = Nothing
+need_for (Some job) = Run job.ticket
 
 -- the client of the session that an event names
 abbrev pub client_for : Hub → EventKind → ℕ
@@ -92,7 +117,10 @@ pub record Fits (room : Room) (hub : Hub) (event : HubEvent) : Type 0 where
   pub below : hub.count < 2 ^ 64 - 1
   pub counted : room.count ≡ hub.count
   pub ready : IsReady room
-  pub name : name_in room ≡ name_for hub event.kind
+  pub kept : kept_in room ≡ kept_for hub event.kind
+  pub pending : room.pending ≡ pending_for hub event.kind
+  pub need : need_in room ≡ need_for (job_for hub event.kind)
   pub sessions : 0 < map.spare hub.sessions
+  pub jobs : 0 < map.spare hub.jobs
   pub numbers : 0 < hub.numbers.room
   pub board : HasRoom hub.board (client_for hub event.kind)

@@ -1,36 +1,42 @@
 //! Connections that come: control connections open sessions, data connections go to the session that
 //! holds their port.
 
-ghost use Rattle.std.specs.Prelude.{◌≡◌, ◌<◌, ℕ, List, ◌||◌, IsTrue, Some, if◌then◌else◌};
+ghost use Rattle.std.specs.Prelude.{◌≡◌, ◌<◌, ℕ, List, ◌||◌, IsTrue, Some, nat_eq};
 ghost use Rattle.std.specs.HashMap as map;
 ghost use Rattle.ftp_base.specs.Net.{same_ip, is_v6};
+ghost use Rattle.ftp_base.specs.Storage.{root};
 ghost use Rattle.ftp_options.specs.declared.options.Options.{Options};
 ghost use Rattle.ftp_events.specs.declared.entry.Entry.{Entry};
 ghost use Rattle.ftp_events.specs.declared.event.Answer.{Answer};
 ghost use Rattle.ftp_events.specs.declared.event.EventKind.TheVariants.{DataIn};
 ghost use Rattle.ftp_events.specs.Modes.{in_range};
 ghost use Rattle.ftp_events.specs.Session.{session_after};
-ghost use Rattle.ftp_events.specs.declared.session.Slot.TheVariants.{Empty};
-ghost use Rattle.ftp_events.specs.Slot.{with_link, is_waiting};
-ghost use Rattle.ftp_events.specs.Acts.{session_acts};
+ghost use Rattle.ftp_events.specs.Slot.{with_link};
+ghost use Rattle.ftp_events.specs.Acts.{session_acts, starting};
 ghost use Rattle.ftp_events.specs.Session.{new_session};
 ghost use Rattle.ftp_hub.specs.Arrivals.{is_connect, is_data, arrival_of};
-ghost use Rattle.ftp_hub.specs.Rooms.{IsReady, actions_in};
-ghost use Rattle.ftp_hub.specs.Stands.{Stands, Serves, SameHead};
+ghost use Rattle.ftp_hub.specs.Handlers.{Starts};
+ghost use Rattle.ftp_hub.specs.Rooms.{IsReady, actions_in, kept_in};
+ghost use Rattle.ftp_hub.specs.Stands.{Stands, Serves, SameHead, kept_for};
 
 use crate::hub::Hub;
+use crate::jobs::start;
 use crate::room::Room;
 use crate::tables::put;
-use ftp_base::{IpAddr, SocketAddr};
+use ftp_base::{Bytes, IpAddr, SocketAddr};
 use ftp_events::{Answer, Decision, EventKind, HubEvent, Login, Opening, Session, Slot};
 use ftp_options::Options;
 use ftp_switchboard::SwitchboardKey;
+use ftp_transfer::Job;
+use std::collections::HashMap;
+use std::mem;
 
 impl Hub {
     // Opens a session for a control connection.
     pub(crate) fn connect(&mut self, room: &mut Room, event: &HubEvent, answer: Answer) -> Decision
         requires of_this_event { IsTrue (is_connect event.now.kind) }
         requires ready { IsReady room.old }
+        requires kept { kept_in room.old ≡ kept_for self.old event.now.kind }
         requires sessions { 0 < map.spare self.old.sessions }
         requires numbers { 0 < self.old.numbers.room }
         ensures serves { (log : List Entry) → Stands self.old log → Serves self.old self.new log event.now answer result (actions_in room.new) }
@@ -55,7 +61,7 @@ impl Hub {
         put(
             &mut self.sessions,
             *session,
-            new_session(*raw, *local, *trace),
+            new_session(*raw, *local, *trace, room.take_kept()),
         );
         Decision::Opened
     }
@@ -65,6 +71,7 @@ impl Hub {
         requires of_this_event { IsTrue (is_data event.now.kind) }
         requires ready { IsReady room.old }
         requires numbers { 0 < self.old.numbers.room }
+        requires jobs { 0 < map.spare self.old.jobs }
         ensures serves { (log : List Entry) → Stands self.old log → Serves self.old self.new log event.now answer result (actions_in room.new) }
         ensures head { SameHead self.old self.new }
     {
@@ -98,7 +105,7 @@ impl Hub {
                     raw: *raw,
                     in_range,
                 };
-                arrival.come(holder, session, room)
+                arrival.come(holder, session, &mut self.jobs, room)
             }
         }
     }
@@ -119,7 +126,8 @@ fn in_range(options: &Options, port: u16) -> bool
 }
 
 // A session to which nothing has happened since its opening.
-fn new_session(raw: SocketAddr, local: SocketAddr, trace: u64) -> Session
+fn new_session(raw: SocketAddr, local: SocketAddr, trace: u64, cwd: Bytes) -> Session
+    requires { cwd ≡ root }
     ensures { result ≡ new_session (record { raw = raw; local = local; client = raw.ip; trace = trace }) }
 {
     Session {
@@ -131,7 +139,11 @@ fn new_session(raw: SocketAddr, local: SocketAddr, trace: u64) -> Session
         },
         login: Login::New,
         name: None,
+        cwd,
+        offset: 0,
         slot: Slot::Empty,
+        pending: None,
+        tickets: 0,
         notices: 0,
     }
 }
@@ -146,17 +158,29 @@ pub(crate) struct Arrival {
 
 impl Arrival {
     // Goes to the session where the peers have one address, or else closes and drops the slot.
-    fn come(self, holder: u64, session: &mut Session, room: &mut Room) -> Decision
-        requires { IsReady room.old }
+    fn come(
+        self,
+        holder: u64,
+        session: &mut Session,
+        jobs: &mut HashMap<u64, Job>,
+        room: &mut Room,
+    ) -> Decision
+        requires ready { IsReady room.old }
+        requires spare { 0 < map.spare jobs.old }
         ensures decision { result ≡ arrival_of self.in_range (same_ip session.old.opening.raw.ip self.raw.ip) holder }
-        ensures session { (port : ℕ) → session.new ≡ session_after (DataIn self.number self.raw port) result 0 session.old }
-        ensures actions { (o : Options) (port : ℕ) (answer : Answer) → actions_in room.new ≡ session_acts o holder (DataIn self.number self.raw port) answer result (Some session.old) }
+        ensures session { (port : ℕ) (answer : Answer) → session.new ≡ session_after (DataIn self.number self.raw port) answer result 0 (map.get nat_eq jobs.old holder) session.old }
+        ensures actions { (o : Options) (port : ℕ) (answer : Answer) → actions_in room.new ≡ session_acts o holder (DataIn self.number self.raw port) answer result (map.get nat_eq jobs.old holder) (Some session.old) }
+        ensures starts { (port : ℕ) → Starts jobs.old jobs.new holder (starting (DataIn self.number self.raw port) result (map.get nat_eq jobs.old holder) session.old) }
     {
         if self.in_range && session.opening.raw.ip.is_same(self.raw.ip) {
             session.slot = with_link(session.slot, self.number);
+            start(session, holder, jobs, room);
             return Decision::Attached { session: holder };
         }
-        session.slot = without_wait(session.slot);
+        if let Slot::Waits { port: _ } = session.slot {
+            room.cancel_and_tell(holder, mem::replace(&mut session.pending, None));
+            session.slot = Slot::Empty;
+        }
         room.close(self.number);
         Decision::Turned
     }
@@ -168,17 +192,6 @@ fn with_link(slot: Slot, number: u64) -> Slot
 {
     match slot {
         Slot::Waits { port: _ } => Slot::Linked { number },
-        Slot::Empty => slot,
-        Slot::Linked { number: _ } => slot,
-    }
-}
-
-// A slot that waits is dropped.
-fn without_wait(slot: Slot) -> Slot
-    ensures { result ≡ (if is_waiting slot then Empty else slot) }
-{
-    match slot {
-        Slot::Waits { port: _ } => Slot::Empty,
         Slot::Empty => slot,
         Slot::Linked { number: _ } => slot,
     }

@@ -1,25 +1,64 @@
 //! The handlers: each decides on one kind of event, for a live session that it is lent.
 
-ghost use Rattle.std.specs.Prelude.{◌≡◌, ◌+◌, ◌<◌, ◌^◌, ℕ, IsTrue, Some};
+ghost use Rattle.std.specs.Prelude.{◌≡◌, ◌+◌, ◌<◌, ◌^◌, [], ◌∷◌, codes, ℕ, IsTrue, Option, Some};
+ghost use Rattle.ftp_base.specs.declared.reply.Reply.TheVariants as reply;
+ghost use Rattle.ftp_base.specs.declared.reply.ReplyCode.TheVariants as code;
+ghost use Rattle.ftp_events.specs.declared.action.Action.TheVariants as action;
+ghost use Rattle.ftp_events.specs.declared.decision.Decision.TheVariants.{NotLoggedIn};
 ghost use Rattle.ftp_base.specs.Net.{ipv4};
 ghost use Rattle.ftp_switchboard.specs.Board.{HasRoom, SameRange, holder_at};
+ghost use Rattle.ftp_transfer.specs.declared.job.Job.{Job};
 ghost use Rattle.ftp_events.specs.declared.event.Answer.{Answer};
 ghost use Rattle.ftp_events.specs.Slot.{waiting_port};
 ghost use Rattle.ftp_events.specs.Session.{session_after};
 ghost use Rattle.ftp_events.specs.Acts.{session_acts};
-ghost use Rattle.ftp_hub.specs.Rooms.{IsReady, actions_in, name_in};
-ghost use Rattle.ftp_hub.specs.Handlers.{is_command, number_of, name_told, notices_of, held_for, command_row, HasRange, held_after};
+ghost use Rattle.ftp_hub.specs.Rooms.{IsReady, HasPlace, actions_in, kept_in};
+ghost use Rattle.ftp_hub.specs.Handlers.{is_command, number_of, kept_by, notices_of, held_for, command_row, HasRange, held_after};
 
 use crate::room::Room;
+use ftp_base::ReplyCode;
 use ftp_events::{Decision, EventKind, Session};
 use ftp_options::Options;
 use ftp_switchboard::Switchboard;
 
 pub(crate) mod auth_done;
 pub(crate) mod closed;
+pub mod cwd;
+pub(crate) mod end;
 pub mod pass;
 pub mod pasv;
+pub mod rest;
+pub(crate) mod transfer;
 pub(crate) mod user;
+
+// The commands that queue a transfer have one handler.
+pub mod appe {
+    pub use super::transfer::handle;
+}
+
+pub mod list {
+    pub use super::transfer::handle;
+}
+
+pub mod mlsd {
+    pub use super::transfer::handle;
+}
+
+pub mod nlst {
+    pub use super::transfer::handle;
+}
+
+pub mod retr {
+    pub use super::transfer::handle;
+}
+
+pub mod stor {
+    pub use super::transfer::handle;
+}
+
+pub mod stou {
+    pub use super::transfer::handle;
+}
 
 /// Hands a command of a live session to its handler.
 pub(crate) fn command(
@@ -32,12 +71,12 @@ pub(crate) fn command(
 ) -> Decision
     requires of_this_event { IsTrue (is_command args.now) }
     requires room { IsReady room.old }
-    requires name { name_in room.old ≡ name_told args.now session.old }
+    requires kept { kept_in room.old ≡ kept_by args.now session.old }
     requires range { HasRange board.old options.now }
     requires board_room { HasRoom board.old (ipv4 session.old.opening.client) }
     ensures decision { result ≡ command_row options.now (held_for board.old session.old) args.now session.old }
-    ensures session { session.old.notices + 1 < 2 ^ 64 → session.new ≡ session_after args.now result (notices_of result) session.old }
-    ensures actions { session.old.notices + 1 < 2 ^ 64 → (answer : Answer) → actions_in room.new ≡ session_acts options.now (number_of args.now) args.now answer result (Some session.old) }
+    ensures session { session.old.notices + 1 < 2 ^ 64 → (answer : Answer) (job : Option Job) → session.new ≡ session_after args.now answer result (notices_of result answer) job session.old }
+    ensures actions { session.old.notices + 1 < 2 ^ 64 → (answer : Answer) (job : Option Job) → actions_in room.new ≡ session_acts options.now (number_of args.now) args.now answer result job (Some session.old) }
     ensures holders { (a p : ℕ) → holder_at board.new a p ≡ held_after result (number_of args.now) (ipv4 session.old.opening.client) (waiting_port session.old.slot) a p (holder_at board.old a p) }
     ensures same_range { SameRange board.old board.new }
 {
@@ -46,8 +85,19 @@ pub(crate) fn command(
         EventKind::Pass { .. } => pass::handle(session, args, board, room, at, options),
         EventKind::AuthDone { .. } => auth_done::handle(session, args, board, room, at, options),
         EventKind::Pasv { .. } => pasv::handle(session, args, board, room, at, options),
-        EventKind::Connect { .. } | EventKind::DataIn { .. } | EventKind::Closed { .. } => {
-            unreachable!()
-        }
+        EventKind::Rest { .. } => rest::handle(session, args, board, room, at, options),
+        EventKind::Cwd { .. } => cwd::handle(session, args, board, room, at, options),
+        _ => unreachable!(),
     }
+}
+
+/// Asks for a login before the command.
+pub(crate) fn ask_for_login(session: u64, room: &mut Room) -> Decision
+    requires { IsReady room.old }
+    ensures decision { result ≡ NotLoggedIn }
+    ensures actions { actions_in room.new ≡ action.Reply session 0 (reply.CodeAndMsg code.NotLoggedIn (codes "Please authenticate")) ∷ [] }
+    ensures place { HasPlace room.new }
+{
+    room.reply(session, ReplyCode::NotLoggedIn, b"Please authenticate");
+    Decision::NotLoggedIn
 }

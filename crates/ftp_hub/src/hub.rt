@@ -7,15 +7,18 @@ use ftp_events::Session;
 use ftp_numbers::Numbers;
 use ftp_options::Options;
 use ftp_switchboard::Switchboard;
+use ftp_transfer::Job;
 use std::alloc::Global;
 use std::collections::HashMap;
 
-/// The sessions that are live, the numbers that were used, and the passive ports that are held.
+/// The sessions that are live, the jobs that run, the numbers that were used, and the passive ports that are held.
 #[derive(Drop)]
 pub struct Hub {
     pub(crate) alloc: Global,
     pub(crate) options: Options,
     pub(crate) sessions: HashMap<u64, Session>,
+    // The job that runs for a session, which may have ended.
+    pub(crate) jobs: HashMap<u64, Job>,
     pub(crate) numbers: Numbers,
     pub(crate) board: Switchboard,
     // The count of events that the hub was made with.
@@ -33,6 +36,7 @@ impl Hub {
     ghost use Rattle.ftp_events.specs.declared.entry.Entry.{Entry};
     ghost use Rattle.ftp_events.specs.Log.{past_of};
     ghost use Rattle.ftp_events.specs.Session.{session, live_count};
+    ghost use Rattle.ftp_events.specs.Running.{running_count};
     ghost use Rattle.ftp_hub.specs.Stands.{Stands, options_of, count_of};
 
     /// A hub to which nothing has happened. So far sessions have to share the passive ports.
@@ -57,6 +61,7 @@ impl Hub {
             alloc,
             options,
             sessions: HashMap::new(alloc),
+            jobs: HashMap::new(alloc),
             numbers: Numbers::new(alloc),
             board,
             start: count,
@@ -83,6 +88,13 @@ impl Hub {
         ensures { (log : List Entry) → Stands self.now log → result ≡ live_count (past_of log) }
     {
         self.sessions.len() as u64
+    }
+
+    /// How many jobs run.
+    pub fn running(&self) -> u64
+        ensures { (log : List Entry) → Stands self.now log → result ≡ running_count (past_of log) }
+    {
+        self.jobs.len() as u64
     }
 
     /// Says whether the session is live.

@@ -7,13 +7,14 @@
 mod arrivals;
 mod handlers;
 mod hub;
+mod jobs;
 mod prepare;
 mod room;
 mod run;
 mod step;
 mod tables;
 
-pub use handlers::{pass, pasv};
+pub use handlers::{appe, cwd, list, mlsd, nlst, pass, pasv, rest, retr, stor, stou};
 pub use hub::Hub;
 pub use prepare::PrepareError;
 pub use room::{Need, Room};

@@ -5,14 +5,18 @@ ghost use Rattle.std.specs.Option.{option_copied, option_map_or};
 ghost use Rattle.std.specs.HashMap as map;
 ghost use Rattle.ftp_base.specs.Net.{ipv4};
 ghost use Rattle.ftp_switchboard.specs.Board.{HasRoom};
-ghost use Rattle.ftp_hub.specs.Handlers.{number_of, name_told};
-ghost use Rattle.ftp_hub.specs.Rooms.{IsReady, name_in};
-ghost use Rattle.ftp_hub.specs.Stands.{Fits, SameAnswers, count_of, named_in, name_for, client_for};
+ghost use Rattle.ftp_events.specs.Leads.{job_of_ticket};
+ghost use Rattle.ftp_events.specs.Login.{logged_user};
+ghost use Rattle.ftp_events.specs.Transfer.{command_offset, command_path, listed_path, pending_of};
+ghost use Rattle.ftp_hub.specs.Handlers.{number_of, asked_for, kept_alone, kept_by, next_ticket};
+ghost use Rattle.ftp_hub.specs.Rooms.{IsReady, job_in, kept_in, need_in};
+ghost use Rattle.ftp_hub.specs.Stands.{Fits, SameAnswers, count_of, named_in, kept_for, pending_for, job_for, need_for, client_for};
 
 use crate::hub::Hub;
-use crate::room::{LONGEST_TEXT, MOST_ACTIONS, Room};
-use ftp_base::Bytes;
-use ftp_events::{EventKind, HubEvent, Login, Session};
+use crate::room::{LONGEST_TEXT, MOST_ACTIONS, Need, Room};
+use ftp_base::{Bytes, DataChanCmd};
+use ftp_events::{EventKind, HubEvent, Login, Pending, Session, unique_name};
+use ftp_transfer::{Job, Ticket, join_path};
 use std::alloc::{AllocError, Global};
 use thiserror::Error;
 
@@ -30,6 +34,7 @@ impl Hub {
     /// Takes all memory that the step on the event can need.
     pub fn prepare(&mut self, event: &HubEvent) -> Result<Room, PrepareError>
         ensures fits { IfOk result (λ room. Fits room self.new event.now) }
+        ensures job { IfOk result (λ room. job_in room ≡ job_for self.new event.now.kind) }
         ensures same { SameAnswers self.old self.new }
         ensures exhausted { IsErrOf result PrepareError.Exhausted ↔ (count_of self.old ≡ 2 ^ 64 - 1) }
     {
@@ -52,8 +57,12 @@ impl Hub {
         let Room {
             alloc: _,
             count: _,
-            name: _,
+            need: _,
+            job: _,
+            kept: _,
+            pending: _,
             text: _,
+            dropped: _,
             actions: _,
         } = room;
     }
@@ -61,12 +70,14 @@ impl Hub {
     // Makes a place in each table.
     fn make_places(&mut self, kind: &EventKind) -> Result<(), AllocError>
         ensures sessions { OnOk result (0 < map.spare self.new.sessions) }
+        ensures jobs { OnOk result (0 < map.spare self.new.jobs) }
         ensures numbers { OnOk result (0 < self.new.numbers.room) }
         ensures board { OnOk result (HasRoom self.new.board (client_for self.old kind.now)) }
         ensures same { SameAnswers self.old self.new }
     {
         let client = self.client_of(kind);
         self.sessions.reserve(1)?;
+        self.jobs.reserve(1)?;
         self.numbers.make_room()?;
         self.board.reserve_room(client)
     }
@@ -88,25 +99,92 @@ impl Hub {
         }
     }
 
-    // Memory for the texts, the name and the actions of an event.
+    // Memory for the texts and the actions of an event, and what it keeps, asks for or runs.
     fn take_room(&self, kind: &EventKind) -> Result<Room, AllocError>
         ensures ready { IfOk result IsReady }
-        ensures name { IfOk result (λ room. name_in room ≡ name_for self.now kind.now) }
+        ensures kept { IfOk result (λ room. kept_in room ≡ kept_for self.now kind.now) }
+        ensures pending { IfOk result (λ room. room.pending ≡ pending_for self.now kind.now) }
+        ensures job { IfOk result (λ room. job_in room ≡ job_for self.now kind.now) }
+        ensures need { IfOk result (λ room. need_in room ≡ need_for (job_for self.now kind.now)) }
         ensures counted { IfOk result (λ room. room.count ≡ self.now.count) }
     {
-        let name = match self.named(kind) {
-            Some(session) => copy_name(self.alloc, kind, session)?,
-            None => Bytes::from_vec(Vec::new(self.alloc)),
-        };
+        let kept = self.copy_kept(kind)?;
+        let pending = self.fix_transfer(kind)?;
+        let job = self.copy_job(kind)?;
         let text = Vec::with_capacity(self.alloc, LONGEST_TEXT)?;
+        let dropped = Vec::with_capacity(self.alloc, LONGEST_TEXT)?;
         let actions = Vec::with_capacity(self.alloc, MOST_ACTIONS)?;
         Ok(Room {
             alloc: self.alloc,
             count: self.count,
-            name,
+            need: need_for(&job),
+            job,
+            kept,
+            pending,
             text,
+            dropped,
             actions,
         })
+    }
+
+    // The name or the path that an event keeps or tells.
+    fn copy_kept(&self, kind: &EventKind) -> Result<Bytes, AllocError>
+        ensures { IfOk result (λ kept. kept ≡ kept_for self.now kind.now) }
+    {
+        match self.named(kind) {
+            Some(session) => copy_kept(self.alloc, kind, session),
+            None => copy_alone(self.alloc, kind),
+        }
+    }
+
+    // The transfer that an event asks for.
+    fn fix_transfer(&self, kind: &EventKind) -> Result<Option<Pending>, AllocError>
+        ensures { IfOk result (λ pending. pending ≡ pending_for self.now kind.now) }
+    {
+        match self.named(kind) {
+            Some(session) => fix_transfer(self.alloc, kind, session),
+            None => Ok(None),
+        }
+    }
+
+    // The job whose end the event is, where it runs.
+    fn copy_job(&self, kind: &EventKind) -> Result<Option<Job>, AllocError>
+        ensures { IfOk result (λ job. job ≡ job_for self.now kind.now) }
+    {
+        match kind {
+            EventKind::End { ticket } => copy_job(
+                self.alloc,
+                self.jobs.get(&ticket.session),
+                *ticket,
+            ),
+            _ => Ok(None),
+        }
+    }
+}
+
+// The job, where it is that of the ticket.
+fn copy_job(alloc: Global, job: Option<&Job>, ticket: Ticket) -> Result<Option<Job>, AllocError>
+    ensures { IfOk result (λ copy. copy ≡ job_of_ticket (option_copied job.entry) ticket) }
+{
+    match job {
+        Some(job) => {
+            if job.ticket == ticket {
+                Ok(Some(job.copy(alloc)?))
+            } else {
+                Ok(None)
+            }
+        }
+        None => Ok(None),
+    }
+}
+
+// What has to be done outside before the step.
+fn need_for(job: &Option<Job>) -> Need
+    ensures { result ≡ need_for job.now }
+{
+    match job {
+        Some(job) => Need::Run(job.ticket),
+        None => Need::Nothing,
     }
 }
 
@@ -119,29 +197,148 @@ fn number_of(kind: &EventKind) -> u64
         EventKind::Pass { session } => *session,
         EventKind::AuthDone { session, .. } => *session,
         EventKind::Pasv { session, .. } => *session,
+        EventKind::Transfer { session, .. } => *session,
+        EventKind::Stou { session, .. } => *session,
+        EventKind::End { ticket } => ticket.session,
+        EventKind::Rest { session, .. } => *session,
+        EventKind::Cwd { session, .. } => *session,
         EventKind::Closed { session } => *session,
         EventKind::Connect { .. } => 0,
         EventKind::DataIn { .. } => 0,
     }
 }
 
-// The name that an event keeps or tells of a session.
-fn copy_name(alloc: Global, kind: &EventKind, session: &Session) -> Result<Bytes, AllocError>
-    ensures { IfOk result (λ name. name ≡ name_told kind.now session.now) }
+// The name or the path that an event keeps or tells of a session.
+fn copy_kept(alloc: Global, kind: &EventKind, session: &Session) -> Result<Bytes, AllocError>
+    ensures { IfOk result (λ kept. kept ≡ kept_by kind.now session.now) }
 {
     match kind {
         EventKind::User { name, .. } => name.copy(alloc),
         EventKind::AuthDone { .. } => known_name(alloc, session),
-        EventKind::Closed { .. } => match session.login {
-            Login::LoggedIn => known_name(alloc, session),
-            Login::New => Bytes::from_slice(alloc, b"unknown"),
-            Login::Named => Bytes::from_slice(alloc, b"unknown"),
-            Login::Checking => Bytes::from_slice(alloc, b"unknown"),
-        },
+        EventKind::Closed { .. } => copy_user(alloc, session),
+        EventKind::End { .. } => copy_user(alloc, session),
+        EventKind::Cwd { path, .. } => join_path(alloc, &session.cwd, path),
         EventKind::Connect { .. }
         | EventKind::DataIn { .. }
         | EventKind::Pass { .. }
-        | EventKind::Pasv { .. } => Ok(Bytes::from_vec(Vec::new(alloc))),
+        | EventKind::Pasv { .. }
+        | EventKind::Transfer { .. }
+        | EventKind::Stou { .. }
+        | EventKind::Rest { .. } => copy_alone(alloc, kind),
+    }
+}
+
+// What an event keeps whatever its session is: a new session is in the root, and STOU has a unique name.
+fn copy_alone(alloc: Global, kind: &EventKind) -> Result<Bytes, AllocError>
+    ensures { IfOk result (λ kept. kept ≡ kept_alone kind.now) }
+{
+    match kind {
+        EventKind::Connect { .. } => Bytes::from_slice(alloc, b"/"),
+        EventKind::Stou { word, .. } => unique_name(alloc, *word),
+        _ => Ok(Bytes::from_vec(Vec::new(alloc))),
+    }
+}
+
+// Who is logged in, or `unknown`.
+fn copy_user(alloc: Global, session: &Session) -> Result<Bytes, AllocError>
+    ensures { IfOk result (λ user. user ≡ logged_user session.now.login session.now.name) }
+{
+    match session.login {
+        Login::LoggedIn => known_name(alloc, session),
+        Login::New | Login::Named | Login::Checking => Bytes::from_slice(alloc, b"unknown"),
+    }
+}
+
+// The transfer that an event asks for, as it is fixed now.
+fn fix_transfer(
+    alloc: Global,
+    kind: &EventKind,
+    session: &Session,
+) -> Result<Option<Pending>, AllocError>
+    ensures { IfOk result (λ pending. pending ≡ asked_for kind.now session.now) }
+{
+    match kind {
+        EventKind::Transfer {
+            session: number,
+            command,
+        } => {
+            let command = command.copy(alloc)?;
+            Ok(Some(pending_of(alloc, *number, command, session)?))
+        }
+        EventKind::Stou {
+            session: number,
+            word,
+        } => {
+            let path = unique_name(alloc, *word)?;
+            let command = DataChanCmd::Stor { path };
+            Ok(Some(pending_of(alloc, *number, command, session)?))
+        }
+        _ => Ok(None),
+    }
+}
+
+// A transfer under the next ticket of the session, with the session's user, directory and offset.
+fn pending_of(
+    alloc: Global,
+    number: u64,
+    command: DataChanCmd,
+    session: &Session,
+) -> Result<Pending, AllocError>
+    ensures { IfOk result (λ pending. pending ≡ pending_of (next_ticket number session.now) (logged_user session.now.login session.now.name) session.now.cwd session.now.offset command) }
+{
+    let user = copy_user(alloc, session)?;
+    let path = command_path(alloc, &session.cwd, &command)?;
+    let offset = command_offset(session.offset, &command);
+    Ok(Pending {
+        ticket: Ticket {
+            session: number,
+            nr: session.tickets.saturating_add(1),
+        },
+        user,
+        command,
+        path,
+        offset,
+    })
+}
+
+// The path of a command in a directory; the listings take the directory itself for no path or `.`.
+fn command_path(alloc: Global, cwd: &Bytes, command: &DataChanCmd) -> Result<Bytes, AllocError>
+    ensures { IfOk result (λ path. path ≡ command_path cwd.now command.now) }
+{
+    match command {
+        DataChanCmd::Retr { path } => join_path(alloc, cwd, path),
+        DataChanCmd::Stor { path } => join_path(alloc, cwd, path),
+        DataChanCmd::Appe { path } => join_path(alloc, cwd, path),
+        DataChanCmd::List { path, .. } => listed_path(alloc, cwd, path),
+        DataChanCmd::Nlst { path } => listed_path(alloc, cwd, path),
+        DataChanCmd::Mlsd { path } => listed_path(alloc, cwd, path),
+    }
+}
+
+// The path of a listing.
+fn listed_path(alloc: Global, cwd: &Bytes, path: &Option<Bytes>) -> Result<Bytes, AllocError>
+    ensures { IfOk result (λ listed. listed ≡ listed_path cwd.now path.now) }
+{
+    match path {
+        None => cwd.copy(alloc),
+        Some(path) => {
+            if path.as_slice() == b".".as_slice() {
+                cwd.copy(alloc)
+            } else {
+                join_path(alloc, cwd, path)
+            }
+        }
+    }
+}
+
+// The offset of a command: RETR and STOR begin at the session's.
+fn command_offset(offset: u64, command: &DataChanCmd) -> u64
+    ensures { result ≡ command_offset offset command.now }
+{
+    match command {
+        DataChanCmd::Retr { .. } => offset,
+        DataChanCmd::Stor { .. } => offset,
+        _ => 0,
     }
 }
 

@@ -1,18 +1,24 @@
 //! Runs: one event, and a list of events with its log.
 
-ghost use Rattle.std.specs.Prelude.{◌≡◌, ◌+◌, ◌-◌, ◌^◌, ◌<◌, ◌↔◌, ◌∷◌, [], List, IsTrue, true, take, length, IfOk, IfErr, OnOk, OnErr, IsErrOf};
+ghost use Rattle.std.specs.Prelude.{◌≡◌, ◌+◌, ◌-◌, ◌^◌, ◌<◌, ◌↔◌, ◌∷◌, [], ℕ, List, IsTrue, true, false, take, length, IfOk, IfErr, IfSome, OnOk, OnErr, IsErrOf};
 ghost use Rattle.std.specs.List.{list_all};
 ghost use Rattle.ftp_events.specs.declared.entry.Entry.{Entry};
-ghost use Rattle.ftp_events.specs.declared.event.Answer.TheVariants as answer;
 ghost use Rattle.ftp_events.specs.Right.{next_entry};
 ghost use Rattle.ftp_hub.specs.Headline.{IsFresh, Headline};
-ghost use Rattle.ftp_hub.specs.Runs.{GoesOn, is_covered, done_of, IsExhausted};
-ghost use Rattle.ftp_hub.specs.Stands.{Stands, SameAnswers, options_of, count_of};
+ghost use Rattle.ftp_events.specs.Covers.{is_covered};
+ghost use Rattle.ftp_events.specs.Leads.{HasLinks, LeadsOne, LeavesAll, RunsJob, job_to_run};
+ghost use Rattle.ftp_events.specs.Log.{past_of};
+ghost use Rattle.ftp_hub.specs.Rooms.{job_in};
+ghost use Rattle.ftp_hub.specs.Runs.{GoesOn, LeadsOn, is_linked, done_of, IsExhausted};
+ghost use Rattle.ftp_hub.specs.Stands.{Stands, SameAnswers, Fits, job_for, options_of, count_of};
 
 use crate::hub::Hub;
 use crate::prepare::PrepareError;
+use crate::room::Room;
 use ftp_base::{Link, LinkTable, Storage};
 use ftp_events::{Answer, Entry, EventKind, HubEvent, Log};
+use ftp_transfer::{Job, execute};
+use std::alloc::Global;
 use thiserror::Error;
 
 /// Why a run stopped, and after how many events.
@@ -50,57 +56,101 @@ impl RunError {
 
 /// Says whether each number of a data connection has its link.
 pub fn covers<L: Link>(links: &LinkTable<L>, events: &[HubEvent]) -> bool
-    ensures { result ≡ list_all (is_covered links.now) events.now }
+    ensures { result ≡ list_all (λ e. is_covered (is_linked links.now) e.kind) events.now }
 {
     events.iter().all(|event| is_covered(links, event))
 }
 
 // Says whether the connection that comes with the event is in the table.
 fn is_covered<L: Link>(links: &LinkTable<L>, event: &HubEvent) -> bool
-    ensures { result ≡ is_covered links.now event.now }
+    ensures { result ≡ is_covered (is_linked links.now) event.now.kind }
 {
     match &event.kind {
         EventKind::DataIn { number, .. } => links.has(*number),
-        EventKind::Connect { .. }
-        | EventKind::User { .. }
-        | EventKind::Pass { .. }
-        | EventKind::AuthDone { .. }
-        | EventKind::Pasv { .. }
-        | EventKind::Closed { .. } => true,
+        _ => true,
     }
 }
 
-/// Runs one event. An error leaves all as it was, with `done` 0.
+/// Runs one event, and for the end of a transfer its job, on the link that it started on. An error leaves all as it
+/// was, with `done` 0.
 ///
-/// The kinds of event that there are so far ask nothing of the storage or of a link.
+/// Where that link is not in the table the job is not run, and its end is refused.
 pub fn run_event<S: Storage, L: Link>(
     hub: &mut Hub,
-    _storage: &mut S,
+    storage: &mut S,
     links: &mut LinkTable<L>,
     event: HubEvent,
 ) -> Result<Entry, RunError>
-    requires covered { IsTrue (is_covered links.old event) }
+    requires covered { IsTrue (is_covered (is_linked links.old) event.kind) }
     ensures event { IfOk result (λ e. e.event ≡ event) }
-    ensures due { IfOk result (λ e. (log : List Entry) → Stands hub.old log → e ≡ next_entry (options_of hub.old) log event answer.None) }
+    ensures due { IfOk result (λ e. (log : List Entry) → Stands hub.old log → e ≡ next_entry (options_of hub.old) log event e.answer) }
     ensures stands { IfOk result (λ e. (log : List Entry) → Stands hub.old log → Stands hub.new (e ∷ log)) }
+    ensures leads { IfOk result (λ e. (log : List Entry) → Stands hub.old log → HasLinks (past_of log) links.old → LeadsOne (record { files = S.files; meaning = S.meaning; storage_faults = S.faults; left = L.left; sending = L.sending; link_faults = L.faults }) (options_of hub.old) (past_of log) e (record { storage = storage.old; links = links.old }) (record { storage = storage.new; links = links.new })) }
+    ensures lacks { IfOk result (λ e. (log : List Entry) → Stands hub.old log → IfSome (job_to_run (options_of hub.old) (past_of log) event.kind) (λ job. is_linked links.old job.number ≡ false → LeavesAll e.answer (record { storage = storage.old; links = links.old }) (record { storage = storage.new; links = links.new }))) }
+    ensures linked { (n : ℕ) → is_linked links.old n ≡ true → is_linked links.new n ≡ true }
     ensures options { options_of hub.new ≡ options_of hub.old }
     ensures count { OnOk result (count_of hub.new ≡ count_of hub.old + 1) }
     ensures unchanged { OnErr result (SameAnswers hub.old hub.new) }
     ensures none_done { IfErr result (λ e. done_of e ≡ 0) }
     ensures exhausted { IsErrOf result (RunError.Exhausted 0) ↔ (count_of hub.old ≡ 2 ^ 64 - 1) }
-    ensures storage { _storage.new ≡ _storage.old }
-    ensures links { links.new ≡ links.old }
+    ensures storage { OnErr result (storage.new ≡ storage.old) }
+    ensures links { OnErr result (links.new ≡ links.old) }
 {
     match hub.prepare(&event) {
-        Ok(room) => Ok(hub.step(room, event, Answer::None)),
+        Ok(room) => Ok(run_prepared(hub, room, storage, links, event)),
         Err(PrepareError::Exhausted) => Err(RunError::Exhausted { done: 0 }),
         Err(PrepareError::OutOfMemory) => Err(RunError::OutOfMemory { done: 0 }),
     }
 }
 
+// Runs the job of a room, where it has one, and then the event.
+fn run_prepared<S: Storage, L: Link>(
+    hub: &mut Hub,
+    room: Room,
+    storage: &mut S,
+    links: &mut LinkTable<L>,
+    event: HubEvent,
+) -> Entry
+    requires fits { Fits room hub.old event }
+    requires job { job_in room ≡ job_for hub.old event.kind }
+    ensures event { result.event ≡ event }
+    ensures due { (log : List Entry) → Stands hub.old log → result ≡ next_entry (options_of hub.old) log event result.answer }
+    ensures stands { (log : List Entry) → Stands hub.old log → Stands hub.new (result ∷ log) }
+    ensures leads { (log : List Entry) → Stands hub.old log → HasLinks (past_of log) links.old → LeadsOne (record { files = S.files; meaning = S.meaning; storage_faults = S.faults; left = L.left; sending = L.sending; link_faults = L.faults }) (options_of hub.old) (past_of log) result (record { storage = storage.old; links = links.old }) (record { storage = storage.new; links = links.new }) }
+    ensures lacks { (log : List Entry) → Stands hub.old log → IfSome (job_to_run (options_of hub.old) (past_of log) event.kind) (λ job. is_linked links.old job.number ≡ false → LeavesAll result.answer (record { storage = storage.old; links = links.old }) (record { storage = storage.new; links = links.new })) }
+    ensures linked { (n : ℕ) → is_linked links.old n ≡ true → is_linked links.new n ≡ true }
+    ensures options { options_of hub.new ≡ options_of hub.old }
+    ensures count { count_of hub.new ≡ count_of hub.old + 1 }
+{
+    let mut room = room;
+    let answer = match room.take_job() {
+        None => Answer::None,
+        Some(job) => run_job(hub.alloc, job, storage, links),
+    };
+    hub.step(room, event, answer)
+}
+
+// Runs a job on its link, where that is in the table.
+fn run_job<S: Storage, L: Link>(
+    alloc: Global,
+    job: Job,
+    storage: &mut S,
+    links: &mut LinkTable<L>,
+) -> Answer
+    ensures ran { is_linked links.old job.number ≡ true → RunsJob (record { files = S.files; meaning = S.meaning; storage_faults = S.faults; left = L.left; sending = L.sending; link_faults = L.faults }) job result (record { storage = storage.old; links = links.old }) (record { storage = storage.new; links = links.new }) }
+    ensures lacks { is_linked links.old job.number ≡ false → LeavesAll result (record { storage = storage.old; links = links.old }) (record { storage = storage.new; links = links.new }) }
+    ensures linked { (n : ℕ) → is_linked links.old n ≡ true → is_linked links.new n ≡ true }
+{
+    match links.get_mut(job.number) {
+        None => Answer::None,
+        Some(link) => Answer::Done(execute(alloc, job, storage, link)),
+    }
+}
+
 /// Runs the events in order and adds an entry of each to the log.
 ///
-/// After an error all is as after the first `done` events.
+/// After an error all is as after the first `done` events. The table should have the link of each slot and each job
+/// of the hub; a fresh hub has none.
 pub fn run_events<S: Storage, L: Link>(
     hub: &mut Hub,
     storage: &mut S,
@@ -108,7 +158,7 @@ pub fn run_events<S: Storage, L: Link>(
     events: &[HubEvent],
     log: &mut Log,
 ) -> Result<(), RunError>
-    requires covered { IsTrue (list_all (is_covered links.old) events.now) }
+    requires covered { IsTrue (list_all (λ e. is_covered (is_linked links.old) e.kind) events.now) }
     ensures headline { IsFresh hub.old → log.old.entries ≡ [] → OnOk result (Headline (options_of hub.old) events.now log.new.entries) }
     ensures stands { Stands hub.old log.old.entries → Stands hub.new log.new.entries }
     ensures events { OnOk result (GoesOn log.old.entries log.new.entries events.now) }
@@ -117,8 +167,9 @@ pub fn run_events<S: Storage, L: Link>(
     ensures exhausted { IfErr result (λ e. IsExhausted e ↔ (count_of hub.old + done_of e ≡ 2 ^ 64 - 1)) }
     ensures count { OnOk result (count_of hub.new ≡ count_of hub.old + length events.now) }
     ensures options { options_of hub.new ≡ options_of hub.old }
-    ensures storage { storage.new ≡ storage.old }
-    ensures links { links.new ≡ links.old }
+    ensures leads { Stands hub.old log.old.entries → HasLinks (past_of log.old.entries) links.old → LeadsOn (record { files = S.files; meaning = S.meaning; storage_faults = S.faults; left = L.left; sending = L.sending; link_faults = L.faults }) (options_of hub.old) log.old.entries log.new.entries (record { storage = storage.old; links = links.old }) (record { storage = storage.new; links = links.new }) }
+    ensures linked { (n : ℕ) → is_linked links.old n ≡ true → is_linked links.new n ≡ true }
+    ensures has_links { HasLinks (past_of log.old.entries) links.old → HasLinks (past_of log.new.entries) links.new }
 {
     let mut done = 0;
     for event in events {
@@ -138,15 +189,16 @@ fn run_next<S: Storage, L: Link>(
     event: &HubEvent,
     log: &mut Log,
 ) -> Result<(), RunError>
-    requires covered { IsTrue (is_covered links.old event.now) }
+    requires covered { IsTrue (is_covered (is_linked links.old) event.now.kind) }
     ensures stands { Stands hub.old log.old.entries → Stands hub.new log.new.entries }
     ensures event { OnOk result (GoesOn log.old.entries log.new.entries (event.now ∷ [])) }
     ensures unchanged { OnErr result (log.new.entries ≡ log.old.entries) }
     ensures exhausted { IfErr result (λ e. IsExhausted e ↔ (count_of hub.old ≡ 2 ^ 64 - 1)) }
     ensures count { OnOk result (count_of hub.new ≡ count_of hub.old + 1) }
     ensures options { options_of hub.new ≡ options_of hub.old }
-    ensures storage { storage.new ≡ storage.old }
-    ensures links { links.new ≡ links.old }
+    ensures leads { Stands hub.old log.old.entries → HasLinks (past_of log.old.entries) links.old → LeadsOn (record { files = S.files; meaning = S.meaning; storage_faults = S.faults; left = L.left; sending = L.sending; link_faults = L.faults }) (options_of hub.old) log.old.entries log.new.entries (record { storage = storage.old; links = links.old }) (record { storage = storage.new; links = links.new }) }
+    ensures linked { (n : ℕ) → is_linked links.old n ≡ true → is_linked links.new n ≡ true }
+    ensures has_links { HasLinks (past_of log.old.entries) links.old → HasLinks (past_of log.new.entries) links.new }
 {
     if hub.events() == u64::MAX {
         return Err(RunError::Exhausted { done: 0 });

@@ -1,20 +1,25 @@
 //! One event: what is decided, how the tables change, and what is done.
 
-ghost use Rattle.std.specs.Prelude.{◌≡◌, ◌+◌, ◌-◌, ◌<◌, ◌^◌, ◌∷◌, List, IsTrue, true, Some};
+ghost use Rattle.std.specs.Prelude.{◌≡◌, ◌+◌, ◌-◌, ◌<◌, ◌^◌, ◌∷◌, List, IsTrue, true, Some, IsSomeAnd, nat_eq};
+ghost use Rattle.ftp_transfer.specs.Transfer.{suits};
+ghost use Rattle.ftp_events.specs.declared.event.Answer.TheVariants.{Done};
+ghost use Rattle.ftp_events.specs.declared.event.EventKind.TheVariants.{End};
 ghost use Rattle.std.specs.HashMap as map;
 ghost use Rattle.ftp_switchboard.specs.Board.{HasRoom};
 ghost use Rattle.ftp_events.specs.declared.entry.Entry.{Entry};
 ghost use Rattle.ftp_events.specs.Log.{is_refusal, named_session};
 ghost use Rattle.ftp_events.specs.Right.{next_entry};
-ghost use Rattle.ftp_hub.specs.Handlers.{is_command, is_closed};
-ghost use Rattle.ftp_hub.specs.Rooms.{IsReady, actions_in, name_in};
-ghost use Rattle.ftp_hub.specs.Stands.{Stands, Serves, SameHead, SameTables, Fits, options_of, count_of, name_for, client_for};
+ghost use Rattle.ftp_hub.specs.Handlers.{is_command, is_closed, is_transfer};
+ghost use Rattle.ftp_hub.specs.Rooms.{IsReady, actions_in, kept_in};
+ghost use Rattle.ftp_hub.specs.Stands.{Stands, Serves, SameHead, SameTables, Fits, options_of, count_of, kept_for, client_for};
 
 use crate::handlers;
 use crate::hub::Hub;
+use crate::jobs::{finish, queue};
 use crate::room::Room;
 use crate::tables::take;
 use ftp_events::{Answer, Decision, Entry, EventKind, HubEvent};
+use ftp_transfer::{Outcome, Ticket};
 
 impl Hub {
     /// Decides the event and changes the tables. It takes no memory: all that it needs is in the room.
@@ -52,6 +57,11 @@ impl Hub {
             EventKind::Pass { session } => self.command(room, event, answer, *session),
             EventKind::AuthDone { session, .. } => self.command(room, event, answer, *session),
             EventKind::Pasv { session, .. } => self.command(room, event, answer, *session),
+            EventKind::Transfer { session, .. } => self.transfer(room, event, answer, *session),
+            EventKind::Stou { session, .. } => self.transfer(room, event, answer, *session),
+            EventKind::End { ticket } => self.end(room, event, answer, *ticket),
+            EventKind::Rest { session, .. } => self.command(room, event, answer, *session),
+            EventKind::Cwd { session, .. } => self.command(room, event, answer, *session),
             EventKind::Closed { session } => self.close(room, event, answer, *session),
         }
     }
@@ -103,5 +113,79 @@ impl Hub {
             event.at,
             &self.options,
         )
+    }
+
+    // A command that queues a transfer.
+    fn transfer(
+        &mut self,
+        room: &mut Room,
+        event: &HubEvent,
+        answer: Answer,
+        number: u64,
+    ) -> Decision
+        requires fits { Fits room.old self.old event.now }
+        requires of_this_event { IsTrue (is_transfer event.now.kind) }
+        requires named { named_session event.now.kind ≡ Some number }
+        ensures serves { (log : List Entry) → Stands self.old log → Serves self.old self.new log event.now answer result (actions_in room.new) }
+        ensures head { SameHead self.old self.new }
+    {
+        match self.sessions.get_mut(&number) {
+            None => Decision::UnknownNumber,
+            Some(session) => queue(
+                session,
+                number,
+                event,
+                &mut self.jobs,
+                &mut self.board,
+                room,
+                &self.options,
+            ),
+        }
+    }
+
+    // The end of a transfer.
+    fn end(&mut self, room: &mut Room, event: &HubEvent, answer: Answer, ticket: Ticket) -> Decision
+        requires fits { Fits room.old self.old event.now }
+        requires of_this_event { event.now.kind ≡ End ticket }
+        ensures serves { (log : List Entry) → Stands self.old log → Serves self.old self.new log event.now answer result (actions_in room.new) }
+        ensures head { SameHead self.old self.new }
+    {
+        let Some(job) = self.jobs.get(&ticket.session) else {
+            return Decision::UnknownNumber;
+        };
+        if job.ticket != ticket {
+            return Decision::UnknownNumber;
+        }
+        let Answer::Done(outcome) = answer else {
+            return Decision::NotExpected;
+        };
+        if !outcome.suits(&job.command) {
+            return Decision::NotExpected;
+        }
+        self.finish(room, event, ticket, outcome)
+    }
+
+    // A transfer that runs has ended with an outcome that suits it.
+    fn finish(
+        &mut self,
+        room: &mut Room,
+        event: &HubEvent,
+        ticket: Ticket,
+        outcome: Outcome,
+    ) -> Decision
+        requires fits { Fits room.old self.old event.now }
+        requires of_this_event { event.now.kind ≡ End ticket }
+        requires runs { IsSomeAnd (map.get nat_eq self.old.jobs ticket.session) (λ job. (job.ticket ≡ ticket) × (suits outcome.result job.command ≡ true)) }
+        ensures serves { (log : List Entry) → Stands self.old log → Serves self.old self.new log event.now (Done outcome) result (actions_in room.new) }
+        ensures head { SameHead self.old self.new }
+    {
+        let Some(job) = take(&mut self.jobs, ticket.session) else {
+            unreachable!()
+        };
+        match self.sessions.get_mut(&ticket.session) {
+            None => room.complete(ticket, false),
+            Some(session) => finish(session, job, outcome, &mut self.jobs, room, &self.options),
+        }
+        Decision::Finished
     }
 }

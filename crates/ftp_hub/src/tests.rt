@@ -4,9 +4,12 @@ ghost use Rattle.std.specs.Prelude.{IfOk, IsTrue};
 ghost use Rattle.ftp_options.specs.Modes.{is_pooled};
 
 use crate::{Hub, RunError, covers, run_events};
-use ftp_base::{AuthAnswer, Bytes, IpAddr, LinkTable, MemoryLink, MemoryStorage, SocketAddr};
+use ftp_base::{
+    AuthAnswer, Bytes, DataChanCmd, IpAddr, LinkTable, MemoryLink, MemoryStorage, SocketAddr,
+};
 use ftp_events::{Decision, EventKind, HubEvent, Log};
 use ftp_options::{Options, ServerBuilder};
+use ftp_transfer::Ticket;
 use std::alloc::Global;
 use std::test::Fail;
 
@@ -19,7 +22,35 @@ fn address(ip: u32, port: u16) -> SocketAddr {
     }
 }
 
-// A login, a PASV, the data connection of another client, that of the own client, and the end.
+fn pasv() -> EventKind {
+    EventKind::Pasv {
+        session: 1,
+        word: 0,
+        lookup: None,
+        bound: None,
+    }
+}
+
+fn arrival(number: u64, ip: u32) -> EventKind {
+    EventKind::DataIn {
+        number,
+        raw: address(ip, 1),
+        port: 50000,
+    }
+}
+
+fn transfer(command: DataChanCmd) -> EventKind {
+    EventKind::Transfer {
+        session: 1,
+        command,
+    }
+}
+
+fn ticket(nr: u64) -> Ticket {
+    Ticket { session: 1, nr }
+}
+
+// A login, the data connection of another client, and those of the own client, that stores a file and takes it back.
 fn events(alloc: Global) -> Result<Vec<HubEvent>, Fail> {
     let kinds = [
         EventKind::Connect {
@@ -37,22 +68,19 @@ fn events(alloc: Global) -> Result<Vec<HubEvent>, Fail> {
             session: 1,
             answer: AuthAnswer::Good,
         },
-        EventKind::Pasv {
-            session: 1,
-            word: 0,
-            lookup: None,
-            bound: None,
-        },
-        EventKind::DataIn {
-            number: 11,
-            raw: address(CLIENT + 1, 1),
-            port: 50000,
-        },
-        EventKind::DataIn {
-            number: 12,
-            raw: address(CLIENT, 1),
-            port: 50000,
-        },
+        pasv(),
+        arrival(11, CLIENT + 1),
+        arrival(12, CLIENT),
+        transfer(DataChanCmd::Stor {
+            path: Bytes::from_slice(alloc, b"a")?,
+        }),
+        EventKind::End { ticket: ticket(1) },
+        pasv(),
+        arrival(13, CLIENT),
+        transfer(DataChanCmd::Retr {
+            path: Bytes::from_slice(alloc, b"a")?,
+        }),
+        EventKind::End { ticket: ticket(2) },
         EventKind::Closed { session: 1 },
     ];
     let mut events = Vec::new(alloc);
@@ -72,15 +100,18 @@ fn options() -> Result<Options, Fail>
 }
 
 #[test]
-fn a_data_connection_of_another_client_is_turned_away(rt: HostRuntime) -> Result<(), Fail> {
+fn a_client_takes_back_what_it_stored_and_another_is_turned_away(
+    rt: HostRuntime,
+) -> Result<(), Fail> {
     let alloc = rt.alloc();
     let mut hub = Hub::new(alloc, options()?);
-    let mut storage = MemoryStorage::new(alloc, 0, Vec::new(alloc));
+    let mut storage = MemoryStorage::new(alloc, 5, Vec::new(alloc));
     let mut links = LinkTable::new(alloc);
     let events = events(alloc)?;
     assert_eq!(rt; covers(&links, &events), false);
-    for number in [11, 12] {
-        let link = MemoryLink::new(alloc, Vec::new(alloc), 1, Vec::new(alloc));
+    for number in [11, 12, 13] {
+        let input = b"Hello".to_vec(alloc)?;
+        let link = MemoryLink::new(alloc, input, 2, Vec::new(alloc));
         links.insert(number, link).ok().ok_or("no link")?;
     }
     if !covers(&links, &events) {
@@ -97,12 +128,20 @@ fn a_data_connection_of_another_client_is_turned_away(rt: HostRuntime) -> Result
         Decision::Granted { port: 50000 },
         Decision::Turned,
         Decision::Attached { session: 1 },
+        Decision::Queued { ticket: ticket(1) },
+        Decision::Finished,
+        Decision::Granted { port: 50000 },
+        Decision::Attached { session: 1 },
+        Decision::Queued { ticket: ticket(2) },
+        Decision::Finished,
         Decision::Closed,
     ];
-    assert_eq!(rt; log.len(), 8);
+    assert_eq!(rt; log.len(), 14);
     for (entry, decision) in log.as_slice().iter().zip(expected) {
         assert_eq!(rt; entry.decision, decision);
     }
+    let sent = links.get(13).ok_or("no link")?.sent();
+    assert_eq!(rt; sent, b"Hello".as_slice());
     Ok(())
 }
 

@@ -1,5 +1,5 @@
 -- A client's part of the log decides and does on the client's events what the whole log does.
-use Rattle.std.proofs.Common.{◌≡◌, refl, sym, ◌∙◌, ap, subst, ℕ, Bool, true, false, not, cond, List, [], ◌∷◌, ◌++◌, Option, Some, None}
+use Rattle.std.proofs.Common.{◌≡◌, refl, sym, ◌∙◌, ap, ap₂, subst, ℕ, Bool, true, false, not, cond, List, [], ◌∷◌, ◌++◌, Option, Some, None}
 use Rattle.std.specs.Prelude.{Contains, find, is_none}
 use Rattle.std.specs.Option.{option_map_or, option_or}
 use Rattle.std.proofs.lemmas.List.Elements.{Contains-push, Contains-append_left, Contains-append_right}
@@ -23,13 +23,14 @@ use Rattle.ftp_events.specs.History.{subject}
 use Rattle.ftp_events.specs.Session.{session}
 use Rattle.ftp_events.specs.ConnectionRows.{arrival_row, holder_row}
 use Rattle.ftp_events.specs.CommandRows.{pasv_row, if_logged_in}
+use Rattle.ftp_events.specs.EndRows.{end_row}
 use Rattle.ftp_events.specs.Decide.{due, decide, if_live}
 use Rattle.ftp_events.specs.Acts.{acts, acts_of, acts_for, session_acts, refused_link}
 use Rattle.ftp_events.specs.Right.{IsRight, IsActed}
 use Rattle.ftp_events.specs.Isolation.{owner, is_own, client_log, numbers_in, own_numbers, IsApart}
 use Rattle.ftp_laws.proofs.Laws.{session-told}
 use Rattle.ftp_laws.proofs.Holds.{same_ip-equal, ComesFor, comes-for, names-itself}
-use Rattle.ftp_laws.proofs.Isolated.{Alike, alike, is_of, is_kept, kept-name, kept-target, kept-comes, sessions-alike, holder-of, used-alike, foreign-stays}
+use Rattle.ftp_laws.proofs.Isolated.{Alike, alike, is_of, is_kept, kept-name, kept-target, kept-comes, sessions-alike, jobs-alike, holder-of, used-alike, foreign-stays}
 
 -- what an event of client a reads is the same in both pasts
 pub record ReadsAlike (o : Options) (P K : List Entry) (a : IpAddr) (k : EventKind) : Type 0 where
@@ -126,6 +127,11 @@ due-alike o log K e a m r kept reads = go e.event.kind refl
     go (kind.Pass s) y = row _ s _ _ y refl (λ v x. refl)
     go (kind.AuthDone s said) y = row _ s _ _ y refl (λ v x. refl)
     go (kind.Closed s) y = row _ s _ _ y refl (λ v x. refl)
+    go (kind.Transfer s c) y = row _ s _ _ y refl (λ v x. refl)
+    go (kind.Stou s word) y = row _ s _ _ y refl (λ v x. refl)
+    go (kind.End ticket) y = ap (end_row ticket e.answer) (jobs-alike o (past_of log) K a ticket.session reads.tables (named ticket.session (ap named_session y)))
+    go (kind.Rest s offset) y = row _ s _ _ y refl (λ v x. refl)
+    go (kind.Cwd s path refusal) y = row _ s _ _ y refl (λ v x. refl)
     go (kind.Pasv s word lookup bound) y = row _ s _ _ y refl (λ v x. pasv-alike o (past_of log) K a word v reads.tables (client-of o (past_of log) s a v x (named s (ap named_session y))))
     go (kind.Connect s raw local trace) y = rw (used _ y s (Contains-push [] s)) refl
     go (kind.DataIn number raw port) y =
@@ -168,7 +174,9 @@ acts-alike o log K e a m r kept l =
         (s : Option ℕ) → subject o (past_of log) e ≡ s →
         option_map_or (acts_for o K e) s (refused_link e.event.kind e.decision) ≡ option_map_or (acts_for o (past_of log) e) s (refused_link e.event.kind e.decision)
     go None x = refl
-    go (Some s) x = ap (session_acts o s e.event.kind e.answer e.decision) (sessions-alike o (past_of log) K a s l (kept-subject o log e a s m r kept x))
+    go (Some s) x =
+        let own : is_of (past_of log) s a ≡ true = kept-subject o log e a s m r kept x in
+        ap₂ (session_acts o s e.event.kind e.answer e.decision) (jobs-alike o (past_of log) K a s l own) (sessions-alike o (past_of log) K a s l own)
 
 -- what an entry of client a carried stays among the client's numbers
 pub own-grows :

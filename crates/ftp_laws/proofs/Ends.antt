@@ -98,6 +98,11 @@ closed-kind o past at (kind.User n name) answer s e x = grind arith
 closed-kind o past at (kind.Pass n) answer s e x = grind arith
 closed-kind o past at (kind.AuthDone n said) answer s e x = grind arith
 closed-kind o past at (kind.Pasv n word lookup bound) answer s e x = grind arith
+closed-kind o past at (kind.Rest n offset) answer s e x = grind arith
+closed-kind o past at (kind.Cwd n path refusal) answer s e x = grind arith
+closed-kind o past at (kind.Transfer n c) answer s e x = grind arith
+closed-kind o past at (kind.Stou n word) answer s e x = grind arith
+closed-kind o past at (kind.End ticket) answer s e x = grind arith
 
 -- a data connection to a key, in words
 pub comes-in-words :

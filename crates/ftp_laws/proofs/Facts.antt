@@ -32,6 +32,11 @@ named-no_connection o past at (kind.User s name) answer n m e = grind arith
 named-no_connection o past at (kind.Pass s) answer n m e = grind arith
 named-no_connection o past at (kind.AuthDone s said) answer n m e = grind arith
 named-no_connection o past at (kind.Pasv s word lookup bound) answer n m e = grind arith
+named-no_connection o past at (kind.Rest s offset) answer n m e = grind arith
+named-no_connection o past at (kind.Cwd s path refusal) answer n m e = grind arith
+named-no_connection o past at (kind.Transfer s c) answer n m e = grind arith
+named-no_connection o past at (kind.Stou s word) answer n m e = grind arith
+named-no_connection o past at (kind.End ticket) answer n m e = grind arith
 named-no_connection o past at (kind.Closed s) answer n m e = grind arith
 
 -- a number that an entry opens was not used
@@ -45,6 +50,11 @@ opened-unused o past at (kind.User s name) answer n e = grind arith
 opened-unused o past at (kind.Pass s) answer n e = grind arith
 opened-unused o past at (kind.AuthDone s said) answer n e = grind arith
 opened-unused o past at (kind.Pasv s word lookup bound) answer n e = grind arith
+opened-unused o past at (kind.Rest s offset) answer n e = grind arith
+opened-unused o past at (kind.Cwd s path refusal) answer n e = grind arith
+opened-unused o past at (kind.Transfer s c) answer n e = grind arith
+opened-unused o past at (kind.Stou s word) answer n e = grind arith
+opened-unused o past at (kind.End ticket) answer n e = grind arith
 opened-unused o past at (kind.Closed s) answer n e = grind arith
 
 -- an entry that is decided for a session names a live one
@@ -75,4 +85,9 @@ granted-live o past at (kind.DataIn number raw port) answer p e = grind arith
 granted-live o past at (kind.User s name) answer p e = grind arith
 granted-live o past at (kind.Pass s) answer p e = grind arith
 granted-live o past at (kind.AuthDone s said) answer p e = grind arith
+granted-live o past at (kind.Rest s offset) answer p e = grind arith
+granted-live o past at (kind.Cwd s path refusal) answer p e = grind arith
+granted-live o past at (kind.Transfer s c) answer p e = grind arith
+granted-live o past at (kind.Stou s word) answer p e = grind arith
+granted-live o past at (kind.End ticket) answer p e = grind arith
 granted-live o past at (kind.Closed s) answer p e = grind arith

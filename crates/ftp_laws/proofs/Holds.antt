@@ -10,22 +10,24 @@ use Rattle.ftp_base.specs.declared.net.IpAddr.TheVariants.{V4, V6}
 use Rattle.ftp_base.specs.Net.{same_ip}
 use Rattle.ftp_options.specs.declared.options.Options.{Options}
 use Rattle.ftp_options.specs.Modes.{is_legacy}
+use Rattle.ftp_transfer.specs.declared.job.Job.{Job}
 use Rattle.ftp_events.specs.declared.entry.Entry.{Entry}
 use Rattle.ftp_events.specs.declared.event.EventKind.{EventKind}
 use Rattle.ftp_events.specs.declared.event.Answer.{Answer}
 use Rattle.ftp_events.specs.declared.decision.Decision.{Decision}
 use Rattle.ftp_events.specs.declared.decision.Decision.TheVariants as decision
 use Rattle.ftp_events.specs.declared.session.Opening.{Opening}
+use Rattle.ftp_events.specs.declared.session.Pending.{Pending}
 use Rattle.ftp_events.specs.declared.session.Session.{Session}
 use Rattle.ftp_events.specs.declared.session.Slot.{Slot}
-use Rattle.ftp_events.specs.declared.session.Slot.TheVariants.{Empty, Waits}
+use Rattle.ftp_events.specs.declared.session.Slot.TheVariants.{Empty, Waits, Linked}
 use Rattle.ftp_events.specs.Words.{is_number}
 use Rattle.ftp_events.specs.Log.{named_session, new_number, is_used, is_refusal, past_of}
 use Rattle.ftp_events.specs.Opening.{opened_number, opening_by, opener}
 use Rattle.ftp_events.specs.Board.{Target, target, granted_port, is_client, gives_hold, comes_to, ends_hold, gives_up_hold, holder}
 use Rattle.ftp_events.specs.History.{concerns, opens}
-use Rattle.ftp_events.specs.Slot.{drops, slot_after}
-use Rattle.ftp_events.specs.Session.{lives_on, session, life_by}
+use Rattle.ftp_events.specs.Slot.{Lane, drops, lane_of, lane_after}
+use Rattle.ftp_events.specs.Session.{lives_on, session, life_by, running_job, queued_for, lane_in}
 use Rattle.ftp_events.specs.Decide.{due, decide}
 use Rattle.ftp_events.specs.Right.{IsRight}
 use Rattle.ftp_laws.proofs.Facts.{is_connection, named-no_connection, opened-unused, IsLive, granted-live}
@@ -66,13 +68,26 @@ touches (decision.Granted port) slot = true
 touches (decision.Attached session) slot = true
 touches d slot = drops d slot
 
--- every other decision leaves the slot
-pub slot-kept :
-    (k : EventKind) (d : Decision) (slot : Slot) →
-    touches d slot ≡ false → slot_after k d slot ≡ slot
-slot-kept k (decision.Granted port) slot t = cc
-slot-kept k (decision.Attached s) slot t = cc
-slot-kept k _ slot t = cond-false _ Empty slot t
+-- a job that starts takes no port
+pub port-lane :
+    (slot : Slot) (pending : Option Pending) (job : Option Job) →
+    port_of (lane_of slot pending job).slot ≡ port_of slot
+port-lane (Linked number) (Some p) None = refl
+port-lane (Linked number) (Some p) (Some job) = refl
+port-lane (Linked number) None job = refl
+port-lane Empty pending job = refl
+port-lane (Waits port) pending job = refl
+
+-- every other decision leaves the port that the slot waits for
+pub port-kept :
+    (k : EventKind) (d : Decision) (queued : Option Pending) (l : Lane) →
+    touches d l.slot ≡ false →
+    port_of (lane_after k d queued l).slot ≡ port_of l.slot
+port-kept k (decision.Granted port) queued l t = cc
+port-kept k (decision.Attached s) queued l t = cc
+port-kept k (decision.Queued ticket) queued l t = port-lane l.slot queued l.running
+port-kept k decision.Finished queued l t = port-lane l.slot l.pending None
+port-kept k _ queued l t = ap port_of (cond-false _ Empty l.slot t)
 
 -- a decision that neither gives the slot up nor is on a connection does not touch it
 pub touch-free :
@@ -128,10 +143,10 @@ pub waits-own :
 waits-own o past e s a p w n c t l =
     let after = session-own o past e s w.view w.known n c in
     record {
-      view = session_by s e w.view;
+      view = session_by s e (running_job o past s) w.view;
       known = after ∙ rw l refl;
       client = w.client;
-      port = ap port_of (slot-kept e.event.kind e.decision w.view.slot t) ∙ w.port;
+      port = port-kept e.event.kind e.decision (queued_for e.decision e.event.kind w.view) (lane_in w.view (running_job o past s)) t ∙ w.port;
     }
 
 -- it waits too after an entry that does not concern it
@@ -242,10 +257,10 @@ names-itself n s e = rw e (eq-eqb s s refl)
 
 -- after a grant the slot waits for the port
 pub port-granted :
-    (k : EventKind) (d : Decision) (slot : Slot) (p : ℕ) →
+    (k : EventKind) (d : Decision) (queued : Option Pending) (l : Lane) (p : ℕ) →
     d ≡ decision.Granted p →
-    port_of (slot_after k d slot) ≡ Some p
-port-granted k d slot p e = rw e refl
+    port_of (lane_after k d queued l).slot ≡ Some p
+port-granted k d queued l p e = rw e refl
 
 -- the session that is granted a port waits for it
 pub grant-waits :
@@ -270,10 +285,10 @@ grant-waits o past e s a p fit gives names =
     let about : concerns o past e s ≡ true = rw (names, eq-eqb s s refl) refl in
     let lives : lives_on e.decision ≡ true = rw grant refl in
     record {
-      view = session_by s e v;
+      view = session_by s e (running_job o past s) v;
       known = session-own o past e s v known unopened about ∙ rw lives refl;
       client = client;
-      port = port-granted e.event.kind e.decision v.slot p grant;
+      port = port-granted e.event.kind e.decision (queued_for e.decision e.event.kind v) (lane_in v (running_job o past s)) p grant;
     }
 
 -- after an entry that is decided as it has to be, whoever holds a port waits for it

@@ -19,7 +19,8 @@ use Rattle.ftp_events.specs.Log.{past_of, is_refusal, named_session, is_used, ne
 use Rattle.ftp_events.specs.Opening.{opening_by, opener}
 use Rattle.ftp_events.specs.Board.{Target, target, is_client, gives_hold, granted_port, comes_to, ends_hold, holder, holder_of_target}
 use Rattle.ftp_events.specs.History.{concerns, opens, history}
-use Rattle.ftp_events.specs.Session.{session}
+use Rattle.ftp_events.specs.Slot.{lane}
+use Rattle.ftp_events.specs.Session.{session, running_job}
 use Rattle.ftp_events.specs.Right.{IsRight}
 use Rattle.ftp_events.specs.Isolation.{owner, is_own, client_log, foreign_numbers}
 use Rattle.ftp_laws.proofs.Laws.{opener-other, session-told, history-other}
@@ -42,6 +43,13 @@ pub sessions-alike :
     Alike o P K a → is_of P s a ≡ true →
     session o K s ≡ session o P s
 sessions-alike o P K a s l w = rw (l.openers s w, l.histories s w) refl
+
+-- and of the jobs that run
+pub jobs-alike :
+    (o : Options) (P K : List Entry) (a : IpAddr) (s : ℕ) →
+    Alike o P K a → is_of P s a ≡ true →
+    running_job o K s ≡ running_job o P s
+jobs-alike o P K a s l w = ap (λ h. (lane h).running) (l.histories s w)
 
 -- the owner of what a session does is its client
 pub owner-at :

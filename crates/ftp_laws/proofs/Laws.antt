@@ -4,17 +4,17 @@ use Rattle.std.specs.Prelude.{count_by}
 use Rattle.std.proofs.lemmas.Option.{same_Some}
 use Rattle.std.specs.Option.{option_map}
 use Rattle.ftp_options.specs.declared.options.Options.{Options}
+use Rattle.ftp_transfer.specs.declared.job.Job.{Job}
 use Rattle.ftp_events.specs.declared.entry.Entry.{Entry}
 use Rattle.ftp_events.specs.declared.decision.Decision.TheVariants.{Opened}
-use Rattle.ftp_events.specs.declared.session.Login.TheVariants as login
-use Rattle.ftp_events.specs.declared.session.Slot.TheVariants.{Empty}
 use Rattle.ftp_events.specs.declared.session.Session.{Session}
 use Rattle.ftp_events.specs.declared.session.Opening.{Opening}
 use Rattle.ftp_events.specs.Log.{is_refusal, past_of}
 use Rattle.ftp_events.specs.Opening.{opened_number, opening_by, opener}
 use Rattle.ftp_events.specs.History.{concerns, opens, history}
 use Rattle.ftp_events.specs.Notices.{is_notice_to}
-use Rattle.ftp_events.specs.Session.{lives_on, session_after, is_live, session_by_history, session, new_session}
+use Rattle.ftp_events.specs.Slot.{lane_after, lane, queued_in}
+use Rattle.ftp_events.specs.Session.{lives_on, session_after, is_live, session_by_history, session, running_job, next_lane, new_session}
 
 -- a refused entry is not in the past
 pub counting-refused :
@@ -57,9 +57,16 @@ pub session-other :
     session o (e ∷ past) s ≡ session o past s
 session-other o past e s n c = rw (n, c) refl
 
--- what an entry makes of a live session
-abbrev pub session_by : ℕ → Entry → Session → Session
-session_by s e v = session_after e.event.kind e.decision (count_by (is_notice_to s) e.actions) v
+-- nor does the job that runs change
+pub running-other :
+    (o : Options) (past : List Entry) (e : Entry) (s : ℕ) →
+    opens e s ≡ false → concerns o past e s ≡ false →
+    running_job o (e ∷ past) s ≡ running_job o past s
+running-other o past e s n c = ap (λ h. (lane h).running) (history-other o past e s n c)
+
+-- what an entry makes of a live session, with the job that ran before it
+abbrev pub session_by : ℕ → Entry → Option Job → Session → Session
+session_by s e job v = session_after e.event.kind e.answer e.decision (count_by (is_notice_to s) e.actions) job v
 
 -- a live session is what its history and its opener tell
 pub record IsTold (s : ℕ) (h : List Entry) (opener : Option Opening) (v : Session) : Type 0 where
@@ -91,12 +98,41 @@ pub session-own :
     (o : Options) (past : List Entry) (e : Entry) (s : ℕ) (v : Session) →
     session o past s ≡ Some v → opens e s ≡ false →
     concerns o past e s ≡ true →
-    session o (e ∷ past) s ≡ cond (lives_on e.decision) (Some (session_by s e v)) None
+    session o (e ∷ past) s ≡ cond (lives_on e.decision) (Some (session_by s e (running_job o past s) v)) None
 session-own o past e s v known n c =
     let h = history o past s in
     let t : IsTold s h (opener past s) v = session-told o past s v known in
     rw (n, c, t.opening, t.alive)
-    (subst (λ (w : Session). cond (lives_on e.decision) (Some (session_by_history s (e ∷ h) w.opening)) None ≡ cond (lives_on e.decision) (Some (session_by s e w)) None) t.told refl)
+    (subst (λ (w : Session). cond (lives_on e.decision) (Some (session_by_history s (e ∷ h) w.opening)) None ≡ cond (lives_on e.decision) (Some (session_by s e (running_job o past s) w)) None) t.told refl)
+
+-- so is the job that runs then
+pub running-own :
+    (o : Options) (past : List Entry) (e : Entry) (s : ℕ) (v : Session) →
+    session o past s ≡ Some v → opens e s ≡ false →
+    concerns o past e s ≡ true →
+    running_job o (e ∷ past) s ≡ (next_lane e.event.kind e.decision (running_job o past s) v).running
+running-own o past e s v known n c =
+    let h = history o past s in
+    let t : IsTold s h (opener past s) v = session-told o past s v known in
+    ap (λ l. (lane l).running) (history-own o past e s n c) ∙
+    subst (λ (w : Session). (lane (e ∷ h)).running ≡ (next_lane e.event.kind e.decision (running_job o past s) w).running) t.told refl
+
+-- whoever the entry concerns, the job is read from the history before it
+pub running-kept :
+    (o : Options) (past : List Entry) (e : Entry) (s : ℕ) →
+    opens e s ≡ false → concerns o past e s ≡ true →
+    running_job o (e ∷ past) s ≡ (lane_after e.event.kind e.decision (queued_in (history o past s) e) (lane (history o past s))).running
+running-kept o past e s n c = ap (λ l. (lane l).running) (history-own o past e s n c)
+
+-- no job runs when a session is opened
+pub running-opened :
+    (o : Options) (past : List Entry) (e : Entry) (s : ℕ) →
+    opens e s ≡ true → e.decision ≡ Opened →
+    running_job o (e ∷ past) s ≡ None
+running-opened o past e s n d = ap (λ l. (lane l).running) start ∙ rw d refl
+  where
+    start : history o (e ∷ past) s ≡ e ∷ []
+    start = rw n refl
 
 -- the session after it was opened
 pub session-opened :

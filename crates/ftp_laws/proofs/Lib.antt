@@ -9,4 +9,13 @@ pub mod Isolated
 pub mod Decided
 pub mod Determined
 pub mod Notices
+pub mod Told
+pub mod Lanes
+pub mod Counts
+pub mod Links
+pub mod Offsets
+pub mod Tickets
+pub mod Accounts
+pub mod Fates
+pub mod Cancelled
 mod Needed

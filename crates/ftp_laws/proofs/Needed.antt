@@ -4,6 +4,7 @@ use Rattle.std.specs.Prelude.{codes}
 use Rattle.ftp_base.specs.declared.net.IpAddr.{IpAddr}
 use Rattle.ftp_base.specs.declared.notice.Notice.TheVariants.{Presence}
 use Rattle.ftp_base.specs.declared.notice.PresenceEvent.TheVariants as presence
+use Rattle.ftp_base.specs.Storage.{root}
 use Rattle.ftp_options.specs.declared.options.Options.{Options}
 use Rattle.ftp_options.specs.declared.options.ListenerMode.TheVariants.{Legacy}
 use Rattle.ftp_options.specs.declared.options.PassiveHost.TheVariants.{FromConnection}
@@ -29,7 +30,7 @@ apart-needed r = let c : decision.UsedNumber ≡ decision.Opened = r.1 in cc
 
 -- each session has a listener of its own
 abbrev own_listeners : Options
-own_listeners = record { mode = Legacy; lo = 50000; hi = 50001; host = FromConnection; active_passive = PassiveOnly; idle_ms = 600000; ordered = lit≤ tt; listens = λ _. lit≤ tt }
+own_listeners = record { mode = Legacy; lo = 50000; hi = 50001; host = FromConnection; active_passive = PassiveOnly; idle_ms = 600000; features = 1; ordered = lit≤ tt; listens = λ _. lit≤ tt }
 
 -- a login and a PASV
 abbrev waiting : List Entry
@@ -49,7 +50,11 @@ pooled-needed law = nobody (holder own_listeners (past_of waiting) a1 50000) ref
           opening = record { raw = addr a1 4000; local = addr (ip 10 0 0 9) 21; client = a1; trace = 1 };
           login = LoggedIn;
           name = Some (codes "ann");
+          cwd = root;
+          offset = 0;
           slot = Waits 50000;
+          pending = None;
+          tickets = 0;
           notices = 1;
         }
 

@@ -1,47 +1,38 @@
--- How the notifications of a session grow.
-use Rattle.std.proofs.Common.{◌≡◌, refl, sym, ◌∙◌, ap, ap₂, subst, ℕ, zero, suc, ◌+◌, Bool, true, false, true≢false, cond, List, [], ◌∷◌, ◌++◌, map, length, Option, Some, None, arith, eqb-true, append-nil, length-append, inl, inr}
-use Rattle.std.specs.Prelude.{◌⊎◌, ◌==◌, count_by, filter_map, unwrap_or}
-use Rattle.std.specs.List.{range_with_len}
-use Rattle.std.specs.Option.{option_map_or}
-use Rattle.std.proofs.lemmas.Option.{same_Some}
-use Rattle.std.proofs.lemmas.List.{map-append}
+-- What an entry tells of a session.
+use Rattle.std.proofs.Common.{◌≡◌, refl, sym, ◌∙◌, ap, ℕ, ◌+◌, Bool, true, false, cond, List, [], ◌∷◌, ◌++◌, length, Option, Some, None, arith, eqb-true, append-nil}
+use Rattle.std.specs.Prelude.{◌==◌, count_by, filter_map, unwrap_or}
+use Rattle.std.specs.Option.{option_map_or, option_and_then}
 use Rattle.std.proofs.lemmas.List.Elements.{filter_map-append}
-use Rattle.std.proofs.lemmas.List.Folds.{list_any-append}
 use Rattle.std.proofs.lemmas.List.Recursion.{is_count_by}
+use Rattle.ftp_base.specs.declared.message.ControlChanMsg.{ControlChanMsg}
 use Rattle.ftp_base.specs.declared.notice.Notice.{Notice}
-use Rattle.ftp_base.specs.declared.notice.Notice.TheVariants.{Presence}
-use Rattle.ftp_base.specs.declared.notice.PresenceEvent.TheVariants as presence
 use Rattle.ftp_base.specs.declared.reply.Reply.{Reply}
 use Rattle.ftp_base.specs.declared.reply.Reply.TheVariants as reply
 use Rattle.ftp_options.specs.declared.options.Options.{Options}
+use Rattle.ftp_transfer.specs.declared.job.Job.{Job}
 use Rattle.ftp_events.specs.declared.action.Action.{Action}
 use Rattle.ftp_events.specs.declared.action.Action.TheVariants as action
 use Rattle.ftp_events.specs.declared.decision.Decision.{Decision}
 use Rattle.ftp_events.specs.declared.decision.Decision.TheVariants as decision
 use Rattle.ftp_events.specs.declared.entry.Entry.{Entry}
 use Rattle.ftp_events.specs.declared.event.EventKind.{EventKind}
+use Rattle.ftp_events.specs.declared.event.EventKind.TheVariants.{End}
 use Rattle.ftp_events.specs.declared.event.Answer.{Answer}
-use Rattle.ftp_events.specs.declared.session.Opening.{Opening}
+use Rattle.ftp_events.specs.declared.session.Pending.{Pending}
 use Rattle.ftp_events.specs.declared.session.Session.{Session}
 use Rattle.ftp_events.specs.declared.session.Slot.{Slot}
 use Rattle.ftp_events.specs.Words.{is_number}
-use Rattle.ftp_events.specs.Log.{past_of, is_refusal, is_ending, is_used, new_number}
-use Rattle.ftp_events.specs.Opening.{opened_number, opener}
-use Rattle.ftp_events.specs.History.{subject, concerns, opens, history}
+use Rattle.ftp_events.specs.Log.{is_refusal, is_ending, new_number}
+use Rattle.ftp_events.specs.History.{subject, concerns}
 use Rattle.ftp_events.specs.Login.{login_by, logged_user}
 use Rattle.ftp_events.specs.Notices.{is_notice_to}
 use Rattle.ftp_events.specs.Slot.{drops}
-use Rattle.ftp_events.specs.Session.{lives_on, session_after, session, session_by_history}
+use Rattle.ftp_events.specs.Session.{session_after, session, running_job}
 use Rattle.ftp_events.specs.Reply.{message_for, reply_for, delay_of}
-use Rattle.ftp_events.specs.Decide.{due, decide}
-use Rattle.ftp_events.specs.Acts.{acts, acts_of, acts_for, session_acts, drop_acts, link_in, closings, refused_link, notice_and_reply, notifications, reply_acts, notice_for, presence_for, farewells, slot_of}
-use Rattle.ftp_events.specs.Right.{IsRight, IsActed}
-use Rattle.ftp_laws.specs.Notices.{notice_to, notices, is_logged_out, NoneLoggedOut, LastLoggedOut, HasEnded}
-use Rattle.ftp_laws.proofs.Facts.{opened-unused}
-use Rattle.ftp_laws.proofs.Laws.{session-own, session-other, session_by, session-told, opener-other}
-use Rattle.ftp_laws.proofs.Holds.{number-is, opener-used}
+use Rattle.ftp_events.specs.Acts.{acts_of, acts_for, session_acts, completions, cancellations, stays, drop_acts, pending_in, start_acts, starting, link_in, closings, refused_link, notice_and_reply, notifications, reply_acts, notice_for, presence_for, farewells, slot_of}
+use Rattle.ftp_laws.specs.Notices.{notice_to}
+use Rattle.ftp_laws.proofs.Laws.{session_by}
 use Rattle.ftp_laws.proofs.Tables.{same-both}
-use Rattle.ftp_laws.proofs.Waits.{IsAfter, session-before, opened-subject}
 
 -- as many notifications are counted as are listed
 pub length-notices :
@@ -59,21 +50,42 @@ length-notices s xs = is_count_by (λ ys. length (filter_map (notice_to s) ys)) 
             length (filter_map (notice_to s) (action.Notify session meta what ∷ ys)) ≡ cond (session == s) (1 + length (filter_map (notice_to s) ys)) (length (filter_map (notice_to s) ys))
         go true x = rw x (omega arith)
         go false x = rw x refl
+    step (action.Completed ticket delivered) ys = refl
+    step (action.Cancelled ticket) ys = refl
     step (action.Close number) ys = refl
     step (action.Reply session delay reply) ys = refl
+    step (action.Start ticket number) ys = refl
 
--- what a session loses with its slot tells nobody
+-- the end of a job tells no listener
+pub notices-completions :
+    (s : ℕ) (k : EventKind) (d : Decision) (delivered : Bool) →
+    filter_map (notice_to s) (completions k d delivered) ≡ []
+notices-completions s (End ticket) decision.Finished delivered = refl
+notices-completions s k d delivered = refl
+
+-- nor does what a session loses with its slot
 pub notices-drop_acts :
-    (s : ℕ) (d : Decision) (slot : Slot) →
-    filter_map (notice_to s) (drop_acts d slot) ≡ []
-notices-drop_acts s d slot = go (drops d slot) (link_in slot)
+    (s t : ℕ) (staying : Bool) (d : Decision) (slot : Slot) (pending : Option Pending) →
+    filter_map (notice_to s) (drop_acts t staying d slot pending) ≡ []
+notices-drop_acts s t staying d slot pending = go (drops d slot) staying pending (link_in slot)
   where
-    go : (b : Bool) (link : Option ℕ) → filter_map (notice_to s) (cond b (closings link) []) ≡ []
-    go true None = refl
-    go true (Some n) = refl
-    go false link = refl
+    go :
+        (b stays : Bool) (pending : Option Pending) (link : Option ℕ) →
+        filter_map (notice_to s) (cond b (cancellations t stays pending ++ closings link) []) ≡ []
+    go true stays None None = refl
+    go true stays None (Some n) = refl
+    go true true (Some p) None = refl
+    go true true (Some p) (Some n) = refl
+    go true false (Some p) None = refl
+    go true false (Some p) (Some n) = refl
+    go false stays pending link = refl
 
--- nor does a connection that is turned away
+-- nor a job that starts
+pub notices-start_acts : (s : ℕ) (job : Option Job) → filter_map (notice_to s) (start_acts job) ≡ []
+notices-start_acts s None = refl
+notices-start_acts s (Some job) = refl
+
+-- nor a connection that is turned away
 pub notices-refused_link :
     (s : ℕ) (k : EventKind) (d : Decision) →
     filter_map (notice_to s) (refused_link k d) ≡ []
@@ -101,10 +113,11 @@ pub notices-reply_acts :
 notices-reply_acts s t delay reply.None = refl
 notices-reply_acts s t delay (reply.CodeAndMsg c msg) = refl
 
--- what is told of a session by a decision
-abbrev pub told_by : Decision → Option Session → List (ℕ × Notice)
-told_by d None = []
-told_by d (Some v) = option_map_or (λ what. (v.notices + 1, what) ∷ []) (notice_for (presence_for d)) []
+-- what is told of a session by an event and its decision, from the job that ran and the session before it
+abbrev pub told_by : EventKind → Answer → Decision → Option Job → Option Session → List (ℕ × Notice)
+told_by k answer d job None = []
+told_by k answer d job (Some v) =
+    option_map_or (λ what. (v.notices + 1, what) ∷ []) (notice_for (message_for v job k answer d) (presence_for d)) []
 
 -- a session's notification is its own
 pub notices-notifications :
@@ -121,40 +134,49 @@ notices-notifications s t v user (Some what) = go (t == s) refl
 
 -- what an event does for session t tells of session t
 pub notices-session_acts :
-    (o : Options) (s t : ℕ) (k : EventKind) (answer : Answer) (d : Decision) (v : Option Session) →
-    filter_map (notice_to s) (session_acts o t k answer d v) ≡ cond (t == s) (told_by d v) []
-notices-session_acts o s t k answer d v =
-    rw (split, notices-drop_acts s d (slot_of v), notices-refused_link s k d, notices-farewells s t d) (append-nil (filter_map (notice_to s) (option_map_or (notice_and_reply o t k answer d) v [])) ∙ told v)
+    (o : Options) (s t : ℕ) (k : EventKind) (answer : Answer) (d : Decision) (job : Option Job) (v : Option Session) →
+    filter_map (notice_to s) (session_acts o t k answer d job v) ≡ cond (t == s) (told_by k answer d job v) []
+notices-session_acts o s t k answer d job v =
+    rw (split, notices-completions s k d (stays d v), notices-drop_acts s t (stays d v) d (slot_of v) (pending_in v), notices-refused_link s k d, notices-start_acts s (option_and_then (starting k d job) v), notices-farewells s t d) (append-nil (filter_map (notice_to s) (option_map_or (notice_and_reply o t k answer d job) v []) ++ []) ∙ (append-nil (filter_map (notice_to s) (option_map_or (notice_and_reply o t k answer d job) v [])) ∙ told v))
   where
-    split : filter_map (notice_to s) (session_acts o t k answer d v) ≡ filter_map (notice_to s) (drop_acts d (slot_of v)) ++ filter_map (notice_to s) (refused_link k d) ++ filter_map (notice_to s) (option_map_or (notice_and_reply o t k answer d) v []) ++ filter_map (notice_to s) (farewells t d)
+    split : filter_map (notice_to s) (session_acts o t k answer d job v) ≡ filter_map (notice_to s) (completions k d (stays d v)) ++ filter_map (notice_to s) (drop_acts t (stays d v) d (slot_of v) (pending_in v)) ++ filter_map (notice_to s) (refused_link k d) ++ filter_map (notice_to s) (option_map_or (notice_and_reply o t k answer d job) v []) ++ filter_map (notice_to s) (start_acts (option_and_then (starting k d job) v)) ++ filter_map (notice_to s) (farewells t d)
     split = simp filter_map-append
 
     told :
         (v : Option Session) →
-        filter_map (notice_to s) (option_map_or (notice_and_reply o t k answer d) v []) ≡ cond (t == s) (told_by d v) []
+        filter_map (notice_to s) (option_map_or (notice_and_reply o t k answer d job) v []) ≡ cond (t == s) (told_by k answer d job v) []
     told None = sym (same-both (t == s) [])
     told (Some v) =
-        filter_map-append (notice_to s) (notifications t v (logged_user (unwrap_or (login_by d) v.login) v.name) (notice_for (presence_for d))) (reply_acts t (delay_of d) (reply_for o v (message_for v k answer d) k d)) ∙
-        (rw (notices-reply_acts s t (delay_of d) (reply_for o v (message_for v k answer d) k d)) (append-nil (filter_map (notice_to s) (notifications t v (logged_user (unwrap_or (login_by d) v.login) v.name) (notice_for (presence_for d))))) ∙
-        notices-notifications s t v (logged_user (unwrap_or (login_by d) v.login) v.name) (notice_for (presence_for d)))
+        let m : Option ControlChanMsg = message_for v job k answer d in
+        let user : List ℕ = logged_user (unwrap_or (login_by d) v.login) v.name in
+        let what : Option Notice = notice_for m (presence_for d) in
+        filter_map-append (notice_to s) (notifications t v user what) (reply_acts t (delay_of d) (reply_for o v m k d)) ∙
+        (rw (notices-reply_acts s t (delay_of d) (reply_for o v m k d)) (append-nil (filter_map (notice_to s) (notifications t v user what))) ∙
+        notices-notifications s t v user what)
 
 -- so many notifications of session s are among what an event does for session t
 pub count-session_acts :
-    (o : Options) (s t : ℕ) (k : EventKind) (answer : Answer) (d : Decision) (v : Option Session) →
-    count_by (is_notice_to s) (session_acts o t k answer d v) ≡ cond (t == s) (length (told_by d v)) 0
-count-session_acts o s t k answer d v =
-    sym (length-notices s (session_acts o t k answer d v)) ∙ (ap length (notices-session_acts o s t k answer d v) ∙ go (t == s))
+    (o : Options) (s t : ℕ) (k : EventKind) (answer : Answer) (d : Decision) (job : Option Job) (v : Option Session) →
+    count_by (is_notice_to s) (session_acts o t k answer d job v) ≡ cond (t == s) (length (told_by k answer d job v)) 0
+count-session_acts o s t k answer d job v =
+    sym (length-notices s (session_acts o t k answer d job v)) ∙ (ap length (notices-session_acts o s t k answer d job v) ∙ go (t == s))
   where
-    go : (b : Bool) → length (cond b (told_by d v) []) ≡ cond b (length (told_by d v)) 0
+    go :
+        (b : Bool) →
+        length (cond b (told_by k answer d job v) []) ≡ cond b (length (told_by k answer d job v)) 0
     go true = refl
     go false = refl
+
+-- what an entry tells of session s by itself
+abbrev pub told_in : Options → List Entry → Entry → ℕ → List (ℕ × Notice)
+told_in o past e s = told_by e.event.kind e.answer e.decision (running_job o past s) (session o past s)
 
 -- what an entry tells of a session: what its decision tells, where it concerns the session
 pub notices-entry :
     (o : Options) (past : List Entry) (e : Entry) (s : ℕ) →
     is_refusal e.decision ≡ false →
     e.actions ≡ acts_of o past e →
-    filter_map (notice_to s) e.actions ≡ cond (concerns o past e s) (told_by e.decision (session o past s)) []
+    filter_map (notice_to s) e.actions ≡ cond (concerns o past e s) (told_in o past e s) []
 notices-entry o past e s counts acted = ap (filter_map (notice_to s)) done ∙ go (subject o past e)
   where
     done : e.actions ≡ option_map_or (acts_for o past e) (subject o past e) (refused_link e.event.kind e.decision)
@@ -162,15 +184,15 @@ notices-entry o past e s counts acted = ap (filter_map (notice_to s)) done ∙ g
 
     by_number :
         (t : ℕ) (b : Bool) → (t == s) ≡ b →
-        cond b (told_by e.decision (session o past t)) [] ≡ cond b (told_by e.decision (session o past s)) []
-    by_number t true x = ap (λ n. told_by e.decision (session o past n)) (eqb-true t s x)
+        cond b (told_in o past e t) [] ≡ cond b (told_in o past e s) []
+    by_number t true x = ap (told_in o past e) (eqb-true t s x)
     by_number t false x = refl
 
     go :
         (t : Option ℕ) →
-        filter_map (notice_to s) (option_map_or (acts_for o past e) t (refused_link e.event.kind e.decision)) ≡ cond (is_number t s) (told_by e.decision (session o past s)) []
+        filter_map (notice_to s) (option_map_or (acts_for o past e) t (refused_link e.event.kind e.decision)) ≡ cond (is_number t s) (told_in o past e s) []
     go None = notices-refused_link s e.event.kind e.decision
-    go (Some t) = notices-session_acts o s t e.event.kind e.answer e.decision (session o past t) ∙ by_number t (t == s) refl
+    go (Some t) = notices-session_acts o s t e.event.kind e.answer e.decision (running_job o past t) (session o past t) ∙ by_number t (t == s) refl
 
 -- so an entry makes of a live session what its kind and its decision make of it
 pub session_by-acted :
@@ -179,255 +201,9 @@ pub session_by-acted :
     e.actions ≡ acts_of o past e →
     concerns o past e s ≡ true →
     session o past s ≡ Some v →
-    session_by s e v ≡ session_after e.event.kind e.decision (length (told_by e.decision (Some v))) v
+    session_by s e (running_job o past s) v ≡ session_after e.event.kind e.answer e.decision (length (told_by e.event.kind e.answer e.decision (running_job o past s) (Some v))) (running_job o past s) v
 session_by-acted o past e s v counts acted about known =
-    ap (λ n. session_after e.event.kind e.decision n v) (sym (length-notices s e.actions) ∙ ap length told)
+    ap (λ n. session_after e.event.kind e.answer e.decision n (running_job o past s) v) (sym (length-notices s e.actions) ∙ ap length told)
   where
-    told : filter_map (notice_to s) e.actions ≡ told_by e.decision (Some v)
+    told : filter_map (notice_to s) e.actions ≡ told_by e.event.kind e.answer e.decision (running_job o past s) (Some v)
     told = notices-entry o past e s counts acted ∙ rw (about, known) refl
-
--- one number more
-pub range_with_len-more : (a n : ℕ) → range_with_len a (suc n) ≡ range_with_len a n ++ (a + n) ∷ []
-range_with_len-more a zero = ap (λ m. m ∷ []) (omega arith)
-range_with_len-more a (suc n) =
-    ap (λ ns. a ∷ ns) (range_with_len-more (a + 1) n ∙ ap (λ m. range_with_len (a + 1) n ++ m ∷ []) (omega arith))
-
--- the notifications are numbered 1, 2, 3 ..
-abbrev pub IsNumbered : List (ℕ × Notice) → Type 0
-IsNumbered told = map (λ n. n.0) told ≡ range_with_len 1 (length told)
-
--- the next number goes on
-pub numbered-more :
-    (told : List (ℕ × Notice)) (n : ℕ) (what : Notice) →
-    n ≡ length told → IsNumbered told →
-    IsNumbered (told ++ (n + 1, what) ∷ [])
-numbered-more told n what e h =
-    let longer : length (told ++ (n + 1, what) ∷ []) ≡ suc (length told) = length-append told ((n + 1, what) ∷ []) ∙ omega arith in
-    let next : n + 1 ≡ 1 + length told = omega (arith, e) in
-    map-append (λ (x : ℕ × Notice). x.0) told ((n + 1, what) ∷ []) ∙ (ap₂ (λ (ns : List ℕ) (m : ℕ). ns ++ m ∷ []) h next ∙ (sym (range_with_len-more 1 (length told)) ∙ ap (range_with_len 1) (sym longer)))
-
--- none but the earlier ones say that the session has logged out
-pub none-more :
-    (told more : List (ℕ × Notice)) → NoneLoggedOut told →
-    NoneLoggedOut more → NoneLoggedOut (told ++ more)
-none-more told more h j = list_any-append (λ (n : ℕ × Notice). is_logged_out n.1) told more ∙ rw (h, j) refl
-
--- what is told of session s, and what the past says of it
-pub record IsToldOf (o : Options) (past : List Entry) (s : ℕ) (told : List (ℕ × Notice)) : Type 0 where
-  pub numbered : IsNumbered told
-  pub fresh : opener past s ≡ None → told ≡ []
-  pub live :
-      (v : Session) → session o past s ≡ Some v →
-      (v.notices ≡ length told) × NoneLoggedOut told
-  pub ended : HasEnded o past s → LastLoggedOut told
-
--- at first nothing is told
-pub told-empty : (o : Options) (s : ℕ) → IsToldOf o [] s []
-told-empty o s = record { numbered = refl; fresh = λ n. refl; live = λ v n. let c : None ≡ Some v = n in cc; ended = λ h. let c : None ≡ Some h.0 = h.1 in cc }
-
--- an entry that opens session s is decided as an opening
-pub opened-is :
-    (k : EventKind) (d : Decision) (s : ℕ) →
-    is_number (opened_number k d) s ≡ true →
-    d ≡ decision.Opened
-opened-is k decision.Opened s h = refl
-opened-is k _ s h = cc
-
--- a number that is not used opened nothing
-pub unused-opener : (past : List Entry) (s : ℕ) → is_used past s ≡ false → opener past s ≡ None
-unused-opener past s unused = go (opener past s) refl
-  where
-    go : (x : Option Opening) → opener past s ≡ x → x ≡ None
-    go None e = refl
-    go (Some opening) e = absurd (true≢false (sym (opener-used past s opening e) ∙ unused))
-
--- after the opening of a session nothing is told of it
-pub told-opened :
-    (o : Options) (past : List Entry) (e : Entry) (s : ℕ) →
-    e.decision ≡ decision.Opened → opens e s ≡ true →
-    filter_map (notice_to s) e.actions ≡ [] →
-    IsToldOf o (e ∷ past) s []
-told-opened o past e s d n told =
-    record {
-      numbered = refl;
-      fresh = λ x. refl;
-      live = λ v x. (ap (λ (w : Session). w.notices) (sym (same v x)) ∙ silent, refl);
-      ended = λ h. let c : Some (session_by_history s (e ∷ []) h.0) ≡ None = sym (alive h.0 h.1) ∙ h.2 in cc;
-    }
-  where
-    start : history o (e ∷ past) s ≡ e ∷ []
-    start = rw n refl
-
-    silent : 0 + count_by (is_notice_to s) e.actions ≡ 0
-    silent = ap (λ m. 0 + m) (sym (length-notices s e.actions) ∙ ap length told)
-
-    same :
-        (v : Session) → session o (e ∷ past) s ≡ Some v →
-        session_by_history s (e ∷ []) v.opening ≡ v
-    same v x = subst (λ (h : List Entry). session_by_history s h v.opening ≡ v) start (session-told o (e ∷ past) s v x).told
-
-    alive :
-        (opening : Opening) →
-        opener (e ∷ past) s ≡ Some opening →
-        session o (e ∷ past) s ≡ Some (session_by_history s (e ∷ []) opening)
-    alive opening x = rw (start, x, d) refl
-
--- an entry that does not concern a session tells nothing of it
-pub told-other :
-    (o : Options) (past : List Entry) (e : Entry) (s : ℕ) (told : List (ℕ × Notice)) →
-    opens e s ≡ false → concerns o past e s ≡ false →
-    IsToldOf o past s told → IsToldOf o (e ∷ past) s told
-told-other o past e s told n c h =
-    record {
-      numbered = h.numbered;
-      fresh = λ x. h.fresh (sym (opener-other past e s n) ∙ x);
-      live = λ v x. h.live v (sym (session-other o past e s n c) ∙ x);
-      ended = λ x. h.ended (x.0, sym (opener-other past e s n) ∙ x.1, sym (session-other o past e s n c) ∙ x.2);
-    }
-
--- nothing is told of a session that is not live
-pub told-ended :
-    (o : Options) (past : List Entry) (e : Entry) (s : ℕ) (told : List (ℕ × Notice)) →
-    e.decision ≡ due o past e.event.at e.event.kind e.answer →
-    opens e s ≡ false → concerns o past e s ≡ true →
-    session o past s ≡ None → IsToldOf o past s told →
-    IsToldOf o (e ∷ past) s told
-told-ended o past e s told fit n c none h =
-    record {
-      numbered = h.numbered;
-      fresh = λ x. h.fresh (sym (opener-other past e s n) ∙ x);
-      live = λ v x. let b : IsAfter o past e s v = session-before o past e s v fit n c x in let z : None ≡ Some b.before = sym none ∙ b.known in cc;
-      ended = λ x. h.ended (x.0, sym (opener-other past e s n) ∙ x.1, none);
-    }
-
--- what is told of a session that goes on living
-pub told_by-lives :
-    (d : Decision) (v : Session) → lives_on d ≡ true →
-    (told_by d (Some v) ≡ []) ⊎ (told_by d (Some v) ≡ (v.notices + 1, Presence presence.LoggedIn) ∷ [])
-told_by-lives decision.LoggedIn v l = inr refl
-told_by-lives decision.Closed v l = cc
-told_by-lives d v l = inl refl
-
--- and of one that ends
-pub told_by-ends :
-    (d : Decision) (v : Session) → lives_on d ≡ false →
-    told_by d (Some v) ≡ (v.notices + 1, Presence presence.LoggedOut) ∷ []
-told_by-ends decision.Closed v l = refl
-told_by-ends d v l = cc
-
--- so what is told goes on with the next number, and says nothing of a logout
-pub told-lives :
-    (told more : List (ℕ × Notice)) (d : Decision) (v : Session) →
-    lives_on d ≡ true → v.notices ≡ length told →
-    more ≡ told_by d (Some v) → IsNumbered told →
-    NoneLoggedOut told →
-    IsNumbered (told ++ more) × NoneLoggedOut (told ++ more)
-told-lives told more d v l count same h j = go (told_by-lives d v l)
-  where
-    go :
-        (told_by d (Some v) ≡ []) ⊎ (told_by d (Some v) ≡ (v.notices + 1, Presence presence.LoggedIn) ∷ []) →
-        IsNumbered (told ++ more) × NoneLoggedOut (told ++ more)
-    go (inl x) =
-        subst (λ (ns : List (ℕ × Notice)). IsNumbered ns × NoneLoggedOut ns) (sym (append-nil told) ∙ ap (λ m. told ++ m) (sym (same ∙ x))) (h, j)
-    go (inr x) =
-        subst (λ (m : List (ℕ × Notice)). IsNumbered (told ++ m) × NoneLoggedOut (told ++ m)) (sym (same ∙ x))
-        (numbered-more told v.notices (Presence presence.LoggedIn) count h, none-more told ((v.notices + 1, Presence presence.LoggedIn) ∷ []) j refl)
-
--- what is told of a live session by an entry that concerns it
-pub told-own :
-    (o : Options) (past : List Entry) (e : Entry) (s : ℕ) (v : Session) (told : List (ℕ × Notice)) →
-    opens e s ≡ false → concerns o past e s ≡ true →
-    session o past s ≡ Some v →
-    filter_map (notice_to s) e.actions ≡ told_by e.decision (Some v) →
-    IsToldOf o past s told →
-    IsToldOf o (e ∷ past) s (told ++ filter_map (notice_to s) e.actions)
-told-own o past e s v told n c known same h = by_life (lives_on e.decision) refl
-  where
-    after : session o (e ∷ past) s ≡ cond (lives_on e.decision) (Some (session_by s e v)) None
-    after = session-own o past e s v known n c
-
-    opened : opener (e ∷ past) s ≡ Some v.opening
-    opened = opener-other past e s n ∙ (session-told o past s v known).opening
-
-    by_life :
-        (b : Bool) → lives_on e.decision ≡ b →
-        IsToldOf o (e ∷ past) s (told ++ filter_map (notice_to s) e.actions)
-    by_life true l =
-        let more = told-lives told (filter_map (notice_to s) e.actions) e.decision v l (h.live v known).0 same h.numbered (h.live v known).1 in
-        let next : session o (e ∷ past) s ≡ Some (session_by s e v) = after ∙ rw l refl in
-        let count : v.notices + count_by (is_notice_to s) e.actions ≡ length (told ++ filter_map (notice_to s) e.actions) = ap₂ (λ (i j : ℕ). i + j) (h.live v known).0 (sym (length-notices s e.actions)) ∙ sym (length-append told (filter_map (notice_to s) e.actions)) in
-        record {
-          numbered = more.0;
-          fresh = λ x. let z : None ≡ Some v.opening = sym x ∙ opened in cc;
-          live = λ w x. (ap (λ (u : Session). u.notices) (sym (same_Some _ _ (sym next ∙ x))) ∙ count, more.1);
-          ended = λ x. let z : Some (session_by s e v) ≡ None = sym next ∙ x.2 in cc;
-        }
-    by_life false l =
-        let next : session o (e ∷ past) s ≡ None = after ∙ rw l refl in
-        let last : filter_map (notice_to s) e.actions ≡ (v.notices + 1, Presence presence.LoggedOut) ∷ [] = same ∙ told_by-ends e.decision v l in
-        record {
-          numbered = subst (λ (m : List (ℕ × Notice)). IsNumbered (told ++ m)) (sym last) (numbered-more told v.notices (Presence presence.LoggedOut) (h.live v known).0 h.numbered);
-          fresh = λ x. let z : None ≡ Some v.opening = sym x ∙ opened in cc;
-          live = λ w x. let z : None ≡ Some w = sym next ∙ x in cc;
-          ended = λ x. (told, v.notices + 1, ap (λ m. told ++ m) last, (h.live v known).1);
-        }
-
--- what is told stays in step with the past
-pub told-step :
-    (o : Options) (past : List Entry) (e : Entry) (s : ℕ) (told : List (ℕ × Notice)) →
-    e.decision ≡ due o past e.event.at e.event.kind e.answer →
-    is_refusal e.decision ≡ false →
-    e.actions ≡ acts_of o past e → IsToldOf o past s told →
-    IsToldOf o (e ∷ past) s (told ++ filter_map (notice_to s) e.actions)
-told-step o past e s told fit counts acted h = by_opening (opens e s) refl
-  where
-    entry : filter_map (notice_to s) e.actions ≡ cond (concerns o past e s) (told_by e.decision (session o past s)) []
-    entry = notices-entry o past e s counts acted
-
-    nothing :
-        filter_map (notice_to s) e.actions ≡ [] →
-        told ≡ told ++ filter_map (notice_to s) e.actions
-    nothing x = sym (append-nil told) ∙ ap (λ m. told ++ m) (sym x)
-
-    by_session :
-        (v : Option Session) → session o past s ≡ v →
-        opens e s ≡ false → concerns o past e s ≡ true →
-        IsToldOf o (e ∷ past) s (told ++ filter_map (notice_to s) e.actions)
-    by_session None x n c =
-        subst (IsToldOf o (e ∷ past) s) (nothing (entry ∙ rw (c, x) refl)) (told-ended o past e s told fit n c x h)
-    by_session (Some v) x n c = told-own o past e s v told n c x (entry ∙ rw (c, x) refl) h
-
-    by_concern :
-        (b : Bool) → concerns o past e s ≡ b →
-        opens e s ≡ false →
-        IsToldOf o (e ∷ past) s (told ++ filter_map (notice_to s) e.actions)
-    by_concern false c n = subst (IsToldOf o (e ∷ past) s) (nothing (entry ∙ rw c refl)) (told-other o past e s told n c h)
-    by_concern true c n = by_session (session o past s) refl n c
-
-    by_opening :
-        (b : Bool) → opens e s ≡ b →
-        IsToldOf o (e ∷ past) s (told ++ filter_map (notice_to s) e.actions)
-    by_opening false n = by_concern (concerns o past e s) refl n
-    by_opening true n =
-        let d : e.decision ≡ decision.Opened = opened-is e.event.kind e.decision s n in
-        let about : subject o past e ≡ None = opened-subject o past e.event.at e.event.kind e.answer (sym fit ∙ d) in
-        let silent : filter_map (notice_to s) e.actions ≡ [] = entry ∙ ap (λ (m : Option ℕ). cond (is_number m s) (told_by e.decision (session o past s)) []) about in
-        let first : opened_number e.event.kind (due o past e.event.at e.event.kind e.answer) ≡ Some s = subst (λ (x : Decision). opened_number e.event.kind x ≡ Some s) fit (number-is _ s n) in
-        let before : told ≡ [] = h.fresh (unused-opener past s (opened-unused o past e.event.at e.event.kind e.answer s first)) in
-        subst (IsToldOf o (e ∷ past) s) (sym before ∙ nothing silent) (told-opened o past e s d n silent)
-
--- in every right and acted log what is told of a session is in step with the past
-pub told-log :
-    (o : Options) (log : List Entry) (s : ℕ) →
-    IsRight o log → IsActed o log →
-    IsToldOf o (past_of log) s (notices log s)
-unfolding decide acts
-told-log o [] s r a = told-empty o s
-told-log o (e ∷ log) s r a = go (is_refusal e.decision) refl (told-log o log s r.0 a.0)
-  where
-    go :
-        (b : Bool) → is_refusal e.decision ≡ b →
-        IsToldOf o (past_of log) s (notices log s) →
-        IsToldOf o (past_of (e ∷ log)) s (notices log s ++ filter_map (notice_to s) e.actions)
-    go true x h = rw (x, a.1, x) (subst (IsToldOf o (past_of log) s) (sym (append-nil (notices log s))) h)
-    go false x h = rw x (told-step o (past_of log) e s (notices log s) r.1 x a.1 h)

@@ -1,7 +1,7 @@
 -- Every right and acted log serves its data connections and its PASVs as promised.
 use Rattle.std.proofs.Common.{◌≡◌, refl, sym, ◌∙◌, ap, subst, ℕ, Bool, true, false, true≢false, not, cond, List, [], ◌∷◌, ◌++◌, Option, Some, None, inl, inr}
 use Rattle.std.specs.Prelude.{◌⊎◌, Contains}
-use Rattle.std.specs.Option.{option_map_or}
+use Rattle.std.specs.Option.{option_map_or, option_and_then}
 use Rattle.std.proofs.lemmas.Option.{same_Some}
 use Rattle.std.proofs.lemmas.List.Elements.{Contains-append_left, Contains-append_right, Contains-push}
 use Rattle.ftp_base.specs.declared.net.IpAddr.{IpAddr}
@@ -9,6 +9,7 @@ use Rattle.ftp_base.specs.declared.net.SocketAddr.{SocketAddr}
 use Rattle.ftp_base.specs.Net.{same_ip}
 use Rattle.ftp_options.specs.declared.options.Options.{Options}
 use Rattle.ftp_options.specs.Modes.{is_legacy}
+use Rattle.ftp_transfer.specs.declared.job.Job.{Job}
 use Rattle.ftp_events.specs.declared.action.Action.{Action}
 use Rattle.ftp_events.specs.declared.action.Action.TheVariants.{Close}
 use Rattle.ftp_events.specs.declared.decision.Decision.{Decision}
@@ -22,11 +23,11 @@ use Rattle.ftp_events.specs.Modes.{in_range}
 use Rattle.ftp_events.specs.Log.{past_of, is_refusal, is_used, new_number}
 use Rattle.ftp_events.specs.Board.{Target, target, holder, first_free_port}
 use Rattle.ftp_events.specs.History.{subject}
-use Rattle.ftp_events.specs.Session.{session}
+use Rattle.ftp_events.specs.Session.{session, running_job}
 use Rattle.ftp_events.specs.ConnectionRows.{arrival_row, holder_row}
 use Rattle.ftp_events.specs.CommandRows.{is_logged_in}
 use Rattle.ftp_events.specs.Decide.{due, decide}
-use Rattle.ftp_events.specs.Acts.{acts, acts_of, acts_for, drop_acts, slot_of, refused_link, notice_and_reply, farewells}
+use Rattle.ftp_events.specs.Acts.{acts, acts_of, acts_for, completions, stays, drop_acts, slot_of, pending_in, refused_link, notice_and_reply, start_acts, starting, farewells}
 use Rattle.ftp_events.specs.Right.{IsRight, IsActed}
 use Rattle.ftp_events.specs.Headline.{is_admitted, AttachedOrClosed, GrantedOrFull, AllServed}
 
@@ -37,11 +38,12 @@ pub closes-link :
     Contains (refused_link k decision.Turned) (Close n)
 closes-link k n w = rw w (Contains-push [] (Close n))
 
--- what the second of four lists contains, they contain together
-pub in-second :
-    {X : Type 0} (a b c d : List X) (x : X) → Contains b x →
-    Contains (a ++ b ++ c ++ d) x
-in-second a b c d x h = Contains-append_left (a ++ b ++ c) d x (Contains-append_left (a ++ b) c x (Contains-append_right a b x h))
+-- what the third of six lists contains, they contain together
+pub in-third :
+    {X : Type 0} (a b c d e f : List X) (x : X) →
+    Contains c x → Contains (a ++ b ++ c ++ d ++ e ++ f) x
+in-third a b c d e f x h =
+    Contains-append_left (a ++ b ++ c ++ d ++ e) f x (Contains-append_left (a ++ b ++ c ++ d) e x (Contains-append_left (a ++ b ++ c) d x (Contains-append_right (a ++ b) c x h)))
 
 -- so it is closed where the entry is about a session
 pub acts-close :
@@ -52,7 +54,8 @@ acts-close o past e s n h =
     let k = e.event.kind in
     let d = e.decision in
     let v : Option Session = session o past s in
-    in-second (drop_acts d (slot_of v)) (refused_link k d) (option_map_or (notice_and_reply o s k e.answer d) v []) (farewells s d) (Close n) h
+    let job : Option Job = running_job o past s in
+    in-third (completions k d (stays d v)) (drop_acts s (stays d v) d (slot_of v) (pending_in v)) (refused_link k d) (option_map_or (notice_and_reply o s k e.answer d job) v []) (start_acts (option_and_then (starting k d job) v)) (farewells s d) (Close n) h
 
 -- and where it is not
 pub turned-closes :

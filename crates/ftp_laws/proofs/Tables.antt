@@ -15,8 +15,8 @@ use Rattle.ftp_events.specs.Log.{named_session}
 use Rattle.ftp_events.specs.Opening.{opened_number}
 use Rattle.ftp_events.specs.Board.{Target, target, granted_port, gives_hold, ends_hold, gives_up_hold, holder}
 use Rattle.ftp_events.specs.History.{subject, concerns, opens}
-use Rattle.ftp_events.specs.Session.{lives_on, session}
-use Rattle.ftp_laws.proofs.Laws.{session-own, session-other, session_by, session-told}
+use Rattle.ftp_events.specs.Session.{lives_on, session, running_job, next_lane}
+use Rattle.ftp_laws.proofs.Laws.{session-own, session-other, session_by, session-told, running-own, running-other}
 
 -- an entry about session s, which opens no session
 pub record IsAbout (o : Options) (past : List Entry) (e : Entry) (s : ℕ) : Type 0 where
@@ -39,17 +39,33 @@ about-concerns o past e s q n = rw n.subject_is refl
 pub session-about :
     (o : Options) (past : List Entry) (e : Entry) (s : ℕ) (v : Session) (q : ℕ) →
     IsAbout o past e s → session o past s ≡ Some v →
-    session o (e ∷ past) q ≡ cond (s == q) (cond (lives_on e.decision) (Some (session_by s e v)) None) (session o past q)
+    session o (e ∷ past) q ≡ cond (s == q) (cond (lives_on e.decision) (Some (session_by s e (running_job o past s) v)) None) (session o past q)
 session-about o past e s v q n known = go (s == q) refl
   where
     go :
         (b : Bool) → (s == q) ≡ b →
-        session o (e ∷ past) q ≡ cond b (cond (lives_on e.decision) (Some (session_by s e v)) None) (session o past q)
+        session o (e ∷ past) q ≡ cond b (cond (lives_on e.decision) (Some (session_by s e (running_job o past s) v)) None) (session o past q)
     go true x =
         let same : s ≡ q = eqb-true s q x in
-        subst (λ (r : ℕ). session o (e ∷ past) r ≡ cond (lives_on e.decision) (Some (session_by s e v)) None) same
+        subst (λ (r : ℕ). session o (e ∷ past) r ≡ cond (lives_on e.decision) (Some (session_by s e (running_job o past s) v)) None) same
         (session-own o past e s v known (about-opens o past e s s n) (about-concerns o past e s s n ∙ eq-eqb s s refl))
     go false x = session-other o past e q (about-opens o past e s q n) (about-concerns o past e s q n ∙ x)
+
+-- the jobs that run after it
+pub running-about :
+    (o : Options) (past : List Entry) (e : Entry) (s : ℕ) (v : Session) (q : ℕ) →
+    IsAbout o past e s → session o past s ≡ Some v →
+    running_job o (e ∷ past) q ≡ cond (s == q) (next_lane e.event.kind e.decision (running_job o past s) v).running (running_job o past q)
+running-about o past e s v q n known = go (s == q) refl
+  where
+    go :
+        (b : Bool) → (s == q) ≡ b →
+        running_job o (e ∷ past) q ≡ cond b (next_lane e.event.kind e.decision (running_job o past s) v).running (running_job o past q)
+    go true x =
+        let same : s ≡ q = eqb-true s q x in
+        subst (λ (r : ℕ). running_job o (e ∷ past) r ≡ (next_lane e.event.kind e.decision (running_job o past s) v).running) same
+        (running-own o past e s v known (about-opens o past e s s n) (about-concerns o past e s s n ∙ eq-eqb s s refl))
+    go false x = running-other o past e q (about-opens o past e s q n) (about-concerns o past e s q n ∙ x)
 
 -- an entry that names session s, and is no data connection
 pub record IsNamed (o : Options) (e : Entry) (s : ℕ) : Type 0 where

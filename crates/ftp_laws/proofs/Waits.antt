@@ -9,12 +9,14 @@ use Rattle.ftp_base.specs.Net.{same_ip}
 use Rattle.ftp_base.specs.Ports.{port_order}
 use Rattle.ftp_options.specs.declared.options.Options.{Options}
 use Rattle.ftp_options.specs.Modes.{is_legacy}
+use Rattle.ftp_transfer.specs.declared.job.Job.{Job}
 use Rattle.ftp_events.specs.declared.entry.Entry.{Entry}
 use Rattle.ftp_events.specs.declared.event.EventKind.{EventKind}
 use Rattle.ftp_events.specs.declared.event.EventKind.TheVariants as kind
 use Rattle.ftp_events.specs.declared.event.Answer.{Answer}
 use Rattle.ftp_events.specs.declared.decision.Decision.{Decision}
 use Rattle.ftp_events.specs.declared.decision.Decision.TheVariants as decision
+use Rattle.ftp_events.specs.declared.session.Pending.{Pending}
 use Rattle.ftp_events.specs.declared.session.Session.{Session}
 use Rattle.ftp_events.specs.declared.session.Slot.{Slot}
 use Rattle.ftp_events.specs.declared.session.Slot.TheVariants.{Empty, Waits, Linked}
@@ -23,14 +25,14 @@ use Rattle.ftp_events.specs.Log.{named_session, is_refusal, past_of}
 use Rattle.ftp_events.specs.Opening.{opened_number, opener}
 use Rattle.ftp_events.specs.Board.{Target, target, granted_port, is_client, gives_hold, comes_to, ends_hold, gives_up_hold, holder, first_free_port}
 use Rattle.ftp_events.specs.History.{subject, concerns, opens, history}
-use Rattle.ftp_events.specs.Slot.{with_link, slot_after}
-use Rattle.ftp_events.specs.Session.{lives_on, life_by, session, session_by_history, is_live}
+use Rattle.ftp_events.specs.Slot.{Lane, with_link, lane_after, queued_in}
+use Rattle.ftp_events.specs.Session.{lives_on, life_by, session, session_by_history, is_live, running_job, next_lane, queued_for, lane_in}
 use Rattle.ftp_events.specs.CommandRows.{is_logged_in, if_logged_in, pasv_row}
 use Rattle.ftp_events.specs.Decide.{due, decide, if_live}
 use Rattle.ftp_events.specs.Right.{IsRight}
 use Rattle.ftp_laws.proofs.Facts.{is_connection, named-no_connection}
 use Rattle.ftp_laws.proofs.Laws.{session-own, session-other, session_by, IsTold, session-told, counting-refused, counting-counts}
-use Rattle.ftp_laws.proofs.Holds.{port_of, slot-kept, touch-free, number-is, or-number, same_ip-equal, WaitsFor, comes-for, granted-is}
+use Rattle.ftp_laws.proofs.Holds.{port_of, port-lane, port-kept, touch-free, number-is, or-number, same_ip-equal, WaitsFor, comes-for, granted-is}
 use Rattle.ftp_laws.proofs.Served.{connection-goes, Goes}
 
 -- an entry that opens a session is about nobody
@@ -44,6 +46,11 @@ opened-subject o past at (kind.User s name) answer e = grind arith
 opened-subject o past at (kind.Pass s) answer e = grind arith
 opened-subject o past at (kind.AuthDone s said) answer e = grind arith
 opened-subject o past at (kind.Pasv s word lookup bound) answer e = grind arith
+opened-subject o past at (kind.Rest s offset) answer e = grind arith
+opened-subject o past at (kind.Cwd s path refusal) answer e = grind arith
+opened-subject o past at (kind.Transfer s c) answer e = grind arith
+opened-subject o past at (kind.Stou s word) answer e = grind arith
+opened-subject o past at (kind.End ticket) answer e = grind arith
 opened-subject o past at (kind.Closed s) answer e = grind arith
 
 -- no event that names a session is a data connection
@@ -132,6 +139,11 @@ granted-free o past at (kind.DataIn number raw port) answer p e = grind arith
 granted-free o past at (kind.User s name) answer p e = grind arith
 granted-free o past at (kind.Pass s) answer p e = grind arith
 granted-free o past at (kind.AuthDone s said) answer p e = grind arith
+granted-free o past at (kind.Rest s offset) answer p e = grind arith
+granted-free o past at (kind.Cwd s path refusal) answer p e = grind arith
+granted-free o past at (kind.Transfer s c) answer p e = grind arith
+granted-free o past at (kind.Stou s word) answer p e = grind arith
+granted-free o past at (kind.End ticket) answer p e = grind arith
 granted-free o past at (kind.Closed s) answer p e = grind arith
 
 -- the client of a live session is that of its opening
@@ -173,7 +185,7 @@ holder-stays-held o past e a p s held g c x = rw (g, c, held, x) refl
 pub record IsAfter (o : Options) (past : List Entry) (e : Entry) (s : ℕ) (v : Session) : Type 0 where
   pub before : Session
   pub known : session o past s ≡ Some before
-  pub after : session_by s e before ≡ v
+  pub after : session_by s e (running_job o past s) before ≡ v
   pub lives : lives_on e.decision ≡ true
 
 -- only an opening gives life
@@ -214,7 +226,7 @@ session-before o past e s v fit n c known =
     go :
         (w : Session) → session o past s ≡ Some w →
         (b : Bool) → lives_on e.decision ≡ b →
-        cond b (Some (session_by s e w)) None ≡ Some v →
+        cond b (Some (session_by s e (running_job o past s) w)) None ≡ Some v →
         IsAfter o past e s v
     go w k true l h = record { before = w; known = k; after = same_Some _ _ h; lives = l }
     go w k false l h = cc
@@ -226,43 +238,45 @@ port-linked (Waits port) n = refl
 port-linked (Linked m) n = refl
 
 -- nor does one whose connection was turned away
-pub port-turned : (k : EventKind) (slot : Slot) → port_of (slot_after k decision.Turned slot) ≡ None
-port-turned k Empty = refl
-port-turned k (Waits port) = refl
-port-turned k (Linked m) = refl
+pub port-turned :
+    (k : EventKind) (queued : Option Pending) (slot : Slot) (pending : Option Pending) (job : Option Job) →
+    port_of (lane_after k decision.Turned queued (record { slot = slot; pending = pending; running = job })).slot ≡ None
+port-turned k queued Empty pending job = refl
+port-turned k queued (Waits port) pending job = refl
+port-turned k queued (Linked m) pending job = refl
 
 -- after a data connection for it a slot waits for nothing
 pub port-arrived :
-    (o : Options) (past : List Entry) (at : ℕ) (k : EventKind) (answer : Answer) (d : Decision) (t : Target) (slot : Slot) →
+    (o : Options) (past : List Entry) (at : ℕ) (k : EventKind) (answer : Answer) (d : Decision) (t : Target) (queued : Option Pending) (l : Lane) →
     d ≡ due o past at k answer → is_refusal d ≡ false →
     target o k answer ≡ Some t →
-    port_of (slot_after k d slot) ≡ None
-port-arrived o past at (kind.DataIn number raw port) answer d t slot fit c w = go (connection-goes o past at (kind.DataIn number raw port) answer d t fit c w).0
+    port_of (lane_after k d queued l).slot ≡ None
+port-arrived o past at (kind.DataIn number raw port) answer d t queued l fit c w = go (connection-goes o past at (kind.DataIn number raw port) answer d t fit c w).0
   where
     go :
         Goes o past d t.client t.port →
-        port_of (slot_after (kind.DataIn number raw port) d slot) ≡ None
-    go (inl x) = rw x.1 (port-linked slot number)
-    go (inr x) = rw x (port-turned (kind.DataIn number raw port) slot)
-port-arrived o past at k answer d t slot fit c w = cc
+        port_of (lane_after (kind.DataIn number raw port) d queued l).slot ≡ None
+    go (inl x) = rw x.1 (port-lane (with_link l.slot (Some number)) l.pending l.running ∙ port-linked l.slot number)
+    go (inr x) = rw x (port-turned (kind.DataIn number raw port) queued l.slot l.pending l.running)
+port-arrived o past at k answer d t queued l fit c w = cc
 
 -- an opening leaves an empty slot
 pub port-opened :
-    (k : EventKind) (d : Decision) (s : ℕ) →
+    (k : EventKind) (d : Decision) (queued pending : Option Pending) (job : Option Job) (s : ℕ) →
     is_number (opened_number k d) s ≡ true →
-    port_of (slot_after k d Empty) ≡ None
-port-opened k decision.Opened s h = refl
-port-opened k _ s h = cc
+    port_of (lane_after k d queued (record { slot = Empty; pending = pending; running = job })).slot ≡ None
+port-opened k decision.Opened queued pending job s h = refl
+port-opened k _ queued pending job s h = cc
 
 -- a waiting slot after an entry that gives up holds is that of a grant
 pub port-given-up :
-    (k : EventKind) (d : Decision) (slot : Slot) (p : ℕ) →
+    (k : EventKind) (d : Decision) (queued : Option Pending) (l : Lane) (p : ℕ) →
     gives_up_hold d ≡ true →
-    port_of (slot_after k d slot) ≡ Some p →
+    port_of (lane_after k d queued l).slot ≡ Some p →
     d ≡ decision.Granted p
-port-given-up k (decision.Granted port) slot p g h = ap decision.Granted (same_Some _ _ h)
-port-given-up k decision.Closed slot p g h = cc
-port-given-up k _ slot p g h = cc
+port-given-up k (decision.Granted port) queued l p g h = ap decision.Granted (same_Some _ _ h)
+port-given-up k decision.Closed queued l p g h = cc
+port-given-up k _ queued l p g h = cc
 
 -- after an entry that is decided as it has to be, whoever waits for a port holds it
 pub waits-holds-step :
@@ -307,30 +321,30 @@ waits-holds-step o past e m fit counts ih a p s w = by_opening (opens e s) refl
         (v : Session) → session o past s ≡ Some v →
         named_session e.event.kind ≡ Some s →
         same_ip v.opening.client a ≡ true →
-        port_of (slot_after e.event.kind e.decision v.slot) ≡ Some p →
+        port_of (next_lane e.event.kind e.decision (running_job o past s) v).slot ≡ Some p →
         (b : Bool) → gives_up_hold e.decision ≡ b →
         holder o (e ∷ past) a p ≡ Some s
     by_change v known n client port true g =
-        let grant : e.decision ≡ decision.Granted p = port-given-up e.event.kind e.decision v.slot p g port in
+        let grant : e.decision ≡ decision.Granted p = port-given-up e.event.kind e.decision (queued_for e.decision e.event.kind v) (lane_in v (running_job o past s)) p g port in
         rw (m, grant, n, (session-told o past s v known).opening, client, eq-eqb p p refl) refl
     by_change v known n client port false g =
         let plain : is_connection e.decision ≡ false = subst (λ (d : Decision). is_connection d ≡ false) (sym fit) (named-no_connection o past e.event.at e.event.kind e.answer s m n) in
-        let kept : slot_after e.event.kind e.decision v.slot ≡ v.slot = slot-kept e.event.kind e.decision v.slot (touch-free e.decision v.slot g plain) in
-        let held : holder o past a p ≡ Some s = ih a p s (record { view = v; known = known; client = client; port = ap port_of (sym kept) ∙ port }) in
+        let kept : port_of (next_lane e.event.kind e.decision (running_job o past s) v).slot ≡ port_of v.slot = port-kept e.event.kind e.decision (queued_for e.decision e.event.kind v) (lane_in v (running_job o past s)) (touch-free e.decision v.slot g plain) in
+        let held : holder o past a p ≡ Some s = ih a p s (record { view = v; known = known; client = client; port = sym kept ∙ port }) in
         holder-stays-held o past e a p s held (held-ungranted o past e a p s fit held) (rw (named-target o e.event.kind e.answer s n) refl) (rw (n, g, eq-eqb s s refl) refl)
 
     by_name :
         (v : Session) → session o past s ≡ Some v →
         concerns o past e s ≡ true →
         same_ip v.opening.client a ≡ true →
-        port_of (slot_after e.event.kind e.decision v.slot) ≡ Some p →
+        port_of (next_lane e.event.kind e.decision (running_job o past s) v).slot ≡ Some p →
         (b : Bool) →
         is_number (named_session e.event.kind) s ≡ b →
         holder o (e ∷ past) a p ≡ Some s
     by_name v known c client port true n = by_change v known (number-is _ s n) client port (gives_up_hold e.decision) refl
     by_name v known c client port false n =
         let comes = comes-for o past e.event.kind e.answer s (target o e.event.kind e.answer) refl (or-number _ _ s c n) in
-        let none = port-arrived o past e.event.at e.event.kind e.answer e.decision comes.to v.slot fit counts comes.target_is in
+        let none = port-arrived o past e.event.at e.event.kind e.answer e.decision comes.to (queued_for e.decision e.event.kind v) (lane_in v (running_job o past s)) fit counts comes.target_is in
         let z : None ≡ Some p = sym none ∙ port in
         cc
 
@@ -344,7 +358,7 @@ waits-holds-step o past e m fit counts ih a p s w = by_opening (opens e s) refl
     by_concern n true c =
         let x : IsAfter o past e s w.view = session-before o past e s w.view fit n c w.known in
         let client : same_ip x.before.opening.client a ≡ true = subst (λ (v : Session). same_ip v.opening.client a ≡ true) (sym x.after) w.client in
-        let port : port_of (slot_after e.event.kind e.decision x.before.slot) ≡ Some p = subst (λ (v : Session). port_of v.slot ≡ Some p) (sym x.after) w.port in
+        let port : port_of (next_lane e.event.kind e.decision (running_job o past s) x.before).slot ≡ Some p = subst (λ (v : Session). port_of v.slot ≡ Some p) (sym x.after) w.port in
         by_name x.before x.known c client port (is_number (named_session e.event.kind) s) refl
 
     by_opening : (b : Bool) → opens e s ≡ b → holder o (e ∷ past) a p ≡ Some s
@@ -353,7 +367,7 @@ waits-holds-step o past e m fit counts ih a p s w = by_opening (opens e s) refl
         let t : IsTold s (history o (e ∷ past) s) (opener (e ∷ past) s) w.view = session-told o (e ∷ past) s w.view w.known in
         let start : history o (e ∷ past) s ≡ e ∷ [] = rw n refl in
         let told : session_by_history s (e ∷ []) w.view.opening ≡ w.view = subst (λ (h : List Entry). session_by_history s h w.view.opening ≡ w.view) start t.told in
-        let z : None ≡ Some p = sym (port-opened e.event.kind e.decision s n) ∙ (ap (λ (v : Session). port_of v.slot) told ∙ w.port) in
+        let z : None ≡ Some p = sym (port-opened e.event.kind e.decision (queued_in [] e) None None s n) ∙ (ap (λ (v : Session). port_of v.slot) told ∙ w.port) in
         cc
 
 -- where there is no legacy listener, in every right log a live session holds the port that its slot waits for, for its client

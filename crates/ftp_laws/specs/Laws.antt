@@ -1,20 +1,30 @@
 -- What holds of every right log, in plain words.
-use Rattle.std.specs.Prelude.{ℕ, ◌≡◌, ◌↔◌, ◌⊎◌, List, ◌∷◌, map, length, false, Some, None}
-use Rattle.std.specs.List.{range_with_len}
+use Rattle.std.specs.Prelude.{ℕ, ◌≡◌, ◌≤◌, ◌↔◌, ◌⊎◌, List, ◌∷◌, map, length, true, false, Some, None, is_some, if◌then◌else◌}
+use Rattle.std.specs.List.{list_any, range_with_len}
 use Rattle.ftp_base.specs.declared.net.IpAddr.{IpAddr}
 use Rattle.ftp_options.specs.declared.options.Options.{Options}
 use Rattle.ftp_options.specs.Modes.{is_legacy}
+use Rattle.ftp_transfer.specs.declared.job.Outcome.{Outcome}
+use Rattle.ftp_transfer.specs.declared.job.Ticket.{Ticket}
+use Rattle.ftp_events.specs.declared.decision.Decision.TheVariants.{Finished}
 use Rattle.ftp_events.specs.declared.entry.Entry.{Entry}
 use Rattle.ftp_events.specs.declared.event.Answer.{Answer}
+use Rattle.ftp_events.specs.declared.event.Answer.TheVariants.{Done}
+use Rattle.ftp_events.specs.declared.event.EventKind.TheVariants.{End}
 use Rattle.ftp_events.specs.declared.event.HubEvent.{HubEvent}
 use Rattle.ftp_events.specs.declared.session.Session.{Session}
 use Rattle.ftp_events.specs.Board.{holder}
+use Rattle.ftp_events.specs.Fate.{cancels, settlement, wait, fate}
 use Rattle.ftp_events.specs.Headline.{AllServed}
+use Rattle.ftp_events.specs.History.{concerns}
 use Rattle.ftp_events.specs.Isolation.{client_log, IsApart}
 use Rattle.ftp_events.specs.Log.{past_of, is_refusal}
 use Rattle.ftp_events.specs.Right.{IsRight, IsActed, log_of, events_of}
 use Rattle.ftp_events.specs.Session.{session}
+use Rattle.ftp_events.specs.Transfer.{moves_file}
 use Rattle.ftp_laws.specs.Holds.{WaitsOn, EndsHold}
+use Rattle.ftp_laws.specs.Fates.{was_queued, settle_count, can_cancel}
+use Rattle.ftp_laws.specs.Links.{start_count}
 use Rattle.ftp_laws.specs.Notices.{notices, NoneLoggedOut, LastLoggedOut, HasEnded}
 
 -- whatever happens and is answered, there is a right and acted log of it
@@ -100,3 +110,43 @@ abbrev pub ClientsAreAsIfAlone : Type 0
 ClientsAreAsIfAlone =
     (o : Options) (log : List Entry) (a : IpAddr) → is_legacy o.mode ≡ false → IsApart log a → IsRight o log → IsActed o log →
     log_of o (events_of (client_log log a)) ≡ client_log log a
+
+-- no link takes two transfers
+abbrev pub LinksTakeOneJob : Type 0
+LinksTakeOneJob =
+    (o : Options) (log : List Entry) (n : ℕ) → IsRight o log → IsActed o log →
+    start_count n log ≤ 1
+
+-- after a RETR, STOR or APPE that succeeded a live session has the offset 0, and after any other end the one that it had
+abbrev pub EndsSetOffset : Type 0
+EndsSetOffset =
+    (o : Options) (log : List Entry) (e : Entry) (ticket : Ticket) (outcome : Outcome) (v : Session) →
+    e.event.kind ≡ End ticket → e.answer ≡ Done outcome → e.decision ≡ Finished →
+    session o (past_of log) ticket.session ≡ Some v →
+    (w : Session) × (session o (past_of (e ∷ log)) ticket.session ≡ Some w) × (w.offset ≡ (if moves_file outcome.result then 0 else v.offset))
+
+-- a transfer has a fate where it was queued, and none where it was not
+abbrev pub QueuedHaveFates : Type 0
+QueuedHaveFates =
+    (o : Options) (log : List Entry) (t : Ticket) → IsRight o log → IsActed o log →
+    is_some (fate o log t) ≡ was_queued t log
+
+-- one that was completed or cancelled waits for nothing
+abbrev pub SettledDoNotWait : Type 0
+SettledDoNotWait =
+    (o : Options) (log : List Entry) (t : Ticket) → IsRight o log → IsActed o log →
+    is_some (settlement log t) ≡ true →
+    wait o (past_of log) t ≡ None
+
+-- a transfer is completed or cancelled once at most
+abbrev pub SettledOnce : Type 0
+SettledOnce =
+    (o : Options) (log : List Entry) (t : Ticket) → IsRight o log → IsActed o log →
+    settle_count t log ≤ 1
+
+-- it is cancelled by another grant, a connection that is turned away or the end of a session alone, where that concerns its session
+abbrev pub CancelledOnlySo : Type 0
+CancelledOnlySo =
+    (o : Options) (log : List Entry) (e : Entry) (t : Ticket) → IsRight o (e ∷ log) → IsActed o (e ∷ log) →
+    list_any (cancels t) e.actions ≡ true →
+    (can_cancel e.decision ≡ true) × (concerns o (past_of log) e t.session ≡ true)

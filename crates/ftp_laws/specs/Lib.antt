@@ -1,3 +1,5 @@
 pub mod Holds
 pub mod Notices
+pub mod Links
+pub mod Fates
 pub mod Laws

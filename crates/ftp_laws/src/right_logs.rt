@@ -1,6 +1,8 @@
 //! The laws of right logs. The functions do nothing: their clauses are the laws.
 ghost use Rattle.ftp_laws.specs.Laws.{RightLogsExist, RightLogsAreDetermined, RightLogsServe, HoldersWait, HoldsOnePort, HoldsEndOnlySo, EachEndsHold};
 ghost use Rattle.ftp_laws.specs.Laws.{NoticesAreNumbered, NoticesAreCounted, EndedAreLoggedOut, LiveAreNotLoggedOut, ClientsAreIsolated, ClientsAreAsIfAlone};
+ghost use Rattle.ftp_laws.specs.Laws.{LinksTakeOneJob, EndsSetOffset};
+ghost use Rattle.ftp_laws.specs.Laws.{QueuedHaveFates, SettledDoNotWait, SettledOnce, CancelledOnlySo};
 
 /// There is one right and acted log for given events and answers.
 pub fn right_logs_are_determined()
@@ -36,6 +38,28 @@ pub fn notices_are_numbered()
 pub fn logged_out_comes_last()
     ensures ended { EndedAreLoggedOut }
     ensures live { LiveAreNotLoggedOut }
+{}
+
+/// A link takes at most one transfer.
+pub fn links_take_one_job()
+    ensures links { LinksTakeOneJob }
+{}
+
+/// Each transfer that was queued has one fate: it waits, it runs, or it was completed or cancelled, once.
+pub fn transfers_have_one_fate()
+    ensures queued { QueuedHaveFates }
+    ensures settled { SettledDoNotWait }
+    ensures once { SettledOnce }
+{}
+
+/// A transfer is cancelled only with its session's slot.
+pub fn transfers_are_cancelled_with_their_slot()
+    ensures only_so { CancelledOnlySo }
+{}
+
+/// A restart offset lasts until the end of a RETR, STOR or APPE that succeeded.
+pub fn ends_set_offset()
+    ensures offset { EndsSetOffset }
 {}
 
 /// The entries of one client address are right and acted by themselves, as if nobody else had been

@@ -2,9 +2,10 @@
 use Rattle.std.specs.Prelude.{ℕ}
 use Rattle.ftp_options.specs.declared.options.ListenerMode.{ListenerMode}
 
--- the mode, the passive ports and the idle time in milliseconds
+-- the mode, the passive ports, the idle time in milliseconds and what the storage can do
 pub record Settings : Type 0 where
   pub mode : ListenerMode
   pub lo : ℕ
   pub hi : ℕ
   pub idle_ms : ℕ
+  pub features : ℕ

@@ -5,6 +5,7 @@ ghost use Rattle.ftp_options.specs.Builder.{defaults, IsEmptyRange, IsPortZero, 
 
 use crate::error::ServerError;
 use crate::options::{ActivePassiveMode, ListenerMode, Options, PassiveHost};
+use ftp_base::FEATURE_RESTART;
 use std::marker::Model;
 
 /// The first passive port and the last of a builder on which none were set.
@@ -20,6 +21,7 @@ pub struct ServerBuilder {
     lo: u16,
     hi: u16,
     idle_ms: u64,
+    features: u32,
 }
 
 impl Model for ServerBuilder {
@@ -27,9 +29,9 @@ impl Model for ServerBuilder {
 
     ghost Value = { Settings };
 
-    ghost view = { λ b. record { mode = b.mode; lo = b.lo; hi = b.hi; idle_ms = b.idle_ms } };
+    ghost view = { λ b. record { mode = b.mode; lo = b.lo; hi = b.hi; idle_ms = b.idle_ms; features = b.features } };
 
-    ghost inverse = { λ s. record { mode = s.mode; lo = s.lo; hi = s.hi; idle_ms = s.idle_ms } };
+    ghost inverse = { λ s. record { mode = s.mode; lo = s.lo; hi = s.hi; idle_ms = s.idle_ms; features = s.features } };
 }
 
 /// What was built.
@@ -39,7 +41,7 @@ pub struct Built {
 }
 
 impl ServerBuilder {
-    /// Legacy mode, the passive ports 49152 to 65535, and an idle time of ten minutes.
+    /// Legacy mode, the passive ports 49152 to 65535, an idle time of ten minutes, and a storage that can restart.
     pub fn new() -> ServerBuilder
         ensures { result ≡ defaults }
     {
@@ -48,6 +50,7 @@ impl ServerBuilder {
             lo: PASSIVE_PORTS.0,
             hi: PASSIVE_PORTS.1,
             idle_ms: IDLE_MS,
+            features: FEATURE_RESTART,
         }
     }
 
@@ -73,6 +76,13 @@ impl ServerBuilder {
         self.idle_ms = secs.saturating_mul(1000);
     }
 
+    /// What the storage can do: the sum of the `FEATURE_` constants.
+    pub fn storage_features(&mut self, features: u32)
+        ensures { self.new ≡ record self.old { features = features } }
+    {
+        self.features = features;
+    }
+
     /// The options that were set, or the first reason why they are not lawful.
     pub fn build(self) -> Result<Built, ServerError>
         ensures built { IfOk result (λ built. settings_of built.options ≡ self) }
@@ -92,6 +102,7 @@ impl ServerBuilder {
             host: PassiveHost::FromConnection,
             active_passive: ActivePassiveMode::PassiveOnly,
             idle_ms: self.idle_ms,
+            features: self.features,
         };
         Ok(Built { options })
     }
@@ -116,6 +127,15 @@ mod tests {
         assert_eq!(rt;
             builder.build().map(|b| b.options.idle_ms).ok(),
             Some(600_000)
+        );
+        assert_eq!(rt;
+            builder.build().map(|b| b.options.has_restart()).ok(),
+            Some(true)
+        );
+        builder.storage_features(2);
+        assert_eq!(rt;
+            builder.build().map(|b| b.options.has_restart()).ok(),
+            Some(false)
         );
         Ok(())
     }

@@ -2,6 +2,9 @@
 
 ghost use Rattle.std.specs.Prelude.{◌≡◌, ◌≤◌, false};
 ghost use Rattle.ftp_options.specs.Modes.{is_legacy, is_pooled};
+ghost use Rattle.ftp_options.specs.Features.{has_restart};
+
+use ftp_base::FEATURE_RESTART;
 
 /// Who listens for data connections.
 #[derive(Clone, Copy, Debug, PartialEq, Eq)]
@@ -44,6 +47,17 @@ pub struct Options {
     pub active_passive: ActivePassiveMode,
     /// The idle time of a session, in milliseconds.
     pub idle_ms: u64,
+    /// What the storage can do: the sum of the `FEATURE_` constants.
+    pub features: u32,
     pub ghost ordered: { lo ≤ hi },
     pub ghost listens: { is_legacy mode ≡ false → 1 ≤ lo },
+}
+
+impl Options {
+    /// Transfers can begin at a restart offset.
+    pub fn has_restart(&self) -> bool
+        ensures { result ≡ has_restart self.now.features }
+    {
+        self.features & FEATURE_RESTART == FEATURE_RESTART
+    }
 }

@@ -1,23 +1,21 @@
 -- What one more item changes of what the items ask for.
-use Rattle.std.proofs.Common.{◌≡◌, ℕ, ◌*◌, Bool, true, false, cond, ◌||◌, List, [], ◌∷◌, ◌++◌, map, Option, Some, None, is_some, refl, sym, ap, ◌∙◌, nat_eq}
+use Rattle.std.proofs.Common.{◌≡◌, ℕ, Bool, true, false, cond, ◌||◌, List, [], ◌∷◌, ◌++◌, Option, Some, None, is_some, refl, ap, ◌∙◌, nat_eq}
 use Rattle.std.specs.Prelude.{filter_map}
-use Rattle.std.specs.Option.{option_map_or}
-use Rattle.std.specs.List.{list_any}
 use Rattle.std.specs.Ordering.{nat_cmp, eq_by_cmp}
 use Rattle.std.specs.Cmp.{nat_cmp_total, unsigned_tied}
 use Rattle.std.specs.FinMap as map
 use Rattle.std.specs.FinMap.{nat_cmp-IsAntisymmetric, from_entries_push, get-from_entries}
 use Rattle.std.proofs.lemmas.List.{append-nil}
 use Rattle.std.proofs.lemmas.List.Elements.{filter_map-append}
+use Rattle.std.proofs.lemmas.List.Sums.{fold-append}
+use Rattle.ftp_base.specs.declared.fault.LinkFault.{LinkFault}
 use Rattle.ftp_base.specs.Memory.{LinkState}
 use Rattle.ftp_options.specs.Settings.{Settings}
-use Rattle.ftp_events.specs.declared.event.HubEvent.{HubEvent}
 use Rattle.ftp_event_text.specs.declared.setup.Item.{Item}
 use Rattle.ftp_event_text.specs.declared.setup.Item.TheVariants as item
-use Rattle.ftp_event_text.specs.Setup.{sent_line}
-use Rattle.ftp_script_text.specs.Script.{has_options, is_options, has_link, is_link}
+use Rattle.ftp_script_text.specs.Script.{has_options, has_link}
 use Rattle.ftp_script.specs.Items.{event_in, events_in, options_in, new_link, link_in, links_in}
-use Rattle.ftp_script.specs.Links.{sent_on}
+use Rattle.ftp_script_text.specs.SetUp.{new_storage, set_up, storage_in}
 
 -- ---- events
 
@@ -30,23 +28,32 @@ events_in-append items more = filter_map-append event_in items more
 pub options_in-some : (items more : List Item) (s : Settings) → options_in items ≡ Some s → options_in (items ++ more) ≡ Some s
 options_in-some [] more s h = absurd cc
 options_in-some (item.Skip ∷ items) more s h = options_in-some items more s h
-options_in-some (item.Options lo hi idle ∷ items) more s h = h
-options_in-some (item.Link n chunk bytes ∷ items) more s h = options_in-some items more s h
+options_in-some (item.Options lo hi idle restart ∷ items) more s h = h
+options_in-some (item.Storage max fails ∷ items) more s h = options_in-some items more s h
+options_in-some (item.Dir path ∷ items) more s h = options_in-some items more s h
+options_in-some (item.File bytes path ∷ items) more s h = options_in-some items more s h
+options_in-some (item.Link n chunk fails bytes ∷ items) more s h = options_in-some items more s h
 options_in-some (item.Event e ∷ items) more s h = options_in-some items more s h
 
 -- where none are set, the later items may set them
 pub options_in-none : (items more : List Item) → options_in items ≡ None → options_in (items ++ more) ≡ options_in more
 options_in-none [] more h = refl
 options_in-none (item.Skip ∷ items) more h = options_in-none items more h
-options_in-none (item.Options lo hi idle ∷ items) more h = absurd cc
-options_in-none (item.Link n chunk bytes ∷ items) more h = options_in-none items more h
+options_in-none (item.Options lo hi idle restart ∷ items) more h = absurd cc
+options_in-none (item.Storage max fails ∷ items) more h = options_in-none items more h
+options_in-none (item.Dir path ∷ items) more h = options_in-none items more h
+options_in-none (item.File bytes path ∷ items) more h = options_in-none items more h
+options_in-none (item.Link n chunk fails bytes ∷ items) more h = options_in-none items more h
 options_in-none (item.Event e ∷ items) more h = options_in-none items more h
 
 pub has_options-is : (items : List Item) → has_options items ≡ is_some (options_in items)
 has_options-is [] = refl
 has_options-is (item.Skip ∷ items) = has_options-is items
-has_options-is (item.Options lo hi idle ∷ items) = refl
-has_options-is (item.Link n chunk bytes ∷ items) = has_options-is items
+has_options-is (item.Options lo hi idle restart ∷ items) = refl
+has_options-is (item.Storage max fails ∷ items) = has_options-is items
+has_options-is (item.Dir path ∷ items) = has_options-is items
+has_options-is (item.File bytes path ∷ items) = has_options-is items
+has_options-is (item.Link n chunk fails bytes ∷ items) = has_options-is items
 has_options-is (item.Event e ∷ items) = has_options-is items
 
 -- ---- links
@@ -64,9 +71,12 @@ found n entries = map.find nat_cmp n entries
 has_link-found : (n : ℕ) (items : List Item) → is_some (map.find nat_cmp n (link_entries items)) ≡ has_link n items
 has_link-found n [] = refl
 has_link-found n (item.Skip ∷ items) = has_link-found n items
-has_link-found n (item.Options lo hi idle ∷ items) = has_link-found n items
-has_link-found n (item.Link m chunk bytes ∷ items) =
-    some_cond (eq_by_cmp nat_cmp n m) (new_link chunk bytes) (map.find nat_cmp n (link_entries items))
+has_link-found n (item.Options lo hi idle restart ∷ items) = has_link-found n items
+has_link-found n (item.Storage max fails ∷ items) = has_link-found n items
+has_link-found n (item.Dir path ∷ items) = has_link-found n items
+has_link-found n (item.File bytes path ∷ items) = has_link-found n items
+has_link-found n (item.Link m chunk fails bytes ∷ items) =
+    some_cond (eq_by_cmp nat_cmp n m) (new_link chunk fails bytes) (map.find nat_cmp n (link_entries items))
     ∙ ap (λ (b : Bool). b || is_some (map.find nat_cmp n (link_entries items))) (unsigned_tied n m)
     ∙ ap (λ (b : Bool). nat_eq n m || b) (has_link-found n items) where
       some_cond : (b : Bool) (l : LinkState) (o : Option LinkState) → is_some (cond b (Some l) o) ≡ (b || is_some o)
@@ -94,25 +104,15 @@ links_in-other items i none =
       nothing (Some x) e = absurd cc
 
 -- a link with a new number
-pub links_in-link : (items : List Item) (n chunk : ℕ) (bytes : List ℕ) →
+pub links_in-link : (items : List Item) (n chunk : ℕ) (fails : List (ℕ × LinkFault)) (bytes : List ℕ) →
     has_link n items ≡ false →
-    links_in (items ++ item.Link n chunk bytes ∷ []) ≡ map.insert (links_in items) n (new_link chunk bytes)
-links_in-link items n chunk bytes new =
-    ap map.from_entries (filter_map-append link_in items (item.Link n chunk bytes ∷ []))
-    ∙ from_entries_push nat_cmp_total nat_cmp-IsAntisymmetric (link_entries items) n (new_link chunk bytes) (no_value (map.find nat_cmp n (link_entries items)) (has_link-found n items ∙ new))
+    links_in (items ++ item.Link n chunk fails bytes ∷ []) ≡ map.insert (links_in items) n (new_link chunk fails bytes)
+links_in-link items n chunk fails bytes new =
+    ap map.from_entries (filter_map-append link_in items (item.Link n chunk fails bytes ∷ []))
+    ∙ from_entries_push nat_cmp_total nat_cmp-IsAntisymmetric (link_entries items) n (new_link chunk fails bytes) (no_value (map.find nat_cmp n (link_entries items)) (has_link-found n items ∙ new))
 
--- nothing was sent on any link
-pub sent_on-links_in : (items : List Item) (n : ℕ) → sent_on (links_in items) n ≡ sent_line n []
-sent_on-links_in items n = ap (λ (o : Option LinkState). sent_line n (option_map_or (λ (l : LinkState). l.sent) o [])) (get-links_in items n) ∙ ap (sent_line n) (unsent n items) where
-  choose : (b : Bool) (chunk : ℕ) (bytes : List ℕ) (o : Option LinkState) →
-      option_map_or (λ (l : LinkState). l.sent) o [] ≡ [] →
-      option_map_or (λ (l : LinkState). l.sent) (cond b (Some (new_link chunk bytes)) o) [] ≡ []
-  choose true chunk bytes o h = refl
-  choose false chunk bytes o h = h
+-- ---- the storage
 
-  unsent : (n : ℕ) (items : List Item) → option_map_or (λ (l : LinkState). l.sent) (map.find nat_cmp n (link_entries items)) [] ≡ []
-  unsent n [] = refl
-  unsent n (item.Skip ∷ items) = unsent n items
-  unsent n (item.Options lo hi idle ∷ items) = unsent n items
-  unsent n (item.Link m chunk bytes ∷ items) = choose (eq_by_cmp nat_cmp n m) chunk bytes (map.find nat_cmp n (link_entries items)) (unsent n items)
-  unsent n (item.Event e ∷ items) = unsent n items
+-- one more item changes the storage as it says
+pub storage_in-more : (items : List Item) (i : Item) → storage_in (items ++ i ∷ []) ≡ set_up (storage_in items) i
+storage_in-more items i = fold-append set_up (new_storage 16777216 []) items (i ∷ [])

@@ -1,42 +1,27 @@
 -- How a run ends, from what it keeps.
-use Rattle.std.proofs.Common.{◌≡◌, ℕ, ◌⊎◌, inl, inr, List, [], ◌∷◌, ◌++◌, Option, Some, None, refl, sym, ap, subst, ◌∙◌, append-nil, append_assoc}
+use Rattle.std.proofs.Common.{◌≡◌, ℕ, inl, inr, List, [], ◌∷◌, ◌++◌, Option, Some, None, refl, sym, subst, ◌∙◌, append-nil}
 use Rattle.std.specs.Prelude.{IfSome, Result, Ok, Err, OnOk, OnErr}
-use Rattle.std.specs.List.{flat_map}
-use Rattle.std.specs.FinMap as map
 use Rattle.std.proofs.lemmas.Option.{IfSome_then}
-use Rattle.ftp_base.specs.LinkTable.{Numbered}
-use Rattle.ftp_base.specs.Memory.{LinkState}
-use Rattle.ftp_base.specs.Outside.{Writes, HasRisen}
+use Rattle.ftp_base.specs.MemoryStorage.{MemoryState}
+use Rattle.ftp_base.specs.Outside.{Writes}
 use Rattle.ftp_base.specs.declared.fault.Failed.{Failed}
 use Rattle.ftp_base.specs.declared.fault.Failed.TheVariants.{Fault, Memory}
 use Rattle.ftp_events.specs.declared.entry.Entry.{Entry}
 use Rattle.ftp_stream.specs.Writing.{WritesFront}
 use Rattle.ftp_event_text.specs.declared.setup.Item.{Item}
-use Rattle.ftp_event_text.specs.Setup.{sent_line}
 use Rattle.ftp_script_text.specs.declared.script.ScriptReader.{ScriptReader}
-use Rattle.ftp_script_text.specs.Script.{script_of, may_stand}
-use Rattle.ftp_script_text.specs.ScriptReader.{AreWhole, HasRead, StopsBehind, IsLetIn, Follows}
+use Rattle.ftp_script_text.specs.Script.{script_of}
+use Rattle.ftp_script_text.specs.ScriptReader.{HasRead, StopsBehind, IsLetIn}
 use Rattle.ftp_script.specs.declared.run.Run.{Run}
 use Rattle.ftp_script.specs.declared.status.Status.{Status}
 use Rattle.ftp_script.specs.declared.status.Status.TheVariants as status
-use Rattle.ftp_script.specs.Statuses.{IsCutShort, stopped_by, ended_by}
-use Rattle.ftp_script.specs.Items.{links_in, end_lines}
-use Rattle.ftp_script.specs.Links.{sent_on}
-use Rattle.ftp_script.specs.Legal.{IsLegal}
-use Rattle.ftp_script.specs.Outcome.{log_lines, bad_line, IsDone, HasBadLine, WritesWhole, WritesPart, closing, Outcome}
+use Rattle.ftp_script.specs.Statuses.{IsCutShort, ended_by}
+use Rattle.ftp_script_text.specs.SetUp.{IsSetUp}
+use Rattle.ftp_script.specs.Left.{end_lines}
+use Rattle.ftp_script.specs.Outcome.{log_lines, bad_line, WritesWhole, WritesPart, closing, Outcome}
 use Rattle.ftp_script.specs.Runs.{Keeps, IsTaken, IsPartlyTaken, Running}
-use Rattle.ftp_script.proofs.Written.{writes-nil, writes-more, front-more, front-longer, front-whole, log_lines-append}
-use Rattle.ftp_script.proofs.ItemLemmas.{sent_on-links_in}
-
--- the lines on links of which nothing was sent on any
-flat_map-same : {X : Type 0} (f g : X → List ℕ) → ((x : X) → f x ≡ g x) → (xs : List X) → flat_map f xs ≡ flat_map g xs
-flat_map-same f g same [] = refl
-flat_map-same f g same (x ∷ xs) = ap (λ (a : List ℕ). a ++ flat_map f xs) (same x) ∙ ap (λ (b : List ℕ). g x ++ b) (flat_map-same f g same xs)
-
-pub end_lines-is : (links : Numbered LinkState) (items : List Item) → links ≡ links_in items → flat_map (sent_on links) (map.keys links) ≡ end_lines items
-end_lines-is links items same =
-    ap (λ (l : Numbered LinkState). flat_map (sent_on l) (map.keys l)) same
-    ∙ flat_map-same (sent_on (links_in items)) (λ n. sent_line n []) (sent_on-links_in items) (map.keys (links_in items))
+use Rattle.ftp_script.proofs.RunLemmas.{kept-legal, kept-storage}
+use Rattle.ftp_script.proofs.Written.{writes-more, front-more, front-longer, front-whole, log_lines-append}
 
 -- what was told where there is something to tell
 pub told-start : (left : Option (List ℕ)) (reader : ScriptReader) (buffer : List ℕ) →
@@ -65,12 +50,12 @@ running-more all left later before now new reader next run after buffer out i r 
 }
 
 -- of what whole lines give, all that came was written
-part-whole : (bytes : List ℕ) (left before now : Option (List ℕ)) (reader : ScriptReader) (buffer : List ℕ) (items : List Item) (log : List Entry) →
+part-whole : (bytes : List ℕ) (left before now : Option (List ℕ)) (reader : ScriptReader) (buffer : List ℕ) (run : Run) (items : List Item) (log : List Entry) →
     HasRead items bytes reader buffer left →
-    IsLegal items log →
+    Keeps run items log →
     Writes before now (log_lines log) →
     WritesPart bytes before now
-part-whole bytes left before now reader buffer items log h legal written = record {
+part-whole bytes left before now reader buffer run items log h kept written = record {
   read = h.read;
   rest = h.bytes;
   items = items;
@@ -79,53 +64,58 @@ part-whole bytes left before now reader buffer items log h legal written = recor
   all_is = h.all_is;
   whole = h.whole;
   script = h.items;
-  legal = legal;
-  written = front-whole before now (log_lines log) (end_lines items) written;
+  links = run.links;
+  storage = run.storage;
+  legal = kept-legal run items log kept;
+  written = front-whole before now (log_lines log) (end_lines run.links run.storage) written;
 }
 
 pub out-memory : (all left before now : Option (List ℕ)) (reader : ScriptReader) (run : Run) (buffer : List ℕ) →
     Running all reader run buffer left before now →
     IfSome all (λ bytes. WritesPart bytes before now)
 out-memory all left before now reader run buffer r =
-    IfSome_then all r.read (λ bytes h. part-whole bytes left before now reader buffer r.items r.log h r.kept.legal r.written)
+    IfSome_then all r.read (λ bytes h. part-whole bytes left before now reader buffer run r.items r.log h r.kept r.written)
 
--- of an item that was read, only a part of its lines was written
-pub out-cut : (all left later before now new : Option (List ℕ)) (reader next : ScriptReader) (run : Run) (buffer out : List ℕ) (i : Item) (s : Status) (r : Running all reader run buffer left before now) →
+-- of an item that was read, at most a part of its lines was written
+pub out-cut : (all left later before now new : Option (List ℕ)) (reader next : ScriptReader) (run after : Run) (buffer out : List ℕ) (i : Item) (s : Status) (r : Running all reader run buffer left before now) →
     ((bytes : List ℕ) → HasRead r.items bytes reader buffer left → HasRead (r.items ++ i ∷ []) bytes next out later) →
-    IsPartlyTaken (r.items ++ i ∷ []) r.log now new →
+    IsPartlyTaken after (r.items ++ i ∷ []) r.log now new →
     IsCutShort s →
     IfSome all (λ bytes. Outcome s bytes later before new)
-out-cut all left later before now new reader next run buffer out i s r told part short =
-    IfSome_then all r.read (λ bytes h. cut_short bytes s short (of_part bytes (told bytes h))) where
+out-cut all left later before now new reader next run after buffer out i s r told part short =
+    IfSome_then all r.read (λ bytes h. cut_short bytes s short (of_part bytes h (told bytes h) part)) where
       cut_short : (bytes : List ℕ) (s : Status) → IsCutShort s → WritesPart bytes before new → Outcome s bytes later before new
       cut_short bytes s (inl e) p = subst (λ (t : Status). Outcome t bytes later before new) (sym e) p
       cut_short bytes s (inr e) p = subst (λ (t : Status). Outcome t bytes later before new) (sym e) p
 
-      of_part : (bytes : List ℕ) → HasRead (r.items ++ i ∷ []) bytes next out later → WritesPart bytes before new
-      of_part bytes h = record {
-        read = h.read;
-        rest = h.bytes;
+      of_part : (bytes : List ℕ) → HasRead r.items bytes reader buffer left → HasRead (r.items ++ i ∷ []) bytes next out later → IsPartlyTaken after (r.items ++ i ∷ []) r.log now new → WritesPart bytes before new
+      of_part bytes h more (inl same) = part-whole bytes left before new reader buffer run r.items r.log h r.kept (subst (λ (w : Option (List ℕ)). Writes before w (log_lines r.log)) (sym same) r.written)
+      of_part bytes h more (inr taken) = record {
+        read = more.read;
+        rest = more.bytes;
         items = r.items ++ i ∷ [];
         bad = None;
-        log = part.0 ++ r.log;
-        all_is = h.all_is;
-        whole = h.whole;
-        script = h.items;
-        legal = part.1;
+        log = taken.0 ++ r.log;
+        all_is = more.all_is;
+        whole = more.whole;
+        script = more.items;
+        links = after.links;
+        storage = after.storage;
+        legal = kept-legal after (r.items ++ i ∷ []) (taken.0 ++ r.log) taken.1;
         written =
-            front-longer before new (log_lines (part.0 ++ r.log)) (end_lines (r.items ++ i ∷ []))
-            (subst (WritesFront before new) (sym (log_lines-append part.0 r.log))
-            (front-more before now new (log_lines r.log) (log_lines part.0) r.written part.2));
+            front-longer before new (log_lines (taken.0 ++ r.log)) (end_lines after.links after.storage)
+            (subst (WritesFront before new) (sym (log_lines-append taken.0 r.log))
+            (front-more before now new (log_lines r.log) (log_lines taken.0) r.written taken.2));
       }
 
 -- all bytes were read, and what is written behind the log was begun
-part-closing : (bytes : List ℕ) (before now new : Option (List ℕ)) (items : List Item) (log : List Entry) (bad : Option ℕ) →
+part-closing : (bytes : List ℕ) (before now new : Option (List ℕ)) (run : Run) (items : List Item) (log : List Entry) (bad : Option ℕ) →
     script_of bytes ≡ (items, bad) →
-    IsLegal items log →
+    Keeps run items log →
     Writes before now (log_lines log) →
-    WritesFront now new (closing items bad) →
+    WritesFront now new (closing run.links run.storage bad) →
     WritesPart bytes before new
-part-closing bytes before now new items log bad script legal written more = record {
+part-closing bytes before now new run items log bad script kept written more = record {
   read = bytes;
   rest = [];
   items = items;
@@ -134,14 +124,16 @@ part-closing bytes before now new items log bad script legal written more = reco
   all_is = append-nil bytes;
   whole = inr refl;
   script = script;
-  legal = legal;
-  written = front-more before now new (log_lines log) (closing items bad) written more;
+  links = run.links;
+  storage = run.storage;
+  legal = kept-legal run items log kept;
+  written = front-more before now new (log_lines log) (closing run.links run.storage bad) written more;
 }
 
 pub out-end : (all left later before now new : Option (List ℕ)) (reader : ScriptReader) (run : Run) (buffer : List ℕ) (last : Result Unit Failed) (r : Running all reader run buffer left before now) →
     ((bytes : List ℕ) → HasRead r.items bytes reader buffer left → (script_of bytes ≡ (r.items, None)) × (later ≡ Some [])) →
-    OnOk last ((items : List Item) (log : List Entry) → Keeps run items log → Writes now new (end_lines items)) →
-    OnErr last ((items : List Item) (log : List Entry) → Keeps run items log → WritesFront now new (end_lines items)) →
+    OnOk last (Writes now new (end_lines run.links run.storage)) →
+    OnErr last (WritesFront now new (end_lines run.links run.storage)) →
     IfSome all (λ bytes. Outcome (ended_by last status.Done) bytes later before new)
 out-end all left later before now new reader run buffer (Ok x) r told wrote front =
     IfSome_then all r.read
@@ -150,13 +142,15 @@ out-end all left later before now new reader run buffer (Ok x) r told wrote fron
       log = r.log;
       script = (told bytes h).0;
       end = (told bytes h).1;
-      legal = r.kept.legal;
-      written = writes-more before now new (log_lines r.log) (end_lines r.items) r.written (wrote r.items r.log r.kept);
+      links = run.links;
+      storage = run.storage;
+      legal = kept-legal run r.items r.log r.kept;
+      written = writes-more before now new (log_lines r.log) (end_lines run.links run.storage) r.written wrote;
     })
 out-end all left later before now new reader run buffer (Err Fault) r told wrote front =
-    IfSome_then all r.read (λ bytes h. part-closing bytes before now new r.items r.log None (told bytes h).0 r.kept.legal r.written (front r.items r.log r.kept))
+    IfSome_then all r.read (λ bytes h. part-closing bytes before now new run r.items r.log None (told bytes h).0 r.kept r.written front)
 out-end all left later before now new reader run buffer (Err Memory) r told wrote front =
-    IfSome_then all r.read (λ bytes h. part-closing bytes before now new r.items r.log None (told bytes h).0 r.kept.legal r.written (front r.items r.log r.kept))
+    IfSome_then all r.read (λ bytes h. part-closing bytes before now new run r.items r.log None (told bytes h).0 r.kept r.written front)
 
 pub out-bad : (all left later before now new : Option (List ℕ)) (reader : ScriptReader) (run : Run) (buffer : List ℕ) (k : ℕ) (last : Result Unit Failed) (r : Running all reader run buffer left before now) →
     ((bytes : List ℕ) → HasRead r.items bytes reader buffer left → script_of bytes ≡ (r.items, Some k)) →
@@ -169,13 +163,15 @@ out-bad all left later before now new reader run buffer k (Ok x) r told wrote fr
       items = r.items;
       log = r.log;
       script = told bytes h;
-      legal = r.kept.legal;
+      links = run.links;
+      storage = run.storage;
+      legal = kept-legal run r.items r.log r.kept;
       written = writes-more before now new (log_lines r.log) (bad_line k) r.written wrote;
     })
 out-bad all left later before now new reader run buffer k (Err Fault) r told wrote front =
-    IfSome_then all r.read (λ bytes h. part-closing bytes before now new r.items r.log (Some k) (told bytes h) r.kept.legal r.written front)
+    IfSome_then all r.read (λ bytes h. part-closing bytes before now new run r.items r.log (Some k) (told bytes h) r.kept r.written front)
 out-bad all left later before now new reader run buffer k (Err Memory) r told wrote front =
-    IfSome_then all r.read (λ bytes h. part-closing bytes before now new r.items r.log (Some k) (told bytes h) r.kept.legal r.written front)
+    IfSome_then all r.read (λ bytes h. part-closing bytes before now new run r.items r.log (Some k) (told bytes h) r.kept r.written front)
 
 pub out-fault : (all left later before now : Option (List ℕ)) (reader : ScriptReader) (run : Run) (buffer : List ℕ) (r : Running all reader run buffer left before now) →
     ((bytes : List ℕ) → HasRead r.items bytes reader buffer left → StopsBehind r.items bytes later) →
@@ -186,9 +182,15 @@ out-fault all left later before now reader run buffer r told =
       items = r.items;
       log = r.log;
       stopped = told bytes h;
-      legal = r.kept.legal;
+      links = run.links;
+      storage = run.storage;
+      legal = kept-legal run r.items r.log r.kept;
       written = r.written;
     })
+
+-- the storage is the one that the items set up
+pub kept-set_up : (run : Run) (items : List Item) (log : List Entry) (storage : MemoryState) → Keeps run items log → storage ≡ run.storage → IsSetUp storage items
+kept-set_up run items log storage kept same = λ no_event. same ∙ kept-storage run items log kept no_event
 
 -- ---- what a status says
 

@@ -120,3 +120,34 @@ is_word a b r word compared is_a is_b =
       (λ yes. sym is_a ∙ decides.0 (sym compared ∙ yes) ∙ is_b),
       (λ same. compared ∙ decides.1 (is_a ∙ same ∙ sym is_b)),
     )
+
+-- ---- the texts of a list, whose first elements were written
+
+-- the texts of the elements before those that are left were written
+abbrev pub IsBetween : {X : Type 0} → (X → List ℕ) → List X → List X → Option (List ℕ) → Option (List ℕ) → Type 0
+IsBetween {X} f all left old now = (done : List X) × (done ++ left ≡ all) × Writes old now (flat_map f done)
+
+-- one element more
+pub between-more : {X : Type 0} (f : X → List ℕ) (all left later : List X) (x : X) (old now new : Option (List ℕ)) →
+    IsBetween f all left old now →
+    left ≡ x ∷ later →
+    Writes now new (f x) →
+    IsBetween f all later old new
+between-more f all left later x old now new so_far next wrote = (
+  so_far.0 ++ x ∷ [],
+  append_assoc so_far.0 (x ∷ []) later ∙ ap (λ (l : List _). so_far.0 ++ l) (sym next) ∙ so_far.1,
+  subst (Writes old new) (sym (flat_map-append f so_far.0 (x ∷ []) ∙ ap (λ (l : List ℕ). flat_map f so_far.0 ++ l) (append-nil (f x))))
+      (writes-more old now new (flat_map f so_far.0) (f x) so_far.2 wrote),
+)
+
+-- a part of the next element
+pub between-part : {X : Type 0} (f : X → List ℕ) (all left later : List X) (x : X) (old now new : Option (List ℕ)) →
+    IsBetween f all left old now →
+    left ≡ x ∷ later →
+    WritesFront now new (f x) →
+    WritesFront old new (flat_map f all)
+between-part f all left later x old now new so_far next wrote =
+    let whole : flat_map f so_far.0 ++ (f x ++ flat_map f later) ≡ flat_map f all =
+    sym (flat_map-append f so_far.0 (x ∷ later)) ∙ ap (λ (l : List _). flat_map f (so_far.0 ++ l)) (sym next) ∙ ap (flat_map f) so_far.1 in
+    subst (WritesFront old new) whole
+    (front-more old now new (flat_map f so_far.0) (f x ++ flat_map f later) so_far.2 (front-longer now new (f x) (flat_map f later) wrote))

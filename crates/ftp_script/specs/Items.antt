@@ -1,7 +1,7 @@
 -- What the items of a script ask for: events, options and links.
-use Rattle.std.specs.Prelude.{ℕ, ◌*◌, false, List, [], ◌∷◌, filter_map, Option, Some, None}
-use Rattle.std.specs.List.{flat_map}
+use Rattle.std.specs.Prelude.{ℕ, ◌*◌, Bool, true, false, List, [], ◌∷◌, filter_map, Option, Some, None}
 use Rattle.std.specs.FinMap as map
+use Rattle.ftp_base.specs.declared.fault.LinkFault.{LinkFault}
 use Rattle.ftp_base.specs.LinkTable.{Numbered}
 use Rattle.ftp_base.specs.Memory.{LinkState}
 use Rattle.ftp_options.specs.Settings.{Settings}
@@ -9,7 +9,6 @@ use Rattle.ftp_options.specs.declared.options.ListenerMode.TheVariants.{Pooled}
 use Rattle.ftp_events.specs.declared.event.HubEvent.{HubEvent}
 use Rattle.ftp_event_text.specs.declared.setup.Item.{Item}
 use Rattle.ftp_event_text.specs.declared.setup.Item.TheVariants as item
-use Rattle.ftp_event_text.specs.Setup.{sent_line}
 
 -- the event of an item
 abbrev pub event_in : Item → Option HubEvent
@@ -20,33 +19,35 @@ event_in _ = None
 abbrev pub events_in : List Item → List HubEvent
 events_in items = filter_map event_in items
 
+-- what the storage can do: transfers can begin at a restart offset, or nothing more
+abbrev pub features_of : Bool → ℕ
+features_of true = 1
+features_of false = 0
+
 -- the options, where they are set: sessions share the ports, and the idle time is in milliseconds
 abbrev pub options_in : List Item → Option Settings
 options_in [] = None
-options_in (item.Options lo hi idle ∷ items) = Some (record { mode = Pooled; lo = lo; hi = hi; idle_ms = idle * 1000 })
+options_in (item.Options lo hi idle restart ∷ items) =
+    Some (record { mode = Pooled; lo = lo; hi = hi; idle_ms = idle * 1000; features = features_of restart })
 options_in (_ ∷ items) = options_in items
 
--- a link that gives these bytes, on which no call was made
-abbrev pub new_link : ℕ → List ℕ → LinkState
-new_link chunk bytes =
+-- a link that gives these bytes, on which no call was made, and of whose calls these fail
+abbrev pub new_link : ℕ → List (ℕ × LinkFault) → List ℕ → LinkState
+new_link chunk fails bytes =
     record {
       left = bytes;
       sent = [];
       closed = false;
       last_fault = None;
       chunk = chunk;
-      calls = record { made = 0; faults = 0; failing = [] };
+      calls = record { made = 0; faults = 0; failing = fails };
     }
 
 -- the number and the link of an item
 abbrev pub link_in : Item → Option (ℕ × LinkState)
-link_in (item.Link n chunk bytes) = Some (n, new_link chunk bytes)
+link_in (item.Link n chunk fails bytes) = Some (n, new_link chunk fails bytes)
 link_in _ = None
 
 -- the links by their numbers
 abbrev pub links_in : List Item → Numbered LinkState
 links_in items = map.from_entries (filter_map link_in items)
-
--- a line for each link, in ascending order of their numbers: nothing was sent on any
-abbrev pub end_lines : List Item → List ℕ
-end_lines items = flat_map (λ n. sent_line n []) (map.keys (links_in items))

@@ -1,5 +1,5 @@
 pub mod Items
-pub mod Links
+pub mod Left
 pub mod Legal
 pub mod Statuses
 pub mod Outcome

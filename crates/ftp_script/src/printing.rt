@@ -1,18 +1,16 @@
 //! Writing to the sink, by way of one buffer that is used again and again.
 
 ghost use Rattle.std.specs.Prelude.{◌≡◌, ◌≤◌, ◌++◌, OnOk, OnErr, IsErrOf};
-ghost use Rattle.std.specs.List.{flat_map};
-ghost use Rattle.std.specs.FinMap as map;
 ghost use Rattle.ftp_base.specs.declared.fault.Failed.TheVariants.{Fault};
 ghost use Rattle.ftp_base.specs.Outside.{HasRisen, Writes};
 ghost use Rattle.ftp_stream.specs.Writing.{WritesFront};
 ghost use Rattle.ftp_event_text.specs.Printing.{entry_lines};
-ghost use Rattle.ftp_event_text.specs.Setup.{sent_line};
+ghost use Rattle.ftp_event_text.specs.Setup.{file_line};
 ghost use Rattle.ftp_script.specs.Outcome.{bad_line};
-ghost use Rattle.ftp_script.specs.Links.{sent_on};
+ghost use Rattle.ftp_script.specs.Left.{sent_on, link_lines, file_lines};
 
-use ftp_base::{Failed, LinkTable, MemoryLink, Sink};
-use ftp_event_text::{put_entry, put_sent};
+use ftp_base::{Failed, LinkTable, MemoryLink, MemoryStorage, Sink};
+use ftp_event_text::{put_entry, put_file, put_sent};
 use ftp_events::Entry;
 use ftp_stream::write_all;
 use ftp_text::writing::{put, put_byte, put_number};
@@ -65,12 +63,12 @@ pub fn print_links<K: Sink>(
     text: &mut Vec<u8>,
     links: &LinkTable<MemoryLink>,
 ) -> Result<(), Failed>
-    ensures wrote { OnOk result (Writes (K.written sink.old) (K.written sink.new) (flat_map (sent_on links.now) (map.keys links.now))) }
+    ensures wrote { OnOk result (Writes (K.written sink.old) (K.written sink.new) (link_lines links.now)) }
     ensures fault_rose { IsErrOf result Fault → HasRisen (K.faults sink.old) (K.faults sink.new) }
     ensures count { K.faults sink.old ≤ K.faults sink.new }
 
     // After an error a part from the front was written.
-    ensures front { OnErr result (WritesFront (K.written sink.old) (K.written sink.new) (flat_map (sent_on links.now) (map.keys links.now))) }
+    ensures front { OnErr result (WritesFront (K.written sink.old) (K.written sink.new) (link_lines links.now)) }
 {
     let Ok(numbers) = links.numbers(alloc) else {
         return Err(Failed::Memory);
@@ -99,6 +97,44 @@ fn print_sent<K: Sink>(
     };
     text.clear();
     if put_sent(text, number, sent).is_err() {
+        return Err(Failed::Memory);
+    }
+    write_all(sink, text.as_slice())
+}
+
+/// Writes the files of the storage, a line each, in byte order of their paths.
+pub fn print_files<K: Sink>(
+    sink: &mut K,
+    text: &mut Vec<u8>,
+    storage: &MemoryStorage,
+) -> Result<(), Failed>
+    ensures wrote { OnOk result (Writes (K.written sink.old) (K.written sink.new) (file_lines storage.now)) }
+    ensures fault_rose { IsErrOf result Fault → HasRisen (K.faults sink.old) (K.faults sink.new) }
+    ensures count { K.faults sink.old ≤ K.faults sink.new }
+
+    // After an error a part from the front was written.
+    ensures front { OnErr result (WritesFront (K.written sink.old) (K.written sink.new) (file_lines storage.now)) }
+{
+    for (path, bytes) in storage.files() {
+        print_file(sink, text, path, bytes)?;
+    }
+    Ok(())
+}
+
+// Writes the line of the file.
+fn print_file<K: Sink>(
+    sink: &mut K,
+    text: &mut Vec<u8>,
+    path: &[u8],
+    bytes: &[u8],
+) -> Result<(), Failed>
+    ensures wrote { OnOk result (Writes (K.written sink.old) (K.written sink.new) (file_line (path.now, bytes.now))) }
+    ensures fault_rose { IsErrOf result Fault → HasRisen (K.faults sink.old) (K.faults sink.new) }
+    ensures count { K.faults sink.old ≤ K.faults sink.new }
+    ensures front { OnErr result (WritesFront (K.written sink.old) (K.written sink.new) (file_line (path.now, bytes.now))) }
+{
+    text.clear();
+    if put_file(text, path, bytes).is_err() {
         return Err(Failed::Memory);
     }
     write_all(sink, text.as_slice())

@@ -119,7 +119,7 @@ fn advance<S: Source, K: Sink>(
     ensures lawful { IfNone result (IsLawful reader.new buffer.new) }
     ensures moved { IfNone result (reader.old.taken < reader.new.taken) }
 {
-    match reader.next_item(alloc, buffer, source) {
+    match reader.next_item(alloc, buffer, source, run.storage()) {
         Ok(Some(item)) => taken(run, item, sink),
         Ok(None) => Some(Status::Done.after(run.end(sink))),
         Err(ScriptError::BadLine(k)) => Some(Status::BadLine(k).after(run.bad_line(k, sink))),
@@ -134,7 +134,7 @@ fn taken<K: Sink>(run: &mut Run, item: Item, sink: &mut K) -> Option<Status>
     ensures took { IfNone result ((items : List Item) (log : List Entry) → Keeps run.old items log → may_stand items item ≡ true →
         IsTaken run.new (items ++ item ∷ []) log (K.written sink.old) (K.written sink.new)) }
     ensures front { OnSome result ((items : List Item) (log : List Entry) → Keeps run.old items log → may_stand items item ≡ true →
-        IsPartlyTaken (items ++ item ∷ []) log (K.written sink.old) (K.written sink.new)) }
+        IsPartlyTaken run.new (items ++ item ∷ []) log (K.written sink.old) (K.written sink.new)) }
     ensures cut_short { IfSome result IsCutShort }
     ensures write_fault { result ≡ Some Status.WriteFault → HasRisen (K.faults sink.old) (K.faults sink.new) }
     ensures sink_count { K.faults sink.old ≤ K.faults sink.new }

@@ -1,6 +1,7 @@
 //! Whole scripts, with the lines that are written for them.
 
 mod transcripts;
+mod transfers;
 
 ghost use Rattle.std.specs.Prelude.{◌≤◌};
 
@@ -68,6 +69,7 @@ fn a_script_is_printed_with_its_decisions_and_actions(rt: HostRuntime) -> Result
         transcripts::TURNED,
         transcripts::PASSWORDS,
         transcripts::ATTACHED,
+        transcripts::STORED,
     ];
     for text in texts {
         let transcript = Transcript::parse(alloc, text)?;
@@ -78,10 +80,36 @@ fn a_script_is_printed_with_its_decisions_and_actions(rt: HostRuntime) -> Result
     Ok(())
 }
 
+#[test]
+fn a_transfer_is_run_at_its_end(rt: HostRuntime) -> Result<(), Fail> {
+    let alloc = rt.alloc();
+    let login = transcripts::LOGIN;
+    for (set_up, said) in [
+        transfers::DOWNLOAD,
+        transfers::UP_AND_DOWN,
+        transfers::NESTED,
+        transfers::RESTARTED,
+        transfers::LISTING_CUT,
+        transfers::NEW_NAME,
+        transfers::PIPE,
+        transfers::RESET,
+        transfers::TOO_LONG,
+        transfers::TOO_FAR,
+        transfers::FAILED_CALL,
+    ] {
+        let text = format!(in alloc; "< {OPTIONS}\n{set_up}{login}{said}")?;
+        let transcript = Transcript::parse(alloc, text.as_str())?;
+        let (status, printed) = run(alloc, transcript.script.as_slice(), 65536, &[])?;
+        assert_eq!(rt; status, Status::Done, "{text}");
+        assert_eq!(rt; printed.as_slice(), transcript.printed.as_slice(), "{text}");
+    }
+    Ok(())
+}
+
 const OPTIONS: &str = "options pooled 50000 50001 connection passive 600 off restart";
 
 /// Lines that are bad behind an options line and link 3.
-const BAD_LINES: [&str; 41] = [
+const BAD_LINES: [&str; 48] = [
     "0 fly",
     "0 quit 1",
     "0 abor 1",
@@ -92,7 +120,14 @@ const BAD_LINES: [&str; 41] = [
     "link 11 65537 - .",
     "link 11 5 - 0",
     "link 11 5 - 0A",
-    "link 11 5 1:reset .",
+    "link 11 5 0:reset .",
+    "link 11 5 2:reset,2:pipe .",
+    "link 11 5 2:reset,1:pipe .",
+    "link 11 5 1:lost .",
+    "link 11 5 1 .",
+    "link 11 5 1:reset, .",
+    "dir /a",
+    "file . /a",
     "link 11 5 - ",
     "link 11 5 -",
     "link 18446744073709551616 5 - .",
@@ -126,12 +161,44 @@ const BAD_LINES: [&str; 41] = [
 ];
 
 /// Lines that are bad where they are the first.
-const BAD_FIRST: [&str; 5] = [
+const BAD_FIRST: [&str; 22] = [
     "0 pass 1",
     "options pooled 50001 50000 connection passive 600 off restart",
     "options pooled 0 50000 connection passive 600 off restart",
     "options pooled 50000 65536 connection passive 600 off restart",
     "options pooled 50000 50001 connection passive 4294967296 off restart",
+    "options pooled 50000 50001 connection passive 600 off restarts",
+    "options pooled 50000 50001 connection passive 600 off",
+    "storage 5",
+    "storage 5 0",
+    "storage 5 2,1",
+    "storage 5 1,1",
+    "storage 5 1,",
+    "storage 5 -,1",
+    "storage 18446744073709551616 -",
+    "dir /",
+    "dir a",
+    "dir ",
+    "dir /a/b",
+    "file . /",
+    "file . a",
+    "file 0 /a",
+    "file /a",
+];
+
+/// Two lines, of which the second is bad.
+const BAD_SECOND: [&str; 11] = [
+    "storage 5 -\nstorage 5 -",
+    "dir /a\nstorage 5 -",
+    "file . /a\nstorage 5 -",
+    "storage 1 -\nfile 0000 /a",
+    "dir /a\ndir /a",
+    "dir /a\nfile . /a",
+    "file . /a\ndir /a",
+    "file . /a\nfile 00 /a",
+    "file . /a\nfile . /a/b",
+    "dir /a\nfile . /b/c",
+    "dir /a\noptions pooled 50000 50001 connection passive 600 off restart",
 ];
 
 #[test]
@@ -154,11 +221,19 @@ fn the_first_bad_line_is_named(rt: HostRuntime) -> Result<(), Fail> {
         assert_eq!(rt; status, Status::BadLine(1), "{line}");
         assert_eq!(rt; printed.as_slice(), b"bad line 1\n".as_slice(), "{line}");
     }
+    for lines in BAD_SECOND {
+        let (status, printed) = run(alloc, lines.as_bytes(), 65536, &[])?;
+        assert_eq!(rt; status, Status::BadLine(2), "{lines}");
+        assert_eq!(rt; printed.as_slice(), b"bad line 2\n".as_slice(), "{lines}");
+    }
 
-    // Links need no options, which come before all else.
+    // Links and files need no options, which come before all else.
     let (status, printed) = run(alloc, b"link 11 5 - .", 65536, &[])?;
     assert_eq!(rt; status, Status::Done);
     assert_eq!(rt; printed.as_slice(), b"link 11 sent .\n".as_slice());
+    let (status, printed) = run(alloc, b"storage 0 1\nfile . /a", 65536, &[])?;
+    assert_eq!(rt; status, Status::Done);
+    assert_eq!(rt; printed.as_slice(), b"file . /a\n".as_slice());
     let script = format!(in alloc; "link 11 5 - .\n{OPTIONS}")?;
     assert_eq!(rt;
         run(alloc, script.as_bytes(), 65536, &[])?.0,
@@ -196,7 +271,9 @@ fn lines_and_scripts_have_their_limits(rt: HostRuntime) -> Result<(), Fail> {
 #[test]
 fn a_fault_stops_a_run_where_it_comes(rt: HostRuntime) -> Result<(), Fail> {
     let alloc = rt.alloc();
-    let login = Transcript::parse(alloc, transcripts::LOGIN)?;
+    let lines = transcripts::LOGIN;
+    let text = format!(in alloc; "< {OPTIONS}\n{lines}")?;
+    let login = Transcript::parse(alloc, text.as_str())?;
     let full = Transcript::parse(alloc, transcripts::FULL_RANGE)?;
     let first = login.script.len().clamp(1, 65536) as u32;
     let (status, printed) = run(alloc, full.script.as_slice(), first, &[2])?;

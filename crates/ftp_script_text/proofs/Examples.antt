@@ -1,12 +1,17 @@
 -- Worked examples: short scripts, and the first bad line of others.
-use Rattle.std.proofs.Common.{◌≡◌, ℕ, List, [], ◌∷◌, ◌++◌, Some, None, refl}
+use Rattle.std.proofs.Common.{◌≡◌, ℕ, true, cond, List, [], ◌∷◌, ◌++◌, Some, None, refl}
 use Rattle.std.specs.Prelude.{codes}
 use Rattle.std.specs.Fmt.{digits}
+use Rattle.std.specs.FinMap as map
+use Rattle.std.specs.Ordering.{nat_cmp, eq_by_cmp}
+use Rattle.std.specs.Cmp.Lexicographic.{slice_cmp, nat_list_cmp_total}
+use Rattle.ftp_base.specs.Storage.{Files}
+use Rattle.ftp_base.specs.Storage as storage
 use Rattle.ftp_events.specs.declared.event.EventKind.TheVariants as kind
-use Rattle.ftp_text.specs.Reading.{number_at, small_at, dotted_at, address_at, ipv4_at, hex_of, hex_field, word_at}
+use Rattle.ftp_text.specs.Reading.{number_at, small_at, dotted_at, address_at, ipv4_at, hex_of, hex_from, hex_field, word_at, text_field, text_from, calls_field, call_of, list_of, each_of}
 use Rattle.ftp_event_text.specs.declared.setup.Item.TheVariants as item
 use Rattle.ftp_event_text.specs.EventReading.{event_of, event_word_field, pass_at, data_at}
-use Rattle.ftp_event_text.specs.SetupReading.{options_at, link_at, item_of}
+use Rattle.ftp_event_text.specs.SetupReading.{restart_at, options_at, storage_at, dir_at, file_at, link_at, item_of}
 use Rattle.ftp_script_text.specs.Script.{script_from, script_of}
 
 abbrev options : List ℕ
@@ -14,8 +19,8 @@ options = codes "options pooled 50000 50001 connection passive 600 off restart\n
 
 -- the last line lacks its line feed
 pub script_of-whole : script_of (options ++ codes "link 11 65536 - .\n0 pass 1")
-    ≡ (item.Options 50000 50001 600 ∷ item.Link 11 65536 [] ∷ item.Event (record { at = 0; kind = kind.Pass 1 }) ∷ [], None)
-unfolding script_from item_of options_at link_at event_of event_word_field pass_at number_at small_at hex_field hex_of word_at digits
+    ≡ (item.Options 50000 50001 600 true ∷ item.Link 11 65536 [] [] ∷ item.Event (record { at = 0; kind = kind.Pass 1 }) ∷ [], None)
+unfolding script_from item_of options_at restart_at link_at calls_field list_of event_of event_word_field pass_at number_at small_at hex_field hex_of word_at digits
 script_of-whole = refl
 
 -- skipped lines are counted, and an event needs the options
@@ -24,15 +29,75 @@ unfolding script_from item_of event_of event_word_field pass_at number_at small_
 script_of-no_options = refl
 
 -- the options come before the links
-pub script_of-late_options : script_of (codes "# a comment\nlink 11 65536 - .\n" ++ options) ≡ (item.Skip ∷ item.Link 11 65536 [] ∷ [], Some 3)
-unfolding script_from item_of options_at link_at number_at small_at hex_field hex_of word_at digits
+pub script_of-late_options : script_of (codes "# a comment\nlink 11 65536 - .\n" ++ options) ≡ (item.Skip ∷ item.Link 11 65536 [] [] ∷ [], Some 3)
+unfolding script_from item_of options_at restart_at link_at calls_field list_of number_at small_at hex_field hex_of word_at digits
 script_of-late_options = refl
 
 -- a data connection needs its link
-pub script_of-no_link : script_of (options ++ codes "0 data 11 10.0.0.1:4001 50000\n") ≡ (item.Options 50000 50001 600 ∷ [], Some 2)
-unfolding script_from item_of options_at event_of event_word_field data_at address_at ipv4_at dotted_at number_at small_at word_at digits
+pub script_of-no_link : script_of (options ++ codes "0 data 11 10.0.0.1:4001 50000\n") ≡ (item.Options 50000 50001 600 true ∷ [], Some 2)
+unfolding script_from item_of options_at restart_at event_of event_word_field data_at address_at ipv4_at dotted_at number_at small_at word_at digits
 script_of-no_link = refl
 
 pub script_of-nil : script_of [] ≡ ([], None)
 unfolding script_from
 script_of-nil = refl
+
+-- ---- the storage
+
+abbrev no_files : Files
+no_files = map.empty
+
+-- nothing is at a path of no files
+none : (path : List ℕ) → map.get no_files path ≡ None
+none path = map.get-empty (slice_cmp nat_cmp) path
+
+-- what is at a path of files with another
+with_one : (files : Files) (i : storage.Item) (path q : List ℕ) → map.get (map.insert files path i) q ≡ cond (eq_by_cmp (slice_cmp nat_cmp) q path) (Some i) (map.get files q)
+with_one files i path q = map.get-insert nat_list_cmp_total files path i q
+
+abbrev a : List ℕ
+a = codes "/a"
+
+abbrev b : List ℕ
+b = codes "/a/b"
+
+-- a file in a directory, as long as it may be
+pub script_of-stored : script_of (codes "storage 2 3\ndir /a\nfile 6869 /a/b\n")
+    ≡ (item.Storage 2 (3 ∷ []) ∷ item.Dir (codes "/a") ∷ item.File (codes "hi") (codes "/a/b") ∷ [], None)
+unfolding script_from item_of storage_at dir_at file_at number_at hex_field hex_of hex_from word_at text_field text_from calls_field call_of list_of each_of digits
+script_of-stored = rw (none a, with_one no_files storage.Directory a a, with_one no_files storage.Directory a b, none b) refl
+
+pub script_of-long_file : script_of (codes "storage 1 -\nfile 6869 /a\n") ≡ (item.Storage 1 [] ∷ [], Some 2)
+unfolding script_from item_of storage_at file_at number_at hex_field hex_of hex_from word_at text_field text_from calls_field list_of digits
+script_of-long_file = rw (none a) refl
+
+pub script_of-two_storages : script_of (codes "storage 1 -\nstorage 2 -\n") ≡ (item.Storage 1 [] ∷ [], Some 2)
+unfolding script_from item_of storage_at number_at word_at calls_field list_of digits
+script_of-two_storages = refl
+
+pub script_of-late_storage : script_of (codes "dir /a\nstorage 2 -\n") ≡ (item.Dir (codes "/a") ∷ [], Some 2)
+unfolding script_from item_of storage_at dir_at number_at word_at text_field text_from calls_field list_of digits
+script_of-late_storage = rw (none a) refl
+
+-- the parent of a path is a directory, not a file
+pub script_of-in_file : script_of (codes "file . /a\nfile . /a/b\n") ≡ (item.File [] (codes "/a") ∷ [], Some 2)
+unfolding script_from item_of file_at hex_field hex_of word_at text_field text_from
+script_of-in_file = rw (none a, with_one no_files (storage.File []) a a) refl
+
+pub script_of-same_path : script_of (codes "dir /a\nfile . /a\n") ≡ (item.Dir (codes "/a") ∷ [], Some 2)
+unfolding script_from item_of dir_at file_at hex_field hex_of word_at text_field text_from
+script_of-same_path = rw (none a, with_one no_files storage.Directory a a) refl
+
+pub script_of-root : script_of (codes "dir /\n") ≡ ([], Some 1)
+unfolding script_from item_of dir_at text_field text_from
+script_of-root = refl
+
+-- a path is taken as it stands
+pub script_of-slashes : script_of (codes "dir //x\n") ≡ (item.Dir (codes "//x") ∷ [], None)
+unfolding script_from item_of dir_at text_field text_from
+script_of-slashes = rw (none (codes "//x")) refl
+
+pub script_of-late_dir : script_of (options ++ codes "0 pass 1\ndir /a\n")
+    ≡ (item.Options 50000 50001 600 true ∷ item.Event (record { at = 0; kind = kind.Pass 1 }) ∷ [], Some 3)
+unfolding script_from item_of options_at restart_at dir_at event_of event_word_field pass_at number_at small_at word_at text_field text_from digits
+script_of-late_dir = refl

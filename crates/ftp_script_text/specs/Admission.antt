@@ -1,5 +1,5 @@
 -- What is kept of the lines of a script, to say which lines may follow.
-use Rattle.std.specs.Prelude.{◌≡◌, ℕ, Bool, true, false, List, [], ◌∷◌, ◌++◌, Some, None, Result, Ok, Err}
+use Rattle.std.specs.Prelude.{◌≡◌, ℕ, true, false, List, [], ◌∷◌, ◌++◌, Some, None, Result, Ok, Err}
 use Rattle.std.specs.List.{list_any}
 use Rattle.std.specs.Ordering.{nat_cmp}
 use Rattle.std.specs.BTreeSet.{contains}
@@ -7,16 +7,19 @@ use Rattle.ftp_text.specs.declared.fault.LineFault.{LineFault}
 use Rattle.ftp_text.specs.declared.fault.LineFault.TheVariants as fault
 use Rattle.ftp_event_text.specs.declared.setup.Item.{Item}
 use Rattle.ftp_script_text.specs.declared.admission.Admission.{Admission}
-use Rattle.ftp_script_text.specs.Script.{says, has_options, has_link, may_stand, line_item}
+use Rattle.ftp_script_text.specs.Script.{says, has_options, has_stored, has_link, may_stand, line_item}
+use Rattle.ftp_script_text.specs.SetUp.{storage_in, has_event}
 
--- what is kept says whether one of these items says something, whether the options are among them, and which links are
-abbrev pub Knows : Bool → Bool → (ℕ → Bool) → List Item → Type 0
-Knows begun served linked before =
-    (begun ≡ list_any says before) × (served ≡ has_options before) × ((n : ℕ) → linked n ≡ has_link n before)
-
--- what is kept is kept of these items
+-- what is kept of these items: whether one says something, is the options, is an event, or sets up a part of the storage, how
+-- long a file may be, and which links there are
 abbrev pub Stands : Admission → List Item → Type 0
-Stands a before = Knows a.begun a.has_options (contains nat_cmp a.links) before
+Stands a before =
+    (a.begun ≡ list_any says before)
+    × (a.has_options ≡ has_options before)
+    × (a.has_event ≡ has_event before)
+    × (a.has_stored ≡ has_stored before)
+    × (a.max_file ≡ (storage_in before).max_file)
+    × ((n : ℕ) → contains nat_cmp a.links n ≡ has_link n before)
 
 -- an item was let in behind these items where it may stand there, and is then among them
 abbrev pub LetsIn : {T : Type 0} → List Item → Item → Result T LineFault → Admission → Type 0

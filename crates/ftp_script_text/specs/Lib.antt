@@ -1,3 +1,4 @@
+pub mod SetUp
 pub mod Script
 pub mod Admission
 pub mod ScriptReader

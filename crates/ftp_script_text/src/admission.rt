@@ -1,26 +1,36 @@
 //! Which lines may follow those that were read.
 
-ghost use Rattle.std.specs.Prelude.{◌≡◌, ℕ, ◌≤◌, List, [], IfOk, OnOk};
+ghost use Rattle.std.specs.Prelude.{◌≡◌, ◌&&◌, not, ℕ, ◌≤◌, Bool, List, [], IfOk, OnOk};
 ghost use Rattle.std.specs.Ordering.{nat_cmp};
 ghost use Rattle.std.specs.BTreeSet.{contains};
+ghost use Rattle.ftp_base.specs.declared.fault.LinkFault.{LinkFault};
 ghost use Rattle.ftp_event_text.specs.declared.setup.Item.{Item};
 ghost use Rattle.ftp_event_text.specs.declared.setup.Item.TheVariants as item;
 ghost use Rattle.ftp_event_text.specs.Setup.{IsItem};
-ghost use Rattle.ftp_script_text.specs.Script.{is_covered};
+ghost use Rattle.ftp_events.specs.Covers.{is_covered};
 ghost use Rattle.ftp_script_text.specs.Admission.{Stands, LetsIn, GivesItem};
+ghost use Rattle.ftp_script_text.specs.SetUp.{has_event, IsSetUp};
+ghost use Rattle.ftp_script_text.specs.Script.{is_free};
 
+use ftp_base::{Bytes, MemoryStorage};
 use ftp_event_text::{Item, read_item};
-use ftp_events::EventKind;
+use ftp_events::{EventKind, HubEvent};
 use ftp_text::LineFault;
 use std::alloc::Global;
 use std::collections::BTreeSet;
 
-/// What is kept of the lines of a script: whether one said something, whether the options came, and the
-/// numbers of the links.
+/// No file is longer, in bytes, where no line says otherwise.
+pub const MAX_FILE: u64 = 16_777_216;
+
+/// What is kept of the lines of a script: whether one said something, whether the options came, an event, or a part of
+/// the storage, how long a file may be, and the numbers of the links.
 #[derive(Drop)]
 pub struct Admission {
     begun: bool,
     has_options: bool,
+    has_event: bool,
+    has_stored: bool,
+    max_file: u64,
     links: BTreeSet<u64>,
 }
 
@@ -32,13 +42,23 @@ impl Admission {
         Admission {
             begun: false,
             has_options: false,
+            has_event: false,
+            has_stored: false,
+            max_file: MAX_FILE,
             links: BTreeSet::new(alloc),
         }
     }
 
-    /// The item of a line that may stand there. The source has given `taken` bytes up to the line's end.
-    pub fn line(&mut self, alloc: Global, taken: usize, line: &[u8]) -> Result<Item, LineFault>
-        ensures let_in { (before : List Item) → Stands self.old before → GivesItem before taken line.now result self.new }
+    /// The item of a line that may stand there. The source has given `taken` bytes up to the line's end, and the storage
+    /// holds what the lines before set up.
+    pub fn line(
+        &mut self,
+        alloc: Global,
+        taken: usize,
+        line: &[u8],
+        storage: &MemoryStorage,
+    ) -> Result<Item, LineFault>
+        ensures let_in { (before : List Item) → Stands self.old before → IsSetUp storage.now before → GivesItem before taken line.now result self.new }
         ensures item { IfOk result IsItem }
         ensures limit { OnOk result (taken ≤ 16777216) }
     {
@@ -46,17 +66,17 @@ impl Admission {
             return Err(LineFault::Bad);
         }
         match read_item(alloc, line) {
-            Ok(item) => self.keep(item),
+            Ok(item) => self.keep(item, storage),
             Err(fault) => Err(fault),
         }
     }
 
     // The item, where its line may stand there.
-    fn keep(&mut self, item: Item) -> Result<Item, LineFault>
+    fn keep(&mut self, item: Item, storage: &MemoryStorage) -> Result<Item, LineFault>
         ensures same { IfOk result (λ i. i ≡ item) }
-        ensures let_in { (before : List Item) → Stands self.old before → LetsIn before item result self.new }
+        ensures let_in { (before : List Item) → Stands self.old before → IsSetUp storage.now before → LetsIn before item result self.new }
     {
-        match self.let_in(&item) {
+        match self.let_in(&item, storage) {
             Ok(()) => Ok(item),
             Err(fault) => {
                 discard(item);
@@ -65,37 +85,101 @@ impl Admission {
         }
     }
 
-    fn let_in(&mut self, item: &Item) -> Result<(), LineFault>
-        ensures { (before : List Item) → Stands self.old before → LetsIn before item.now result self.new }
+    fn let_in(&mut self, item: &Item, storage: &MemoryStorage) -> Result<(), LineFault>
+        ensures { (before : List Item) → Stands self.old before → IsSetUp storage.now before → LetsIn before item.now result self.new }
     {
         match item {
             Item::Skip => Ok(()),
-            Item::Options { .. } => {
-                if self.begun {
-                    return Err(LineFault::Bad);
-                }
-                self.begun = true;
-                self.has_options = true;
-                Ok(())
-            }
+            Item::Options { .. } => self.let_options_in(),
+            Item::Storage { max, fails: _ } => self.let_storage_in(*max),
+            Item::Dir { path } => self.let_dir_in(path, storage),
+            Item::File { bytes, path } => self.let_file_in(bytes, path, storage),
             Item::Link {
                 number,
                 chunk: _,
+                fails: _,
                 bytes: _,
             } => self.let_link_in(*number),
-            Item::Event(event) => {
-                if !self.has_options || !self.covers(&event.kind) {
-                    return Err(LineFault::Bad);
-                }
-                self.begun = true;
-                Ok(())
-            }
+            Item::Event(event) => self.let_event_in(event),
         }
+    }
+
+    // The options, where nothing was said.
+    fn let_options_in(&mut self) -> Result<(), LineFault>
+        ensures { (before : List Item) (lo hi idle : ℕ) (restart : Bool) → Stands self.old before → LetsIn before (item.Options lo hi idle restart) result self.new }
+    {
+        if self.begun {
+            return Err(LineFault::Bad);
+        }
+        self.begun = true;
+        self.has_options = true;
+        Ok(())
+    }
+
+    // The storage, where no part of it and no event came.
+    fn let_storage_in(&mut self, max: u64) -> Result<(), LineFault>
+        ensures { (before : List Item) (fails : List ℕ) → Stands self.old before → LetsIn before (item.Storage max fails) result self.new }
+    {
+        if self.has_event || self.has_stored {
+            return Err(LineFault::Bad);
+        }
+        self.begun = true;
+        self.has_stored = true;
+        self.max_file = max;
+        Ok(())
+    }
+
+    // A directory, where no event came and its path is free.
+    fn let_dir_in(&mut self, path: &Bytes, storage: &MemoryStorage) -> Result<(), LineFault>
+        ensures { (before : List Item) → Stands self.old before → IsSetUp storage.now before → LetsIn before (item.Dir path.now) result self.new }
+    {
+        if !self.takes(path.as_slice(), storage) {
+            return Err(LineFault::Bad);
+        }
+        self.begun = true;
+        self.has_stored = true;
+        Ok(())
+    }
+
+    // A file, where no event came, its path is free, and it is not too long.
+    fn let_file_in(
+        &mut self,
+        bytes: &Bytes,
+        path: &Bytes,
+        storage: &MemoryStorage,
+    ) -> Result<(), LineFault>
+        ensures { (before : List Item) → Stands self.old before → IsSetUp storage.now before → LetsIn before (item.File bytes.now path.now) result self.new }
+    {
+        if !self.takes(path.as_slice(), storage) || bytes.as_slice().len() as u64 > self.max_file {
+            return Err(LineFault::Bad);
+        }
+        self.begun = true;
+        self.has_stored = true;
+        Ok(())
+    }
+
+    // Whether no event came and the path is free.
+    fn takes(&self, path: &[u8], storage: &MemoryStorage) -> bool
+        ensures { (before : List Item) → Stands self.now before → IsSetUp storage.now before → result ≡ (not (has_event before) && is_free before path.now) }
+    {
+        !self.has_event && storage.directory_refusal(path).is_none()
+    }
+
+    // An event, where the options came and the connection that comes with it is linked.
+    fn let_event_in(&mut self, event: &HubEvent) -> Result<(), LineFault>
+        ensures { (before : List Item) → Stands self.old before → LetsIn before (item.Event event.now) result self.new }
+    {
+        if !self.has_options || !self.covers(&event.kind) {
+            return Err(LineFault::Bad);
+        }
+        self.begun = true;
+        self.has_event = true;
+        Ok(())
     }
 
     // A link, where its number is new.
     fn let_link_in(&mut self, number: u64) -> Result<(), LineFault>
-        ensures { (before : List Item) (chunk : ℕ) (bytes : List ℕ) → Stands self.old before → LetsIn before (item.Link number chunk bytes) result self.new }
+        ensures { (before : List Item) (chunk : ℕ) (fails : List (ℕ × LinkFault)) (bytes : List ℕ) → Stands self.old before → LetsIn before (item.Link number chunk fails bytes) result self.new }
     {
         if !self.links.insert(number)? {
             return Err(LineFault::Bad);

@@ -7,4 +7,5 @@
 mod admission;
 mod script;
 
+pub use admission::MAX_FILE;
 pub use script::{ScriptError, ScriptReader};

@@ -5,10 +5,11 @@ ghost use Rattle.ftp_base.specs.Outside.{HasRisen};
 ghost use Rattle.ftp_stream.specs.Lines.{bytes_in, behind_line, IsWithin};
 ghost use Rattle.ftp_event_text.specs.declared.setup.Item.{Item};
 ghost use Rattle.ftp_event_text.specs.Setup.{IsItem};
+ghost use Rattle.ftp_script_text.specs.SetUp.{IsSetUp};
 ghost use Rattle.ftp_script_text.specs.ScriptReader.{IsLawful, Follows, HasRead, Answers, IsLetIn, IfLine, IsFault, NextIs, next_of};
 
 use crate::admission::Admission;
-use ftp_base::Source;
+use ftp_base::{MemoryStorage, Source};
 use ftp_event_text::Item;
 use ftp_stream::{LineError, Span, next_line};
 use ftp_text::LineFault;
@@ -48,20 +49,21 @@ impl ScriptReader {
         }
     }
 
-    /// The item of the next line, or None at the end of the script.
+    /// The item of the next line, or None at the end of the script. The storage holds what the lines before set up.
     pub fn next_item<S: Source>(
         &mut self,
         alloc: Global,
         buffer: &mut [u8],
         source: &mut S,
+        storage: &MemoryStorage,
     ) -> Result<Option<Item>, ScriptError>
         requires lawful { IsLawful self.old buffer.old }
-        ensures told { (before : List Item) (all : List ℕ) → HasRead before all self.old buffer.old (S.left source.old) →
+        ensures told { (before : List Item) (all : List ℕ) → HasRead before all self.old buffer.old (S.left source.old) → IsSetUp storage.now before →
             Answers before all result self.new buffer.new (S.left source.new) }
 
         // Whether or not the source tells its bytes, the item is lawful and may stand there.
         ensures item { IfOk result (λ found. IfSome found IsItem) }
-        ensures let_in { (before : List Item) → Follows self.old before → IfOk result (λ found. IfSome found (λ i. IsLetIn before i self.new)) }
+        ensures let_in { (before : List Item) → Follows self.old before → IsSetUp storage.now before → IfOk result (λ found. IfSome found (λ i. IsLetIn before i self.new)) }
         ensures fault_rose { IsErrOf result ScriptError.Fault → HasRisen (S.faults source.old) (S.faults source.new) }
         ensures count { S.faults source.old ≤ S.faults source.new }
 
@@ -78,7 +80,7 @@ impl ScriptReader {
         self.taken += self.held.start - line.start;
         self.number += 1;
         let line = &buffer[line.start..line.end];
-        match self.admission.line(alloc, self.taken, line) {
+        match self.admission.line(alloc, self.taken, line, storage) {
             Ok(item) => Ok(Some(item)),
             Err(LineFault::Bad) => Err(ScriptError::BadLine(self.number)),
             Err(LineFault::Memory) => Err(ScriptError::Memory),

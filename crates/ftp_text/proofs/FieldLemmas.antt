@@ -1,12 +1,25 @@
 -- Each field is read exactly.
-use Rattle.std.proofs.Common.{◌≡◌, ℕ, ◌^◌, ◌<◌, ◌≤◌, List, ◌++◌, Option, Some, None, refl, arith, rules}
+use Rattle.std.proofs.Common.{◌≡◌, ℕ, ◌^◌, ◌<◌, ◌≤◌, true, eqb, cond, List, [], ◌∷◌, ◌++◌, length, Option, Some, None, refl, sym, ap, subst, ◌∙◌, append_assoc, arith, rules}
+use Rattle.std.specs.Char.{is_ascii_digit}
+use Rattle.std.proofs.lemmas.Bool.{eqb-true}
+use Rattle.std.proofs.lemmas.Bool.Decides.{nat_tests}
+use Rattle.std.proofs.lemmas.Fmt.{digits_decimal}
+use Rattle.std.proofs.lemmas.List.{append-nil, nil_from_length}
+use Rattle.std.proofs.lemmas.Option.{cond_some}
+use Rattle.ftp_base.specs.declared.fault.LinkFault.{LinkFault}
+use Rattle.ftp_base.specs.declared.fault.LinkFault.TheVariants as link
+use Rattle.ftp_base.specs.Calls.{rises_above}
 use Rattle.std.specs.Fmt.{decimal}
 use Rattle.ftp_base.specs.declared.login.AuthAnswer.{AuthAnswer}
 use Rattle.ftp_base.specs.declared.login.AuthAnswer.TheVariants as auth
-use Rattle.ftp_text.specs.Fields.{field, number, dotted, address_text, optional, answer_text, IsAddress, Each}
-use Rattle.ftp_text.specs.Reading.{small_at, dotted_at, number_field, small_field, address_field, optional_field, find_word, answers, answer_field}
-use Rattle.ftp_text.proofs.Exact.{Ends, NoDigit-from_ends, IsExact, exact_weaker, behind_exact, Pass, is_word_byte, table_exact, optional_exact, number_exact, small_exact}
-use Rattle.ftp_text.proofs.Values.{begins_decimal, begins_dotted, dotted_exact, address_exact}
+use Rattle.ftp_base.specs.declared.error_kind.ErrorKind.{ErrorKind}
+use Rattle.ftp_base.specs.declared.error_kind.ErrorKind.TheVariants as error
+use Rattle.ftp_text.specs.Fields.{field, number, dotted, address_text, optional, optional_text, ticket, hex_digits, answer_text, refusal_text, fault_text, link_call_text, listed, IsAddress, IsNumber, AreCalls, Each}
+use Rattle.ftp_text.specs.Reading.{◌>>=◌, after, begins, number_at, small_at, dotted_at, number_field, small_field, address_field, optional_field, ticket_field, hex_word_field, find_word, answers, answer_field, refusals, refusal_field, faults, calls_field, call_of, link_call_of}
+use Rattle.ftp_text.proofs.Exact.{Ends, IsNil, Ends-from_nil, NoDigit-from_ends, IsExact, exact_weaker, pair_exact, behind_exact, Pass, is_word_byte, bind_ok, some_is, after_ok, find_takes, digits_pass, tested_exact, table_exact, optional_exact, number_exact, small_exact}
+use Rattle.ftp_text.proofs.Numerals.{own}
+use Rattle.ftp_text.proofs.Lists.{is_inner, pass-more, pass-append, listed_exact}
+use Rattle.ftp_text.proofs.Values.{begins_decimal, begins_dotted, dotted_exact, hex_word_exact, address_exact}
 
 pub number_is : IsExact number (λ n. n < 2 ^ 64) Ends number_field
 number_is = exact_weaker (behind_exact 32 number_exact) NoDigit-from_ends
@@ -38,6 +51,40 @@ pub answer_is : IsExact (λ (v : AuthAnswer). field (answer_text v)) (λ v. Unit
 unfolding answer_field
 answer_is = table_exact answer_text answers answer_passes answer_found
 
+refusal_passes : (v : Option ErrorKind) → Pass is_word_byte (refusal_text v)
+refusal_passes None = search rules
+refusal_passes (Some error.TransientFileNotAvailable) = search rules
+refusal_passes (Some error.PermanentFileNotAvailable) = search rules
+refusal_passes (Some error.PermanentDirectoryNotAvailable) = search rules
+refusal_passes (Some error.PermanentDirectoryNotEmpty) = search rules
+refusal_passes (Some error.PermissionDenied) = search rules
+refusal_passes (Some error.ConnectionClosed) = search rules
+refusal_passes (Some error.LocalError) = search rules
+refusal_passes (Some error.PageTypeUnknown) = search rules
+refusal_passes (Some error.InsufficientStorageSpaceError) = search rules
+refusal_passes (Some error.ExceededStorageAllocationError) = search rules
+refusal_passes (Some error.FileNameNotAllowedError) = search rules
+refusal_passes (Some error.CommandNotImplemented) = search rules
+
+refusal_found : (v : Option ErrorKind) → find_word refusal_text refusals (refusal_text v) ≡ Some v
+refusal_found None = refl
+refusal_found (Some error.TransientFileNotAvailable) = refl
+refusal_found (Some error.PermanentFileNotAvailable) = refl
+refusal_found (Some error.PermanentDirectoryNotAvailable) = refl
+refusal_found (Some error.PermanentDirectoryNotEmpty) = refl
+refusal_found (Some error.PermissionDenied) = refl
+refusal_found (Some error.ConnectionClosed) = refl
+refusal_found (Some error.LocalError) = refl
+refusal_found (Some error.PageTypeUnknown) = refl
+refusal_found (Some error.InsufficientStorageSpaceError) = refl
+refusal_found (Some error.ExceededStorageAllocationError) = refl
+refusal_found (Some error.FileNameNotAllowedError) = refl
+refusal_found (Some error.CommandNotImplemented) = refl
+
+pub refusal_is : IsExact (λ (v : Option ErrorKind). field (refusal_text v)) (λ v. Unit {0}) Ends refusal_field
+unfolding refusal_field
+refusal_is = table_exact refusal_text refusals refusal_passes refusal_found
+
 pub optional_port_is : IsExact (optional decimal) (Each (λ n. n < 2 ^ 16)) Ends (optional_field (small_at (2 ^ 16)))
 optional_port_is = exact_weaker (optional_exact (small_exact (2 ^ 16) (omega arith)) (λ n rest lt. begins_decimal 45 n rest refl (omega (arith, lt)))) NoDigit-from_ends
 
@@ -47,3 +94,84 @@ optional_dotted_is = exact_weaker (optional_exact dotted_exact (λ ip rest lt. b
 pub optional_starts : {A : Type 0} (s : A → List ℕ) (o : Option A) (rest : List ℕ) → Ends (optional s o ++ rest)
 optional_starts s None rest = refl
 optional_starts s (Some x) rest = refl
+
+pub optional_text_starts : (o : Option (List ℕ)) (rest : List ℕ) → IsNil rest → Ends (optional_text o ++ rest)
+optional_text_starts None rest h = Ends-from_nil rest h
+optional_text_starts (Some t) rest h = refl
+
+pub ticket_is : IsExact (λ (x : ℕ × ℕ). ticket x.0 x.1) (λ x. IsNumber x.0 × IsNumber x.1) Ends ticket_field
+ticket_is = exact_weaker (pair_exact (behind_exact 32 number_exact) (behind_exact 46 number_exact) (λ y rest h. refl)) NoDigit-from_ends
+
+pub hex_word_is : IsExact (λ n. field (hex_digits 32 n)) (λ n. n < 2 ^ 128) Ends hex_word_field
+hex_word_is = exact_weaker (behind_exact 32 hex_word_exact) (λ rest h. tt)
+
+-- ---- the calls that fail
+
+digit_inner : (b : ℕ) → is_ascii_digit b ≡ true → is_inner b ≡ true
+digit_inner b h = grind (arith, nat_tests)
+
+decimal_inner : (n : ℕ) → IsNumber n → Pass is_inner (decimal n)
+decimal_inner n lt = pass-more is_ascii_digit is_inner digit_inner (decimal n) (digits_pass (decimal n) (digits_decimal own n lt))
+
+call_takes : (w : List ℕ) (n : ℕ) → call_of w ≡ Some n → (decimal n ≡ w) × IsNumber n
+unfolding call_of
+call_takes w n e =
+    let first = bind_ok (number_at w) (λ x. cond (eqb (length x.1) 0) (Some x.0) None) n e in
+    let p = cond_some (eqb (length first.0.1) 0) first.0.0 n first.2 in
+    let t = number_exact.takes w first.0 first.1 in
+    let nothing : first.0.1 ≡ [] = nil_from_length first.0.1 (eqb-true _ _ p.0) in
+    subst (λ (m : ℕ). (decimal m ≡ w) × IsNumber m) p.1
+    (sym (t.0 ∙ ap (λ (rest : List ℕ). decimal first.0.0 ++ rest) nothing ∙ append-nil (decimal first.0.0)), t.1)
+
+call_again : (n : ℕ) → IsNumber n → call_of (decimal n) ≡ Some n
+unfolding call_of
+call_again n lt = let read : number_at (decimal n) ≡ Some (n, []) = ap number_at (sym (append-nil (decimal n))) ∙ number_exact.again n [] lt tt in rw read refl
+
+pub calls_is : IsExact (λ (calls : List ℕ). field (listed decimal calls)) (AreCalls (λ n. n)) Ends (calls_field call_of (λ n. n))
+unfolding calls_field
+calls_is =
+    tested_exact (rises_above (λ n. n) 0)
+    (listed_exact decimal IsNumber call_of decimal_inner (λ n rest lt. begins_decimal 45 n rest refl lt) call_takes call_again)
+
+fault_inner : (f : LinkFault) → Pass is_inner (fault_text f)
+fault_inner link.Reset = search rules
+fault_inner link.BrokenPipe = search rules
+fault_inner link.Aborted = search rules
+fault_inner link.Other = search rules
+
+fault_found : (f : LinkFault) → find_word fault_text faults (fault_text f) ≡ Some f
+fault_found link.Reset = refl
+fault_found link.BrokenPipe = refl
+fault_found link.Aborted = refl
+fault_found link.Other = refl
+
+-- the number of a call on a connection fits its type
+abbrev IsLinkCall : ℕ × LinkFault → Type 0
+IsLinkCall call = IsNumber call.0
+
+link_call_takes : (w : List ℕ) (call : ℕ × LinkFault) → link_call_of w ≡ Some call → (link_call_text call ≡ w) × IsLinkCall call
+unfolding link_call_of
+link_call_takes w call e =
+    let first = bind_ok (number_at w) (λ n. after 58 n.1 >>= λ rest. find_word fault_text faults rest >>= λ f. Some (n.0, f)) call e in
+    let second = bind_ok (after 58 first.0.1) (λ rest. find_word fault_text faults rest >>= λ f. Some (first.0.0, f)) call first.2 in
+    let third = bind_ok (find_word fault_text faults second.0) (λ f. Some (first.0.0, f)) call second.2 in
+    let t = number_exact.takes w first.0 first.1 in
+    let colon = after_ok 58 first.0.1 second.0 second.1 in
+    let fault = find_takes fault_text faults second.0 third.0 third.1 in
+    let whole : ℕ × LinkFault = (first.0.0, third.0) in
+    subst (λ (c : ℕ × LinkFault). (link_call_text c ≡ w) × IsLinkCall c) (some_is whole call third.2)
+    (ap (λ (rest : List ℕ). decimal first.0.0 ++ 58 ∷ rest) fault ∙ ap (λ (rest : List ℕ). decimal first.0.0 ++ rest) (sym colon) ∙ sym t.0, t.1)
+
+link_call_again : (call : ℕ × LinkFault) → IsLinkCall call → link_call_of (link_call_text call) ≡ Some call
+unfolding link_call_of
+link_call_again call lt =
+    rw (number_exact.again call.0 (58 ∷ fault_text call.1) lt refl, fault_found call.1) refl
+
+pub link_calls_is : IsExact (λ (calls : List (ℕ × LinkFault)). field (listed link_call_text calls)) (AreCalls (λ call. call.0)) Ends (calls_field link_call_of (λ call. call.0))
+unfolding calls_field
+link_calls_is =
+    tested_exact (rises_above (λ call. call.0) 0)
+    (listed_exact link_call_text IsLinkCall link_call_of
+    (λ call lt. pass-append is_inner (decimal call.0) (58 ∷ fault_text call.1) (decimal_inner call.0 lt) (refl, fault_inner call.1))
+    (λ call rest lt. ap (begins 45) (append_assoc (decimal call.0) (58 ∷ fault_text call.1) rest) ∙ begins_decimal 45 call.0 (58 ∷ fault_text call.1 ++ rest) refl lt)
+    link_call_takes link_call_again)

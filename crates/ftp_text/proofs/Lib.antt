@@ -6,3 +6,4 @@ pub mod Exact
 pub mod Values
 pub mod FieldLemmas
 pub mod TraceLemmas
+pub mod Lists

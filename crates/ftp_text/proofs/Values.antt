@@ -18,8 +18,8 @@ use Rattle.std.proofs.lemmas.Str.Parse.{digit_from_value}
 use Rattle.ftp_base.specs.declared.net.IpAddr.{IpAddr}
 use Rattle.ftp_base.specs.declared.net.IpAddr.TheVariants.{V4, V6}
 use Rattle.ftp_base.specs.declared.net.SocketAddr.{SocketAddr}
-use Rattle.ftp_text.specs.Fields.{IsText, IsIp, IsAddress, hex_digits, hex_byte, dotted, ip_text, address_text, is_plain, escape_byte, escape}
-use Rattle.ftp_text.specs.Reading.{◌>>=◌, after, behind, begins, pair, small_at, dotted_at, hex_numeral, hex_word_at, port_at_colon, ipv4_at, ipv6_at, address_at, escaped_at, text_byte_at, text_from, text_of, text_field}
+use Rattle.ftp_text.specs.Fields.{Each, IsText, IsIp, IsAddress, hex_digits, hex_byte, dotted, ip_text, address_text, is_plain, escape_byte, escape, optional_text}
+use Rattle.ftp_text.specs.Reading.{◌>>=◌, after, behind, begins, pair, small_at, dotted_at, hex_numeral, hex_word_at, port_at_colon, ipv4_at, ipv6_at, address_at, escaped_at, text_byte_at, text_from, text_of, text_field, optional_text_field}
 use Rattle.ftp_text.proofs.Numerals.{own}
 use Rattle.ftp_text.proofs.Texts.{then_text, text_step, text_byte_shorter}
 use Rattle.ftp_text.proofs.Hex.{length-hex_digits, glyph_value, hex_done}
@@ -235,3 +235,20 @@ text_exact = record {
       (after_ok 32 bytes first.0 first.1 ∙ ap (λ (w : List ℕ). 32 ∷ w) (t.0 ∙ sym (append-nil (escape second.0))), t.1);
   again = text_field_again;
 }
+
+optional_text_takes : (bytes : List ℕ) (x : Option (List ℕ) × List ℕ) → optional_text_field bytes ≡ Some x → (bytes ≡ optional_text x.0 ++ x.1) × Each IsText x.0
+unfolding optional_text_field
+optional_text_takes [] x e =
+    let whole : Option (List ℕ) × List ℕ = (None, []) in
+    subst (λ (y : Option (List ℕ) × List ℕ). ([] ≡ optional_text y.0 ++ y.1) × Each IsText y.0) (some_is whole x e) (refl, tt)
+optional_text_takes (c ∷ bytes) x e =
+    made_takes text_exact Some optional_text (Each IsText) [] (λ t. refl) (λ t fits. fits) (c ∷ bytes) x e
+
+optional_text_again : (o : Option (List ℕ)) (rest : List ℕ) → Each IsText o → IsNil rest → optional_text_field (optional_text o ++ rest) ≡ Some (o, rest)
+unfolding optional_text_field
+optional_text_again None [] fits follows = refl
+optional_text_again None (c ∷ rest) fits follows = absurd follows
+optional_text_again (Some t) rest fits follows = made_again text_exact Some t rest fits follows
+
+pub optional_text_exact : IsExact optional_text (Each IsText) IsNil optional_text_field
+optional_text_exact = record { takes = optional_text_takes; again = optional_text_again }

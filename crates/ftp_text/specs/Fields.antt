@@ -1,15 +1,20 @@
 -- How the fields of a line are spelled: each value has one spelling.
 --
 -- A field begins with the one space that stands before it, and a text is the last field of its line.
-use Rattle.std.specs.Prelude.{ℕ, zero, suc, ◌/◌, ◌%◌, ◌^◌, ◌<◌, ◌==◌, ◌&&◌, not, nat_le, Bool, false, List, [], ◌∷◌, ◌++◌, map, codes, decimal, Option, Some, None, if◌then◌else◌}
+use Rattle.std.specs.Prelude.{◌≡◌, ℕ, zero, suc, ◌/◌, ◌%◌, ◌^◌, ◌<◌, ◌==◌, ◌&&◌, not, nat_le, Bool, true, false, List, [], ◌∷◌, ◌++◌, map, codes, decimal, Option, Some, None, if◌then◌else◌}
 use Rattle.std.specs.List.{flat_map, join_with_byte, AllByRecursion}
 use Rattle.std.specs.Fmt.{digit_glyph}
 use Rattle.std.specs.Int.{w32, to_be_bytes}
+use Rattle.ftp_base.specs.Calls.{rises_above}
 use Rattle.ftp_base.specs.declared.net.IpAddr.{IpAddr}
 use Rattle.ftp_base.specs.declared.net.IpAddr.TheVariants.{V4, V6}
 use Rattle.ftp_base.specs.declared.net.SocketAddr.{SocketAddr}
 use Rattle.ftp_base.specs.declared.login.AuthAnswer.{AuthAnswer}
 use Rattle.ftp_base.specs.declared.login.AuthAnswer.TheVariants as auth
+use Rattle.ftp_base.specs.declared.error_kind.ErrorKind.{ErrorKind}
+use Rattle.ftp_base.specs.declared.error_kind.ErrorKind.TheVariants as error
+use Rattle.ftp_base.specs.declared.fault.LinkFault.{LinkFault}
+use Rattle.ftp_base.specs.declared.fault.LinkFault.TheVariants as link
 
 -- a space, and what stands in the field
 abbrev pub field : List ℕ → List ℕ
@@ -63,6 +68,15 @@ abbrev pub optional : {A : Type 0} → (A → List ℕ) → Option A → List �
 optional spell None = field (45 ∷ [])
 optional spell (Some x) = field (spell x)
 
+-- a text that may be missing: for none the line ends
+abbrev pub optional_text : Option (List ℕ) → List ℕ
+optional_text None = []
+optional_text (Some text) = field (escape text)
+
+-- a transfer is named by its session, a dot and its number in the session
+abbrev pub ticket : ℕ → ℕ → List ℕ
+ticket session nr = number session ++ 46 ∷ decimal nr
+
 -- what the authenticator says
 abbrev pub answer_text : AuthAnswer → List ℕ
 answer_text auth.Good = codes "good"
@@ -70,6 +84,42 @@ answer_text auth.Disabled = codes "disabled"
 answer_text auth.NotEntered = codes "notentered"
 answer_text auth.BadUser = codes "baduser"
 answer_text auth.Refused = codes "refused"
+
+-- why a storage refuses
+abbrev pub kind_text : ErrorKind → List ℕ
+kind_text error.TransientFileNotAvailable = codes "transientfile"
+kind_text error.PermanentFileNotAvailable = codes "permanentfile"
+kind_text error.PermanentDirectoryNotAvailable = codes "permanentdir"
+kind_text error.PermanentDirectoryNotEmpty = codes "dirnotempty"
+kind_text error.PermissionDenied = codes "permission"
+kind_text error.ConnectionClosed = codes "closed"
+kind_text error.LocalError = codes "local"
+kind_text error.PageTypeUnknown = codes "pagetype"
+kind_text error.InsufficientStorageSpaceError = codes "space"
+kind_text error.ExceededStorageAllocationError = codes "exceeded"
+kind_text error.FileNameNotAllowedError = codes "badname"
+kind_text error.CommandNotImplemented = codes "notimplemented"
+
+-- what a storage says of a call: why it refuses, or ok
+abbrev pub refusal_text : Option ErrorKind → List ℕ
+refusal_text None = codes "ok"
+refusal_text (Some kind) = kind_text kind
+
+-- what a call on a connection meets
+abbrev pub fault_text : LinkFault → List ℕ
+fault_text link.Reset = codes "reset"
+fault_text link.BrokenPipe = codes "pipe"
+fault_text link.Aborted = codes "aborted"
+fault_text link.Other = codes "other"
+
+-- a failing call on a connection: its number, a colon and what it meets
+abbrev pub link_call_text : ℕ × LinkFault → List ℕ
+link_call_text call = decimal call.0 ++ 58 ∷ fault_text call.1
+
+-- values with commas between them: a hyphen stands for none
+abbrev pub listed : {A : Type 0} → (A → List ℕ) → List A → List ℕ
+listed spell [] = codes "-"
+listed spell (x ∷ xs) = join_with_byte 44 (map spell (x ∷ xs))
 
 -- ---- the ranges of the values
 
@@ -90,3 +140,11 @@ IsAddress a = IsIp a.ip × (a.port < 2 ^ 16)
 abbrev pub Each : {A : Type 0} → (A → Type 0) → Option A → Type 0
 Each P None = Unit {0}
 Each P (Some x) = P x
+
+-- the number fits its type
+abbrev pub IsNumber : ℕ → Type 0
+IsNumber n = n < 2 ^ 64
+
+-- calls rise from 1 on, and their numbers fit their type
+abbrev pub AreCalls : {A : Type 0} → (A → ℕ) → List A → Type 0
+AreCalls number calls = AllByRecursion (λ call. IsNumber (number call)) calls × (rises_above number 0 calls ≡ true)

@@ -1,6 +1,6 @@
 -- Reading the fields of a line from left to right. What a reader finds is a value and the bytes behind it.
-use Rattle.std.specs.Prelude.{◌≡◌, ℕ, ◌+◌, ◌*◌, ◌^◌, ◌<◌, ◌==◌, ◌&&◌, nat_lt, Bool, false, List, [], ◌∷◌, ◌++◌, length, take, drop, find, codes, decimal, Option, Some, None, Result, Ok, Err, if◌then◌else◌}
-use Rattle.std.specs.List.{prefix_len, position_or_len}
+use Rattle.std.specs.Prelude.{◌≡◌, ℕ, ◌+◌, ◌*◌, ◌^◌, ◌<◌, ◌==◌, ◌&&◌, nat_lt, Bool, false, List, [], ◌∷◌, ◌++◌, length, take, drop, map, find, codes, decimal, Option, Some, None, Result, Ok, Err, if◌then◌else◌}
+use Rattle.std.specs.List.{prefix_len, position_or_len, slice_split}
 use Rattle.std.specs.Str.{bytes_eq}
 use Rattle.std.specs.Char.{is_ascii_digit, digit_value}
 use Rattle.std.specs.Str.Parse.{digits_value}
@@ -10,9 +10,14 @@ use Rattle.ftp_base.specs.declared.net.IpAddr.TheVariants.{V4, V6}
 use Rattle.ftp_base.specs.declared.net.SocketAddr.{SocketAddr}
 use Rattle.ftp_base.specs.declared.login.AuthAnswer.{AuthAnswer}
 use Rattle.ftp_base.specs.declared.login.AuthAnswer.TheVariants as auth
+use Rattle.ftp_base.specs.declared.error_kind.ErrorKind.{ErrorKind}
+use Rattle.ftp_base.specs.declared.error_kind.ErrorKind.TheVariants as error
+use Rattle.ftp_base.specs.declared.fault.LinkFault.{LinkFault}
+use Rattle.ftp_base.specs.declared.fault.LinkFault.TheVariants as link
+use Rattle.ftp_base.specs.Calls.{rises_above}
 use Rattle.ftp_text.specs.declared.fault.LineFault.{LineFault}
 use Rattle.ftp_text.specs.declared.fault.LineFault.TheVariants as fault
-use Rattle.ftp_text.specs.Fields.{hex_byte, hex_digits, is_plain, escape_byte, answer_text}
+use Rattle.ftp_text.specs.Fields.{hex_byte, hex_digits, is_plain, escape_byte, answer_text, refusal_text, fault_text}
 
 -- what finds a value at the front
 abbrev pub Reader : Type 0 → Type 0
@@ -233,6 +238,19 @@ text_field bytes = do
   text ← text_of rest
   Some (text, [])
 
+-- a text up to the end, or the end
+unfoldable pub optional_text_field : Reader (Option (List ℕ))
+optional_text_field [] = Some (None, [])
+optional_text_field (c ∷ bytes) = made Some text_field (c ∷ bytes)
+
+-- two numbers joined by a dot
+abbrev pub ticket_field : Reader (ℕ × ℕ)
+ticket_field = pair number_field (behind 46 number_at)
+
+-- a number in 32 hexadecimal digits
+abbrev pub hex_word_field : Reader ℕ
+hex_word_field bytes = behind 32 hex_word_at bytes
+
 -- whether the byte ends a word
 abbrev pub is_space : ℕ → Bool
 is_space b = b == 32
@@ -265,3 +283,59 @@ answers = auth.Good ∷ auth.Disabled ∷ auth.NotEntered ∷ auth.BadUser ∷ a
 -- what an authenticator says
 unfoldable pub answer_field : Reader AuthAnswer
 answer_field bytes = word_as (find_word answer_text answers) bytes
+
+-- all kinds of refusals by a storage
+abbrev pub kinds : List ErrorKind
+kinds =
+    error.TransientFileNotAvailable ∷ error.PermanentFileNotAvailable ∷ error.PermanentDirectoryNotAvailable
+    ∷ error.PermanentDirectoryNotEmpty ∷ error.PermissionDenied ∷ error.ConnectionClosed
+    ∷ error.LocalError ∷ error.PageTypeUnknown ∷ error.InsufficientStorageSpaceError
+    ∷ error.ExceededStorageAllocationError ∷ error.FileNameNotAllowedError ∷ error.CommandNotImplemented ∷ []
+
+-- all that a storage can say of a call
+abbrev pub refusals : List (Option ErrorKind)
+refusals = None ∷ map Some kinds
+
+-- what a storage says of a call
+unfoldable pub refusal_field : Reader (Option ErrorKind)
+refusal_field bytes = word_as (find_word refusal_text refusals) bytes
+
+-- ---- the calls that fail
+
+-- whether the byte stands between values
+abbrev pub is_comma : ℕ → Bool
+is_comma b = b == 44
+
+-- the value that each word spells
+unfoldable pub each_of : {A : Type 0} → (List ℕ → Option A) → List (List ℕ) → Option (List A)
+each_of value [] = Some []
+each_of value (w ∷ words) = do
+  x ← value w
+  xs ← each_of value words
+  Some (x ∷ xs)
+
+-- the values that a word spells: a hyphen for none, or values with commas between them
+unfoldable pub list_of : {A : Type 0} → (List ℕ → Option A) → List ℕ → Option (List A)
+list_of value w = if bytes_eq w (codes "-") then Some [] else each_of value (slice_split is_comma w)
+
+-- calls that rise from 1 on
+unfoldable pub calls_field : {A : Type 0} → (List ℕ → Option A) → (A → ℕ) → Reader (List A)
+calls_field value number = tested (rises_above number 0) (word_as (list_of value))
+
+-- the number that all of a word spells
+unfoldable pub call_of : List ℕ → Option ℕ
+call_of w = do
+  n ← number_at w
+  if length n.1 == 0 then Some n.0 else None
+
+-- all that a call on a connection can meet
+abbrev pub faults : List LinkFault
+faults = link.Reset ∷ link.BrokenPipe ∷ link.Aborted ∷ link.Other ∷ []
+
+-- the failing call on a connection that all of a word spells
+unfoldable pub link_call_of : List ℕ → Option (ℕ × LinkFault)
+link_call_of w = do
+  n ← number_at w
+  rest ← after 58 n.1
+  fault ← find_word fault_text faults rest
+  Some (n.0, fault)

@@ -4,16 +4,16 @@ ghost use Rattle.std.specs.Prelude.{◌≡◌, ◌^◌, ◌<◌, ◌≤◌, leng
 ghost use Rattle.std.specs.List.{prefix_len, position_or_len};
 ghost use Rattle.std.specs.Char.{is_ascii_digit};
 ghost use Rattle.std.specs.Str.Parse.{AllDigits, digits_value};
-ghost use Rattle.ftp_text.specs.Reading.{Gives, after, literal_at, is_space, numeral, number_at, small_at, dotted_at, port_at_colon, ipv4_at, hex_numeral, hex_word_at, ipv6_at, address_at, number_field, small_field, address_field, optional_field, text_field, word_at, hex_field, answer_field};
+ghost use Rattle.ftp_text.specs.Reading.{Gives, after, literal_at, is_space, numeral, number_at, small_at, dotted_at, port_at_colon, ipv4_at, hex_numeral, hex_word_at, ipv6_at, address_at, number_field, small_field, address_field, optional_field, text_field, optional_text_field, ticket_field, hex_word_field, word_at, hex_field, answer_field, refusal_field};
 
 use crate::fault::LineFault;
 use crate::text::{self, nibble};
-use crate::word::answer_of;
-use ftp_base::{AuthAnswer, Bytes, IpAddr, SocketAddr};
+use crate::word::{answer_of, refusal_of};
+use ftp_base::{AuthAnswer, Bytes, ErrorKind, IpAddr, SocketAddr};
 use std::alloc::Global;
 
 // Behind the byte `c`.
-fn after(c: u8, bytes: &[u8]) -> Result<&[u8], LineFault>
+pub(crate) fn after(c: u8, bytes: &[u8]) -> Result<&[u8], LineFault>
     ensures { Gives (λ x. x.now) result (after c bytes.now) }
 {
     match bytes {
@@ -162,7 +162,7 @@ fn hex_value(digits: &[u8]) -> Option<u128>
 
 // The number that 32 hexadecimal digits spell.
 #[tactic(auto, unfolding(crate::specs::Reading::hex_word_at))]
-fn hex_word(bytes: &[u8]) -> Result<(u128, &[u8]), LineFault>
+fn hex_word_here(bytes: &[u8]) -> Result<(u128, &[u8]), LineFault>
     ensures { Gives (λ x. (x.0, x.1.now)) result (hex_word_at bytes.now) }
 {
     if bytes.len() < 32 {
@@ -179,7 +179,7 @@ fn hex_word(bytes: &[u8]) -> Result<(u128, &[u8]), LineFault>
 fn ipv6(bytes: &[u8]) -> Result<(SocketAddr, &[u8]), LineFault>
     ensures { Gives (λ x. (x.0, x.1.now)) result (ipv6_at bytes.now) }
 {
-    let (ip, rest) = hex_word(after(b'[', bytes)?)?;
+    let (ip, rest) = hex_word_here(after(b'[', bytes)?)?;
     let (port, rest) = port_at_colon(after(b']', rest)?)?;
     let ip = IpAddr::V6(ip);
     Ok((SocketAddr { ip, port }, rest))
@@ -261,6 +261,34 @@ pub fn text_to_end(alloc: Global, bytes: &[u8]) -> Result<(Bytes, &[u8]), LineFa
     Ok((text, &[]))
 }
 
+/// A text up to the end of the line, or none where the line ends here.
+#[tactic(auto, unfolding(crate::specs::Reading::optional_text_field))]
+pub fn optional_text(alloc: Global, bytes: &[u8]) -> Result<(Option<Bytes>, &[u8]), LineFault>
+    ensures { Gives (λ x. (x.0, x.1.now)) result (optional_text_field bytes.now) }
+{
+    if bytes.is_empty() {
+        return Ok((None, bytes));
+    }
+    let (text, rest) = text_to_end(alloc, bytes)?;
+    Ok((Some(text), rest))
+}
+
+/// The numbers of a session and of a transfer in it.
+pub fn ticket(bytes: &[u8]) -> Result<(u64, u64, &[u8]), LineFault>
+    ensures { Gives (λ x. ((x.0, x.1), x.2.now)) result (ticket_field bytes.now) }
+{
+    let (session, rest) = number(bytes)?;
+    let (nr, rest) = number_here(after(b'.', rest)?)?;
+    Ok((session, nr, rest))
+}
+
+/// A number of 128 bits, in 32 hexadecimal digits.
+pub fn hex_word(bytes: &[u8]) -> Result<(u128, &[u8]), LineFault>
+    ensures { Gives (λ x. (x.0, x.1.now)) result (hex_word_field bytes.now) }
+{
+    hex_word_here(after(b' ', bytes)?)
+}
+
 // How many bytes stand before the first space.
 fn word_len(bytes: &[u8]) -> usize
     ensures count { result ≡ position_or_len is_space bytes.now }
@@ -300,6 +328,18 @@ pub fn answer(bytes: &[u8]) -> Result<(AuthAnswer, &[u8]), LineFault>
 {
     let (text, rest) = word(bytes)?;
     match answer_of(text) {
+        Some(found) => Ok((found, rest)),
+        None => Err(LineFault::Bad),
+    }
+}
+
+/// What a storage says of a call: why it refuses, or `ok`.
+#[tactic(auto, unfolding(crate::specs::Reading::refusal_field))]
+pub fn refusal(bytes: &[u8]) -> Result<(Option<ErrorKind>, &[u8]), LineFault>
+    ensures { Gives (λ x. (x.0, x.1.now)) result (refusal_field bytes.now) }
+{
+    let (text, rest) = word(bytes)?;
+    match refusal_of(text) {
         Some(found) => Ok((found, rest)),
         None => Err(LineFault::Bad),
     }

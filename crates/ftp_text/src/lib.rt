@@ -4,10 +4,12 @@
 //! Begin with `field`, `writing` and specs/Fields.antt.
 #![tactic(auto)]
 
+mod calls;
 mod fault;
 pub mod field;
 mod text;
 mod word;
 pub mod writing;
 
+pub use calls::{CallText, FailingCalls, failing_calls};
 pub use fault::LineFault;

@@ -1,10 +1,10 @@
 //! The words that stand for values. A word is found by a search of its table.
 
 ghost use Rattle.std.specs.Prelude.{◌≡◌};
-ghost use Rattle.ftp_text.specs.Fields.{answer_text};
-ghost use Rattle.ftp_text.specs.Reading.{find_word, answers};
+ghost use Rattle.ftp_text.specs.Fields.{answer_text, kind_text, refusal_text, fault_text};
+ghost use Rattle.ftp_text.specs.Reading.{find_word, answers, kinds, refusals, faults};
 
-use ftp_base::AuthAnswer;
+use ftp_base::{AuthAnswer, ErrorKind, LinkFault};
 
 const ANSWERS: [AuthAnswer; 5] = [
     AuthAnswer::Good,
@@ -12,6 +12,28 @@ const ANSWERS: [AuthAnswer; 5] = [
     AuthAnswer::NotEntered,
     AuthAnswer::BadUser,
     AuthAnswer::Refused,
+];
+
+const KINDS: [ErrorKind; 12] = [
+    ErrorKind::TransientFileNotAvailable,
+    ErrorKind::PermanentFileNotAvailable,
+    ErrorKind::PermanentDirectoryNotAvailable,
+    ErrorKind::PermanentDirectoryNotEmpty,
+    ErrorKind::PermissionDenied,
+    ErrorKind::ConnectionClosed,
+    ErrorKind::LocalError,
+    ErrorKind::PageTypeUnknown,
+    ErrorKind::InsufficientStorageSpaceError,
+    ErrorKind::ExceededStorageAllocationError,
+    ErrorKind::FileNameNotAllowedError,
+    ErrorKind::CommandNotImplemented,
+];
+
+const FAULTS: [LinkFault; 4] = [
+    LinkFault::Reset,
+    LinkFault::BrokenPipe,
+    LinkFault::Aborted,
+    LinkFault::Other,
 ];
 
 pub fn answer_text(answer: AuthAnswer) -> &'static [u8]
@@ -30,4 +52,64 @@ pub fn answer_of(text: &[u8]) -> Option<AuthAnswer>
     ensures { result ≡ find_word answer_text answers text.now }
 {
     ANSWERS.iter().copied().find(|w| answer_text(*w) == text)
+}
+
+pub fn kind_text(kind: ErrorKind) -> &'static [u8]
+    ensures { result.now ≡ kind_text kind }
+{
+    match kind {
+        ErrorKind::TransientFileNotAvailable => b"transientfile",
+        ErrorKind::PermanentFileNotAvailable => b"permanentfile",
+        ErrorKind::PermanentDirectoryNotAvailable => b"permanentdir",
+        ErrorKind::PermanentDirectoryNotEmpty => b"dirnotempty",
+        ErrorKind::PermissionDenied => b"permission",
+        ErrorKind::ConnectionClosed => b"closed",
+        ErrorKind::LocalError => b"local",
+        ErrorKind::PageTypeUnknown => b"pagetype",
+        ErrorKind::InsufficientStorageSpaceError => b"space",
+        ErrorKind::ExceededStorageAllocationError => b"exceeded",
+        ErrorKind::FileNameNotAllowedError => b"badname",
+        ErrorKind::CommandNotImplemented => b"notimplemented",
+    }
+}
+
+fn kind_of(text: &[u8]) -> Option<ErrorKind>
+    ensures { result ≡ find_word kind_text kinds text.now }
+{
+    KINDS.iter().copied().find(|w| kind_text(*w) == text)
+}
+
+pub fn refusal_text(refusal: Option<ErrorKind>) -> &'static [u8]
+    ensures { result.now ≡ refusal_text refusal }
+{
+    match refusal {
+        None => b"ok",
+        Some(kind) => kind_text(kind),
+    }
+}
+
+pub fn refusal_of(text: &[u8]) -> Option<Option<ErrorKind>>
+    ensures { result ≡ find_word refusal_text refusals text.now }
+{
+    if refusal_text(None) == text {
+        return Some(None);
+    }
+    Some(Some(kind_of(text)?))
+}
+
+pub fn fault_text(fault: LinkFault) -> &'static [u8]
+    ensures { result.now ≡ fault_text fault }
+{
+    match fault {
+        LinkFault::Reset => b"reset",
+        LinkFault::BrokenPipe => b"pipe",
+        LinkFault::Aborted => b"aborted",
+        LinkFault::Other => b"other",
+    }
+}
+
+pub fn fault_of(text: &[u8]) -> Option<LinkFault>
+    ensures { result ≡ find_word fault_text faults text.now }
+{
+    FAULTS.iter().copied().find(|w| fault_text(*w) == text)
 }

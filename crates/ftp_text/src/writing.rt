@@ -3,13 +3,14 @@
 
 ghost use Rattle.std.specs.Prelude.{◌≡◌, ◌++◌, ◌∷◌, ◌<◌, [], false, OnOk, decimal};
 ghost use Rattle.std.specs.List.{flat_map};
+ghost use Rattle.std.specs.Option.{option_copied};
 ghost use Rattle.std.specs.Fmt.{digit_glyph, digits};
 ghost use Rattle.ftp_base.specs.Trace.{trace_text};
-ghost use Rattle.ftp_text.specs.Fields.{field, number, hex_byte, hex_digits, hex_text, dotted, ip_text, address_text, escape_byte, escape, optional, answer_text};
+ghost use Rattle.ftp_text.specs.Fields.{field, number, hex_byte, hex_digits, hex_text, dotted, ip_text, address_text, escape_byte, escape, optional, optional_text, ticket, answer_text, kind_text, refusal_text, fault_text};
 
 use crate::text::is_plain;
-use crate::word::answer_text;
-use ftp_base::{AuthAnswer, IpAddr, SocketAddr};
+use crate::word::{answer_text, fault_text, kind_text, refusal_text};
+use ftp_base::{AuthAnswer, Bytes, ErrorKind, IpAddr, LinkFault, SocketAddr};
 use itoa::Buffer;
 use std::alloc::AllocError;
 
@@ -138,6 +139,33 @@ pub fn put_text_field(out: &mut Vec<u8>, text: &[u8]) -> Result<(), AllocError>
     put_text(out, text)
 }
 
+/// Writes a space and a text with its escapes, or nothing for none.
+pub fn put_optional_text(out: &mut Vec<u8>, text: Option<&Bytes>) -> Result<(), AllocError>
+    ensures { OnOk result (out.new.items ≡ out.old.items ++ optional_text (option_copied text.entry)) }
+{
+    match text {
+        None => Ok(()),
+        Some(text) => put_text_field(out, text.as_slice()),
+    }
+}
+
+/// Writes a space and the numbers of a session and of a transfer in it.
+pub fn put_ticket(out: &mut Vec<u8>, session: u64, nr: u64) -> Result<(), AllocError>
+    ensures { OnOk result (out.new.items ≡ out.old.items ++ ticket session nr) }
+{
+    put_number(out, session)?;
+    put_byte(out, b'.')?;
+    put_decimal(out, nr)
+}
+
+/// Writes a space and a number in 32 hexadecimal digits.
+pub fn put_hex_word(out: &mut Vec<u8>, n: u128) -> Result<(), AllocError>
+    ensures { OnOk result (out.new.items ≡ out.old.items ++ field (hex_digits 32 n)) }
+{
+    put_byte(out, b' ')?;
+    put_hex(out, 32, n)
+}
+
 fn put_hex_byte(out: &mut Vec<u8>, b: u8) -> Result<(), AllocError>
     ensures { OnOk result (out.new.items ≡ out.old.items ++ hex_byte b) }
 {
@@ -191,6 +219,30 @@ pub fn put_answer(out: &mut Vec<u8>, answer: AuthAnswer) -> Result<(), AllocErro
     ensures { OnOk result (out.new.items ≡ out.old.items ++ field (answer_text answer)) }
 {
     put_field(out, answer_text(answer))
+}
+
+/// Writes a space and why a storage refuses.
+pub fn put_error_kind(out: &mut Vec<u8>, kind: ErrorKind) -> Result<(), AllocError>
+    ensures { OnOk result (out.new.items ≡ out.old.items ++ field (kind_text kind)) }
+{
+    put_field(out, kind_text(kind))
+}
+
+/// Writes a space and what a storage says of a call: why it refuses, or `ok`.
+pub fn put_refusal(out: &mut Vec<u8>, refusal: Option<ErrorKind>) -> Result<(), AllocError>
+    ensures { OnOk result (out.new.items ≡ out.old.items ++ field (refusal_text refusal)) }
+{
+    put_field(out, refusal_text(refusal))
+}
+
+/// Writes a space and what a link met, or a hyphen for nothing.
+pub fn put_optional_fault(out: &mut Vec<u8>, fault: Option<LinkFault>) -> Result<(), AllocError>
+    ensures { OnOk result (out.new.items ≡ out.old.items ++ optional fault_text fault) }
+{
+    match fault {
+        None => put(out, b" -"),
+        Some(fault) => put_field(out, fault_text(fault)),
+    }
 }
 
 /// Writes a space and a trace id.

@@ -1,9 +1,10 @@
 //! Jobs, and what became of them.
 
-ghost use Rattle.std.specs.Prelude.{◌≡◌};
+ghost use Rattle.std.specs.Prelude.{◌≡◌, IfOk};
 ghost use Rattle.ftp_transfer.specs.Transfer.{suits};
 
 use ftp_base::{Bytes, DataChanCmd, ErrorKind, LinkFault};
+use std::alloc::{AllocError, Global};
 
 /// Names a transfer: those of a session are numbered from 1.
 #[derive(Clone, Copy, Debug, PartialEq, Eq)]
@@ -24,6 +25,22 @@ pub struct Job {
     pub offset: u64,
     /// The link's number.
     pub number: u64,
+}
+
+impl Job {
+    /// Gives an equal job.
+    pub fn copy(&self, alloc: Global) -> Result<Job, AllocError>
+        ensures { IfOk result (λ copy. copy ≡ self.now) }
+    {
+        Ok(Job {
+            ticket: self.ticket,
+            user: self.user.copy(alloc)?,
+            command: self.command.copy(alloc)?,
+            path: self.path.copy(alloc)?,
+            offset: self.offset,
+            number: self.number,
+        })
+    }
 }
 
 /// How a transfer ended.

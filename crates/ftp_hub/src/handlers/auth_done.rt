@@ -1,14 +1,15 @@
 //! What follows on a password that was checked.
 
-ghost use Rattle.std.specs.Prelude.{◌≡◌, ◌+◌, ◌<◌, ◌^◌, IsTrue, Some};
+ghost use Rattle.std.specs.Prelude.{◌≡◌, ◌+◌, ◌<◌, ◌^◌, IsTrue, Option, Some};
+ghost use Rattle.ftp_transfer.specs.declared.job.Job.{Job};
 ghost use Rattle.ftp_events.specs.declared.event.Answer.{Answer};
 ghost use Rattle.ftp_events.specs.Session.{session_after};
 ghost use Rattle.ftp_events.specs.Acts.{session_acts};
-ghost use Rattle.ftp_hub.specs.Rooms.{IsReady, actions_in, name_in};
-ghost use Rattle.ftp_hub.specs.Handlers.{is_auth, number_of, name_told, answered_row, notices_of};
+ghost use Rattle.ftp_hub.specs.Rooms.{IsReady, actions_in, kept_in};
+ghost use Rattle.ftp_hub.specs.Handlers.{is_auth, number_of, kept_by, answered_row, notices_of};
 
 use crate::room::Room;
-use ftp_base::{AuthAnswer, PresenceEvent, ReplyCode};
+use ftp_base::{AuthAnswer, Notice, PresenceEvent, ReplyCode};
 use ftp_events::{Decision, EventKind, Login, Session};
 use ftp_options::Options;
 use ftp_switchboard::Switchboard;
@@ -24,10 +25,10 @@ pub(crate) fn handle(
 ) -> Decision
     requires of_this_event { IsTrue (is_auth args.now) }
     requires room { IsReady room.old }
-    requires name { name_in room.old ≡ name_told args.now session.old }
+    requires kept { kept_in room.old ≡ kept_by args.now session.old }
     ensures decision { result ≡ answered_row args.now session.old.login }
-    ensures session { session.old.notices + 1 < 2 ^ 64 → session.new ≡ session_after args.now result (notices_of result) session.old }
-    ensures actions { session.old.notices + 1 < 2 ^ 64 → (answer : Answer) → actions_in room.new ≡ session_acts options.now (number_of args.now) args.now answer result (Some session.old) }
+    ensures session { session.old.notices + 1 < 2 ^ 64 → (answer : Answer) (job : Option Job) → session.new ≡ session_after args.now answer result (notices_of result answer) job session.old }
+    ensures actions { session.old.notices + 1 < 2 ^ 64 → (answer : Answer) (job : Option Job) → actions_in room.new ≡ session_acts options.now (number_of args.now) args.now answer result job (Some session.old) }
     ensures board { board.new ≡ board.old }
 {
     let EventKind::AuthDone {
@@ -50,13 +51,13 @@ pub(crate) fn handle(
     }
     session.login = Login::LoggedIn;
     session.notices = session.notices.saturating_add(1);
-    let name = room.take_name();
+    let name = room.take_kept();
     room.notify(
         *number,
         name,
         session.opening.trace,
         session.notices,
-        PresenceEvent::LoggedIn,
+        Notice::Presence(PresenceEvent::LoggedIn),
     );
     room.reply(*number, ReplyCode::UserLoggedIn, b"User logged in, proceed");
     Decision::LoggedIn

@@ -1,21 +1,23 @@
 //! The end of a control connection.
 
-ghost use Rattle.std.specs.Prelude.{◌≡◌, ◌+◌, ◌<◌, ◌^◌, ℕ, IsTrue, Some};
+ghost use Rattle.std.specs.Prelude.{◌≡◌, ◌+◌, ◌<◌, ◌^◌, ℕ, IsTrue, Option, Some};
 ghost use Rattle.ftp_base.specs.Net.{ipv4};
 ghost use Rattle.ftp_switchboard.specs.Board.{SameRange, holder_at};
+ghost use Rattle.ftp_transfer.specs.declared.job.Job.{Job};
 ghost use Rattle.ftp_events.specs.declared.event.Answer.{Answer};
 ghost use Rattle.ftp_events.specs.declared.decision.Decision.TheVariants as decision;
 ghost use Rattle.ftp_events.specs.Slot.{waiting_port};
 ghost use Rattle.ftp_events.specs.Acts.{session_acts};
-ghost use Rattle.ftp_hub.specs.Rooms.{IsReady, actions_in, name_in};
-ghost use Rattle.ftp_hub.specs.Handlers.{is_closed, number_of, name_told, held_after};
+ghost use Rattle.ftp_hub.specs.Rooms.{IsReady, actions_in, kept_in};
+ghost use Rattle.ftp_hub.specs.Handlers.{is_closed, number_of, kept_by, held_after};
 
 use crate::handlers::pasv::waiting_port;
 use crate::room::Room;
-use ftp_base::PresenceEvent;
+use ftp_base::{Notice, PresenceEvent};
 use ftp_events::{Decision, EventKind, Session};
 use ftp_options::Options;
 use ftp_switchboard::{Switchboard, SwitchboardKey};
+use std::mem;
 
 /// Lets go of all that the session has: its passive port, its link, and last its own connection.
 pub(crate) fn handle(
@@ -28,9 +30,9 @@ pub(crate) fn handle(
 ) -> Decision
     requires of_this_event { IsTrue (is_closed args.now) }
     requires room { IsReady room.old }
-    requires name { name_in room.old ≡ name_told args.now session.old }
+    requires kept { kept_in room.old ≡ kept_by args.now session.old }
     ensures decision { result ≡ decision.Closed }
-    ensures actions { session.old.notices + 1 < 2 ^ 64 → (answer : Answer) → actions_in room.new ≡ session_acts options.now (number_of args.now) args.now answer result (Some session.old) }
+    ensures actions { session.old.notices + 1 < 2 ^ 64 → (answer : Answer) (job : Option Job) → actions_in room.new ≡ session_acts options.now (number_of args.now) args.now answer result job (Some session.old) }
     ensures holders { (a p : ℕ) → holder_at board.new a p ≡ held_after result (number_of args.now) (ipv4 session.old.opening.client) (waiting_port session.old.slot) a p (holder_at board.old a p) }
     ensures same_range { SameRange board.old board.new }
 {
@@ -38,14 +40,15 @@ pub(crate) fn handle(
         unreachable!()
     };
     release(board, session, *number);
+    room.cancel(*number, mem::replace(&mut session.pending, None));
     room.close_link(session.slot);
-    let name = room.take_name();
+    let name = room.take_kept();
     room.notify(
         *number,
         name,
         session.opening.trace,
         session.notices.saturating_add(1),
-        PresenceEvent::LoggedOut,
+        Notice::Presence(PresenceEvent::LoggedOut),
     );
     room.close(*number);
     Decision::Closed

@@ -1,8 +1,9 @@
 //! PASV (RFC 959, section 4.1.2).
 
-ghost use Rattle.std.specs.Prelude.{◌≡◌, ℕ, IsTrue, Some};
+ghost use Rattle.std.specs.Prelude.{◌≡◌, ℕ, IsTrue, Option, Some};
 ghost use Rattle.ftp_base.specs.Net.{ipv4};
 ghost use Rattle.ftp_switchboard.specs.Board.{HasRoom, SameRange, holder_at};
+ghost use Rattle.ftp_transfer.specs.declared.job.Job.{Job};
 ghost use Rattle.ftp_events.specs.declared.event.Answer.{Answer};
 ghost use Rattle.ftp_events.specs.CommandRows.{if_logged_in};
 ghost use Rattle.ftp_events.specs.Slot.{waiting_port};
@@ -11,11 +12,13 @@ ghost use Rattle.ftp_events.specs.Acts.{session_acts};
 ghost use Rattle.ftp_hub.specs.Rooms.{IsReady, actions_in};
 ghost use Rattle.ftp_hub.specs.Handlers.{is_pasv, number_of, word_of, held_for, port_row, HasRange, held_after};
 
+use crate::handlers::ask_for_login;
 use crate::room::Room;
 use ftp_base::ReplyCode;
 use ftp_events::{Decision, EventKind, Login, Session, Slot};
 use ftp_options::Options;
 use ftp_switchboard::Switchboard;
+use std::mem;
 
 /// Reserves a passive port for the session's client, and advertises it.
 pub fn handle(
@@ -31,8 +34,8 @@ pub fn handle(
     requires range { HasRange board.old options.now }
     requires board_room { HasRoom board.old (ipv4 session.old.opening.client) }
     ensures decision { result ≡ if_logged_in session.old (port_row options.now (held_for board.old session.old) (word_of args.now)) }
-    ensures session { session.new ≡ session_after args.now result 0 session.old }
-    ensures actions { (answer : Answer) → actions_in room.new ≡ session_acts options.now (number_of args.now) args.now answer result (Some session.old) }
+    ensures session { (answer : Answer) (job : Option Job) → session.new ≡ session_after args.now answer result 0 job session.old }
+    ensures actions { (answer : Answer) (job : Option Job) → actions_in room.new ≡ session_acts options.now (number_of args.now) args.now answer result job (Some session.old) }
     ensures holders { (a p : ℕ) → holder_at board.new a p ≡ held_after result (number_of args.now) (ipv4 session.old.opening.client) (waiting_port session.old.slot) a p (holder_at board.old a p) }
     ensures same_range { SameRange board.old board.new }
 {
@@ -45,8 +48,7 @@ pub fn handle(
         unreachable!()
     };
     if !matches!(session.login, Login::LoggedIn) {
-        room.reply(*number, ReplyCode::NotLoggedIn, b"Please authenticate");
-        return Decision::NotLoggedIn;
+        return ask_for_login(*number, room);
     }
     let client = session.opening.client.ipv4();
     match board.reserve(client, *number, *word, waiting_port(session.slot)) {
@@ -59,6 +61,7 @@ pub fn handle(
             Decision::Full
         }
         Ok(port) => {
+            room.cancel_and_tell(*number, mem::replace(&mut session.pending, None));
             room.close_link(session.slot);
             room.advertise(*number, session.opening.local.ip.ipv4(), port);
             session.slot = Slot::Waits { port };

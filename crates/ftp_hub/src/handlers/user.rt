@@ -1,12 +1,13 @@
 //! USER (RFC 959, section 4.1.1).
 
-ghost use Rattle.std.specs.Prelude.{◌≡◌, IsTrue, Some};
+ghost use Rattle.std.specs.Prelude.{◌≡◌, IsTrue, Option, Some};
+ghost use Rattle.ftp_transfer.specs.declared.job.Job.{Job};
 ghost use Rattle.ftp_events.specs.declared.event.Answer.{Answer};
 ghost use Rattle.ftp_events.specs.LoginRows.{user_row};
 ghost use Rattle.ftp_events.specs.Session.{session_after};
 ghost use Rattle.ftp_events.specs.Acts.{session_acts};
-ghost use Rattle.ftp_hub.specs.Rooms.{IsReady, actions_in, name_in};
-ghost use Rattle.ftp_hub.specs.Handlers.{is_user, number_of, name_told};
+ghost use Rattle.ftp_hub.specs.Rooms.{IsReady, actions_in, kept_in};
+ghost use Rattle.ftp_hub.specs.Handlers.{is_user, number_of, kept_by};
 
 use crate::room::Room;
 use ftp_base::ReplyCode;
@@ -25,10 +26,10 @@ pub(crate) fn handle(
 ) -> Decision
     requires of_this_event { IsTrue (is_user args.now) }
     requires room { IsReady room.old }
-    requires name { name_in room.old ≡ name_told args.now session.old }
+    requires kept { kept_in room.old ≡ kept_by args.now session.old }
     ensures decision { result ≡ user_row session.old.login }
-    ensures session { session.new ≡ session_after args.now result 0 session.old }
-    ensures actions { (answer : Answer) → actions_in room.new ≡ session_acts options.now (number_of args.now) args.now answer result (Some session.old) }
+    ensures session { (answer : Answer) (job : Option Job) → session.new ≡ session_after args.now answer result 0 job session.old }
+    ensures actions { (answer : Answer) (job : Option Job) → actions_in room.new ≡ session_acts options.now (number_of args.now) args.now answer result job (Some session.old) }
     ensures board { board.new ≡ board.old }
 {
     let EventKind::User {
@@ -41,7 +42,7 @@ pub(crate) fn handle(
     match session.login {
         Login::New | Login::Named => {
             session.login = Login::Named;
-            session.name = Some(room.take_name());
+            session.name = Some(room.take_kept());
             room.reply(*number, ReplyCode::NeedPassword, b"Password Required");
             Decision::NeedPass
         }

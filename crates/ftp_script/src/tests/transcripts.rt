@@ -242,9 +242,8 @@ pub const PASSWORDS: &str = "< options pooled 50000 50001 connection passive 600
 = notexpected
 ";
 
-/// An options line, and a login's four lines.
-pub const LOGIN: &str = "< options pooled 50000 50001 connection passive 600 off restart
-> 0 connect 1 10.0.0.1:4000 10.0.0.9:21 1
+/// A login's four lines.
+pub const LOGIN: &str = "> 0 connect 1 10.0.0.1:4000 10.0.0.9:21 1
 = opened
 > 0 user 1 ann
 = needpass
@@ -277,4 +276,30 @@ pub const ATTACHED: &str = "< options pooled 50000 50000 connection passive 600 
 > 1 data 11 10.0.0.1:4001 50000
 = attached 1
 link 11 sent .
+";
+
+/// Files that are set up in no order, one of them as long as it may be, and links of which calls fail. In byte order of
+/// paths a line feed comes before a capital letter, and a hyphen before the slash.
+pub const STORED: &str = "< options pooled 50000 50001 connection passive 600 off norestart
+< storage 4 2,3
+< dir /b
+< file 616263ff /b/z
+< link 12 1 1:reset,2:pipe,3:aborted,18446744073709551615:other 00
+< dir /b/
+< file . /b/a
+< file 2d /b-x
+< file 6869 //x
+< file 42 /B
+< file 00 /\\x0a
+< link 11 5 - .
+> 0 pass 1
+= unknown
+link 11 sent .
+link 12 sent .
+file 00 /\\x0a
+file 6869 //x
+file 42 /B
+file 2d /b-x
+file . /b/a
+file 616263ff /b/z
 ";

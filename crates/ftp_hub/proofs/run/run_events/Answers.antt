@@ -1,8 +1,6 @@
-use Rattle.std.proofs.Common.{◌≡◌, ◌∙◌, ap, subst, arith, []}
-use Rattle.ftp_events.specs.declared.entry.Entry.{Entry}
-use Rattle.std.specs.Prelude.{List, take}
-use Rattle.ftp_hub.specs.Runs.{GoesOn}
-use Rattle.ftp_hub.proofs.Runs.{goes-on-more, headline-fresh}
+use Rattle.std.proofs.Common.{◌∙◌, arith}
+use Rattle.ftp_hub.specs.Stands.{options_of}
+use Rattle.ftp_hub.proofs.Runs.{goes-on-more, headline-fresh, leads-on, leads-under}
 use Rattle.ftp_hub.proofs.run.run_events.Goals as goal
 
 -- one more event
@@ -16,8 +14,11 @@ loop-event-preserved g c =
       done = omega (arith, so_far.done);
       count = omega (arith, next.count, so_far.count);
       options = next.options ∙ so_far.options;
-      storage = next.storage ∙ so_far.storage;
-      links = next.links ∙ so_far.links;
+      leads = λ stood has.
+          leads-on _ (options_of c.args.hub.now) c.args.log.now.entries c.loop-event.log.entries c.run_next.new.log.entries _ _ _ (so_far.leads stood has)
+          (leads-under _ _ (options_of c.args.hub.now) c.loop-event.log.entries c.run_next.new.log.entries _ _ so_far.options (next.leads (so_far.stands stood) (so_far.has_links has)));
+      linked = λ n has. next.linked n (so_far.linked n has);
+      has_links = λ has. next.has_links (so_far.has_links has);
     }
 
 -- the whole run

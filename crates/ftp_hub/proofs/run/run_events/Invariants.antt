@@ -1,9 +1,11 @@
-use Rattle.std.proofs.Common.{◌≡◌, ◌+◌, take}
-use Rattle.ftp_hub.specs.Runs.{GoesOn}
+use Rattle.std.proofs.Common.{◌≡◌, ◌+◌, ℕ, true, take}
+use Rattle.ftp_events.specs.Leads.{HasLinks}
+use Rattle.ftp_events.specs.Log.{past_of}
+use Rattle.ftp_hub.specs.Runs.{GoesOn, LeadsOn, is_linked}
 use Rattle.ftp_hub.specs.Stands.{Stands, options_of, count_of}
 use Rattle.ftp_hub.proofs.run.run_events.Given as goal
 
--- the hub stands for the log, which goes on by the events so far
+-- the hub stands for the log, which goes on by the events so far, and did to storage and links what it says
 abbrev pub invariant-loop-event : goal.invariant-loop-event
 invariant-loop-event g l = record {
   stands : Stands l.fn.hub l.fn.log.entries → Stands l.hub l.log.entries;
@@ -11,6 +13,7 @@ invariant-loop-event g l = record {
   done : l.done ≡ l.event-index;
   count : count_of l.hub ≡ count_of l.fn.hub + l.event-index;
   options : options_of l.hub ≡ options_of l.fn.hub;
-  storage : l.storage ≡ l.fn.storage;
-  links : l.links ≡ l.fn.links;
+  leads : Stands l.fn.hub l.fn.log.entries → HasLinks (past_of l.fn.log.entries) l.fn.links → LeadsOn (record { files = g.S.Storage.files; meaning = g.S.Storage.meaning; storage_faults = g.S.Storage.faults; left = g.L.Source.left; sending = g.L.Source.sending; link_faults = g.L.Source.faults }) (options_of l.fn.hub) l.fn.log.entries l.log.entries (record { storage = l.fn.storage; links = l.fn.links }) (record { storage = l.storage; links = l.links });
+  linked : (n : ℕ) → is_linked l.fn.links n ≡ true → is_linked l.links n ≡ true;
+  has_links : HasLinks (past_of l.fn.log.entries) l.fn.links → HasLinks (past_of l.log.entries) l.links;
 }

@@ -1,8 +1,8 @@
-use Rattle.std.proofs.Common.{◌≡◌, ◌∙◌, List, ℕ, ap, subst}
+use Rattle.std.proofs.Common.{◌≡◌, ◌∙◌, List, ℕ, subst}
 use Rattle.std.specs.List.{flat_map}
 use Rattle.std.specs.FinMap as map
 use Rattle.ftp_stream.specs.Writing.{WritesFront}
-use Rattle.ftp_script.specs.Links.{sent_on}
+use Rattle.ftp_script.specs.Left.{sent_on}
 use Rattle.ftp_script.proofs.Written.{on_err, front-part}
 use Rattle.ftp_script.proofs.printing.print_links.Goals as goal
 

@@ -1,7 +1,7 @@
 use Rattle.std.proofs.Common.{◌≤◌, take}
 use Rattle.std.specs.List.{flat_map}
 use Rattle.ftp_base.specs.Outside.{Writes}
-use Rattle.ftp_script.specs.Links.{sent_on}
+use Rattle.ftp_script.specs.Left.{sent_on}
 use Rattle.ftp_script.proofs.printing.print_links.Given as goal
 
 -- the lines of the numbers so far were written

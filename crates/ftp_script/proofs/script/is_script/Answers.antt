@@ -1,5 +1,4 @@
-use Rattle.std.proofs.Common.{◌≡◌, ◌∙◌, List, ℕ, [], ◌∷◌, true, refl, sym, ap, subst, arith, map}
-use Rattle.std.specs.Prelude.{codes}
+use Rattle.std.proofs.Common.{◌≡◌, ◌∙◌, List, ℕ, [], ◌∷◌, sym, ap, arith, map}
 use Rattle.ftp_script.proofs.Written.{one_element, is_word}
 use Rattle.ftp_script.proofs.script.is_script.Goals as goal
 

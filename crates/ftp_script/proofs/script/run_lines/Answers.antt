@@ -1,4 +1,4 @@
-use Rattle.std.proofs.Common.{[], refl, arith}
+use Rattle.std.proofs.Common.{[], arith}
 use Rattle.ftp_script.proofs.Written.{writes-nil}
 use Rattle.ftp_script.proofs.OutcomeLemmas.{told-start}
 use Rattle.ftp_script.proofs.script.run_lines.Goals as goal

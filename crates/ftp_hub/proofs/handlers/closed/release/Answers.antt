@@ -1,6 +1,5 @@
 use Rattle.std.proofs.Common.{◌≡◌, ℕ, Option, Some, sym, ap, ◌∙◌}
 use Rattle.std.specs.FinMap as finmap
-use Rattle.ftp_base.specs.Net.{ipv4}
 use Rattle.ftp_switchboard.specs.Board.{Held, key, holder_at, still_holder}
 use Rattle.ftp_switchboard.proofs.BoardLemmas.{get-present_released}
 use Rattle.ftp_events.specs.Slot.{waiting_port}

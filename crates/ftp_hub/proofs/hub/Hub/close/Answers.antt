@@ -1,14 +1,19 @@
-use Rattle.std.proofs.Common.{◌≡◌, refl, sym, ap, ◌∙◌, ℕ, Bool, true, false, Option, Some, None, cond}
+use Rattle.std.proofs.Common.{◌≡◌, refl, sym, ap, subst, ◌∙◌, ℕ, Bool, true, false, Option, Some, None, cond}
 use Rattle.std.specs.Prelude.{nat_eq, ◌==◌}
 use Rattle.std.specs.HashMap as map
-use Rattle.std.proofs.Common.{arith, ◌+◌, ◌-◌, eqb-true}
+use Rattle.std.proofs.Common.{arith, ◌-◌, eqb-true}
 use Rattle.ftp_events.specs.Log.{past_of}
 use Rattle.ftp_events.specs.Session.{session_after, lives_on, live_after}
 use Rattle.ftp_hub.specs.Handlers.{notices_of, held_for}
 use Rattle.ftp_events.specs.declared.decision.Decision.TheVariants as decision
 use Rattle.ftp_events.specs.declared.decision.Decision.{Decision}
 use Rattle.ftp_events.specs.declared.session.Session.{Session}
-use Rattle.ftp_hub.proofs.Steps.{serves-unknown, serves-command, tables-same, closed-row}
+use Rattle.ftp_hub.proofs.Refusals.{tables-same}
+use Rattle.ftp_hub.proofs.Decisions.{closed-idle, jobs-idle}
+use Rattle.ftp_hub.proofs.Commands.{serves-unknown, serves-command, closed-row, closed-plain}
+use Rattle.ftp_hub.proofs.Running.{IsIdle, running-idle}
+use Rattle.ftp_events.specs.Running.{running_after}
+use Rattle.ftp_transfer.specs.declared.job.Job.{Job}
 use Rattle.ftp_hub.proofs.hub.Hub.close.Goals as goal
 
 -- taking out nothing changes nothing
@@ -19,12 +24,12 @@ none-taken s q x false h none = refl
 -- a session that is not live
 pub returns-in_default-clause-serves : goal.returns-in_default-clause-serves
 returns-in_default-clause-serves c log st =
-    let none : map.get nat_eq c.args.self.now.sessions c.args.number ≡ None = sym c.take.ensures.session ∙ c.in_default.is in
-    let len : map.hash_map_len c.take.new.sessions ≡ map.hash_map_len c.args.self.now.sessions = omega (arith, rw c.in_default.is at c.take.ensures.len) in
-    serves-unknown c.args.self.now _ log c.args.event.now c.args.answer _ c.args.number st c.requires.named none c.requires.fits.ready.actions
+    let none : map.get nat_eq c.args.self.now.sessions c.args.number ≡ None = sym c.take.ensures.value ∙ c.in_default.is in
+    let len : map.hash_map_len c.take.new.table ≡ map.hash_map_len c.args.self.now.sessions = omega (arith, rw c.in_default.is at c.take.ensures.len) in
+    serves-unknown c.args.self.now _ log c.args.event.now c.args.answer _ c.args.number st (closed-plain _ c.requires.of_this_event) c.requires.named none c.requires.fits.ready.actions
     (tables-same c.args.self.now _ (past_of log) refl
     (λ q. c.take.ensures.updates q ∙ none-taken c.args.number q (map.get nat_eq c.args.self.now.sessions q) (c.args.number == q) refl (λ same. ap (map.get nat_eq c.args.self.now.sessions) (sym same) ∙ none))
-    len (λ q. refl) (λ a p. refl) st.tables)
+    len refl (λ q. refl) (λ a p. refl) st.tables)
 
 -- the end of a live session
 pub returns-clause-serves : goal.returns-clause-serves
@@ -33,10 +38,16 @@ returns-clause-serves c log st =
     let k = c.args.event.now.kind in
     let v : Session = c.in-Some.session in
     let d : Decision = c.handle.result in
-    let there : map.get nat_eq c.args.self.now.sessions c.args.number ≡ Some v = sym c.take.ensures.session ∙ c.in-Some.is in
+    let there : map.get nat_eq c.args.self.now.sessions c.args.number ≡ Some v = sym c.take.ensures.value ∙ c.in-Some.is in
     let closed : d ≡ decision.Closed = c.handle.ensures.decision in
-    let len : map.hash_map_len c.take.new.sessions ≡ map.hash_map_len c.args.self.now.sessions - 1 = omega (arith, rw c.in-Some.is at c.take.ensures.len) in
-    serves-command c.args.self.now _ log c.args.event.now c.args.answer d _ c.args.number v (session_after k d (notices_of d) v) st c.requires.fits.below c.requires.named there
-    (closed ∙ sym (closed-row o (held_for c.args.self.now.board v) k v c.requires.of_this_event)) (λ few. refl) c.handle.ensures.actions refl
-    (λ q. c.take.ensures.updates q ∙ sym (ap (λ (x : Decision). cond (c.args.number == q) (cond (lives_on x) (Some (session_after k d (notices_of d) v)) None) (map.get nat_eq c.args.self.now.sessions q)) closed))
-    (len ∙ sym (ap (λ (x : Decision). live_after x (map.hash_map_len c.args.self.now.sessions)) closed)) (λ q. refl) c.handle.ensures.holders
+    let idle : IsIdle d = subst IsIdle (sym closed) closed-idle in
+    let job : Option Job = map.get nat_eq c.args.self.now.jobs c.args.number in
+    let after : Session = session_after k c.args.answer d (notices_of d c.args.answer) job v in
+    let len : map.hash_map_len c.take.new.table ≡ map.hash_map_len c.args.self.now.sessions - 1 = omega (arith, rw c.in-Some.is at c.take.ensures.len) in
+    serves-command c.args.self.now _ log c.args.event.now c.args.answer d _ c.args.number v after st c.requires.fits.below (closed-plain _ c.requires.of_this_event) c.requires.named there
+    (λ few. closed ∙ sym (closed-row o (held_for c.args.self.now.board v) k v c.requires.of_this_event)) (λ few. refl) (λ few. c.handle.ensures.actions few.notices c.args.answer job) refl
+    (λ q. c.take.ensures.updates q ∙ sym (ap (λ (x : Decision). cond (c.args.number == q) (cond (lives_on x) (Some after) None) (map.get nat_eq c.args.self.now.sessions q)) closed))
+    (len ∙ sym (ap (λ (x : Decision). live_after x (map.hash_map_len c.args.self.now.sessions)) closed))
+    (λ few q. jobs-idle c.args.self.now.jobs c.args.number q k d v idle)
+    (λ few. sym (ap (λ xs. running_after xs (map.hash_map_len c.args.self.now.jobs)) (c.handle.ensures.actions few.notices c.args.answer job) ∙ running-idle o _ k c.args.answer d job v (map.hash_map_len c.args.self.now.jobs) idle))
+    (λ q. refl) c.handle.ensures.holders

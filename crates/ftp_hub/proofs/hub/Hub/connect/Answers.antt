@@ -1,10 +1,12 @@
-use Rattle.std.proofs.Common.{◌≡◌, refl, sym, ap, ◌∙◌, ℕ, ◌+◌, Bool, true, false, ◌||◌, Option, None}
-use Rattle.std.specs.Prelude.{nat_eq, ◌==◌}
+use Rattle.std.proofs.Common.{◌≡◌, refl, sym, ap, ◌∙◌, true, false, None, []}
+use Rattle.std.specs.Prelude.{nat_eq}
 use Rattle.std.specs.HashMap as map
 use Rattle.ftp_events.specs.Decide.{decide}
 use Rattle.ftp_events.specs.Log.{past_of, is_used}
 use Rattle.ftp_events.specs.declared.decision.Decision.TheVariants as decision
-use Rattle.ftp_hub.proofs.Steps.{serves-refused, serves-opened, unused-none}
+use Rattle.ftp_hub.specs.Rooms.{actions_in}
+use Rattle.ftp_hub.proofs.Refusals.{serves-refused}
+use Rattle.ftp_hub.proofs.Openings.{serves-opened, unused-none}
 use Rattle.ftp_hub.proofs.hub.Hub.connect.Goals as goal
 
 -- an address of version 6 is refused
@@ -29,5 +31,6 @@ returns-clause-serves c log st =
     let s = c.in-Connect.session in
     let unused : is_used (past_of log) s ≡ false = sym (st.tables.numbers s) ∙ sym c.has.ensures ∙ c.if-has.false in
     let absent : map.get nat_eq c.args.self.now.sessions s ≡ None = st.tables.sessions s ∙ unused-none c.args.self.now.options (past_of log) s unused in
-    serves-opened c.args.self.now _ log c.args.event.now c.args.answer s c.in-Connect.trace c.in-Connect.raw c.in-Connect.local _ st c.in-Connect.is v4 unused c.requires.ready.actions refl
-    (λ q. rw (sym c.new_session.ensures) (c.put-2.ensures.updates q)) (c.put-2.ensures.len absent) c.put.ensures (λ a p. refl)
+    let nothing : actions_in c.take_kept.new.self ≡ [] = ap actions_in c.take_kept.ensures.same ∙ c.requires.ready.actions in
+    serves-opened c.args.self.now _ log c.args.event.now c.args.answer s c.in-Connect.trace c.in-Connect.raw c.in-Connect.local _ st c.in-Connect.is v4 unused nothing refl
+    (λ q. rw (sym c.new_session.ensures) (c.put-2.ensures.updates q)) (c.put-2.ensures.len absent) refl c.put.ensures (λ a p. refl)

@@ -1,21 +1,23 @@
-use Rattle.std.proofs.Common.{◌≡◌, refl, sym, ap, ◌∙◌, ℕ, ◌+◌, Bool, true, false, ◌||◌, Option, Some, None}
-use Rattle.std.specs.Prelude.{nat_eq, ◌==◌}
+use Rattle.std.proofs.Common.{◌≡◌, refl, sym, ap, subst, ◌∙◌, Bool, true, false, Option, Some}
+use Rattle.std.specs.Prelude.{nat_eq}
 use Rattle.std.specs.HashMap as map
-use Rattle.ftp_base.specs.declared.net.IpAddr.TheVariants.{V4}
 use Rattle.ftp_events.specs.Decide.{decide}
 use Rattle.ftp_events.specs.Log.{past_of, is_used}
 use Rattle.ftp_events.specs.declared.decision.Decision.TheVariants as decision
 use Rattle.ftp_switchboard.proofs.BoardLemmas.{get-remove-key}
-use Rattle.ftp_hub.proofs.Steps.{serves-refused, serves-unheld, serves-held, Arrives, held-live}
+use Rattle.ftp_hub.proofs.Refusals.{serves-refusal, serves-refused, tables-same}
+use Rattle.ftp_hub.proofs.DataLinks.{serves-unheld, serves-held, held-live}
 use Rattle.ftp_base.specs.Net.{same_ip}
 use Rattle.ftp_events.specs.declared.decision.Decision.{Decision}
 use Rattle.ftp_events.specs.declared.event.EventKind.TheVariants.{DataIn}
 use Rattle.ftp_events.specs.Modes.{in_range}
 use Rattle.ftp_events.specs.Session.{session_after}
-use Rattle.ftp_events.specs.Acts.{session_acts}
+use Rattle.ftp_transfer.specs.declared.job.Job.{Job}
+use Rattle.ftp_events.specs.Acts.{session_acts, starting}
+use Rattle.ftp_hub.specs.Handlers.{Starts}
 use Rattle.ftp_hub.specs.Arrivals.{arrival_of}
 use Rattle.ftp_events.specs.declared.session.Session.{Session}
-use Rattle.ftp_switchboard.specs.Board.{Held, key, holder_at, is_key}
+use Rattle.ftp_switchboard.specs.Board.{Held, key}
 use Rattle.std.specs.FinMap as finmap
 use Rattle.ftp_hub.proofs.hub.Hub.data_in.Goals as goal
 
@@ -30,7 +32,8 @@ pub returns-then-has-clause-serves : goal.returns-then-has-clause-serves
 unfolding decide
 returns-then-has-clause-serves c log st =
     let used : is_used (past_of log) c.in-DataIn.number ≡ true = sym (st.tables.numbers c.in-DataIn.number) ∙ sym c.has.ensures ∙ c.if-has.true in
-    serves-refused c.args.self.now log c.args.event.now c.args.answer decision.UsedNumber _ st (rw (c.in-DataIn.is, c.args.self.now.pooled, c.in-V4.is, used) refl) refl c.requires.ready.actions
+    serves-refusal c.args.self.now _ log c.args.event.now c.args.answer decision.UsedNumber _ st (rw (c.in-DataIn.is, c.args.self.now.pooled, c.in-V4.is, used) refl) refl c.requires.ready.actions
+    (tables-same c.args.self.now _ (past_of log) refl (λ q. refl) refl refl (λ q. refl) (λ a p. refl) st.tables)
 
 -- a port that nobody holds
 pub returns-in_default-unregister_by_key-clause-serves : goal.returns-in_default-unregister_by_key-clause-serves
@@ -39,7 +42,7 @@ returns-in_default-unregister_by_key-clause-serves c log st =
     serves-unheld c.args.self.now _ log c.args.event.now c.args.answer _ c.in-DataIn.number c.in-V4.source c.in-DataIn.port c.in-DataIn.raw st
     (record { kind_is = c.in-DataIn.is; from = c.in-V4.is; unused = unused })
     (sym c.unregister_by_key.ensures.holder ∙ c.in_default-unregister_by_key.is)
-    (rw (c.close.ensures.actions, c.requires.ready.actions) refl) refl (λ q. refl) refl c.put.ensures
+    (rw (c.close.ensures.actions, c.requires.ready.actions) refl) refl (λ q. refl) refl refl c.put.ensures
     (λ a p. ap (λ (held : Held). finmap.get held (key a p)) c.unregister_by_key.ensures.held ∙ get-remove-key c.args.self.now.board.held a p c.in-V4.source c.in-DataIn.port)
 
 -- a port that is held
@@ -51,14 +54,16 @@ returns-in-Some-get_mut-clause-serves c log st =
     let lent = c.get_mut.follows.holds c.come.new.session in
     let o = c.args.self.now.options in
     let k = DataIn c.in-DataIn.number c.in-DataIn.raw c.in-DataIn.port in
+    let job : Option Job = map.get nat_eq c.args.self.now.jobs c.in-Some.holder in
     let ranged : Bool → Decision = λ b. arrival_of b (same_ip v.opening.raw.ip c.in-DataIn.raw.ip) c.in-Some.holder in
     let decided : c.come.result ≡ ranged (in_range o c.in-DataIn.port) = c.come.ensures.decision ∙ ap ranged c.in_range-in_range.ensures in
     rw decided (serves-held c.args.self.now _ log c.args.event.now c.args.answer _ c.in-DataIn.number c.in-V4.source c.in-DataIn.port c.in-Some.holder c.in-DataIn.raw v c.come.new.session st
     (record { kind_is = c.in-DataIn.is; from = c.in-V4.is; unused = unused })
     (sym c.unregister_by_key.ensures.holder ∙ c.in-Some.is) there
-    (c.come.ensures.session c.in-DataIn.port ∙ ap (λ (d : Decision). session_after k d 0 v) decided)
-    (c.come.ensures.actions o c.in-DataIn.port c.args.answer ∙ ap (λ (d : Decision). session_acts o c.in-Some.holder k c.args.answer d (Some v)) decided)
-    refl (λ q. (lent.3 (rw there refl)).0 q) lent.2 c.put.ensures
+    (c.come.ensures.session c.in-DataIn.port c.args.answer ∙ ap (λ (d : Decision). session_after k c.args.answer d 0 job v) decided)
+    (c.come.ensures.actions o c.in-DataIn.port c.args.answer ∙ ap (λ (d : Decision). session_acts o c.in-Some.holder k c.args.answer d job (Some v)) decided)
+    refl (λ q. (lent.3 (rw there refl)).0 q) lent.2
+    (subst (λ (d : Decision). Starts c.args.self.now.jobs c.come.new.jobs c.in-Some.holder (starting k d job v)) decided (c.come.ensures.starts c.in-DataIn.port)) c.put.ensures
     (λ a p. ap (λ (held : Held). finmap.get held (key a p)) c.unregister_by_key.ensures.held ∙ get-remove-key c.args.self.now.board.held a p c.in-V4.source c.in-DataIn.port))
 
 -- whoever holds a port is live

@@ -1,10 +1,9 @@
-use Rattle.std.proofs.Common.{◌≡◌, refl, sym, ap, ◌∙◌, Option, [], List}
+use Rattle.std.proofs.Common.{◌≡◌, ap, ◌∙◌, [], List}
 use Rattle.ftp_events.specs.declared.action.Action.{Action}
 use Rattle.ftp_events.specs.declared.decision.Decision.{Decision}
-use Rattle.ftp_events.specs.declared.entry.Entry.{Entry}
 use Rattle.ftp_events.specs.Acts.{acts}
 use Rattle.ftp_hub.specs.Rooms.{actions_in}
-use Rattle.ftp_hub.proofs.Steps.{same-refused}
+use Rattle.ftp_hub.proofs.Refusals.{same-refused}
 use Rattle.ftp_hub.proofs.hub.Hub.step.Goals as goal
 
 -- the entry that is due
@@ -25,4 +24,4 @@ returns-clause-due c log st =
 pub returns-clause-refused : goal.returns-clause-refused
 returns-clause-refused c log st refused =
     let same = same-refused c.args.self.now c.serve-decision.new.self log c.args.event c.args.answer c.serve-decision.result (actions_in c.serve-decision.new.room) c.serve-decision.ensures.head.options st (c.serve-decision.ensures.serves log st) refused in
-    record { sessions = same.sessions; live = same.live; numbers = same.numbers; holders = same.holders }
+    record { sessions = same.sessions; live = same.live; jobs = same.jobs; running = same.running; numbers = same.numbers; holders = same.holders }

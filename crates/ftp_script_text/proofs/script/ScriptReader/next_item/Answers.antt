@@ -5,19 +5,19 @@ use Rattle.ftp_script_text.proofs.script.ScriptReader.next_item.Goals as goal
 
 pub returns-in-End-clause-told : goal.returns-in-End-clause-told
 returns-in-End-clause-told g c =
-    λ before all h. end_told before all c.args.self.now c.args.buffer.now (bytes_in c.advance.new.buffer c.advance.new.held) (g.S.Source.left c.args.source.now) (g.S.Source.left c.advance.new.source) h c.in-End.ensures.told
+    λ before all h set. end_told before all c.args.self.now c.args.buffer.now (bytes_in c.advance.new.buffer c.advance.new.held) (g.S.Source.left c.args.source.now) (g.S.Source.left c.advance.new.source) h c.in-End.ensures.told
 
 pub returns-in-Fault-clause-told : goal.returns-in-Fault-clause-told
 returns-in-Fault-clause-told g c =
-    λ before all h. fault_told before all c.args.self.now c.args.buffer.now (bytes_in c.advance.new.buffer c.advance.new.held) (g.S.Source.left c.args.source.now) (g.S.Source.left c.advance.new.source) h c.in-Fault.ensures.told
+    λ before all h set. fault_told before all c.args.self.now c.args.buffer.now (bytes_in c.advance.new.buffer c.advance.new.held) (g.S.Source.left c.args.source.now) (g.S.Source.left c.advance.new.source) h c.in-Fault.ensures.told
 
 pub returns-in-Long-clause-told : goal.returns-in-Long-clause-told
 returns-in-Long-clause-told g c =
-    λ before all h. long_told before all c.args.self.now c.args.buffer.now (g.S.Source.left c.args.source.now) (c.args.self.now.number + 1) h c.in-Long.ensures.told refl
+    λ before all h set. long_told before all c.args.self.now c.args.buffer.now (g.S.Source.left c.args.source.now) (c.args.self.now.number + 1) h c.in-Long.ensures.told refl
 
 pub returns-in-Ok-clause-told : goal.returns-in-Ok-clause-told
 returns-in-Ok-clause-told g c =
-    λ before all h.
+    λ before all h set.
     more_told before all c.args.self.now
     (record {
       admission = c.line.new.self;
@@ -26,12 +26,12 @@ returns-in-Ok-clause-told g c =
       number = c.args.self.now.number + 1;
     })
     c.args.buffer.now (g.S.Source.left c.args.source.now) c.in-Line.line c.advance.new.buffer (g.S.Source.left c.advance.new.source) (c.advance.new.held.start - c.in-Line.line.start) c.in-Ok.item h c.in-Line.ensures.told c.in-Line.ensures.taken refl refl
-    (c.in-Ok.ensures.let_in before h.known)
+    (c.in-Ok.ensures.let_in before h.known set)
 
 pub returns-in-Ok-clause-let_in : goal.returns-in-Ok-clause-let_in
 returns-in-Ok-clause-let_in g c =
-    λ before known.
-    let given = c.in-Ok.ensures.let_in before known in (
+    λ before known set.
+    let given = c.in-Ok.ensures.let_in before known set in (
       line_item-stands before (c.args.self.now.taken + (c.advance.new.held.start - c.in-Line.line.start)) (bytes_in c.advance.new.buffer c.in-Line.line) c.in-Ok.item given.0,
       given.1,
     )
@@ -46,7 +46,7 @@ returns-in-Ok-clause-lawful g c = record {
 
 pub returns-in-Err-Bad-clause-told : goal.returns-in-Err-Bad-clause-told
 returns-in-Err-Bad-clause-told g c =
-    λ before all h.
-    let bad = rw c.in-Err-Bad.field-0-is at (c.in-Err-Bad.ensures.let_in before h.known) in
+    λ before all h set.
+    let bad = rw c.in-Err-Bad.field-0-is at (c.in-Err-Bad.ensures.let_in before h.known set) in
     bad_told before all c.args.self.now c.args.buffer.now (g.S.Source.left c.args.source.now) c.in-Line.line c.advance.new.buffer (bytes_in c.advance.new.buffer c.advance.new.held) (g.S.Source.left c.advance.new.source) (c.advance.new.held.start - c.in-Line.line.start)
     (c.args.self.now.taken + (c.advance.new.held.start - c.in-Line.line.start)) (c.args.self.now.number + 1) h c.in-Line.ensures.told c.in-Line.ensures.taken refl bad.0 refl

@@ -1,0 +1,19 @@
+#!/bin/sh
+# Times the program from outside, over scripts of 1,000, 10,000 and 40,000 sessions that each upload and download a small
+# file: sh bench/transfers.sh [PROGRAM]. The program is built by `rt run` in crates/ftp_script.
+set -eu
+here=$(cd "$(dirname "$0")" && pwd)
+program=${1:-$here/../crates/ftp_script/out/ftp_script}
+scratch=$(mktemp -d)
+trap 'rm -rf "$scratch"' EXIT
+
+. "$here/measure.sh"
+
+echo "machine: $(uname -m), $(awk -F': ' '/model name/ { print $2; exit }' /proc/cpuinfo)"
+for sessions in 1000 10000 40000; do
+    awk -v sessions="$sessions" -f "$here/transfers.awk" > "$scratch/script"
+    measure "$scratch/script" | awk -v sessions="$sessions" '{
+        events = 13 * sessions
+        printf "%d sessions, %d events: %.2f s, %d events a second, %d KB at most\n", sessions, events, $1, events / $1, $2
+    }'
+done

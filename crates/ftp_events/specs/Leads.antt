@@ -1,0 +1,88 @@
+-- What a log did to a storage and to links.
+use Rattle.std.specs.Prelude.{◌≡◌, ℕ, ◌≤◌, Bool, true, List, [], ◌∷◌, ◌++◌, Option, Some, None, is_some, MatchOption, if◌then◌else◌}
+use Rattle.std.specs.FinMap as map
+use Rattle.std.specs.List.{list_any}
+use Rattle.ftp_base.specs.LinkTable.{Numbered}
+use Rattle.ftp_base.specs.Outside.{Sending}
+use Rattle.ftp_base.specs.Storage.{Files, Meaning}
+use Rattle.ftp_options.specs.declared.options.Options.{Options}
+use Rattle.ftp_transfer.specs.declared.job.Job.{Job}
+use Rattle.ftp_transfer.specs.declared.job.Ticket.{Ticket}
+use Rattle.ftp_transfer.specs.declared.job.Outcome.{Outcome}
+use Rattle.ftp_transfer.specs.Ran.{Told, told, Ran}
+use Rattle.ftp_transfer.specs.Transfer.{suits}
+use Rattle.ftp_events.specs.declared.entry.Entry.{Entry}
+use Rattle.ftp_events.specs.declared.event.Answer.{Answer}
+use Rattle.ftp_events.specs.declared.event.Answer.TheVariants as answer
+use Rattle.ftp_events.specs.declared.event.EventKind.{EventKind}
+use Rattle.ftp_events.specs.declared.event.EventKind.TheVariants.{End}
+use Rattle.ftp_events.specs.Words.{is_number}
+use Rattle.ftp_events.specs.Covers.{link_number}
+use Rattle.ftp_events.specs.Log.{past_of}
+use Rattle.ftp_events.specs.Session.{running_job}
+use Rattle.ftp_events.specs.Transfer.{same_ticket}
+
+-- what storages and links tell
+pub record Views (S L : Type 0) : Type 0 where
+  pub files : S → Option Files
+  pub meaning : S → Meaning
+  pub storage_faults : S → ℕ
+  pub left : L → Option (List ℕ)
+  pub sending : L → Sending
+  pub link_faults : L → ℕ
+
+-- a storage and links by their numbers
+pub record Outside (S L : Type 0) : Type 0 where
+  pub storage : S
+  pub links : Numbered L
+
+-- what a storage and a link tell together
+abbrev pub told_by : {S L : Type 0} → Views S L → S → L → Told
+told_by v s l = told (v.files s) (v.meaning s) (v.storage_faults s) (v.left l) (v.sending l) (v.link_faults l)
+
+-- a data connection of this number came
+abbrev pub is_brought : List Entry → ℕ → Bool
+is_brought past n = list_any (λ e. is_number (link_number e.event.kind) n) past
+
+-- each connection that came has its link
+abbrev pub HasLinks : {L : Type 0} → List Entry → Numbered L → Type 0
+HasLinks past links = (n : ℕ) → is_brought past n ≡ true → is_some (map.get links n) ≡ true
+
+-- the job of a ticket, where it runs
+abbrev pub job_of_ticket : Option Job → Ticket → Option Job
+job_of_ticket None ticket = None
+job_of_ticket (Some job) ticket = if same_ticket job.ticket ticket then Some job else None
+
+-- the job that an event is the end of, where it runs
+abbrev pub job_to_run : Options → List Entry → EventKind → Option Job
+job_to_run o past (End ticket) = job_of_ticket (running_job o past ticket.session) ticket
+job_to_run o past _ = None
+
+-- a job was run on the link that it started on, and on no other
+pub record RunsJob {S L : Type 0} (v : Views S L) (job : Job) (given : Answer) (old new : Outside S L) : Type 0 where
+  pub outcome : Outcome
+  pub before : L
+  pub after : L
+  pub given_is : given ≡ answer.Done outcome
+  pub fits : suits outcome.result job.command ≡ true
+  pub there : map.get old.links job.number ≡ Some before
+  pub links : new.links ≡ map.insert old.links job.number after
+  pub ran : Ran job (told_by v old.storage before) (told_by v new.storage after) outcome
+  pub storage_count : v.storage_faults old.storage ≤ v.storage_faults new.storage
+  pub link_count : v.link_faults before ≤ v.link_faults after
+
+-- nothing was asked, read, written or stored
+pub record LeavesAll {S L : Type 0} (given : Answer) (old new : Outside S L) : Type 0 where
+  pub given_is : given ≡ answer.None
+  pub same : new ≡ old
+
+-- an entry ran the job that it is the end of, and no other acts
+abbrev pub LeadsOne : {S L : Type 0} → Views S L → Options → List Entry → Entry → Outside S L → Outside S L → Type 0
+LeadsOne v o past e old new =
+    MatchOption (job_to_run o past e.event.kind) (LeavesAll e.answer old new) (λ job. RunsJob v job e.answer old new)
+
+-- the newer entries of a log, one after the other, did so
+abbrev pub Leads : {S L : Type 0} → Views S L → Options → List Entry → List Entry → Outside S L → Outside S L → Type 0
+Leads v o log [] old new = new ≡ old
+Leads {S} {L} v o log (e ∷ newer) old new =
+    (between : Outside S L) × Leads v o log newer old between × LeadsOne v o (past_of (newer ++ log)) e between new

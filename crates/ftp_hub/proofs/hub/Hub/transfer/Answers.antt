@@ -1,0 +1,53 @@
+use Rattle.std.proofs.Common.{◌≡◌, refl, sym, ap, ◌∙◌, ℕ, Bool, Option, Some, None, cond}
+use Rattle.std.specs.Prelude.{nat_eq, ◌==◌, unwrap_or}
+use Rattle.std.specs.HashMap as map
+use Rattle.ftp_base.specs.Net.{ipv4}
+use Rattle.ftp_switchboard.specs.Board.{Board, holder_at}
+use Rattle.ftp_transfer.specs.declared.job.Job.{Job}
+use Rattle.ftp_events.specs.Log.{past_of}
+use Rattle.ftp_events.specs.Running.{running_after}
+use Rattle.ftp_events.specs.Session.{session_after}
+use Rattle.ftp_events.specs.Slot.{waiting_port}
+use Rattle.ftp_events.specs.Acts.{session_acts}
+use Rattle.ftp_events.specs.declared.decision.Decision.{Decision}
+use Rattle.ftp_events.specs.declared.session.Session.{Session}
+use Rattle.ftp_hub.specs.Handlers.{IsFew, held_for, number_of}
+use Rattle.ftp_hub.proofs.Refusals.{tables-same}
+use Rattle.ftp_hub.proofs.Named.{few-counts}
+use Rattle.ftp_hub.proofs.Decisions.{Comes, jobs-started, running-started}
+use Rattle.ftp_hub.proofs.Commands.{serves-command, serves-unknown}
+use Rattle.ftp_hub.proofs.Ends.{transfer-comes, transfer-held, transfer-plain, transfer-row}
+use Rattle.ftp_hub.proofs.hub.Hub.transfer.Goals as goal
+
+-- a session that is not live
+pub returns-in-None-clause-serves : goal.returns-in-None-clause-serves
+returns-in-None-clause-serves c log st =
+    serves-unknown c.args.self.now _ log c.args.event.now c.args.answer _ c.args.number st (transfer-plain _ c.requires.of_this_event) c.requires.named (sym c.in-None.ensures.value) c.requires.fits.ready.actions
+    (tables-same c.args.self.now _ (past_of log) refl (λ q. ap (λ (m : map.HashMap ℕ Session _). map.get nat_eq m q) c.get_mut.follows.holds-at-none) (ap map.hash_map_len c.get_mut.follows.holds-at-none) refl (λ q. refl) (λ a p. refl) st.tables)
+
+-- a live session
+pub returns-in-Some-clause-serves : goal.returns-in-Some-clause-serves
+returns-in-Some-clause-serves c log st =
+    let v : Session = c.in-Some.session.now in
+    let s = c.args.number in
+    let k = c.args.event.now.kind in
+    let o = c.args.self.now.options in
+    let d : Decision = c.queue.result in
+    let jobs = c.args.self.now.jobs in
+    let job : Option Job = map.get nat_eq jobs s in
+    let there : map.get nat_eq c.args.self.now.sessions s ≡ Some v = sym c.in-Some.ensures.value in
+    let few : IsFew v = few-counts c.args.self.now log s v st c.requires.fits.below (sym (st.tables.sessions s) ∙ there) in
+    let comes : Comes d = transfer-comes s v d (c.queue.ensures.decision few) in
+    let lent = c.get_mut.follows.holds c.queue.new.session in
+    let number : number_of k ≡ s = ap (λ (n : Option ℕ). unwrap_or n 0) c.requires.named in
+    let acts = c.queue.ensures.actions few c.args.answer in
+    serves-command c.args.self.now _ log c.args.event.now c.args.answer d _ s v c.queue.new.session st c.requires.fits.below (transfer-plain k c.requires.of_this_event) c.requires.named there
+    (λ few. c.queue.ensures.decision few ∙ transfer-row o (held_for c.args.self.now.board v) k s v c.requires.of_this_event c.requires.named)
+    (λ few. c.queue.ensures.session few c.args.answer ∙ ap (λ n. session_after k c.args.answer d n job v) (sym (comes.silent c.args.answer)))
+    (λ few. acts ∙ ap (λ n. session_acts o n k c.args.answer d job (Some v)) (sym number)) refl
+    (λ q. (lent.3 (rw there refl)).0 q ∙ sym (ap (λ (b : Bool). cond (s == q) (cond b (Some c.queue.new.session) None) (map.get nat_eq c.args.self.now.sessions q)) comes.lives))
+    (lent.2 ∙ sym (comes.as_many (map.hash_map_len c.args.self.now.sessions)))
+    (λ few q. jobs-started jobs c.queue.new.jobs s q k d v comes (c.queue.ensures.starts few))
+    (λ few. running-started o s k c.args.answer d v jobs c.queue.new.jobs comes (c.queue.ensures.starts few) ∙ ap (λ xs. running_after xs (map.hash_map_len jobs)) (sym acts))
+    (λ q. refl)
+    (λ a p. ap (λ (board : Board). holder_at board a p) c.queue.ensures.board ∙ transfer-held s v d (c.queue.ensures.decision few) (number_of k) (ipv4 v.opening.client) (waiting_port v.slot) a p (holder_at c.args.self.now.board a p))

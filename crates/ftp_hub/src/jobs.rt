@@ -1,0 +1,104 @@
+//! Transfers of a live session: how they are queued, how they start, and how they end.
+
+ghost use Rattle.std.specs.Prelude.{◌≡◌, ◌+◌, ◌<◌, ◌^◌, ◌++◌, IsTrue, None, Some, nat_eq};
+ghost use Rattle.std.specs.HashMap as map;
+ghost use Rattle.ftp_events.specs.declared.event.Answer.{Answer};
+ghost use Rattle.ftp_events.specs.declared.event.Answer.TheVariants.{Done};
+ghost use Rattle.ftp_events.specs.declared.event.EventKind.TheVariants.{End};
+ghost use Rattle.ftp_events.specs.declared.decision.Decision.TheVariants.{Finished};
+ghost use Rattle.ftp_events.specs.Acts.{session_acts, start_acts, starting};
+ghost use Rattle.ftp_events.specs.CommandRows.{if_logged_in, transfer_row};
+ghost use Rattle.ftp_events.specs.Log.{named_session};
+ghost use Rattle.ftp_events.specs.Login.{logged_user};
+ghost use Rattle.ftp_events.specs.Session.{session_after};
+ghost use Rattle.ftp_events.specs.Slot.{lane_of, startable};
+ghost use Rattle.ftp_hub.specs.Rooms.{IsReady, HasPlace, actions_in, kept_in};
+ghost use Rattle.ftp_hub.specs.Handlers.{is_transfer, IsFew, asked_for, kept_by, notices_of, with_lane, Starts};
+
+use crate::handlers::{end, transfer};
+use crate::room::Room;
+use crate::tables::put;
+use ftp_events::{Decision, HubEvent, Session, Slot};
+use ftp_options::Options;
+use ftp_switchboard::Switchboard;
+use ftp_transfer::{Job, Outcome};
+use std::collections::HashMap;
+use std::mem;
+
+/// Starts the transfer that waits in the slot of a session, where the slot has a link and no job runs.
+pub(crate) fn start(
+    session: &mut Session,
+    number: u64,
+    jobs: &mut HashMap<u64, Job>,
+    room: &mut Room,
+)
+    requires place { HasPlace room.old }
+    requires spare { 0 < map.spare jobs.old }
+    ensures session { session.new ≡ with_lane session.old (lane_of session.old.slot session.old.pending (map.get nat_eq jobs.old number)) }
+    ensures starts { Starts jobs.old jobs.new number (startable session.old.slot session.old.pending (map.get nat_eq jobs.old number)) }
+    ensures actions { actions_in room.new ≡ actions_in room.old ++ start_acts (startable session.old.slot session.old.pending (map.get nat_eq jobs.old number)) }
+{
+    let Slot::Linked { number: link } = session.slot else {
+        return;
+    };
+    if jobs.contains_key(&number) {
+        return;
+    }
+    let Some(pending) = mem::replace(&mut session.pending, None) else {
+        return;
+    };
+    session.slot = Slot::Empty;
+    room.start(pending.ticket, link);
+    put(jobs, number, pending.on(link));
+}
+
+/// Queues the transfer that an event asks for, and starts it where it can start.
+pub(crate) fn queue(
+    session: &mut Session,
+    number: u64,
+    event: &HubEvent,
+    jobs: &mut HashMap<u64, Job>,
+    board: &mut Switchboard,
+    room: &mut Room,
+    options: &Options,
+) -> Decision
+    requires of_this_event { IsTrue (is_transfer event.now.kind) }
+    requires named { named_session event.now.kind ≡ Some number }
+    requires room { IsReady room.old }
+    requires kept { kept_in room.old ≡ kept_by event.now.kind session.old }
+    requires pending { room.old.pending ≡ asked_for event.now.kind session.old }
+    requires spare { 0 < map.spare jobs.old }
+    ensures decision { IsFew session.old → result ≡ if_logged_in session.old (transfer_row number session.old) }
+    ensures session { IsFew session.old → (answer : Answer) → session.new ≡ session_after event.now.kind answer result 0 (map.get nat_eq jobs.old number) session.old }
+    ensures actions { IsFew session.old → (answer : Answer) → actions_in room.new ≡ session_acts options.now number event.now.kind answer result (map.get nat_eq jobs.old number) (Some session.old) }
+    ensures starts { IsFew session.old → Starts jobs.old jobs.new number (starting event.now.kind result (map.get nat_eq jobs.old number) session.old) }
+    ensures board { board.new ≡ board.old }
+{
+    let decision = transfer::handle(session, &event.kind, board, room, event.at, options);
+    if let Decision::Queued { ticket: _ } = decision {
+        start(session, number, jobs, room);
+    }
+    decision
+}
+
+/// Tells the session of the end of its transfer, and starts the one that waits for its end.
+pub(crate) fn finish(
+    session: &mut Session,
+    job: Job,
+    outcome: Outcome,
+    jobs: &mut HashMap<u64, Job>,
+    room: &mut Room,
+    options: &Options,
+)
+    requires room { IsReady room.old }
+    requires kept { kept_in room.old ≡ logged_user session.old.login session.old.name }
+    requires spare { 0 < map.spare jobs.old }
+    requires ended { map.get nat_eq jobs.old job.ticket.session ≡ None }
+    ensures session { session.old.notices + 1 < 2 ^ 64 → session.new ≡ session_after (End job.ticket) (Done outcome) Finished (notices_of Finished (Done outcome)) (Some job) session.old }
+    ensures actions { session.old.notices + 1 < 2 ^ 64 → actions_in room.new ≡ session_acts options.now job.ticket.session (End job.ticket) (Done outcome) Finished (Some job) (Some session.old) }
+    ensures starts { Starts jobs.old jobs.new job.ticket.session (starting (End job.ticket) Finished (Some job) session.old) }
+{
+    let number = job.ticket.session;
+    end::deliver(session, job, outcome, room, options);
+    start(session, number, jobs, room);
+}

@@ -1,0 +1,140 @@
+-- How many of the actions of an entry pass a test on transfers.
+use Rattle.std.proofs.Common.{◌≡◌, refl, ◌∙◌, ap, ℕ, ◌+◌, Bool, true, false, cond, List, [], ◌∷◌, ◌++◌, Option, Some, None, arith}
+use Rattle.std.specs.Prelude.{count_by, unwrap_or}
+use Rattle.std.specs.Option.{option_map_or, option_and_then}
+use Rattle.std.proofs.lemmas.List.Sums.{sum_by-append}
+use Rattle.ftp_base.specs.declared.message.ControlChanMsg.{ControlChanMsg}
+use Rattle.ftp_base.specs.declared.notice.EventMeta.{EventMeta}
+use Rattle.ftp_base.specs.declared.notice.Notice.{Notice}
+use Rattle.ftp_base.specs.declared.reply.Reply.{Reply}
+use Rattle.ftp_base.specs.declared.reply.Reply.TheVariants as reply
+use Rattle.ftp_options.specs.declared.options.Options.{Options}
+use Rattle.ftp_transfer.specs.declared.job.Job.{Job}
+use Rattle.ftp_events.specs.declared.action.Action.{Action}
+use Rattle.ftp_events.specs.declared.action.Action.TheVariants as action
+use Rattle.ftp_events.specs.declared.decision.Decision.{Decision}
+use Rattle.ftp_events.specs.declared.decision.Decision.TheVariants as decision
+use Rattle.ftp_events.specs.declared.entry.Entry.{Entry}
+use Rattle.ftp_events.specs.declared.event.EventKind.{EventKind}
+use Rattle.ftp_events.specs.declared.event.Answer.{Answer}
+use Rattle.ftp_events.specs.declared.session.Session.{Session}
+use Rattle.ftp_events.specs.Log.{is_refusal, is_ending, new_number}
+use Rattle.ftp_events.specs.History.{subject}
+use Rattle.ftp_events.specs.Login.{login_by, logged_user}
+use Rattle.ftp_events.specs.Session.{session, running_job}
+use Rattle.ftp_events.specs.Reply.{message_for, reply_for, delay_of}
+use Rattle.ftp_events.specs.Acts.{acts_of, acts_for, session_acts, completions, closings, stays, drop_acts, slot_of, pending_in, refused_link, notice_and_reply, notifications, notice_for, presence_for, reply_acts, start_acts, starting, farewells}
+
+-- the test passes nothing but what becomes of transfers
+pub record IsOnTransfers (p : Action → Bool) : Type 0 where
+  pub closes : (n : ℕ) → p (action.Close n) ≡ false
+  pub notifies : (s : ℕ) (meta : EventMeta) (what : Notice) → p (action.Notify s meta what) ≡ false
+  pub replies : (s delay : ℕ) (r : Reply) → p (action.Reply s delay r) ≡ false
+
+-- two lists have as many as both together
+pub count-append :
+    (p : Action → Bool) (xs ys : List Action) →
+    count_by p (xs ++ ys) ≡ count_by p xs + count_by p ys
+count-append p xs ys = sum_by-append (λ x. cond (p x) 1 0) xs ys
+
+-- a link that is closed does not count
+pub count-closings :
+    (p : Action → Bool) (link : Option ℕ) → IsOnTransfers p →
+    count_by p (closings link) ≡ 0
+count-closings p None t = refl
+count-closings p (Some n) t = rw (t.closes n) refl
+
+-- nor does a connection that is turned away
+pub count-refused_link :
+    (p : Action → Bool) (k : EventKind) (d : Decision) →
+    IsOnTransfers p → count_by p (refused_link k d) ≡ 0
+count-refused_link p k decision.Turned t = go (new_number k decision.Turned)
+  where
+    go : (n : Option ℕ) → count_by p (option_map_or (λ n. action.Close n ∷ []) n []) ≡ 0
+    go None = refl
+    go (Some n) = rw (t.closes n) refl
+count-refused_link p k d t = refl
+
+-- nor a notification
+pub count-notifications :
+    (p : Action → Bool) (s : ℕ) (v : Session) (user : List ℕ) (what : Option Notice) →
+    IsOnTransfers p →
+    count_by p (notifications s v user what) ≡ 0
+count-notifications p s v user None t = refl
+count-notifications p s v user (Some what) t = rw (t.notifies s _ what) refl
+
+-- nor a reply
+pub count-reply_acts :
+    (p : Action → Bool) (s delay : ℕ) (r : Reply) →
+    IsOnTransfers p → count_by p (reply_acts s delay r) ≡ 0
+count-reply_acts p s delay reply.None t = refl
+count-reply_acts p s delay (reply.CodeAndMsg c msg) t = rw (t.replies s delay (reply.CodeAndMsg c msg)) refl
+
+-- so what a live session is told does not
+pub count-told :
+    (p : Action → Bool) (o : Options) (s : ℕ) (k : EventKind) (answer : Answer) (d : Decision) (job : Option Job) (v : Option Session) →
+    IsOnTransfers p →
+    count_by p (option_map_or (notice_and_reply o s k answer d job) v []) ≡ 0
+count-told p o s k answer d job None t = refl
+count-told p o s k answer d job (Some v) t =
+    let m : Option ControlChanMsg = message_for v job k answer d in
+    let user : List ℕ = logged_user (unwrap_or (login_by d) v.login) v.name in
+    let what : Option Notice = notice_for m (presence_for d) in
+    omega (arith, count-append p (notifications s v user what) (reply_acts s (delay_of d) (reply_for o v m k d)), count-notifications p s v user what t, count-reply_acts p s (delay_of d) (reply_for o v m k d) t)
+
+-- nor a connection that is closed at the end
+pub count-farewells :
+    (p : Action → Bool) (s : ℕ) (d : Decision) →
+    IsOnTransfers p → count_by p (farewells s d) ≡ 0
+count-farewells p s d t = go (is_ending d)
+  where
+    go : (b : Bool) → count_by p (cond b (action.Close s ∷ []) []) ≡ 0
+    go true = rw (t.closes s) refl
+    go false = refl
+
+-- what counts is that transfers end, are dropped, and start
+pub count-session_acts :
+    (p : Action → Bool) (o : Options) (s : ℕ) (k : EventKind) (answer : Answer) (d : Decision) (job : Option Job) (v : Option Session) →
+    IsOnTransfers p →
+    count_by p (session_acts o s k answer d job v) ≡ count_by p (completions k d (stays d v)) + count_by p (drop_acts s (stays d v) d (slot_of v) (pending_in v)) + count_by p (start_acts (option_and_then (starting k d job) v))
+count-session_acts p o s k answer d job v t =
+    let a : List Action = completions k d (stays d v) in
+    let b : List Action = drop_acts s (stays d v) d (slot_of v) (pending_in v) in
+    let c : List Action = refused_link k d in
+    let told : List Action = option_map_or (notice_and_reply o s k answer d job) v [] in
+    let f : List Action = start_acts (option_and_then (starting k d job) v) in
+    omega (
+      arith,
+      count-append p (a ++ b ++ c ++ told ++ f) (farewells s d),
+      count-append p (a ++ b ++ c ++ told) f,
+      count-append p (a ++ b ++ c) told,
+      count-append p (a ++ b) c,
+      count-append p a b,
+      count-refused_link p k d t,
+      count-told p o s k answer d job v t,
+      count-farewells p s d t,
+    )
+
+-- how many of an entry's actions count, where it is about a session
+pub count-about :
+    (p : Action → Bool) (o : Options) (past : List Entry) (e : Entry) (s : ℕ) →
+    IsOnTransfers p → is_refusal e.decision ≡ false →
+    e.actions ≡ acts_of o past e →
+    subject o past e ≡ Some s →
+    count_by p e.actions ≡ count_by p (completions e.event.kind e.decision (stays e.decision (session o past s))) + count_by p (drop_acts s (stays e.decision (session o past s)) e.decision (slot_of (session o past s)) (pending_in (session o past s))) + count_by p (start_acts (option_and_then (starting e.event.kind e.decision (running_job o past s)) (session o past s)))
+count-about p o past e s t counts acted about =
+    let done : e.actions ≡ acts_for o past e s = acted ∙ rw (counts, about) refl in
+    ap (count_by p) done ∙ count-session_acts p o s e.event.kind e.answer e.decision (running_job o past s) (session o past s) t
+
+-- none do where it is about nobody
+pub count-nobody :
+    (p : Action → Bool) (o : Options) (past : List Entry) (e : Entry) →
+    IsOnTransfers p → e.actions ≡ acts_of o past e →
+    subject o past e ≡ None → count_by p e.actions ≡ 0
+count-nobody p o past e t acted about = ap (count_by p) acted ∙ go (is_refusal e.decision)
+  where
+    go :
+        (b : Bool) →
+        count_by p (cond b [] (option_map_or (acts_for o past e) (subject o past e) (refused_link e.event.kind e.decision))) ≡ 0
+    go true = refl
+    go false = rw about (count-refused_link p e.event.kind e.decision t)

@@ -1,0 +1,217 @@
+-- What an entry makes of a transfer that waits or runs.
+use Rattle.std.proofs.Common.{◌≡◌, refl, ap, ap₂, ℕ, ◌+◌, Bool, true, false, cond, List, [], ◌∷◌, ◌++◌, Option, Some, None, arith, eqb-true}
+use Rattle.std.specs.Prelude.{◌==◌, count_by}
+use Rattle.std.proofs.lemmas.Bool.{and_parts}
+use Rattle.ftp_options.specs.declared.options.Options.{Options}
+use Rattle.ftp_transfer.specs.declared.job.Job.{Job}
+use Rattle.ftp_transfer.specs.declared.job.Ticket.{Ticket}
+use Rattle.ftp_events.specs.declared.action.Action.TheVariants as action
+use Rattle.ftp_events.specs.declared.decision.Decision.{Decision}
+use Rattle.ftp_events.specs.declared.decision.Decision.TheVariants as decision
+use Rattle.ftp_events.specs.declared.entry.Entry.{Entry}
+use Rattle.ftp_events.specs.declared.event.EventKind.{EventKind}
+use Rattle.ftp_events.specs.declared.event.EventKind.TheVariants as kind
+use Rattle.ftp_events.specs.declared.event.Answer.{Answer}
+use Rattle.ftp_events.specs.declared.session.Pending.{Pending}
+use Rattle.ftp_events.specs.declared.session.Slot.{Slot}
+use Rattle.ftp_events.specs.declared.session.Slot.TheVariants.{Empty, Waits, Linked}
+use Rattle.ftp_events.specs.Log.{new_number}
+use Rattle.ftp_events.specs.Slot.{Lane, with_link, drops, lane_of, lane_after}
+use Rattle.ftp_events.specs.Session.{running_job}
+use Rattle.ftp_events.specs.Transfer.{same_ticket}
+use Rattle.ftp_events.specs.EndRows.{outcome_row, end_row}
+use Rattle.ftp_events.specs.Decide.{due}
+use Rattle.ftp_events.specs.Acts.{completions, cancellations, closings, link_in, drop_acts, start_acts}
+use Rattle.ftp_events.specs.Fate.{is_running, is_pending}
+use Rattle.ftp_laws.specs.Fates.{queues, settles}
+use Rattle.ftp_laws.proofs.Counts.{IsOnTransfers, count-append, count-closings}
+
+-- tickets that are the same are equal
+pub same_ticket-equal : (a b : Ticket) → same_ticket a b ≡ true → a ≡ b
+same_ticket-equal a b h =
+    let parts = and_parts (a.session == b.session) (a.nr == b.nr) h in
+    ap₂ (λ (s n : ℕ). record { session = s; nr = n }) (eqb-true a.session b.session parts.0) (eqb-true a.nr b.nr parts.1)
+
+-- tickets of two sessions are not the same
+pub same_ticket-other : (a b : Ticket) → (a.session == b.session) ≡ false → same_ticket a b ≡ false
+same_ticket-other a b h = rw h refl
+
+-- one for what holds
+abbrev pub one : Bool → ℕ
+one b = cond b 1 0
+
+-- how often a transfer is in a slot or runs
+abbrev pub carried : Ticket → Lane → ℕ
+carried t l = one (is_running t l.running) + one (is_pending t l.pending)
+
+-- a job that starts is carried as before
+pub lane_of-carried :
+    (t : Ticket) (slot : Slot) (pending : Option Pending) (running : Option Job) →
+    carried t (lane_of slot pending running) ≡ one (is_running t running) + one (is_pending t pending)
+lane_of-carried t (Linked n) (Some p) None = omega arith
+lane_of-carried t (Linked n) (Some p) (Some j) = refl
+lane_of-carried t (Linked n) None running = refl
+lane_of-carried t Empty pending running = refl
+lane_of-carried t (Waits port) pending running = refl
+
+-- the test on what settles a transfer is one on transfers
+pub settles-on-transfers : (t : Ticket) → IsOnTransfers (settles t)
+settles-on-transfers t = record { closes = λ m. refl; notifies = λ s meta what. refl; replies = λ s delay r. refl }
+
+-- a job that starts settles nothing
+pub settles-start_acts : (t : Ticket) (job : Option Job) → count_by (settles t) (start_acts job) ≡ 0
+settles-start_acts t None = refl
+settles-start_acts t (Some j) = refl
+
+-- a transfer that is dropped is settled
+pub settles-cancellations :
+    (t : Ticket) (s : ℕ) (staying : Bool) (pending : Option Pending) →
+    count_by (settles t) (cancellations s staying pending) ≡ one (is_pending t pending)
+settles-cancellations t s staying None = refl
+settles-cancellations t s true (Some p) = go (same_ticket p.ticket t) refl
+  where
+    go :
+        (b : Bool) → same_ticket p.ticket t ≡ b →
+        count_by (settles t) (cancellations s true (Some p)) ≡ one b
+    go true x = rw x refl
+    go false x = rw x refl
+settles-cancellations t s false (Some p) = go (same_ticket p.ticket t) refl
+  where
+    go :
+        (b : Bool) → same_ticket p.ticket t ≡ b →
+        count_by (settles t) (cancellations s false (Some p)) ≡ one b
+    go true x = rw x refl
+    go false x = rw x refl
+
+-- so what is lost with a slot is settled
+pub settles-drop_acts :
+    (t : Ticket) (s : ℕ) (staying : Bool) (d : Decision) (slot : Slot) (pending : Option Pending) →
+    count_by (settles t) (drop_acts s staying d slot pending) ≡ cond (drops d slot) (one (is_pending t pending)) 0
+settles-drop_acts t s staying d slot pending = go (drops d slot)
+  where
+    go :
+        (b : Bool) →
+        count_by (settles t) (cond b (cancellations s staying pending ++ closings (link_in slot)) []) ≡ cond b (one (is_pending t pending)) 0
+    go false = refl
+    go true =
+        omega (
+          arith,
+          count-append (settles t) (cancellations s staying pending) (closings (link_in slot)),
+          settles-cancellations t s staying pending,
+          count-closings (settles t) (link_in slot) (settles-on-transfers t),
+        )
+
+-- an end settles its own transfer alone
+pub settles-other :
+    (t : Ticket) (k : EventKind) (d : Decision) (delivered : Bool) →
+    ((ticket : Ticket) → k ≡ kind.End ticket → same_ticket ticket t ≡ false) →
+    count_by (settles t) (completions k d delivered) ≡ 0
+settles-other t (kind.End ticket) decision.Finished delivered h = rw (h ticket refl) refl
+settles-other t k d delivered h = refl
+
+-- a job has ended
+abbrev pub is_finished : Decision → Bool
+is_finished decision.Finished = true
+is_finished _ = false
+
+-- no other decision completes a transfer
+pub settles-unfinished :
+    (t : Ticket) (k : EventKind) (d : Decision) (delivered : Bool) →
+    is_finished d ≡ false →
+    count_by (settles t) (completions k d delivered) ≡ 0
+settles-unfinished t (kind.End ticket) decision.Finished delivered f = cc
+settles-unfinished t k d delivered f = refl
+
+-- what is known of the end of a job: it ran
+pub record IsEnd (o : Options) (past : List Entry) (k : EventKind) : Type 0 where
+  pub ticket : Ticket
+  pub kind_is : k ≡ kind.End ticket
+  pub job : Job
+  pub ran : running_job o past ticket.session ≡ Some job
+  pub same : job.ticket ≡ ticket
+
+-- only the end of a job that ran is decided as one
+pub finished-known :
+    (o : Options) (past : List Entry) (at : ℕ) (k : EventKind) (answer : Answer) →
+    due o past at k answer ≡ decision.Finished →
+    IsEnd o past k
+finished-known o past at (kind.End ticket) answer e = by_job (running_job o past ticket.session) refl e
+  where
+    by_ticket :
+        (j : Job) (b : Bool) →
+        running_job o past ticket.session ≡ Some j →
+        same_ticket j.ticket ticket ≡ b →
+        cond b (outcome_row j answer) decision.UnknownNumber ≡ decision.Finished →
+        IsEnd o past (kind.End ticket)
+    by_ticket j true x y h = record { ticket = ticket; kind_is = refl; job = j; ran = x; same = same_ticket-equal j.ticket ticket y }
+    by_ticket j false x y h = cc
+
+    by_job :
+        (j : Option Job) →
+        running_job o past ticket.session ≡ j →
+        end_row ticket answer j ≡ decision.Finished →
+        IsEnd o past (kind.End ticket)
+    by_job None x h = cc
+    by_job (Some j) x h = by_ticket j (same_ticket j.ticket ticket) x refl h
+finished-known o past at (kind.Connect s raw local trace) answer e = grind arith
+finished-known o past at (kind.DataIn number raw port) answer e = grind arith
+finished-known o past at (kind.User s name) answer e = grind arith
+finished-known o past at (kind.Pass s) answer e = grind arith
+finished-known o past at (kind.AuthDone s said) answer e = grind arith
+finished-known o past at (kind.Pasv s word lookup bound) answer e = grind arith
+finished-known o past at (kind.Transfer s c) answer e = grind arith
+finished-known o past at (kind.Stou s word) answer e = grind arith
+finished-known o past at (kind.Rest s offset) answer e = grind arith
+finished-known o past at (kind.Cwd s path refusal) answer e = grind arith
+finished-known o past at (kind.Closed s) answer e = grind arith
+
+-- what an entry needs, so that no transfer is lost or doubled: one that queues finds a free slot, one that ends a job names it
+pub record IsFit (k : EventKind) (d : Decision) (queued : Option Pending) (l : Lane) : Type 0 where
+  pub queue : (ticket : Ticket) → d ≡ decision.Queued ticket → (l.pending ≡ None) × ((p : Pending) × (queued ≡ Some p) × (p.ticket ≡ ticket))
+  pub end : d ≡ decision.Finished → (ticket : Ticket) × (k ≡ kind.End ticket) × ((j : Job) × (l.running ≡ Some j) × (j.ticket ≡ ticket))
+
+-- how often a transfer is settled with a slot and a job
+abbrev pub lost : Ticket → ℕ → Bool → EventKind → Decision → Lane → ℕ
+lost t s staying k d l =
+    count_by (settles t) (completions k d staying) + count_by (settles t) (drop_acts s staying d l.slot l.pending)
+
+-- where a slot may be dropped, its transfer is settled or kept
+pub drop-balance :
+    (t : Ticket) (b : Bool) (l : Lane) →
+    carried t (record { slot = cond b Empty l.slot; pending = cond b None l.pending; running = l.running }) + cond b (one (is_pending t l.pending)) 0 ≡ carried t l
+drop-balance t true l = omega arith
+drop-balance t false l = omega arith
+
+-- what was carried or is queued is carried or settled
+pub lane-balance :
+    (t : Ticket) (s : ℕ) (staying : Bool) (k : EventKind) (d : Decision) (queued : Option Pending) (l : Lane) →
+    IsFit k d queued l →
+    carried t (lane_after k d queued l) + lost t s staying k d l ≡ carried t l + one (queues t d)
+lane-balance t s staying k (decision.Queued ticket) queued l fit =
+    let q = fit.queue ticket refl in
+    let before : is_pending t l.pending ≡ false = rw q.0 refl in
+    let after : is_pending t queued ≡ same_ticket ticket t = rw (q.1.1, q.1.2) refl in
+    omega (arith, lane_of-carried t l.slot queued l.running, ap one before, ap one after, settles-drop_acts t s staying (decision.Queued ticket) l.slot l.pending, settles-unfinished t k (decision.Queued ticket) staying refl)
+lane-balance t s staying k decision.Finished queued l fit =
+    let e = fit.end refl in
+    let ran : is_running t l.running ≡ same_ticket e.0 t = rw (e.2.1, e.2.2) refl in
+    let told : count_by (settles t) (completions k decision.Finished staying) ≡ one (same_ticket e.0 t) = rw e.1 (told-one e.0) in
+    omega (arith, lane_of-carried t l.slot l.pending None, ap one ran, told, settles-drop_acts t s staying decision.Finished l.slot l.pending)
+  where
+    told-one :
+        (ticket : Ticket) →
+        count_by (settles t) (action.Completed ticket staying ∷ []) ≡ one (same_ticket ticket t)
+    told-one ticket = go (same_ticket ticket t) refl
+      where
+        go :
+            (b : Bool) → same_ticket ticket t ≡ b →
+            count_by (settles t) (action.Completed ticket staying ∷ []) ≡ one b
+        go true x = rw x refl
+        go false x = rw x refl
+lane-balance t s staying k (decision.Attached h) queued l fit =
+    omega (arith, lane_of-carried t (with_link l.slot (new_number k (decision.Attached h))) l.pending l.running, settles-drop_acts t s staying (decision.Attached h) l.slot l.pending, settles-unfinished t k (decision.Attached h) staying refl)
+lane-balance t s staying k (decision.Granted port) queued l fit = omega (arith, settles-drop_acts t s staying (decision.Granted port) l.slot l.pending, settles-unfinished t k (decision.Granted port) staying refl)
+lane-balance t s staying k d queued l fit =
+    let after : carried t (lane_after k d queued l) ≡ carried t (record { slot = cond (drops d l.slot) Empty l.slot; pending = cond (drops d l.slot) None l.pending; running = l.running }) = refl in
+    let told : count_by (settles t) (completions k d staying) ≡ 0 = settles-unfinished t k d staying refl in
+    omega (arith, after, told, settles-drop_acts t s staying d l.slot l.pending, drop-balance t (drops d l.slot) l)

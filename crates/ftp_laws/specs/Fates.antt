@@ -1,0 +1,37 @@
+-- Which transfers there are, and what settles them.
+use Rattle.std.specs.Prelude.{ℕ, Bool, true, false, List, count_by}
+use Rattle.std.specs.List.{list_any}
+use Rattle.ftp_transfer.specs.declared.job.Ticket.{Ticket}
+use Rattle.ftp_events.specs.declared.action.Action.{Action}
+use Rattle.ftp_events.specs.declared.action.Action.TheVariants as action
+use Rattle.ftp_events.specs.declared.decision.Decision.{Decision}
+use Rattle.ftp_events.specs.declared.decision.Decision.TheVariants.{Turned, Granted, Queued, Closed}
+use Rattle.ftp_events.specs.declared.entry.Entry.{Entry}
+use Rattle.ftp_events.specs.Words.{total}
+use Rattle.ftp_events.specs.Transfer.{same_ticket}
+
+-- the transfer is queued
+abbrev pub queues : Ticket → Decision → Bool
+queues t (Queued ticket) = same_ticket ticket t
+queues t _ = false
+
+-- some entry queued it
+abbrev pub was_queued : Ticket → List Entry → Bool
+was_queued t log = list_any (λ e. queues t e.decision) log
+
+-- the action completes or cancels the transfer
+abbrev pub settles : Ticket → Action → Bool
+settles t (action.Completed ticket delivered) = same_ticket ticket t
+settles t (action.Cancelled ticket) = same_ticket ticket t
+settles t _ = false
+
+-- how often the transfer was completed or cancelled
+abbrev pub settle_count : Ticket → List Entry → ℕ
+settle_count t log = total (λ e. count_by (settles t) e.actions) log
+
+-- the decisions that can cancel a transfer: another grant, a connection that is turned away, and the end of the session
+abbrev pub can_cancel : Decision → Bool
+can_cancel (Granted port) = true
+can_cancel Turned = true
+can_cancel Closed = true
+can_cancel _ = false

@@ -1,0 +1,100 @@
+-- Links under a log: their numbers stay, and one more of them changes nothing.
+use Rattle.std.proofs.Common.{◌≡◌, ◌≢◌, ℕ, Bool, true, false, cond, List, [], ◌∷◌, ◌++◌, Option, Some, None, is_some, refl, sym, ap, subst, ◌∙◌, eqb-true}
+use Rattle.std.specs.Prelude.{MatchOption}
+use Rattle.std.specs.Ordering.{nat_cmp, eq_by_cmp}
+use Rattle.std.specs.Cmp.{nat_cmp_total, unsigned_tied}
+use Rattle.std.specs.FinMap as map
+use Rattle.ftp_base.specs.LinkTable.{Numbered}
+use Rattle.ftp_base.proofs.LinkTableLemmas.{get-insert-other, is_some-get-insert}
+use Rattle.ftp_options.specs.declared.options.Options.{Options}
+use Rattle.ftp_transfer.specs.declared.job.Job.{Job}
+use Rattle.ftp_events.specs.declared.entry.Entry.{Entry}
+use Rattle.ftp_events.specs.Leads.{Views, Outside, job_to_run, RunsJob, LeavesAll, LeadsOne, Leads}
+use Rattle.ftp_events.specs.Log.{past_of}
+use Rattle.ftp_hub.specs.Runs.{is_linked}
+
+-- ---- numbers
+
+one-numbers : {S L : Type 0} (v : Views S L) (o : Options) (past : List Entry) (e : Entry) (old new : Outside S L) (n : ℕ) →
+    LeadsOne v o past e old new →
+    is_linked new.links n ≡ is_linked old.links n
+one-numbers {S} {L} v o past e old new n led = by (job_to_run o past e.event.kind) led where
+  by : (found : Option Job) → MatchOption found (LeavesAll e.answer old new) (λ job. RunsJob v job e.answer old new) → is_linked new.links n ≡ is_linked old.links n
+  by None idle = ap (λ (x : Outside S L). is_linked x.links n) idle.same
+  by (Some job) ran = ap (λ (links : Numbered L). is_linked links n) ran.links ∙ is_some-get-insert old.links job.number ran.after (ap is_some ran.there) n
+
+-- the same numbers have a link as before
+pub leads-numbers : {S L : Type 0} (v : Views S L) (o : Options) (log newer : List Entry) (old new : Outside S L) (n : ℕ) →
+    Leads v o log newer old new →
+    is_linked new.links n ≡ is_linked old.links n
+leads-numbers {S} {L} v o log [] old new n led = ap (λ (x : Outside S L). is_linked x.links n) led
+leads-numbers {S} {L} v o log (e ∷ newer) old new n led =
+    let x : (between : Outside S L) × Leads v o log newer old between × LeadsOne v o (past_of (newer ++ log)) e between new = led in
+    one-numbers v o (past_of (newer ++ log)) e x.0 new n x.2 ∙ leads-numbers v o log newer old x.0 n x.1
+
+-- ---- one more link
+
+-- the outside with a link at a number
+abbrev pub with_link : {S L : Type 0} → Outside S L → ℕ → L → Outside S L
+with_link x n link = record { storage = x.storage; links = map.insert x.links n link }
+
+swap : {A : Type 0} (b c : Bool) (x y z : A) → (b ≡ true → c ≡ true → ⊥) → cond b y (cond c x z) ≡ cond c x (cond b y z)
+swap true true x y z apart = absurd (apart refl refl)
+swap true false x y z apart = refl
+swap false c x y z apart = refl
+
+same_number : (q n : ℕ) → eq_by_cmp nat_cmp q n ≡ true → q ≡ n
+same_number q n tied = eqb-true q n (sym (unsigned_tied q n) ∙ tied)
+
+-- what is put at two numbers is there in either order
+insert-commutes : {L : Type 0} (links : Numbered L) (m n : ℕ) (x y : L) → m ≢ n → map.insert (map.insert links m x) n y ≡ map.insert (map.insert links n y) m x
+insert-commutes links m n x y other =
+    map.same_map nat_cmp_total map.nat_cmp-IsAntisymmetric _ _ (λ q.
+    map.get-insert nat_cmp_total (map.insert links m x) n y q
+    ∙ ap (cond (eq_by_cmp nat_cmp q n) (Some y)) (map.get-insert nat_cmp_total links m x q)
+    ∙ swap (eq_by_cmp nat_cmp q n) (eq_by_cmp nat_cmp q m) (Some x) (Some y) (map.get links q) (λ at_n at_m. other (sym (same_number q m at_m) ∙ same_number q n at_n))
+    ∙ sym (ap (cond (eq_by_cmp nat_cmp q m) (Some x)) (map.get-insert nat_cmp_total links n y q))
+    ∙ sym (map.get-insert nat_cmp_total (map.insert links n y) m x q))
+
+-- a number that has no link is another than one that has
+unlinked-other : {L : Type 0} (links : Numbered L) (m n : ℕ) (x : L) → map.get links m ≡ Some x → is_linked links n ≡ false → m ≢ n
+unlinked-other {L} links m n x there unlinked = λ same.
+    let linked : is_linked links n ≡ true = subst (λ (k : ℕ). is_linked links k ≡ true) same (ap is_some there) in
+    absurd cc
+
+one-framed : {S L : Type 0} (v : Views S L) (o : Options) (past : List Entry) (e : Entry) (old new : Outside S L) (n : ℕ) (link : L) →
+    is_linked old.links n ≡ false →
+    LeadsOne v o past e old new →
+    LeadsOne v o past e (with_link old n link) (with_link new n link)
+one-framed {S} {L} v o past e old new n link unlinked led = by (job_to_run o past e.event.kind) led where
+  by : (found : Option Job) →
+      MatchOption found (LeavesAll e.answer old new) (λ job. RunsJob v job e.answer old new) →
+      MatchOption found (LeavesAll e.answer (with_link old n link) (with_link new n link)) (λ job. RunsJob v job e.answer (with_link old n link) (with_link new n link))
+  by None idle = record { given_is = idle.given_is; same = ap (λ (x : Outside S L). with_link x n link) idle.same }
+  by (Some job) ran =
+      let other : job.number ≢ n = unlinked-other old.links job.number n ran.before ran.there unlinked in
+      record {
+        outcome = ran.outcome;
+        before = ran.before;
+        after = ran.after;
+        given_is = ran.given_is;
+        fits = ran.fits;
+        there = get-insert-other old.links n link job.number other ∙ ran.there;
+        links = ap (λ (links : Numbered L). map.insert links n link) ran.links ∙ insert-commutes old.links job.number n ran.after link other;
+        ran = ran.ran;
+        storage_count = ran.storage_count;
+        link_count = ran.link_count;
+      }
+
+-- a link at a number that had none is used by no entry
+pub leads-framed : {S L : Type 0} (v : Views S L) (o : Options) (log newer : List Entry) (old new : Outside S L) (n : ℕ) (link : L) →
+    is_linked old.links n ≡ false →
+    Leads v o log newer old new →
+    Leads v o log newer (with_link old n link) (with_link new n link)
+leads-framed {S} {L} v o log [] old new n link unlinked led = ap (λ (x : Outside S L). with_link x n link) led
+leads-framed {S} {L} v o log (e ∷ newer) old new n link unlinked led =
+    let x : (between : Outside S L) × Leads v o log newer old between × LeadsOne v o (past_of (newer ++ log)) e between new = led in (
+      with_link x.0 n link,
+      leads-framed v o log newer old x.0 n link unlinked x.1,
+      one-framed v o (past_of (newer ++ log)) e x.0 new n link (leads-numbers v o log newer old x.0 n x.1 ∙ unlinked) x.2,
+    )
