@@ -1,5 +1,13 @@
-# Runs "$program" once over a script, and prints its processor time in seconds and its peak memory in kilobytes. The
-# benches read it, and set "$program" and "$scratch".
+# What the benches share, which read this file: the program that they time, a folder for its scripts, the line on the
+# machine, and how a run is measured.
+here=$(cd "$(dirname "$0")" && pwd)
+program=${1:-$here/../crates/ftp_script/out/ftp_script}
+scratch=$(mktemp -d)
+trap 'rm -rf "$scratch"' EXIT
+
+echo "machine: $(uname -m), $(awk -F': ' '/model name/ { print $2; exit }' /proc/cpuinfo)"
+
+# Runs the program once over a script, and prints its processor time in seconds and its peak memory in kilobytes.
 measure() {
     if [ -x /usr/bin/time ]; then
         /usr/bin/time -o "$scratch/time" -f '%U %S %M' "$program" script < "$1" > /dev/null

@@ -2,14 +2,8 @@
 # Times the program from outside, over a script of 400,000 events of 10, 1,000 and 100,000 sessions, and over a quarter
 # of them: sh bench/script.sh [PROGRAM]. The program is built by `rt run` in crates/ftp_script.
 set -eu
-here=$(cd "$(dirname "$0")" && pwd)
-program=${1:-$here/../crates/ftp_script/out/ftp_script}
-scratch=$(mktemp -d)
-trap 'rm -rf "$scratch"' EXIT
+. "$(dirname "$0")/measure.sh"
 
-. "$here/measure.sh"
-
-echo "machine: $(uname -m), $(awk -F': ' '/model name/ { print $2; exit }' /proc/cpuinfo)"
 for sessions in 10 1000 100000; do
     for events in 100000 400000; do
         # A session takes two and a half events to open and log in.

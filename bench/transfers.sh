@@ -2,14 +2,8 @@
 # Times the program from outside, over scripts of 1,000, 10,000 and 40,000 sessions that each upload and download a small
 # file: sh bench/transfers.sh [PROGRAM]. The program is built by `rt run` in crates/ftp_script.
 set -eu
-here=$(cd "$(dirname "$0")" && pwd)
-program=${1:-$here/../crates/ftp_script/out/ftp_script}
-scratch=$(mktemp -d)
-trap 'rm -rf "$scratch"' EXIT
+. "$(dirname "$0")/measure.sh"
 
-. "$here/measure.sh"
-
-echo "machine: $(uname -m), $(awk -F': ' '/model name/ { print $2; exit }' /proc/cpuinfo)"
 for sessions in 1000 10000 40000; do
     awk -v sessions="$sessions" -f "$here/transfers.awk" > "$scratch/script"
     measure "$scratch/script" | awk -v sessions="$sessions" '{
