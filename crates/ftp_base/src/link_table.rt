@@ -103,6 +103,3 @@ impl<L> LinkTable<L> {
         }
     }
 }
-
-#[cfg(test)]
-mod tests;

@@ -190,26 +190,3 @@ impl Link for MemoryLink {
         self.last_fault
     }
 }
-
-#[cfg(test)]
-mod tests {
-    use super::*;
-    use std::test::Fail;
-
-    #[test]
-    fn the_listed_call_fails_and_the_next_goes_on(rt: HostRuntime) -> Result<(), Fail> {
-        let alloc = rt.alloc();
-        let fails = [(2, LinkFault::Reset)].to_vec(alloc)?;
-        let mut link = MemoryLink::new(alloc, b"in".to_vec(alloc)?, 3, fails);
-        assert_eq!(rt; link.last_fault(), None);
-        assert_eq!(rt; link.write(b"hello"), Ok(3));
-        assert_eq!(rt; link.write(b"lo"), Err(Failed::Fault));
-        assert_eq!(rt; link.last_fault(), Some(LinkFault::Reset));
-        assert_eq!(rt; link.write(b"lo"), Ok(2));
-        assert_eq!(rt; link.sent(), b"hello".as_slice());
-        assert!(rt; !link.is_closed());
-        assert_eq!(rt; link.close(), Ok(()));
-        assert!(rt; link.is_closed());
-        Ok(())
-    }
-}

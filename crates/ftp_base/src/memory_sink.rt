@@ -90,20 +90,3 @@ impl Sink for MemorySink {
         Ok(n)
     }
 }
-
-#[cfg(test)]
-mod tests {
-    use super::*;
-    use std::test::Fail;
-
-    #[test]
-    fn a_sink_keeps_what_it_took(rt: HostRuntime) -> Result<(), Fail> {
-        let alloc = rt.alloc();
-        let mut sink = MemorySink::new(alloc, 4, [1].to_vec(alloc)?);
-        assert_eq!(rt; sink.write(b"hello"), Err(Failed::Fault));
-        assert_eq!(rt; sink.write(b"hello"), Ok(4));
-        assert_eq!(rt; sink.write(b"o"), Ok(1));
-        assert_eq!(rt; sink.written(), b"hello".as_slice());
-        Ok(())
-    }
-}

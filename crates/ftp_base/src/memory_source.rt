@@ -83,27 +83,3 @@ impl Source for MemorySource {
         Ok(n)
     }
 }
-
-#[cfg(test)]
-mod tests {
-    use super::*;
-    use std::test::Fail;
-
-    #[test]
-    fn a_source_is_read_in_pieces(rt: HostRuntime) -> Result<(), Fail> {
-        let alloc = rt.alloc();
-        let fails = [3, 2].to_vec(alloc)?;
-        let mut source = MemorySource::new(b"abcde".to_vec(alloc)?, 2, fails);
-        let mut out = [0; 4];
-        assert_eq!(rt; source.read(&mut out), Ok(2));
-        assert_eq!(rt; source.read(&mut out), Err(Failed::Fault));
-        assert_eq!(rt; source.read(&mut out), Err(Failed::Fault));
-        assert_eq!(rt; out.as_slice(), b"ab\0\0".as_slice());
-        assert_eq!(rt; source.read(&mut out), Ok(2));
-        assert_eq!(rt; out.as_slice(), b"cd\0\0".as_slice());
-        assert_eq!(rt; source.read(&mut out), Ok(1));
-        assert_eq!(rt; source.read(&mut out), Ok(0));
-        assert_eq!(rt; out.as_slice(), b"ed\0\0".as_slice());
-        Ok(())
-    }
-}

@@ -299,6 +299,3 @@ impl MemoryStorage {
         Ok(())
     }
 }
-
-#[cfg(test)]
-mod tests;

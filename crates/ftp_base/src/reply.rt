@@ -133,23 +133,3 @@ impl Reply {
         }
     }
 }
-
-#[cfg(test)]
-mod tests {
-    use super::*;
-    use std::test::Fail;
-
-    #[test]
-    fn a_reply_ends_in_cr_lf(rt: HostRuntime) -> Result<(), Fail> {
-        let reply = Reply::CodeAndMsg {
-            code: ReplyCode::NeedPassword,
-            msg: Bytes::from_slice(rt.alloc(), b"Password Required")?,
-        };
-        assert_eq!(rt;
-            reply.encode(rt.alloc())?.as_slice(),
-            b"331 Password Required\r\n".as_slice()
-        );
-        assert_eq!(rt; Reply::None.encode(rt.alloc())?.as_slice(), b"".as_slice());
-        Ok(())
-    }
-}

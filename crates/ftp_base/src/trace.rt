@@ -26,18 +26,3 @@ impl TraceId {
         Ok(Bytes::from_vec(text.into_bytes()))
     }
 }
-
-#[cfg(test)]
-mod tests {
-    use super::*;
-    use std::test::Fail;
-
-    #[test]
-    fn a_trace_id_is_hexadecimal(rt: HostRuntime) -> Result<(), Fail> {
-        let text = TraceId::new(255).text(rt.alloc())?;
-        assert_eq!(rt; text.as_slice(), b"0xff".as_slice());
-        let zero = TraceId::new(0).text(rt.alloc())?;
-        assert_eq!(rt; zero.as_slice(), b"0x0".as_slice());
-        Ok(())
-    }
-}

@@ -49,6 +49,3 @@ fn answer(rt: &HostRuntime, command: Command) -> ExitCode {
         Err(_) => ExitCode::from(1),
     }
 }
-
-#[cfg(test)]
-mod tests;

@@ -172,28 +172,3 @@ impl HubEvent {
         })
     }
 }
-
-#[cfg(test)]
-mod tests {
-    use super::*;
-    use std::test::Fail;
-
-    #[test]
-    fn a_copy_keeps_the_name(rt: HostRuntime) -> Result<(), Fail> {
-        let name = Bytes::from_slice(rt.alloc(), b"ada")?;
-        let kind = EventKind::User { session: 1, name };
-        let event = HubEvent {
-            at: 5,
-            kind: kind.copy(rt.alloc())?,
-        };
-        let copy = event.copy(rt.alloc())?;
-        assert_eq!(rt; copy.at, 5);
-        let is_kept = match &copy.kind {
-            EventKind::User { session, name } => *session == 1
-                && name.as_slice() == b"ada".as_slice(),
-            _ => false,
-        };
-        assert!(rt; is_kept);
-        Ok(())
-    }
-}

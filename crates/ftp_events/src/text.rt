@@ -196,37 +196,3 @@ fn write_number(text: &mut Vec<u8>, n: u8, mark: &[u8])
     write(text, buffer.format(n).as_bytes());
     write(text, mark);
 }
-
-#[cfg(test)]
-mod tests {
-    use super::*;
-    use ftp_base::TraceId;
-    use std::test::Fail;
-
-    // RFC 959, section 4.1.2: h1,h2,h3,h4,p1,p2, and 50000 is 195 * 256 + 80.
-    #[test]
-    fn a_passive_reply_shows_six_numbers(rt: HostRuntime) -> Result<(), Fail> {
-        let ip = u32::from_be_bytes([10, 0, 0, 9]);
-        let reply = make_pasv_reply(rt.alloc(), &PassiveHost::FromConnection, ip, None, 50000)?;
-        assert_eq!(rt;
-            reply.encode(rt.alloc())?.as_slice(),
-            b"227 Entering Passive Mode (10,0,0,9,195,80)\r\n".as_slice()
-        );
-        Ok(())
-    }
-
-    #[test]
-    fn a_login_that_succeeds_is_told_as_230(rt: HostRuntime) -> Result<(), Fail> {
-        let username = Bytes::from_slice(rt.alloc(), b"ada")?;
-        let trace_id = TraceId::new(7);
-        let reply = reply_of(
-            rt.alloc(),
-            &ControlChanMsg::AuthSuccess { username, trace_id },
-        )?;
-        assert_eq!(rt;
-            reply.encode(rt.alloc())?.as_slice(),
-            b"230 User logged in, proceed\r\n".as_slice()
-        );
-        Ok(())
-    }
-}

@@ -19,6 +19,3 @@ pub use hub::Hub;
 pub use prepare::PrepareError;
 pub use room::{Need, Room};
 pub use run::{RunError, covers, run_event, run_events};
-
-#[cfg(test)]
-mod tests;

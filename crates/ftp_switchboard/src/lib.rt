@@ -10,6 +10,3 @@ mod switchboard;
 
 pub use key::SwitchboardKey;
 pub use switchboard::{Switchboard, SwitchboardError};
-
-#[cfg(test)]
-mod tests;

@@ -31,23 +31,3 @@ impl HumanDuration {
         Ok(Bytes::from_vec(text.into_bytes()))
     }
 }
-
-#[cfg(test)]
-mod tests {
-    use super::*;
-    use std::test::Fail;
-
-    #[test]
-    fn leading_zero_parts_are_dropped(rt: HostRuntime) -> Result<(), Fail> {
-        let rows: [(u64, &[u8]); 4] = [
-            (3_661_001, b"1h 1m 1s 1ms"),
-            (0, b"0ms"),
-            (60_000, b"1m 0s 0ms"),
-            (1_000, b"1s 0ms"),
-        ];
-        for (millis, text) in rows {
-            assert_eq!(rt; HumanDuration(millis).text(rt.alloc())?.as_slice(), text);
-        }
-        Ok(())
-    }
-}

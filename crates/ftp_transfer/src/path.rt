@@ -29,27 +29,3 @@ fn directory(alloc: Global, dir: &[u8]) -> Result<Vec<u8>, AllocError>
     path.push(b'/')?;
     Ok(path)
 }
-
-#[cfg(test)]
-mod tests {
-    use super::*;
-    use std::test::Fail;
-
-    #[test]
-    fn an_argument_leads_from_a_directory(rt: HostRuntime) -> Result<(), Fail> {
-        let rows: [(&[u8], &[u8], &[u8]); 5] = [
-            (b"/uploads", b"a", b"/uploads/a"),
-            (b"/uploads", b"../a", b"/uploads/../a"),
-            (b"/", b"a", b"/a"),
-            (b"/uploads", b"/a", b"/a"),
-            (b"/uploads", b"", b"/uploads/"),
-        ];
-        for (cwd, arg, joined) in rows {
-            let cwd = Bytes::from_slice(rt.alloc(), cwd)?;
-            let arg = Bytes::from_slice(rt.alloc(), arg)?;
-            let path = join_path(rt.alloc(), &cwd, &arg)?;
-            assert_eq!(rt; path.as_slice(), joined);
-        }
-        Ok(())
-    }
-}

@@ -3,11 +3,11 @@
 ghost use Rattle.std.specs.Prelude.{IfOk, IsTrue};
 ghost use Rattle.ftp_options.specs.Modes.{is_pooled};
 
-use crate::{Hub, RunError, covers, run_events};
 use ftp_base::{
     AuthAnswer, Bytes, DataChanCmd, IpAddr, LinkTable, MemoryLink, MemoryStorage, SocketAddr,
 };
 use ftp_events::{Decision, EventKind, HubEvent, Log};
+use ftp_hub::{Hub, RunError, covers, run_events};
 use ftp_options::{Options, ServerBuilder};
 use ftp_transfer::Ticket;
 use std::alloc::Global;

@@ -1,8 +1,6 @@
 //! Listings and files of one tree.
 
-use super::MemoryStorage;
-use crate::bytes::Bytes;
-use crate::storage::{FileInfo, Storage, StoreError};
+use ftp_base::{Bytes, FileInfo, MemoryStorage, Storage, StoreError};
 use std::alloc::{AllocError, Global};
 use std::test::Fail;
 

@@ -2,8 +2,8 @@
 
 ghost use Rattle.ftp_switchboard.specs.Board.{SameRange};
 
-use crate::{Switchboard, SwitchboardError, SwitchboardKey};
 use ftp_base::{IpAddr, SocketAddr, SocketAddrPair};
+use ftp_switchboard::{Switchboard, SwitchboardError, SwitchboardKey};
 use std::alloc::AllocError;
 use std::test::Fail;
 

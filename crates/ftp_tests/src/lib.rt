@@ -1,0 +1,26 @@
+//! Tests of the crates by their public calls: worked values, with ample memory, and what no clause says.
+//!
+//! They stand here and not beside the code, since a crate with tests is proved twice. This one has no code but tests.
+//! Begin with `transfers`.
+#![tactic(auto)]
+
+#[cfg(test)]
+mod hub;
+#[cfg(test)]
+mod links;
+#[cfg(test)]
+mod logs;
+#[cfg(test)]
+mod memory;
+#[cfg(test)]
+mod numbers;
+#[cfg(test)]
+mod options;
+#[cfg(test)]
+mod storage;
+#[cfg(test)]
+mod switchboard;
+#[cfg(test)]
+mod texts;
+#[cfg(test)]
+mod transfers;

@@ -1,0 +1,89 @@
+//! What is printed: replies, numbers, paths and times.
+
+use ftp_base::{Bytes, ControlChanMsg, Reply, ReplyCode, TraceId};
+use ftp_events::{make_pasv_reply, reply_of};
+use ftp_options::PassiveHost;
+use ftp_transfer::{HumanDuration, join_path};
+use std::test::Fail;
+
+#[test]
+fn a_reply_ends_in_cr_lf(rt: HostRuntime) -> Result<(), Fail> {
+    let reply = Reply::CodeAndMsg {
+        code: ReplyCode::NeedPassword,
+        msg: Bytes::from_slice(rt.alloc(), b"Password Required")?,
+    };
+    assert_eq!(rt;
+        reply.encode(rt.alloc())?.as_slice(),
+        b"331 Password Required\r\n".as_slice()
+    );
+    assert_eq!(rt; Reply::None.encode(rt.alloc())?.as_slice(), b"".as_slice());
+    Ok(())
+}
+
+// RFC 959, section 4.1.2: h1,h2,h3,h4,p1,p2, and 50000 is 195 * 256 + 80.
+#[test]
+fn a_passive_reply_shows_six_numbers(rt: HostRuntime) -> Result<(), Fail> {
+    let ip = u32::from_be_bytes([10, 0, 0, 9]);
+    let reply = make_pasv_reply(rt.alloc(), &PassiveHost::FromConnection, ip, None, 50000)?;
+    assert_eq!(rt;
+        reply.encode(rt.alloc())?.as_slice(),
+        b"227 Entering Passive Mode (10,0,0,9,195,80)\r\n".as_slice()
+    );
+    Ok(())
+}
+
+#[test]
+fn a_login_that_succeeds_is_told_as_230(rt: HostRuntime) -> Result<(), Fail> {
+    let username = Bytes::from_slice(rt.alloc(), b"ada")?;
+    let trace_id = TraceId::new(7);
+    let reply = reply_of(
+        rt.alloc(),
+        &ControlChanMsg::AuthSuccess { username, trace_id },
+    )?;
+    assert_eq!(rt;
+        reply.encode(rt.alloc())?.as_slice(),
+        b"230 User logged in, proceed\r\n".as_slice()
+    );
+    Ok(())
+}
+
+#[test]
+fn a_trace_id_is_hexadecimal(rt: HostRuntime) -> Result<(), Fail> {
+    let text = TraceId::new(255).text(rt.alloc())?;
+    assert_eq!(rt; text.as_slice(), b"0xff".as_slice());
+    let zero = TraceId::new(0).text(rt.alloc())?;
+    assert_eq!(rt; zero.as_slice(), b"0x0".as_slice());
+    Ok(())
+}
+
+#[test]
+fn an_argument_leads_from_a_directory(rt: HostRuntime) -> Result<(), Fail> {
+    let rows: [(&[u8], &[u8], &[u8]); 5] = [
+        (b"/uploads", b"a", b"/uploads/a"),
+        (b"/uploads", b"../a", b"/uploads/../a"),
+        (b"/", b"a", b"/a"),
+        (b"/uploads", b"/a", b"/a"),
+        (b"/uploads", b"", b"/uploads/"),
+    ];
+    for (cwd, arg, joined) in rows {
+        let cwd = Bytes::from_slice(rt.alloc(), cwd)?;
+        let arg = Bytes::from_slice(rt.alloc(), arg)?;
+        let path = join_path(rt.alloc(), &cwd, &arg)?;
+        assert_eq!(rt; path.as_slice(), joined);
+    }
+    Ok(())
+}
+
+#[test]
+fn leading_zero_parts_are_dropped(rt: HostRuntime) -> Result<(), Fail> {
+    let rows: [(u64, &[u8]); 4] = [
+        (3_661_001, b"1h 1m 1s 1ms"),
+        (0, b"0ms"),
+        (60_000, b"1m 0s 0ms"),
+        (1_000, b"1s 0ms"),
+    ];
+    for (millis, text) in rows {
+        assert_eq!(rt; HumanDuration(millis).text(rt.alloc())?.as_slice(), text);
+    }
+    Ok(())
+}
