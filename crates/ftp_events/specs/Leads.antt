@@ -9,7 +9,7 @@ use Rattle.ftp_options.specs.declared.options.Options.{Options}
 use Rattle.ftp_transfer.specs.declared.job.Job.{Job}
 use Rattle.ftp_transfer.specs.declared.job.Ticket.{Ticket}
 use Rattle.ftp_transfer.specs.declared.job.Outcome.{Outcome}
-use Rattle.ftp_transfer.specs.Ran.{Told, told, Ran}
+use Rattle.ftp_transfer.specs.Ran.{Told, told, Ran, IsClean, IsDone}
 use Rattle.ftp_transfer.specs.Transfer.{suits}
 use Rattle.ftp_events.specs.declared.entry.Entry.{Entry}
 use Rattle.ftp_events.specs.declared.event.Answer.{Answer}
@@ -68,6 +68,8 @@ pub record RunsJob {S L : Type 0} (v : Views S L) (job : Job) (given : Answer) (
   pub there : map.get old.links job.number ≡ Some before
   pub links : new.links ≡ map.insert old.links job.number after
   pub ran : Ran job (told_by v old.storage before) (told_by v new.storage after) outcome
+  -- a job that nothing refused and nothing stopped is done
+  pub complete : IsClean (told_by v old.storage before) (told_by v new.storage after) outcome → IsDone outcome.result
   pub storage_count : v.storage_faults old.storage ≤ v.storage_faults new.storage
   pub link_count : v.link_faults before ≤ v.link_faults after
 

@@ -82,6 +82,7 @@ one-framed {S} {L} v o past e old new n link unlinked led = by (job_to_run o pas
         there = get-insert-other old.links n link job.number other ∙ ran.there;
         links = ap (λ (links : Numbered L). map.insert links n link) ran.links ∙ insert-commutes old.links job.number n ran.after link other;
         ran = ran.ran;
+        complete = ran.complete;
         storage_count = ran.storage_count;
         link_count = ran.link_count;
       }

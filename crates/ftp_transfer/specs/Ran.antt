@@ -58,12 +58,13 @@ RefusesListing c meaning user path k =
     (refusal : ErrorKind) × (meaning (Listing user path) ≡ Some refusal) × (k ≡ shown_refusal c refusal)
 
 -- the storage's meaning refuses a call of the command that counts, before the run or where it ended after m bytes
-abbrev pub Refuses : DataChanCmd → Job → Files → Meaning → Meaning → Option (List ℕ) → ℕ → ErrorKind → Type 0
-Refuses (command.Retr _) job files old new rest m k = old (ReadAt job.user job.path (job.offset + m)) ≡ Some k
-Refuses (command.Stor _) job files old new rest m k = RefusesStore old new job.user job.path job.offset rest m k
-Refuses (command.Appe _) job files old new rest m k =
-    RefusesAppe old new job.user job.path (length (old_bytes files job.path)) rest m k
-Refuses c job files old new rest m k = RefusesListing c old job.user job.path k
+abbrev pub Refuses : DataChanCmd → Job → Files → Meaning → Meaning → Option (List ℕ) → Option (List ℕ) → ℕ → ErrorKind → Type 0
+Refuses (command.Retr _) job files old new rest later m k = old (ReadAt job.user job.path (job.offset + m)) ≡ Some k
+Refuses (command.Stor _) job files old new rest later m k =
+    RefusesStore old new job.user job.path job.offset rest later m k
+Refuses (command.Appe _) job files old new rest later m k =
+    RefusesAppe old new job.user job.path (length (old_bytes files job.path)) rest later m k
+Refuses c job files old new rest later m k = RefusesListing c old job.user job.path k
 
 -- how the meaning refuses the first call of the command that counts
 abbrev pub first_refusal : DataChanCmd → Job → Files → Meaning → Option ErrorKind
@@ -91,9 +92,11 @@ pub record Moves (job : Job) (old new : Told) (outcome : Outcome) : Type 0 where
   pub stored : IfSome old.files (λ f. IfSome old.left (λ l. StoresAs job.command job f old.meaning new.files l outcome))
   pub written : outcome.result ≡ result.Written → IfSome old.left (λ l. (outcome.bytes ≡ length l) × (new.left ≡ Some []))
   -- why it ended
-  pub cause : Caused (HasRisen old.link_faults new.link_faults) new.sending.last_fault (HasRisen old.storage_faults new.storage_faults) (λ k. IfSome old.files (λ f. Refuses job.command job f old.meaning new.meaning (option_map (drop outcome.bytes) old.left) outcome.bytes k)) outcome.bytes outcome.result outcome.fault
+  pub cause : Caused (HasRisen old.link_faults new.link_faults) new.sending.last_fault (HasRisen old.storage_faults new.storage_faults) (λ k. IfSome old.files (λ f. Refuses job.command job f old.meaning new.meaning (option_map (drop outcome.bytes) old.left) new.left outcome.bytes k)) outcome.bytes outcome.result outcome.fault
   -- a refusal of the first call is the result, and then nothing is stored
   pub refused : IfSome old.files (λ f. IfSome (first_refusal job.command job f old.meaning) (λ k. RefusedFirst (HasRisen old.storage_faults new.storage_faults) k outcome.bytes outcome.result × (new.files ≡ Some f)))
+  -- a file was sent to its end only where no read there is refused
+  pub unrefused : outcome.result ≡ result.Sent → IsSome old.files → old.meaning (ReadAt job.user job.path (job.offset + outcome.bytes)) ≡ None
   -- a refusal of the piece that a store took last is the result
   pub refused_last : is_store job.command ≡ true → IsSome old.files → RefusedLast (HasRisen old.storage_faults new.storage_faults) new.meaning job.user job.path (option_map (drop outcome.bytes) old.left) new.left outcome.result
 
@@ -114,11 +117,11 @@ IsDone result.Listed = Unit {0}
 IsDone _ = ⊥
 
 -- nothing was refused, no call failed, memory was found, and the byte count is below its end
-pub record IsClean (files : Option Files) (old new : Meaning) (storage_rose link_rose : Type 0) (outcome : Outcome) : Type 0 where
-  pub tells : IsSome files
-  pub before : RefusesNothing old
-  pub after : RefusesNothing new
-  pub storage : storage_rose → ⊥
-  pub link : link_rose → ⊥
+pub record IsClean (old new : Told) (outcome : Outcome) : Type 0 where
+  pub tells : IsSome old.files
+  pub before : RefusesNothing old.meaning
+  pub after : RefusesNothing new.meaning
+  pub storage : HasRisen old.storage_faults new.storage_faults → ⊥
+  pub link : HasRisen old.link_faults new.link_faults → ⊥
   pub memory : outcome.result ≡ result.OutOfMemory → ⊥
   pub count : outcome.bytes < 2 ^ 64 - 1

@@ -48,13 +48,13 @@ GrowsFront files new path input n =
     × (((n ≡ 0) × (new ≡ Some files))
     ⊎ IsSomeAnd (contents files path) (λ had. new ≡ Some (with_file files path (had ++ take n input))))
 
--- the storage refuses to append some next bytes of what the link gives, as many as one read can give
-abbrev pub RefusesAppend : Meaning → List ℕ → List ℕ → Option (List ℕ) → ErrorKind → Type 0
-RefusesAppend meaning user path rest k =
+-- the storage refuses to append the piece that was taken of the link's rest, of 1 to 8,192 bytes
+abbrev pub RefusesAppend : Meaning → List ℕ → List ℕ → Option (List ℕ) → Option (List ℕ) → ErrorKind → Type 0
+RefusesAppend meaning user path rest later k =
     (piece : List ℕ)
     × (0 < length piece)
     × (length piece ≤ 8192)
-    × IfSome rest (λ l. (length piece ≤ length l) × (piece ≡ take (length piece) l))
+    × IfSome rest (λ l. TakesFront l later (length piece) × (piece ≡ take (length piece) l))
     × (meaning (Append user path piece) ≡ Some k)
 
 -- where the storage refuses to append what was taken of the link's rest and not stored, that is the result
@@ -63,10 +63,10 @@ RefusedLast storage_rose meaning user path rest later r =
     (piece left : List ℕ) (k : ErrorKind) →
     0 < length piece → rest ≡ Some (piece ++ left) → later ≡ Some left → meaning (Append user path piece) ≡ Some k → EndsRefused storage_rose k r
 
--- the storage refuses to begin, or to append some next bytes
-abbrev pub RefusesStore : Meaning → Meaning → List ℕ → List ℕ → ℕ → Option (List ℕ) → ℕ → ErrorKind → Type 0
-RefusesStore old new user path place rest m k =
-    ((m ≡ 0) × (old (Begin user path place) ≡ Some k)) ⊎ RefusesAppend new user path rest k
+-- the storage refuses to begin, or to append what was taken last
+abbrev pub RefusesStore : Meaning → Meaning → List ℕ → List ℕ → ℕ → Option (List ℕ) → Option (List ℕ) → ℕ → ErrorKind → Type 0
+RefusesStore old new user path place rest later m k =
+    ((m ≡ 0) × (old (Begin user path place) ≡ Some k)) ⊎ RefusesAppend new user path rest later k
 
 -- the storage stopped a job, or memory ran out
 abbrev pub IsStopped : Completion → Type 0
@@ -91,10 +91,10 @@ append_place None len = Some len
 append_place (Some kind.PermanentFileNotAvailable) len = Some 0
 append_place (Some _) len = None
 
--- the storage refuses metadata, to begin, or to append some next bytes
-abbrev pub RefusesAppe : Meaning → Meaning → List ℕ → List ℕ → ℕ → Option (List ℕ) → ℕ → ErrorKind → Type 0
-RefusesAppe old new user path len rest m k =
-    MatchOption (append_place (old (Metadata user path)) len) ((m ≡ 0) × (old (Metadata user path) ≡ Some k)) (λ place. RefusesStore old new user path place rest m k)
+-- the storage refuses metadata, to begin, or to append what was taken last
+abbrev pub RefusesAppe : Meaning → Meaning → List ℕ → List ℕ → ℕ → Option (List ℕ) → Option (List ℕ) → ℕ → ErrorKind → Type 0
+RefusesAppe old new user path len rest later m k =
+    MatchOption (append_place (old (Metadata user path)) len) ((m ≡ 0) × (old (Metadata user path) ≡ Some k)) (λ place. RefusesStore old new user path place rest later m k)
 
 -- the file is the old one with the first bytes of the input put behind it, or nothing was begun
 abbrev pub Appends : Meaning → List ℕ → Files → Option Files → List ℕ → List ℕ → Outcome → Type 0

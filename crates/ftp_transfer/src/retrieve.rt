@@ -23,6 +23,7 @@ pub fn retrieve<S: Storage, L: Link>(job: &Job, storage: &mut S, link: &mut L) -
     ensures suits { suits result.result job.now.command ≡ true }
     ensures cause { Caused (HasRisen (L.faults link.old) (L.faults link.new)) (L.sending link.new).last_fault (HasRisen (S.faults storage.old) (S.faults storage.new)) (λ k. IsSome (S.files storage.old) → S.meaning storage.old (ReadAt job.now.user job.now.path (job.now.offset + result.bytes)) ≡ Some k) result.bytes result.result result.fault }
     ensures refused { IsSome (S.files storage.old) → IfSome (S.meaning storage.old (ReadAt job.now.user job.now.path job.now.offset)) (λ k. RefusedFirst (HasRisen (S.faults storage.old) (S.faults storage.new)) k result.bytes result.result) }
+    ensures unrefused { result.result ≡ done.Sent → IsSome (S.files storage.old) → S.meaning storage.old (ReadAt job.now.user job.now.path (job.now.offset + result.bytes)) ≡ None }
     ensures no_memory { S.reads_take_memory ≡ false → L.takes_memory ≡ false → result.result ≡ done.OutOfMemory → ⊥ }
 
     ensures files { S.files storage.new ≡ S.files storage.old }
@@ -65,6 +66,7 @@ pub fn send_piece<S: Storage, L: Link>(
     ensures cause { IfSome result.end (λ e. Caused (HasRisen (L.faults link.old) (L.faults link.new)) (L.sending link.new).last_fault (HasRisen (S.faults storage.old) (S.faults storage.new)) (λ k. IsSome (S.files storage.old) → S.meaning storage.old (ReadAt job.now.user job.now.path (job.now.offset + moved + result.bytes)) ≡ Some k) (moved + result.bytes) e.result e.fault) }
     ensures goes_on { IsSome (S.files storage.old) → IsNone result.end → S.meaning storage.old (ReadAt job.now.user job.now.path (job.now.offset + moved)) ≡ None }
     ensures refused { IsSome (S.files storage.old) → moved < 2 ^ 64 - 1 → IfSome (S.meaning storage.old (ReadAt job.now.user job.now.path (job.now.offset + moved))) (λ k. IfSome result.end (λ e. RefusedFirst (HasRisen (S.faults storage.old) (S.faults storage.new)) k result.bytes e.result)) }
+    ensures unrefused { IfSome result.end (λ e. e.result ≡ done.Sent → IsSome (S.files storage.old) → S.meaning storage.old (ReadAt job.now.user job.now.path (job.now.offset + moved)) ≡ None) }
     ensures no_memory { S.reads_take_memory ≡ false → L.takes_memory ≡ false → IfSome result.end (λ e. e.result ≡ done.OutOfMemory → ⊥) }
 
     ensures files { S.files storage.new ≡ S.files storage.old }

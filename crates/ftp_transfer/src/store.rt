@@ -22,7 +22,7 @@ pub fn store<S: Storage, L: Link>(job: &Job, start: u64, storage: &mut S, link: 
     ensures whole { result.result ≡ done.Written → IfSome (L.left link.old) (λ l. (result.bytes ≡ length l) × (L.left link.new ≡ Some [])) }
 
     ensures suits { suits result.result job.now.command ≡ true }
-    ensures cause { Caused (HasRisen (L.faults link.old) (L.faults link.new)) (L.sending link.new).last_fault (HasRisen (S.faults storage.old) (S.faults storage.new)) (λ k. IfSome (S.files storage.old) (λ f. RefusesStore (S.meaning storage.old) (S.meaning storage.new) job.now.user job.now.path start (option_map (drop result.bytes) (L.left link.old)) result.bytes k)) result.bytes result.result result.fault }
+    ensures cause { Caused (HasRisen (L.faults link.old) (L.faults link.new)) (L.sending link.new).last_fault (HasRisen (S.faults storage.old) (S.faults storage.new)) (λ k. IfSome (S.files storage.old) (λ f. RefusesStore (S.meaning storage.old) (S.meaning storage.new) job.now.user job.now.path start (option_map (drop result.bytes) (L.left link.old)) (L.left link.new) result.bytes k)) result.bytes result.result result.fault }
     ensures refused { IfSome (S.files storage.old) (λ f. IfSome (S.meaning storage.old (Begin job.now.user job.now.path start)) (λ k. RefusedFirst (HasRisen (S.faults storage.old) (S.faults storage.new)) k result.bytes result.result × (S.files storage.new ≡ Some f))) }
     ensures refused_last { IsSome (S.files storage.old) → RefusedLast (HasRisen (S.faults storage.old) (S.faults storage.new)) (S.meaning storage.new) job.now.user job.now.path (option_map (drop result.bytes) (L.left link.old)) (L.left link.new) result.result }
 
@@ -46,7 +46,7 @@ pub fn append<S: Storage, L: Link>(job: &Job, storage: &mut S, link: &mut L) -> 
     ensures whole { result.result ≡ done.Written → IfSome (L.left link.old) (λ l. (result.bytes ≡ length l) × (L.left link.new ≡ Some [])) }
 
     ensures suits { suits result.result job.now.command ≡ true }
-    ensures cause { Caused (HasRisen (L.faults link.old) (L.faults link.new)) (L.sending link.new).last_fault (HasRisen (S.faults storage.old) (S.faults storage.new)) (λ k. IfSome (S.files storage.old) (λ f. RefusesAppe (S.meaning storage.old) (S.meaning storage.new) job.now.user job.now.path (length (old_bytes f job.now.path)) (option_map (drop result.bytes) (L.left link.old)) result.bytes k)) result.bytes result.result result.fault }
+    ensures cause { Caused (HasRisen (L.faults link.old) (L.faults link.new)) (L.sending link.new).last_fault (HasRisen (S.faults storage.old) (S.faults storage.new)) (λ k. IfSome (S.files storage.old) (λ f. RefusesAppe (S.meaning storage.old) (S.meaning storage.new) job.now.user job.now.path (length (old_bytes f job.now.path)) (option_map (drop result.bytes) (L.left link.old)) (L.left link.new) result.bytes k)) result.bytes result.result result.fault }
     ensures refused { IfSome (S.files storage.old) (λ f. IfSome (append_refusal (S.meaning storage.old) job.now.user job.now.path (length (old_bytes f job.now.path))) (λ k. RefusedFirst (HasRisen (S.faults storage.old) (S.faults storage.new)) k result.bytes result.result × (S.files storage.new ≡ Some f))) }
     ensures refused_last { IsSome (S.files storage.old) → RefusedLast (HasRisen (S.faults storage.old) (S.faults storage.new)) (S.meaning storage.new) job.now.user job.now.path (option_map (drop result.bytes) (L.left link.old)) (L.left link.new) result.result }
 
@@ -81,7 +81,7 @@ pub fn fill<S: Storage, L: Link>(job: &Job, storage: &mut S, link: &mut L) -> Ou
     ensures whole { result.result ≡ done.Written → IfSome (L.left link.old) (λ l. (result.bytes ≡ length l) × (L.left link.new ≡ Some [])) }
 
     ensures suits { suits result.result job.now.command ≡ true }
-    ensures cause { Caused (HasRisen (L.faults link.old) (L.faults link.new)) (L.sending link.new).last_fault (HasRisen (S.faults storage.old) (S.faults storage.new)) (λ k. IsSome (S.files storage.old) → RefusesAppend (S.meaning storage.new) job.now.user job.now.path (option_map (drop result.bytes) (L.left link.old)) k) result.bytes result.result result.fault }
+    ensures cause { Caused (HasRisen (L.faults link.old) (L.faults link.new)) (L.sending link.new).last_fault (HasRisen (S.faults storage.old) (S.faults storage.new)) (λ k. IsSome (S.files storage.old) → RefusesAppend (S.meaning storage.new) job.now.user job.now.path (option_map (drop result.bytes) (L.left link.old)) (L.left link.new) k) result.bytes result.result result.fault }
     ensures refused_last { IsSome (S.files storage.old) → RefusedLast (HasRisen (S.faults storage.old) (S.faults storage.new)) (S.meaning storage.new) job.now.user job.now.path (option_map (drop result.bytes) (L.left link.old)) (L.left link.new) result.result }
 
     ensures sent { (L.sending link.new).sent ≡ (L.sending link.old).sent }
@@ -123,7 +123,7 @@ pub fn store_piece<S: Storage, L: Link>(
     ensures whole { IfSome result.end (λ e. e.result ≡ done.Written → IfSome (L.left link.old) (λ l. (l ≡ []) × (L.left link.new ≡ Some []))) }
 
     ensures suits { IfSome result.end (λ e. suits e.result job.now.command ≡ true) }
-    ensures cause { IfSome result.end (λ e. Caused (HasRisen (L.faults link.old) (L.faults link.new)) (L.sending link.new).last_fault (HasRisen (S.faults storage.old) (S.faults storage.new)) (λ k. IsSome (S.files storage.old) → RefusesAppend (S.meaning storage.new) job.now.user job.now.path (L.left link.old) k) (moved + result.bytes) e.result e.fault) }
+    ensures cause { IfSome result.end (λ e. Caused (HasRisen (L.faults link.old) (L.faults link.new)) (L.sending link.new).last_fault (HasRisen (S.faults storage.old) (S.faults storage.new)) (λ k. IsSome (S.files storage.old) → RefusesAppend (S.meaning storage.new) job.now.user job.now.path (L.left link.old) (L.left link.new) k) (moved + result.bytes) e.result e.fault) }
     ensures refused_last { IfSome result.end (λ e. IsSome (S.files storage.old) → RefusedLast (HasRisen (S.faults storage.old) (S.faults storage.new)) (S.meaning storage.new) job.now.user job.now.path (L.left link.old) (L.left link.new) e.result) }
 
     ensures sent { (L.sending link.new).sent ≡ (L.sending link.old).sent }

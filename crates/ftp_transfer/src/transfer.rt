@@ -1,7 +1,6 @@
 //! Runs a job on its storage and its link.
 
 ghost use Rattle.std.specs.Prelude.{◌≡◌, ◌≤◌, true, false};
-ghost use Rattle.ftp_base.specs.Outside.{HasRisen};
 ghost use Rattle.ftp_transfer.specs.declared.job.Completion.TheVariants as done;
 ghost use Rattle.ftp_transfer.specs.Ran.{told, Moves, Ran, IsClean, IsDone};
 ghost use Rattle.ftp_transfer.specs.Transfer.{is_retrieve, suits};
@@ -24,7 +23,7 @@ pub fn execute<S: Storage, L: Link>(
     ensures suits { suits result.result job.command ≡ true }
 
     // A job whose storage refuses nothing, where nothing fails and memory is found, is done.
-    ensures complete { IsClean (S.files storage.old) (S.meaning storage.old) (S.meaning storage.new) (HasRisen (S.faults storage.old) (S.faults storage.new)) (HasRisen (L.faults link.old) (L.faults link.new)) result → IsDone result.result }
+    ensures complete { IsClean (told (S.files storage.old) (S.meaning storage.old) (S.faults storage.old) (L.left link.old) (L.sending link.old) (L.faults link.old)) (told (S.files storage.new) (S.meaning storage.new) (S.faults storage.new) (L.left link.new) (L.sending link.new) (L.faults link.new)) result → IsDone result.result }
     ensures no_memory { is_retrieve job.command ≡ true → S.reads_take_memory ≡ false → L.takes_memory ≡ false → result.result ≡ done.OutOfMemory → ⊥ }
     ensures storage_count { S.faults storage.old ≤ S.faults storage.new }
     ensures link_count { L.faults link.old ≤ L.faults link.new }

@@ -19,6 +19,7 @@ returns-in-Some-clause-ran g c linked =
       there = sym c.get_mut.ensures.value ∙ ap option_copied_mut c.in-Some.is;
       links = subst (λ lent. OnSome lent (c.get_mut.follows.lender after ≡ map.insert c.args.links.now c.args.job.number after)) c.in-Some.is (c.get_mut.follows.holds after);
       ran = c.execute.ensures.ran;
+      complete = c.execute.ensures.complete;
       storage_count = c.execute.ensures.storage_count;
       link_count = c.execute.ensures.link_count;
     }

@@ -14,13 +14,14 @@ returns-clause-ran g c =
         kept = λ other. ((moves.kept other).0, c.close.ensures.left ∙ (moves.kept other).1);
         stored = moves.stored;
         written = λ done. rw c.close.ensures.left (moves.written done);
-        cause = rw c.close.ensures.last_fault
+        cause = rw (c.close.ensures.last_fault, c.close.ensures.left)
             (Caused_later _ _ _ _ _ _ _ _ c.run-outcome.result.result c.run-outcome.result.fault
             (HasRisen-more _ _ _ c.close.ensures.count)
             (λ h. h)
             (λ k h. h)
             moves.cause);
         refused = moves.refused;
+        unrefused = moves.unrefused;
         refused_last = λ store told. rw c.close.ensures.left (moves.refused_last store told);
       };
       closed = search rules;
