@@ -23,7 +23,7 @@ use Rattle.ftp_events.specs.Right.{IsRight, IsActed, log_of, events_of}
 use Rattle.ftp_events.specs.Session.{session}
 use Rattle.ftp_events.specs.Transfer.{moves_file}
 use Rattle.ftp_laws.specs.Holds.{WaitsOn, EndsHold}
-use Rattle.ftp_laws.specs.Fates.{was_queued, settle_count, can_cancel}
+use Rattle.ftp_laws.specs.Fates.{was_queued, settle_count, can_cancel, LosesSlot}
 use Rattle.ftp_laws.specs.Links.{start_count}
 use Rattle.ftp_laws.specs.Notices.{notices, NoneLoggedOut, LastLoggedOut, HasEnded}
 
@@ -150,3 +150,9 @@ CancelledOnlySo =
     (o : Options) (log : List Entry) (e : Entry) (t : Ticket) → IsRight o (e ∷ log) → IsActed o (e ∷ log) →
     list_any (cancels t) e.actions ≡ true →
     (can_cancel e.decision ≡ true) × (concerns o (past_of log) e t.session ≡ true)
+
+-- it is cancelled exactly where its session loses the slot in which it waits
+abbrev pub CancelledWithSlot : Type 0
+CancelledWithSlot =
+    (o : Options) (log : List Entry) (e : Entry) (t : Ticket) → IsRight o (e ∷ log) → IsActed o (e ∷ log) →
+    (list_any (cancels t) e.actions ≡ true) ↔ LosesSlot o (past_of log) e t

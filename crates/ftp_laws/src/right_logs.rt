@@ -2,7 +2,7 @@
 ghost use Rattle.ftp_laws.specs.Laws.{RightLogsExist, RightLogsAreDetermined, RightLogsServe, HoldersWait, HoldsOnePort, HoldsEndOnlySo, EachEndsHold};
 ghost use Rattle.ftp_laws.specs.Laws.{NoticesAreNumbered, NoticesAreCounted, EndedAreLoggedOut, LiveAreNotLoggedOut, ClientsAreIsolated, ClientsAreAsIfAlone};
 ghost use Rattle.ftp_laws.specs.Laws.{LinksTakeOneJob, EndsSetOffset};
-ghost use Rattle.ftp_laws.specs.Laws.{QueuedHaveFates, SettledDoNotWait, SettledOnce, CancelledOnlySo};
+ghost use Rattle.ftp_laws.specs.Laws.{QueuedHaveFates, SettledDoNotWait, SettledOnce, CancelledOnlySo, CancelledWithSlot};
 
 /// There is one right and acted log for given events and answers.
 pub fn right_logs_are_determined()
@@ -52,8 +52,10 @@ pub fn transfers_have_one_fate()
     ensures once { SettledOnce }
 {}
 
-/// A transfer is cancelled only with its session's slot.
+/// A transfer is cancelled exactly where its session loses the slot in which it waits: by another
+/// grant, a data connection that is turned away while the slot waits for one, or the end of the session.
 pub fn transfers_are_cancelled_with_their_slot()
+    ensures with_slot { CancelledWithSlot }
     ensures only_so { CancelledOnlySo }
 {}
 
