@@ -1,7 +1,7 @@
 //! The laws of right logs. The functions do nothing: their clauses are the laws.
 ghost use Rattle.ftp_laws.specs.Laws.{RightLogsExist, RightLogsAreDetermined, RightLogsServe, HoldersWait, HoldsOnePort, HoldsEndOnlySo, EachEndsHold};
 ghost use Rattle.ftp_laws.specs.Laws.{NoticesAreNumbered, NoticesAreCounted, EndedAreLoggedOut, LiveAreNotLoggedOut, ClientsAreIsolated, ClientsAreAsIfAlone};
-ghost use Rattle.ftp_laws.specs.Laws.{LinksTakeOneJob, EndsSetOffset};
+ghost use Rattle.ftp_laws.specs.Laws.{LinksTakeOneJob, EndsSetOffset, OffsetsLast};
 ghost use Rattle.ftp_laws.specs.Laws.{QueuedHaveFates, SettledDoNotWait, SettledOnce, CancelledOnlySo, CancelledWithSlot};
 
 /// There is one right and acted log for given events and answers.
@@ -59,9 +59,11 @@ pub fn transfers_are_cancelled_with_their_slot()
     ensures only_so { CancelledOnlySo }
 {}
 
-/// A restart offset lasts until the end of a RETR, STOR or APPE that succeeded.
+/// A live session's restart offset lasts until a REST of it is taken, or a RETR, STOR or APPE of it ends
+/// that succeeded, which sets it to 0.
 pub fn ends_set_offset()
     ensures offset { EndsSetOffset }
+    ensures kept { OffsetsLast }
 {}
 
 /// The entries of one client address are right and acted by themselves, as if nobody else had been
