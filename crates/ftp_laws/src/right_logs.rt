@@ -52,15 +52,15 @@ pub fn transfers_have_one_fate()
     ensures once { SettledOnce }
 {}
 
-/// A transfer is cancelled exactly where its session loses the slot in which it waits: by another
-/// grant, a data connection that is turned away while the slot waits for one, or the end of the session.
+/// A transfer is cancelled exactly where its session loses the slot in which it waits: by another grant,
+/// by a data connection for the session that is turned away while the slot waits, or by the session's end.
 pub fn transfers_are_cancelled_with_their_slot()
     ensures with_slot { CancelledWithSlot }
     ensures only_so { CancelledOnlySo }
 {}
 
-/// A live session's restart offset lasts until a REST of it is taken, or a RETR, STOR or APPE of it ends
-/// that succeeded, which sets it to 0.
+/// A live session's restart offset lasts until its next REST that is taken, or until the end of a RETR,
+/// STOR or APPE of it that succeeded, which sets it to 0.
 pub fn ends_set_offset()
     ensures offset { EndsSetOffset }
     ensures kept { OffsetsLast }
