@@ -22,7 +22,6 @@ use Rattle.ftp_events.specs.Place.{is_queued, ticket_count}
 use Rattle.ftp_events.specs.Slot.{Lane, queued_in, lane}
 use Rattle.ftp_events.specs.Session.{session, running_job}
 use Rattle.ftp_events.specs.Decide.{due, decide}
-use Rattle.ftp_events.specs.Transfer.{same_ticket}
 use Rattle.ftp_events.specs.Acts.{acts, acts_of, stays}
 use Rattle.ftp_events.specs.Right.{IsRight, IsActed}
 use Rattle.ftp_events.specs.Fate.{Fate, CompletedAt, CancelledAt, AwaitsConnection, AwaitsItsEnd, AwaitsEarlierEnd, completes, cancels, settlement, is_running, is_pending, in_slot, wait, fate}
@@ -229,21 +228,14 @@ SettlesOrNot t xs =
 pub action-settles :
     (t : Ticket) (x : Action) →
     ((completes t x ≡ false) × (cancels t x ≡ false) × (settles t x ≡ false)) ⊎ (((completes t x || cancels t x) ≡ true) × (settles t x ≡ true))
-action-settles t (action.Completed ticket delivered) = go (same_ticket ticket t) refl
+action-settles t x = go (completes t x) (cancels t x)
   where
     go :
-        (b : Bool) → same_ticket ticket t ≡ b →
-        ((b ≡ false) × (false ≡ false) × (b ≡ false)) ⊎ (((b || false) ≡ true) × (b ≡ true))
-    go true x = inr (refl, refl)
-    go false x = inl (refl, refl, refl)
-action-settles t (action.Cancelled ticket) = go (same_ticket ticket t) refl
-  where
-    go :
-        (b : Bool) → same_ticket ticket t ≡ b →
-        ((false ≡ false) × (b ≡ false) × (b ≡ false)) ⊎ ((b ≡ true) × (b ≡ true))
-    go true x = inr (refl, refl)
-    go false x = inl (refl, refl, refl)
-action-settles t x = inl (refl, refl, refl)
+        (a b : Bool) →
+        ((a ≡ false) × (b ≡ false) × ((a || b) ≡ false)) ⊎ (((a || b) ≡ true) × ((a || b) ≡ true))
+    go true b = inr (refl, refl)
+    go false true = inr (refl, refl)
+    go false false = inl (refl, refl, refl)
 
 -- so does a list
 pub actions-settle : (t : Ticket) (xs : List Action) → SettlesOrNot t xs

@@ -19,15 +19,14 @@ use Rattle.ftp_events.specs.declared.session.Slot.{Slot}
 use Rattle.ftp_events.specs.declared.session.Slot.TheVariants.{Empty, Waits, Linked}
 use Rattle.ftp_events.specs.Log.{named_session, new_number, is_refusal, past_of}
 use Rattle.ftp_events.specs.Text.{unique_name}
-use Rattle.ftp_events.specs.Opening.{opener}
 use Rattle.ftp_events.specs.History.{concerns, opens, history}
-use Rattle.ftp_events.specs.Slot.{Lane, asked_command, with_link, drops, startable, lane_of, lane_after, queued_in, lane}
+use Rattle.ftp_events.specs.Slot.{Lane, asked_command, with_link, drops, lane_of, lane_after, queued_in, lane}
 use Rattle.ftp_events.specs.Session.{lives_on, session, running_job}
 use Rattle.ftp_events.specs.CommandRows.{is_logged_in, if_logged_in, can_queue, transfer_row}
 use Rattle.ftp_events.specs.Decide.{due, decide, if_live}
 use Rattle.ftp_events.specs.Right.{IsRight}
 use Rattle.ftp_laws.proofs.Facts.{IsLive, granted-live}
-use Rattle.ftp_laws.proofs.Laws.{counting-refused, counting-counts, history-other, history-own, session-other, session-own, session_by, IsTold, session-told}
+use Rattle.ftp_laws.proofs.Laws.{counting-refused, counting-counts, history-other, history-own, session-other, session-own, session_by, session-told}
 use Rattle.ftp_laws.proofs.Told.{opened-is}
 
 -- the ticket of a transfer that was queued
@@ -222,52 +221,6 @@ ended-empty o (e ∷ log) s r none = go (is_refusal e.decision) refl (ended-empt
         subst (λ (l : List Entry). IsBare (lane (history o l s))) (sym (counting-counts e log x))
         (ended-step o (past_of log) e s r.1 ih (subst (λ (l : List Entry). session o l s ≡ None) (counting-counts e log x) none))
 
--- no transfer waits beside its link while no job runs
-abbrev pub IsSettled : Lane → Type 0
-IsSettled l = startable l.slot l.pending l.running ≡ None
-
--- where a job can start, it starts
-pub lane_of-settled :
-    (slot : Slot) (pending : Option Pending) (job : Option Job) →
-    IsSettled (lane_of slot pending job)
-lane_of-settled (Linked number) (Some p) None = refl
-lane_of-settled (Linked number) (Some p) (Some job) = refl
-lane_of-settled (Linked number) None job = refl
-lane_of-settled Empty pending job = refl
-lane_of-settled (Waits port) pending job = refl
-
--- a slot that is dropped lets no job start
-pub dropped-settled :
-    (b : Bool) (l : Lane) → IsSettled l →
-    IsSettled (record { slot = cond b Empty l.slot; pending = cond b None l.pending; running = l.running })
-dropped-settled true l h = refl
-dropped-settled false l h = h
-
--- so it is after each entry
-pub lane_after-settled :
-    (k : EventKind) (d : Decision) (queued : Option Pending) (l : Lane) →
-    IsSettled l → IsSettled (lane_after k d queued l)
-lane_after-settled k (decision.Granted port) queued l h = refl
-lane_after-settled k (decision.Attached s) queued l h = lane_of-settled (with_link l.slot (new_number k (decision.Attached s))) l.pending l.running
-lane_after-settled k (decision.Queued ticket) queued l h = lane_of-settled l.slot queued l.running
-lane_after-settled k decision.Finished queued l h = lane_of-settled l.slot l.pending None
-lane_after-settled k d queued l h = dropped-settled (drops d l.slot) l h
-
--- and after each history
-pub lane-settled : (h : List Entry) → IsSettled (lane h)
-lane-settled [] = refl
-lane-settled (e ∷ h) = lane_after-settled e.event.kind e.decision (queued_in h e) (lane h) (lane-settled h)
-
--- a session with a link and a transfer has a job that runs
-pub settled :
-    (o : Options) (past : List Entry) (s : ℕ) (v : Session) →
-    session o past s ≡ Some v →
-    startable v.slot v.pending (running_job o past s) ≡ None
-settled o past s v known =
-    let h : List Entry = history o past s in
-    let t : IsTold s h (opener past s) v = session-told o past s v known in
-    subst (λ (w : Session). startable w.slot w.pending (running_job o past s) ≡ None) t.told (lane-settled h)
-
 -- a transfer waits only in a slot that has or awaits a link
 abbrev pub IsPlaced : Lane → Type 0
 IsPlaced l = l.slot ≡ Empty → l.pending ≡ None
@@ -366,14 +319,3 @@ pending-placed o (e ∷ log) s r = go (is_refusal e.decision) refl (pending-plac
         IsPlaced (lane (history o (past_of (e ∷ log)) s))
     go true x h = subst (λ (l : List Entry). IsPlaced (lane (history o l s))) (sym (counting-refused e log x)) h
     go false x h = subst (λ (l : List Entry). IsPlaced (lane (history o l s))) (sym (counting-counts e log x)) (placed-step o (past_of log) e s r.1 h)
-
--- so a session with a transfer has a slot that is not empty
-pub pending-slot :
-    (o : Options) (log : List Entry) (s : ℕ) (v : Session) (p : Pending) →
-    IsRight o log → session o (past_of log) s ≡ Some v →
-    v.pending ≡ Some p → v.slot ≢ Empty
-pending-slot o log s v p r known waits empty =
-    let t : IsTold s (history o (past_of log) s) (opener (past_of log) s) v = session-told o (past_of log) s v known in
-    let none : v.pending ≡ None = subst (λ (w : Session). w.slot ≡ Empty → w.pending ≡ None) t.told (pending-placed o log s r) empty in
-    let z : None ≡ Some p = sym none ∙ waits in
-    cc

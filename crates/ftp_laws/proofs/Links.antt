@@ -22,7 +22,7 @@ use Rattle.ftp_events.specs.Words.{is_number}
 use Rattle.ftp_events.specs.Log.{is_refusal, past_of, is_used, new_number}
 use Rattle.ftp_events.specs.History.{subject, concerns, opens, history}
 use Rattle.ftp_events.specs.Slot.{Lane, with_link, drops, startable, lane_of, lane_after, started_by, queued_in, lane}
-use Rattle.ftp_events.specs.Session.{session, running_job, lane_in}
+use Rattle.ftp_events.specs.Session.{session, running_job}
 use Rattle.ftp_events.specs.Decide.{due, decide}
 use Rattle.ftp_events.specs.Acts.{acts, acts_of, completions, cancellations, closings, link_in, stays, drop_acts, slot_of, pending_in, start_acts, starting}
 use Rattle.ftp_events.specs.Right.{IsRight, IsActed}
@@ -145,15 +145,7 @@ attached-unused o past at (kind.DataIn number raw port) answer d n fit a e = go 
 attached-unused o past at (kind.Connect s raw local trace) answer d n fit a e = grind arith
 attached-unused o past at k answer d n fit a e = cc
 
--- the slot, the transfer and the job of a live session, as its history tells them
-pub lane-told :
-    (o : Options) (past : List Entry) (s : ℕ) (v : Session) →
-    session o past s ≡ Some v →
-    lane_in v (running_job o past s) ≡ lane (history o past s)
-lane-told o past s v known =
-    subst (λ (w : Session). lane_in w (running_job o past s) ≡ lane (history o past s)) (session-told o past s v known).told refl
-
--- so what starts is told by the history
+-- what starts is told by the history
 pub starting-told :
     (o : Options) (past : List Entry) (e : Entry) (s : ℕ) (v : Session) →
     session o past s ≡ Some v →

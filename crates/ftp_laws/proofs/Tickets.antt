@@ -68,20 +68,8 @@ pub settles-cancellations :
     (t : Ticket) (s : ℕ) (staying : Bool) (pending : Option Pending) →
     count_by (settles t) (cancellations s staying pending) ≡ one (is_pending t pending)
 settles-cancellations t s staying None = refl
-settles-cancellations t s true (Some p) = go (same_ticket p.ticket t) refl
-  where
-    go :
-        (b : Bool) → same_ticket p.ticket t ≡ b →
-        count_by (settles t) (cancellations s true (Some p)) ≡ one b
-    go true x = rw x refl
-    go false x = rw x refl
-settles-cancellations t s false (Some p) = go (same_ticket p.ticket t) refl
-  where
-    go :
-        (b : Bool) → same_ticket p.ticket t ≡ b →
-        count_by (settles t) (cancellations s false (Some p)) ≡ one b
-    go true x = rw x refl
-    go false x = rw x refl
+settles-cancellations t s true (Some p) = omega arith
+settles-cancellations t s false (Some p) = omega arith
 
 -- so what is lost with a slot is settled
 pub settles-drop_acts :

@@ -1,14 +1,18 @@
 -- Which transfers there are, and what settles them.
-use Rattle.std.specs.Prelude.{ℕ, Bool, true, false, List, count_by}
+use Rattle.std.specs.Prelude.{ℕ, ◌≡◌, ◌||◌, Bool, true, false, List, count_by, IsSomeAnd}
 use Rattle.std.specs.List.{list_any}
+use Rattle.ftp_options.specs.declared.options.Options.{Options}
 use Rattle.ftp_transfer.specs.declared.job.Ticket.{Ticket}
 use Rattle.ftp_events.specs.declared.action.Action.{Action}
-use Rattle.ftp_events.specs.declared.action.Action.TheVariants as action
 use Rattle.ftp_events.specs.declared.decision.Decision.{Decision}
 use Rattle.ftp_events.specs.declared.decision.Decision.TheVariants.{Turned, Granted, Queued, Closed}
 use Rattle.ftp_events.specs.declared.entry.Entry.{Entry}
 use Rattle.ftp_events.specs.Words.{total}
+use Rattle.ftp_events.specs.History.{concerns}
+use Rattle.ftp_events.specs.Slot.{drops}
+use Rattle.ftp_events.specs.Session.{session}
 use Rattle.ftp_events.specs.Transfer.{same_ticket}
+use Rattle.ftp_events.specs.Fate.{completes, cancels, is_pending}
 
 -- the transfer is queued
 abbrev pub queues : Ticket → Decision → Bool
@@ -21,9 +25,7 @@ was_queued t log = list_any (λ e. queues t e.decision) log
 
 -- the action completes or cancels the transfer
 abbrev pub settles : Ticket → Action → Bool
-settles t (action.Completed ticket delivered) = same_ticket ticket t
-settles t (action.Cancelled ticket) = same_ticket ticket t
-settles t _ = false
+settles t action = completes t action || cancels t action
 
 -- how often the transfer was completed or cancelled
 abbrev pub settle_count : Ticket → List Entry → ℕ
@@ -35,3 +37,9 @@ can_cancel (Granted port) = true
 can_cancel Turned = true
 can_cancel Closed = true
 can_cancel _ = false
+
+-- the entry takes from the transfer's live session the slot in which it waits
+abbrev pub LosesSlot : Options → List Entry → Entry → Ticket → Type 0
+LosesSlot o past e t =
+    (concerns o past e t.session ≡ true)
+    × IsSomeAnd (session o past t.session) (λ v. (drops e.decision v.slot ≡ true) × (is_pending t v.pending ≡ true))

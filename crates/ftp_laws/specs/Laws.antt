@@ -23,9 +23,10 @@ use Rattle.ftp_events.specs.Right.{IsRight, IsActed, log_of, events_of}
 use Rattle.ftp_events.specs.Session.{session}
 use Rattle.ftp_events.specs.Transfer.{moves_file}
 use Rattle.ftp_laws.specs.Holds.{WaitsOn, EndsHold}
-use Rattle.ftp_laws.specs.Fates.{was_queued, settle_count, can_cancel}
+use Rattle.ftp_laws.specs.Fates.{was_queued, settle_count, can_cancel, LosesSlot}
 use Rattle.ftp_laws.specs.Links.{start_count}
 use Rattle.ftp_laws.specs.Notices.{notices, NoneLoggedOut, LastLoggedOut, HasEnded}
+use Rattle.ftp_laws.specs.Offsets.{TakesRest, EndsWell}
 
 -- whatever happens and is answered, there is a right and acted log of it
 abbrev pub RightLogsExist : Type 0
@@ -125,6 +126,13 @@ EndsSetOffset =
     session o (past_of log) ticket.session ≡ Some v →
     (w : Session) × (session o (past_of (e ∷ log)) ticket.session ≡ Some w) × (w.offset ≡ (if moves_file outcome.result then 0 else v.offset))
 
+-- the offset of a session that stays live stays, but for a REST, or the end of a RETR, STOR or APPE of it that succeeded
+abbrev pub OffsetsLast : Type 0
+OffsetsLast =
+    (o : Options) (log : List Entry) (e : Entry) (s : ℕ) (v w : Session) → IsRight o (e ∷ log) →
+    session o (past_of log) s ≡ Some v → session o (past_of (e ∷ log)) s ≡ Some w →
+    (w.offset ≡ v.offset) ⊎ (TakesRest e s ⊎ EndsWell e s)
+
 -- a transfer has a fate where it was queued, and none where it was not
 abbrev pub QueuedHaveFates : Type 0
 QueuedHaveFates =
@@ -150,3 +158,9 @@ CancelledOnlySo =
     (o : Options) (log : List Entry) (e : Entry) (t : Ticket) → IsRight o (e ∷ log) → IsActed o (e ∷ log) →
     list_any (cancels t) e.actions ≡ true →
     (can_cancel e.decision ≡ true) × (concerns o (past_of log) e t.session ≡ true)
+
+-- it is cancelled exactly where its session loses the slot in which it waits
+abbrev pub CancelledWithSlot : Type 0
+CancelledWithSlot =
+    (o : Options) (log : List Entry) (e : Entry) (t : Ticket) → IsRight o (e ∷ log) → IsActed o (e ∷ log) →
+    (list_any (cancels t) e.actions ≡ true) ↔ LosesSlot o (past_of log) e t

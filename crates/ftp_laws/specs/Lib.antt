@@ -2,4 +2,5 @@ pub mod Holds
 pub mod Notices
 pub mod Links
 pub mod Fates
+pub mod Offsets
 pub mod Laws

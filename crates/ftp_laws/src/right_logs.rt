@@ -1,8 +1,8 @@
 //! The laws of right logs. The functions do nothing: their clauses are the laws.
 ghost use Rattle.ftp_laws.specs.Laws.{RightLogsExist, RightLogsAreDetermined, RightLogsServe, HoldersWait, HoldsOnePort, HoldsEndOnlySo, EachEndsHold};
 ghost use Rattle.ftp_laws.specs.Laws.{NoticesAreNumbered, NoticesAreCounted, EndedAreLoggedOut, LiveAreNotLoggedOut, ClientsAreIsolated, ClientsAreAsIfAlone};
-ghost use Rattle.ftp_laws.specs.Laws.{LinksTakeOneJob, EndsSetOffset};
-ghost use Rattle.ftp_laws.specs.Laws.{QueuedHaveFates, SettledDoNotWait, SettledOnce, CancelledOnlySo};
+ghost use Rattle.ftp_laws.specs.Laws.{LinksTakeOneJob, EndsSetOffset, OffsetsLast};
+ghost use Rattle.ftp_laws.specs.Laws.{QueuedHaveFates, SettledDoNotWait, SettledOnce, CancelledOnlySo, CancelledWithSlot};
 
 /// There is one right and acted log for given events and answers.
 pub fn right_logs_are_determined()
@@ -52,14 +52,18 @@ pub fn transfers_have_one_fate()
     ensures once { SettledOnce }
 {}
 
-/// A transfer is cancelled only with its session's slot.
+/// A transfer is cancelled exactly where its session loses the slot in which it waits: by another grant,
+/// by a data connection for the session that is turned away while the slot waits, or by the session's end.
 pub fn transfers_are_cancelled_with_their_slot()
+    ensures with_slot { CancelledWithSlot }
     ensures only_so { CancelledOnlySo }
 {}
 
-/// A restart offset lasts until the end of a RETR, STOR or APPE that succeeded.
+/// A live session's restart offset lasts until its next REST that is taken, or until the end of a RETR,
+/// STOR or APPE of it that succeeded, which sets it to 0.
 pub fn ends_set_offset()
     ensures offset { EndsSetOffset }
+    ensures kept { OffsetsLast }
 {}
 
 /// The entries of one client address are right and acted by themselves, as if nobody else had been

@@ -1,5 +1,5 @@
-use Rattle.ftp_laws.proofs.Offsets.{ends-offset}
+use Rattle.ftp_laws.proofs.Offsets.{ends-offset, offset-lasts}
 use Rattle.ftp_laws.proofs.right_logs.ends_set_offset.Goals as goal
 
 pub returns : goal.returns
-returns c = record { offset = ends-offset }
+returns c = record { offset = ends-offset; kept = offset-lasts }
