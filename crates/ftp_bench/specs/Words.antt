@@ -6,7 +6,6 @@ use Rattle.ftp_bench.specs.declared.command.Kind.{Kind}
 use Rattle.ftp_bench.specs.declared.command.Kind.TheVariants.{Retr, Stor, Copy}
 use Rattle.ftp_bench.specs.declared.command.Command.{Command}
 use Rattle.ftp_bench.specs.declared.command.Command.TheVariants.{Help, Version, Move}
-use Rattle.ftp_bench.specs.declared.command.Load.{Load}
 
 -- what a word says is moved
 abbrev pub kind_of : List ℕ → Option Kind
@@ -22,13 +21,9 @@ command_of word =
 abbrev pub IsNumber : ℕ → List ℕ → ℕ → Type 0
 IsNumber limit word n = IsNumeral 10 (without_leading_plus word) × (digits_value 10 (without_leading_plus word) ≡ n) × (n < limit)
 
--- the words ask for a load: what is moved, how many mebibytes, and how often
-abbrev pub AskLoad : List ℕ → List ℕ → List ℕ → Load → Type 0
-AskLoad kind mebibytes rounds load =
-    (kind_of kind ≡ Some load.kind) × IsNumber (2 ^ 8) mebibytes load.mebibytes × IsNumber (2 ^ 16) rounds load.rounds
-
 -- the words behind the program's name ask for the command
 abbrev pub Asks : List (List ℕ) → Command → Type 0
 Asks (word ∷ []) command = command_of word ≡ Some command
-Asks (kind ∷ mebibytes ∷ rounds ∷ []) (Move load) = AskLoad kind mebibytes rounds load
+Asks (kind ∷ mebibytes ∷ rounds ∷ []) (Move load) =
+    (kind_of kind ≡ Some load.kind) × IsNumber (2 ^ 8) mebibytes load.mebibytes × IsNumber (2 ^ 16) rounds load.rounds
 Asks _ _ = ⊥
