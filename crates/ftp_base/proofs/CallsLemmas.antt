@@ -1,11 +1,11 @@
 -- The look-up of a call among those that fail.
-use Rattle.std.proofs.Common.{◌≡◌, ℕ, zero, suc, ◌+◌, ◌<◌, ◌==◌, ◌&&◌, Bool, true, false, ltb, List, [], ◌∷◌, length, get_or, arith, ap, refl, sym, subst, ◌∙◌, eqb-true, inl, inr}
+use Rattle.std.proofs.Common.{◌≡◌, ℕ, zero, suc, ◌+◌, ◌<◌, ◌==◌, true, false, ltb, List, [], ◌∷◌, length, get_or, arith, ap, sym, subst, ◌∙◌, eqb-true, inl, inr}
 use Rattle.std.specs.Ordering.{nat_cmp, is_eq, is_lt, ordering_index}
 use Rattle.std.specs.declared.cmp.Ordering.TheVariants.{Less, Equal, Greater}
 use Rattle.std.specs.Cmp.{nat_cmp_total, nat_cmp_is, unsigned_ties}
 use Rattle.std.specs.List.{list_any}
 use Rattle.std.specs.List.Sorted.{IsSortedByKey, IsNonDecreasingBy, IsPartitionPoint}
-use Rattle.std.proofs.lemmas.Bool.{cases_lt, ltb-true}
+use Rattle.std.proofs.lemmas.Bool.{cases_lt, ltb-true, and_parts}
 use Rattle.std.proofs.lemmas.List.Folds.{list_any_at, list_any_none}
 use Rattle.std.proofs.lemmas.List.Sorted.{searchable_from_sorted}
 use Rattle.ftp_base.specs.Calls.{rises_above}
@@ -32,21 +32,17 @@ module _ {T : Type 0} (number : T → ℕ) (xs : List T) (n : ℕ) where
         | inr after ↦ ap is_eq (at.1 k d after within)
       ])
 
-both_true : (a b : Bool) → (a && b) ≡ true → (a ≡ true) × (b ≡ true)
-both_true true b h = (refl, h)
-both_true false b h = absurd cc
-
 module _ {T : Type 0} (number : T → ℕ) where
   -- where calls rise, each has a number below the next
   rises-next : (n : ℕ) (xs : List T) (k : ℕ) (d : T) → rises_above number n xs ≡ true → k + 1 < length xs → number (get_or xs k d) < number (get_or xs (k + 1) d)
   rises-next n [] k d h lt = absurd (omega arith)
   rises-next n (x ∷ []) k d h lt = absurd (omega arith)
   rises-next n (x ∷ y ∷ xs) zero d h lt =
-      let first = both_true (ltb n (number x)) (rises_above number (number x) (y ∷ xs)) h in
-      let second = both_true (ltb (number x) (number y)) (rises_above number (number y) xs) first.1 in
+      let first = and_parts (ltb n (number x)) (rises_above number (number x) (y ∷ xs)) h in
+      let second = and_parts (ltb (number x) (number y)) (rises_above number (number y) xs) first.1 in
       ltb-true _ _ second.0
   rises-next n (x ∷ y ∷ xs) (suc k) d h lt =
-      let first = both_true (ltb n (number x)) (rises_above number (number x) (y ∷ xs)) h in
+      let first = and_parts (ltb n (number x)) (rises_above number (number x) (y ∷ xs)) h in
       let at : suc k + 1 ≡ suc (k + 1) = omega arith in
       subst (λ (m : ℕ). number (get_or (x ∷ y ∷ xs) (suc k) d) < number (get_or (x ∷ y ∷ xs) m d)) (sym at) (rises-next (number x) (y ∷ xs) k d first.1 (omega arith))
 

@@ -6,6 +6,7 @@ use Rattle.std.specs.FinMap.{find, is_sorted}
 use Rattle.std.specs.FinMap.Entries.{below_all, find-where_key, is_sorted-where_key}
 use Rattle.std.specs.declared.cmp.Ordering.{Ordering}
 use Rattle.std.specs.declared.cmp.Ordering.TheVariants.{Less, Equal, Greater}
+use Rattle.std.specs.Cmp.{Equal-is}
 use Rattle.std.specs.Ordering.{is_eq, is_lt, eq_by_cmp, ordering_then}
 use Rattle.std.proofs.lemmas.Bool.{false_from_ne_true}
 use Rattle.ftp_base.specs.declared.storage.Meta.{Meta}
@@ -45,11 +46,6 @@ find-below q (e ∷ es) below = by (path_cmp q e.0) refl below (find-below q es)
     by Less is b rest = rw is (rest b)
     by Equal is b rest = absurd b
     by Greater is b rest = absurd b
-
-equal_from : (r : Ordering) → is_eq r ≡ true → r ≡ Equal
-equal_from Less e = cc
-equal_from Equal e = refl
-equal_from Greater e = cc
 
 then_equal : (r s : Ordering) → s ≡ Equal → is_eq (ordering_then r s) ≡ is_eq r
 then_equal Less s e = refl
@@ -157,7 +153,7 @@ before-other files dir from path next passes other =
     apart : (q : List ℕ) → is_child dir q ≡ true → eq_by_cmp path_cmp q path ≡ false
     apart q child =
         false_from_ne_true (eq_by_cmp path_cmp q path) (λ same.
-        let equal : q ≡ path = paths_apart q path (equal_from (path_cmp q path) same) in
+        let equal : q ≡ path = paths_apart q path ((Equal-is (path_cmp q path)).0 same) in
         let no : is_child dir path ≡ true = sym (ap (is_child dir) equal) ∙ child in
         cc (no, other))
 

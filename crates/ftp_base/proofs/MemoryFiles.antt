@@ -5,11 +5,10 @@ use Rattle.std.specs.Option.{option_map, option_and_then}
 use Rattle.std.specs.FinMap as map
 use Rattle.std.specs.Map.{lookup, set_value}
 use Rattle.std.specs.BTreeMap.{insert_entry, is_at}
-use Rattle.std.specs.declared.cmp.Ordering.{Ordering}
 use Rattle.std.specs.declared.cmp.Ordering.TheVariants.{Less, Equal, Greater}
 use Rattle.std.specs.Ordering.{nat_cmp, eq_by_cmp, is_eq}
 use Rattle.std.specs.Cmp.Lexicographic.{slice_cmp, nat_list_cmp_total}
-use Rattle.std.specs.Cmp.{eq_by_cmp_equiv}
+use Rattle.std.specs.Cmp.{Equal-is, eq_by_cmp_equiv}
 use Rattle.std.specs.FinMap.{find, put}
 use Rattle.ftp_base.specs.declared.memory_storage.Node.{Node}
 use Rattle.ftp_base.specs.Calls.{Calls}
@@ -39,14 +38,9 @@ find-items path (e ∷ nodes) =
 pub get-files_of : (nodes : Nodes) (path : List ℕ) → map.get (files_of nodes) path ≡ option_map item_of (lookup (at_path path) nodes)
 get-files_of nodes path = map.get-from_entries nat_list_cmp_total (items nodes) path ∙ find-items path nodes
 
-equal_from : (r : Ordering) → is_eq r ≡ true → r ≡ Equal
-equal_from Less e = cc
-equal_from Equal e = refl
-equal_from Greater e = cc
-
 -- paths that tie are equal
 tied : (a b : List ℕ) → eq_by_cmp (slice_cmp nat_cmp) a b ≡ true → a ≡ b
-tied a b e = paths_apart a b (equal_from (slice_cmp nat_cmp a b) e)
+tied a b e = paths_apart a b ((Equal-is (slice_cmp nat_cmp a b)).0 e)
 
 -- a path ties with itself
 itself : (a : List ℕ) → eq_by_cmp (slice_cmp nat_cmp) a a ≡ true

@@ -132,10 +132,8 @@ impl MemoryStorage {
             is_dir: true,
             bytes: Vec::new(self.alloc),
         };
-        match self.put(path.as_slice(), node) {
-            Ok(()) => Ok(()),
-            Err(AllocError) => Err(StoreError::OutOfMemory),
-        }
+        self.put(path.as_slice(), node)?;
+        Ok(())
     }
 
     /// Puts a file under a path, where there may be one. It is not counted among the calls.
@@ -152,10 +150,8 @@ impl MemoryStorage {
             is_dir: false,
             bytes,
         };
-        match self.put(path.as_slice(), node) {
-            Ok(()) => Ok(()),
-            Err(AllocError) => Err(StoreError::OutOfMemory),
-        }
+        self.put(path.as_slice(), node)?;
+        Ok(())
     }
 
     /// The files, each with its path and its bytes, in byte order of paths.

@@ -4,11 +4,13 @@
 //! A call that fails, finds no memory or is refused leaves the storage as it was.
 
 ghost use Rattle.std.specs.Prelude.{◌≡◌, ℕ, ◌+◌, ◌^◌, ◌<◌, ◌≤◌, Bool, true, length, Option, IfSome, IsSomeAnd, IfOk, OnOk, OnErr, IsErrOf};
+ghost use Rattle.ftp_base.specs.declared.storage.StoreError.TheVariants.{OutOfMemory};
 ghost use Rattle.ftp_base.specs.Outside.{HasRisen};
 ghost use Rattle.ftp_base.specs.Storage.{Files, Meaning, Metadata, Listing, ReadAt, Begin, Append, Answers, item, meta_of, listing, ReadsFile, Begins, Grows};
 
 use crate::bytes::Bytes;
 use crate::error_kind::ErrorKind;
+use std::alloc::AllocError;
 
 /// Transfers can begin at a restart offset.
 pub const FEATURE_RESTART: u32 = 1;
@@ -36,6 +38,14 @@ pub enum StoreError {
     /// The call failed.
     Failed,
     OutOfMemory,
+}
+
+impl From<AllocError> for StoreError {
+    ghost from_gives = { λ _ e. e ≡ OutOfMemory };
+
+    fn from(_: AllocError) -> StoreError {
+        StoreError::OutOfMemory
+    }
 }
 
 /// Keeps the files that transfers read and write.

@@ -1,10 +1,11 @@
 -- The words of the program.
-use Rattle.std.specs.Prelude.{ℕ, List, Option, Some, None, codes, if◌then◌else◌}
+use Rattle.std.specs.Prelude.{◌≡◌, ℕ, ◌^◌, ◌<◌, List, [], ◌∷◌, Option, Some, None, codes, if◌then◌else◌}
 use Rattle.std.specs.Str.{bytes_eq}
+use Rattle.std.specs.Str.Parse.{IsNumeral, digits_value, without_leading_plus}
 use Rattle.ftp_bench.specs.declared.command.Kind.{Kind}
 use Rattle.ftp_bench.specs.declared.command.Kind.TheVariants.{Retr, Stor, Copy}
 use Rattle.ftp_bench.specs.declared.command.Command.{Command}
-use Rattle.ftp_bench.specs.declared.command.Command.TheVariants.{Help, Version}
+use Rattle.ftp_bench.specs.declared.command.Command.TheVariants.{Help, Version, Move}
 
 -- what a word says is moved
 abbrev pub kind_of : List ℕ → Option Kind
@@ -15,3 +16,14 @@ kind_of word =
 abbrev pub command_of : List ℕ → Option Command
 command_of word =
     if bytes_eq word (codes "--help") then Some Help else if bytes_eq word (codes "--version") then Some Version else None
+
+-- a word is a number in decimal digits, below a limit; a plus may stand first
+abbrev pub IsNumber : ℕ → List ℕ → ℕ → Type 0
+IsNumber limit word n = IsNumeral 10 (without_leading_plus word) × (digits_value 10 (without_leading_plus word) ≡ n) × (n < limit)
+
+-- the words behind the program's name ask for the command
+abbrev pub Asks : List (List ℕ) → Command → Type 0
+Asks (word ∷ []) command = command_of word ≡ Some command
+Asks (kind ∷ mebibytes ∷ rounds ∷ []) (Move load) =
+    (kind_of kind ≡ Some load.kind) × IsNumber (2 ^ 8) mebibytes load.mebibytes × IsNumber (2 ^ 16) rounds load.rounds
+Asks _ _ = ⊥

@@ -1,7 +1,8 @@
 //! What the words of the program ask for.
 
-ghost use Rattle.std.specs.Prelude.{◌≡◌};
-ghost use Rattle.ftp_bench.specs.Words.{command_of, kind_of};
+ghost use Rattle.std.specs.Prelude.{◌≡◌, map, string_bytes, IfSome, IsNone};
+ghost use Rattle.ftp_bench.specs.declared.command.Command.{Command};
+ghost use Rattle.ftp_bench.specs.Words.{command_of, kind_of, Asks};
 
 /// What is moved.
 #[derive(Clone, Copy, Debug, PartialEq, Eq)]
@@ -44,23 +45,17 @@ impl Kind {
 
 impl Command {
     /// What the words behind the program's name ask for, where they are a command.
-    pub fn of(words: &[String]) -> Option<Command> {
+    pub fn of(words: &[String]) -> Option<Command>
+        ensures found { IfSome result (Asks (map string_bytes words.now)) }
+        ensures none { IsNone result → (command : Command) → Asks (map string_bytes words.now) command → ⊥ }
+    {
         match words {
             [word] => Command::of_word(word.as_bytes()),
-            [kind, mebibytes, rounds] => {
-                let (Some(kind), Ok(mebibytes), Ok(rounds)) = (
-                    Kind::named(kind.as_bytes()),
-                    mebibytes.as_str().parse::<u8>(),
-                    rounds.as_str().parse::<u16>(),
-                ) else {
-                    return None;
-                };
-                Some(Command::Move(Load {
-                    kind,
-                    mebibytes,
-                    rounds,
-                }))
-            }
+            [kind, mebibytes, rounds] => Some(Command::Move(Load {
+                kind: Kind::named(kind.as_bytes())?,
+                mebibytes: mebibytes.as_str().parse::<u8>().ok()?,
+                rounds: rounds.as_str().parse::<u16>().ok()?,
+            })),
             _ => None,
         }
     }

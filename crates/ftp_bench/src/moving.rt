@@ -3,6 +3,7 @@
 ghost use Rattle.std.specs.Prelude.{◌≡◌, length, codes, IfOk};
 ghost use Rattle.ftp_base.specs.Storage.{old_bytes};
 ghost use Rattle.ftp_transfer.specs.Ran.{IsDone};
+ghost use Rattle.ftp_bench.specs.Moving.{total, round_size};
 
 use crate::command::{Kind, Load};
 use ftp_base::{Bytes, DataChanCmd, MemoryLink, MemoryStorage, StoreError};
@@ -35,20 +36,32 @@ impl From<StoreError> for MoveError {
 }
 
 /// Moves a load, and says how many bytes moved in all.
-pub fn move_bytes(alloc: Global, load: Load) -> Result<u64, MoveError> {
+pub fn move_bytes(alloc: Global, load: Load) -> Result<u64, MoveError>
+    ensures moved { IfOk result (λ n. n ≡ total load) }
+{
     let mut bytes = Vec::new(alloc);
     bytes.resize(load.mebibytes as usize * 1_048_576, b'a')?;
-    let mut storage = MemoryStorage::new(alloc, u64::MAX, Vec::new(alloc));
-    if load.kind == Kind::Retr {
-        let file = Vec::from_slice(alloc, bytes.as_slice())?;
-        storage.put_file(Bytes::from_slice(alloc, b"/a")?, file)?;
-    }
+    let mut storage = storage_for(alloc, load.kind, bytes.as_slice())?;
     let mut moved: u64 = 0;
-    for _ in 0..load.rounds {
-        let here = round(alloc, load.kind, &mut storage, bytes.as_slice())?;
-        moved = moved.saturating_add(here);
+    for _done in 0..load.rounds {
+        moved += round(alloc, load.kind, &mut storage, bytes.as_slice())?;
     }
     Ok(moved)
+}
+
+/// A storage in which a download finds the bytes.
+fn storage_for(alloc: Global, kind: Kind, bytes: &[u8]) -> Result<MemoryStorage, MoveError>
+    ensures { IfOk result (λ storage. round_size kind storage.files bytes.now ≡ length bytes.now) }
+{
+    let mut storage = MemoryStorage::new(alloc, u64::MAX, Vec::new(alloc));
+    match kind {
+        Kind::Retr => {
+            let file = Vec::from_slice(alloc, bytes)?;
+            storage.put_file(Bytes::from_slice(alloc, b"/a")?, file)?;
+            Ok(storage)
+        }
+        Kind::Stor | Kind::Copy => Ok(storage),
+    }
 }
 
 /// Moves the bytes once, and says how many moved.
@@ -57,7 +70,10 @@ fn round(
     kind: Kind,
     storage: &mut MemoryStorage,
     bytes: &[u8],
-) -> Result<u64, MoveError> {
+) -> Result<u64, MoveError>
+    ensures moved { IfOk result (λ n. n ≡ round_size kind storage.old.files bytes.now) }
+    ensures kept { kind ≡ Kind.Retr → storage.new.files ≡ storage.old.files }
+{
     match kind {
         Kind::Retr => retrieve(alloc, storage),
         Kind::Stor => store(alloc, storage, bytes),
@@ -68,6 +84,7 @@ fn round(
 /// Sends the file.
 fn retrieve(alloc: Global, storage: &mut MemoryStorage) -> Result<u64, MoveError>
     ensures whole { IfOk result (λ n. n ≡ length (old_bytes storage.old.files (codes "/a"))) }
+    ensures kept { storage.new.files ≡ storage.old.files }
 {
     let path = Bytes::from_slice(alloc, b"/a")?;
     let job = job(alloc, DataChanCmd::Retr { path })?;
@@ -113,7 +130,9 @@ fn moved(outcome: Outcome) -> Result<u64, MoveError>
 }
 
 /// Copies bytes chunk by chunk behind one another.
-fn copy(alloc: Global, bytes: &[u8]) -> Result<u64, AllocError> {
+fn copy(alloc: Global, bytes: &[u8]) -> Result<u64, AllocError>
+    ensures whole { IfOk result (λ n. n ≡ length bytes.now) }
+{
     let mut copied = Vec::new(alloc);
     for chunk in bytes.chunks(CHUNK as usize) {
         copied.extend_from_slice(chunk)?;

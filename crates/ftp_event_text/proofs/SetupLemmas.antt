@@ -4,7 +4,7 @@ use Rattle.std.specs.Prelude.{codes, Result, Ok, Err, IfOk, IsErrOf}
 use Rattle.std.specs.Fmt.{decimal}
 use Rattle.std.specs.Char.{is_ascii_digit}
 use Rattle.std.proofs.lemmas.Fmt.{decimal_nonempty}
-use Rattle.std.proofs.lemmas.Bool.{eqb-true, leb-true, le-leb}
+use Rattle.std.proofs.lemmas.Bool.{eqb-true, leb-true, le-leb, and_parts}
 use Rattle.std.proofs.lemmas.Option.{cond_some, none-some}
 use Rattle.std.proofs.lemmas.List.{append-nil, nil_from_length, length-append}
 use Rattle.ftp_events.specs.declared.event.HubEvent.{HubEvent}
@@ -89,10 +89,7 @@ link_exact =
     (λ y rest h. refl)))
 
 range_true : (lo hi : ℕ) → leb 1 lo && leb lo hi ≡ true → (1 ≤ lo) × (lo ≤ hi)
-range_true lo hi e = let b = both_true (leb 1 lo) (leb lo hi) e in (leb-true _ _ b.0, leb-true _ _ b.1) where
-  both_true : (b c : Bool) → (b && c) ≡ true → (b ≡ true) × (c ≡ true)
-  both_true true c e = (refl, e)
-  both_true false c e = absurd cc
+range_true lo hi e = let b = and_parts (leb 1 lo) (leb lo hi) e in (leb-true _ _ b.0, leb-true _ _ b.1)
 
 true_range : (lo hi : ℕ) → 1 ≤ lo → lo ≤ hi → leb 1 lo && leb lo hi ≡ true
 true_range lo hi some le = rw (le-leb 1 lo some, le-leb lo hi le) refl

@@ -55,4 +55,4 @@ sent_line n bytes = (codes "link" ++ number n ++ codes " sent" ++ field (hex_tex
 
 -- a file of the storage
 abbrev pub file_line : List ℕ × List ℕ → List ℕ
-file_line file = (codes "file" ++ field (hex_text file.1) ++ field (escape file.0)) ++ 10 ∷ []
+file_line file = item_line (item.File file.1 file.0) ++ 10 ∷ []

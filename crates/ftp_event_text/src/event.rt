@@ -1,14 +1,16 @@
 //! Reading the lines of events.
 
 ghost use Rattle.std.specs.Prelude.{◌≡◌, ◌≢◌, IfOk, IsErrOf, Some};
+ghost use Rattle.ftp_base.specs.declared.command.DataChanCmd.{DataChanCmd};
+ghost use Rattle.ftp_events.specs.declared.event.EventKind.TheVariants as kind;
 ghost use Rattle.ftp_events.specs.declared.event.HubEvent.{HubEvent};
 ghost use Rattle.ftp_text.specs.declared.fault.LineFault.TheVariants as fault;
 ghost use Rattle.ftp_event_text.specs.Events.{event_line, IsEvent};
-ghost use Rattle.ftp_text.specs.Reading.{Gives};
-ghost use Rattle.ftp_event_text.specs.EventReading.{connect_at, data_at, user_at, pass_at, auth_at, pasv_at, retr_at, stor_at, appe_at, list_at, nlst_at, mlsd_at, stou_at, rest_at, cwd_at, closed_at, end_at, fields_at, event_of};
+ghost use Rattle.ftp_text.specs.Reading.{Gives, pair, number_field, text_field, optional_text_field};
+ghost use Rattle.ftp_event_text.specs.EventReading.{connect_at, data_at, user_at, pass_at, auth_at, pasv_at, stou_at, rest_at, cwd_at, closed_at, end_at, fields_at, event_of};
 
 use crate::word::{EventWord, event_word};
-use ftp_base::DataChanCmd;
+use ftp_base::{Bytes, DataChanCmd};
 use ftp_events::{EventKind, HubEvent};
 use ftp_text::{LineFault, field};
 use ftp_transfer::Ticket;
@@ -44,6 +46,7 @@ fn event(alloc: Global, line: &[u8]) -> Result<HubEvent, LineFault>
     Ok(HubEvent { at, kind })
 }
 
+#[tactic(auto, unfolding(crate::specs::EventReading::retr_at, crate::specs::EventReading::stor_at, crate::specs::EventReading::appe_at, crate::specs::EventReading::list_at, crate::specs::EventReading::nlst_at, crate::specs::EventReading::mlsd_at))]
 fn fields(alloc: Global, word: EventWord, bytes: &[u8]) -> Result<(EventKind, &[u8]), LineFault>
     ensures { Gives (λ x. (x.0, x.1.now)) result (fields_at word bytes.now) }
 {
@@ -54,18 +57,55 @@ fn fields(alloc: Global, word: EventWord, bytes: &[u8]) -> Result<(EventKind, &[
         EventWord::Pass => pass(bytes),
         EventWord::Auth => auth(bytes),
         EventWord::Pasv => pasv(bytes),
-        EventWord::Retr => retr(alloc, bytes),
-        EventWord::Stor => stor(alloc, bytes),
-        EventWord::Appe => appe(alloc, bytes),
-        EventWord::List => list(alloc, bytes),
-        EventWord::Nlst => nlst(alloc, bytes),
-        EventWord::Mlsd => mlsd(alloc, bytes),
+        EventWord::Retr => Ok(transfer(on_path(alloc, bytes)?, |path| DataChanCmd::Retr { path })),
+        EventWord::Stor => Ok(transfer(on_path(alloc, bytes)?, |path| DataChanCmd::Stor { path })),
+        EventWord::Appe => Ok(transfer(on_path(alloc, bytes)?, |path| DataChanCmd::Appe { path })),
+        EventWord::List => Ok(transfer(
+            on_dir(alloc, bytes)?,
+            |path| DataChanCmd::List {
+                options: None,
+                path,
+            },
+        )),
+        EventWord::Nlst => Ok(transfer(on_dir(alloc, bytes)?, |path| DataChanCmd::Nlst { path })),
+        EventWord::Mlsd => Ok(transfer(on_dir(alloc, bytes)?, |path| DataChanCmd::Mlsd { path })),
         EventWord::Stou => stou(bytes),
         EventWord::Rest => restart(bytes),
         EventWord::Cwd => cwd(alloc, bytes),
         EventWord::Closed => closed(bytes),
         EventWord::End => end(bytes),
     }
+}
+
+/// A session, and a path.
+fn on_path(alloc: Global, bytes: &[u8]) -> Result<((u64, Bytes), &[u8]), LineFault>
+    ensures { Gives (λ x. (x.0, x.1.now)) result (pair number_field text_field bytes.now) }
+{
+    let (session, rest) = field::number(bytes)?;
+    let (path, rest) = field::text_to_end(alloc, rest)?;
+    Ok(((session, path), rest))
+}
+
+/// A session, and a path or none.
+fn on_dir(alloc: Global, bytes: &[u8]) -> Result<((u64, Option<Bytes>), &[u8]), LineFault>
+    ensures { Gives (λ x. (x.0, x.1.now)) result (pair number_field optional_text_field bytes.now) }
+{
+    let (session, rest) = field::number(bytes)?;
+    let (path, rest) = field::optional_text(alloc, rest)?;
+    Ok(((session, path), rest))
+}
+
+/// The transfer of a session, by the command on its path.
+fn transfer<P, F: FnOnce(P) -> DataChanCmd>(
+    read: ((u64, P), &[u8]),
+    command: F,
+) -> (EventKind, &[u8])
+    requires { F.IsAlwaysCallable command }
+    ensures { (made : DataChanCmd) × F.post command read.entry.0.1 made × (result.0 ≡ kind.Transfer read.entry.0.0 made) × (result.1.now ≡ read.entry.1.now) }
+{
+    let ((session, path), rest) = read;
+    let command = command(path);
+    (EventKind::Transfer { session, command }, rest)
 }
 
 #[tactic(auto, unfolding(crate::specs::EventReading::connect_at))]
@@ -136,67 +176,6 @@ fn pasv(bytes: &[u8]) -> Result<(EventKind, &[u8]), LineFault>
         bound,
     };
     Ok((kind, rest))
-}
-
-#[tactic(auto, unfolding(crate::specs::EventReading::retr_at))]
-fn retr(alloc: Global, bytes: &[u8]) -> Result<(EventKind, &[u8]), LineFault>
-    ensures { Gives (λ x. (x.0, x.1.now)) result (retr_at bytes.now) }
-{
-    let (session, rest) = field::number(bytes)?;
-    let (path, rest) = field::text_to_end(alloc, rest)?;
-    let command = DataChanCmd::Retr { path };
-    Ok((EventKind::Transfer { session, command }, rest))
-}
-
-#[tactic(auto, unfolding(crate::specs::EventReading::stor_at))]
-fn stor(alloc: Global, bytes: &[u8]) -> Result<(EventKind, &[u8]), LineFault>
-    ensures { Gives (λ x. (x.0, x.1.now)) result (stor_at bytes.now) }
-{
-    let (session, rest) = field::number(bytes)?;
-    let (path, rest) = field::text_to_end(alloc, rest)?;
-    let command = DataChanCmd::Stor { path };
-    Ok((EventKind::Transfer { session, command }, rest))
-}
-
-#[tactic(auto, unfolding(crate::specs::EventReading::appe_at))]
-fn appe(alloc: Global, bytes: &[u8]) -> Result<(EventKind, &[u8]), LineFault>
-    ensures { Gives (λ x. (x.0, x.1.now)) result (appe_at bytes.now) }
-{
-    let (session, rest) = field::number(bytes)?;
-    let (path, rest) = field::text_to_end(alloc, rest)?;
-    let command = DataChanCmd::Appe { path };
-    Ok((EventKind::Transfer { session, command }, rest))
-}
-
-#[tactic(auto, unfolding(crate::specs::EventReading::list_at))]
-fn list(alloc: Global, bytes: &[u8]) -> Result<(EventKind, &[u8]), LineFault>
-    ensures { Gives (λ x. (x.0, x.1.now)) result (list_at bytes.now) }
-{
-    let (session, rest) = field::number(bytes)?;
-    let (path, rest) = field::optional_text(alloc, rest)?;
-    let options = None;
-    let command = DataChanCmd::List { options, path };
-    Ok((EventKind::Transfer { session, command }, rest))
-}
-
-#[tactic(auto, unfolding(crate::specs::EventReading::nlst_at))]
-fn nlst(alloc: Global, bytes: &[u8]) -> Result<(EventKind, &[u8]), LineFault>
-    ensures { Gives (λ x. (x.0, x.1.now)) result (nlst_at bytes.now) }
-{
-    let (session, rest) = field::number(bytes)?;
-    let (path, rest) = field::optional_text(alloc, rest)?;
-    let command = DataChanCmd::Nlst { path };
-    Ok((EventKind::Transfer { session, command }, rest))
-}
-
-#[tactic(auto, unfolding(crate::specs::EventReading::mlsd_at))]
-fn mlsd(alloc: Global, bytes: &[u8]) -> Result<(EventKind, &[u8]), LineFault>
-    ensures { Gives (λ x. (x.0, x.1.now)) result (mlsd_at bytes.now) }
-{
-    let (session, rest) = field::number(bytes)?;
-    let (path, rest) = field::optional_text(alloc, rest)?;
-    let command = DataChanCmd::Mlsd { path };
-    Ok((EventKind::Transfer { session, command }, rest))
 }
 
 #[tactic(auto, unfolding(crate::specs::EventReading::stou_at))]

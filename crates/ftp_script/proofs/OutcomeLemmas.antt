@@ -188,7 +188,7 @@ out-fault all left later before now reader run buffer r told =
       written = r.written;
     })
 
--- the storage is the one that the items set up
+-- until an event comes, the storage of a run is the one that its items set up
 pub kept-set_up : (run : Run) (items : List Item) (log : List Entry) (storage : MemoryState) → Keeps run items log → storage ≡ run.storage → IsSetUp storage items
 kept-set_up run items log storage kept same = λ no_event. same ∙ kept-storage run items log kept no_event
 

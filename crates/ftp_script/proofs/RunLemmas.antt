@@ -1,10 +1,10 @@
 -- A run, and one more item.
 use Rattle.std.specs.List.{list_any}
-use Rattle.std.proofs.Common.{◌≡◌, ℕ, Bool, true, false, ◌&&◌, List, [], ◌∷◌, ◌++◌, Option, Some, None, is_some, refl, sym, ap, subst, ◌∙◌}
+use Rattle.std.proofs.Common.{◌≡◌, ℕ, Bool, true, false, List, [], ◌∷◌, ◌++◌, Option, Some, None, is_some, refl, sym, ap, subst, ◌∙◌}
 use Rattle.std.specs.Prelude.{MatchOption, IsTrue}
 use Rattle.std.specs.FinMap as map
 use Rattle.std.proofs.lemmas.List.{append-nil}
-use Rattle.std.proofs.lemmas.Bool.{not-true}
+use Rattle.std.proofs.lemmas.Bool.{not-true, and_parts}
 use Rattle.ftp_base.specs.declared.fault.LinkFault.{LinkFault}
 use Rattle.ftp_base.specs.MemoryStorage.{MemoryState}
 use Rattle.ftp_base.specs.LinkTable.{Numbered}
@@ -32,16 +32,6 @@ use Rattle.ftp_script.specs.Runs.{outside, HasRun, HasHub, Keeps, MayTake}
 use Rattle.ftp_script.proofs.ItemLemmas.{options_in-some, options_in-none, has_options-is, is_some-links_in, links_in-other, links_in-link, storage_in-more}
 use Rattle.ftp_script.proofs.LegalLemmas.{events-other, events-more, no-entry}
 use Rattle.ftp_script.proofs.LeadsLemmas.{leads-numbers, with_link, leads-framed}
-
--- ---- tests
-
-pub and_left : (a b : Bool) → a && b ≡ true → a ≡ true
-and_left true b h = refl
-and_left false b h = h
-
-pub and_right : (a b : Bool) → a && b ≡ true → b ≡ true
-and_right true b h = h
-and_right false b h = absurd cc
 
 -- ---- options
 
@@ -279,7 +269,7 @@ hub_there : (found : Option Hub) (items : List Item) (log : List Entry) (event :
     ⊥
 hub_there found items log event now stands h none =
     let kept : HasHub None items log now = subst (λ (o : Option Hub). HasHub o items log now) none h in
-    let set : is_some (options_in items) ≡ true = sym (has_options-is items) ∙ and_left (has_options items) (is_covered (λ n. has_link n items) event.kind) stands in
+    let set : is_some (options_in items) ≡ true = sym (has_options-is items) ∙ (and_parts (has_options items) (is_covered (λ n. has_link n items) event.kind) stands).0 in
     let unset : is_some (options_in items) ≡ false = ap is_some kept.0 in
     absurd cc
 
@@ -289,7 +279,7 @@ no_hub run event may none = hub_there run.hub may.1.0 may.1.1 event (outside run
 covered-in : (run : Run) (items : List Item) (log : List Entry) (event : HubEvent) → Keeps run items log → may_stand items (item.Event event) ≡ true → is_covered (is_linked run.links) event.kind ≡ true
 covered-in run items log event kept stands =
     ap (λ (linked : ℕ → Bool). is_covered linked event.kind) (λ i n. kept-numbers run items log n kept i)
-    ∙ and_right (has_options items) (is_covered (λ n. has_link n items) event.kind) stands
+    ∙ (and_parts (has_options items) (is_covered (λ n. has_link n items) event.kind) stands).1
 
 -- the connection that comes with an event is in the table
 pub covered : (run : Run) (event : HubEvent) → MayTake run (item.Event event) → IsTrue (is_covered (is_linked run.links) event.kind)

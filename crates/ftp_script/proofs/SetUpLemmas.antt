@@ -2,7 +2,7 @@
 use Rattle.std.proofs.Common.{◌≡◌, ℕ, true, false, not, ◌&&◌, leb, ltb, List, [], Option, Some, None, is_some, length, refl, sym, ap, subst, ◌∙◌, arith}
 use Rattle.std.specs.Prelude.{is_none, Result, Err, IfErr}
 use Rattle.std.specs.FinMap as map
-use Rattle.std.proofs.lemmas.Bool.{not-true, leb-true}
+use Rattle.std.proofs.lemmas.Bool.{not-true, leb-true, and_parts}
 use Rattle.std.proofs.lemmas.Bool.Decides.{nat_tests}
 use Rattle.ftp_base.specs.declared.error_kind.ErrorKind.{ErrorKind}
 use Rattle.ftp_base.specs.declared.error_kind.ErrorKind.TheVariants as error
@@ -24,7 +24,7 @@ use Rattle.ftp_script_text.specs.SetUp.{has_event, new_storage, storage_in}
 use Rattle.ftp_script.specs.declared.run.Run.{Run}
 use Rattle.ftp_script.specs.Items.{new_link}
 use Rattle.ftp_script.specs.Runs.{Keeps, MayTake}
-use Rattle.ftp_script.proofs.RunLemmas.{and_left, and_right, kept-storage, kept-numbers}
+use Rattle.ftp_script.proofs.RunLemmas.{kept-storage, kept-numbers}
 
 -- ---- the storage
 
@@ -64,20 +64,20 @@ file_refusal-none files max path len free short = by (item_at files (parent path
 
 -- what sets up the storage comes before all events
 pub storage_first : (items : List Item) (max : ℕ) (fails : List ℕ) → may_stand items (item.Storage max fails) ≡ true → has_event items ≡ false
-storage_first items max fails may = not-true (has_event items) (and_left (not (has_event items)) (not (has_stored items)) may)
+storage_first items max fails may = not-true (has_event items) (and_parts (not (has_event items)) (not (has_stored items)) may).0
 
 pub dir_first : (items : List Item) (path : List ℕ) → may_stand items (item.Dir path) ≡ true → has_event items ≡ false
-dir_first items path may = not-true (has_event items) (and_left (not (has_event items)) (is_free items path) may)
+dir_first items path may = not-true (has_event items) (and_parts (not (has_event items)) (is_free items path) may).0
 
 pub file_first : (items : List Item) (bytes path : List ℕ) → may_stand items (item.File bytes path) ≡ true → has_event items ≡ false
 file_first items bytes path may =
-    not-true (has_event items) (and_left (not (has_event items)) (is_free items path && leb (length bytes) (storage_in items).max_file) may)
+    not-true (has_event items) (and_parts (not (has_event items)) (is_free items path && leb (length bytes) (storage_in items).max_file) may).0
 
 -- a directory that comes is not refused
 pub dir_taken : (run : Run) (path : List ℕ) → MayTake run (item.Dir path) → directory_refusal run.storage.files path ≡ None
 dir_taken run path may =
     let items = may.1.0 in
-    free_is run items may.1.1 path may.1.2 (dir_first items path may.1.3) (and_right (not (has_event items)) (is_free items path) may.1.3)
+    free_is run items may.1.1 path may.1.2 (dir_first items path may.1.3) (and_parts (not (has_event items)) (is_free items path) may.1.3).1
 
 -- a file that comes is not refused
 pub file_taken : (run : Run) (bytes path : List ℕ) → MayTake run (item.File bytes path) → file_refusal run.storage.files run.storage.max_file path (length bytes) ≡ None
@@ -85,11 +85,11 @@ file_taken run bytes path may =
     let items = may.1.0 in
     let kept = may.1.2 in
     let first = file_first items bytes path may.1.3 in
-    let fits = and_right (not (has_event items)) (is_free items path && leb (length bytes) (storage_in items).max_file) may.1.3 in
-    let short = and_right (is_free items path) (leb (length bytes) (storage_in items).max_file) fits in
+    let fits = (and_parts (not (has_event items)) (is_free items path && leb (length bytes) (storage_in items).max_file) may.1.3).1 in
+    let parts = and_parts (is_free items path) (leb (length bytes) (storage_in items).max_file) fits in
     file_refusal-none run.storage.files run.storage.max_file path (length bytes)
-    (free_is run items may.1.1 path kept first (and_left (is_free items path) (leb (length bytes) (storage_in items).max_file) fits))
-    (ap (λ (s : MemoryState). leb (length bytes) s.max_file) (kept-storage run items may.1.1 kept first) ∙ short)
+    (free_is run items may.1.1 path kept first parts.0)
+    (ap (λ (s : MemoryState). leb (length bytes) s.max_file) (kept-storage run items may.1.1 kept first) ∙ parts.1)
 
 -- what is not refused is not answered with a refusal
 pub not_refused : (refusal : Option ErrorKind) (e : StoreError) (k : ErrorKind) → refusal ≡ None → e ≡ store.Kind k → Refuses refusal e → ⊥

@@ -49,8 +49,8 @@ impl Admission {
         }
     }
 
-    /// The item of a line that may stand there. The source has given `taken` bytes up to the line's end, and the storage
-    /// holds what the lines before set up.
+    /// The item of a line that may stand there. The source has given `taken` bytes up to the line's end. Until an event
+    /// comes, the storage is the one that the lines before set up.
     pub fn line(
         &mut self,
         alloc: Global,

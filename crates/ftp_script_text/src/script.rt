@@ -49,7 +49,8 @@ impl ScriptReader {
         }
     }
 
-    /// The item of the next line, or None at the end of the script. The storage holds what the lines before set up.
+    /// The item of the next line, or None at the end of the script. Until an event comes, the storage is the one that
+    /// the lines before set up.
     pub fn next_item<S: Source>(
         &mut self,
         alloc: Global,

@@ -6,7 +6,7 @@ use Rattle.std.specs.Fmt.{decimal}
 use Rattle.std.specs.Str.{bytes_eq}
 use Rattle.std.specs.Str.Parse.{AllDigits, digits_value}
 use Rattle.std.proofs.lemmas.Option.{cond_some}
-use Rattle.std.proofs.lemmas.Bool.{eqb-true, ltb-true, lt-ltb}
+use Rattle.std.proofs.lemmas.Bool.{eqb-true, ltb-true, lt-ltb, and_parts}
 use Rattle.std.proofs.lemmas.Bool.Decides.{nat_tests}
 use Rattle.std.proofs.lemmas.List.{take-append-drop, take_at, drop_at}
 use Rattle.std.proofs.lemmas.Fmt.{digits_value-decimal, digits_decimal}
@@ -145,11 +145,8 @@ digits_pass (c ∷ w) h = let r = digit_from_value c h.0 in (grind (arith, nat_t
 pub numeral_takes : (w : List ℕ) (n : ℕ) → numeral w ≡ Some n → (decimal n ≡ w) × (n < 2 ^ 64)
 numeral_takes w n e =
     let p = cond_some (bytes_eq (decimal (digits_value 10 w)) w && ltb (digits_value 10 w) (2 ^ 64)) (digits_value 10 w) n e in
-    let q = both_true (bytes_eq (decimal (digits_value 10 w)) w) (ltb (digits_value 10 w) (2 ^ 64)) p.0 in
-    subst (λ (m : ℕ). (decimal m ≡ w) × (m < 2 ^ 64)) p.1 ((bytes_eq-Decides _ _).0 q.0, ltb-true _ _ q.1) where
-      both_true : (b c : Bool) → (b && c) ≡ true → (b ≡ true) × (c ≡ true)
-      both_true true c e = (refl, e)
-      both_true false c e = absurd cc
+    let q = and_parts (bytes_eq (decimal (digits_value 10 w)) w) (ltb (digits_value 10 w) (2 ^ 64)) p.0 in
+    subst (λ (m : ℕ). (decimal m ≡ w) × (m < 2 ^ 64)) p.1 ((bytes_eq-Decides _ _).0 q.0, ltb-true _ _ q.1)
 
 pub numeral_again : (n : ℕ) → n < 2 ^ 64 → numeral (decimal n) ≡ Some n
 numeral_again n lt =

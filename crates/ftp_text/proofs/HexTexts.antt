@@ -5,7 +5,7 @@ use Rattle.std.specs.Char.{digit_value}
 use Rattle.std.specs.Fmt.{digit_glyph}
 use Rattle.std.specs.Str.{bytes_eq}
 use Rattle.std.specs.Prelude.{codes}
-use Rattle.std.proofs.lemmas.Bool.{ltb-true, lt-ltb}
+use Rattle.std.proofs.lemmas.Bool.{ltb-true, lt-ltb, and_parts}
 use Rattle.std.proofs.lemmas.Bool.Decides.{nat_tests}
 use Rattle.std.proofs.lemmas.Option.{cond_some}
 use Rattle.std.proofs.lemmas.List.{append-nil, take_all}
@@ -16,16 +16,12 @@ use Rattle.ftp_text.proofs.Hex.{glyph_value}
 use Rattle.ftp_text.proofs.Texts.{with_front}
 use Rattle.ftp_text.proofs.Exact.{Ends, IsExact, Pass, is_word_byte, bind_ok, some_is, word_exact}
 
-both_true : (b c : Bool) → (b && c) ≡ true → (b ≡ true) × (c ≡ true)
-both_true true c e = (refl, e)
-both_true false c e = absurd cc
-
 -- two digits that spell a byte are its digits
 pub pair_takes : (h l b : ℕ) → hex_pair h l ≡ Some b → (hex_byte b ≡ h ∷ l ∷ []) × (b < 256)
 pair_takes h l b e =
     let n = 16 * digit_value h + digit_value l in
     let p = cond_some (ltb n 256 && bytes_eq (hex_byte n) (h ∷ l ∷ [])) n b e in
-    let q = both_true (ltb n 256) (bytes_eq (hex_byte n) (h ∷ l ∷ [])) p.0 in
+    let q = and_parts (ltb n 256) (bytes_eq (hex_byte n) (h ∷ l ∷ [])) p.0 in
     subst (λ (m : ℕ). (hex_byte m ≡ h ∷ l ∷ []) × (m < 256)) p.1 ((bytes_eq-Decides _ _).0 q.1, ltb-true _ _ q.0)
 
 pair_is : (n b h l : ℕ) → n ≡ b → b < 256 → hex_byte b ≡ h ∷ l ∷ [] → cond (ltb n 256 && bytes_eq (hex_byte n) (h ∷ l ∷ [])) (Some n) None ≡ Some b

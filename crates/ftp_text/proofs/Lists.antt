@@ -4,6 +4,7 @@ use Rattle.std.specs.Prelude.{codes}
 use Rattle.std.specs.List.{slice_split, position_or_len, join_with_byte, AllByRecursion}
 use Rattle.std.specs.Option.{option_map_or}
 use Rattle.std.specs.Str.{bytes_eq}
+use Rattle.std.proofs.lemmas.Bool.{and_parts}
 use Rattle.std.proofs.lemmas.List.{append-nil, get_or_default}
 use Rattle.std.proofs.lemmas.List.Sums.{position_or_len_is}
 use Rattle.std.proofs.lemmas.List.Splits.{slice_split_at, slice_split_none, slice_split_first, join_with_byte-slice_split, length-slice_split}
@@ -91,10 +92,7 @@ no_comma b h = by (is_word_byte b) (is_comma b) h where
   by false q h = absurd cc
 
 inner_word : (b : ℕ) → is_inner b ≡ true → is_word_byte b ≡ true
-inner_word b h = by (is_word_byte b) (not (is_comma b)) h where
-  by : (p q : Bool) → (p && q) ≡ true → p ≡ true
-  by true q h = refl
-  by false q h = h
+inner_word b h = (and_parts (is_word_byte b) (not (is_comma b)) h).0
 
 -- what passes one test passes another
 pub pass-more : (test other : ℕ → Bool) → ((b : ℕ) → test b ≡ true → other b ≡ true) → (w : List ℕ) → Pass test w → Pass other w

@@ -7,7 +7,7 @@ use Rattle.std.specs.Str.{bytes_eq}
 use Rattle.std.specs.Str.Parse.{digits_value, AllDigits}
 use Rattle.std.specs.Prelude.{map}
 use Rattle.std.specs.List.{join_with_byte}
-use Rattle.std.proofs.lemmas.Bool.{eqb-true, ltb-true, lt-ltb}
+use Rattle.std.proofs.lemmas.Bool.{eqb-true, ltb-true, lt-ltb, and_parts}
 use Rattle.std.proofs.lemmas.Bool.Decides.{nat_tests}
 use Rattle.std.proofs.lemmas.Option.{cond_some}
 use Rattle.std.proofs.lemmas.List.{append-nil, length-append, take-append-drop, take_at, drop_at}
@@ -72,14 +72,10 @@ dotted_exact =
 
 -- ---- hexadecimal words
 
-both_true : (b c : Bool) → (b && c) ≡ true → (b ≡ true) × (c ≡ true)
-both_true true c e = (refl, e)
-both_true false c e = absurd cc
-
 hex_takes : (w : List ℕ) (n : ℕ) → hex_numeral w ≡ Some n → (hex_digits 32 n ≡ w) × (n < 2 ^ 128)
 hex_takes w n e =
     let p = cond_some (bytes_eq (hex_digits 32 (digits_value 16 w)) w && ltb (digits_value 16 w) (2 ^ 128)) (digits_value 16 w) n e in
-    let q = both_true (bytes_eq (hex_digits 32 (digits_value 16 w)) w) (ltb (digits_value 16 w) (2 ^ 128)) p.0 in
+    let q = and_parts (bytes_eq (hex_digits 32 (digits_value 16 w)) w) (ltb (digits_value 16 w) (2 ^ 128)) p.0 in
     subst (λ (m : ℕ). (hex_digits 32 m ≡ w) × (m < 2 ^ 128)) p.1 ((bytes_eq-Decides _ _).0 q.0, ltb-true _ _ q.1)
 
 pub hex_word_exact : IsExact (hex_digits 32) (λ n. n < 2 ^ 128) (λ rest. Unit {0}) hex_word_at
@@ -156,8 +152,8 @@ byte_cases c (a ∷ b ∷ []) false true x p e h = absurd cc
 byte_cases c (a ∷ h ∷ l ∷ bytes) false true x p e found =
     let n = 16 * digit_value h + digit_value l in
     let q = cond_some ((eqb a 120 && ltb n 256) && bytes_eq (escape_byte n) (92 ∷ 120 ∷ h ∷ l ∷ [])) (n, bytes) x found in
-    let r = both_true (eqb a 120 && ltb n 256) (bytes_eq (escape_byte n) (92 ∷ 120 ∷ h ∷ l ∷ [])) q.0 in
-    let s = both_true (eqb a 120) (ltb n 256) r.0 in
+    let r = and_parts (eqb a 120 && ltb n 256) (bytes_eq (escape_byte n) (92 ∷ 120 ∷ h ∷ l ∷ [])) q.0 in
+    let s = and_parts (eqb a 120) (ltb n 256) r.0 in
     let t : escape_byte n ≡ 92 ∷ 120 ∷ h ∷ l ∷ [] = (bytes_eq-Decides _ _).0 r.1 in
     let heads : c ∷ a ∷ h ∷ l ∷ bytes ≡ 92 ∷ 120 ∷ h ∷ l ∷ bytes = cc (e refl, eqb-true a 120 s.0) in
     subst (λ (y : ℕ × List ℕ). (c ∷ a ∷ h ∷ l ∷ bytes ≡ escape_byte y.0 ++ y.1) × (y.0 < 256)) q.1

@@ -2,7 +2,7 @@
 
 ghost use Rattle.std.specs.Prelude.{◌≡◌};
 ghost use Rattle.ftp_text.specs.Fields.{answer_text, kind_text, refusal_text, fault_text};
-ghost use Rattle.ftp_text.specs.Reading.{find_word, answers, kinds, refusals, faults};
+ghost use Rattle.ftp_text.specs.Reading.{find_word, answers, refusals, faults};
 
 use ftp_base::{AuthAnswer, ErrorKind, LinkFault};
 
@@ -14,19 +14,20 @@ const ANSWERS: [AuthAnswer; 5] = [
     AuthAnswer::Refused,
 ];
 
-const KINDS: [ErrorKind; 12] = [
-    ErrorKind::TransientFileNotAvailable,
-    ErrorKind::PermanentFileNotAvailable,
-    ErrorKind::PermanentDirectoryNotAvailable,
-    ErrorKind::PermanentDirectoryNotEmpty,
-    ErrorKind::PermissionDenied,
-    ErrorKind::ConnectionClosed,
-    ErrorKind::LocalError,
-    ErrorKind::PageTypeUnknown,
-    ErrorKind::InsufficientStorageSpaceError,
-    ErrorKind::ExceededStorageAllocationError,
-    ErrorKind::FileNameNotAllowedError,
-    ErrorKind::CommandNotImplemented,
+const REFUSALS: [Option<ErrorKind>; 13] = [
+    None,
+    Some(ErrorKind::TransientFileNotAvailable),
+    Some(ErrorKind::PermanentFileNotAvailable),
+    Some(ErrorKind::PermanentDirectoryNotAvailable),
+    Some(ErrorKind::PermanentDirectoryNotEmpty),
+    Some(ErrorKind::PermissionDenied),
+    Some(ErrorKind::ConnectionClosed),
+    Some(ErrorKind::LocalError),
+    Some(ErrorKind::PageTypeUnknown),
+    Some(ErrorKind::InsufficientStorageSpaceError),
+    Some(ErrorKind::ExceededStorageAllocationError),
+    Some(ErrorKind::FileNameNotAllowedError),
+    Some(ErrorKind::CommandNotImplemented),
 ];
 
 const FAULTS: [LinkFault; 4] = [
@@ -73,12 +74,6 @@ pub fn kind_text(kind: ErrorKind) -> &'static [u8]
     }
 }
 
-fn kind_of(text: &[u8]) -> Option<ErrorKind>
-    ensures { result ≡ find_word kind_text kinds text.now }
-{
-    KINDS.iter().copied().find(|w| kind_text(*w) == text)
-}
-
 pub fn refusal_text(refusal: Option<ErrorKind>) -> &'static [u8]
     ensures { result.now ≡ refusal_text refusal }
 {
@@ -91,10 +86,7 @@ pub fn refusal_text(refusal: Option<ErrorKind>) -> &'static [u8]
 pub fn refusal_of(text: &[u8]) -> Option<Option<ErrorKind>>
     ensures { result ≡ find_word refusal_text refusals text.now }
 {
-    if refusal_text(None) == text {
-        return Some(None);
-    }
-    Some(Some(kind_of(text)?))
+    REFUSALS.iter().copied().find(|w| refusal_text(*w) == text)
 }
 
 pub fn fault_text(fault: LinkFault) -> &'static [u8]

@@ -8,7 +8,6 @@ use super::{MemoryStorage, Standing};
 use crate::bytes::Bytes;
 use crate::error_kind::ErrorKind;
 use crate::storage::{FEATURE_RESTART, FileInfo, Meta, Storage, StoreError};
-use std::alloc::AllocError;
 
 impl Storage for MemoryStorage {
     ghost use Rattle.std.specs.Prelude.{◌≡◌, ◌+◌, ◌^◌, ◌<◌, ◌≤◌, length, Some, IsSomeAnd, false, IfOk, OnOk, OnErr, IsErrOf};
@@ -61,10 +60,7 @@ impl Storage for MemoryStorage {
         let Some(Standing::Directory) = self.find(path.as_slice()) else {
             return Err(StoreError::Kind(ErrorKind::PermanentDirectoryNotAvailable));
         };
-        match self.children(path.as_slice()) {
-            Ok(children) => Ok(children),
-            Err(AllocError) => Err(StoreError::OutOfMemory),
-        }
+        Ok(self.children(path.as_slice())?)
     }
 
     fn read_at(
@@ -107,10 +103,8 @@ impl Storage for MemoryStorage {
         if let Some(kind) = self.file_refusal(path.as_slice(), start) {
             return Err(StoreError::Kind(kind));
         }
-        match self.cut(path.as_slice(), start) {
-            Ok(()) => Ok(()),
-            Err(AllocError) => Err(StoreError::OutOfMemory),
-        }
+        self.cut(path.as_slice(), start)?;
+        Ok(())
     }
 
     fn append(&mut self, user: &Bytes, path: &Bytes, bytes: &[u8]) -> Result<(), StoreError>
@@ -127,10 +121,8 @@ impl Storage for MemoryStorage {
         if let Some(kind) = self.append_refusal(path.as_slice(), bytes.len()) {
             return Err(StoreError::Kind(kind));
         }
-        match self.grow(path.as_slice(), bytes) {
-            Ok(()) => Ok(()),
-            Err(AllocError) => Err(StoreError::OutOfMemory),
-        }
+        self.grow(path.as_slice(), bytes)?;
+        Ok(())
     }
 }
 /// What is told of a file or a directory.
