@@ -13,6 +13,11 @@ const SECOND: u16 = 50_001;
 
 const CLIENT: u32 = 1;
 
+const KEY: SwitchboardKey = SwitchboardKey {
+    source: CLIENT,
+    port: FIRST,
+};
+
 fn reserve(
     board: &mut Switchboard,
     session: u64,
@@ -25,7 +30,7 @@ fn reserve(
     Ok(board.reserve(CLIENT, session, word, present))
 }
 
-fn connection(from: IpAddr, port: u16) -> SocketAddrPair {
+fn connection(from: IpAddr) -> SocketAddrPair {
     SocketAddrPair {
         source: SocketAddr {
             ip: from,
@@ -33,33 +38,33 @@ fn connection(from: IpAddr, port: u16) -> SocketAddrPair {
         },
         destination: SocketAddr {
             ip: IpAddr::V4(9),
-            port,
+            port: FIRST,
         },
     }
 }
 
 #[test]
-fn a_full_range_is_refused_and_a_held_key_is_not_claimed(rt: HostRuntime) -> Result<(), Fail> {
+fn a_full_range_is_refused(rt: HostRuntime) -> Result<(), Fail> {
     let mut board = Switchboard::new(rt.alloc(), FIRST, SECOND);
-    assert_eq!(rt; reserve(&mut board, 7, 0, None)?, Ok(FIRST));
+    for (session, granted) in [
+        (7, Ok(FIRST)),
+        (8, Ok(SECOND)),
+        (9, Err(SwitchboardError::MaxRetriesError)),
+    ] {
+        assert_eq!(rt; reserve(&mut board, session, 0, None)?, granted);
+    }
+    Ok(())
+}
 
-    let key = SwitchboardKey {
-        source: CLIENT,
-        port: FIRST,
-    };
-    let mut other = Switchboard::new(rt.alloc(), FIRST, SECOND);
-    other.reserve_room(CLIENT)?;
-    assert_eq!(rt; other.try_and_claim(key, 7), Ok(()));
-    other.reserve_room(CLIENT)?;
+#[test]
+fn a_held_key_is_not_claimed(rt: HostRuntime) -> Result<(), Fail> {
+    let mut board = Switchboard::new(rt.alloc(), FIRST, SECOND);
+    board.reserve_room(CLIENT)?;
+    assert_eq!(rt; board.try_and_claim(KEY, 7), Ok(()));
+    board.reserve_room(CLIENT)?;
     assert_eq!(rt;
-        other.try_and_claim(key, 8),
+        board.try_and_claim(KEY, 8),
         Err(SwitchboardError::EntryNotAvailable)
-    );
-
-    assert_eq!(rt; reserve(&mut board, 8, 0, None)?, Ok(SECOND));
-    assert_eq!(rt;
-        reserve(&mut board, 9, 0, None)?,
-        Err(SwitchboardError::MaxRetriesError)
     );
     Ok(())
 }
@@ -67,20 +72,16 @@ fn a_full_range_is_refused_and_a_held_key_is_not_claimed(rt: HostRuntime) -> Res
 #[test]
 fn a_session_gives_up_its_present_port_for_the_next(rt: HostRuntime) -> Result<(), Fail> {
     let mut board = Switchboard::new(rt.alloc(), FIRST, SECOND);
-    assert_eq!(rt; reserve(&mut board, 7, 1, None)?, Ok(SECOND));
-    assert_eq!(rt; reserve(&mut board, 7, 1, Some(SECOND))?, Ok(FIRST));
+    // The last row names a port that another session holds, and so it stays with that one.
+    for (session, word, present, granted) in [
+        (7, 1, None, SECOND),
+        (7, 1, Some(SECOND), FIRST),
+        (8, 0, Some(FIRST), SECOND),
+    ] {
+        assert_eq!(rt; reserve(&mut board, session, word, present)?, Ok(granted));
+    }
     assert_eq!(rt; board.holder(CLIENT, FIRST), Some(7));
-    assert_eq!(rt; board.holder(CLIENT, SECOND), None);
-
-    // A port that another session holds stays with it.
-    assert_eq!(rt; reserve(&mut board, 8, 0, Some(FIRST))?, Ok(SECOND));
-    assert_eq!(rt; board.holder(CLIENT, FIRST), Some(7));
-
-    let key = SwitchboardKey {
-        source: CLIENT,
-        port: FIRST,
-    };
-    board.release(&key, 7);
+    board.release(&KEY, 7);
     assert_eq!(rt; board.holder(CLIENT, FIRST), None);
     Ok(())
 }
@@ -89,16 +90,15 @@ fn a_session_gives_up_its_present_port_for_the_next(rt: HostRuntime) -> Result<(
 fn a_connection_finds_its_session_by_address_and_port(rt: HostRuntime) -> Result<(), Fail> {
     let mut board = Switchboard::new(rt.alloc(), FIRST, SECOND);
     assert_eq!(rt; reserve(&mut board, 7, 0, None)?, Ok(FIRST));
-
-    let here = connection(IpAddr::V4(CLIENT), FIRST);
-    let elsewhere = connection(IpAddr::V4(2), FIRST);
-    let newer = connection(IpAddr::V6(1), FIRST);
-    assert_eq!(rt; board.get_session_by_connection_pair(&here), Some(7));
-    assert_eq!(rt; board.get_session_by_connection_pair(&elsewhere), None);
-    assert_eq!(rt; board.get_session_by_connection_pair(&newer), None);
-
-    assert_eq!(rt; board.unregister_by_connection_pair(&newer), None);
-    assert_eq!(rt; board.unregister_by_connection_pair(&here), Some(7));
-    assert_eq!(rt; board.unregister_by_connection_pair(&here), None);
+    for (from, found) in [
+        (IpAddr::V4(2), None),
+        (IpAddr::V6(1), None),
+        (IpAddr::V4(CLIENT), Some(7)),
+    ] {
+        let pair = connection(from);
+        assert_eq!(rt; board.get_session_by_connection_pair(&pair), found);
+        assert_eq!(rt; board.unregister_by_connection_pair(&pair), found);
+    }
+    assert_eq!(rt; board.holder(CLIENT, FIRST), None);
     Ok(())
 }

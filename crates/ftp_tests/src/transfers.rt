@@ -3,10 +3,20 @@
 mod trial;
 
 use ftp_base::{Bytes, ErrorKind, LinkFault, MemoryStorage};
-use ftp_transfer::{Completion, Outcome, join_path};
+use ftp_transfer::{Completion, Outcome};
 use std::alloc::Global;
+use std::process::Abort;
 use std::test::Fail;
-use trial::{Trial, Word, file_in, plain, storage, storage_with};
+use trial::{Trial, Word, plain};
+
+/// A transfer, how it has to end, what it has to send, and the file that has to stand at its path then.
+#[derive(Clone, Copy)]
+struct Row<'a> {
+    trial: Trial<'a>,
+    outcome: Outcome,
+    sent: &'a [u8],
+    file: Option<&'a [u8]>,
+}
 
 /// The result of a transfer whose link failed.
 const CLOSED: Completion = Completion::Refused(ErrorKind::ConnectionClosed);
@@ -33,28 +43,11 @@ fn stopped(completion: Completion, bytes: u64, fault: LinkFault) -> Outcome {
     }
 }
 
-/// So many bytes, no two pieces of which are alike.
-fn bytes_of(size: usize, alloc: Global) -> Result<Vec<u8>, Fail> {
-    let mut bytes = Vec::new(alloc);
-    for at in 0..size {
-        bytes.push((at % 251) as u8)?;
-    }
-    Ok(bytes)
-}
-
 /// Stores bytes under `/a`.
 fn stor(input: &[u8]) -> Trial<'_> {
     Trial {
         input,
         ..plain(Word::Stor, b"/a")
-    }
-}
-
-/// Appends bytes to `/a`.
-fn appe(input: &[u8]) -> Trial<'_> {
-    Trial {
-        input,
-        ..plain(Word::Appe, b"/a")
     }
 }
 
@@ -66,273 +59,220 @@ fn retr(offset: u64) -> Trial<'static> {
     }
 }
 
-#[test]
-fn a_file_is_stored_then_appended_to_then_sent(rt: HostRuntime) -> Result<(), Fail> {
-    let alloc = rt.alloc();
-    let mut storage = storage(alloc);
-    let stored = stor(b"Hello").outcome(&mut storage, alloc)?;
-    let appended = appe(b" World").outcome(&mut storage, alloc)?;
-    let sent = retr(0).run(&mut storage, alloc)?;
-    assert_eq!(rt; stored, ended(Completion::Written, 5));
-    assert_eq!(rt; appended, ended(Completion::Written, 6));
-    assert_eq!(rt; sent.outcome, ended(Completion::Sent, 11));
-    assert_eq!(rt; sent.sent.as_slice(), b"Hello World".as_slice());
-    Ok(())
+/// A download that goes well, of so many bytes.
+fn sends<'a>(trial: Trial<'a>, sent: &'a [u8], file: &'a [u8]) -> Row<'a> {
+    Row {
+        trial,
+        outcome: ended(Completion::Sent, sent.len() as u64),
+        sent,
+        file: Some(file),
+    }
 }
 
-#[test]
-fn the_link_of_a_transfer_is_closed(rt: HostRuntime) -> Result<(), Fail> {
-    let alloc = rt.alloc();
-    let sent = retr(0).run_with(b"Hello", alloc)?;
-    let refused = plain(Word::Retr, b"/b").run_with(b"Hello", alloc)?;
-    assert!(rt; sent.closed);
-    assert!(rt; refused.closed);
-    Ok(())
+/// An upload that goes well.
+fn stores<'a>(trial: Trial<'a>, file: &'a [u8]) -> Row<'a> {
+    Row {
+        trial,
+        outcome: ended(Completion::Written, trial.input.len() as u64),
+        sent: b"",
+        file: Some(file),
+    }
 }
 
-#[test]
-fn a_file_is_stored_in_a_directory(rt: HostRuntime) -> Result<(), Fail> {
-    let alloc = rt.alloc();
-    let mut storage = storage(alloc);
-    storage.mkdir(Bytes::from_slice(alloc, b"/uploads")?)?;
-    let (stored, file) = store_nested(&mut storage, alloc)?;
-    assert_eq!(rt; stored, ended(Completion::Written, 5));
-    assert_eq!(rt; file.as_deref(), Some(b"Hello".as_slice()));
-    Ok(())
+/// A listing that goes well.
+fn lists<'a>(word: Word, text: &'a [u8]) -> Row<'a> {
+    Row {
+        trial: plain(word, b"/"),
+        outcome: ended(Completion::Listed, text.len() as u64),
+        sent: text,
+        file: None,
+    }
 }
 
-#[test]
-fn a_file_is_stored_only_in_a_directory_that_is_there(rt: HostRuntime) -> Result<(), Fail> {
-    let (stored, file) = store_nested(&mut storage(rt.alloc()), rt.alloc())?;
-    assert_eq!(rt; stored, refused(ErrorKind::PermanentDirectoryNotAvailable));
-    assert!(rt; file.is_none());
-    Ok(())
+/// A transfer that sends nothing.
+fn sends_nothing<'a>(trial: Trial<'a>, outcome: Outcome, file: Option<&'a [u8]>) -> Row<'a> {
+    Row {
+        trial,
+        outcome,
+        sent: b"",
+        file,
+    }
 }
 
-/// Stores a file where its name leads from `/uploads`, and says what then stands there.
-fn store_nested(
-    storage: &mut MemoryStorage,
+/// Runs transfers one after the other on a storage, and compares what each of them leaves.
+fn compare(
+    rt: &impl Abort,
     alloc: Global,
-) -> Result<(Outcome, Option<Vec<u8>>), Fail> {
-    let directory = Bytes::from_slice(alloc, b"/uploads")?;
-    let name = Bytes::from_slice(alloc, b"nested.txt")?;
-    let path = join_path(alloc, &directory, &name)?;
-    let trial = Trial {
-        path: path.as_slice(),
-        ..stor(b"Hello")
-    };
-    let stored = trial.outcome(storage, alloc)?;
-    Ok((stored, file_in(storage, b"/uploads/nested.txt", alloc)?))
-}
-
-#[test]
-fn a_file_is_sent_from_the_restart_offset(rt: HostRuntime) -> Result<(), Fail> {
-    let sent = retr(6).run_with(b"Hello World", rt.alloc())?;
-    assert_eq!(rt; sent.outcome, ended(Completion::Sent, 5));
-    assert_eq!(rt; sent.sent.as_slice(), b"World".as_slice());
+    storage: &mut MemoryStorage,
+    rows: &[Row<'_>],
+) -> Result<(), Fail> {
+    for row in rows {
+        let Trial { word, offset, .. } = row.trial;
+        let left = row.trial.run(storage, alloc)?;
+        assert_eq!(rt; left.outcome, row.outcome, "{word:?} at {offset}");
+        assert_eq!(rt; left.sent.as_slice(), row.sent, "{word:?} at {offset}");
+        assert_eq!(rt; left.file.as_deref(), row.file, "{word:?} at {offset}");
+    }
     Ok(())
 }
 
-#[test]
-fn nothing_is_sent_from_an_offset_past_the_end(rt: HostRuntime) -> Result<(), Fail> {
-    let past = retr(99).run_with(b"Hello World", rt.alloc())?;
-    assert_eq!(rt; past.outcome, ended(Completion::Sent, 0));
-    assert!(rt; past.sent.is_empty());
-    Ok(())
+/// A storage without files, none of whose calls fails.
+fn storage(alloc: Global) -> MemoryStorage {
+    MemoryStorage::new(alloc, u64::MAX, Vec::new(alloc))
 }
 
-#[test]
-fn nothing_is_sent_from_the_last_offset(rt: HostRuntime) -> Result<(), Fail> {
-    let last = retr(u64::MAX).run_with(b"Hello World", rt.alloc())?;
-    assert_eq!(rt; last.outcome, ended(Completion::Sent, 0));
-    assert!(rt; last.sent.is_empty());
-    Ok(())
-}
-
-#[test]
-fn a_file_that_is_not_there_is_not_sent(rt: HostRuntime) -> Result<(), Fail> {
-    let trial = Trial {
-        offset: 6,
-        ..plain(Word::Retr, b"/b")
-    };
-    let absent = trial.run_with(b"Hello World", rt.alloc())?;
-    assert_eq!(rt;
-        absent.outcome,
-        refused(ErrorKind::PermanentFileNotAvailable)
-    );
-    assert!(rt; absent.sent.is_empty());
-    Ok(())
-}
-
-#[test]
-fn zeros_fill_a_file_up_to_an_offset_past_its_end(rt: HostRuntime) -> Result<(), Fail> {
-    let mut storage = storage_with(b"Hello", rt.alloc())?;
-    let trial = Trial {
-        offset: 7,
-        ..stor(b"!")
-    };
-    let (stored, file) = trial.run_to(&mut storage, rt.alloc())?;
-    assert_eq!(rt; stored, ended(Completion::Written, 1));
-    assert_eq!(rt; file.as_deref(), Some(b"Hello\0\0!".as_slice()));
-    Ok(())
-}
-
-/// Whether a file of so many bytes is sent whole.
-fn is_sent(size: usize, alloc: Global) -> Result<bool, Fail> {
-    let bytes = bytes_of(size, alloc)?;
-    let sent = retr(0).run_with(bytes.as_slice(), alloc)?;
-    Ok(
-        sent.outcome == ended(Completion::Sent, size as u64)
-            && sent.sent.as_slice() == bytes.as_slice(),
-    )
-}
-
-#[test]
-fn an_empty_file_and_a_byte_are_sent(rt: HostRuntime) -> Result<(), Fail> {
-    assert!(rt; is_sent(0, rt.alloc())?);
-    assert!(rt; is_sent(1, rt.alloc())?);
-    Ok(())
-}
-
-#[test]
-fn files_about_as_long_as_a_piece_are_sent(rt: HostRuntime) -> Result<(), Fail> {
-    assert!(rt; is_sent(8191, rt.alloc())?);
-    assert!(rt; is_sent(8192, rt.alloc())?);
-    assert!(rt; is_sent(8193, rt.alloc())?);
-    Ok(())
-}
-
-/// Whether so many bytes are stored whole.
-fn is_stored(size: usize, alloc: Global) -> Result<bool, Fail> {
-    let bytes = bytes_of(size, alloc)?;
-    let (stored, file) = stor(bytes.as_slice()).run_to(&mut storage(alloc), alloc)?;
-    Ok(
-        stored == ended(Completion::Written, size as u64)
-            && file.as_deref() == Some(bytes.as_slice()),
-    )
-}
-
-#[test]
-fn an_empty_file_and_a_byte_are_stored(rt: HostRuntime) -> Result<(), Fail> {
-    assert!(rt; is_stored(0, rt.alloc())?);
-    assert!(rt; is_stored(1, rt.alloc())?);
-    Ok(())
-}
-
-#[test]
-fn files_about_as_long_as_a_piece_are_stored(rt: HostRuntime) -> Result<(), Fail> {
-    assert!(rt; is_stored(8191, rt.alloc())?);
-    assert!(rt; is_stored(8192, rt.alloc())?);
-    assert!(rt; is_stored(8193, rt.alloc())?);
-    Ok(())
-}
-
-/// A storage with the directory `/b` and the file `/a`.
-fn tree(alloc: Global) -> Result<MemoryStorage, Fail> {
-    let mut storage = storage_with(b"Hello", alloc)?;
-    storage.mkdir(Bytes::from_slice(alloc, b"/b")?)?;
+/// A storage with `Hello` under `/a`.
+fn hello(alloc: Global) -> Result<MemoryStorage, Fail> {
+    let mut storage = storage(alloc);
+    storage.put_file(Bytes::from_slice(alloc, b"/a")?, b"Hello".to_vec(alloc)?)?;
     Ok(storage)
 }
 
 #[test]
-fn a_listing_shows_modes_and_sizes(rt: HostRuntime) -> Result<(), Fail> {
-    let mut storage = tree(rt.alloc())?;
-    let listed = plain(Word::List, b"/").run(&mut storage, rt.alloc())?;
-    let text = b"-rw-rw-rw- 1 ftp ftp            5 Jan 01 1970 a\r\n\
-                 drwxrwxrwx 1 ftp ftp            0 Jan 01 1970 b\r\n";
-    assert_eq!(rt; listed.outcome, ended(Completion::Listed, 98));
-    assert_eq!(rt; listed.sent.as_slice(), text.as_slice());
-    Ok(())
+fn a_file_is_stored_then_appended_to_then_sent(rt: HostRuntime) -> Result<(), Fail> {
+    let whole = b"Hello World";
+    let appe = Trial {
+        word: Word::Appe,
+        ..stor(b" World")
+    };
+    let rows = [
+        stores(stor(b"Hello"), b"Hello"),
+        stores(appe, whole),
+        sends(retr(0), whole, whole),
+        sends(retr(6), b"World", whole),
+        sends(retr(99), b"", whole),
+        sends(retr(u64::MAX), b"", whole),
+    ];
+    compare(&rt, rt.alloc(), &mut storage(rt.alloc()), &rows)
 }
 
 #[test]
-fn names_are_listed_in_their_order(rt: HostRuntime) -> Result<(), Fail> {
-    let mut storage = tree(rt.alloc())?;
-    let listed = plain(Word::Nlst, b"/").run(&mut storage, rt.alloc())?;
-    assert_eq!(rt; listed.outcome, ended(Completion::Listed, 6));
-    assert_eq!(rt; listed.sent.as_slice(), b"a\r\nb\r\n".as_slice());
-    Ok(())
-}
-
-#[test]
-fn facts_are_listed(rt: HostRuntime) -> Result<(), Fail> {
-    let mut storage = tree(rt.alloc())?;
-    let listed = plain(Word::Mlsd, b"/").run(&mut storage, rt.alloc())?;
-    let text = b"type=file;size=5; a\r\ntype=dir; b\r\n";
-    assert_eq!(rt; listed.outcome, ended(Completion::Listed, 34));
-    assert_eq!(rt; listed.sent.as_slice(), text.as_slice());
-    Ok(())
-}
-
-#[test]
-fn a_listing_ends_where_its_link_fails(rt: HostRuntime) -> Result<(), Fail> {
+fn zeros_fill_a_file_up_to_an_offset_past_its_end(rt: HostRuntime) -> Result<(), Fail> {
     let trial = Trial {
+        offset: 7,
+        ..stor(b"!")
+    };
+    compare(
+        &rt,
+        rt.alloc(),
+        &mut hello(rt.alloc())?,
+        &[stores(trial, b"Hello\0\0!")],
+    )
+}
+
+#[test]
+fn files_about_as_long_as_a_piece_are_stored_and_sent(rt: HostRuntime) -> Result<(), Fail> {
+    for size in [0, 1, 8191, 8192, 8193] {
+        let mut bytes = Vec::new(rt.alloc());
+        for at in 0..size {
+            bytes.push((at % 251) as u8)?;
+        }
+        let file = bytes.as_slice();
+        let rows = [stores(stor(file), file), sends(retr(0), file, file)];
+        compare(&rt, rt.alloc(), &mut storage(rt.alloc()), &rows)?;
+    }
+    Ok(())
+}
+
+#[test]
+fn a_file_is_stored_only_in_a_directory(rt: HostRuntime) -> Result<(), Fail> {
+    let alloc = rt.alloc();
+    let mut storage = storage(alloc);
+    let nested = Trial {
+        path: b"/uploads/nested.txt",
+        ..stor(b"Hello")
+    };
+    let absent = refused(ErrorKind::PermanentDirectoryNotAvailable);
+    compare(
+        &rt,
+        rt.alloc(),
+        &mut storage,
+        &[sends_nothing(nested, absent, None)],
+    )?;
+    storage.mkdir(Bytes::from_slice(alloc, b"/uploads")?)?;
+    compare(&rt, rt.alloc(), &mut storage, &[stores(nested, b"Hello")])
+}
+
+#[test]
+fn a_directory_is_listed_in_three_forms(rt: HostRuntime) -> Result<(), Fail> {
+    let mut storage = hello(rt.alloc())?;
+    storage.mkdir(Bytes::from_slice(rt.alloc(), b"/b")?)?;
+    let long = b"-rw-rw-rw- 1 ftp ftp            5 Jan 01 1970 a\r\n\
+                 drwxrwxrwx 1 ftp ftp            0 Jan 01 1970 b\r\n";
+    let rows = [
+        lists(Word::List, long),
+        lists(Word::Nlst, b"a\r\nb\r\n"),
+        lists(Word::Mlsd, b"type=file;size=5; a\r\ntype=dir; b\r\n"),
+    ];
+    compare(&rt, rt.alloc(), &mut storage, &rows)
+}
+
+#[test]
+fn a_transfer_ends_where_its_link_fails(rt: HostRuntime) -> Result<(), Fail> {
+    let listing = Trial {
         chunk: 3,
         fails: Some((2, LinkFault::Reset)),
         ..plain(Word::List, b"/")
     };
-    let listed = trial.run_with(b"Hello", rt.alloc())?;
-    assert_eq!(rt;
-        listed.outcome,
-        stopped(Completion::WriteFailed, 3, LinkFault::Reset)
-    );
-    assert_eq!(rt; listed.sent.as_slice(), b"-rw".as_slice());
-    Ok(())
-}
-
-#[test]
-fn nothing_is_sent_where_the_link_fails_at_once(rt: HostRuntime) -> Result<(), Fail> {
-    let trial = Trial {
+    let download = Trial {
         fails: Some((1, LinkFault::BrokenPipe)),
         ..retr(0)
     };
-    let sent = trial.run_with(b"Hello", rt.alloc())?;
-    assert_eq!(rt; sent.outcome, stopped(CLOSED, 0, LinkFault::BrokenPipe));
-    assert!(rt; sent.sent.is_empty());
-    Ok(())
-}
-
-#[test]
-fn what_was_read_before_a_fault_is_stored(rt: HostRuntime) -> Result<(), Fail> {
-    let trial = Trial {
+    let upload = Trial {
         chunk: 2,
         fails: Some((2, LinkFault::Reset)),
-        ..stor(b"Hello")
+        ..stor(b"World")
     };
-    let (stored, file) = trial.run_to(&mut storage(rt.alloc()), rt.alloc())?;
-    assert_eq!(rt; stored, stopped(CLOSED, 2, LinkFault::Reset));
-    assert_eq!(rt; file.as_deref(), Some(b"He".as_slice()));
-    Ok(())
+    let pipe = stopped(CLOSED, 0, LinkFault::BrokenPipe);
+    let reset = stopped(CLOSED, 2, LinkFault::Reset);
+    let rows = [
+        Row {
+            trial: listing,
+            outcome: stopped(Completion::WriteFailed, 3, LinkFault::Reset),
+            sent: b"-rw",
+            file: None,
+        },
+        sends_nothing(download, pipe, Some(b"Hello")),
+        sends_nothing(upload, reset, Some(b"Wo")),
+    ];
+    compare(&rt, rt.alloc(), &mut hello(rt.alloc())?, &rows)
 }
 
 #[test]
-fn a_file_that_would_be_too_long_is_left_empty(rt: HostRuntime) -> Result<(), Fail> {
-    let mut storage = MemoryStorage::new(rt.alloc(), 4, Vec::new(rt.alloc()));
-    let (stored, file) = stor(b"Hello").run_to(&mut storage, rt.alloc())?;
-    assert_eq!(rt; stored, refused(ErrorKind::ExceededStorageAllocationError));
-    assert_eq!(rt; file.as_deref(), Some(b"".as_slice()));
-    Ok(())
-}
-
-#[test]
-fn no_file_is_made_for_an_offset_past_the_longest(rt: HostRuntime) -> Result<(), Fail> {
-    let mut storage = MemoryStorage::new(rt.alloc(), 16_777_216, Vec::new(rt.alloc()));
-    let trial = Trial {
+fn a_storage_refuses_what_is_absent_or_too_long(rt: HostRuntime) -> Result<(), Fail> {
+    let alloc = rt.alloc();
+    let absent = refused(ErrorKind::PermanentFileNotAvailable);
+    let too_long = refused(ErrorKind::ExceededStorageAllocationError);
+    let far = Trial {
         offset: u64::MAX,
         ..stor(b"Hello")
     };
-    let (stored, file) = trial.run_to(&mut storage, rt.alloc())?;
-    assert_eq!(rt; stored, refused(ErrorKind::ExceededStorageAllocationError));
-    assert!(rt; file.is_none());
-    Ok(())
+    let rows = [
+        sends_nothing(retr(6), absent, None),
+        sends_nothing(far, too_long, None),
+        sends_nothing(stor(b"Hello"), too_long, Some(b"")),
+    ];
+    compare(
+        &rt,
+        rt.alloc(),
+        &mut MemoryStorage::new(alloc, 4, Vec::new(alloc)),
+        &rows,
+    )
 }
 
 #[test]
 fn nothing_is_appended_where_the_storage_fails(rt: HostRuntime) -> Result<(), Fail> {
-    let fails = [1].to_vec(rt.alloc())?;
-    let mut storage = MemoryStorage::new(rt.alloc(), 16_777_216, fails);
-    let (appended, file) = appe(b"Hello").run_to(&mut storage, rt.alloc())?;
-    assert_eq!(rt; appended, refused(ErrorKind::LocalError));
-    assert!(rt; file.is_none());
-    Ok(())
+    let alloc = rt.alloc();
+    let mut storage = MemoryStorage::new(alloc, u64::MAX, [1].to_vec(alloc)?);
+    let appe = Trial {
+        word: Word::Appe,
+        ..stor(b"Hello")
+    };
+    let failed = refused(ErrorKind::LocalError);
+    compare(
+        &rt,
+        rt.alloc(),
+        &mut storage,
+        &[sends_nothing(appe, failed, None)],
+    )
 }

@@ -1,12 +1,12 @@
 //! A transfer over memory, with what stands before it and what it leaves.
 
-use ftp_base::{Bytes, DataChanCmd, LinkFault, MemoryLink, MemoryStorage, Storage, StoreError};
+use ftp_base::{Bytes, DataChanCmd, LinkFault, MemoryLink, MemoryStorage, Storage};
 use ftp_transfer::{Job, Outcome, Ticket, execute};
 use std::alloc::{AllocError, Global};
 use std::test::Fail;
 
 /// The words of the commands.
-#[derive(Clone, Copy)]
+#[derive(Clone, Copy, Debug)]
 pub enum Word {
     Retr,
     Stor,
@@ -58,12 +58,12 @@ pub fn plain<'a>(word: Word, path: &'a [u8]) -> Trial<'a> {
     }
 }
 
-/// How a transfer ended, and what its link was sent.
+/// How a transfer ended, what its link was sent, and what file then stands at its path.
 #[derive(Drop)]
-pub struct Ended {
+pub struct Left {
     pub outcome: Outcome,
     pub sent: Vec<u8>,
-    pub closed: bool,
+    pub file: Option<Vec<u8>>,
 }
 
 impl<'a> Trial<'a> {
@@ -88,62 +88,29 @@ impl<'a> Trial<'a> {
     }
 
     /// Runs the transfer.
-    pub fn run(&self, storage: &mut MemoryStorage, alloc: Global) -> Result<Ended, AllocError> {
+    pub fn run(&self, storage: &mut MemoryStorage, alloc: Global) -> Result<Left, Fail> {
         let job = self.job(alloc)?;
         let mut link = self.link(alloc)?;
         let outcome = execute(alloc, job, storage, &mut link);
-        Ok(Ended {
+        Ok(Left {
             outcome,
             sent: link.sent().to_vec(alloc)?,
-            closed: link.is_closed(),
+            file: file_in(storage, self.path, alloc)?,
         })
     }
-
-    /// Runs the transfer, and says how it ended alone.
-    pub fn outcome(&self, storage: &mut MemoryStorage, alloc: Global) -> Result<Outcome, Fail> {
-        Ok(self.run(storage, alloc)?.outcome)
-    }
-
-    /// Runs the transfer where one file stands under `/a`.
-    pub fn run_with(&self, file: &[u8], alloc: Global) -> Result<Ended, Fail> {
-        let mut storage = storage_with(file, alloc)?;
-        Ok(self.run(&mut storage, alloc)?)
-    }
-
-    /// Runs the transfer, and says how it ended and what then stands under `/a`.
-    pub fn run_to(
-        &self,
-        storage: &mut MemoryStorage,
-        alloc: Global,
-    ) -> Result<(Outcome, Option<Vec<u8>>), Fail> {
-        let ended = self.run(storage, alloc)?;
-        Ok((ended.outcome, file_in(storage, b"/a", alloc)?))
-    }
-}
-
-/// A storage without files, none of whose calls fails.
-pub fn storage(alloc: Global) -> MemoryStorage {
-    MemoryStorage::new(alloc, u64::MAX, Vec::new(alloc))
-}
-
-/// A storage with a file under `/a`.
-pub fn storage_with(file: &[u8], alloc: Global) -> Result<MemoryStorage, Fail> {
-    let mut storage = storage(alloc);
-    let path = Bytes::from_slice(alloc, b"/a")?;
-    storage.put_file(path, file.to_vec(alloc)?)?;
-    Ok(storage)
 }
 
 /// The bytes of the file at a path, where there is one.
-pub fn file_in(
+fn file_in(
     storage: &mut MemoryStorage,
     path: &[u8],
     alloc: Global,
 ) -> Result<Option<Vec<u8>>, Fail> {
     let ann = Bytes::from_slice(alloc, b"ann")?;
     let path = Bytes::from_slice(alloc, path)?;
-    let Ok(meta) = storage.metadata(&ann, &path) else {
-        return Ok(None);
+    let meta = match storage.metadata(&ann, &path) {
+        Ok(meta) if !meta.is_dir => meta,
+        _ => return Ok(None),
     };
     let mut bytes = vec![in alloc; 0; meta.len as usize]?;
     storage.read_at(&ann, &path, 0, bytes.as_mut_slice())?;
