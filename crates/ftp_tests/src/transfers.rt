@@ -162,7 +162,7 @@ fn zeros_fill_a_file_up_to_an_offset_past_its_end(rt: HostRuntime) -> Result<(),
 
 #[test]
 fn files_about_as_long_as_a_piece_are_stored_and_sent(rt: HostRuntime) -> Result<(), Fail> {
-    for size in [0, 1, 8191, 8192, 8193] {
+    for size in [0usize, 1, 8191, 8192, 8193] {
         let mut bytes = Vec::new(rt.alloc());
         for at in 0..size {
             bytes.push((at % 251) as u8)?;
