@@ -1,12 +1,11 @@
 -- How the jobs that run change with an entry.
-use Rattle.std.proofs.Common.{◌≡◌, refl, sym, ap, ◌∙◌, ℕ, ◌+◌, ◌-◌, subst, Bool, true, false, cond, ◌||◌, List, [], ◌∷◌, ◌++◌, Option, Some, None, arith}
-use Rattle.std.specs.Prelude.{is_some, unwrap_or}
-use Rattle.std.specs.Option.{option_map_or, option_or}
-use Rattle.ftp_base.specs.declared.notice.Notice.{Notice}
-use Rattle.ftp_base.specs.declared.reply.Reply.{Reply}
-use Rattle.ftp_base.specs.declared.reply.Reply.TheVariants as reply
+use Rattle.std.proofs.Common.{◌≡◌, refl, sym, ap, ◌∙◌, ℕ, ◌+◌, ◌-◌, subst, Bool, true, false, cond, ◌||◌, List, [], ◌∷◌, Option, Some, None, arith}
+use Rattle.std.specs.Prelude.{◌==◌, count_by, is_some}
+use Rattle.std.specs.Option.{option_or}
+use Rattle.std.proofs.lemmas.List.Sums.{sum_by-cons}
 use Rattle.ftp_options.specs.declared.options.Options.{Options}
 use Rattle.ftp_transfer.specs.declared.job.Job.{Job}
+use Rattle.ftp_transfer.specs.declared.job.Ticket.{Ticket}
 use Rattle.ftp_events.specs.declared.action.Action.{Action}
 use Rattle.ftp_events.specs.declared.action.Action.TheVariants as action
 use Rattle.ftp_events.specs.declared.decision.Decision.{Decision}
@@ -20,135 +19,87 @@ use Rattle.ftp_events.specs.declared.session.Session.{Session}
 use Rattle.ftp_events.specs.declared.session.Slot.{Slot}
 use Rattle.ftp_events.specs.declared.session.Slot.TheVariants.{Empty, Waits, Linked}
 use Rattle.ftp_events.specs.Words.{is_number, total}
-use Rattle.ftp_events.specs.Log.{is_ending, is_refusal, is_used, new_number, past_of}
+use Rattle.ftp_events.specs.Log.{is_refusal, is_used, new_number, past_of}
 use Rattle.ftp_events.specs.History.{history, concerns, opens}
-use Rattle.ftp_events.specs.Login.{login_by, logged_user}
 use Rattle.ftp_events.specs.Slot.{Lane, drops, startable, lane_of, lane_after, started_by, queued_in, lane}
 use Rattle.ftp_events.specs.Session.{session, running_job}
 use Rattle.ftp_events.specs.Right.{IsRight}
 use Rattle.ftp_laws.proofs.Laws.{counting-refused, counting-counts, history-own, running-other}
 use Rattle.ftp_laws.proofs.Holds.{live-used, opened-new}
+use Rattle.ftp_laws.proofs.Counts.{IsOnTransfers, count-drop_acts, count-session_acts}
 use Rattle.ftp_laws.proofs.Lanes.{ended-empty}
-use Rattle.ftp_events.specs.Reply.{message_for, reply_for, delay_of}
-use Rattle.ftp_events.specs.Acts.{completions, cancellations, closings, drop_acts, farewells, link_in, notice_and_reply, notice_for, notifications, presence_for, refused_link, reply_acts, session_acts, start_acts, starting, stays}
+use Rattle.ftp_events.specs.Acts.{completions, session_acts, start_acts, starting, stays}
 use Rattle.ftp_events.specs.Running.{ended, started, running_after}
 
--- what the actions of two lists tell together
-total-append : (f : Action → ℕ) (xs ys : List Action) → total f (xs ++ ys) ≡ total f xs + total f ys
-total-append f [] ys = omega arith
-total-append f (x ∷ xs) ys = omega (arith, total-append f xs ys)
+-- a number that tells whether an action ends a job, or whether it starts one
+record TellsJobs (f : Action → ℕ) : Type 0 where
+  once : (x : Action) → cond (f x == 1) 1 0 ≡ f x
+  transfers : IsOnTransfers (λ x. f x == 1)
+  drops : (t : Ticket) → (f (action.Cancelled t) == 1) ≡ false
 
--- the actions among which nothing starts or ends
-record IsStill (xs : List Action) : Type 0 where
-  ended : total ended xs ≡ 0
-  started : total started xs ≡ 0
-
-still-append : (xs ys : List Action) → IsStill xs → IsStill ys → IsStill (xs ++ ys)
-still-append xs ys a b =
+ended-tells : TellsJobs ended
+ended-tells =
     record {
-      ended = omega (arith, total-append ended xs ys, a.ended, b.ended);
-      started = omega (arith, total-append started xs ys, a.started, b.started);
+      once = ended-once;
+      transfers = record { closes = λ n. refl; notifies = λ s meta what. refl; replies = λ s delay r. refl };
+      drops = λ t. refl;
     }
+  where
+    ended-once : (x : Action) → cond (ended x == 1) 1 0 ≡ ended x
+    ended-once (action.Completed t delivered) = refl
+    ended-once _ = refl
 
-still-none : IsStill []
-still-none = record { ended = refl; started = refl }
+started-tells : TellsJobs started
+started-tells =
+    record {
+      once = started-once;
+      transfers = record { closes = λ n. refl; notifies = λ s meta what. refl; replies = λ s delay r. refl };
+      drops = λ t. refl;
+    }
+  where
+    started-once : (x : Action) → cond (started x == 1) 1 0 ≡ started x
+    started-once (action.Start t number) = refl
+    started-once _ = refl
 
-still-cancelled : (s : ℕ) (stays : Bool) (pending : Option Pending) → IsStill (cancellations s stays pending)
-still-cancelled s stays None = still-none
-still-cancelled s true (Some p) = record { ended = refl; started = refl }
-still-cancelled s false (Some p) = record { ended = refl; started = refl }
+-- as many as pass the test are counted
+total-counted : (f : Action → ℕ) → TellsJobs f → (xs : List Action) → total f xs ≡ count_by (λ x. f x == 1) xs
+total-counted f t [] = refl
+total-counted f t (x ∷ xs) = omega (arith, total-counted f t xs, t.once x, sum_by-cons (λ y. cond (f y == 1) 1 0) x xs)
 
-still-closings : (link : Option ℕ) → IsStill (closings link)
-still-closings None = still-none
-still-closings (Some n) = record { ended = refl; started = refl }
-
-still-dropped : (s : ℕ) (stays b : Bool) (slot : Slot) (pending : Option Pending) → IsStill (cond b (cancellations s stays pending ++ closings (link_in slot)) [])
-still-dropped s stays true slot pending = still-append (cancellations s stays pending) (closings (link_in slot)) (still-cancelled s stays pending) (still-closings (link_in slot))
-still-dropped s stays false slot pending = still-none
-
-still-refused : (n : Option ℕ) → IsStill (option_map_or (λ n. action.Close n ∷ []) n [])
-still-refused None = still-none
-still-refused (Some n) = record { ended = refl; started = refl }
-
-still-refused_link : (k : EventKind) (d : Decision) → IsStill (refused_link k d)
-still-refused_link k decision.Turned = still-refused (new_number k decision.Turned)
-still-refused_link k _ = still-none
-
-still-notified : (s : ℕ) (v : Session) (user : List ℕ) (what : Option Notice) → IsStill (notifications s v user what)
-still-notified s v user None = still-none
-still-notified s v user (Some what) = record { ended = refl; started = refl }
-
-still-replied : (s delay : ℕ) (r : Reply) → IsStill (reply_acts s delay r)
-still-replied s delay reply.None = still-none
-still-replied s delay (reply.CodeAndMsg c msg) = record { ended = refl; started = refl }
-
-still-farewell : (s : ℕ) (b : Bool) → IsStill (cond b (action.Close s ∷ []) [])
-still-farewell s true = record { ended = refl; started = refl }
-still-farewell s false = still-none
+-- of a session's actions those count with which a job completes or starts
+total-acts :
+    (f : Action → ℕ) (o : Options) (s : ℕ) (k : EventKind) (answer : Answer) (d : Decision) (job : Option Job) (v : Session) → TellsJobs f →
+    total f (session_acts o s k answer d job (Some v)) ≡ total f (completions k d (stays d (Some v))) + total f (start_acts (starting k d job v))
+total-acts f o s k answer d job v t =
+    omega (
+      arith,
+      total-counted f t (session_acts o s k answer d job (Some v)),
+      total-counted f t (completions k d (stays d (Some v))),
+      total-counted f t (start_acts (starting k d job v)),
+      count-session_acts (λ x. f x == 1) o s k answer d job (Some v) t.transfers,
+      count-drop_acts (λ x. f x == 1) s (stays d (Some v)) d v.slot v.pending t.transfers t.drops,
+    )
 
 -- a session's actions end the job that completes, and start the one that starts
 pub running-acts :
     (o : Options) (s : ℕ) (k : EventKind) (answer : Answer) (d : Decision) (job : Option Job) (v : Session) (n : ℕ) →
     running_after (session_acts o s k answer d job (Some v)) n ≡ n - total ended (completions k d (stays d (Some v))) + total started (start_acts (starting k d job v))
-running-acts o s k answer d job v n = omega (arith, ends, starts)
+running-acts o s k answer d job v n =
+    omega (
+      arith,
+      total-acts ended o s k answer d job v ended-tells,
+      total-acts started o s k answer d job v started-tells,
+      none_ends (starting k d job v),
+      none_starts k d (stays d (Some v)),
+    )
   where
-    a : List Action
-    a = completions k d (stays d (Some v))
-
-    dropped : List Action
-    dropped = drop_acts s (stays d (Some v)) d v.slot v.pending
-
-    refused : List Action
-    refused = refused_link k d
-
-    told : List Action
-    told = notice_and_reply o s k answer d job v
-
-    begins : List Action
-    begins = start_acts (starting k d job v)
-
-    last : List Action
-    last = farewells s d
-
-    still_told : IsStill told
-    still_told =
-        still-append (notifications s v (logged_user (unwrap_or (login_by d) v.login) v.name) (notice_for (message_for v job k answer d) (presence_for d))) (reply_acts s (delay_of d) (reply_for o v (message_for v job k answer d) k d))
-        (still-notified s v _ (notice_for (message_for v job k answer d) (presence_for d))) (still-replied s (delay_of d) (reply_for o v (message_for v job k answer d) k d))
-
-    still_dropped : IsStill dropped
-    still_dropped = still-dropped s (stays d (Some v)) (drops d v.slot) v.slot v.pending
-
-    still_last : IsStill last
-    still_last = still-farewell s (is_ending d)
-
-    still_refused : IsStill refused
-    still_refused = still-refused_link k d
-
     none_ends : (job : Option Job) → total ended (start_acts job) ≡ 0
     none_ends None = refl
     none_ends (Some job) = refl
 
     none_starts : (k : EventKind) (d : Decision) (b : Bool) → total started (completions k d b) ≡ 0
     none_starts (kind.End t) decision.Finished b = refl
-    none_starts (kind.End t) _ b = refl
     none_starts k d b = refl
-
-    sum : (f : Action → ℕ) → total f (session_acts o s k answer d job (Some v)) ≡ total f a + total f dropped + total f refused + total f told + total f begins + total f last
-    sum f =
-        total-append f (a ++ dropped ++ refused ++ told ++ begins) last
-        ∙ ap (λ n. n + total f last) (
-        total-append f (a ++ dropped ++ refused ++ told) begins
-        ∙ ap (λ n. n + total f begins) (
-        total-append f (a ++ dropped ++ refused) told
-        ∙ ap (λ n. n + total f told) (
-        total-append f (a ++ dropped) refused
-        ∙ ap (λ n. n + total f refused) (total-append f a dropped))))
-
-    ends : total ended (session_acts o s k answer d job (Some v)) ≡ total ended a
-    ends = omega (arith, sum ended, still_dropped.ended, still_refused.ended, still_told.ended, none_ends (starting k d job v), still_last.ended)
-
-    starts : total started (session_acts o s k answer d job (Some v)) ≡ total started begins
-    starts = omega (arith, sum started, none_starts k d (stays d (Some v)), still_dropped.started, still_refused.started, still_told.started, still_last.started)
 
 -- a decision with which no job ends or starts
 pub record IsIdle (d : Decision) : Type 0 where
