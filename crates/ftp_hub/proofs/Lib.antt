@@ -1,3 +1,4 @@
+pub mod Entries
 pub mod Counts
 pub mod Clients
 pub mod Running

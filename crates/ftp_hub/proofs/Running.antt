@@ -1,7 +1,8 @@
 -- How the jobs that run change with an entry.
-use Rattle.std.proofs.Common.{◌≡◌, refl, sym, ap, ◌∙◌, ℕ, ◌+◌, ◌-◌, subst, Bool, true, false, cond, ◌||◌, List, [], ◌∷◌, Option, Some, None, arith}
+use Rattle.std.proofs.Common.{◌≡◌, refl, sym, ap, ◌∙◌, ℕ, ◌+◌, ◌-◌, Bool, true, false, cond, List, [], ◌∷◌, Option, Some, None, arith}
 use Rattle.std.specs.Prelude.{◌==◌, count_by, is_some}
 use Rattle.std.specs.Option.{option_or}
+use Rattle.std.proofs.lemmas.Bool.{or_right}
 use Rattle.std.proofs.lemmas.List.Sums.{sum_by-cons}
 use Rattle.ftp_options.specs.declared.options.Options.{Options}
 use Rattle.ftp_transfer.specs.declared.job.Job.{Job}
@@ -19,17 +20,17 @@ use Rattle.ftp_events.specs.declared.session.Session.{Session}
 use Rattle.ftp_events.specs.declared.session.Slot.{Slot}
 use Rattle.ftp_events.specs.declared.session.Slot.TheVariants.{Empty, Waits, Linked}
 use Rattle.ftp_events.specs.Words.{is_number, total}
-use Rattle.ftp_events.specs.Log.{is_refusal, is_used, new_number, past_of}
-use Rattle.ftp_events.specs.History.{history, concerns, opens}
-use Rattle.ftp_events.specs.Slot.{Lane, drops, startable, lane_of, lane_after, started_by, queued_in, lane}
+use Rattle.ftp_events.specs.Log.{is_used, new_number, past_of}
+use Rattle.ftp_events.specs.History.{history}
+use Rattle.ftp_events.specs.Slot.{Lane, with_link, startable, lane_of, lane_after, started_by, queued_in, lane}
 use Rattle.ftp_events.specs.Session.{session, running_job}
 use Rattle.ftp_events.specs.Right.{IsRight}
-use Rattle.ftp_laws.proofs.Laws.{counting-refused, counting-counts, history-own, running-other}
 use Rattle.ftp_laws.proofs.Holds.{live-used, opened-new}
 use Rattle.ftp_laws.proofs.Counts.{IsOnTransfers, count-drop_acts, count-session_acts}
 use Rattle.ftp_laws.proofs.Lanes.{ended-empty}
 use Rattle.ftp_events.specs.Acts.{completions, session_acts, start_acts, starting, stays}
 use Rattle.ftp_events.specs.Running.{ended, started, running_after}
+use Rattle.ftp_hub.proofs.Entries.{past-more, history-more}
 
 -- a number that tells whether an action ends a job, or whether it starts one
 record TellsJobs (f : Action → ℕ) : Type 0 where
@@ -101,20 +102,6 @@ running-acts o s k answer d job v n =
     none_starts (kind.End t) decision.Finished b = refl
     none_starts k d b = refl
 
--- a decision with which no job ends or starts
-pub record IsIdle (d : Decision) : Type 0 where
-  pub runs : (k : EventKind) (queued : Option Pending) (l : Lane) → (lane_after k d queued l).running ≡ l.running
-  pub starts : (k : EventKind) (queued : Option Pending) (l : Lane) → started_by k d queued l ≡ None
-  pub ends : (k : EventKind) (b : Bool) → completions k d b ≡ []
-
--- so as many run as before
-pub running-idle :
-    (o : Options) (s : ℕ) (k : EventKind) (answer : Answer) (d : Decision) (job : Option Job) (v : Session) (n : ℕ) → IsIdle d →
-    running_after (session_acts o s k answer d job (Some v)) n ≡ n
-running-idle o s k answer d job v n idle =
-    let none : start_acts (starting k d job v) ≡ [] = ap start_acts (idle.starts k _ _) in
-    omega (arith, running-acts o s k answer d job v n, ap (total ended) (idle.ends k (stays d (Some v))), ap (total started) none)
-
 -- the job of a slot from which one can start is the one that starts, or that ran
 pub runs-started : (slot : Slot) (pending : Option Pending) (job : Option Job) → (lane_of slot pending job).running ≡ option_or (startable slot pending job) job
 runs-started Empty pending job = refl
@@ -122,6 +109,41 @@ runs-started (Waits port) pending job = refl
 runs-started (Linked number) None job = refl
 runs-started (Linked number) (Some p) None = refl
 runs-started (Linked number) (Some p) (Some job) = refl
+
+-- a transfer ends
+abbrev pub is_finish : Decision → Bool
+is_finish decision.Finished = true
+is_finish _ = false
+
+-- the job after any other decision is the one that starts, or that ran
+pub running-after : (k : EventKind) (d : Decision) (queued : Option Pending) (l : Lane) → is_finish d ≡ false → (lane_after k d queued l).running ≡ option_or (started_by k d queued l) l.running
+running-after k (decision.Attached s) queued l u = runs-started (with_link l.slot (new_number k (decision.Attached s))) l.pending l.running
+running-after k (decision.Queued t) queued l u = runs-started l.slot queued l.running
+running-after k decision.Finished queued l u = cc
+running-after k d queued l u = refl
+
+-- nor does any other complete a job
+pub no-completion : (d : Decision) (k : EventKind) (b : Bool) → is_finish d ≡ false → completions k d b ≡ []
+no-completion decision.Finished k b u = cc
+no-completion d (kind.End t) b u = refl
+no-completion d k b u = refl
+
+-- a decision with which no job ends or starts
+pub record IsIdle (d : Decision) : Type 0 where
+  pub unfinished : is_finish d ≡ false
+  pub starts : (k : EventKind) (queued : Option Pending) (l : Lane) → started_by k d queued l ≡ None
+
+-- so as many run as before
+pub running-idle :
+    (o : Options) (s : ℕ) (k : EventKind) (answer : Answer) (d : Decision) (job : Option Job) (v : Session) (n : ℕ) → IsIdle d →
+    running_after (session_acts o s k answer d job (Some v)) n ≡ n
+running-idle o s k answer d job v n idle =
+    let none : start_acts (starting k d job v) ≡ [] = ap start_acts (idle.starts k _ _) in
+    omega (arith, running-acts o s k answer d job v n, ap (total ended) (no-completion d k (stays d (Some v)) idle.unfinished), ap (total started) none)
+
+-- without an action as many run as before
+pub running-none : (xs : List Action) (n : ℕ) → xs ≡ [] → running_after xs n ≡ n
+running-none xs n none = ap (λ ys. running_after ys n) none ∙ omega arith
 
 -- one start is counted where one starts
 pub count-start : (job : Option Job) → total started (start_acts job) ≡ cond (is_some job) 1 0
@@ -135,41 +157,33 @@ runs-before k (decision.Queued t) queued l job bare h = rw bare at h
 runs-before k decision.Finished queued l job bare h =
     let clash : None ≡ Some job = rw bare at h in
     cc
-runs-before k (decision.Granted port) queued l job bare h = h
 runs-before k d queued l job bare h = h
 
--- a number stays used
-used-stays : (past : List Entry) (e : Entry) (n : ℕ) → is_used past n ≡ true → is_used (e ∷ past) n ≡ true
-used-stays past e n u = go (is_number (new_number e.event.kind e.decision) n)
-  where
-    go : (b : Bool) → (b || is_used past n) ≡ true
-    go true = refl
-    go false = u
-
 -- a session for which a job runs was opened once
-pub job-used : (o : Options) (log : List Entry) (s : ℕ) (job : Job) → IsRight o log → running_job o (past_of log) s ≡ Some job → is_used (past_of log) s ≡ true
+job-used : (o : Options) (log : List Entry) (s : ℕ) (job : Job) → IsRight o log → running_job o (past_of log) s ≡ Some job → is_used (past_of log) s ≡ true
 job-used o [] s job r h = cc
-job-used o (e ∷ log) s job r h = by_refusal (is_refusal e.decision) refl (λ j x. job-used o log s j r.0 x)
+job-used o (e ∷ log) s job r h =
+    past-more (λ p. running_job o p s ≡ Some job → is_used p s ≡ true) e log (λ x. job-used o log s job r.0 x)
+    (λ counts.
+    history-more (λ l. (lane l).running ≡ Some job → is_used (e ∷ past) s ≡ true) o past e s (λ n x. rw (opened-new e.event.kind e.decision s n) refl)
+    (λ about. own (session o past s) refl (λ x. job-used o log s job r.0 x))
+    (λ x. stays_used (job-used o log s job r.0 x)))
+    h
   where
     past : List Entry
     past = past_of log
 
-    by_session : (v : Option Session) → session o past s ≡ v → ((j : Job) → running_job o past s ≡ Some j → is_used past s ≡ true) → (lane (e ∷ history o past s)).running ≡ Some job → is_used (e ∷ past) s ≡ true
-    by_session (Some v) known ih h = used-stays past e s (live-used o past s v known)
-    by_session None known ih h =
-        used-stays past e s (ih job (runs-before e.event.kind e.decision (queued_in (history o past s) e) (lane (history o past s)) job (ended-empty o log s r.0 known).0 h))
+    stays_used : is_used past s ≡ true → is_used (e ∷ past) s ≡ true
+    stays_used u = or_right (is_number (new_number e.event.kind e.decision) s) (is_used past s) u
 
-    by_concern : (b c : Bool) → opens e s ≡ b → concerns o past e s ≡ c → ((j : Job) → running_job o past s ≡ Some j → is_used past s ≡ true) → running_job o (e ∷ past) s ≡ Some job → is_used (e ∷ past) s ≡ true
-    by_concern true c n x ih h = rw (opened-new e.event.kind e.decision s n) refl
-    by_concern false false n x ih h = used-stays past e s (ih job (sym (running-other o past e s n x) ∙ h))
-    by_concern false true n x ih h = by_session (session o past s) refl ih (sym (ap (λ l. (lane l).running) (history-own o past e s n x)) ∙ h)
-
-    by_refusal : (b : Bool) → is_refusal e.decision ≡ b → ((j : Job) → running_job o past s ≡ Some j → is_used past s ≡ true) → is_used (past_of (e ∷ log)) s ≡ true
-    by_refusal true x ih =
-        subst (λ (l : List Entry). is_used l s ≡ true) (sym (counting-refused e log x)) (ih job (subst (λ (l : List Entry). running_job o l s ≡ Some job) (counting-refused e log x) h))
-    by_refusal false x ih =
-        subst (λ (l : List Entry). is_used l s ≡ true) (sym (counting-counts e log x))
-        (by_concern (opens e s) (concerns o past e s) refl refl ih (subst (λ (l : List Entry). running_job o l s ≡ Some job) (counting-counts e log x) h))
+    own :
+        (v : Option Session) → session o past s ≡ v →
+        (running_job o past s ≡ Some job → is_used past s ≡ true) →
+        (lane (e ∷ history o past s)).running ≡ Some job →
+        is_used (e ∷ past) s ≡ true
+    own (Some v) known ih x = stays_used (live-used o past s v known)
+    own None known ih x =
+        stays_used (ih (runs-before e.event.kind e.decision (queued_in (history o past s) e) (lane (history o past s)) job (ended-empty o log s r.0 known).0 x))
 
 -- so no job runs for a number that was not used
 pub unused-idle : (o : Options) (log : List Entry) (s : ℕ) → IsRight o log → is_used (past_of log) s ≡ false → running_job o (past_of log) s ≡ None
