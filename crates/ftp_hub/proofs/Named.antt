@@ -1,14 +1,13 @@
 -- The tables after an entry that names a session.
 use Rattle.std.proofs.Math.Bool.{and_comm}
-use Rattle.std.proofs.Common.{◌≡◌, refl, sym, ap, ◌∙◌, subst, ℕ, ◌-◌, ◌^◌, ◌<◌, Bool, true, false, cond, ◌&&◌, List, ◌∷◌, Option, Some, None, arith, eq-eqb, eqb-true}
+use Rattle.std.proofs.Common.{◌≡◌, refl, sym, ap, ◌∙◌, ℕ, ◌-◌, ◌^◌, ◌<◌, Bool, true, false, cond, ◌&&◌, List, ◌∷◌, Option, Some, None, arith, eq-eqb, eqb-true}
 use Rattle.std.proofs.lemmas.Option.{same_Some}
-use Rattle.std.specs.Prelude.{◌==◌, nat_eq, count_by}
+use Rattle.std.specs.Prelude.{◌==◌, nat_eq}
 use Rattle.std.specs.HashMap as map
 use Rattle.ftp_base.specs.declared.net.IpAddr.{IpAddr}
 use Rattle.ftp_base.specs.declared.net.IpAddr.TheVariants.{V4}
 use Rattle.ftp_base.specs.Net.{ipv4, same_ip}
 use Rattle.ftp_options.specs.declared.options.Options.{Options}
-use Rattle.ftp_transfer.specs.declared.job.Job.{Job}
 use Rattle.ftp_switchboard.specs.Board.{holder_at, is_key, still_holder}
 use Rattle.ftp_numbers.specs.Used.{has}
 use Rattle.ftp_events.specs.declared.action.Action.{Action}
@@ -25,21 +24,22 @@ use Rattle.ftp_events.specs.Log.{past_of, is_refusal, new_number, named_session}
 use Rattle.ftp_events.specs.Opening.{opened_number}
 use Rattle.ftp_events.specs.Board.{granted_port, gives_up_hold, holder}
 use Rattle.ftp_events.specs.History.{history}
-use Rattle.ftp_events.specs.Notices.{is_notice_to, notice_count}
+use Rattle.ftp_events.specs.Notices.{notice_count}
 use Rattle.ftp_events.specs.Place.{ticket_count}
 use Rattle.ftp_events.specs.Running.{running_after}
 use Rattle.ftp_events.specs.Slot.{waiting_port}
-use Rattle.ftp_events.specs.Session.{session, running_job, lives_on, session_after, next_lane, live_after}
+use Rattle.ftp_events.specs.Session.{session, lives_on, session_after, next_lane, live_after}
 use Rattle.ftp_events.specs.Decide.{decide}
-use Rattle.ftp_events.specs.Acts.{session_acts, acts_of, acts}
-use Rattle.ftp_laws.proofs.Laws.{counting-counts, session_by, session-told}
+use Rattle.ftp_events.specs.Acts.{session_acts}
+use Rattle.ftp_laws.proofs.Laws.{session-told}
 use Rattle.ftp_laws.proofs.Holds.{WaitsFor, holder-waits, same_ip-equal}
 use Rattle.ftp_laws.proofs.Waits.{named-target}
-use Rattle.ftp_laws.proofs.Tables.{IsAbout, IsNamed, session-about, running-about, holder-named, holder-granted, eq-comm}
+use Rattle.ftp_laws.proofs.Tables.{IsNamed, holder-named, holder-granted, eq-comm}
 use Rattle.ftp_hub.specs.declared.hub.Hub.{Hub}
 use Rattle.ftp_hub.specs.Handlers.{IsFew, held_after, notices_of}
-use Rattle.ftp_hub.specs.Stands.{Tables, Stands, Serves, entry}
-use Rattle.ftp_hub.proofs.Counts.{count-session_acts, notices-few, tickets-few}
+use Rattle.ftp_hub.specs.Stands.{Stands, Serves, entry}
+use Rattle.ftp_hub.proofs.Counts.{notices-few, tickets-few}
+use Rattle.ftp_hub.proofs.About.{serves-about}
 use Rattle.ftp_hub.proofs.Clients.{pooled-shared, client-v4}
 
 -- an event that names a session brings no number
@@ -156,60 +156,10 @@ pub serves-named :
     ((q : ℕ) → has new.numbers q ≡ has old.numbers q) →
     ((a p : ℕ) → holder_at new.board a p ≡ held_after d s (ipv4 v.opening.client) (waiting_port v.slot) a p (holder_at old.board a p)) →
     Serves old new log event answer d done
-unfolding acts
 serves-named old new log event answer d done s v after st named counts known right acted same after_is table len jobs running numbers board =
-    record {
-      decision = right;
-      done = done_are ∙ sym due_acts;
-      tables = subst (Tables new) (sym grown) (record {
-        sessions = λ q.
-            table q
-            ∙ ap (λ (x : Session). cond (s == q) (cond (lives_on d) (Some x) None) (map.get nat_eq old.sessions q)) (after_is ∙ counted)
-            ∙ ap (λ (x : Option Session). cond (s == q) (cond (lives_on d) (Some (session_by s e job v)) None) x) (st.tables.sessions q)
-            ∙ sym (session-about o past e s v q about known)
-            ∙ ap (λ (o : Options). session o (e ∷ past) q) (sym same);
-        live = len ∙ ap (live_after d) st.tables.live;
-        jobs = λ q.
-            jobs q
-            ∙ ap (λ (x : Option Job). cond (s == q) (next_lane event.kind d x v).running (map.get nat_eq old.jobs q)) (st.tables.jobs s)
-            ∙ ap (λ (x : Option Job). cond (s == q) (next_lane event.kind d job v).running x) (st.tables.jobs q)
-            ∙ sym (running-about o past e s v q about known)
-            ∙ ap (λ (o : Options). running_job o (e ∷ past) q) (sym same);
-        running = running ∙ ap (running_after done) st.tables.running;
-        numbers = λ q. rw (no-number event.kind d s named) (numbers q ∙ st.tables.numbers q);
-        holders = λ a p.
-            board a p
-            ∙ ap (held_after d s (ipv4 v.opening.client) (waiting_port v.slot) a p) (st.tables.holders a p)
-            ∙ sym (holders-named old log event answer d done s v a p st named known)
-            ∙ ap (λ (o : Options). holder o (e ∷ past) (V4 a) p) (sym same);
-      });
-    }
-  where
-    o : Options
-    o = old.options
-
-    past : List Entry
-    past = past_of log
-
-    job : Option Job
-    job = running_job o past s
-
-    e : Entry
-    e = entry event answer d done
-
-    grown : past_of (e ∷ log) ≡ e ∷ past
-    grown = counting-counts e log counts
-
-    about : IsAbout o past e s
-    about = record { subject_is = rw named refl; unopened = no-opening event.kind d s named }
-
-    done_are : done ≡ session_acts o s event.kind answer d job (Some v)
-    done_are = acted ∙ ap (λ (x : Option Job). session_acts o s event.kind answer d x (Some v)) (st.tables.jobs s)
-
-    counted : session_after event.kind answer d (notices_of d answer) (map.get nat_eq old.jobs s) v ≡ session_by s e job v
-    counted =
-        ap (λ (x : Option Job). session_after event.kind answer d (notices_of d answer) x v) (st.tables.jobs s)
-        ∙ ap (λ c. session_after event.kind answer d c job v) (sym (ap (count_by (is_notice_to s)) done_are ∙ count-session_acts o s event.kind answer d job v))
-
-    due_acts : acts_of o past e ≡ session_acts o s event.kind answer d job (Some v)
-    due_acts = rw (counts, named, known) refl
+    serves-about old new log event answer d done s v after st counts (record { subject_is = rw named refl; unopened = no-opening event.kind d s named }) known right acted same after_is
+    table len jobs running (λ q. rw (no-number event.kind d s named) (numbers q ∙ st.tables.numbers q))
+    (λ a p.
+    board a p
+    ∙ ap (held_after d s (ipv4 v.opening.client) (waiting_port v.slot) a p) (st.tables.holders a p)
+    ∙ sym (holders-named old log event answer d done s v a p st named known))
