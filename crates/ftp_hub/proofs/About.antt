@@ -27,7 +27,7 @@ use Rattle.ftp_hub.specs.Handlers.{notices_of}
 use Rattle.ftp_hub.specs.Stands.{Tables, Stands, Serves, entry}
 use Rattle.ftp_hub.proofs.Counts.{count-session_acts}
 
--- where sessions and jobs are those after the entry, and so are the numbers and the holds, the tables answer as the past with it
+-- the tables after an entry about session s, where the numbers and the holds are those after it
 pub serves-about :
     (old new : Hub) (log : List Entry) (event : HubEvent) (answer : Answer) (d : Decision) (done : List Action) (s : ℕ) (v after : Session) →
     Stands old log → is_refusal d ≡ false →

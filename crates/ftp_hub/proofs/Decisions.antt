@@ -9,7 +9,6 @@ use Rattle.ftp_events.specs.declared.decision.Decision.{Decision}
 use Rattle.ftp_events.specs.declared.decision.Decision.TheVariants as decision
 use Rattle.ftp_events.specs.declared.event.Answer.{Answer}
 use Rattle.ftp_events.specs.declared.event.EventKind.{EventKind}
-use Rattle.ftp_events.specs.declared.event.EventKind.TheVariants as kind
 use Rattle.ftp_events.specs.declared.session.Session.{Session}
 use Rattle.ftp_events.specs.Words.{total}
 use Rattle.ftp_events.specs.Log.{is_refusal}
@@ -32,7 +31,7 @@ pub record Comes (d : Decision) : Type 0 where
   pub as_many : (n : ℕ) → live_after d n ≡ n
   pub unfinished : is_finish d ≡ false
 
--- it leaves the holds
+-- with such a decision no hold changes
 pub comes-held : (d : Decision) (s client : ℕ) (waited : Option ℕ) (a p : ℕ) (before : Option ℕ) → Comes d → held_after d s client waited a p before ≡ before
 comes-held (decision.Granted port) s client waited a p before comes =
     let clash : Some port ≡ None = comes.no_grant in
@@ -42,7 +41,7 @@ comes-held decision.Closed s client waited a p before comes =
     cc
 comes-held d s client waited a p before comes = refl
 
--- where the key is q, the value at q is put
+-- a value that is put at s is the one of q, where s is q
 at-key : {A : Type 0} (f g : ℕ → A) (s q : ℕ) → cond (s == q) (f s) (g q) ≡ cond (s == q) (f q) (g q)
 at-key {A} f g s q = go (s == q) refl
   where
@@ -50,7 +49,7 @@ at-key {A} f g s q = go (s == q) refl
     go true h = ap f (eqb-true s q h)
     go false h = refl
 
--- a table in which a key's own value is put is as it was
+-- a table stays as it is where a key is given the value that it has
 pub put-back : {A : Type 0} (table : ℕ → A) (s q : ℕ) → cond (s == q) (table s) (table q) ≡ table q
 put-back table s q = at-key table table s q ∙ same-both (s == q) (table q)
 
@@ -61,12 +60,12 @@ jobs-started old new s q k d v unfinished begins =
     ∙ sym (at-key (λ n. option_or (starting k d (map.get nat_eq old s) v) (map.get nat_eq old n)) (map.get nat_eq old) s q)
     ∙ ap (λ (x : Option Job). cond (s == q) x (map.get nat_eq old q)) (sym (running-after k d (queued_for d k v) (lane_in v (map.get nat_eq old s)) unfinished))
 
--- and how many run
+-- how many jobs run after it
 pub running-started : (o : Options) (s : ℕ) (k : EventKind) (answer : Answer) (d : Decision) (v : Session) (old new : Jobs) → is_finish d ≡ false → Starts old new s (starting k d (map.get nat_eq old s) v) → map.hash_map_len new ≡ running_after (session_acts o s k answer d (map.get nat_eq old s) (Some v)) (map.hash_map_len old)
 running-started o s k answer d v old new unfinished begins =
     omega (arith, begins.len, running-acts o s k answer d (map.get nat_eq old s) v (map.hash_map_len old), ap (total ended) (no-completion d k (stays d (Some v)) unfinished), count-start (starting k d (map.get nat_eq old s) v))
 
--- where none starts the jobs are the same
+-- a table of jobs in which none starts stays as it is
 pub starts-none : (jobs : Jobs) (s : ℕ) → Starts jobs jobs s None
 starts-none jobs s = record { jobs = λ q. sym (same-both (s == q) (map.get nat_eq jobs q)); len = sym (add-zero (map.hash_map_len jobs)) }
 
@@ -82,7 +81,7 @@ pub record Leaves (d : Decision) : Type 0 where
 same_by : (v : Session) → record v { notices = v.notices + 0; tickets = v.tickets + 0 } ≡ v
 same_by v = λ i. record v { notices = add-zero v.notices i; tickets = add-zero v.tickets i }
 
--- each refusal does
+-- every refusal is such a decision
 pub refusal-leaves : (d : Decision) → is_refusal d ≡ true → Leaves d
 refusal-leaves decision.UnknownNumber r = record { lives = refl; session = λ k answer job v. same_by v; acts = λ o s k answer job v. rw (no-completion decision.UnknownNumber k true refl) refl; runs = λ k job v. refl; held = λ s client waited a p before. refl }
 refusal-leaves decision.UsedNumber r = record { lives = refl; session = λ k answer job v. same_by v; acts = λ o s k answer job v. rw (no-completion decision.UsedNumber k true refl) refl; runs = λ k job v. refl; held = λ s client waited a p before. refl }

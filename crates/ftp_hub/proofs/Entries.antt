@@ -5,7 +5,7 @@ use Rattle.ftp_events.specs.declared.entry.Entry.{Entry}
 use Rattle.ftp_events.specs.Log.{is_refusal, past_of}
 use Rattle.ftp_events.specs.History.{history, concerns, opens}
 
--- what holds of the past holds after an entry that is refused, and after one that counts where it does with that
+-- what holds of the past holds after an entry: a refused one leaves the past as it is, and with one that counts it has to hold
 pub past-more :
     (P : List Entry → Type 0) (e : Entry) (log : List Entry) →
     P (past_of log) →
@@ -17,7 +17,7 @@ past-more P e log before counted = go (is_refusal e.decision) refl
     go true x = before
     go false x = counted x
 
--- what holds of a history holds after an entry that is not in it, after one that opens it and after one that concerns it where it does with that
+-- what holds of a session's history holds after an entry: it has to hold where the entry begins the history, and where it goes on with it
 pub history-more :
     (P : List Entry → Type 0) (o : Options) (past : List Entry) (e : Entry) (s : ℕ) →
     (opens e s ≡ true → P (e ∷ [])) →

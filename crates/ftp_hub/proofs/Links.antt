@@ -27,7 +27,7 @@ use Rattle.ftp_events.specs.Leads.{HasLinks, is_brought, job_of_ticket, job_to_r
 use Rattle.ftp_events.specs.Transfer.{same_ticket}
 use Rattle.ftp_events.specs.Acts.{link_in}
 use Rattle.ftp_events.specs.Slot.{Lane, drops, lane, lane_of, lane_after, queued_in, with_link}
-use Rattle.ftp_events.specs.Session.{session, running_job}
+use Rattle.ftp_events.specs.Session.{running_job}
 use Rattle.ftp_events.specs.Decide.{due, decide}
 use Rattle.ftp_events.specs.Right.{IsRight}
 use Rattle.ftp_hub.proofs.Entries.{past-more, history-more}

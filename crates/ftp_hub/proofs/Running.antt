@@ -32,12 +32,13 @@ use Rattle.ftp_events.specs.Acts.{completions, session_acts, start_acts, startin
 use Rattle.ftp_events.specs.Running.{ended, started, running_after}
 use Rattle.ftp_hub.proofs.Entries.{past-more, history-more}
 
--- a number that tells whether an action ends a job, or whether it starts one
+-- a count in which an action is one or nothing, and only what becomes of transfers is one, but no cancellation
 record TellsJobs (f : Action → ℕ) : Type 0 where
   once : (x : Action) → cond (f x == 1) 1 0 ≡ f x
   transfers : IsOnTransfers (λ x. f x == 1)
   drops : (t : Ticket) → (f (action.Cancelled t) == 1) ≡ false
 
+-- the ends of jobs are counted so
 ended-tells : TellsJobs ended
 ended-tells =
     record {
@@ -50,6 +51,7 @@ ended-tells =
     ended-once (action.Completed t delivered) = refl
     ended-once _ = refl
 
+-- and so are their starts
 started-tells : TellsJobs started
 started-tells =
     record {
@@ -62,12 +64,12 @@ started-tells =
     started-once (action.Start t number) = refl
     started-once _ = refl
 
--- as many as pass the test are counted
+-- the sum of such a count is how many actions are one
 total-counted : (f : Action → ℕ) → TellsJobs f → (xs : List Action) → total f xs ≡ count_by (λ x. f x == 1) xs
 total-counted f t [] = refl
 total-counted f t (x ∷ xs) = omega (arith, total-counted f t xs, t.once x, sum_by-cons (λ y. cond (f y == 1) 1 0) x xs)
 
--- of a session's actions those count with which a job completes or starts
+-- of a session's actions only the completion and the start of a job count
 total-acts :
     (f : Action → ℕ) (o : Options) (s : ℕ) (k : EventKind) (answer : Answer) (d : Decision) (job : Option Job) (v : Session) → TellsJobs f →
     total f (session_acts o s k answer d job (Some v)) ≡ total f (completions k d (stays d (Some v))) + total f (start_acts (starting k d job v))
@@ -110,7 +112,7 @@ runs-started (Linked number) None job = refl
 runs-started (Linked number) (Some p) None = refl
 runs-started (Linked number) (Some p) (Some job) = refl
 
--- a transfer ends
+-- the decision on a transfer that has ended
 abbrev pub is_finish : Decision → Bool
 is_finish decision.Finished = true
 is_finish _ = false
