@@ -33,10 +33,7 @@ use Rattle.ftp_hub.proofs.Entries.{past-more, history-more}
 told-outcome : (path : List ℕ) (outcome : Outcome) (n : ℕ) (c : Completion) → length {A = ℕ × Notice} (option_map_or (λ what. (n + 1, what) ∷ []) (notice_for (Some (message_of_outcome path outcome c)) None) []) ≡ cond (moves_file c) 1 0
 told-outcome path outcome n result.Sent = refl
 told-outcome path outcome n result.Written = refl
-told-outcome path outcome n result.Listed = refl
-told-outcome path outcome n result.WriteFailed = refl
-told-outcome path outcome n (result.Refused kind) = refl
-told-outcome path outcome n result.OutOfMemory = refl
+told-outcome path outcome n c = refl
 
 -- what is told of a live session is the notice of the decision
 told-live : (k : EventKind) (answer : Answer) (d : Decision) (job : Option Job) (v : Session) → length (law.told_by k answer d job (Some v)) ≡ notices_of d answer

@@ -33,12 +33,8 @@ pub record Comes (d : Decision) : Type 0 where
 
 -- with such a decision no hold changes
 pub comes-held : (d : Decision) (s client : ℕ) (waited : Option ℕ) (a p : ℕ) (before : Option ℕ) → Comes d → held_after d s client waited a p before ≡ before
-comes-held (decision.Granted port) s client waited a p before comes =
-    let clash : Some port ≡ None = comes.no_grant in
-    cc
-comes-held decision.Closed s client waited a p before comes =
-    let clash : false ≡ true = comes.lives in
-    cc
+comes-held (decision.Granted port) s client waited a p before comes = cc
+comes-held decision.Closed s client waited a p before comes = cc
 comes-held d s client waited a p before comes = refl
 
 -- a value that is put at s is the one of q, where s is q

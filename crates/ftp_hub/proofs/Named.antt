@@ -34,7 +34,7 @@ use Rattle.ftp_events.specs.Acts.{session_acts}
 use Rattle.ftp_laws.proofs.Laws.{session-told}
 use Rattle.ftp_laws.proofs.Holds.{WaitsFor, holder-waits, same_ip-equal}
 use Rattle.ftp_laws.proofs.Waits.{named-target}
-use Rattle.ftp_laws.proofs.Tables.{IsNamed, holder-named, holder-granted, eq-comm}
+use Rattle.ftp_laws.proofs.Tables.{IsNamed, holder-named, holder-granted, and-zero, eq-comm, same-both}
 use Rattle.ftp_hub.specs.declared.hub.Hub.{Hub}
 use Rattle.ftp_hub.specs.Handlers.{IsFew, held_after, notices_of}
 use Rattle.ftp_hub.specs.Stands.{Stands, Serves, entry}
@@ -66,11 +66,7 @@ still-waiting hub log s v a p st known = go (holder hub.options (past_of log) (V
 
     go : (h : Option ℕ) → holder hub.options (past_of log) (V4 a) p ≡ h → (waited : Option ℕ) → waiting_port v.slot ≡ waited → still_holder (ipv4 v.opening.client) waited s a p h ≡ cond (is_number h s) None h
     go None held None e = refl
-    go None held (Some q) e = and-none (is_key a p (ipv4 v.opening.client) q)
-      where
-        and-none : (b : Bool) → cond {A = Option ℕ} (b && false) None None ≡ None
-        and-none true = refl
-        and-none false = refl
+    go None held (Some q) e = same-both (is_key a p (ipv4 v.opening.client) q && false) None
     go (Some h) held None e = own (h == s) refl
       where
         own : (b : Bool) → (h == s) ≡ b → Some h ≡ cond b None (Some h)
@@ -85,11 +81,7 @@ still-waiting hub log s v a p st known = go (holder hub.options (past_of log) (V
             let w = waits h held same in
             let port : p ≡ q = same_Some _ _ (sym w.1 ∙ e) in
             rw (eq-eqb a (ipv4 v.opening.client) w.0, eq-eqb p q port) refl
-        own false same = and-same (is_key a p (ipv4 v.opening.client) q)
-          where
-            and-same : (b : Bool) → cond (b && false) None (Some h) ≡ Some h
-            and-same true = refl
-            and-same false = refl
+        own false same = ap (λ b. cond b None (Some h)) (and-zero (is_key a p (ipv4 v.opening.client) q))
 
 -- who holds a port after an entry that names session s
 holders-named : (hub : Hub) (log : List Entry) (event : HubEvent) (answer : Answer) (d : Decision) (done : List Action) (s : ℕ) (v : Session) (a p : ℕ) → Stands hub log → named_session event.kind ≡ Some s → session hub.options (past_of log) s ≡ Some v → holder hub.options (entry event answer d done ∷ past_of log) (V4 a) p ≡ held_after d s (ipv4 v.opening.client) (waiting_port v.slot) a p (holder hub.options (past_of log) (V4 a) p)
