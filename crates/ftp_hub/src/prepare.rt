@@ -108,12 +108,12 @@ impl Hub {
         ensures need { IfOk result (λ room. need_in room ≡ need_for (job_for self.now kind.now)) }
         ensures counted { IfOk result (λ room. room.count ≡ self.now.count) }
     {
-        let kept = self.copy_kept(kind)?;
-        let pending = self.fix_transfer(kind, &kept)?;
-        let job = self.copy_job(kind)?;
         let text = Vec::with_capacity(self.alloc, LONGEST_TEXT)?;
         let dropped = Vec::with_capacity(self.alloc, LONGEST_TEXT)?;
         let actions = Vec::with_capacity(self.alloc, MOST_ACTIONS)?;
+        let kept = self.copy_kept(kind)?;
+        let pending = self.fix_transfer(kind, &kept)?;
+        let job = self.copy_job(kind)?;
         Ok(Room {
             alloc: self.alloc,
             count: self.count,
