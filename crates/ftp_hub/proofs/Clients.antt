@@ -1,5 +1,5 @@
 -- Where sessions share the ports, every client has an address of version 4.
-use Rattle.std.proofs.Common.{◌≡◌, refl, sym, ap, ◌∙◌, subst, ℕ, Bool, true, false, List, [], ◌∷◌, Some}
+use Rattle.std.proofs.Common.{◌≡◌, refl, sym, ◌∙◌, subst, ℕ, Bool, true, false, List, [], ◌∷◌, Some}
 use Rattle.std.proofs.lemmas.Option.{same_Some}
 use Rattle.std.specs.Prelude.{unwrap_or}
 use Rattle.std.specs.Bool.{then_some}
@@ -18,15 +18,16 @@ use Rattle.ftp_events.specs.declared.event.EventKind.{EventKind}
 use Rattle.ftp_events.specs.declared.event.EventKind.TheVariants as kind
 use Rattle.ftp_events.specs.declared.session.Opening.{Opening}
 use Rattle.ftp_events.specs.declared.session.Session.{Session}
-use Rattle.ftp_events.specs.Words.{is_number}
-use Rattle.ftp_events.specs.Log.{past_of, is_refusal}
-use Rattle.ftp_events.specs.Opening.{opened_number, opening_by, opener}
+use Rattle.ftp_events.specs.Log.{past_of}
+use Rattle.ftp_events.specs.Opening.{opening_by, opener}
+use Rattle.ftp_events.specs.History.{opens}
 use Rattle.ftp_events.specs.Session.{session}
 use Rattle.ftp_events.specs.ConnectionRows.{connect_row}
 use Rattle.ftp_events.specs.Decide.{due, decide}
 use Rattle.ftp_events.specs.Right.{IsRight}
-use Rattle.ftp_laws.proofs.Laws.{counting-refused, counting-counts, session-told}
-use Rattle.ftp_hub.proofs.Counts.{opens-connects}
+use Rattle.ftp_laws.proofs.Laws.{session-told}
+use Rattle.ftp_laws.proofs.Told.{opened-is}
+use Rattle.ftp_hub.proofs.Entries.{past-more}
 
 -- where sessions share the ports, none has a listener of its own
 pub pooled-shared : (m : ListenerMode) → is_pooled m ≡ true → is_legacy m ≡ false
@@ -48,34 +49,27 @@ told-v4 : (o : Options) (past : List Entry) (at : ℕ) (k : EventKind) (answer :
 told-v4 o past at (kind.Connect s raw local trace) answer opening m d t =
     let same = same_Some _ _ t in
     subst (λ (x : Opening). is_v6 x.client ≡ false) same (connect-v4 o past s raw local m d)
-told-v4 o past at (kind.DataIn n raw port) answer opening m d t = cc
-told-v4 o past at (kind.User s name) answer opening m d t = cc
-told-v4 o past at (kind.Pass s) answer opening m d t = cc
-told-v4 o past at (kind.AuthDone s said) answer opening m d t = cc
-told-v4 o past at (kind.Pasv s word lookup bound) answer opening m d t = cc
-told-v4 o past at (kind.Rest s offset) answer opening m d t = cc
-told-v4 o past at (kind.Cwd s path refusal) answer opening m d t = cc
-told-v4 o past at (kind.Transfer s c) answer opening m d t = cc
-told-v4 o past at (kind.Stou s word) answer opening m d t = cc
-told-v4 o past at (kind.End ticket) answer opening m d t = cc
-told-v4 o past at (kind.Closed s) answer opening m d t = cc
+told-v4 o past at k answer opening m d t = cc
 
 -- every session's client has an address of version 4
 opener-v4 : (o : Options) (log : List Entry) (s : ℕ) (opening : Opening) → is_pooled o.mode ≡ true → IsRight o log → opener (past_of log) s ≡ Some opening → is_v6 opening.client ≡ false
 unfolding decide
 opener-v4 o [] s opening m r h = cc
-opener-v4 o (e ∷ log) s opening m r h = by_refusal (is_refusal e.decision) refl (λ x. opener-v4 o log s opening m r.0 x)
+opener-v4 o (e ∷ log) s opening m r h =
+    past-more (λ p. opener p s ≡ Some opening → is_v6 opening.client ≡ false) e log (λ x. opener-v4 o log s opening m r.0 x)
+    (λ counts x. by_opening (opens e s) refl x (λ y. opener-v4 o log s opening m r.0 y))
+    h
   where
     past : List Entry
     past = past_of log
 
-    opened : (b : Bool) → is_number (opened_number e.event.kind e.decision) s ≡ b → unwrap_or (then_some b (opening_by e.event.kind e.answer)) (opener past s) ≡ Some opening → (opener past s ≡ Some opening → is_v6 opening.client ≡ false) → is_v6 opening.client ≡ false
-    opened true n x ih = told-v4 o past e.event.at e.event.kind e.answer opening m (sym r.1 ∙ (opens-connects e.event.kind e.decision s n).1) x
-    opened false n x ih = ih x
-
-    by_refusal : (b : Bool) → is_refusal e.decision ≡ b → (opener past s ≡ Some opening → is_v6 opening.client ≡ false) → is_v6 opening.client ≡ false
-    by_refusal true c ih = ih (ap (λ (p : List Entry). opener p s) (sym (counting-refused e log c)) ∙ h)
-    by_refusal false c ih = opened (is_number (opened_number e.event.kind e.decision) s) refl (ap (λ (p : List Entry). opener p s) (sym (counting-counts e log c)) ∙ h) ih
+    by_opening :
+        (b : Bool) → opens e s ≡ b →
+        unwrap_or (then_some b (opening_by e.event.kind e.answer)) (opener past s) ≡ Some opening →
+        (opener past s ≡ Some opening → is_v6 opening.client ≡ false) →
+        is_v6 opening.client ≡ false
+    by_opening true n x ih = told-v4 o past e.event.at e.event.kind e.answer opening m (sym r.1 ∙ opened-is e.event.kind e.decision s n) x
+    by_opening false n x ih = ih x
 
 -- an address that is not of version 6 is one of version 4
 v4-is : (a : IpAddr) → is_v6 a ≡ false → a ≡ V4 (ipv4 a)

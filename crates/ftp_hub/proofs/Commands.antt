@@ -1,6 +1,5 @@
 -- The tables after a command of a session.
-use Rattle.std.proofs.Common.{◌≡◌, refl, sym, ap, ◌∙◌, ℕ, ◌-◌, ◌^◌, ◌<◌, Bool, true, false, cond, List, [], Option, Some, None, arith, eqb-true}
-use Rattle.std.proofs.lemmas.Option.{same_Some}
+use Rattle.std.proofs.Common.{◌≡◌, refl, sym, ap, ◌∙◌, ℕ, ◌-◌, ◌^◌, ◌<◌, Bool, true, false, cond, List, [], Option, Some, None}
 use Rattle.std.specs.Prelude.{◌==◌, unwrap_or, nat_eq}
 use Rattle.std.specs.Option.{option_map_or}
 use Rattle.std.specs.HashMap as map
@@ -25,8 +24,6 @@ use Rattle.ftp_events.specs.Board.{holder}
 use Rattle.ftp_events.specs.Running.{running_after}
 use Rattle.ftp_events.specs.Slot.{waiting_port}
 use Rattle.ftp_events.specs.Session.{session, running_job, lives_on, session_after, next_lane, live_after}
-use Rattle.ftp_events.specs.LoginRows.{user_row, pass_row, auth_row}
-use Rattle.ftp_events.specs.CommandRows.{if_logged_in, pasv_row, transfer_row, rest_row, cwd_row}
 use Rattle.ftp_events.specs.Decide.{if_live, due, decide}
 use Rattle.ftp_events.specs.Acts.{session_acts}
 use Rattle.ftp_hub.specs.declared.hub.Hub.{Hub}
@@ -34,28 +31,27 @@ use Rattle.ftp_hub.specs.Handlers.{IsFew, held_after, notices_of, number_of, hel
 use Rattle.ftp_hub.specs.Stands.{Tables, Stands, Serves}
 use Rattle.ftp_hub.proofs.Clients.{client-v4}
 use Rattle.ftp_hub.proofs.Refusals.{serves-refusal}
-use Rattle.ftp_hub.proofs.Named.{names-by, few-counts, serves-named}
-use Rattle.ftp_hub.proofs.Decisions.{refusal-leaves}
+use Rattle.ftp_hub.proofs.Named.{few-counts, serves-named}
+use Rattle.ftp_hub.proofs.Decisions.{put-back, refusal-leaves}
+use Rattle.ftp_hub.proofs.Running.{running-none}
 
 -- the end of a transfer
 abbrev pub is_end : EventKind → Bool
 is_end (kind.End t) = true
 is_end _ = false
 
--- what is due on an event that names a session, by the session where it is live
+-- what is due on an event that names a session and is no end of a transfer is the row of its command
+due-row : (o : Options) (past : List Entry) (at : ℕ) (k : EventKind) (answer : Answer) (s : ℕ) → is_end k ≡ false → named_session k ≡ Some s → due o past at k answer ≡ if_live (session o past (number_of k)) (λ v. command_row o (holder o past v.opening.client) k v)
+due-row o past at (kind.Connect q raw local trace) answer s c n = cc
+due-row o past at (kind.DataIn q raw port) answer s c n = cc
+due-row o past at (kind.End t) answer s c n = cc
+due-row o past at k answer s c n = refl
+
+-- so it is that of the session, where it is live
 due-named : (o : Options) (past : List Entry) (at : ℕ) (k : EventKind) (answer : Answer) (s : ℕ) (x : Option Session) → is_end k ≡ false → named_session k ≡ Some s → session o past s ≡ x → due o past at k answer ≡ option_map_or (λ v. command_row o (holder o past v.opening.client) k v) x decision.UnknownNumber
-due-named o past at (kind.Connect q raw local trace) answer s x c n known = cc
-due-named o past at (kind.DataIn q raw port) answer s x c n known = cc
-due-named o past at (kind.User q name) answer s x c n known = ap (λ (y : Option Session). if_live y (λ v. user_row v.login)) (ap (session o past) (same_Some _ _ n) ∙ known)
-due-named o past at (kind.Pass q) answer s x c n known = ap (λ (y : Option Session). if_live y (λ v. pass_row v.login)) (ap (session o past) (same_Some _ _ n) ∙ known)
-due-named o past at (kind.AuthDone q said) answer s x c n known = ap (λ (y : Option Session). if_live y (λ v. auth_row said v.login)) (ap (session o past) (same_Some _ _ n) ∙ known)
-due-named o past at (kind.Pasv q word lookup bound) answer s x c n known = ap (λ (y : Option Session). if_live y (λ v. if_logged_in v (pasv_row o past word v))) (ap (session o past) (same_Some _ _ n) ∙ known)
-due-named o past at (kind.Transfer q c') answer s x c n known = ap (λ (y : Option Session). if_live y (λ v. if_logged_in v (transfer_row q v))) (ap (session o past) (same_Some _ _ n) ∙ known)
-due-named o past at (kind.Stou q word) answer s x c n known = ap (λ (y : Option Session). if_live y (λ v. if_logged_in v (transfer_row q v))) (ap (session o past) (same_Some _ _ n) ∙ known)
-due-named o past at (kind.End t) answer s x c n known = cc
-due-named o past at (kind.Rest q offset) answer s x c n known = ap (λ (y : Option Session). if_live y (λ v. if_logged_in v (rest_row o))) (ap (session o past) (same_Some _ _ n) ∙ known)
-due-named o past at (kind.Cwd q path refusal) answer s x c n known = ap (λ (y : Option Session). if_live y (λ v. if_logged_in v (cwd_row refusal))) (ap (session o past) (same_Some _ _ n) ∙ known)
-due-named o past at (kind.Closed q) answer s x c n known = ap (λ (y : Option Session). if_live y (λ v. decision.Closed)) (ap (session o past) (same_Some _ _ n) ∙ known)
+due-named o past at k answer s x c n known =
+    due-row o past at k answer s c n
+    ∙ ap (λ (y : Option Session). if_live y (λ v. command_row o (holder o past v.opening.client) k v)) (ap (λ (m : Option ℕ). session o past (unwrap_or m 0)) n ∙ known)
 
 -- the kinds of events that are no end of a transfer
 pub command-plain : (k : EventKind) → is_command k ≡ true → is_end k ≡ false
@@ -69,17 +65,7 @@ closed-plain _ c = refl
 -- a session that closes is closed
 pub closed-row : (o : Options) (holders : ℕ → Option ℕ) (k : EventKind) (v : Session) → is_closed k ≡ true → command_row o holders k v ≡ decision.Closed
 closed-row o holders (kind.Closed s) v c = refl
-closed-row o holders (kind.User s name) v c = cc
-closed-row o holders (kind.Pass s) v c = cc
-closed-row o holders (kind.AuthDone s said) v c = cc
-closed-row o holders (kind.Pasv s word lookup bound) v c = cc
-closed-row o holders (kind.Transfer s c') v c = cc
-closed-row o holders (kind.Stou s word) v c = cc
-closed-row o holders (kind.End t) v c = cc
-closed-row o holders (kind.Rest s offset) v c = cc
-closed-row o holders (kind.Cwd s path refusal) v c = cc
-closed-row o holders (kind.Connect s raw local trace) v c = cc
-closed-row o holders (kind.DataIn n raw port) v c = cc
+closed-row o holders k v c = cc
 
 -- an event that names a session which is not live is refused
 pub serves-unknown : (old new : Hub) (log : List Entry) (event : HubEvent) (answer : Answer) (done : List Action) (s : ℕ) → Stands old log → is_end event.kind ≡ false → named_session event.kind ≡ Some s → map.get nat_eq old.sessions s ≡ None → done ≡ [] → Tables new (past_of log) → Serves old new log event answer decision.UnknownNumber done
@@ -133,13 +119,9 @@ serves-command old new log event answer d done s v after st below plain named th
     holders_are : (a p : ℕ) → holder_at new.board a p ≡ held_after d s (ipv4 v.opening.client) (waiting_port v.slot) a p (holder_at old.board a p)
     holders_are a p = board a p ∙ ap (λ n. held_after d n (ipv4 v.opening.client) (waiting_port v.slot) a p (holder_at old.board a p)) number
 
-    put_back : {A : Type 0} (table : ℕ → Option A) (x : Option A) → table s ≡ x → (q : ℕ) (b : Bool) → (s == q) ≡ b → cond b x (table q) ≡ table q
-    put_back table x is q true h = sym is ∙ ap table (eqb-true s q h)
-    put_back table x is q false h = refl
-
     by_refusal : (b : Bool) → is_refusal d ≡ b → Serves old new log event answer d done
     by_refusal false counts =
-        serves-named old new log event answer d done s v after st (names-by o event answer d s named counts) known right acts_are same (after_is few) table len (jobs few) (running few) numbers holders_are
+        serves-named old new log event answer d done s v after st named counts known right acts_are same (after_is few) table len (jobs few) (running few) numbers holders_are
     by_refusal true refused =
         let leaves = refusal-leaves d refused in
         let nothing : done ≡ [] = acts_are ∙ leaves.acts o s event.kind answer (map.get nat_eq old.jobs s) v in
@@ -148,27 +130,24 @@ serves-command old new log event answer d done s v after st below plain named th
           sessions = λ q.
               table q
               ∙ ap (λ b. cond (s == q) (cond b (Some after) None) (map.get nat_eq old.sessions q)) leaves.lives
-              ∙ ap (λ (x : Session). cond (s == q) (Some x) (map.get nat_eq old.sessions q)) (after_is few ∙ leaves.session event.kind answer (map.get nat_eq old.jobs s) v)
-              ∙ put_back (map.get nat_eq old.sessions) (Some v) there q (s == q) refl
+              ∙ ap (λ (x : Option Session). cond (s == q) x (map.get nat_eq old.sessions q)) (ap Some (after_is few ∙ leaves.session event.kind answer (map.get nat_eq old.jobs s) v) ∙ sym there)
+              ∙ put-back (map.get nat_eq old.sessions) s q
               ∙ st.tables.sessions q
               ∙ ap (λ (o : Options). session o (past_of log) q) (sym same);
           live = len ∙ unchanged d refused ∙ st.tables.live;
           jobs = λ q.
               jobs few q
               ∙ ap (λ (x : Option Job). cond (s == q) x (map.get nat_eq old.jobs q)) (leaves.runs event.kind (map.get nat_eq old.jobs s) v)
-              ∙ put_back (map.get nat_eq old.jobs) (map.get nat_eq old.jobs s) refl q (s == q) refl
+              ∙ put-back (map.get nat_eq old.jobs) s q
               ∙ st.tables.jobs q
               ∙ ap (λ (o : Options). running_job o (past_of log) q) (sym same);
-          running = running few ∙ ap (λ xs. running_after xs (map.hash_map_len old.jobs)) nothing ∙ none_ran (map.hash_map_len old.jobs) ∙ st.tables.running;
+          running = running few ∙ running-none done (map.hash_map_len old.jobs) nothing ∙ st.tables.running;
           numbers = λ q. numbers q ∙ st.tables.numbers q;
           holders = λ a p.
               holders_are a p ∙ leaves.held s (ipv4 v.opening.client) (waiting_port v.slot) a p (holder_at old.board a p) ∙ st.tables.holders a p
               ∙ ap (λ (o : Options). holder o (past_of log) (V4 a) p) (sym same);
         })
       where
-        none_ran : (n : ℕ) → running_after [] n ≡ n
-        none_ran n = omega arith
-
         unchanged : (d : Decision) → is_refusal d ≡ true → live_after d (map.hash_map_len old.sessions) ≡ map.hash_map_len old.sessions
         unchanged decision.UnknownNumber r = refl
         unchanged decision.UsedNumber r = refl

@@ -1,6 +1,6 @@
 -- The tables after a data connection.
-use Rattle.std.proofs.Common.{◌≡◌, refl, sym, ap, ◌∙◌, subst, ℕ, Bool, true, false, not, cond, ◌&&◌, ◌||◌, List, [], ◌∷◌, Option, Some, None, arith}
-use Rattle.std.specs.Prelude.{◌==◌, nat_eq, count_by}
+use Rattle.std.proofs.Common.{◌≡◌, refl, sym, ap, ◌∙◌, ℕ, Bool, true, false, not, cond, ◌&&◌, ◌||◌, List, [], ◌∷◌, Option, Some, None, arith}
+use Rattle.std.specs.Prelude.{◌==◌, nat_eq}
 use Rattle.std.specs.HashMap as map
 use Rattle.ftp_base.specs.declared.net.IpAddr.{IpAddr}
 use Rattle.ftp_base.specs.declared.net.IpAddr.TheVariants.{V4}
@@ -21,36 +21,29 @@ use Rattle.ftp_events.specs.declared.event.EventKind.TheVariants as kind
 use Rattle.ftp_events.specs.declared.event.HubEvent.{HubEvent}
 use Rattle.ftp_events.specs.declared.session.Session.{Session}
 use Rattle.ftp_events.specs.Modes.{in_range}
-use Rattle.ftp_events.specs.Log.{past_of, is_used, new_number}
+use Rattle.ftp_events.specs.Log.{past_of, is_used}
 use Rattle.ftp_events.specs.Board.{holder}
-use Rattle.ftp_events.specs.Notices.{is_notice_to}
 use Rattle.ftp_events.specs.Running.{running_after, running_count}
-use Rattle.ftp_events.specs.Slot.{with_link}
-use Rattle.ftp_events.specs.Session.{session, running_job, lives_on, session_after, next_lane, live_count}
+use Rattle.ftp_events.specs.Session.{session, running_job, session_after, next_lane}
 use Rattle.ftp_events.specs.ConnectionRows.{arrival_row, holder_row}
 use Rattle.ftp_events.specs.Decide.{decide}
-use Rattle.ftp_events.specs.Acts.{session_acts, starting, acts_of, acts}
-use Rattle.ftp_laws.proofs.Laws.{counting-counts, running-other, session-other, session_by}
+use Rattle.ftp_events.specs.Acts.{session_acts, starting, acts}
+use Rattle.ftp_laws.proofs.Laws.{running-other, session-other}
 use Rattle.ftp_laws.proofs.Holds.{WaitsFor, holder-waits}
-use Rattle.ftp_laws.proofs.Tables.{IsAbout, session-about, running-about, holder-arrived, arrival-about, eq-comm}
+use Rattle.ftp_laws.proofs.Tables.{IsAbout, holder-arrived, arrival-about, eq-comm, same-both}
 use Rattle.ftp_hub.specs.declared.hub.Hub.{Hub}
 use Rattle.ftp_hub.specs.Arrivals.{arrival_of}
-use Rattle.ftp_hub.specs.Handlers.{Jobs, Starts}
-use Rattle.ftp_hub.specs.Stands.{Tables, Stands, Serves, entry}
-use Rattle.ftp_hub.proofs.Counts.{count-session_acts}
-use Rattle.ftp_hub.proofs.Running.{runs-started}
+use Rattle.ftp_hub.specs.Handlers.{Jobs, Starts, notices_of}
+use Rattle.ftp_hub.specs.Stands.{Stands, Serves, entry}
+use Rattle.ftp_hub.proofs.About.{serves-about}
 use Rattle.ftp_hub.proofs.Clients.{pooled-shared}
-use Rattle.ftp_hub.proofs.Decisions.{no-completion, Comes, jobs-started, running-started}
+use Rattle.ftp_hub.proofs.Decisions.{Comes, jobs-started, running-started}
 
 -- a data connection, from an address of version 4, with a number that was not used
 pub record Arrives (o : Options) (log : List Entry) (event : HubEvent) (n source port : ℕ) (raw : SocketAddr) : Type 0 where
   pub kind_is : event.kind ≡ kind.DataIn n raw port
   pub from : raw.ip ≡ V4 source
   pub unused : is_used (past_of log) n ≡ false
-
-same-cond : {A : Type 0} (b : Bool) (x : A) → cond b x x ≡ x
-same-cond true x = refl
-same-cond false x = refl
 
 -- its row, once the number is new
 arrival-due : (hub : Hub) (log : List Entry) (event : HubEvent) (answer : Answer) (n source port : ℕ) (raw : SocketAddr) → Stands hub log → Arrives hub.options log event n source port raw → decide hub.options log event answer ≡ arrival_row hub.options (past_of log) raw raw.ip port
@@ -62,10 +55,10 @@ board-holder : (hub : Hub) (log : List Entry) (source port : ℕ) (raw : SocketA
 board-holder hub log source port raw st from = ap (λ (x : IpAddr). holder hub.options (past_of log) x port) from ∙ sym (st.tables.holders source port)
 
 turned-comes : Comes decision.Turned
-turned-comes = record { counts = refl; unopened = λ k. refl; no_grant = refl; lives = refl; silent = λ answer. refl; as_many = λ n. refl; runs = λ k queued l. refl; ends = λ k b. no-completion decision.Turned k b refl }
+turned-comes = record { counts = refl; unopened = λ k. refl; no_grant = refl; lives = refl; silent = λ answer. refl; as_many = λ n. refl; unfinished = refl }
 
 attached-comes : (s : ℕ) → Comes (decision.Attached s)
-attached-comes s = record { counts = refl; unopened = λ k. refl; no_grant = refl; lives = refl; silent = λ answer. refl; as_many = λ n. refl; runs = λ k queued l. runs-started (with_link l.slot (new_number k (decision.Attached s))) l.pending l.running; ends = λ k b. no-completion (decision.Attached s) k b refl }
+attached-comes s = record { counts = refl; unopened = λ k. refl; no_grant = refl; lives = refl; silent = λ answer. refl; as_many = λ n. refl; unfinished = refl }
 
 arrival-comes : (b c : Bool) (s : ℕ) → Comes (arrival_of b c s)
 arrival-comes true true s = attached-comes s
@@ -87,7 +80,7 @@ pub serves-unheld : (old new : Hub) (log : List Entry) (event : HubEvent) (answe
 unfolding acts
 serves-unheld old new log event answer done n source port raw st arr nobody closes same table len jobs numbers board =
     record {
-      decision = sym (arrival-due old log event answer n source port raw st arr ∙ ap (λ (h : Option ℕ). cond (not (in_range o port)) decision.Turned (holder_row o past raw h)) unheld ∙ same-cond (not (in_range o port)) decision.Turned);
+      decision = sym (arrival-due old log event answer n source port raw st arr ∙ ap (λ (h : Option ℕ). cond (not (in_range o port)) decision.Turned (holder_row o past raw h)) unheld ∙ same-both (not (in_range o port)) decision.Turned);
       done = rw (arr.kind_is, unheld) closes;
       tables = record {
         sessions = λ q.
@@ -137,34 +130,20 @@ pub serves-held :
     ((q : ℕ) → has new.numbers q ≡ ((n == q) || has old.numbers q)) →
     ((a p : ℕ) → holder_at new.board a p ≡ cond (is_key a p source port) None (holder_at old.board a p)) →
     Serves old new log event answer (arrival_of (in_range old.options port) (same_ip v.opening.raw.ip raw.ip) s) done
-unfolding acts
 serves-held old new log event answer done n source port s raw v after st arr held there after_is acted same table len begins numbers board =
-    record {
-      decision = sym (arrival-due old log event answer n source port raw st arr ∙ rw (holds, known) refl);
-      done = done_are ∙ sym due_acts;
-      tables = subst (Tables new) (sym grown) (record {
-        sessions = λ q.
-            table q
-            ∙ ap (λ (x : Option Session). cond (s == q) x (map.get nat_eq old.sessions q)) kept
-            ∙ ap (λ (x : Option Session). cond (s == q) (cond (lives_on d) (Some (session_by s e job v)) None) x) (st.tables.sessions q)
-            ∙ sym (session-about o past e s v q about known)
-            ∙ ap (λ (o : Options). session o (e ∷ past) q) (sym same);
-        live = len ∙ st.tables.live ∙ sym (comes.as_many (live_count past));
-        jobs = λ q.
-            jobs-started old.jobs new.jobs s q k d v comes begins
-            ∙ ap (λ (x : Option Job). cond (s == q) (next_lane k d x v).running (map.get nat_eq old.jobs q)) (st.tables.jobs s)
-            ∙ ap (λ (x : Option Job). cond (s == q) (next_lane k d job v).running x) (st.tables.jobs q)
-            ∙ ap (λ (x : EventKind). cond (s == q) (next_lane x d job v).running (running_job o past q)) (sym arr.kind_is)
-            ∙ sym (running-about o past e s v q about known)
-            ∙ ap (λ (o : Options). running_job o (e ∷ past) q) (sym same);
-        running = running-started o s k answer d v old.jobs new.jobs comes begins ∙ ap (λ xs. running_after xs (map.hash_map_len old.jobs)) (sym acted) ∙ ap (running_after done) st.tables.running;
-        numbers = λ q. rw arr.kind_is (numbers q ∙ ap (λ b. (n == q) || b) (st.tables.numbers q));
-        holders = λ a p.
-            board a p
-            ∙ sym (holders-arrived old log event answer d done n source port raw a p st arr comes)
-            ∙ ap (λ (o : Options). holder o (e ∷ past) (V4 a) p) (sym same);
-      });
-    }
+    serves-about old new log event answer d done s v after st comes.counts about known (sym (arrival-due old log event answer n source port raw st arr ∙ rw (holds, known) refl))
+    (acted ∙ ap (λ (x : EventKind). session_acts o s x answer d job (Some v)) (sym arr.kind_is)) same
+    (after_is
+    ∙ ap (λ c. session_after k answer d c job v) (sym (comes.silent answer))
+    ∙ ap (λ (x : EventKind). session_after x answer d (notices_of d answer) job v) (sym arr.kind_is))
+    (λ q. table q ∙ ap (λ b. cond (s == q) (cond b (Some after) None) (map.get nat_eq old.sessions q)) (sym comes.lives))
+    (len ∙ sym (comes.as_many (map.hash_map_len old.sessions)))
+    (λ q.
+    jobs-started old.jobs new.jobs s q k d v comes.unfinished begins
+    ∙ ap (λ (x : EventKind). cond (s == q) (next_lane x d job v).running (map.get nat_eq old.jobs q)) (sym arr.kind_is))
+    (running-started o s k answer d v old.jobs new.jobs comes.unfinished begins ∙ ap (λ xs. running_after xs (map.hash_map_len old.jobs)) (sym acted))
+    (λ q. rw arr.kind_is (numbers q ∙ ap (λ b. (n == q) || b) (st.tables.numbers q)))
+    (λ a p. board a p ∙ sym (holders-arrived old log event answer d done n source port raw a p st arr comes))
   where
     o : Options
     o = old.options
@@ -173,7 +152,7 @@ serves-held old new log event answer done n source port s raw v after st arr hel
     past = past_of log
 
     job : Option Job
-    job = running_job o past s
+    job = map.get nat_eq old.jobs s
 
     k : EventKind
     k = kind.DataIn n raw port
@@ -184,39 +163,16 @@ serves-held old new log event answer done n source port s raw v after st arr hel
     comes : Comes d
     comes = arrival-comes (in_range o port) (same_ip v.opening.raw.ip raw.ip) s
 
-    e : Entry
-    e = entry event answer d done
-
     holds : holder o past raw.ip port ≡ Some s
     holds = board-holder old log source port raw st arr.from ∙ held
 
     known : session o past s ≡ Some v
     known = sym (st.tables.sessions s) ∙ there
 
-    grown : past_of (e ∷ log) ≡ e ∷ past
-    grown = counting-counts e log comes.counts
-
-    about : IsAbout o past e s
-    about = arrival-about o past e (record { client = raw.ip; port = port }) s
+    about : IsAbout o past (entry event answer d done) s
+    about =
+        arrival-about o past (entry event answer d done) (record { client = raw.ip; port = port }) s
         (record { to = rw arr.kind_is refl; unnamed = rw arr.kind_is refl; no_grant = comes.no_grant }) (comes.unopened event.kind) holds
-
-    done_are : done ≡ session_acts o s k answer d job (Some v)
-    done_are = acted ∙ ap (λ (x : Option Job). session_acts o s k answer d x (Some v)) (st.tables.jobs s)
-
-    silent : count_by (is_notice_to s) done ≡ 0
-    silent = ap (count_by (is_notice_to s)) done_are ∙ count-session_acts o s k answer d job v ∙ comes.silent answer
-
-    kept : Some after ≡ cond (lives_on d) (Some (session_by s e job v)) None
-    kept =
-        ap Some (
-        after_is
-        ∙ ap (λ (x : Option Job). session_after k answer d 0 x v) (st.tables.jobs s)
-        ∙ ap (λ c. session_after k answer d c job v) (sym silent)
-        ∙ ap (λ (x : EventKind). session_after x answer d (count_by (is_notice_to s) done) job v) (sym arr.kind_is))
-        ∙ sym (ap (λ b. cond b (Some (session_by s e job v)) None) comes.lives)
-
-    due_acts : acts_of o past e ≡ session_acts o s k answer d job (Some v)
-    due_acts = rw (comes.counts, about.subject_is, known) (ap (λ (x : EventKind). session_acts o s x answer d job (Some v)) arr.kind_is)
 
 -- whoever holds a port is live
 pub held-live : (hub : Hub) (log : List Entry) (a p s : ℕ) → Stands hub log → holder_at hub.board a p ≡ Some s → map.get nat_eq hub.sessions s ≡ None → ⊥

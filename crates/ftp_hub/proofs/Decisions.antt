@@ -1,5 +1,5 @@
 -- What each kind of decision leaves of a session, its job and the holds.
-use Rattle.std.proofs.Common.{◌≡◌, refl, sym, ap, ◌∙◌, ℕ, ◌+◌, Bool, true, false, cond, [], Option, Some, None, arith, add-zero, eqb-true}
+use Rattle.std.proofs.Common.{◌≡◌, refl, sym, ap, ◌∙◌, subst, ℕ, ◌+◌, Bool, true, false, cond, [], Option, Some, None, arith, add-zero, eqb-true}
 use Rattle.std.specs.Prelude.{◌==◌, nat_eq}
 use Rattle.std.specs.Option.{option_or}
 use Rattle.std.specs.HashMap as map
@@ -9,32 +9,19 @@ use Rattle.ftp_events.specs.declared.decision.Decision.{Decision}
 use Rattle.ftp_events.specs.declared.decision.Decision.TheVariants as decision
 use Rattle.ftp_events.specs.declared.event.Answer.{Answer}
 use Rattle.ftp_events.specs.declared.event.EventKind.{EventKind}
-use Rattle.ftp_events.specs.declared.event.EventKind.TheVariants as kind
-use Rattle.ftp_events.specs.declared.session.Pending.{Pending}
 use Rattle.ftp_events.specs.declared.session.Session.{Session}
 use Rattle.ftp_events.specs.Words.{total}
 use Rattle.ftp_events.specs.Log.{is_refusal}
 use Rattle.ftp_events.specs.Opening.{opened_number}
 use Rattle.ftp_events.specs.Board.{granted_port}
 use Rattle.ftp_events.specs.Running.{ended, running_after}
-use Rattle.ftp_events.specs.Slot.{Lane, lane_after, started_by}
 use Rattle.ftp_events.specs.Session.{lives_on, session_after, queued_for, lane_in, next_lane, live_after}
-use Rattle.ftp_events.specs.Acts.{session_acts, completions, starting, stays}
+use Rattle.ftp_events.specs.Acts.{session_acts, starting, stays}
 use Rattle.ftp_hub.specs.Handlers.{Jobs, Starts, held_after, notices_of}
-use Rattle.ftp_hub.proofs.Running.{IsIdle, count-start, running-acts}
+use Rattle.ftp_laws.proofs.Tables.{same-both}
+use Rattle.ftp_hub.proofs.Running.{IsIdle, is_finish, no-completion, count-start, running-acts, running-after}
 
--- a transfer ends
-abbrev pub is_finish : Decision → Bool
-is_finish decision.Finished = true
-is_finish _ = false
-
--- a decision that is no end of a transfer completes nothing
-pub no-completion : (d : Decision) (k : EventKind) (b : Bool) → is_finish d ≡ false → completions k d b ≡ []
-no-completion decision.Finished k b h = cc
-no-completion d (kind.End t) b h = refl
-no-completion d k b h = refl
-
--- the tables after a data connection whose decision neither opens, grants nor refuses
+-- a decision that neither opens a session nor ends one, grants no port, is no refusal and no end of a transfer, and sends its session no notice
 pub record Comes (d : Decision) : Type 0 where
   pub counts : is_refusal d ≡ false
   pub unopened : (k : EventKind) → opened_number k d ≡ None
@@ -42,27 +29,43 @@ pub record Comes (d : Decision) : Type 0 where
   pub lives : lives_on d ≡ true
   pub silent : (answer : Answer) → notices_of d answer ≡ 0
   pub as_many : (n : ℕ) → live_after d n ≡ n
-  pub runs : (k : EventKind) (queued : Option Pending) (l : Lane) → (lane_after k d queued l).running ≡ option_or (started_by k d queued l) l.running
-  pub ends : (k : EventKind) (b : Bool) → completions k d b ≡ []
+  pub unfinished : is_finish d ≡ false
 
--- the jobs after an entry with which one may start
-pub jobs-started : (old new : Jobs) (s q : ℕ) (k : EventKind) (d : Decision) (v : Session) → Comes d → Starts old new s (starting k d (map.get nat_eq old s) v) → map.get nat_eq new q ≡ cond (s == q) (next_lane k d (map.get nat_eq old s) v).running (map.get nat_eq old q)
-jobs-started old new s q k d v comes begins =
-    begins.jobs q ∙ put (s == q) refl ∙ ap (λ (x : Option Job). cond (s == q) x (map.get nat_eq old q)) (sym (comes.runs k (queued_for d k v) (lane_in v (map.get nat_eq old s))))
+-- with such a decision no hold changes
+pub comes-held : (d : Decision) (s client : ℕ) (waited : Option ℕ) (a p : ℕ) (before : Option ℕ) → Comes d → held_after d s client waited a p before ≡ before
+comes-held (decision.Granted port) s client waited a p before comes = cc
+comes-held decision.Closed s client waited a p before comes = cc
+comes-held d s client waited a p before comes = refl
+
+-- a value that is put at s is the one of q, where s is q
+at-key : {A : Type 0} (f g : ℕ → A) (s q : ℕ) → cond (s == q) (f s) (g q) ≡ cond (s == q) (f q) (g q)
+at-key {A} f g s q = go (s == q) refl
   where
-    begun : Option Job
-    begun = starting k d (map.get nat_eq old s) v
+    go : (b : Bool) → (s == q) ≡ b → cond b (f s) (g q) ≡ cond b (f q) (g q)
+    go true h = ap f (eqb-true s q h)
+    go false h = refl
 
-    put : (b : Bool) → (s == q) ≡ b → cond b (option_or begun (map.get nat_eq old q)) (map.get nat_eq old q) ≡ cond b (option_or begun (map.get nat_eq old s)) (map.get nat_eq old q)
-    put true h = ap (λ (n : ℕ). option_or begun (map.get nat_eq old n)) (sym (eqb-true s q h))
-    put false h = refl
+-- a table stays as it is where a key is given the value that it has
+pub put-back : {A : Type 0} (table : ℕ → A) (s q : ℕ) → cond (s == q) (table s) (table q) ≡ table q
+put-back table s q = at-key table table s q ∙ same-both (s == q) (table q)
 
--- and how many run
-pub running-started : (o : Options) (s : ℕ) (k : EventKind) (answer : Answer) (d : Decision) (v : Session) (old new : Jobs) → Comes d → Starts old new s (starting k d (map.get nat_eq old s) v) → map.hash_map_len new ≡ running_after (session_acts o s k answer d (map.get nat_eq old s) (Some v)) (map.hash_map_len old)
-running-started o s k answer d v old new comes begins =
-    omega (arith, begins.len, running-acts o s k answer d (map.get nat_eq old s) v (map.hash_map_len old), ap (total ended) (comes.ends k (stays d (Some v))), count-start (starting k d (map.get nat_eq old s) v))
+-- the jobs after an entry that ends no transfer, with which one may start
+pub jobs-started : (old new : Jobs) (s q : ℕ) (k : EventKind) (d : Decision) (v : Session) → is_finish d ≡ false → Starts old new s (starting k d (map.get nat_eq old s) v) → map.get nat_eq new q ≡ cond (s == q) (next_lane k d (map.get nat_eq old s) v).running (map.get nat_eq old q)
+jobs-started old new s q k d v unfinished begins =
+    begins.jobs q
+    ∙ sym (at-key (λ n. option_or (starting k d (map.get nat_eq old s) v) (map.get nat_eq old n)) (map.get nat_eq old) s q)
+    ∙ ap (λ (x : Option Job). cond (s == q) x (map.get nat_eq old q)) (sym (running-after k d (queued_for d k v) (lane_in v (map.get nat_eq old s)) unfinished))
 
--- a refusal leaves the session, its notices, its job and the holds
+-- how many jobs run after it
+pub running-started : (o : Options) (s : ℕ) (k : EventKind) (answer : Answer) (d : Decision) (v : Session) (old new : Jobs) → is_finish d ≡ false → Starts old new s (starting k d (map.get nat_eq old s) v) → map.hash_map_len new ≡ running_after (session_acts o s k answer d (map.get nat_eq old s) (Some v)) (map.hash_map_len old)
+running-started o s k answer d v old new unfinished begins =
+    omega (arith, begins.len, running-acts o s k answer d (map.get nat_eq old s) v (map.hash_map_len old), ap (total ended) (no-completion d k (stays d (Some v)) unfinished), count-start (starting k d (map.get nat_eq old s) v))
+
+-- a table of jobs in which none starts stays as it is
+pub starts-none : (jobs : Jobs) (s : ℕ) → Starts jobs jobs s None
+starts-none jobs s = record { jobs = λ q. sym (same-both (s == q) (map.get nat_eq jobs q)); len = sym (add-zero (map.hash_map_len jobs)) }
+
+-- a decision that leaves a live session, its job and the holds as they are, and with which nothing is done
 pub record Leaves (d : Decision) : Type 0 where
   pub lives : lives_on d ≡ true
   pub session : (k : EventKind) (answer : Answer) (job : Option Job) (v : Session) → session_after k answer d (notices_of d answer) job v ≡ v
@@ -70,35 +73,24 @@ pub record Leaves (d : Decision) : Type 0 where
   pub runs : (k : EventKind) (job : Option Job) (v : Session) → (next_lane k d job v).running ≡ job
   pub held : (s client : ℕ) (waited : Option ℕ) (a p : ℕ) (before : Option ℕ) → held_after d s client waited a p before ≡ before
 
--- no notice and no transfer more
+-- a session with no notice and no transfer more is as it was
 same_by : (v : Session) → record v { notices = v.notices + 0; tickets = v.tickets + 0 } ≡ v
 same_by v = λ i. record v { notices = add-zero v.notices i; tickets = add-zero v.tickets i }
 
--- a refusal completes nothing
-no-acts : (d : Decision) (k : EventKind) → is_refusal d ≡ true → (b : Bool) → completions k d b ≡ []
-no-acts decision.Finished k r b = cc
-no-acts d k r b = no-completion d k b (not-finish d r)
-  where
-    not-finish : (d : Decision) → is_refusal d ≡ true → is_finish d ≡ false
-    not-finish decision.Finished r = cc
-    not-finish _ r = refl
-
+-- every refusal is such a decision
 pub refusal-leaves : (d : Decision) → is_refusal d ≡ true → Leaves d
-refusal-leaves decision.UnknownNumber r = record { lives = refl; session = λ k answer job v. same_by v; acts = λ o s k answer job v. rw (no-acts decision.UnknownNumber k refl true) refl; runs = λ k job v. refl; held = λ s client waited a p before. refl }
-refusal-leaves decision.UsedNumber r = record { lives = refl; session = λ k answer job v. same_by v; acts = λ o s k answer job v. rw (no-acts decision.UsedNumber k refl true) refl; runs = λ k job v. refl; held = λ s client waited a p before. refl }
-refusal-leaves decision.Misplaced r = record { lives = refl; session = λ k answer job v. same_by v; acts = λ o s k answer job v. rw (no-acts decision.Misplaced k refl true) refl; runs = λ k job v. refl; held = λ s client waited a p before. refl }
-refusal-leaves decision.NotExpected r = record { lives = refl; session = λ k answer job v. same_by v; acts = λ o s k answer job v. rw (no-acts decision.NotExpected k refl true) refl; runs = λ k job v. refl; held = λ s client waited a p before. refl }
+refusal-leaves decision.UnknownNumber r = record { lives = refl; session = λ k answer job v. same_by v; acts = λ o s k answer job v. rw (no-completion decision.UnknownNumber k true refl) refl; runs = λ k job v. refl; held = λ s client waited a p before. refl }
+refusal-leaves decision.UsedNumber r = record { lives = refl; session = λ k answer job v. same_by v; acts = λ o s k answer job v. rw (no-completion decision.UsedNumber k true refl) refl; runs = λ k job v. refl; held = λ s client waited a p before. refl }
+refusal-leaves decision.Misplaced r = record { lives = refl; session = λ k answer job v. same_by v; acts = λ o s k answer job v. rw (no-completion decision.Misplaced k true refl) refl; runs = λ k job v. refl; held = λ s client waited a p before. refl }
+refusal-leaves decision.NotExpected r = record { lives = refl; session = λ k answer job v. same_by v; acts = λ o s k answer job v. rw (no-completion decision.NotExpected k true refl) refl; runs = λ k job v. refl; held = λ s client waited a p before. refl }
 refusal-leaves _ r = cc
 
--- nor does a job start or end where a session ends
+-- no job starts or ends where a session ends
 pub closed-idle : IsIdle decision.Closed
-closed-idle = record { runs = λ k queued l. refl; starts = λ k queued l. refl; ends = λ k b. no-completion decision.Closed k b refl }
+closed-idle = record { unfinished = refl; starts = λ k queued l. refl }
 
 -- a decision with which no job starts or ends leaves the table of jobs
 pub jobs-idle : (jobs : Jobs) (s q : ℕ) (k : EventKind) (d : Decision) (v : Session) → IsIdle d → map.get nat_eq jobs q ≡ cond (s == q) (next_lane k d (map.get nat_eq jobs s) v).running (map.get nat_eq jobs q)
 jobs-idle jobs s q k d v idle =
-    put (s == q) refl ∙ sym (ap (λ (x : Option Job). cond (s == q) x (map.get nat_eq jobs q)) (idle.runs k (queued_for d k v) (lane_in v (map.get nat_eq jobs s))))
-  where
-    put : (b : Bool) → (s == q) ≡ b → map.get nat_eq jobs q ≡ cond b (map.get nat_eq jobs s) (map.get nat_eq jobs q)
-    put true h = sym (ap (map.get nat_eq jobs) (eqb-true s q h))
-    put false h = refl
+    jobs-started jobs jobs s q k d v idle.unfinished
+    (subst (Starts jobs jobs s) (sym (idle.starts k (queued_for d k v) (lane_in v (map.get nat_eq jobs s)))) (starts-none jobs s))

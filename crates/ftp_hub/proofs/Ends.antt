@@ -40,10 +40,10 @@ use Rattle.ftp_laws.proofs.Laws.{counting-counts, history-own, running-other, se
 use Rattle.ftp_laws.proofs.Lanes.{ended-empty}
 use Rattle.ftp_laws.proofs.Tables.{holder-named}
 use Rattle.ftp_hub.specs.declared.hub.Hub.{Hub}
-use Rattle.ftp_hub.specs.Handlers.{Jobs, Starts, command_row, held_after, is_transfer}
+use Rattle.ftp_hub.specs.Handlers.{Jobs, Starts, command_row, is_transfer}
 use Rattle.ftp_hub.specs.Stands.{Tables, Stands, Serves, entry}
 use Rattle.ftp_hub.proofs.Running.{count-start, running-acts, runs-started}
-use Rattle.ftp_hub.proofs.Decisions.{Comes, no-completion}
+use Rattle.ftp_hub.proofs.Decisions.{Comes}
 use Rattle.ftp_hub.proofs.Commands.{is_end}
 
 -- ---- transfers that are queued
@@ -61,27 +61,17 @@ transfer-plain k c = refl
 
 -- a job may start with its decision
 transfer-decides : (b c : Bool) (t : Ticket) → Comes (cond b (cond c (decision.Queued t) decision.NoSlot) decision.NotLoggedIn)
-transfer-decides true true t = record { counts = refl; unopened = λ k. refl; no_grant = refl; lives = refl; silent = λ answer. refl; as_many = λ n. refl; runs = λ k queued l. runs-started l.slot queued l.running; ends = λ k b. no-completion (decision.Queued t) k b refl }
-transfer-decides true false t = record { counts = refl; unopened = λ k. refl; no_grant = refl; lives = refl; silent = λ answer. refl; as_many = λ n. refl; runs = λ k queued l. refl; ends = λ k b. no-completion decision.NoSlot k b refl }
-transfer-decides false c t = record { counts = refl; unopened = λ k. refl; no_grant = refl; lives = refl; silent = λ answer. refl; as_many = λ n. refl; runs = λ k queued l. refl; ends = λ k b. no-completion decision.NotLoggedIn k b refl }
+transfer-decides true true t = record { counts = refl; unopened = λ k. refl; no_grant = refl; lives = refl; silent = λ answer. refl; as_many = λ n. refl; unfinished = refl }
+transfer-decides true false t = record { counts = refl; unopened = λ k. refl; no_grant = refl; lives = refl; silent = λ answer. refl; as_many = λ n. refl; unfinished = refl }
+transfer-decides false c t = record { counts = refl; unopened = λ k. refl; no_grant = refl; lives = refl; silent = λ answer. refl; as_many = λ n. refl; unfinished = refl }
 
 pub transfer-comes : (s : ℕ) (v : Session) (d : Decision) → d ≡ if_logged_in v (transfer_row s v) → Comes d
 transfer-comes s v d e = subst Comes (sym e) (transfer-decides (is_logged_in v.login) (can_queue v.slot v.pending) (record { session = s; nr = v.tickets + 1 }))
 
--- and no hold changes
-transfer-holds : (b c : Bool) (t : Ticket) (s client : ℕ) (waited : Option ℕ) (a p : ℕ) (before : Option ℕ) → held_after (cond b (cond c (decision.Queued t) decision.NoSlot) decision.NotLoggedIn) s client waited a p before ≡ before
-transfer-holds true true t s client waited a p before = refl
-transfer-holds true false t s client waited a p before = refl
-transfer-holds false c t s client waited a p before = refl
-
-pub transfer-held : (s : ℕ) (v : Session) (d : Decision) → d ≡ if_logged_in v (transfer_row s v) → (q client : ℕ) (waited : Option ℕ) (a p : ℕ) (before : Option ℕ) → before ≡ held_after d q client waited a p before
-transfer-held s v d e q client waited a p before =
-    sym (ap (λ (x : Decision). held_after x q client waited a p before) e ∙ transfer-holds (is_logged_in v.login) (can_queue v.slot v.pending) (record { session = s; nr = v.tickets + 1 }) q client waited a p before)
-
 -- ---- transfers that end
 
 -- equal tickets are the same
-pub same-ticket : (a b : Ticket) → a ≡ b → same_ticket a b ≡ true
+same-ticket : (a b : Ticket) → a ≡ b → same_ticket a b ≡ true
 same-ticket a b e = rw (eq-eqb a.session b.session (ap (λ (t : Ticket). t.session) e), eq-eqb a.nr b.nr (ap (λ (t : Ticket). t.nr) e)) refl
 
 -- what is due on the end of a job that runs

@@ -1,4 +1,6 @@
+pub mod Entries
 pub mod Counts
+pub mod About
 pub mod Clients
 pub mod Running
 pub mod Refusals

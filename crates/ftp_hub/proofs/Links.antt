@@ -1,10 +1,10 @@
 -- A job that runs has a link that came.
-use Rattle.std.proofs.Common.{◌≡◌, refl, sym, ap, ◌∙◌, subst, ℕ, Bool, true, false, cond, ◌||◌, List, [], ◌∷◌, length, Option, Some, None, ◌+◌, arith, eq-eqb, eqb-true}
+use Rattle.std.proofs.Common.{◌≡◌, refl, sym, ap, ◌∙◌, subst, ℕ, Bool, true, false, cond, ◌||◌, List, [], ◌∷◌, Option, Some, None, arith, eq-eqb, eqb-true}
 use Rattle.std.specs.Prelude.{is_some}
+use Rattle.std.proofs.lemmas.Bool.{or_right}
 use Rattle.std.specs.FinMap as table
 use Rattle.std.specs.Ordering.{nat_cmp, eq_by_cmp}
 use Rattle.std.specs.Cmp.{nat_cmp_total}
-use Rattle.ftp_base.specs.declared.net.IpAddr.TheVariants.{V4}
 use Rattle.std.specs.Option.{option_map_or}
 use Rattle.ftp_base.specs.LinkTable.{Numbered}
 use Rattle.ftp_options.specs.declared.options.Options.{Options}
@@ -21,24 +21,19 @@ use Rattle.ftp_events.specs.declared.session.Slot.{Slot}
 use Rattle.ftp_events.specs.declared.session.Slot.TheVariants.{Empty, Waits, Linked}
 use Rattle.ftp_events.specs.Words.{is_number}
 use Rattle.ftp_events.specs.Covers.{link_number, is_covered}
-use Rattle.ftp_events.specs.Log.{is_refusal, new_number, past_of}
-use Rattle.ftp_events.specs.History.{history, concerns, opens}
+use Rattle.ftp_events.specs.Log.{new_number, past_of}
+use Rattle.ftp_events.specs.History.{history}
 use Rattle.ftp_events.specs.Leads.{HasLinks, is_brought, job_of_ticket, job_to_run}
-use Rattle.ftp_events.specs.Board.{holder}
 use Rattle.ftp_events.specs.Transfer.{same_ticket}
+use Rattle.ftp_events.specs.Acts.{link_in}
 use Rattle.ftp_events.specs.Slot.{Lane, drops, lane, lane_of, lane_after, queued_in, with_link}
-use Rattle.ftp_events.specs.Session.{session, running_job}
+use Rattle.ftp_events.specs.Session.{running_job}
 use Rattle.ftp_events.specs.Decide.{due, decide}
-use Rattle.ftp_events.specs.Right.{IsRight, IsActed}
-use Rattle.ftp_laws.proofs.Laws.{counting-refused, counting-counts, history-own, history-other}
+use Rattle.ftp_events.specs.Right.{IsRight}
+use Rattle.ftp_hub.proofs.Entries.{past-more, history-more}
 use Rattle.ftp_hub.specs.declared.hub.Hub.{Hub}
 use Rattle.ftp_hub.specs.Runs.{is_linked}
-use Rattle.ftp_hub.specs.Stands.{Stands, SameAnswers, job_for}
-
--- the link of a slot
-abbrev link_of : Slot → Option ℕ
-link_of (Linked n) = Some n
-link_of _ = None
+use Rattle.ftp_hub.specs.Stands.{Stands, job_for}
 
 -- the link of a job
 abbrev link_at : Option Job → Option ℕ
@@ -47,22 +42,18 @@ link_at (Some job) = Some job.number
 
 -- the links of a slot and of a job came
 record AreBrought (past : List Entry) (l : Lane) : Type 0 where
-  slot : (n : ℕ) → link_of l.slot ≡ Some n → is_brought past n ≡ true
+  slot : (n : ℕ) → link_in l.slot ≡ Some n → is_brought past n ≡ true
   running : (n : ℕ) → link_at l.running ≡ Some n → is_brought past n ≡ true
 
 -- what came has come
 brought-stays : (past : List Entry) (e : Entry) (n : ℕ) → is_brought past n ≡ true → is_brought (e ∷ past) n ≡ true
-brought-stays past e n u = go (is_number (link_number e.event.kind) n)
-  where
-    go : (b : Bool) → (b || is_brought past n) ≡ true
-    go true = refl
-    go false = u
+brought-stays past e n u = or_right (is_number (link_number e.event.kind) n) (is_brought past n) u
 
 are-more : (past : List Entry) (e : Entry) (l : Lane) → AreBrought past l → AreBrought (e ∷ past) l
 are-more past e l h = record { slot = λ n x. brought-stays past e n (h.slot n x); running = λ n x. brought-stays past e n (h.running n x) }
 
 -- a job that starts has the link of its slot
-started-brought : (past : List Entry) (slot : Slot) (pending : Option Pending) (running : Option Job) → ((n : ℕ) → link_of slot ≡ Some n → is_brought past n ≡ true) → ((n : ℕ) → link_at running ≡ Some n → is_brought past n ≡ true) → AreBrought past (lane_of slot pending running)
+started-brought : (past : List Entry) (slot : Slot) (pending : Option Pending) (running : Option Job) → ((n : ℕ) → link_in slot ≡ Some n → is_brought past n ≡ true) → ((n : ℕ) → link_at running ≡ Some n → is_brought past n ≡ true) → AreBrought past (lane_of slot pending running)
 started-brought past Empty pending running s r = record { slot = s; running = r }
 started-brought past (Waits port) pending running s r = record { slot = s; running = r }
 started-brought past (Linked m) None running s r = record { slot = s; running = r }
@@ -70,7 +61,7 @@ started-brought past (Linked m) (Some p) None s r = record { slot = λ n x. cc; 
 started-brought past (Linked m) (Some p) (Some job) s r = record { slot = s; running = r }
 
 -- a link comes for a slot with a connection
-linked-brought : (past : List Entry) (slot : Slot) (number : Option ℕ) → ((n : ℕ) → number ≡ Some n → is_brought past n ≡ true) → ((n : ℕ) → link_of slot ≡ Some n → is_brought past n ≡ true) → (n : ℕ) → link_of (with_link slot number) ≡ Some n → is_brought past n ≡ true
+linked-brought : (past : List Entry) (slot : Slot) (number : Option ℕ) → ((n : ℕ) → number ≡ Some n → is_brought past n ≡ true) → ((n : ℕ) → link_in slot ≡ Some n → is_brought past n ≡ true) → (n : ℕ) → link_in (with_link slot number) ≡ Some n → is_brought past n ≡ true
 linked-brought past (Waits port) (Some m) came s n x = came n x
 linked-brought past (Waits port) None came s n x = s n x
 linked-brought past Empty number came s n x = s n x
@@ -99,7 +90,13 @@ attached-link o past at k answer q n d e = cc
 links-brought : (o : Options) (log : List Entry) (s : ℕ) → IsRight o log → AreBrought (past_of log) (lane (history o (past_of log) s))
 unfolding decide
 links-brought o [] s r = record { slot = λ n x. cc; running = λ n x. cc }
-links-brought o (e ∷ log) s r = by_refusal (is_refusal e.decision) refl (links-brought o log s r.0)
+links-brought o (e ∷ log) s r =
+    past-more (λ p. AreBrought p (lane (history o p s))) e log (links-brought o log s r.0)
+    (λ counts.
+    history-more (λ h. AreBrought (e ∷ past) (lane h)) o past e s
+    (λ n. after-brought (e ∷ past) e.event.kind e.decision (queued_in [] e) (lane []) came (record { slot = λ m x. cc; running = λ m x. cc }))
+    (λ c. after-brought (e ∷ past) e.event.kind e.decision (queued_in (history o past s) e) (lane (history o past s)) came (are-more past e (lane (history o past s)) (links-brought o log s r.0)))
+    (are-more past e (lane (history o past s)) (links-brought o log s r.0)))
   where
     past : List Entry
     past = past_of log
@@ -107,37 +104,21 @@ links-brought o (e ∷ log) s r = by_refusal (is_refusal e.decision) refl (links
     came : (q n : ℕ) → e.decision ≡ decision.Attached q → new_number e.event.kind (decision.Attached q) ≡ Some n → is_brought (e ∷ past) n ≡ true
     came q n d x = rw (attached-link o past e.event.at e.event.kind e.answer q n (sym r.1 ∙ d) x, eq-eqb n n refl) refl
 
-    by_concern : (b c : Bool) → opens e s ≡ b → concerns o past e s ≡ c → AreBrought past (lane (history o past s)) → AreBrought (e ∷ past) (lane (history o (e ∷ past) s))
-    by_concern true c n x ih =
-        let opened : history o (e ∷ past) s ≡ e ∷ [] = rw n refl in
-        subst (λ (h : List Entry). AreBrought (e ∷ past) (lane h)) (sym opened)
-        (after-brought (e ∷ past) e.event.kind e.decision (queued_in [] e) (lane []) came (record { slot = λ m y. cc; running = λ m y. cc }))
-    by_concern false false n x ih = subst (λ (h : List Entry). AreBrought (e ∷ past) (lane h)) (sym (history-other o past e s n x)) (are-more past e (lane (history o past s)) ih)
-    by_concern false true n x ih =
-        subst (λ (h : List Entry). AreBrought (e ∷ past) (lane h)) (sym (history-own o past e s n x))
-        (after-brought (e ∷ past) e.event.kind e.decision (queued_in (history o past s) e) (lane (history o past s)) came (are-more past e (lane (history o past s)) ih))
-
-    by_refusal : (b : Bool) → is_refusal e.decision ≡ b → AreBrought past (lane (history o past s)) → AreBrought (past_of (e ∷ log)) (lane (history o (past_of (e ∷ log)) s))
-    by_refusal true x ih = subst (λ (l : List Entry). AreBrought l (lane (history o l s))) (sym (counting-refused e log x)) ih
-    by_refusal false x ih = subst (λ (l : List Entry). AreBrought l (lane (history o l s))) (sym (counting-counts e log x)) (by_concern (opens e s) (concerns o past e s) refl refl ih)
-
 -- so a job that runs has its link, where each connection has
-pub job-linked : {L : Type 0} (o : Options) (log : List Entry) (s : ℕ) (job : Job) (links : Numbered L) → IsRight o log → running_job o (past_of log) s ≡ Some job → HasLinks (past_of log) links → is_linked links job.number ≡ true
+job-linked : {L : Type 0} (o : Options) (log : List Entry) (s : ℕ) (job : Job) (links : Numbered L) → IsRight o log → running_job o (past_of log) s ≡ Some job → HasLinks (past_of log) links → is_linked links job.number ≡ true
 job-linked o log s job links r runs has = has job.number ((links-brought o log s r).running job.number (ap link_at runs))
 
 -- each connection still has its link after an event that is covered
 pub links-more : {L : Type 0} (e : Entry) (log : List Entry) (old new : Numbered L) → HasLinks (past_of log) old → is_covered (is_linked old) e.event.kind ≡ true → ((n : ℕ) → is_linked old n ≡ true → is_linked new n ≡ true) → HasLinks (past_of (e ∷ log)) new
-links-more e log old new has covered keeps n = by_refusal (is_refusal e.decision) refl
+links-more e log old new has covered keeps n =
+    past-more (λ p. is_brought p n ≡ true → is_linked new n ≡ true) e log (λ h. keeps n (has n h))
+    (λ counts. numbered (link_number e.event.kind) covered (is_number (link_number e.event.kind) n) refl)
   where
     numbered : (number : Option ℕ) → option_map_or (is_linked old) number true ≡ true → (b : Bool) → is_number number n ≡ b → (b || is_brought (past_of log) n) ≡ true → is_linked new n ≡ true
     numbered None c false x h = keeps n (has n h)
     numbered None c true x h = cc
     numbered (Some m) c true x h = keeps n (subst (λ (i : ℕ). is_linked old i ≡ true) (eqb-true m n x) c)
     numbered (Some m) c false x h = keeps n (has n h)
-
-    by_refusal : (b : Bool) → is_refusal e.decision ≡ b → is_brought (past_of (e ∷ log)) n ≡ true → is_linked new n ≡ true
-    by_refusal true x h = keeps n (has n (subst (λ (l : List Entry). is_brought l n ≡ true) (counting-refused e log x) h))
-    by_refusal false x h = numbered (link_number e.event.kind) covered (is_number (link_number e.event.kind) n) refl (subst (λ (l : List Entry). is_brought l n ≡ true) (counting-counts e log x) h)
 
 -- a link in place of another leaves every number its link
 pub insert-linked : {L : Type 0} (old : Numbered L) (number n : ℕ) (link : L) → is_linked old n ≡ true → is_linked (table.insert old number link) n ≡ true
@@ -165,20 +146,3 @@ ticket-runs (Some j) t job h = go (same_ticket j.ticket t) h
 pub due-linked : {L : Type 0} (o : Options) (log : List Entry) (k : EventKind) (job : Job) (links : Numbered L) → IsRight o log → job_to_run o (past_of log) k ≡ Some job → HasLinks (past_of log) links → is_linked links job.number ≡ true
 due-linked o log (kind.End t) job links r runs has = job-linked o log t.session job links r (ticket-runs (running_job o (past_of log) t.session) t job runs) has
 due-linked o log k job links r runs has = cc
-
--- a hub that answers every question as before stands for the same log
-pub stands-same : (old new : Hub) (log : List Entry) → SameAnswers old new → Stands old log → Stands new log
-stands-same old new log same st =
-    record {
-      right = subst (λ (o : Options). IsRight o log) (sym same.head.options) st.right;
-      acted = subst (λ (o : Options). IsActed o log) (sym same.head.options) st.acted;
-      tables = record {
-        sessions = λ s. same.tables.sessions s ∙ st.tables.sessions s ∙ ap (λ (o : Options). session o (past_of log) s) (sym same.head.options);
-        live = same.tables.live ∙ st.tables.live;
-        jobs = λ s. same.tables.jobs s ∙ st.tables.jobs s ∙ ap (λ (o : Options). running_job o (past_of log) s) (sym same.head.options);
-        running = same.tables.running ∙ st.tables.running;
-        numbers = λ n. same.tables.numbers n ∙ st.tables.numbers n;
-        holders = λ a p. same.tables.holders a p ∙ st.tables.holders a p ∙ ap (λ (o : Options). holder o (past_of log) (V4 a) p) (sym same.head.options);
-      };
-      counted = same.head.count ∙ st.counted ∙ ap (λ n. n + length log) (sym same.head.start);
-    }

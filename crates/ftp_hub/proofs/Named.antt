@@ -1,14 +1,13 @@
 -- The tables after an entry that names a session.
 use Rattle.std.proofs.Math.Bool.{and_comm}
-use Rattle.std.proofs.Common.{◌≡◌, refl, sym, ap, ◌∙◌, subst, ℕ, ◌-◌, ◌^◌, ◌<◌, Bool, true, false, cond, ◌&&◌, List, ◌∷◌, Option, Some, None, arith, eq-eqb, eqb-true}
+use Rattle.std.proofs.Common.{◌≡◌, refl, sym, ap, ◌∙◌, ℕ, ◌-◌, ◌^◌, ◌<◌, Bool, true, false, cond, ◌&&◌, List, ◌∷◌, Option, Some, None, arith, eq-eqb, eqb-true}
 use Rattle.std.proofs.lemmas.Option.{same_Some}
-use Rattle.std.specs.Prelude.{◌==◌, nat_eq, count_by}
+use Rattle.std.specs.Prelude.{◌==◌, nat_eq}
 use Rattle.std.specs.HashMap as map
 use Rattle.ftp_base.specs.declared.net.IpAddr.{IpAddr}
 use Rattle.ftp_base.specs.declared.net.IpAddr.TheVariants.{V4}
 use Rattle.ftp_base.specs.Net.{ipv4, same_ip}
 use Rattle.ftp_options.specs.declared.options.Options.{Options}
-use Rattle.ftp_transfer.specs.declared.job.Job.{Job}
 use Rattle.ftp_switchboard.specs.Board.{holder_at, is_key, still_holder}
 use Rattle.ftp_numbers.specs.Used.{has}
 use Rattle.ftp_events.specs.declared.action.Action.{Action}
@@ -20,74 +19,39 @@ use Rattle.ftp_events.specs.declared.event.EventKind.{EventKind}
 use Rattle.ftp_events.specs.declared.event.EventKind.TheVariants as kind
 use Rattle.ftp_events.specs.declared.event.HubEvent.{HubEvent}
 use Rattle.ftp_events.specs.declared.session.Session.{Session}
-use Rattle.ftp_events.specs.declared.session.Slot.{Slot}
-use Rattle.ftp_events.specs.declared.session.Slot.TheVariants.{Empty, Waits, Linked}
 use Rattle.ftp_events.specs.Words.{is_number}
 use Rattle.ftp_events.specs.Log.{past_of, is_refusal, new_number, named_session}
 use Rattle.ftp_events.specs.Opening.{opened_number}
-use Rattle.ftp_events.specs.Board.{target, granted_port, gives_up_hold, holder}
+use Rattle.ftp_events.specs.Board.{granted_port, gives_up_hold, holder}
 use Rattle.ftp_events.specs.History.{history}
-use Rattle.ftp_events.specs.Notices.{is_notice_to, notice_count}
+use Rattle.ftp_events.specs.Notices.{notice_count}
 use Rattle.ftp_events.specs.Place.{ticket_count}
 use Rattle.ftp_events.specs.Running.{running_after}
 use Rattle.ftp_events.specs.Slot.{waiting_port}
-use Rattle.ftp_events.specs.Session.{session, running_job, lives_on, session_after, next_lane, live_after}
+use Rattle.ftp_events.specs.Session.{session, lives_on, session_after, next_lane, live_after}
 use Rattle.ftp_events.specs.Decide.{decide}
-use Rattle.ftp_events.specs.Acts.{session_acts, acts_of, acts}
-use Rattle.ftp_laws.proofs.Laws.{counting-counts, session_by, session-told}
-use Rattle.ftp_laws.proofs.Holds.{WaitsFor, holder-waits, same_ip-equal, port_of}
-use Rattle.ftp_laws.proofs.Tables.{IsAbout, IsNamed, session-about, running-about, holder-named, holder-granted, eq-comm}
+use Rattle.ftp_events.specs.Acts.{session_acts}
+use Rattle.ftp_laws.proofs.Laws.{session-told}
+use Rattle.ftp_laws.proofs.Holds.{WaitsFor, holder-waits, same_ip-equal}
+use Rattle.ftp_laws.proofs.Waits.{named-target}
+use Rattle.ftp_laws.proofs.Tables.{IsNamed, holder-named, holder-granted, and-zero, eq-comm, same-both}
 use Rattle.ftp_hub.specs.declared.hub.Hub.{Hub}
 use Rattle.ftp_hub.specs.Handlers.{IsFew, held_after, notices_of}
-use Rattle.ftp_hub.specs.Stands.{Tables, Stands, Serves, entry}
-use Rattle.ftp_hub.proofs.Counts.{count-session_acts, notices-few, tickets-few}
+use Rattle.ftp_hub.specs.Stands.{Stands, Serves, entry}
+use Rattle.ftp_hub.proofs.Counts.{notices-few, tickets-few}
+use Rattle.ftp_hub.proofs.About.{serves-about}
 use Rattle.ftp_hub.proofs.Clients.{pooled-shared, client-v4}
 
--- what an event is that names session s
-pub record Names (o : Options) (event : HubEvent) (answer : Answer) (d : Decision) (s : ℕ) : Type 0 where
-  pub named : named_session event.kind ≡ Some s
-  pub counts : is_refusal d ≡ false
-  pub unopened : opened_number event.kind d ≡ None
-  pub no_target : target o event.kind answer ≡ None
-  pub no_number : new_number event.kind d ≡ None
-
+-- an event that names a session brings no number
 no-number : (k : EventKind) (d : Decision) (s : ℕ) → named_session k ≡ Some s → new_number k d ≡ None
 no-number (kind.Connect s raw local trace) d q h = cc
 no-number (kind.DataIn n raw port) d q h = cc
-no-number (kind.User s name) d q h = refl
-no-number (kind.Pass s) d q h = refl
-no-number (kind.AuthDone s said) d q h = refl
-no-number (kind.Pasv s word lookup bound) d q h = refl
-no-number (kind.Transfer s c) d q h = refl
-no-number (kind.Stou s word) d q h = refl
-no-number (kind.End t) d q h = refl
-no-number (kind.Rest s offset) d q h = refl
-no-number (kind.Cwd s path refusal) d q h = refl
-no-number (kind.Closed s) d q h = refl
+no-number k d q h = refl
 
+-- so it opens no session
 no-opening : (k : EventKind) (d : Decision) (s : ℕ) → named_session k ≡ Some s → opened_number k d ≡ None
 no-opening k decision.Opened s h = no-number k decision.Opened s h
 no-opening k _ s h = refl
-
-no-target : (o : Options) (k : EventKind) (answer : Answer) (s : ℕ) → named_session k ≡ Some s → target o k answer ≡ None
-no-target o (kind.DataIn n raw port) answer s h = cc
-no-target o _ answer s h = refl
-
--- the events that name a session open none, bring no number and come to no port
-pub names-by : (o : Options) (event : HubEvent) (answer : Answer) (d : Decision) (s : ℕ) → named_session event.kind ≡ Some s → is_refusal d ≡ false → Names o event answer d s
-names-by o event answer d s named counts =
-    record {
-      named = named;
-      counts = counts;
-      unopened = no-opening event.kind d s named;
-      no_target = no-target o event.kind answer s named;
-      no_number = no-number event.kind d s named;
-    }
-
-pub waiting-same : (slot : Slot) → port_of slot ≡ waiting_port slot
-waiting-same Empty = refl
-waiting-same (Waits port) = refl
-waiting-same (Linked number) = refl
 
 -- whoever holds a port waits for it: so a session gives up its waiting port exactly where it gives up all that it holds
 still-waiting : (hub : Hub) (log : List Entry) (s : ℕ) (v : Session) (a p : ℕ) → Stands hub log → session hub.options (past_of log) s ≡ Some v → still_holder (ipv4 v.opening.client) (waiting_port v.slot) s a p (holder hub.options (past_of log) (V4 a) p) ≡ cond (is_number (holder hub.options (past_of log) (V4 a) p) s) None (holder hub.options (past_of log) (V4 a) p)
@@ -98,15 +62,11 @@ still-waiting hub log s v a p st known = go (holder hub.options (past_of log) (V
         let w : WaitsFor hub.options (past_of log) s (V4 a) p = holder-waits hub.options log (pooled-shared _ hub.pooled) st.right (V4 a) p s (held ∙ ap Some (eqb-true h s same)) in
         let view : w.view ≡ v = same_Some _ _ (sym w.known ∙ known) in
         let client : v.opening.client ≡ V4 a = ap (λ (x : Session). x.opening.client) (sym view) ∙ same_ip-equal _ _ w.client in
-        (ap ipv4 (sym client), sym (waiting-same v.slot) ∙ ap (λ (x : Session). port_of x.slot) (sym view) ∙ w.port)
+        (ap ipv4 (sym client), ap (λ (x : Session). waiting_port x.slot) (sym view) ∙ w.port)
 
     go : (h : Option ℕ) → holder hub.options (past_of log) (V4 a) p ≡ h → (waited : Option ℕ) → waiting_port v.slot ≡ waited → still_holder (ipv4 v.opening.client) waited s a p h ≡ cond (is_number h s) None h
     go None held None e = refl
-    go None held (Some q) e = and-none (is_key a p (ipv4 v.opening.client) q)
-      where
-        and-none : (b : Bool) → cond {A = Option ℕ} (b && false) None None ≡ None
-        and-none true = refl
-        and-none false = refl
+    go None held (Some q) e = same-both (is_key a p (ipv4 v.opening.client) q && false) None
     go (Some h) held None e = own (h == s) refl
       where
         own : (b : Bool) → (h == s) ≡ b → Some h ≡ cond b None (Some h)
@@ -121,14 +81,10 @@ still-waiting hub log s v a p st known = go (holder hub.options (past_of log) (V
             let w = waits h held same in
             let port : p ≡ q = same_Some _ _ (sym w.1 ∙ e) in
             rw (eq-eqb a (ipv4 v.opening.client) w.0, eq-eqb p q port) refl
-        own false same = and-same (is_key a p (ipv4 v.opening.client) q)
-          where
-            and-same : (b : Bool) → cond (b && false) None (Some h) ≡ Some h
-            and-same true = refl
-            and-same false = refl
+        own false same = ap (λ b. cond b None (Some h)) (and-zero (is_key a p (ipv4 v.opening.client) q))
 
 -- who holds a port after an entry that names session s
-holders-named : (hub : Hub) (log : List Entry) (event : HubEvent) (answer : Answer) (d : Decision) (done : List Action) (s : ℕ) (v : Session) (a p : ℕ) → Stands hub log → Names hub.options event answer d s → session hub.options (past_of log) s ≡ Some v → holder hub.options (entry event answer d done ∷ past_of log) (V4 a) p ≡ held_after d s (ipv4 v.opening.client) (waiting_port v.slot) a p (holder hub.options (past_of log) (V4 a) p)
+holders-named : (hub : Hub) (log : List Entry) (event : HubEvent) (answer : Answer) (d : Decision) (done : List Action) (s : ℕ) (v : Session) (a p : ℕ) → Stands hub log → named_session event.kind ≡ Some s → session hub.options (past_of log) s ≡ Some v → holder hub.options (entry event answer d done ∷ past_of log) (V4 a) p ≡ held_after d s (ipv4 v.opening.client) (waiting_port v.slot) a p (holder hub.options (past_of log) (V4 a) p)
 holders-named hub log event answer d done s v a p st n known = go d refl
   where
     o : Options
@@ -141,7 +97,7 @@ holders-named hub log event answer d done s v a p st n known = go d refl
     e = entry event answer d done
 
     named : IsNamed o e s
-    named = record { named = n.named; no_target = n.no_target }
+    named = record { named = n; no_target = named-target o event.kind answer s n }
 
     still : still_holder (ipv4 v.opening.client) (waiting_port v.slot) s a p (holder o past (V4 a) p) ≡ cond (is_number (holder o past (V4 a) p) s) None (holder o past (V4 a) p)
     still = still-waiting hub log s v a p st known
@@ -165,28 +121,7 @@ holders-named hub log event answer d done s v a p st n known = go d refl
         ∙ ap (λ b. cond b (Some s) (cond (is_number (holder o past (V4 a) p) s) None (holder o past (V4 a) p))) (key-same port)
         ∙ ap (λ (x : Option ℕ). cond (is_key a p (ipv4 v.opening.client) port) (Some s) x) (sym still)
     go decision.Closed is = plain decision.Closed is refl ∙ sym still
-    go decision.UnknownNumber is = plain decision.UnknownNumber is refl
-    go decision.UsedNumber is = plain decision.UsedNumber is refl
-    go decision.Misplaced is = plain decision.Misplaced is refl
-    go decision.NotExpected is = plain decision.NotExpected is refl
-    go decision.Opened is = plain decision.Opened is refl
-    go decision.Turned is = plain decision.Turned is refl
-    go (decision.Attached q) is = plain (decision.Attached q) is refl
-    go decision.BadSequence is = plain decision.BadSequence is refl
-    go decision.NeedPass is = plain decision.NeedPass is refl
-    go decision.PassOut is = plain decision.PassOut is refl
-    go decision.Reauth is = plain decision.Reauth is refl
-    go decision.LoggedIn is = plain decision.LoggedIn is refl
-    go (decision.LoginFailed lock delay) is = plain (decision.LoginFailed lock delay) is refl
-    go decision.NotLoggedIn is = plain decision.NotLoggedIn is refl
-    go decision.Full is = plain decision.Full is refl
-    go decision.NoSlot is = plain decision.NoSlot is refl
-    go (decision.Queued t) is = plain (decision.Queued t) is refl
-    go decision.Finished is = plain decision.Finished is refl
-    go decision.NoRestart is = plain decision.NoRestart is refl
-    go decision.RestOk is = plain decision.RestOk is refl
-    go (decision.CwdRefused kind) is = plain (decision.CwdRefused kind) is refl
-    go decision.CwdOk is = plain decision.CwdOk is refl
+    go x is = plain x is refl
 
 -- a session has so few notices and transfers that one more of each can be counted
 pub few-counts : (hub : Hub) (log : List Entry) (s : ℕ) (v : Session) → Stands hub log → hub.count < 2 ^ 64 - 1 → session hub.options (past_of log) s ≡ Some v → IsFew v
@@ -201,7 +136,7 @@ few-counts hub log s v st below known =
 -- the tables after an entry that names session s, and is about it alone
 pub serves-named :
     (old new : Hub) (log : List Entry) (event : HubEvent) (answer : Answer) (d : Decision) (done : List Action) (s : ℕ) (v after : Session) →
-    Stands old log → Names old.options event answer d s → session old.options (past_of log) s ≡ Some v →
+    Stands old log → named_session event.kind ≡ Some s → is_refusal d ≡ false → session old.options (past_of log) s ≡ Some v →
     d ≡ decide old.options log event answer →
     done ≡ session_acts old.options s event.kind answer d (map.get nat_eq old.jobs s) (Some v) →
     new.options ≡ old.options →
@@ -213,60 +148,10 @@ pub serves-named :
     ((q : ℕ) → has new.numbers q ≡ has old.numbers q) →
     ((a p : ℕ) → holder_at new.board a p ≡ held_after d s (ipv4 v.opening.client) (waiting_port v.slot) a p (holder_at old.board a p)) →
     Serves old new log event answer d done
-unfolding acts
-serves-named old new log event answer d done s v after st n known right acted same after_is table len jobs running numbers board =
-    record {
-      decision = right;
-      done = done_are ∙ sym due_acts;
-      tables = subst (Tables new) (sym grown) (record {
-        sessions = λ q.
-            table q
-            ∙ ap (λ (x : Session). cond (s == q) (cond (lives_on d) (Some x) None) (map.get nat_eq old.sessions q)) (after_is ∙ counted)
-            ∙ ap (λ (x : Option Session). cond (s == q) (cond (lives_on d) (Some (session_by s e job v)) None) x) (st.tables.sessions q)
-            ∙ sym (session-about o past e s v q about known)
-            ∙ ap (λ (o : Options). session o (e ∷ past) q) (sym same);
-        live = len ∙ ap (live_after d) st.tables.live;
-        jobs = λ q.
-            jobs q
-            ∙ ap (λ (x : Option Job). cond (s == q) (next_lane event.kind d x v).running (map.get nat_eq old.jobs q)) (st.tables.jobs s)
-            ∙ ap (λ (x : Option Job). cond (s == q) (next_lane event.kind d job v).running x) (st.tables.jobs q)
-            ∙ sym (running-about o past e s v q about known)
-            ∙ ap (λ (o : Options). running_job o (e ∷ past) q) (sym same);
-        running = running ∙ ap (running_after done) st.tables.running;
-        numbers = λ q. rw n.no_number (numbers q ∙ st.tables.numbers q);
-        holders = λ a p.
-            board a p
-            ∙ ap (held_after d s (ipv4 v.opening.client) (waiting_port v.slot) a p) (st.tables.holders a p)
-            ∙ sym (holders-named old log event answer d done s v a p st n known)
-            ∙ ap (λ (o : Options). holder o (e ∷ past) (V4 a) p) (sym same);
-      });
-    }
-  where
-    o : Options
-    o = old.options
-
-    past : List Entry
-    past = past_of log
-
-    job : Option Job
-    job = running_job o past s
-
-    e : Entry
-    e = entry event answer d done
-
-    grown : past_of (e ∷ log) ≡ e ∷ past
-    grown = counting-counts e log n.counts
-
-    about : IsAbout o past e s
-    about = record { subject_is = rw n.named refl; unopened = n.unopened }
-
-    done_are : done ≡ session_acts o s event.kind answer d job (Some v)
-    done_are = acted ∙ ap (λ (x : Option Job). session_acts o s event.kind answer d x (Some v)) (st.tables.jobs s)
-
-    counted : session_after event.kind answer d (notices_of d answer) (map.get nat_eq old.jobs s) v ≡ session_by s e job v
-    counted =
-        ap (λ (x : Option Job). session_after event.kind answer d (notices_of d answer) x v) (st.tables.jobs s)
-        ∙ ap (λ c. session_after event.kind answer d c job v) (sym (ap (count_by (is_notice_to s)) done_are ∙ count-session_acts o s event.kind answer d job v))
-
-    due_acts : acts_of o past e ≡ session_acts o s event.kind answer d job (Some v)
-    due_acts = rw (n.counts, n.named, known) refl
+serves-named old new log event answer d done s v after st named counts known right acted same after_is table len jobs running numbers board =
+    serves-about old new log event answer d done s v after st counts (record { subject_is = rw named refl; unopened = no-opening event.kind d s named }) known right acted same after_is
+    table len jobs running (λ q. rw (no-number event.kind d s named) (numbers q ∙ st.tables.numbers q))
+    (λ a p.
+    board a p
+    ∙ ap (held_after d s (ipv4 v.opening.client) (waiting_port v.slot) a p) (st.tables.holders a p)
+    ∙ sym (holders-named old log event answer d done s v a p st named known))

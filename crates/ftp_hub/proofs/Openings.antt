@@ -1,5 +1,5 @@
 -- The tables after a control connection that opens a session.
-use Rattle.std.proofs.Common.{◌≡◌, refl, sym, ap, ◌∙◌, subst, ℕ, ◌+◌, Bool, true, false, cond, ◌||◌, List, [], ◌∷◌, Option, Some, None, arith, eq-eqb, eqb-true}
+use Rattle.std.proofs.Common.{◌≡◌, refl, sym, ap, ◌∙◌, subst, ℕ, ◌+◌, Bool, true, false, cond, ◌||◌, List, [], ◌∷◌, Some, None, eq-eqb, eqb-true}
 use Rattle.std.specs.Prelude.{◌==◌, nat_eq}
 use Rattle.std.specs.HashMap as map
 use Rattle.ftp_base.specs.declared.net.IpAddr.TheVariants.{V4}
@@ -15,32 +15,25 @@ use Rattle.ftp_events.specs.declared.event.Answer.{Answer}
 use Rattle.ftp_events.specs.declared.event.EventKind.TheVariants as kind
 use Rattle.ftp_events.specs.declared.event.HubEvent.{HubEvent}
 use Rattle.ftp_events.specs.declared.session.Opening.{Opening}
-use Rattle.ftp_events.specs.declared.session.Session.{Session}
 use Rattle.ftp_events.specs.Log.{past_of, is_used}
 use Rattle.ftp_events.specs.Board.{holder}
 use Rattle.ftp_events.specs.History.{history}
-use Rattle.ftp_events.specs.Running.{running_after, running_count}
+use Rattle.ftp_events.specs.Running.{running_count}
 use Rattle.ftp_events.specs.Slot.{lane}
-use Rattle.ftp_events.specs.Session.{session, running_job, new_session}
+use Rattle.ftp_events.specs.Session.{session, running_job, is_live, new_session}
 use Rattle.ftp_events.specs.Decide.{decide}
 use Rattle.ftp_events.specs.Acts.{acts}
 use Rattle.ftp_laws.proofs.Laws.{counting-counts, running-other, session-other, session-opened}
-use Rattle.ftp_laws.proofs.Holds.{live-used}
-use Rattle.ftp_laws.proofs.Tables.{holder-other}
+use Rattle.ftp_laws.proofs.Tables.{holder-other, same-both}
+use Rattle.ftp_laws.proofs.Told.{unused-opener}
 use Rattle.ftp_hub.specs.declared.hub.Hub.{Hub}
 use Rattle.ftp_hub.specs.Handlers.{Jobs}
 use Rattle.ftp_hub.specs.Stands.{Tables, Stands, Serves, entry}
-use Rattle.ftp_hub.proofs.Running.{unused-idle}
+use Rattle.ftp_hub.proofs.Running.{running-none, unused-idle}
 
 -- an unused number is that of no session
 pub unused-none : (o : Options) (past : List Entry) (s : ℕ) → is_used past s ≡ false → session o past s ≡ None
-unused-none o past s unused = go (session o past s) refl
-  where
-    go : (v : Option Session) → session o past s ≡ v → v ≡ None
-    go None known = refl
-    go (Some v) known =
-        let clash : true ≡ false = sym (live-used o past s v known) ∙ unused in
-        cc
+unused-none o past s unused = rw (unused-opener past s unused) (same-both (is_live (history o past s)) None)
 
 -- the tables after a control connection opened session s
 pub serves-opened : (old new : Hub) (log : List Entry) (event : HubEvent) (answer : Answer) (s trace : ℕ) (raw local : SocketAddr) (done : List Action) → Stands old log → event.kind ≡ kind.Connect s raw local trace → (is_v6 raw.ip || is_v6 local.ip) ≡ false → is_used (past_of log) s ≡ false → done ≡ [] → new.options ≡ old.options → ((q : ℕ) → map.get nat_eq new.sessions q ≡ cond (s == q) (Some (new_session (record { raw = raw; local = local; client = raw.ip; trace = trace }))) (map.get nat_eq old.sessions q)) → (map.hash_map_len new.sessions ≡ map.hash_map_len old.sessions + 1) → new.jobs ≡ old.jobs → ((q : ℕ) → has new.numbers q ≡ ((s == q) || has old.numbers q)) → ((a p : ℕ) → holder_at new.board a p ≡ holder_at old.board a p) → Serves old new log event answer decision.Opened done
@@ -53,7 +46,7 @@ serves-opened old new log event answer s trace raw local done st k v4 unused not
         sessions = λ q. table q ∙ by_number q (s == q) refl ∙ ap (λ (o : Options). session o (e ∷ past) q) (sym same);
         live = len ∙ ap (λ n. n + 1) st.tables.live;
         jobs = λ q. ap (λ (m : Jobs). map.get nat_eq m q) jobs ∙ no_job q (s == q) refl ∙ ap (λ (o : Options). running_job o (e ∷ past) q) (sym same);
-        running = ap map.hash_map_len jobs ∙ st.tables.running ∙ sym (ap (λ xs. running_after xs (running_count past)) nothing ∙ none_ran (running_count past));
+        running = ap map.hash_map_len jobs ∙ st.tables.running ∙ sym (running-none done (running_count past) nothing);
         numbers = λ q. rw k (numbers q ∙ ap (λ b. (s == q) || b) (st.tables.numbers q));
         holders = λ a p. board a p ∙ st.tables.holders a p ∙ sym (holder-other old.options past e (V4 a) p (rw k refl) (rw k refl) refl) ∙ ap (λ (o : Options). holder o (e ∷ past) (V4 a) p) (sym same);
       });
@@ -74,9 +67,6 @@ serves-opened old new log event answer s trace raw local done st k v4 unused not
     by_number : (q : ℕ) (b : Bool) → (s == q) ≡ b → cond b (Some (new_session opening)) (map.get nat_eq old.sessions q) ≡ session old.options (e ∷ past) q
     by_number q true h = subst (λ n. Some (new_session opening) ≡ session old.options (e ∷ past) n) (eqb-true s q h) (sym (session-opened old.options past e s opening (rw k refl) refl (rw k refl) nothing))
     by_number q false h = st.tables.sessions q ∙ sym (session-other old.options past e q (rw k h) (rw k refl))
-
-    none_ran : (n : ℕ) → running_after [] n ≡ n
-    none_ran n = omega arith
 
     -- no job runs for a session that is opened now
     no_job : (q : ℕ) (b : Bool) → (s == q) ≡ b → map.get nat_eq old.jobs q ≡ running_job old.options (e ∷ past) q

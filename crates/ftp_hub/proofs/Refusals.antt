@@ -1,11 +1,7 @@
 -- Refused events, and tables that give the same answers.
-use Rattle.std.proofs.Common.{◌≡◌, sym, ap, ◌∙◌, subst, ℕ, true, List, []}
-use Rattle.std.specs.Prelude.{nat_eq}
-use Rattle.std.specs.HashMap as map
+use Rattle.std.proofs.Common.{◌≡◌, sym, ap, ◌∙◌, subst, ◌+◌, true, List, [], length}
 use Rattle.ftp_base.specs.declared.net.IpAddr.TheVariants.{V4}
 use Rattle.ftp_options.specs.declared.options.Options.{Options}
-use Rattle.ftp_switchboard.specs.Board.{holder_at}
-use Rattle.ftp_numbers.specs.Used.{has}
 use Rattle.ftp_events.specs.declared.action.Action.{Action}
 use Rattle.ftp_events.specs.declared.decision.Decision.{Decision}
 use Rattle.ftp_events.specs.declared.entry.Entry.{Entry}
@@ -16,10 +12,10 @@ use Rattle.ftp_events.specs.Board.{holder}
 use Rattle.ftp_events.specs.Session.{session, running_job}
 use Rattle.ftp_events.specs.Decide.{decide}
 use Rattle.ftp_events.specs.Acts.{acts}
+use Rattle.ftp_events.specs.Right.{IsRight, IsActed}
 use Rattle.ftp_laws.proofs.Laws.{counting-refused}
 use Rattle.ftp_hub.specs.declared.hub.Hub.{Hub}
-use Rattle.ftp_hub.specs.Handlers.{Jobs}
-use Rattle.ftp_hub.specs.Stands.{Tables, Stands, Serves, SameTables, entry}
+use Rattle.ftp_hub.specs.Stands.{Tables, Stands, Serves, SameTables, SameAnswers, entry}
 
 -- a refused event changes nothing
 pub serves-refusal : (old new : Hub) (log : List Entry) (event : HubEvent) (answer : Answer) (d : Decision) (done : List Action) → Stands old log → d ≡ decide old.options log event answer → is_refusal d ≡ true → done ≡ [] → Tables new (past_of log) → Serves old new log event answer d done
@@ -49,14 +45,24 @@ same-refused old new log event answer d done same st served refused =
       holders = λ a p. after.holders a p ∙ ap (λ o. holder o (past_of log) (V4 a) p) same ∙ sym (before.holders a p);
     }
 
--- the tables answer the same questions with the same answers
-pub tables-same : (old new : Hub) (past : List Entry) → new.options ≡ old.options → ((q : ℕ) → map.get nat_eq new.sessions q ≡ map.get nat_eq old.sessions q) → map.hash_map_len new.sessions ≡ map.hash_map_len old.sessions → new.jobs ≡ old.jobs → ((q : ℕ) → has new.numbers q ≡ has old.numbers q) → ((a p : ℕ) → holder_at new.board a p ≡ holder_at old.board a p) → Tables old past → Tables new past
-tables-same old new past same sessions len jobs numbers board tables =
+-- tables that answer every question as before answer as the same past
+pub tables-same : (old new : Hub) (past : List Entry) → new.options ≡ old.options → SameTables old new → Tables old past → Tables new past
+tables-same old new past options same tables =
     record {
-      sessions = λ q. sessions q ∙ tables.sessions q ∙ ap (λ (o : Options). session o past q) (sym same);
-      live = len ∙ tables.live;
-      jobs = λ q. ap (λ (m : Jobs). map.get nat_eq m q) jobs ∙ tables.jobs q ∙ ap (λ (o : Options). running_job o past q) (sym same);
-      running = ap map.hash_map_len jobs ∙ tables.running;
-      numbers = λ q. numbers q ∙ tables.numbers q;
-      holders = λ a p. board a p ∙ tables.holders a p ∙ ap (λ (o : Options). holder o past (V4 a) p) (sym same);
+      sessions = λ s. same.sessions s ∙ tables.sessions s ∙ ap (λ (o : Options). session o past s) (sym options);
+      live = same.live ∙ tables.live;
+      jobs = λ s. same.jobs s ∙ tables.jobs s ∙ ap (λ (o : Options). running_job o past s) (sym options);
+      running = same.running ∙ tables.running;
+      numbers = λ n. same.numbers n ∙ tables.numbers n;
+      holders = λ a p. same.holders a p ∙ tables.holders a p ∙ ap (λ (o : Options). holder o past (V4 a) p) (sym options);
+    }
+
+-- a hub that answers every question as before stands for the same log
+pub stands-same : (old new : Hub) (log : List Entry) → SameAnswers old new → Stands old log → Stands new log
+stands-same old new log same st =
+    record {
+      right = subst (λ (o : Options). IsRight o log) (sym same.head.options) st.right;
+      acted = subst (λ (o : Options). IsActed o log) (sym same.head.options) st.acted;
+      tables = tables-same old new (past_of log) same.head.options same.tables st.tables;
+      counted = same.head.count ∙ st.counted ∙ ap (λ n. n + length log) (sym same.head.start);
     }

@@ -19,7 +19,6 @@ use Rattle.ftp_events.specs.LoginRows.{user_row, pass_row, answer_row, auth_row}
 use Rattle.ftp_events.specs.CommandRows.{is_logged_in, cwd_row}
 use Rattle.ftp_hub.specs.Handlers.{command_row, is_command}
 use Rattle.ftp_hub.proofs.Running.{IsIdle}
-use Rattle.ftp_hub.proofs.Decisions.{no-completion}
 
 -- a decision that neither opens nor ends the session, and with which no job starts or ends
 pub record GoesOn (d : Decision) : Type 0 where
@@ -47,7 +46,7 @@ plain-goes_on d h =
     record {
       lives = refl;
       as_many = λ n. refl;
-      idle = record { runs = λ k queued l. refl; starts = λ k queued l. refl; ends = λ k b. no-completion d k b refl };
+      idle = record { unfinished = refl; starts = λ k queued l. refl };
     }
 
 user-goes_on : (l : Login) → GoesOn (user_row l)

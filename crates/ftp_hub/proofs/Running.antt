@@ -1,12 +1,12 @@
 -- How the jobs that run change with an entry.
-use Rattle.std.proofs.Common.{◌≡◌, refl, sym, ap, ◌∙◌, ℕ, ◌+◌, ◌-◌, subst, Bool, true, false, cond, ◌||◌, List, [], ◌∷◌, ◌++◌, Option, Some, None, arith}
-use Rattle.std.specs.Prelude.{is_some, unwrap_or}
-use Rattle.std.specs.Option.{option_map_or, option_or}
-use Rattle.ftp_base.specs.declared.notice.Notice.{Notice}
-use Rattle.ftp_base.specs.declared.reply.Reply.{Reply}
-use Rattle.ftp_base.specs.declared.reply.Reply.TheVariants as reply
+use Rattle.std.proofs.Common.{◌≡◌, refl, sym, ap, ◌∙◌, ℕ, ◌+◌, ◌-◌, Bool, true, false, cond, List, [], ◌∷◌, Option, Some, None, arith}
+use Rattle.std.specs.Prelude.{◌==◌, count_by, is_some}
+use Rattle.std.specs.Option.{option_or}
+use Rattle.std.proofs.lemmas.Bool.{or_right}
+use Rattle.std.proofs.lemmas.List.Sums.{sum_by-cons}
 use Rattle.ftp_options.specs.declared.options.Options.{Options}
 use Rattle.ftp_transfer.specs.declared.job.Job.{Job}
+use Rattle.ftp_transfer.specs.declared.job.Ticket.{Ticket}
 use Rattle.ftp_events.specs.declared.action.Action.{Action}
 use Rattle.ftp_events.specs.declared.action.Action.TheVariants as action
 use Rattle.ftp_events.specs.declared.decision.Decision.{Decision}
@@ -20,149 +20,89 @@ use Rattle.ftp_events.specs.declared.session.Session.{Session}
 use Rattle.ftp_events.specs.declared.session.Slot.{Slot}
 use Rattle.ftp_events.specs.declared.session.Slot.TheVariants.{Empty, Waits, Linked}
 use Rattle.ftp_events.specs.Words.{is_number, total}
-use Rattle.ftp_events.specs.Log.{is_ending, is_refusal, is_used, new_number, past_of}
-use Rattle.ftp_events.specs.History.{history, concerns, opens}
-use Rattle.ftp_events.specs.Login.{login_by, logged_user}
-use Rattle.ftp_events.specs.Slot.{Lane, drops, startable, lane_of, lane_after, started_by, queued_in, lane}
+use Rattle.ftp_events.specs.Log.{is_used, new_number, past_of}
+use Rattle.ftp_events.specs.History.{history}
+use Rattle.ftp_events.specs.Slot.{Lane, with_link, startable, lane_of, lane_after, started_by, queued_in, lane}
 use Rattle.ftp_events.specs.Session.{session, running_job}
 use Rattle.ftp_events.specs.Right.{IsRight}
-use Rattle.ftp_laws.proofs.Laws.{counting-refused, counting-counts, history-own, running-other}
 use Rattle.ftp_laws.proofs.Holds.{live-used, opened-new}
+use Rattle.ftp_laws.proofs.Counts.{IsOnTransfers, count-drop_acts, count-session_acts}
 use Rattle.ftp_laws.proofs.Lanes.{ended-empty}
-use Rattle.ftp_events.specs.Reply.{message_for, reply_for, delay_of}
-use Rattle.ftp_events.specs.Acts.{completions, cancellations, closings, drop_acts, farewells, link_in, notice_and_reply, notice_for, notifications, presence_for, refused_link, reply_acts, session_acts, start_acts, starting, stays}
+use Rattle.ftp_events.specs.Acts.{completions, session_acts, start_acts, starting, stays}
 use Rattle.ftp_events.specs.Running.{ended, started, running_after}
+use Rattle.ftp_hub.proofs.Entries.{past-more, history-more}
 
--- what the actions of two lists tell together
-total-append : (f : Action → ℕ) (xs ys : List Action) → total f (xs ++ ys) ≡ total f xs + total f ys
-total-append f [] ys = omega arith
-total-append f (x ∷ xs) ys = omega (arith, total-append f xs ys)
+-- a count in which an action is one or nothing, and only what becomes of transfers is one, but no cancellation
+record TellsJobs (f : Action → ℕ) : Type 0 where
+  once : (x : Action) → cond (f x == 1) 1 0 ≡ f x
+  transfers : IsOnTransfers (λ x. f x == 1)
+  drops : (t : Ticket) → (f (action.Cancelled t) == 1) ≡ false
 
--- the actions among which nothing starts or ends
-record IsStill (xs : List Action) : Type 0 where
-  ended : total ended xs ≡ 0
-  started : total started xs ≡ 0
-
-still-append : (xs ys : List Action) → IsStill xs → IsStill ys → IsStill (xs ++ ys)
-still-append xs ys a b =
+-- the ends of jobs are counted so
+ended-tells : TellsJobs ended
+ended-tells =
     record {
-      ended = omega (arith, total-append ended xs ys, a.ended, b.ended);
-      started = omega (arith, total-append started xs ys, a.started, b.started);
+      once = ended-once;
+      transfers = record { closes = λ n. refl; notifies = λ s meta what. refl; replies = λ s delay r. refl };
+      drops = λ t. refl;
     }
+  where
+    ended-once : (x : Action) → cond (ended x == 1) 1 0 ≡ ended x
+    ended-once (action.Completed t delivered) = refl
+    ended-once _ = refl
 
-still-none : IsStill []
-still-none = record { ended = refl; started = refl }
+-- and so are their starts
+started-tells : TellsJobs started
+started-tells =
+    record {
+      once = started-once;
+      transfers = record { closes = λ n. refl; notifies = λ s meta what. refl; replies = λ s delay r. refl };
+      drops = λ t. refl;
+    }
+  where
+    started-once : (x : Action) → cond (started x == 1) 1 0 ≡ started x
+    started-once (action.Start t number) = refl
+    started-once _ = refl
 
-still-cancelled : (s : ℕ) (stays : Bool) (pending : Option Pending) → IsStill (cancellations s stays pending)
-still-cancelled s stays None = still-none
-still-cancelled s true (Some p) = record { ended = refl; started = refl }
-still-cancelled s false (Some p) = record { ended = refl; started = refl }
+-- the sum of such a count is how many actions are one
+total-counted : (f : Action → ℕ) → TellsJobs f → (xs : List Action) → total f xs ≡ count_by (λ x. f x == 1) xs
+total-counted f t [] = refl
+total-counted f t (x ∷ xs) = omega (arith, total-counted f t xs, t.once x, sum_by-cons (λ y. cond (f y == 1) 1 0) x xs)
 
-still-closings : (link : Option ℕ) → IsStill (closings link)
-still-closings None = still-none
-still-closings (Some n) = record { ended = refl; started = refl }
-
-still-dropped : (s : ℕ) (stays b : Bool) (slot : Slot) (pending : Option Pending) → IsStill (cond b (cancellations s stays pending ++ closings (link_in slot)) [])
-still-dropped s stays true slot pending = still-append (cancellations s stays pending) (closings (link_in slot)) (still-cancelled s stays pending) (still-closings (link_in slot))
-still-dropped s stays false slot pending = still-none
-
-still-refused : (n : Option ℕ) → IsStill (option_map_or (λ n. action.Close n ∷ []) n [])
-still-refused None = still-none
-still-refused (Some n) = record { ended = refl; started = refl }
-
-still-refused_link : (k : EventKind) (d : Decision) → IsStill (refused_link k d)
-still-refused_link k decision.Turned = still-refused (new_number k decision.Turned)
-still-refused_link k _ = still-none
-
-still-notified : (s : ℕ) (v : Session) (user : List ℕ) (what : Option Notice) → IsStill (notifications s v user what)
-still-notified s v user None = still-none
-still-notified s v user (Some what) = record { ended = refl; started = refl }
-
-still-replied : (s delay : ℕ) (r : Reply) → IsStill (reply_acts s delay r)
-still-replied s delay reply.None = still-none
-still-replied s delay (reply.CodeAndMsg c msg) = record { ended = refl; started = refl }
-
-still-farewell : (s : ℕ) (b : Bool) → IsStill (cond b (action.Close s ∷ []) [])
-still-farewell s true = record { ended = refl; started = refl }
-still-farewell s false = still-none
+-- of a session's actions only the completion and the start of a job count
+total-acts :
+    (f : Action → ℕ) (o : Options) (s : ℕ) (k : EventKind) (answer : Answer) (d : Decision) (job : Option Job) (v : Session) → TellsJobs f →
+    total f (session_acts o s k answer d job (Some v)) ≡ total f (completions k d (stays d (Some v))) + total f (start_acts (starting k d job v))
+total-acts f o s k answer d job v t =
+    omega (
+      arith,
+      total-counted f t (session_acts o s k answer d job (Some v)),
+      total-counted f t (completions k d (stays d (Some v))),
+      total-counted f t (start_acts (starting k d job v)),
+      count-session_acts (λ x. f x == 1) o s k answer d job (Some v) t.transfers,
+      count-drop_acts (λ x. f x == 1) s (stays d (Some v)) d v.slot v.pending t.transfers t.drops,
+    )
 
 -- a session's actions end the job that completes, and start the one that starts
 pub running-acts :
     (o : Options) (s : ℕ) (k : EventKind) (answer : Answer) (d : Decision) (job : Option Job) (v : Session) (n : ℕ) →
     running_after (session_acts o s k answer d job (Some v)) n ≡ n - total ended (completions k d (stays d (Some v))) + total started (start_acts (starting k d job v))
-running-acts o s k answer d job v n = omega (arith, ends, starts)
+running-acts o s k answer d job v n =
+    omega (
+      arith,
+      total-acts ended o s k answer d job v ended-tells,
+      total-acts started o s k answer d job v started-tells,
+      none_ends (starting k d job v),
+      none_starts k d (stays d (Some v)),
+    )
   where
-    a : List Action
-    a = completions k d (stays d (Some v))
-
-    dropped : List Action
-    dropped = drop_acts s (stays d (Some v)) d v.slot v.pending
-
-    refused : List Action
-    refused = refused_link k d
-
-    told : List Action
-    told = notice_and_reply o s k answer d job v
-
-    begins : List Action
-    begins = start_acts (starting k d job v)
-
-    last : List Action
-    last = farewells s d
-
-    still_told : IsStill told
-    still_told =
-        still-append (notifications s v (logged_user (unwrap_or (login_by d) v.login) v.name) (notice_for (message_for v job k answer d) (presence_for d))) (reply_acts s (delay_of d) (reply_for o v (message_for v job k answer d) k d))
-        (still-notified s v _ (notice_for (message_for v job k answer d) (presence_for d))) (still-replied s (delay_of d) (reply_for o v (message_for v job k answer d) k d))
-
-    still_dropped : IsStill dropped
-    still_dropped = still-dropped s (stays d (Some v)) (drops d v.slot) v.slot v.pending
-
-    still_last : IsStill last
-    still_last = still-farewell s (is_ending d)
-
-    still_refused : IsStill refused
-    still_refused = still-refused_link k d
-
     none_ends : (job : Option Job) → total ended (start_acts job) ≡ 0
     none_ends None = refl
     none_ends (Some job) = refl
 
     none_starts : (k : EventKind) (d : Decision) (b : Bool) → total started (completions k d b) ≡ 0
     none_starts (kind.End t) decision.Finished b = refl
-    none_starts (kind.End t) _ b = refl
     none_starts k d b = refl
-
-    sum : (f : Action → ℕ) → total f (session_acts o s k answer d job (Some v)) ≡ total f a + total f dropped + total f refused + total f told + total f begins + total f last
-    sum f =
-        total-append f (a ++ dropped ++ refused ++ told ++ begins) last
-        ∙ ap (λ n. n + total f last) (
-        total-append f (a ++ dropped ++ refused ++ told) begins
-        ∙ ap (λ n. n + total f begins) (
-        total-append f (a ++ dropped ++ refused) told
-        ∙ ap (λ n. n + total f told) (
-        total-append f (a ++ dropped) refused
-        ∙ ap (λ n. n + total f refused) (total-append f a dropped))))
-
-    ends : total ended (session_acts o s k answer d job (Some v)) ≡ total ended a
-    ends = omega (arith, sum ended, still_dropped.ended, still_refused.ended, still_told.ended, none_ends (starting k d job v), still_last.ended)
-
-    starts : total started (session_acts o s k answer d job (Some v)) ≡ total started begins
-    starts = omega (arith, sum started, none_starts k d (stays d (Some v)), still_dropped.started, still_refused.started, still_told.started, still_last.started)
-
--- a decision with which no job ends or starts
-pub record IsIdle (d : Decision) : Type 0 where
-  pub runs : (k : EventKind) (queued : Option Pending) (l : Lane) → (lane_after k d queued l).running ≡ l.running
-  pub starts : (k : EventKind) (queued : Option Pending) (l : Lane) → started_by k d queued l ≡ None
-  pub ends : (k : EventKind) (b : Bool) → completions k d b ≡ []
-
--- so as many run as before
-pub running-idle :
-    (o : Options) (s : ℕ) (k : EventKind) (answer : Answer) (d : Decision) (job : Option Job) (v : Session) (n : ℕ) → IsIdle d →
-    running_after (session_acts o s k answer d job (Some v)) n ≡ n
-running-idle o s k answer d job v n idle =
-    let none : start_acts (starting k d job v) ≡ [] = ap start_acts (idle.starts k _ _) in
-    omega (arith, running-acts o s k answer d job v n, ap (total ended) (idle.ends k (stays d (Some v))), ap (total started) none)
 
 -- the job of a slot from which one can start is the one that starts, or that ran
 pub runs-started : (slot : Slot) (pending : Option Pending) (job : Option Job) → (lane_of slot pending job).running ≡ option_or (startable slot pending job) job
@@ -171,6 +111,41 @@ runs-started (Waits port) pending job = refl
 runs-started (Linked number) None job = refl
 runs-started (Linked number) (Some p) None = refl
 runs-started (Linked number) (Some p) (Some job) = refl
+
+-- the decision on a transfer that has ended
+abbrev pub is_finish : Decision → Bool
+is_finish decision.Finished = true
+is_finish _ = false
+
+-- the job after any other decision is the one that starts, or that ran
+pub running-after : (k : EventKind) (d : Decision) (queued : Option Pending) (l : Lane) → is_finish d ≡ false → (lane_after k d queued l).running ≡ option_or (started_by k d queued l) l.running
+running-after k (decision.Attached s) queued l u = runs-started (with_link l.slot (new_number k (decision.Attached s))) l.pending l.running
+running-after k (decision.Queued t) queued l u = runs-started l.slot queued l.running
+running-after k decision.Finished queued l u = cc
+running-after k d queued l u = refl
+
+-- nor does any other complete a job
+pub no-completion : (d : Decision) (k : EventKind) (b : Bool) → is_finish d ≡ false → completions k d b ≡ []
+no-completion decision.Finished k b u = cc
+no-completion d (kind.End t) b u = refl
+no-completion d k b u = refl
+
+-- a decision with which no job ends or starts
+pub record IsIdle (d : Decision) : Type 0 where
+  pub unfinished : is_finish d ≡ false
+  pub starts : (k : EventKind) (queued : Option Pending) (l : Lane) → started_by k d queued l ≡ None
+
+-- so as many run as before
+pub running-idle :
+    (o : Options) (s : ℕ) (k : EventKind) (answer : Answer) (d : Decision) (job : Option Job) (v : Session) (n : ℕ) → IsIdle d →
+    running_after (session_acts o s k answer d job (Some v)) n ≡ n
+running-idle o s k answer d job v n idle =
+    let none : start_acts (starting k d job v) ≡ [] = ap start_acts (idle.starts k _ _) in
+    omega (arith, running-acts o s k answer d job v n, ap (total ended) (no-completion d k (stays d (Some v)) idle.unfinished), ap (total started) none)
+
+-- without an action as many run as before
+pub running-none : (xs : List Action) (n : ℕ) → xs ≡ [] → running_after xs n ≡ n
+running-none xs n none = ap (λ ys. running_after ys n) none ∙ omega arith
 
 -- one start is counted where one starts
 pub count-start : (job : Option Job) → total started (start_acts job) ≡ cond (is_some job) 1 0
@@ -184,41 +159,33 @@ runs-before k (decision.Queued t) queued l job bare h = rw bare at h
 runs-before k decision.Finished queued l job bare h =
     let clash : None ≡ Some job = rw bare at h in
     cc
-runs-before k (decision.Granted port) queued l job bare h = h
 runs-before k d queued l job bare h = h
 
--- a number stays used
-used-stays : (past : List Entry) (e : Entry) (n : ℕ) → is_used past n ≡ true → is_used (e ∷ past) n ≡ true
-used-stays past e n u = go (is_number (new_number e.event.kind e.decision) n)
-  where
-    go : (b : Bool) → (b || is_used past n) ≡ true
-    go true = refl
-    go false = u
-
 -- a session for which a job runs was opened once
-pub job-used : (o : Options) (log : List Entry) (s : ℕ) (job : Job) → IsRight o log → running_job o (past_of log) s ≡ Some job → is_used (past_of log) s ≡ true
+job-used : (o : Options) (log : List Entry) (s : ℕ) (job : Job) → IsRight o log → running_job o (past_of log) s ≡ Some job → is_used (past_of log) s ≡ true
 job-used o [] s job r h = cc
-job-used o (e ∷ log) s job r h = by_refusal (is_refusal e.decision) refl (λ j x. job-used o log s j r.0 x)
+job-used o (e ∷ log) s job r h =
+    past-more (λ p. running_job o p s ≡ Some job → is_used p s ≡ true) e log (λ x. job-used o log s job r.0 x)
+    (λ counts.
+    history-more (λ l. (lane l).running ≡ Some job → is_used (e ∷ past) s ≡ true) o past e s (λ n x. rw (opened-new e.event.kind e.decision s n) refl)
+    (λ about. own (session o past s) refl (λ x. job-used o log s job r.0 x))
+    (λ x. stays_used (job-used o log s job r.0 x)))
+    h
   where
     past : List Entry
     past = past_of log
 
-    by_session : (v : Option Session) → session o past s ≡ v → ((j : Job) → running_job o past s ≡ Some j → is_used past s ≡ true) → (lane (e ∷ history o past s)).running ≡ Some job → is_used (e ∷ past) s ≡ true
-    by_session (Some v) known ih h = used-stays past e s (live-used o past s v known)
-    by_session None known ih h =
-        used-stays past e s (ih job (runs-before e.event.kind e.decision (queued_in (history o past s) e) (lane (history o past s)) job (ended-empty o log s r.0 known).0 h))
+    stays_used : is_used past s ≡ true → is_used (e ∷ past) s ≡ true
+    stays_used u = or_right (is_number (new_number e.event.kind e.decision) s) (is_used past s) u
 
-    by_concern : (b c : Bool) → opens e s ≡ b → concerns o past e s ≡ c → ((j : Job) → running_job o past s ≡ Some j → is_used past s ≡ true) → running_job o (e ∷ past) s ≡ Some job → is_used (e ∷ past) s ≡ true
-    by_concern true c n x ih h = rw (opened-new e.event.kind e.decision s n) refl
-    by_concern false false n x ih h = used-stays past e s (ih job (sym (running-other o past e s n x) ∙ h))
-    by_concern false true n x ih h = by_session (session o past s) refl ih (sym (ap (λ l. (lane l).running) (history-own o past e s n x)) ∙ h)
-
-    by_refusal : (b : Bool) → is_refusal e.decision ≡ b → ((j : Job) → running_job o past s ≡ Some j → is_used past s ≡ true) → is_used (past_of (e ∷ log)) s ≡ true
-    by_refusal true x ih =
-        subst (λ (l : List Entry). is_used l s ≡ true) (sym (counting-refused e log x)) (ih job (subst (λ (l : List Entry). running_job o l s ≡ Some job) (counting-refused e log x) h))
-    by_refusal false x ih =
-        subst (λ (l : List Entry). is_used l s ≡ true) (sym (counting-counts e log x))
-        (by_concern (opens e s) (concerns o past e s) refl refl ih (subst (λ (l : List Entry). running_job o l s ≡ Some job) (counting-counts e log x) h))
+    own :
+        (v : Option Session) → session o past s ≡ v →
+        (running_job o past s ≡ Some job → is_used past s ≡ true) →
+        (lane (e ∷ history o past s)).running ≡ Some job →
+        is_used (e ∷ past) s ≡ true
+    own (Some v) known ih x = stays_used (live-used o past s v known)
+    own None known ih x =
+        stays_used (ih (runs-before e.event.kind e.decision (queued_in (history o past s) e) (lane (history o past s)) job (ended-empty o log s r.0 known).0 x))
 
 -- so no job runs for a number that was not used
 pub unused-idle : (o : Options) (log : List Entry) (s : ℕ) → IsRight o log → is_used (past_of log) s ≡ false → running_job o (past_of log) s ≡ None

@@ -1,13 +1,9 @@
 -- One more event of a run, and the headline of a whole run.
-use Rattle.std.proofs.Common.{◌≡◌, refl, sym, ap, ◌∙◌, subst, ℕ, ◌+◌, ◌<◌, ◌≤◌, false, append-nil, take_all, List, [], ◌∷◌, ◌++◌, map, reverse, take, get_or, length, Option, Some, None, true, append_assoc}
-use Rattle.std.specs.Option.{option_map_or}
-use Rattle.ftp_base.specs.LinkTable.{Numbered}
+use Rattle.std.proofs.Common.{◌≡◌, refl, sym, ap, ◌∙◌, subst, ℕ, ◌+◌, ◌<◌, ◌≤◌, false, append-nil, take_all, List, [], ◌∷◌, ◌++◌, map, reverse, take, get_or, length, append_assoc}
 use Rattle.std.proofs.lemmas.List.{reverse-append, take_more, map-append}
 use Rattle.ftp_options.specs.declared.options.Options.{Options}
 use Rattle.ftp_events.specs.declared.entry.Entry.{Entry}
 use Rattle.ftp_events.specs.declared.event.HubEvent.{HubEvent}
-use Rattle.ftp_events.specs.declared.event.EventKind.{EventKind}
-use Rattle.ftp_events.specs.Covers.{link_number, is_covered}
 use Rattle.ftp_events.specs.Leads.{Views, Outside, LeadsOne, Leads}
 use Rattle.ftp_events.specs.Log.{past_of, is_refusal}
 use Rattle.ftp_events.specs.Right.{IsRight, IsActed}
@@ -15,16 +11,12 @@ use Rattle.ftp_events.specs.Headline.{IsServed, AllServed}
 use Rattle.ftp_laws.proofs.Served.{all-served}
 use Rattle.ftp_hub.specs.declared.hub.Hub.{Hub}
 use Rattle.ftp_hub.specs.Headline.{IsFresh, Headline}
-use Rattle.ftp_hub.specs.Runs.{GoesOn, LeadsOn, is_linked}
+use Rattle.ftp_hub.specs.Runs.{GoesOn, LeadsOn}
 use Rattle.ftp_hub.specs.Stands.{Stands, options_of}
 
 -- an entry of the event after the log goes on by it
 pub goes-on-one : (old new : List Entry) (e : Entry) (event : HubEvent) → new ≡ e ∷ old → e.event ≡ event → GoesOn old new (event ∷ [])
 goes-on-one old new e event is given = record { newer = e ∷ []; log_is = is; in_order = ap (λ x. x ∷ []) given }
-
--- a log goes on by no event to itself
-pub goes-on-none : (old new : List Entry) (events : List HubEvent) → new ≡ old → GoesOn old new (take 0 events)
-goes-on-none old new events is = record { newer = []; log_is = is; in_order = refl }
 
 -- it goes on by the events so far, and then by the next
 pub goes-on-more :
@@ -44,7 +36,7 @@ goes-on-more first old new events i item before next within read =
     }
 
 -- every entry of a log that is served is served
-pub served-at : (o : Options) (log after before : List Entry) (e : Entry) → AllServed o log → log ≡ after ++ e ∷ before → is_refusal e.decision ≡ false → IsServed o (past_of before) e
+served-at : (o : Options) (log after before : List Entry) (e : Entry) → AllServed o log → log ≡ after ++ e ∷ before → is_refusal e.decision ≡ false → IsServed o (past_of before) e
 served-at o log after before e all is counts = go after (subst (AllServed o) is all)
   where
     go : (after : List Entry) → AllServed o (after ++ e ∷ before) → IsServed o (past_of before) e
@@ -71,14 +63,6 @@ headline-fresh old new events done before log fresh empty same stands goes all =
       every_grant = λ after before e s word lookup bound v is counts kind known admitted. (served-at o log after before e served is counts).grants s word lookup bound v kind known admitted;
     }
 
--- an event that is covered stays so, where every number keeps its link
-pub covered-more : {L : Type 0} (old new : Numbered L) (k : EventKind) → is_covered (is_linked old) k ≡ true → ((n : ℕ) → is_linked old n ≡ true → is_linked new n ≡ true) → is_covered (is_linked new) k ≡ true
-covered-more old new k covered keeps = go (link_number k) covered
-  where
-    go : (number : Option ℕ) → option_map_or (is_linked old) number true ≡ true → option_map_or (is_linked new) number true ≡ true
-    go None c = refl
-    go (Some n) c = keeps n c
-
 -- what newer entries did, and those after them, all together did
 leads-append : {S L : Type 0} (v : Views S L) (o : Options) (log first second : List Entry) (a b c : Outside S L) → Leads v o log first a b → Leads v o (first ++ log) second b c → Leads v o log (second ++ first) a c
 leads-append v o log first [] a b c led more = subst (Leads v o log first a) (sym more) led
@@ -86,11 +70,7 @@ leads-append {S} {L} v o log first (e ∷ second) a b c led more =
     let x : (between : Outside S L) × Leads v o (first ++ log) second b between × LeadsOne v o (past_of (second ++ (first ++ log))) e between c = more in
     (x.0, leads-append v o log first second a b x.0 led x.1, subst (λ (l : List Entry). LeadsOne v o (past_of l) e x.0 c) (sym (append_assoc second first log)) x.2)
 
--- a log leads on by no entry
-pub leads-none : {S L : Type 0} (v : Views S L) (o : Options) (old new : List Entry) (a b : Outside S L) → new ≡ old → b ≡ a → LeadsOn v o old new a b
-leads-none v o old new a b is same = record { newer = []; log_is = is; led = same }
-
--- or by one
+-- a log leads on by one entry
 pub leads-one : {S L : Type 0} (v : Views S L) (o : Options) (old new : List Entry) (e : Entry) (a b : Outside S L) → new ≡ e ∷ old → LeadsOne v o (past_of old) e a b → LeadsOn v o old new a b
 leads-one v o old new e a b is one = record { newer = e ∷ []; log_is = is; led = (a, refl, one) }
 

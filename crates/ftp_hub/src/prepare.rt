@@ -108,12 +108,12 @@ impl Hub {
         ensures need { IfOk result (λ room. need_in room ≡ need_for (job_for self.now kind.now)) }
         ensures counted { IfOk result (λ room. room.count ≡ self.now.count) }
     {
-        let kept = self.copy_kept(kind)?;
-        let pending = self.fix_transfer(kind)?;
-        let job = self.copy_job(kind)?;
         let text = Vec::with_capacity(self.alloc, LONGEST_TEXT)?;
         let dropped = Vec::with_capacity(self.alloc, LONGEST_TEXT)?;
         let actions = Vec::with_capacity(self.alloc, MOST_ACTIONS)?;
+        let kept = self.copy_kept(kind)?;
+        let pending = self.fix_transfer(kind, &kept)?;
+        let job = self.copy_job(kind)?;
         Ok(Room {
             alloc: self.alloc,
             count: self.count,
@@ -137,12 +137,13 @@ impl Hub {
         }
     }
 
-    // The transfer that an event asks for.
-    fn fix_transfer(&self, kind: &EventKind) -> Result<Option<Pending>, AllocError>
+    // The transfer that an event asks for, with what the event keeps.
+    fn fix_transfer(&self, kind: &EventKind, kept: &Bytes) -> Result<Option<Pending>, AllocError>
+        requires { kept.now ≡ kept_for self.now kind.now }
         ensures { IfOk result (λ pending. pending ≡ pending_for self.now kind.now) }
     {
         match self.named(kind) {
-            Some(session) => fix_transfer(self.alloc, kind, session),
+            Some(session) => fix_transfer(self.alloc, kind, kept, session),
             None => Ok(None),
         }
     }
@@ -249,29 +250,26 @@ fn copy_user(alloc: Global, session: &Session) -> Result<Bytes, AllocError>
     }
 }
 
-// The transfer that an event asks for, as it is fixed now.
+// The transfer that an event asks for, as it is fixed now: STOU stores under the name that is kept.
 fn fix_transfer(
     alloc: Global,
     kind: &EventKind,
+    kept: &Bytes,
     session: &Session,
 ) -> Result<Option<Pending>, AllocError>
+    requires { kept.now ≡ kept_by kind.now session.now }
     ensures { IfOk result (λ pending. pending ≡ asked_for kind.now session.now) }
 {
+    let number = number_of(kind);
     match kind {
-        EventKind::Transfer {
-            session: number,
-            command,
-        } => {
+        EventKind::Transfer { command, .. } => {
             let command = command.copy(alloc)?;
-            Ok(Some(pending_of(alloc, *number, command, session)?))
+            Ok(Some(pending_of(alloc, number, command, session)?))
         }
-        EventKind::Stou {
-            session: number,
-            word,
-        } => {
-            let path = unique_name(alloc, *word)?;
+        EventKind::Stou { .. } => {
+            let path = kept.copy(alloc)?;
             let command = DataChanCmd::Stor { path };
-            Ok(Some(pending_of(alloc, *number, command, session)?))
+            Ok(Some(pending_of(alloc, number, command, session)?))
         }
         _ => Ok(None),
     }

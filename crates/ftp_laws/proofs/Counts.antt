@@ -10,6 +10,7 @@ use Rattle.ftp_base.specs.declared.reply.Reply.{Reply}
 use Rattle.ftp_base.specs.declared.reply.Reply.TheVariants as reply
 use Rattle.ftp_options.specs.declared.options.Options.{Options}
 use Rattle.ftp_transfer.specs.declared.job.Job.{Job}
+use Rattle.ftp_transfer.specs.declared.job.Ticket.{Ticket}
 use Rattle.ftp_events.specs.declared.action.Action.{Action}
 use Rattle.ftp_events.specs.declared.action.Action.TheVariants as action
 use Rattle.ftp_events.specs.declared.decision.Decision.{Decision}
@@ -17,13 +18,16 @@ use Rattle.ftp_events.specs.declared.decision.Decision.TheVariants as decision
 use Rattle.ftp_events.specs.declared.entry.Entry.{Entry}
 use Rattle.ftp_events.specs.declared.event.EventKind.{EventKind}
 use Rattle.ftp_events.specs.declared.event.Answer.{Answer}
+use Rattle.ftp_events.specs.declared.session.Pending.{Pending}
 use Rattle.ftp_events.specs.declared.session.Session.{Session}
+use Rattle.ftp_events.specs.declared.session.Slot.{Slot}
 use Rattle.ftp_events.specs.Log.{is_refusal, is_ending, new_number}
 use Rattle.ftp_events.specs.History.{subject}
 use Rattle.ftp_events.specs.Login.{login_by, logged_user}
+use Rattle.ftp_events.specs.Slot.{drops}
 use Rattle.ftp_events.specs.Session.{session, running_job}
 use Rattle.ftp_events.specs.Reply.{message_for, reply_for, delay_of}
-use Rattle.ftp_events.specs.Acts.{acts_of, acts_for, session_acts, completions, closings, stays, drop_acts, slot_of, pending_in, refused_link, notice_and_reply, notifications, notice_for, presence_for, reply_acts, start_acts, starting, farewells}
+use Rattle.ftp_events.specs.Acts.{acts_of, acts_for, session_acts, completions, cancellations, closings, link_in, stays, drop_acts, slot_of, pending_in, refused_link, notice_and_reply, notifications, notice_for, presence_for, reply_acts, start_acts, starting, farewells}
 
 -- the test passes nothing but what becomes of transfers
 pub record IsOnTransfers (p : Action → Bool) : Type 0 where
@@ -43,6 +47,28 @@ pub count-closings :
     count_by p (closings link) ≡ 0
 count-closings p None t = refl
 count-closings p (Some n) t = rw (t.closes n) refl
+
+-- nor does what a session loses with its slot, where no cancelled transfer counts
+pub count-drop_acts :
+    (p : Action → Bool) (s : ℕ) (staying : Bool) (d : Decision) (slot : Slot) (pending : Option Pending) →
+    IsOnTransfers p →
+    ((t : Ticket) → p (action.Cancelled t) ≡ false) →
+    count_by p (drop_acts s staying d slot pending) ≡ 0
+count-drop_acts p s staying d slot pending t c = go (drops d slot)
+  where
+    cancelled :
+        (b : Bool) (pending : Option Pending) →
+        count_by p (cancellations s b pending) ≡ 0
+    cancelled b None = refl
+    cancelled true (Some x) = rw (c x.ticket, t.replies s 0 _) refl
+    cancelled false (Some x) = rw (c x.ticket) refl
+
+    go :
+        (b : Bool) →
+        count_by p (cond b (cancellations s staying pending ++ closings (link_in slot)) []) ≡ 0
+    go true =
+        omega (arith, count-append p (cancellations s staying pending) (closings (link_in slot)), cancelled staying pending, count-closings p (link_in slot) t)
+    go false = refl
 
 -- nor does a connection that is turned away
 pub count-refused_link :

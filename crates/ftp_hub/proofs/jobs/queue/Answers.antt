@@ -1,5 +1,5 @@
 use Rattle.std.proofs.Common.{◌≡◌, refl, sym, ap, ◌∙◌, subst, ℕ, ◌+◌, Bool, true, false, cond, Option, Some, None, add-zero}
-use Rattle.std.specs.Prelude.{◌==◌, nat_eq, unwrap_or}
+use Rattle.std.specs.Prelude.{nat_eq, unwrap_or}
 use Rattle.std.specs.HashMap as map
 use Rattle.ftp_options.specs.declared.options.Options.{Options}
 use Rattle.ftp_transfer.specs.declared.job.Job.{Job}
@@ -12,8 +12,9 @@ use Rattle.ftp_events.specs.declared.session.Session.{Session}
 use Rattle.ftp_events.specs.Acts.{notice_and_reply, session_acts, starting}
 use Rattle.ftp_events.specs.CommandRows.{can_queue, if_logged_in, is_logged_in, transfer_row}
 use Rattle.ftp_events.specs.Session.{session_after}
-use Rattle.ftp_hub.specs.Handlers.{IsFew, Jobs, Starts, number_of, with_queued}
-use Rattle.ftp_hub.proofs.Decisions.{no-completion}
+use Rattle.ftp_hub.specs.Handlers.{IsFew, Starts, number_of, with_queued}
+use Rattle.ftp_hub.proofs.Running.{no-completion}
+use Rattle.ftp_hub.proofs.Decisions.{starts-none}
 use Rattle.ftp_hub.proofs.jobs.queue.Goals as goal
 
 -- nothing is queued: the session is told, and otherwise it is as it was
@@ -37,14 +38,6 @@ refuses-by : (logged free : Bool) (t : Ticket) (d : Decision) → d ≡ cond log
 refuses-by false free t d is other = subst Refuses (sym is) refuses-login
 refuses-by true false t d is other = subst Refuses (sym is) refuses-slot
 refuses-by true true t d is other = absurd (other t is)
-
--- nothing starts
-starts-none : (jobs : Jobs) (s : ℕ) → Starts jobs jobs s None
-starts-none jobs s = record { jobs = λ q. same (s == q) q; len = sym (add-zero (map.hash_map_len jobs)) }
-  where
-    same : (b : Bool) (q : ℕ) → map.get nat_eq jobs q ≡ cond b (map.get nat_eq jobs q) (map.get nat_eq jobs q)
-    same true q = refl
-    same false q = refl
 
 -- a transfer that is not queued
 pub returns-in_default : goal.returns-in_default

@@ -1,4 +1,4 @@
-use Rattle.ftp_hub.proofs.Links.{stands-same}
+use Rattle.ftp_hub.proofs.Refusals.{stands-same}
 use Rattle.ftp_hub.proofs.run.run_event.Goals as goal
 
 -- a prepared hub stands for the same log

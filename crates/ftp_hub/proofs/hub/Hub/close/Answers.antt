@@ -1,7 +1,7 @@
-use Rattle.std.proofs.Common.{◌≡◌, refl, sym, ap, subst, ◌∙◌, ℕ, Bool, true, false, Option, Some, None, cond}
+use Rattle.std.proofs.Common.{◌≡◌, refl, sym, ap, subst, ◌∙◌, Option, Some, None, cond}
 use Rattle.std.specs.Prelude.{nat_eq, ◌==◌}
 use Rattle.std.specs.HashMap as map
-use Rattle.std.proofs.Common.{arith, ◌-◌, eqb-true}
+use Rattle.std.proofs.Common.{arith, ◌-◌}
 use Rattle.ftp_events.specs.Log.{past_of}
 use Rattle.ftp_events.specs.Session.{session_after, lives_on, live_after}
 use Rattle.ftp_hub.specs.Handlers.{notices_of, held_for}
@@ -9,17 +9,12 @@ use Rattle.ftp_events.specs.declared.decision.Decision.TheVariants as decision
 use Rattle.ftp_events.specs.declared.decision.Decision.{Decision}
 use Rattle.ftp_events.specs.declared.session.Session.{Session}
 use Rattle.ftp_hub.proofs.Refusals.{tables-same}
-use Rattle.ftp_hub.proofs.Decisions.{closed-idle, jobs-idle}
+use Rattle.ftp_hub.proofs.Decisions.{closed-idle, jobs-idle, put-back}
 use Rattle.ftp_hub.proofs.Commands.{serves-unknown, serves-command, closed-row, closed-plain}
 use Rattle.ftp_hub.proofs.Running.{IsIdle, running-idle}
 use Rattle.ftp_events.specs.Running.{running_after}
 use Rattle.ftp_transfer.specs.declared.job.Job.{Job}
 use Rattle.ftp_hub.proofs.hub.Hub.close.Goals as goal
-
--- taking out nothing changes nothing
-none-taken : (s q : ℕ) (x : Option Session) → (b : Bool) → (s == q) ≡ b → (s ≡ q → x ≡ None) → cond b None x ≡ x
-none-taken s q x true h none = sym (none (eqb-true s q h))
-none-taken s q x false h none = refl
 
 -- a session that is not live
 pub returns-in_default-clause-serves : goal.returns-in_default-clause-serves
@@ -28,8 +23,17 @@ returns-in_default-clause-serves c log st =
     let len : map.hash_map_len c.take.new.table ≡ map.hash_map_len c.args.self.now.sessions = omega (arith, rw c.in_default.is at c.take.ensures.len) in
     serves-unknown c.args.self.now _ log c.args.event.now c.args.answer _ c.args.number st (closed-plain _ c.requires.of_this_event) c.requires.named none c.requires.fits.ready.actions
     (tables-same c.args.self.now _ (past_of log) refl
-    (λ q. c.take.ensures.updates q ∙ none-taken c.args.number q (map.get nat_eq c.args.self.now.sessions q) (c.args.number == q) refl (λ same. ap (map.get nat_eq c.args.self.now.sessions) (sym same) ∙ none))
-    len refl (λ q. refl) (λ a p. refl) st.tables)
+    (record {
+      sessions = λ q.
+          c.take.ensures.updates q
+          ∙ ap (λ (x : Option Session). cond (c.args.number == q) x (map.get nat_eq c.args.self.now.sessions q)) (sym none)
+          ∙ put-back (map.get nat_eq c.args.self.now.sessions) c.args.number q;
+      live = len;
+      jobs = λ q. refl;
+      running = refl;
+      numbers = λ q. refl;
+      holders = λ a p. refl;
+    }) st.tables)
 
 -- the end of a live session
 pub returns-clause-serves : goal.returns-clause-serves

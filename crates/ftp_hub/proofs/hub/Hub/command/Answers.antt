@@ -16,7 +16,14 @@ use Rattle.ftp_hub.proofs.hub.Hub.command.Goals as goal
 pub returns-in-None-clause-serves : goal.returns-in-None-clause-serves
 returns-in-None-clause-serves c log st =
     serves-unknown c.args.self.now _ log c.args.event.now c.args.answer _ c.args.number st (command-plain _ c.requires.of_this_event) c.requires.named (sym c.in-None.ensures.value) c.requires.fits.ready.actions
-    (tables-same c.args.self.now _ (past_of log) refl (λ q. ap (λ (m : map.HashMap ℕ Session _). map.get nat_eq m q) c.get_mut.follows.holds-at-none) (ap map.hash_map_len c.get_mut.follows.holds-at-none) refl (λ q. refl) (λ a p. refl) st.tables)
+    (tables-same c.args.self.now _ (past_of log) refl (record {
+      sessions = λ q. ap (λ (m : map.HashMap ℕ Session _). map.get nat_eq m q) c.get_mut.follows.holds-at-none;
+      live = ap map.hash_map_len c.get_mut.follows.holds-at-none;
+      jobs = λ q. refl;
+      running = refl;
+      numbers = λ q. refl;
+      holders = λ a p. refl;
+    }) st.tables)
 
 -- a command of a live session
 pub returns-in-Some-clause-serves : goal.returns-in-Some-clause-serves

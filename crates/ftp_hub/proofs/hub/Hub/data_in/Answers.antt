@@ -33,7 +33,7 @@ unfolding decide
 returns-then-has-clause-serves c log st =
     let used : is_used (past_of log) c.in-DataIn.number ≡ true = sym (st.tables.numbers c.in-DataIn.number) ∙ sym c.has.ensures ∙ c.if-has.true in
     serves-refusal c.args.self.now _ log c.args.event.now c.args.answer decision.UsedNumber _ st (rw (c.in-DataIn.is, c.args.self.now.pooled, c.in-V4.is, used) refl) refl c.requires.ready.actions
-    (tables-same c.args.self.now _ (past_of log) refl (λ q. refl) refl refl (λ q. refl) (λ a p. refl) st.tables)
+    (tables-same c.args.self.now _ (past_of log) refl (record { sessions = λ q. refl; live = refl; jobs = λ q. refl; running = refl; numbers = λ q. refl; holders = λ a p. refl }) st.tables)
 
 -- a port that nobody holds
 pub returns-in_default-unregister_by_key-clause-serves : goal.returns-in_default-unregister_by_key-clause-serves

@@ -16,7 +16,7 @@ use Rattle.ftp_events.specs.Running.{running_after}
 use Rattle.ftp_events.specs.Session.{next_lane, session_after}
 use Rattle.ftp_events.specs.Acts.{session_acts, starting}
 use Rattle.ftp_hub.specs.Handlers.{IsFew, Jobs, Starts, notices_of}
-use Rattle.ftp_hub.proofs.Named.{few-counts, names-by, serves-named}
+use Rattle.ftp_hub.proofs.Named.{few-counts, serves-named}
 use Rattle.ftp_hub.proofs.Ends.{finish-due, jobs-finished, running-finished, serves-lost}
 use Rattle.ftp_hub.proofs.hub.Hub.finish.Goals as goal
 
@@ -58,7 +58,7 @@ returns-in-Some-get_mut-clause-serves c log st =
     let acts = c.finish.ensures.actions few.notices ∙ ap (λ (x : Ticket). session_acts o x.session (kind.End job.ticket) a decision.Finished (Some job) (Some v)) known.0 in
     let fewer : map.hash_map_len c.take.new.table + 1 ≡ map.hash_map_len jobs = omega (arith, rw c.in-Some.is at c.take.ensures.len) in
     let begins : Starts c.take.new.table c.finish.new.jobs s (starting (kind.End job.ticket) decision.Finished (Some job) v) = subst (λ (x : Ticket). Starts c.take.new.table c.finish.new.jobs x.session (starting (kind.End job.ticket) decision.Finished (Some job) v)) known.0 c.finish.ensures.starts in
-    serves-named c.args.self.now _ log c.args.event.now a decision.Finished _ s v c.finish.new.session st (names-by o c.args.event.now a decision.Finished s named refl)
+    serves-named c.args.self.now _ log c.args.event.now a decision.Finished _ s v c.finish.new.session st named refl
     (sym (st.tables.sessions s) ∙ there) (finish-due c.args.self.now log c.args.event.now c.args.outcome t job st c.requires.of_this_event there_job known.0 known.1)
     (acts ∙ ap (λ (x : EventKind). session_acts o s x a decision.Finished (Some job) (Some v)) kind_is ∙ ap (λ (x : Option Job). session_acts o s k a decision.Finished x (Some v)) (sym there_job))
     refl

@@ -14,16 +14,23 @@ use Rattle.ftp_events.specs.declared.session.Session.{Session}
 use Rattle.ftp_hub.specs.Handlers.{IsFew, held_for, number_of}
 use Rattle.ftp_hub.proofs.Refusals.{tables-same}
 use Rattle.ftp_hub.proofs.Named.{few-counts}
-use Rattle.ftp_hub.proofs.Decisions.{Comes, jobs-started, running-started}
+use Rattle.ftp_hub.proofs.Decisions.{Comes, comes-held, jobs-started, running-started}
 use Rattle.ftp_hub.proofs.Commands.{serves-command, serves-unknown}
-use Rattle.ftp_hub.proofs.Ends.{transfer-comes, transfer-held, transfer-plain, transfer-row}
+use Rattle.ftp_hub.proofs.Ends.{transfer-comes, transfer-plain, transfer-row}
 use Rattle.ftp_hub.proofs.hub.Hub.transfer.Goals as goal
 
 -- a session that is not live
 pub returns-in-None-clause-serves : goal.returns-in-None-clause-serves
 returns-in-None-clause-serves c log st =
     serves-unknown c.args.self.now _ log c.args.event.now c.args.answer _ c.args.number st (transfer-plain _ c.requires.of_this_event) c.requires.named (sym c.in-None.ensures.value) c.requires.fits.ready.actions
-    (tables-same c.args.self.now _ (past_of log) refl (λ q. ap (λ (m : map.HashMap ℕ Session _). map.get nat_eq m q) c.get_mut.follows.holds-at-none) (ap map.hash_map_len c.get_mut.follows.holds-at-none) refl (λ q. refl) (λ a p. refl) st.tables)
+    (tables-same c.args.self.now _ (past_of log) refl (record {
+      sessions = λ q. ap (λ (m : map.HashMap ℕ Session _). map.get nat_eq m q) c.get_mut.follows.holds-at-none;
+      live = ap map.hash_map_len c.get_mut.follows.holds-at-none;
+      jobs = λ q. refl;
+      running = refl;
+      numbers = λ q. refl;
+      holders = λ a p. refl;
+    }) st.tables)
 
 -- a live session
 pub returns-in-Some-clause-serves : goal.returns-in-Some-clause-serves
@@ -47,7 +54,7 @@ returns-in-Some-clause-serves c log st =
     (λ few. acts ∙ ap (λ n. session_acts o n k c.args.answer d job (Some v)) (sym number)) refl
     (λ q. (lent.3 (rw there refl)).0 q ∙ sym (ap (λ (b : Bool). cond (s == q) (cond b (Some c.queue.new.session) None) (map.get nat_eq c.args.self.now.sessions q)) comes.lives))
     (lent.2 ∙ sym (comes.as_many (map.hash_map_len c.args.self.now.sessions)))
-    (λ few q. jobs-started jobs c.queue.new.jobs s q k d v comes (c.queue.ensures.starts few))
-    (λ few. running-started o s k c.args.answer d v jobs c.queue.new.jobs comes (c.queue.ensures.starts few) ∙ ap (λ xs. running_after xs (map.hash_map_len jobs)) (sym acts))
+    (λ few q. jobs-started jobs c.queue.new.jobs s q k d v comes.unfinished (c.queue.ensures.starts few))
+    (λ few. running-started o s k c.args.answer d v jobs c.queue.new.jobs comes.unfinished (c.queue.ensures.starts few) ∙ ap (λ xs. running_after xs (map.hash_map_len jobs)) (sym acts))
     (λ q. refl)
-    (λ a p. ap (λ (board : Board). holder_at board a p) c.queue.ensures.board ∙ transfer-held s v d (c.queue.ensures.decision few) (number_of k) (ipv4 v.opening.client) (waiting_port v.slot) a p (holder_at c.args.self.now.board a p))
+    (λ a p. ap (λ (board : Board). holder_at board a p) c.queue.ensures.board ∙ sym (comes-held d (number_of k) (ipv4 v.opening.client) (waiting_port v.slot) a p (holder_at c.args.self.now.board a p) comes))

@@ -1,0 +1,93 @@
+-- The tables after an entry that is about one live session.
+use Rattle.std.proofs.Common.{◌≡◌, refl, sym, ap, ◌∙◌, subst, ℕ, false, cond, List, ◌∷◌, Option, Some, None}
+use Rattle.std.specs.Prelude.{◌==◌, nat_eq, count_by}
+use Rattle.std.specs.HashMap as map
+use Rattle.ftp_base.specs.declared.net.IpAddr.TheVariants.{V4}
+use Rattle.ftp_options.specs.declared.options.Options.{Options}
+use Rattle.ftp_transfer.specs.declared.job.Job.{Job}
+use Rattle.ftp_switchboard.specs.Board.{holder_at}
+use Rattle.ftp_numbers.specs.Used.{has}
+use Rattle.ftp_events.specs.declared.action.Action.{Action}
+use Rattle.ftp_events.specs.declared.decision.Decision.{Decision}
+use Rattle.ftp_events.specs.declared.entry.Entry.{Entry}
+use Rattle.ftp_events.specs.declared.event.Answer.{Answer}
+use Rattle.ftp_events.specs.declared.event.HubEvent.{HubEvent}
+use Rattle.ftp_events.specs.declared.session.Session.{Session}
+use Rattle.ftp_events.specs.Log.{past_of, is_refusal, is_used}
+use Rattle.ftp_events.specs.Board.{holder}
+use Rattle.ftp_events.specs.Notices.{is_notice_to}
+use Rattle.ftp_events.specs.Running.{running_after}
+use Rattle.ftp_events.specs.Session.{session, running_job, lives_on, session_after, next_lane, live_after}
+use Rattle.ftp_events.specs.Decide.{decide}
+use Rattle.ftp_events.specs.Acts.{session_acts, acts_of, acts}
+use Rattle.ftp_laws.proofs.Laws.{counting-counts, session_by}
+use Rattle.ftp_laws.proofs.Tables.{IsAbout, session-about, running-about}
+use Rattle.ftp_hub.specs.declared.hub.Hub.{Hub}
+use Rattle.ftp_hub.specs.Handlers.{notices_of}
+use Rattle.ftp_hub.specs.Stands.{Tables, Stands, Serves, entry}
+use Rattle.ftp_hub.proofs.Counts.{count-session_acts}
+
+-- the tables after an entry about session s, where the numbers and the holds are those after it
+pub serves-about :
+    (old new : Hub) (log : List Entry) (event : HubEvent) (answer : Answer) (d : Decision) (done : List Action) (s : ℕ) (v after : Session) →
+    Stands old log → is_refusal d ≡ false →
+    IsAbout old.options (past_of log) (entry event answer d done) s →
+    session old.options (past_of log) s ≡ Some v →
+    d ≡ decide old.options log event answer →
+    done ≡ session_acts old.options s event.kind answer d (map.get nat_eq old.jobs s) (Some v) →
+    new.options ≡ old.options →
+    after ≡ session_after event.kind answer d (notices_of d answer) (map.get nat_eq old.jobs s) v →
+    ((q : ℕ) → map.get nat_eq new.sessions q ≡ cond (s == q) (cond (lives_on d) (Some after) None) (map.get nat_eq old.sessions q)) →
+    (map.hash_map_len new.sessions ≡ live_after d (map.hash_map_len old.sessions)) →
+    ((q : ℕ) → map.get nat_eq new.jobs q ≡ cond (s == q) (next_lane event.kind d (map.get nat_eq old.jobs s) v).running (map.get nat_eq old.jobs q)) →
+    (map.hash_map_len new.jobs ≡ running_after done (map.hash_map_len old.jobs)) →
+    ((q : ℕ) → has new.numbers q ≡ is_used (entry event answer d done ∷ past_of log) q) →
+    ((a p : ℕ) → holder_at new.board a p ≡ holder old.options (entry event answer d done ∷ past_of log) (V4 a) p) →
+    Serves old new log event answer d done
+unfolding acts
+serves-about old new log event answer d done s v after st counts about known right acted same after_is table len jobs running numbers board =
+    record {
+      decision = right;
+      done = done_are ∙ sym due_acts;
+      tables = subst (Tables new) (sym (counting-counts e log counts)) (record {
+        sessions = λ q.
+            table q
+            ∙ ap (λ (x : Session). cond (s == q) (cond (lives_on d) (Some x) None) (map.get nat_eq old.sessions q)) (after_is ∙ counted)
+            ∙ ap (λ (x : Option Session). cond (s == q) (cond (lives_on d) (Some (session_by s e job v)) None) x) (st.tables.sessions q)
+            ∙ sym (session-about o past e s v q about known)
+            ∙ ap (λ (o : Options). session o (e ∷ past) q) (sym same);
+        live = len ∙ ap (live_after d) st.tables.live;
+        jobs = λ q.
+            jobs q
+            ∙ ap (λ (x : Option Job). cond (s == q) (next_lane event.kind d x v).running (map.get nat_eq old.jobs q)) (st.tables.jobs s)
+            ∙ ap (λ (x : Option Job). cond (s == q) (next_lane event.kind d job v).running x) (st.tables.jobs q)
+            ∙ sym (running-about o past e s v q about known)
+            ∙ ap (λ (o : Options). running_job o (e ∷ past) q) (sym same);
+        running = running ∙ ap (running_after done) st.tables.running;
+        numbers = numbers;
+        holders = λ a p. board a p ∙ ap (λ (o : Options). holder o (e ∷ past) (V4 a) p) (sym same);
+      });
+    }
+  where
+    o : Options
+    o = old.options
+
+    past : List Entry
+    past = past_of log
+
+    job : Option Job
+    job = running_job o past s
+
+    e : Entry
+    e = entry event answer d done
+
+    done_are : done ≡ session_acts o s event.kind answer d job (Some v)
+    done_are = acted ∙ ap (λ (x : Option Job). session_acts o s event.kind answer d x (Some v)) (st.tables.jobs s)
+
+    counted : session_after event.kind answer d (notices_of d answer) (map.get nat_eq old.jobs s) v ≡ session_by s e job v
+    counted =
+        ap (λ (x : Option Job). session_after event.kind answer d (notices_of d answer) x v) (st.tables.jobs s)
+        ∙ ap (λ c. session_after event.kind answer d c job v) (sym (ap (count_by (is_notice_to s)) done_are ∙ count-session_acts o s event.kind answer d job v))
+
+    due_acts : acts_of o past e ≡ session_acts o s event.kind answer d job (Some v)
+    due_acts = rw (counts, about.subject_is, known) refl
