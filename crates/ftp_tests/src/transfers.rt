@@ -109,9 +109,11 @@ fn compare(
     for row in rows {
         let Trial { word, offset, .. } = row.trial;
         let left = row.trial.run(storage, alloc)?;
-        assert_eq!(rt; left.outcome, row.outcome, "{word:?} at {offset}");
-        assert_eq!(rt; left.sent.as_slice(), row.sent, "{word:?} at {offset}");
-        assert_eq!(rt; left.file.as_deref(), row.file, "{word:?} at {offset}");
+        assert_eq!(rt;
+            (left.outcome, left.sent.as_slice(), left.file.as_deref()),
+            (row.outcome, row.sent, row.file),
+            "{word:?} at {offset}"
+        );
     }
     Ok(())
 }
