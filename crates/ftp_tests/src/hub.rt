@@ -10,84 +10,90 @@ use ftp_events::{Decision, EventKind, HubEvent, Log};
 use ftp_hub::{Hub, RunError, covers, run_events};
 use ftp_options::{Options, ServerBuilder};
 use ftp_transfer::Ticket;
-use std::alloc::Global;
+use std::alloc::{AllocError, Global};
 use std::test::Fail;
 
 const CLIENT: u32 = 0x0a00_0001;
 
-fn address(ip: u32, port: u16) -> SocketAddr {
-    SocketAddr {
-        ip: IpAddr::V4(ip),
-        port,
-    }
-}
+const TICKET: Ticket = Ticket { session: 1, nr: 1 };
 
-fn pasv() -> EventKind {
-    EventKind::Pasv {
-        session: 1,
-        word: 0,
-        lookup: None,
-        bound: None,
-    }
-}
+const CONNECT: EventKind = EventKind::Connect {
+    session: 1,
+    raw: SocketAddr {
+        ip: IpAddr::V4(CLIENT),
+        port: 4000,
+    },
+    local: SocketAddr {
+        ip: IpAddr::V4(0x0a00_0009),
+        port: 21,
+    },
+    trace: 1,
+};
 
+const AUTH: EventKind = EventKind::AuthDone {
+    session: 1,
+    answer: AuthAnswer::Good,
+};
+
+const PASV: EventKind = EventKind::Pasv {
+    session: 1,
+    word: 0,
+    lookup: None,
+    bound: None,
+};
+
+/// A data connection from an address.
 fn arrival(number: u64, ip: u32) -> EventKind {
     EventKind::DataIn {
         number,
-        raw: address(ip, 1),
+        raw: SocketAddr {
+            ip: IpAddr::V4(ip),
+            port: 1,
+        },
         port: 50000,
     }
 }
 
-fn transfer(command: DataChanCmd) -> EventKind {
-    EventKind::Transfer {
-        session: 1,
-        command,
-    }
+fn put(events: &mut Vec<HubEvent>, kind: EventKind) -> Result<(), AllocError> {
+    events.push(HubEvent { at: 0, kind })?;
+    Ok(())
 }
 
-fn ticket(nr: u64) -> Ticket {
-    Ticket { session: 1, nr }
-}
-
-// A login, the data connection of another client, and those of the own client, that stores a file and takes it back.
-fn events(alloc: Global) -> Result<Vec<HubEvent>, Fail> {
-    let kinds = [
-        EventKind::Connect {
-            session: 1,
-            raw: address(CLIENT, 4000),
-            local: address(0x0a00_0009, 21),
-            trace: 1,
-        },
-        EventKind::User {
-            session: 1,
-            name: Bytes::from_slice(alloc, b"ann")?,
-        },
-        EventKind::Pass { session: 1 },
-        EventKind::AuthDone {
-            session: 1,
-            answer: AuthAnswer::Good,
-        },
-        pasv(),
-        arrival(11, CLIENT + 1),
-        arrival(12, CLIENT),
-        transfer(DataChanCmd::Stor {
-            path: Bytes::from_slice(alloc, b"a")?,
-        }),
-        EventKind::End { ticket: ticket(1) },
-        pasv(),
-        arrival(13, CLIENT),
-        transfer(DataChanCmd::Retr {
-            path: Bytes::from_slice(alloc, b"a")?,
-        }),
-        EventKind::End { ticket: ticket(2) },
-        EventKind::Closed { session: 1 },
-    ];
+/// A login, the data connection of another client, and that of the own client, who takes a file.
+fn events(alloc: Global) -> Result<Vec<HubEvent>, AllocError> {
+    let session = 1;
+    let name = Bytes::from_slice(alloc, b"ann")?;
+    let path = Bytes::from_slice(alloc, b"a")?;
+    let command = DataChanCmd::Retr { path };
     let mut events = Vec::new(alloc);
-    for kind in kinds {
-        events.push(HubEvent { at: 0, kind })?;
-    }
+    put(&mut events, CONNECT)?;
+    put(&mut events, EventKind::User { session, name })?;
+    put(&mut events, EventKind::Pass { session })?;
+    put(&mut events, AUTH)?;
+    put(&mut events, PASV)?;
+    put(&mut events, arrival(11, CLIENT + 1))?;
+    put(&mut events, arrival(12, CLIENT))?;
+    put(&mut events, EventKind::Transfer { session, command })?;
+    put(&mut events, EventKind::End { ticket: TICKET })?;
+    put(&mut events, EventKind::Closed { session })?;
     Ok(events)
+}
+
+/// A storage with `Hello` under `/a`.
+fn storage(alloc: Global) -> Result<MemoryStorage, Fail> {
+    let mut storage = MemoryStorage::new(alloc, 5, Vec::new(alloc));
+    storage.put_file(Bytes::from_slice(alloc, b"/a")?, b"Hello".to_vec(alloc)?)?;
+    Ok(storage)
+}
+
+/// Links for two data connections, which give nothing.
+fn links(alloc: Global) -> Result<LinkTable<MemoryLink>, Fail> {
+    let mut links = LinkTable::new(alloc);
+    for number in [11, 12] {
+        let link = MemoryLink::new(alloc, Vec::new(alloc), 2, Vec::new(alloc));
+        links.insert(number, link).ok().ok_or("no link")?;
+    }
+    Ok(links)
 }
 
 fn options() -> Result<Options, Fail>
@@ -100,27 +106,20 @@ fn options() -> Result<Options, Fail>
 }
 
 #[test]
-fn a_client_takes_back_what_it_stored_and_another_is_turned_away(
-    rt: HostRuntime,
-) -> Result<(), Fail> {
+fn a_client_takes_a_file_and_another_is_turned_away(rt: HostRuntime) -> Result<(), Fail> {
     let alloc = rt.alloc();
-    let mut hub = Hub::new(alloc, options()?);
-    let mut storage = MemoryStorage::new(alloc, 5, Vec::new(alloc));
-    let mut links = LinkTable::new(alloc);
+    let options = options()?;
     let events = events(alloc)?;
-    assert_eq!(rt; covers(&links, &events), false);
-    for number in [11, 12, 13] {
-        let input = b"Hello".to_vec(alloc)?;
-        let link = MemoryLink::new(alloc, input, 2, Vec::new(alloc));
-        links.insert(number, link).ok().ok_or("no link")?;
-    }
+    let mut storage = storage(alloc)?;
+    let mut links = links(alloc)?;
     if !covers(&links, &events) {
         return Err(Fail::from("a link is not found"));
     }
+    let mut hub = Hub::new(alloc, options);
     let mut log = Log::new(alloc);
     let run = run_events(&mut hub, &mut storage, &mut links, &events, &mut log);
     assert_eq!(rt; run, Ok(()));
-    let expected = [
+    let decisions = [
         Decision::Opened,
         Decision::NeedPass,
         Decision::PassOut,
@@ -128,41 +127,49 @@ fn a_client_takes_back_what_it_stored_and_another_is_turned_away(
         Decision::Granted { port: 50000 },
         Decision::Turned,
         Decision::Attached { session: 1 },
-        Decision::Queued { ticket: ticket(1) },
-        Decision::Finished,
-        Decision::Granted { port: 50000 },
-        Decision::Attached { session: 1 },
-        Decision::Queued { ticket: ticket(2) },
+        Decision::Queued { ticket: TICKET },
         Decision::Finished,
         Decision::Closed,
     ];
-    assert_eq!(rt; log.len(), 14);
-    for (entry, decision) in log.as_slice().iter().zip(expected) {
+    assert_eq!(rt; log.len(), 10);
+    for (entry, decision) in log.as_slice().iter().zip(decisions) {
         assert_eq!(rt; entry.decision, decision);
     }
-    let sent = links.get(13).ok_or("no link")?.sent();
+    let sent = links.get(12).ok_or("no link")?.sent();
     assert_eq!(rt; sent, b"Hello".as_slice());
+    Ok(())
+}
+
+#[test]
+fn a_connection_without_a_link_is_not_covered(rt: HostRuntime) -> Result<(), Fail> {
+    let events = events(rt.alloc())?;
+    let links: LinkTable<MemoryLink> = LinkTable::new(rt.alloc());
+    assert!(rt; !covers(&links, &events));
     Ok(())
 }
 
 #[test]
 fn no_event_runs_at_the_end_of_the_count(rt: HostRuntime) -> Result<(), Fail> {
     let alloc = rt.alloc();
-    let mut hub = Hub::with_count(alloc, options()?, u64::MAX);
+    let options = options()?;
+    let event = HubEvent {
+        at: 0,
+        kind: EventKind::Pass { session: 1 },
+    };
+    let mut hub = Hub::with_count(alloc, options, u64::MAX);
     let mut storage = MemoryStorage::new(alloc, 0, Vec::new(alloc));
     let mut links: LinkTable<MemoryLink> = LinkTable::new(alloc);
     let mut log = Log::new(alloc);
-    let events = [HubEvent {
-        at: 0,
-        kind: EventKind::Pass { session: 1 },
-    }];
-    if !covers(&links, &events) {
-        return Err(Fail::from("a link is not found"));
+    for (events, answer) in [
+        ([event].as_slice(), Err(RunError::Exhausted { done: 0 })),
+        ([].as_slice(), Ok(())),
+    ] {
+        if !covers(&links, events) {
+            return Err(Fail::from("a link is not found"));
+        }
+        let run = run_events(&mut hub, &mut storage, &mut links, events, &mut log);
+        assert_eq!(rt; run, answer);
+        assert_eq!(rt; log.len(), 0);
     }
-    let run = run_events(&mut hub, &mut storage, &mut links, &events, &mut log);
-    assert_eq!(rt; run, Err(RunError::Exhausted { done: 0 }));
-    let run = run_events(&mut hub, &mut storage, &mut links, &[], &mut log);
-    assert_eq!(rt; run, Ok(()));
-    assert_eq!(rt; log.len(), 0);
     Ok(())
 }
