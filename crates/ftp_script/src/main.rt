@@ -2,17 +2,12 @@
 //!
 //! `ftp_script script` is the one command. It ends with 0 where all was read and written, 2 at a bad line, 3 where
 //! standard input fails, 4 where standard output fails, 5 where memory runs out, and 64 where the words are no command.
-//! Begin with `script`.
+//! Begin with `run_script` of `ftp_script_run`.
 #![tactic(auto)]
 
-mod printing;
-mod run;
-mod script;
-mod status;
 mod streams;
 
-use script::run_script;
-use status::Status;
+use ftp_script_run::{Status, run_script};
 use std::process::ExitCode;
 use std::{env, io};
 use streams::{Input, Output};

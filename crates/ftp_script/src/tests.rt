@@ -5,10 +5,10 @@ mod transfers;
 
 ghost use Rattle.std.specs.Prelude.{◌≤◌};
 
-use crate::script::run_script;
-use crate::status::Status;
 use ftp_base::{MemorySink, MemorySource};
+use ftp_script_run::{Status, run_script};
 use std::alloc::{AllocError, Global};
+use std::process::Abort;
 use std::test::Fail;
 
 /// What goes in and what comes out.
@@ -57,10 +57,40 @@ fn run(
     Ok((status, sink.written().to_vec(alloc)?))
 }
 
+/// Runs the script of a transcript, in pieces, and compares what it prints.
+fn replay(rt: &impl Abort, alloc: Global, text: &str, chunk: u32) -> Result<(), AllocError>
+    requires { 1 ≤ chunk }
+{
+    let transcript = Transcript::parse(alloc, text)?;
+    let (status, printed) = run(alloc, transcript.script.as_slice(), chunk, &[])?;
+    assert_eq!(rt;
+        (status, printed.as_slice()),
+        (Status::Done, transcript.printed.as_slice()),
+        "{text}"
+    );
+    Ok(())
+}
+
+/// Runs a script, and compares how it ends and what it prints.
+fn compare(
+    rt: &impl Abort,
+    alloc: Global,
+    script: &str,
+    status: Status,
+    printed: &str,
+) -> Result<(), AllocError> {
+    let (ended, written) = run(alloc, script.as_bytes(), 65536, &[])?;
+    assert_eq!(rt;
+        (ended, written.as_slice()),
+        (status, printed.as_bytes()),
+        "{script}"
+    );
+    Ok(())
+}
+
 #[test]
 fn a_script_is_printed_with_its_decisions_and_actions(rt: HostRuntime) -> Result<(), Fail> {
-    let alloc = rt.alloc();
-    let texts = [
+    for text in [
         transcripts::FULL_RANGE,
         transcripts::ONE_PORT,
         transcripts::ALL_PORTS,
@@ -70,19 +100,14 @@ fn a_script_is_printed_with_its_decisions_and_actions(rt: HostRuntime) -> Result
         transcripts::PASSWORDS,
         transcripts::ATTACHED,
         transcripts::STORED,
-    ];
-    for text in texts {
-        let transcript = Transcript::parse(alloc, text)?;
-        let (status, printed) = run(alloc, transcript.script.as_slice(), 7, &[])?;
-        assert_eq!(rt; status, Status::Done, "{text}");
-        assert_eq!(rt; printed.as_slice(), transcript.printed.as_slice(), "{text}");
+    ] {
+        replay(&rt, rt.alloc(), text, 7)?;
     }
     Ok(())
 }
 
 #[test]
 fn a_transfer_is_run_at_its_end(rt: HostRuntime) -> Result<(), Fail> {
-    let alloc = rt.alloc();
     let login = transcripts::LOGIN;
     for (set_up, said) in [
         transfers::DOWNLOAD,
@@ -97,11 +122,8 @@ fn a_transfer_is_run_at_its_end(rt: HostRuntime) -> Result<(), Fail> {
         transfers::TOO_FAR,
         transfers::FAILED_CALL,
     ] {
-        let text = format!(in alloc; "< {OPTIONS}\n{set_up}{login}{said}")?;
-        let transcript = Transcript::parse(alloc, text.as_str())?;
-        let (status, printed) = run(alloc, transcript.script.as_slice(), 65536, &[])?;
-        assert_eq!(rt; status, Status::Done, "{text}");
-        assert_eq!(rt; printed.as_slice(), transcript.printed.as_slice(), "{text}");
+        let text = format!(in rt.alloc(); "< {OPTIONS}\n{set_up}{login}{said}")?;
+        replay(&rt, rt.alloc(), text.as_str(), 65536)?;
     }
     Ok(())
 }
@@ -203,87 +225,102 @@ const BAD_SECOND: [&str; 11] = [
 
 #[test]
 fn the_first_bad_line_is_named(rt: HostRuntime) -> Result<(), Fail> {
-    let alloc = rt.alloc();
     for line in BAD_LINES {
-        let script = format!(in alloc;
+        let script = format!(in rt.alloc();
             "# skipped\n\n{OPTIONS}\nlink 3 1 - 00\n0 pass 1\n{line}\n0 fly"
         )?;
-        let (status, printed) = run(alloc, script.as_bytes(), 65536, &[])?;
-        assert_eq!(rt; status, Status::BadLine(6), "{line}");
-        assert_eq!(rt;
-            printed.as_slice(),
-            b"> 0 pass 1\n= unknown\nbad line 6\n".as_slice(),
-            "{line}"
-        );
+        let printed = "> 0 pass 1\n= unknown\nbad line 6\n";
+        compare(
+            &rt,
+            rt.alloc(),
+            script.as_str(),
+            Status::BadLine(6),
+            printed,
+        )?;
     }
-    for line in BAD_FIRST {
-        let (status, printed) = run(alloc, line.as_bytes(), 65536, &[])?;
-        assert_eq!(rt; status, Status::BadLine(1), "{line}");
-        assert_eq!(rt; printed.as_slice(), b"bad line 1\n".as_slice(), "{line}");
-    }
-    for lines in BAD_SECOND {
-        let (status, printed) = run(alloc, lines.as_bytes(), 65536, &[])?;
-        assert_eq!(rt; status, Status::BadLine(2), "{lines}");
-        assert_eq!(rt; printed.as_slice(), b"bad line 2\n".as_slice(), "{lines}");
-    }
-
-    // Links and files need no options, which come before all else.
-    let (status, printed) = run(alloc, b"link 11 5 - .", 65536, &[])?;
-    assert_eq!(rt; status, Status::Done);
-    assert_eq!(rt; printed.as_slice(), b"link 11 sent .\n".as_slice());
-    let (status, printed) = run(alloc, b"storage 0 1\nfile . /a", 65536, &[])?;
-    assert_eq!(rt; status, Status::Done);
-    assert_eq!(rt; printed.as_slice(), b"file . /a\n".as_slice());
-    let script = format!(in alloc; "link 11 5 - .\n{OPTIONS}")?;
-    assert_eq!(rt;
-        run(alloc, script.as_bytes(), 65536, &[])?.0,
-        Status::BadLine(2)
-    );
     Ok(())
 }
 
 #[test]
-fn lines_and_scripts_have_their_limits(rt: HostRuntime) -> Result<(), Fail> {
-    let alloc = rt.alloc();
-    let mut script = vec![in alloc; b'#'; 65536]?;
-    assert_eq!(rt; run(alloc, script.as_slice(), 65536, &[])?.0, Status::Done);
-    script.push(b'#')?;
-    assert_eq!(rt;
-        run(alloc, script.as_slice(), 65536, &[])?.0,
-        Status::BadLine(1)
-    );
+fn a_line_may_be_bad_where_it_stands(rt: HostRuntime) -> Result<(), Fail> {
+    for line in BAD_FIRST {
+        compare(&rt, rt.alloc(), line, Status::BadLine(1), "bad line 1\n")?;
+    }
+    for lines in BAD_SECOND {
+        compare(&rt, rt.alloc(), lines, Status::BadLine(2), "bad line 2\n")?;
+    }
+    Ok(())
+}
 
+#[test]
+fn links_and_files_need_no_options_and_stand_behind_them(rt: HostRuntime) -> Result<(), Fail> {
+    for (script, status, printed) in [
+        ("link 11 5 - .", Status::Done, "link 11 sent .\n"),
+        ("storage 0 1\nfile . /a", Status::Done, "file . /a\n"),
+        (
+            "link 11 5 - .\noptions pooled 50000 50001 connection passive 600 off restart",
+            Status::BadLine(2),
+            "bad line 2\n",
+        ),
+    ] {
+        compare(&rt, rt.alloc(), script, status, printed)?;
+    }
+    Ok(())
+}
+
+/// How a script ends.
+fn end_of(alloc: Global, script: &[u8]) -> Result<Status, AllocError> {
+    Ok(run(alloc, script, 65536, &[])?.0)
+}
+
+#[test]
+fn a_line_has_its_limit(rt: HostRuntime) -> Result<(), Fail> {
+    let mut script = vec![in rt.alloc(); b'#'; 65536]?;
+    assert_eq!(rt; end_of(rt.alloc(), script.as_slice())?, Status::Done);
+    script.push(b'#')?;
+    assert_eq!(rt; end_of(rt.alloc(), script.as_slice())?, Status::BadLine(1));
+    Ok(())
+}
+
+#[test]
+fn a_script_has_its_limit(rt: HostRuntime) -> Result<(), Fail> {
     // 256 lines of 65,535 bytes and a line feed.
-    script.clear();
+    let mut script = Vec::new(rt.alloc());
     for _ in 0..256 {
         script.extend_from_slice(&[b'#'; 65535])?;
         script.push(b'\n')?;
     }
-    assert_eq!(rt; run(alloc, script.as_slice(), 65536, &[])?.0, Status::Done);
+    assert_eq!(rt; end_of(rt.alloc(), script.as_slice())?, Status::Done);
     script.push(b'\n')?;
     assert_eq!(rt;
-        run(alloc, script.as_slice(), 65536, &[])?.0,
+        end_of(rt.alloc(), script.as_slice())?,
         Status::BadLine(257)
     );
     Ok(())
 }
 
 #[test]
-fn a_fault_stops_a_run_where_it_comes(rt: HostRuntime) -> Result<(), Fail> {
-    let alloc = rt.alloc();
+fn a_read_fault_stops_a_run_where_it_comes(rt: HostRuntime) -> Result<(), Fail> {
     let lines = transcripts::LOGIN;
-    let text = format!(in alloc; "< {OPTIONS}\n{lines}")?;
-    let login = Transcript::parse(alloc, text.as_str())?;
-    let full = Transcript::parse(alloc, transcripts::FULL_RANGE)?;
+    let text = format!(in rt.alloc(); "< {OPTIONS}\n{lines}")?;
+    let login = Transcript::parse(rt.alloc(), text.as_str())?;
+    let full = Transcript::parse(rt.alloc(), transcripts::FULL_RANGE)?;
     let first = login.script.len().clamp(1, 65536) as u32;
-    let (status, printed) = run(alloc, full.script.as_slice(), first, &[2])?;
+    let (status, printed) = run(rt.alloc(), full.script.as_slice(), first, &[2])?;
     assert_eq!(rt; status, Status::ReadFault);
     assert_eq!(rt; printed.as_slice(), login.printed.as_slice());
+    Ok(())
+}
 
-    let mut source = MemorySource::new(full.script, 65536, Vec::new(alloc));
-    let mut sink = MemorySink::new(alloc, 7, [3].to_vec(alloc)?);
+#[test]
+fn a_write_fault_stops_a_run_where_it_comes(rt: HostRuntime) -> Result<(), Fail> {
+    let alloc = rt.alloc();
+    let full = Transcript::parse(alloc, transcripts::FULL_RANGE)?;
     let words = [b"script".to_vec(alloc)?];
-    let status = run_script(alloc, &words, &mut source, &mut sink);
+    let fails = [3].to_vec(alloc)?;
+    let mut source = MemorySource::new(full.script, 65536, Vec::new(alloc));
+    let mut sink = MemorySink::new(alloc, 7, fails);
+    let status = run_script(alloc, words.as_slice(), &mut source, &mut sink);
     assert_eq!(rt; status, Status::WriteFault);
     assert_eq!(rt; sink.written(), b"> 0 connect 1 ".as_slice());
     Ok(())
@@ -292,25 +329,21 @@ fn a_fault_stops_a_run_where_it_comes(rt: HostRuntime) -> Result<(), Fail> {
 #[test]
 fn other_words_are_no_command(rt: HostRuntime) -> Result<(), Fail> {
     let alloc = rt.alloc();
-    let (status, printed) = run(alloc, b"", 1, &[])?;
-    assert_eq!(rt; status.code(), 0);
-    assert!(rt; printed.is_empty());
-
-    let mut source = MemorySource::new(b"0 fly".to_vec(alloc)?, 1, [1].to_vec(alloc)?);
-    let mut sink = MemorySink::new(alloc, 1, Vec::new(alloc));
     let words = [b"script".to_vec(alloc)?, b"script".to_vec(alloc)?];
-    assert_eq!(rt; run_script(alloc, &[], &mut source, &mut sink).code(), 64);
-    assert_eq!(rt;
-        run_script(alloc, &words, &mut source, &mut sink).code(),
-        64
-    );
-    assert_eq!(rt;
-        run_script(alloc, &words[..1], &mut source, &mut sink).code(),
-        3
-    );
-    assert_eq!(rt;
-        run_script(alloc, &words[..1], &mut source, &mut sink).code(),
-        2
-    );
+    let words = words.as_slice();
+    let fails = [1].to_vec(alloc)?;
+    let mut source = MemorySource::new(b"0 fly".to_vec(alloc)?, 1, fails);
+    let mut sink = MemorySink::new(alloc, 1, Vec::new(alloc));
+    // The first read fails, and the next run reads on from there.
+    for (count, code) in [(0, 64), (2, 64), (1, 3), (1, 2)] {
+        let status = run_script(alloc, &words[..count], &mut source, &mut sink);
+        assert_eq!(rt; status.code(), code);
+    }
+    Ok(())
+}
+
+#[test]
+fn an_empty_script_prints_nothing(rt: HostRuntime) -> Result<(), Fail> {
+    compare(&rt, rt.alloc(), "", Status::Done, "")?;
     Ok(())
 }

@@ -152,17 +152,18 @@ fn a_connection_without_a_link_is_not_covered(rt: HostRuntime) -> Result<(), Fai
 fn no_event_runs_at_the_end_of_the_count(rt: HostRuntime) -> Result<(), Fail> {
     let alloc = rt.alloc();
     let options = options()?;
-    let event = HubEvent {
+    let pass = [HubEvent {
         at: 0,
         kind: EventKind::Pass { session: 1 },
-    };
+    }];
+    let pass = pass.as_slice();
     let mut hub = Hub::with_count(alloc, options, u64::MAX);
     let mut storage = MemoryStorage::new(alloc, 0, Vec::new(alloc));
     let mut links: LinkTable<MemoryLink> = LinkTable::new(alloc);
     let mut log = Log::new(alloc);
     for (events, answer) in [
-        ([event].as_slice(), Err(RunError::Exhausted { done: 0 })),
-        ([].as_slice(), Ok(())),
+        (pass, Err(RunError::Exhausted { done: 0 })),
+        (&pass[1..], Ok(())),
     ] {
         if !covers(&links, events) {
             return Err(Fail::from("a link is not found"));

@@ -1,0 +1,198 @@
+-- How a run ends, from what it keeps.
+use Rattle.std.proofs.Common.{◌≡◌, ℕ, inl, inr, List, [], ◌∷◌, ◌++◌, Option, Some, None, refl, sym, subst, ◌∙◌, append-nil}
+use Rattle.std.specs.Prelude.{IfSome, Result, Ok, Err, OnOk, OnErr}
+use Rattle.std.proofs.lemmas.Option.{IfSome_then}
+use Rattle.ftp_base.specs.MemoryStorage.{MemoryState}
+use Rattle.ftp_base.specs.Outside.{Writes}
+use Rattle.ftp_base.specs.declared.fault.Failed.{Failed}
+use Rattle.ftp_base.specs.declared.fault.Failed.TheVariants.{Fault, Memory}
+use Rattle.ftp_events.specs.declared.entry.Entry.{Entry}
+use Rattle.ftp_stream.specs.Writing.{WritesFront}
+use Rattle.ftp_event_text.specs.declared.setup.Item.{Item}
+use Rattle.ftp_script_text.specs.declared.script.ScriptReader.{ScriptReader}
+use Rattle.ftp_script_text.specs.Script.{script_of}
+use Rattle.ftp_script_text.specs.ScriptReader.{HasRead, StopsBehind, IsLetIn}
+use Rattle.ftp_script_run.specs.declared.run.Run.{Run}
+use Rattle.ftp_script_run.specs.declared.status.Status.{Status}
+use Rattle.ftp_script_run.specs.declared.status.Status.TheVariants as status
+use Rattle.ftp_script_run.specs.Statuses.{IsCutShort, ended_by}
+use Rattle.ftp_script_text.specs.SetUp.{IsSetUp}
+use Rattle.ftp_script_run.specs.Left.{end_lines}
+use Rattle.ftp_script_run.specs.Outcome.{log_lines, bad_line, WritesWhole, WritesPart, closing, Outcome}
+use Rattle.ftp_script_run.specs.Runs.{Keeps, IsTaken, IsPartlyTaken, Running}
+use Rattle.ftp_script_run.proofs.RunLemmas.{kept-legal, kept-storage}
+use Rattle.ftp_script_run.proofs.Written.{writes-more, front-more, front-longer, front-whole, log_lines-append}
+
+-- what was told where there is something to tell
+pub told-start : (left : Option (List ℕ)) (reader : ScriptReader) (buffer : List ℕ) →
+    ((bytes : List ℕ) → HasRead [] bytes reader buffer (Some bytes)) →
+    IfSome left (λ bytes. HasRead [] bytes reader buffer left)
+told-start None reader buffer h = tt
+told-start (Some bytes) reader buffer h = h bytes
+
+-- ---- the steps
+
+-- one more item was read and taken
+pub running-more : (all left later before now new : Option (List ℕ)) (reader next : ScriptReader) (run after : Run) (buffer out : List ℕ) (i : Item) (r : Running all reader run buffer left before now) →
+    IsLetIn r.items i next →
+    ((bytes : List ℕ) → HasRead r.items bytes reader buffer left → HasRead (r.items ++ i ∷ []) bytes next out later) →
+    IsTaken after (r.items ++ i ∷ []) r.log now new →
+    Running all next after out later before new
+running-more all left later before now new reader next run after buffer out i r in_place told took = record {
+  items = r.items ++ i ∷ [];
+  log = took.0 ++ r.log;
+  known = in_place.1;
+  kept = took.1;
+  read = IfSome_then all r.read told;
+  written =
+      subst (Writes before new) (sym (log_lines-append took.0 r.log))
+      (writes-more before now new (log_lines r.log) (log_lines took.0) r.written took.2);
+}
+
+-- of what whole lines give, all that came was written
+part-whole : (bytes : List ℕ) (left before now : Option (List ℕ)) (reader : ScriptReader) (buffer : List ℕ) (run : Run) (items : List Item) (log : List Entry) →
+    HasRead items bytes reader buffer left →
+    Keeps run items log →
+    Writes before now (log_lines log) →
+    WritesPart bytes before now
+part-whole bytes left before now reader buffer run items log h kept written = record {
+  read = h.read;
+  rest = h.bytes;
+  items = items;
+  bad = None;
+  log = log;
+  all_is = h.all_is;
+  whole = h.whole;
+  script = h.items;
+  links = run.links;
+  storage = run.storage;
+  legal = kept-legal run items log kept;
+  written = front-whole before now (log_lines log) (end_lines run.links run.storage) written;
+}
+
+pub out-memory : (all left before now : Option (List ℕ)) (reader : ScriptReader) (run : Run) (buffer : List ℕ) →
+    Running all reader run buffer left before now →
+    IfSome all (λ bytes. WritesPart bytes before now)
+out-memory all left before now reader run buffer r =
+    IfSome_then all r.read (λ bytes h. part-whole bytes left before now reader buffer run r.items r.log h r.kept r.written)
+
+-- of an item that was read, at most a part of its lines was written
+pub out-cut : (all left later before now new : Option (List ℕ)) (reader next : ScriptReader) (run after : Run) (buffer out : List ℕ) (i : Item) (s : Status) (r : Running all reader run buffer left before now) →
+    ((bytes : List ℕ) → HasRead r.items bytes reader buffer left → HasRead (r.items ++ i ∷ []) bytes next out later) →
+    IsPartlyTaken after (r.items ++ i ∷ []) r.log now new →
+    IsCutShort s →
+    IfSome all (λ bytes. Outcome s bytes later before new)
+out-cut all left later before now new reader next run after buffer out i s r told part short =
+    IfSome_then all r.read (λ bytes h. cut_short bytes s short (of_part bytes h (told bytes h) part)) where
+      cut_short : (bytes : List ℕ) (s : Status) → IsCutShort s → WritesPart bytes before new → Outcome s bytes later before new
+      cut_short bytes s (inl e) p = subst (λ (t : Status). Outcome t bytes later before new) (sym e) p
+      cut_short bytes s (inr e) p = subst (λ (t : Status). Outcome t bytes later before new) (sym e) p
+
+      of_part : (bytes : List ℕ) → HasRead r.items bytes reader buffer left → HasRead (r.items ++ i ∷ []) bytes next out later → IsPartlyTaken after (r.items ++ i ∷ []) r.log now new → WritesPart bytes before new
+      of_part bytes h more (inl same) = part-whole bytes left before new reader buffer run r.items r.log h r.kept (subst (λ (w : Option (List ℕ)). Writes before w (log_lines r.log)) (sym same) r.written)
+      of_part bytes h more (inr taken) = record {
+        read = more.read;
+        rest = more.bytes;
+        items = r.items ++ i ∷ [];
+        bad = None;
+        log = taken.0 ++ r.log;
+        all_is = more.all_is;
+        whole = more.whole;
+        script = more.items;
+        links = after.links;
+        storage = after.storage;
+        legal = kept-legal after (r.items ++ i ∷ []) (taken.0 ++ r.log) taken.1;
+        written =
+            front-longer before new (log_lines (taken.0 ++ r.log)) (end_lines after.links after.storage)
+            (subst (WritesFront before new) (sym (log_lines-append taken.0 r.log))
+            (front-more before now new (log_lines r.log) (log_lines taken.0) r.written taken.2));
+      }
+
+-- all bytes were read, and what is written behind the log was begun
+part-closing : (bytes : List ℕ) (before now new : Option (List ℕ)) (run : Run) (items : List Item) (log : List Entry) (bad : Option ℕ) →
+    script_of bytes ≡ (items, bad) →
+    Keeps run items log →
+    Writes before now (log_lines log) →
+    WritesFront now new (closing run.links run.storage bad) →
+    WritesPart bytes before new
+part-closing bytes before now new run items log bad script kept written more = record {
+  read = bytes;
+  rest = [];
+  items = items;
+  bad = bad;
+  log = log;
+  all_is = append-nil bytes;
+  whole = inr refl;
+  script = script;
+  links = run.links;
+  storage = run.storage;
+  legal = kept-legal run items log kept;
+  written = front-more before now new (log_lines log) (closing run.links run.storage bad) written more;
+}
+
+pub out-end : (all left later before now new : Option (List ℕ)) (reader : ScriptReader) (run : Run) (buffer : List ℕ) (last : Result Unit Failed) (r : Running all reader run buffer left before now) →
+    ((bytes : List ℕ) → HasRead r.items bytes reader buffer left → (script_of bytes ≡ (r.items, None)) × (later ≡ Some [])) →
+    OnOk last (Writes now new (end_lines run.links run.storage)) →
+    OnErr last (WritesFront now new (end_lines run.links run.storage)) →
+    IfSome all (λ bytes. Outcome (ended_by last status.Done) bytes later before new)
+out-end all left later before now new reader run buffer (Ok x) r told wrote front =
+    IfSome_then all r.read
+    (λ bytes h. record {
+      items = r.items;
+      log = r.log;
+      script = (told bytes h).0;
+      end = (told bytes h).1;
+      links = run.links;
+      storage = run.storage;
+      legal = kept-legal run r.items r.log r.kept;
+      written = writes-more before now new (log_lines r.log) (end_lines run.links run.storage) r.written wrote;
+    })
+out-end all left later before now new reader run buffer (Err Fault) r told wrote front =
+    IfSome_then all r.read (λ bytes h. part-closing bytes before now new run r.items r.log None (told bytes h).0 r.kept r.written front)
+out-end all left later before now new reader run buffer (Err Memory) r told wrote front =
+    IfSome_then all r.read (λ bytes h. part-closing bytes before now new run r.items r.log None (told bytes h).0 r.kept r.written front)
+
+pub out-bad : (all left later before now new : Option (List ℕ)) (reader : ScriptReader) (run : Run) (buffer : List ℕ) (k : ℕ) (last : Result Unit Failed) (r : Running all reader run buffer left before now) →
+    ((bytes : List ℕ) → HasRead r.items bytes reader buffer left → script_of bytes ≡ (r.items, Some k)) →
+    OnOk last (Writes now new (bad_line k)) →
+    OnErr last (WritesFront now new (bad_line k)) →
+    IfSome all (λ bytes. Outcome (ended_by last (status.BadLine k)) bytes later before new)
+out-bad all left later before now new reader run buffer k (Ok x) r told wrote front =
+    IfSome_then all r.read
+    (λ bytes h. record {
+      items = r.items;
+      log = r.log;
+      script = told bytes h;
+      links = run.links;
+      storage = run.storage;
+      legal = kept-legal run r.items r.log r.kept;
+      written = writes-more before now new (log_lines r.log) (bad_line k) r.written wrote;
+    })
+out-bad all left later before now new reader run buffer k (Err Fault) r told wrote front =
+    IfSome_then all r.read (λ bytes h. part-closing bytes before now new run r.items r.log (Some k) (told bytes h) r.kept r.written front)
+out-bad all left later before now new reader run buffer k (Err Memory) r told wrote front =
+    IfSome_then all r.read (λ bytes h. part-closing bytes before now new run r.items r.log (Some k) (told bytes h) r.kept r.written front)
+
+pub out-fault : (all left later before now : Option (List ℕ)) (reader : ScriptReader) (run : Run) (buffer : List ℕ) (r : Running all reader run buffer left before now) →
+    ((bytes : List ℕ) → HasRead r.items bytes reader buffer left → StopsBehind r.items bytes later) →
+    IfSome all (λ bytes. WritesWhole bytes later before now)
+out-fault all left later before now reader run buffer r told =
+    IfSome_then all r.read
+    (λ bytes h. record {
+      items = r.items;
+      log = r.log;
+      stopped = told bytes h;
+      links = run.links;
+      storage = run.storage;
+      legal = kept-legal run r.items r.log r.kept;
+      written = r.written;
+    })
+
+-- until an event comes, the storage of a run is the one that its items set up
+pub kept-set_up : (run : Run) (items : List Item) (log : List Entry) (storage : MemoryState) → Keeps run items log → storage ≡ run.storage → IsSetUp storage items
+kept-set_up run items log storage kept same = λ no_event. same ∙ kept-storage run items log kept no_event
+
+-- ---- what a status says
+
+pub outcome-of : (all left old new : Option (List ℕ)) (s t : Status) → s ≡ t → IfSome all (λ bytes. Outcome s bytes left old new) → IfSome all (λ bytes. Outcome t bytes left old new)
+outcome-of all left old new s t same h = subst (λ (u : Status). IfSome all (λ bytes. Outcome u bytes left old new)) same h

@@ -1,0 +1,139 @@
+-- What sets up a storage or a link: it is made as its line says, and it is not refused.
+use Rattle.std.proofs.Common.{◌≡◌, ℕ, true, false, not, ◌&&◌, leb, ltb, List, [], Option, Some, None, is_some, length, refl, sym, ap, subst, ◌∙◌, arith}
+use Rattle.std.specs.Prelude.{is_none, Result, Err, IfErr}
+use Rattle.std.specs.FinMap as map
+use Rattle.std.proofs.lemmas.Bool.{not-true, leb-true, and_parts}
+use Rattle.std.proofs.lemmas.Bool.Decides.{nat_tests}
+use Rattle.ftp_base.specs.declared.error_kind.ErrorKind.{ErrorKind}
+use Rattle.ftp_base.specs.declared.error_kind.ErrorKind.TheVariants as error
+use Rattle.ftp_base.specs.declared.fault.LinkFault.{LinkFault}
+use Rattle.ftp_base.specs.declared.storage.StoreError.{StoreError}
+use Rattle.ftp_base.specs.declared.storage.StoreError.TheVariants as store
+use Rattle.ftp_base.specs.MemoryStorage.{MemoryState, directory_refusal, file_refusal, if_directory, if_new, if_file, if_within}
+use Rattle.ftp_base.specs.Storage.{Files, parent, Refuses, item as item_at}
+use Rattle.ftp_base.specs.Storage as storage
+use Rattle.ftp_base.specs.declared.link_table.InsertError.{InsertError}
+use Rattle.ftp_base.specs.declared.link_table.InsertError.TheVariants.{Taken}
+use Rattle.ftp_base.specs.LinkTable.{link_of}
+use Rattle.ftp_base.specs.Memory.{LinkState}
+use Rattle.ftp_events.specs.declared.entry.Entry.{Entry}
+use Rattle.ftp_event_text.specs.declared.setup.Item.{Item}
+use Rattle.ftp_event_text.specs.declared.setup.Item.TheVariants as item
+use Rattle.ftp_script_text.specs.Script.{has_link, has_stored, is_free, may_stand}
+use Rattle.ftp_script_text.specs.SetUp.{has_event, new_storage, storage_in}
+use Rattle.ftp_script_run.specs.declared.run.Run.{Run}
+use Rattle.ftp_script_run.specs.Items.{new_link}
+use Rattle.ftp_script_run.specs.Runs.{Keeps, MayTake}
+use Rattle.ftp_script_run.proofs.RunLemmas.{kept-storage, kept-numbers}
+
+-- ---- the storage
+
+-- a storage that was made is a new one
+pub new_storage-is : (s : MemoryState) (max : ℕ) (fails : List ℕ) →
+    s.files ≡ map.empty →
+    s.max_file ≡ max →
+    s.calls.made ≡ 0 →
+    s.calls.faults ≡ 0 →
+    s.calls.failing ≡ fails →
+    s ≡ new_storage max fails
+new_storage-is s max fails files longest made faults failing = λ i. record {
+  files = files i;
+  max_file = longest i;
+  calls = record { made = made i; faults = faults i; failing = failing i };
+}
+
+none_is : {X : Type 0} (o : Option X) → is_none o ≡ true → o ≡ None
+none_is None h = refl
+none_is (Some x) h = absurd cc
+
+-- a path is free in the storage where it is free by the items
+free_is : (run : Run) (items : List Item) (log : List Entry) (path : List ℕ) → Keeps run items log → has_event items ≡ false → is_free items path ≡ true → directory_refusal run.storage.files path ≡ None
+free_is run items log path kept first free = ap (λ (s : MemoryState). directory_refusal s.files path) (kept-storage run items log kept first) ∙ none_is (directory_refusal (storage_in items).files path) free
+
+-- a file is not refused where a directory is not, and it is not too long
+file_refusal-none : (files : Files) (max : ℕ) (path : List ℕ) (len : ℕ) → directory_refusal files path ≡ None → leb len max ≡ true → file_refusal files max path len ≡ None
+file_refusal-none files max path len free short = by (item_at files (parent path)) (item_at files path) free where
+  within : if_within len max ≡ None
+  within = let f : ltb max len ≡ false = grind (arith, nat_tests, leb-true len max short) in rw f refl
+
+  by : (p q : Option storage.Item) → if_directory p error.PermanentDirectoryNotAvailable (if_new q) ≡ None → if_directory p error.PermanentDirectoryNotAvailable (if_file q (if_within len max)) ≡ None
+  by (Some storage.Directory) None e = within
+  by (Some storage.Directory) (Some i) e = absurd cc
+  by (Some (storage.File bytes)) q e = absurd cc
+  by None q e = absurd cc
+
+-- what sets up the storage comes before all events
+pub storage_first : (items : List Item) (max : ℕ) (fails : List ℕ) → may_stand items (item.Storage max fails) ≡ true → has_event items ≡ false
+storage_first items max fails may = not-true (has_event items) (and_parts (not (has_event items)) (not (has_stored items)) may).0
+
+pub dir_first : (items : List Item) (path : List ℕ) → may_stand items (item.Dir path) ≡ true → has_event items ≡ false
+dir_first items path may = not-true (has_event items) (and_parts (not (has_event items)) (is_free items path) may).0
+
+pub file_first : (items : List Item) (bytes path : List ℕ) → may_stand items (item.File bytes path) ≡ true → has_event items ≡ false
+file_first items bytes path may =
+    not-true (has_event items) (and_parts (not (has_event items)) (is_free items path && leb (length bytes) (storage_in items).max_file) may).0
+
+-- a directory that comes is not refused
+pub dir_taken : (run : Run) (path : List ℕ) → MayTake run (item.Dir path) → directory_refusal run.storage.files path ≡ None
+dir_taken run path may =
+    let items = may.1.0 in
+    free_is run items may.1.1 path may.1.2 (dir_first items path may.1.3) (and_parts (not (has_event items)) (is_free items path) may.1.3).1
+
+-- a file that comes is not refused
+pub file_taken : (run : Run) (bytes path : List ℕ) → MayTake run (item.File bytes path) → file_refusal run.storage.files run.storage.max_file path (length bytes) ≡ None
+file_taken run bytes path may =
+    let items = may.1.0 in
+    let kept = may.1.2 in
+    let first = file_first items bytes path may.1.3 in
+    let fits = (and_parts (not (has_event items)) (is_free items path && leb (length bytes) (storage_in items).max_file) may.1.3).1 in
+    let parts = and_parts (is_free items path) (leb (length bytes) (storage_in items).max_file) fits in
+    file_refusal-none run.storage.files run.storage.max_file path (length bytes)
+    (free_is run items may.1.1 path kept first parts.0)
+    (ap (λ (s : MemoryState). leb (length bytes) s.max_file) (kept-storage run items may.1.1 kept first) ∙ parts.1)
+
+-- what is not refused is not answered with a refusal
+pub not_refused : (refusal : Option ErrorKind) (e : StoreError) (k : ErrorKind) → refusal ≡ None → e ≡ store.Kind k → Refuses refusal e → ⊥
+not_refused refusal e k none is refused = let given : refusal ≡ Some k = subst (Refuses refusal) is refused in absurd cc
+
+-- ---- links
+
+-- a link that was made is a new one
+pub new_link-is : (l : LinkState) (chunk : ℕ) (fails : List (ℕ × LinkFault)) (bytes : List ℕ) →
+    l.left ≡ bytes →
+    l.sent ≡ [] →
+    l.closed ≡ false →
+    l.last_fault ≡ None →
+    l.chunk ≡ chunk →
+    l.calls.made ≡ 0 →
+    l.calls.faults ≡ 0 →
+    l.calls.failing ≡ fails →
+    l ≡ new_link chunk fails bytes
+new_link-is l chunk fails bytes left sent closed last_fault moved made faults failing = λ i. record {
+  left = left i;
+  sent = sent i;
+  closed = closed i;
+  last_fault = last_fault i;
+  chunk = moved i;
+  calls = record { made = made i; faults = faults i; failing = failing i };
+}
+
+-- a link that comes has a new number
+pub new_number : (old : Run) (n chunk : ℕ) (fails : List (ℕ × LinkFault)) (bytes : List ℕ) → MayTake old (item.Link n chunk fails bytes) → is_some (map.get old.links n) ≡ false
+new_number old n chunk fails bytes may =
+    let items = may.1.0 in
+    kept-numbers old items may.1.1 n may.1.2
+    ∙ not-true (has_link n items) may.1.3
+
+-- a table that has no link of this number does not refuse it as taken
+pub not_taken : {T : Type 0} (r : Result T (InsertError LinkState)) (e : InsertError LinkState) (x link : LinkState) (there : Option LinkState) →
+    r ≡ Err e →
+    e ≡ Taken x →
+    IfErr r (λ f. link_of f ≡ link) →
+    (r ≡ Err (Taken link) → is_some there ≡ true) →
+    is_some there ≡ false →
+    ⊥
+not_taken r e x link there is e_is returned taken none =
+    let given : link_of e ≡ link = subst (λ (q : Result _ (InsertError LinkState)). IfErr q (λ f. link_of f ≡ link)) is returned in
+    let same : x ≡ link = sym (ap link_of e_is) ∙ given in
+    let found : is_some there ≡ true = taken (is ∙ ap Err (e_is ∙ ap Taken same)) in
+    absurd cc

@@ -1,0 +1,10 @@
+use Rattle.ftp_script_run.specs.Left.{link_lines, file_lines}
+use Rattle.ftp_script_run.proofs.Written.{front-more, on_err-then}
+use Rattle.ftp_script_run.proofs.run.Run.end.Goals as goal
+
+pub returns-clause-front : goal.returns-clause-front
+returns-clause-front g c =
+    let run = c.args.self.now in
+    on_err-then c.print_files.result c.print_files.ensures.front (λ front.
+    front-more (g.K.Sink.written c.args.sink.now) (g.K.Sink.written c.print_links.new.sink) (g.K.Sink.written c.print_files.new.sink)
+    (link_lines run.links) (file_lines run.storage) c.in_ok-print_links.ensures.wrote front)

@@ -1,0 +1,17 @@
+use Rattle.std.proofs.Common.{refl}
+use Rattle.ftp_base.specs.MemoryStorage.{directory_refusal}
+use Rattle.ftp_event_text.specs.declared.setup.Item.TheVariants as item
+use Rattle.ftp_script_run.proofs.RunLemmas.{keeps-stored}
+use Rattle.ftp_script_run.proofs.SetUpLemmas.{dir_first, dir_taken, not_refused}
+use Rattle.ftp_script_run.proofs.run.Run.make_dir.Goals as goal
+
+pub unreachable-requires : goal.unreachable-requires
+unreachable-requires c =
+    not_refused (directory_refusal c.args.self.now.storage.files c.args.path) c.in-Err-Kind.field-0 c.in-Err-Kind.field-0-0
+    (dir_taken c.args.self.now c.args.path c.requires) c.in-Err-Kind.field-0-is c.in-Err-Kind.ensures.refused
+
+pub returns-in-Ok-clause-put : goal.returns-in-Ok-clause-put
+returns-in-Ok-clause-put c = λ items log kept may.
+    keeps-stored c.args.self.now
+    (record { alloc = c.args.self.now.alloc; hub = c.args.self.now.hub; storage = c.mkdir.new.self; links = c.args.self.now.links; text = c.args.self.now.text })
+    items log (item.Dir c.args.path) refl refl refl (dir_first items c.args.path may) refl refl c.in-Ok.ensures.made kept

@@ -1,0 +1,22 @@
+use Rattle.std.proofs.Common.{refl, ap, length, List, ℕ, ◌≡◌, ◌∙◌, None}
+use Rattle.ftp_base.specs.MemoryStorage.{file_refusal}
+use Rattle.ftp_base.specs.Storage.{with_file}
+use Rattle.ftp_event_text.specs.declared.setup.Item.TheVariants as item
+use Rattle.ftp_script_run.proofs.RunLemmas.{keeps-stored}
+use Rattle.ftp_script_run.proofs.SetUpLemmas.{file_taken, not_refused, file_first}
+use Rattle.ftp_script_run.proofs.run.Run.put_file.Goals as goal
+
+pub unreachable-requires : goal.unreachable-requires
+unreachable-requires c =
+    let s = c.args.self.now.storage in
+    let none : file_refusal s.files s.max_file c.args.path (length c.into_vec.result.items) ≡ None =
+    ap (λ (b : List ℕ). file_refusal s.files s.max_file c.args.path (length b)) c.into_vec.ensures ∙ file_taken c.args.self.now c.args.bytes c.args.path c.requires in
+    not_refused (file_refusal s.files s.max_file c.args.path (length c.into_vec.result.items)) c.in-Err-Kind.field-0 c.in-Err-Kind.field-0-0 none c.in-Err-Kind.field-0-is c.in-Err-Kind.ensures.refused
+
+pub returns-in-Ok-clause-put : goal.returns-in-Ok-clause-put
+returns-in-Ok-clause-put c = λ items log kept may.
+    keeps-stored c.args.self.now
+    (record { alloc = c.args.self.now.alloc; hub = c.args.self.now.hub; storage = c.put_file.new.self; links = c.args.self.now.links; text = c.args.self.now.text })
+    items log (item.File c.args.bytes c.args.path) refl refl refl (file_first items c.args.bytes c.args.path may) refl refl
+    (c.in-Ok.ensures.stored ∙ ap (λ (b : List ℕ). record c.args.self.now.storage { files = with_file c.args.self.now.storage.files c.args.path b }) c.into_vec.ensures)
+    kept

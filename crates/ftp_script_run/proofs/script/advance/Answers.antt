@@ -1,0 +1,89 @@
+use Rattle.std.proofs.Common.{◌≡◌, ◌∙◌, Option, Some, None, ap, subst, sym}
+use Rattle.std.specs.Prelude.{Result, Ok, Err, IfOk, IfSome}
+use Rattle.ftp_event_text.specs.declared.setup.Item.{Item}
+use Rattle.ftp_event_text.specs.Setup.{IsItem}
+use Rattle.ftp_script_text.specs.declared.script.ScriptError.{ScriptError}
+use Rattle.ftp_script_text.specs.declared.script.ScriptError.TheVariants as error
+use Rattle.ftp_script_text.specs.ScriptReader.{Answers, IsLetIn}
+use Rattle.ftp_script_run.specs.declared.status.Status.TheVariants as status
+use Rattle.ftp_script_run.specs.Statuses.{ended_by}
+use Rattle.ftp_script_run.proofs.Written.{if_none-then, if_some-both}
+use Rattle.ftp_script_run.proofs.OutcomeLemmas.{kept-set_up, running-more, out-cut, out-end, out-bad, out-fault, out-memory, outcome-of}
+use Rattle.ftp_script_run.proofs.script.advance.Goals as goal
+
+abbrev Found : Type 0
+Found = Result (Option Item) ScriptError
+
+pub taken-requires : goal.taken-requires
+taken-requires g c =
+    let found : c.next_item.result ≡ Ok (Some c.in-Ok-Some.item) = c.in-Ok-Some.is ∙ ap Ok c.in-Ok-Some.field-0-is in
+    let r = c.requires.running.2 in
+    let placed = subst (λ (f : Found). IfOk f (λ o. IfSome o (λ i. IsLetIn r.items i c.next_item.new.self))) found (c.next_item.ensures.let_in r.items r.known (kept-set_up c.args.run.now r.items r.log c.storage.result.now r.kept c.storage.ensures)) in
+    (subst (λ (f : Found). IfOk f (λ o. IfSome o IsItem)) found c.next_item.ensures.item, (r.items, r.log, r.kept, placed.0))
+
+pub returns-in-Ok-Some-clause-goes_on : goal.returns-in-Ok-Some-clause-goes_on
+returns-in-Ok-Some-clause-goes_on g c =
+    let found : c.next_item.result ≡ Ok (Some c.in-Ok-Some.item) = c.in-Ok-Some.is ∙ ap Ok c.in-Ok-Some.field-0-is in
+    let left = g.S.Source.left c.args.source.now in
+    let later = g.S.Source.left c.next_item.new.source in
+    let now = g.K.Sink.written c.args.sink.now in
+    let new = g.K.Sink.written c.taken.new.sink in
+    if_none-then c.taken.result c.taken.ensures.took (λ took all before r.
+    let placed = subst (λ (f : Found). IfOk f (λ o. IfSome o (λ i. IsLetIn r.items i c.next_item.new.self))) found (c.next_item.ensures.let_in r.items r.known (kept-set_up c.args.run.now r.items r.log c.storage.result.now r.kept c.storage.ensures)) in
+    running-more all left later before now new c.args.reader.now c.next_item.new.self c.args.run.now c.taken.new.run c.args.buffer.now c.next_item.new.buffer c.in-Ok-Some.item r
+    placed
+    (λ bytes h. subst (λ (f : Found). Answers r.items bytes f c.next_item.new.self c.next_item.new.buffer later) found (c.next_item.ensures.told r.items bytes h (kept-set_up c.args.run.now r.items r.log c.storage.result.now r.kept c.storage.ensures)))
+    (took r.items r.log r.kept placed.0))
+
+pub returns-in-Ok-Some-clause-ended : goal.returns-in-Ok-Some-clause-ended
+returns-in-Ok-Some-clause-ended g c =
+    let found : c.next_item.result ≡ Ok (Some c.in-Ok-Some.item) = c.in-Ok-Some.is ∙ ap Ok c.in-Ok-Some.field-0-is in
+    let left = g.S.Source.left c.args.source.now in
+    let later = g.S.Source.left c.next_item.new.source in
+    let now = g.K.Sink.written c.args.sink.now in
+    let new = g.K.Sink.written c.taken.new.sink in
+    if_some-both c.taken.result c.taken.ensures.front c.taken.ensures.cut_short (λ s front short all before r.
+    let placed = subst (λ (f : Found). IfOk f (λ o. IfSome o (λ i. IsLetIn r.items i c.next_item.new.self))) found (c.next_item.ensures.let_in r.items r.known (kept-set_up c.args.run.now r.items r.log c.storage.result.now r.kept c.storage.ensures)) in
+    out-cut all left later before now new c.args.reader.now c.next_item.new.self c.args.run.now c.taken.new.run c.args.buffer.now c.next_item.new.buffer c.in-Ok-Some.item s r
+    (λ bytes h. subst (λ (f : Found). Answers r.items bytes f c.next_item.new.self c.next_item.new.buffer later) found (c.next_item.ensures.told r.items bytes h (kept-set_up c.args.run.now r.items r.log c.storage.result.now r.kept c.storage.ensures)))
+    (front r.items r.log r.kept placed.0)
+    short)
+
+pub returns-in-Ok-None-clause-ended : goal.returns-in-Ok-None-clause-ended
+returns-in-Ok-None-clause-ended g c =
+    let found : c.next_item.result ≡ Ok None = c.in-Ok-None.is ∙ ap Ok c.in-Ok-None.field-0-is in
+    let left = g.S.Source.left c.args.source.now in
+    let later = g.S.Source.left c.next_item.new.source in
+    let now = g.K.Sink.written c.args.sink.now in
+    let new = g.K.Sink.written c.end.new.sink in
+    λ all before r.
+    outcome-of all later before new (ended_by c.end.result status.Done) c.after.result (sym c.after.ensures)
+    (out-end all left later before now new c.args.reader.now c.args.run.now c.args.buffer.now c.end.result r
+    (λ bytes h. subst (λ (f : Found). Answers r.items bytes f c.next_item.new.self c.next_item.new.buffer later) found (c.next_item.ensures.told r.items bytes h (kept-set_up c.args.run.now r.items r.log c.storage.result.now r.kept c.storage.ensures)))
+    c.end.ensures.wrote c.end.ensures.front)
+
+pub returns-in-Err-BadLine-clause-ended : goal.returns-in-Err-BadLine-clause-ended
+returns-in-Err-BadLine-clause-ended g c =
+    let found : c.next_item.result ≡ Err (error.BadLine c.in-Err-BadLine.k) = c.in-Err-BadLine.is ∙ ap Err c.in-Err-BadLine.field-0-is in
+    let left = g.S.Source.left c.args.source.now in
+    let later = g.S.Source.left c.next_item.new.source in
+    let now = g.K.Sink.written c.args.sink.now in
+    let new = g.K.Sink.written c.bad_line.new.sink in
+    λ all before r.
+    outcome-of all later before new (ended_by c.bad_line.result (status.BadLine c.in-Err-BadLine.k)) c.after-in-Err-BadLine.result (sym c.after-in-Err-BadLine.ensures)
+    (out-bad all left later before now new c.args.reader.now c.args.run.now c.args.buffer.now c.in-Err-BadLine.k c.bad_line.result r
+    (λ bytes h. subst (λ (f : Found). Answers r.items bytes f c.next_item.new.self c.next_item.new.buffer later) found (c.next_item.ensures.told r.items bytes h (kept-set_up c.args.run.now r.items r.log c.storage.result.now r.kept c.storage.ensures)))
+    c.bad_line.ensures.wrote c.bad_line.ensures.front)
+
+pub returns-in-Err-Fault-clause-ended : goal.returns-in-Err-Fault-clause-ended
+returns-in-Err-Fault-clause-ended g c =
+    let found : c.next_item.result ≡ Err error.Fault = c.in-Err-Fault.is ∙ ap Err c.in-Err-Fault.field-0-is in
+    let left = g.S.Source.left c.args.source.now in
+    let later = g.S.Source.left c.next_item.new.source in
+    λ all before r.
+    out-fault all left later before (g.K.Sink.written c.args.sink.now) c.args.reader.now c.args.run.now c.args.buffer.now r
+    (λ bytes h. subst (λ (f : Found). Answers r.items bytes f c.next_item.new.self c.next_item.new.buffer later) found (c.next_item.ensures.told r.items bytes h (kept-set_up c.args.run.now r.items r.log c.storage.result.now r.kept c.storage.ensures)))
+
+pub returns-in-Err-Memory-clause-ended : goal.returns-in-Err-Memory-clause-ended
+returns-in-Err-Memory-clause-ended g c = λ all before r.
+    out-memory all (g.S.Source.left c.args.source.now) before (g.K.Sink.written c.args.sink.now) c.args.reader.now c.args.run.now c.args.buffer.now r

@@ -1,0 +1,50 @@
+-- The legal log of a script's items, the newest entry first, and what it does to their storage and links.
+use Rattle.std.specs.Prelude.{◌≡◌, List, [], map, reverse, Some, MatchOption}
+use Rattle.ftp_base.specs.LinkTable.{Numbered}
+use Rattle.ftp_base.specs.Memory.{LinkState}
+use Rattle.ftp_base.specs.MemoryStorage.{MemoryState, memory_meaning}
+use Rattle.ftp_options.specs.declared.options.Options.{Options}
+use Rattle.ftp_options.specs.Settings.{Settings}
+use Rattle.ftp_options.specs.Builder.{settings_of}
+use Rattle.ftp_events.specs.declared.entry.Entry.{Entry}
+use Rattle.ftp_events.specs.Leads.{Views, Outside, Leads}
+use Rattle.ftp_events.specs.Right.{IsRight, IsActed}
+use Rattle.ftp_event_text.specs.declared.setup.Item.{Item}
+use Rattle.ftp_script_text.specs.SetUp.{storage_in}
+use Rattle.ftp_script_run.specs.Items.{events_in, options_in, links_in}
+
+-- a storage and a link in memory tell all
+abbrev pub memory_views : Views MemoryState LinkState
+memory_views =
+    record {
+      files = λ s. Some s.files;
+      meaning = λ s. memory_meaning s.files s.max_file;
+      storage_faults = λ s. s.calls.faults;
+      left = λ l. Some l.left;
+      sending = λ l. record { sent = Some l.sent; closed = l.closed; last_fault = l.last_fault };
+      link_faults = λ l. l.calls.faults;
+    }
+
+-- the storage and all links as the items set them up; an event can use no link before its line
+abbrev pub start_of : List Item → Outside MemoryState LinkState
+start_of items = record { storage = storage_in items; links = links_in items }
+
+-- by options with these settings each decision and each action is due, and each job was run, at its end, from old to new
+pub record IsDue (settings : Settings) (log : List Entry) (old new : Outside MemoryState LinkState) : Type 0 where
+  pub options : Options
+  pub set : settings_of options ≡ settings
+  pub right : IsRight options log
+  pub acted : IsActed options log
+  pub led : Leads memory_views options [] log old new
+
+-- without options nothing was run
+pub record IsIdle (log : List Entry) (old new : Outside MemoryState LinkState) : Type 0 where
+  pub empty : log ≡ []
+  pub same : new ≡ old
+
+-- the entries are those of the script's events, in their order; all that they say is due, and leaves these links and this storage
+pub record IsLegal (items : List Item) (log : List Entry) (links : Numbered LinkState) (storage : MemoryState) : Type 0 where
+  pub events : map (λ (e : Entry). e.event) (reverse log) ≡ events_in items
+  pub due :
+      MatchOption (options_in items) (IsIdle log (start_of items) (record { storage = storage; links = links }))
+      (λ settings. IsDue settings log (start_of items) (record { storage = storage; links = links }))

@@ -1,0 +1,86 @@
+-- What was read and what was written, by the status of a run.
+use Rattle.std.specs.Prelude.{◌≡◌, ℕ, List, [], ◌∷◌, ◌++◌, codes, reverse, Option, Some, None}
+use Rattle.ftp_base.specs.LinkTable.{Numbered}
+use Rattle.ftp_base.specs.Memory.{LinkState}
+use Rattle.ftp_base.specs.MemoryStorage.{MemoryState}
+use Rattle.ftp_base.specs.Outside.{Writes}
+use Rattle.ftp_events.specs.declared.entry.Entry.{Entry}
+use Rattle.ftp_stream.specs.Writing.{WritesFront}
+use Rattle.ftp_text.specs.Fields.{number}
+use Rattle.ftp_event_text.specs.declared.setup.Item.{Item}
+use Rattle.ftp_event_text.specs.Printing.{print}
+use Rattle.ftp_script_text.specs.Script.{script_of}
+use Rattle.ftp_script_text.specs.ScriptReader.{AreWhole, StopsBehind}
+use Rattle.ftp_script_run.specs.declared.status.Status.{Status}
+use Rattle.ftp_script_run.specs.declared.status.Status.TheVariants as status
+use Rattle.ftp_script_run.specs.Left.{end_lines}
+use Rattle.ftp_script_run.specs.Legal.{IsLegal}
+
+-- the lines of the log, the oldest entry first
+abbrev pub log_lines : List Entry → List ℕ
+log_lines log = print (reverse log)
+
+-- the line that names a bad line
+abbrev pub bad_line : ℕ → List ℕ
+bad_line k = (codes "bad line" ++ number k) ++ 10 ∷ []
+
+-- all bytes are a script, and are read; its legal log was written, and the lines on the links and files that it leaves
+pub record IsDone (bytes : List ℕ) (left old new : Option (List ℕ)) : Type 0 where
+  pub items : List Item
+  pub log : List Entry
+  pub script : script_of bytes ≡ (items, None)
+  pub end : left ≡ Some []
+  pub links : Numbered LinkState
+  pub storage : MemoryState
+  pub legal : IsLegal items log links storage
+  pub written : Writes old new (log_lines log ++ end_lines links storage)
+
+-- line k is the first bad one; the legal log of the lines before it was written, and the line that names it
+pub record HasBadLine (k : ℕ) (bytes : List ℕ) (old new : Option (List ℕ)) : Type 0 where
+  pub items : List Item
+  pub log : List Entry
+  pub script : script_of bytes ≡ (items, Some k)
+  pub links : Numbered LinkState
+  pub storage : MemoryState
+  pub legal : IsLegal items log links storage
+  pub written : Writes old new (log_lines log ++ bad_line k)
+
+-- whole lines were read, and of the line behind them a part; exactly the legal log of the whole lines was written
+pub record WritesWhole (bytes : List ℕ) (left old new : Option (List ℕ)) : Type 0 where
+  pub items : List Item
+  pub log : List Entry
+  pub stopped : StopsBehind items bytes left
+  pub links : Numbered LinkState
+  pub storage : MemoryState
+  pub legal : IsLegal items log links storage
+  pub written : Writes old new (log_lines log)
+
+-- what is written behind the log of a script: the lines on the links and files that it leaves, or the line that names its
+-- bad line
+abbrev pub closing : Numbered LinkState → MemoryState → Option ℕ → List ℕ
+closing links storage None = end_lines links storage
+closing links storage (Some k) = bad_line k
+
+-- of what whole lines of the bytes give, a part from the front was written
+pub record WritesPart (bytes : List ℕ) (old new : Option (List ℕ)) : Type 0 where
+  pub read : List ℕ
+  pub rest : List ℕ
+  pub items : List Item
+  pub bad : Option ℕ
+  pub log : List Entry
+  pub all_is : read ++ rest ≡ bytes
+  pub whole : AreWhole read rest
+  pub script : script_of read ≡ (items, bad)
+  pub links : Numbered LinkState
+  pub storage : MemoryState
+  pub legal : IsLegal items log links storage
+  pub written : WritesFront old new (log_lines log ++ closing links storage bad)
+
+-- what was read of these bytes and what was written, by the status
+abbrev pub Outcome : Status → List ℕ → Option (List ℕ) → Option (List ℕ) → Option (List ℕ) → Type 0
+Outcome status.Done bytes left old new = IsDone bytes left old new
+Outcome (status.BadLine k) bytes left old new = HasBadLine k bytes old new
+Outcome status.ReadFault bytes left old new = WritesWhole bytes left old new
+Outcome status.WriteFault bytes left old new = WritesPart bytes old new
+Outcome status.OutOfMemory bytes left old new = WritesPart bytes old new
+Outcome status.Usage bytes left old new = ⊥

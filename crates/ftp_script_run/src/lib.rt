@@ -1,0 +1,13 @@
+//! Runs a script of events from a source, and writes the log that is due for it to a sink.
+//!
+//! What is written is the printed log of exactly the script that was read, or the number of the first bad line.
+//! Begin with `run_script`.
+#![tactic(auto)]
+
+mod printing;
+mod run;
+mod script;
+mod status;
+
+pub use script::run_script;
+pub use status::Status;

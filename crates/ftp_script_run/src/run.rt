@@ -1,0 +1,242 @@
+//! A run of a script, item by item.
+
+ghost use Rattle.std.specs.Prelude.{◌≡◌, ◌≤◌, ◌<◌, ◌∷◌, ◌++◌, [], List, true, is_some, IsTrue, Some, None, IfOk, IfErr, OnOk, OnErr, IsErrOf};
+ghost use Rattle.ftp_base.specs.declared.fault.Failed.TheVariants.{Fault, Memory};
+ghost use Rattle.ftp_base.specs.Outside.{HasRisen, Writes};
+ghost use Rattle.ftp_events.specs.declared.entry.Entry.{Entry};
+ghost use Rattle.ftp_stream.specs.Writing.{WritesFront};
+ghost use Rattle.ftp_event_text.specs.declared.setup.Item.{Item};
+ghost use Rattle.ftp_event_text.specs.declared.setup.Item.TheVariants as item;
+ghost use Rattle.ftp_script_run.specs.Items.{features_of, options_in};
+ghost use Rattle.ftp_script_run.specs.Left.{end_lines};
+ghost use Rattle.ftp_script_run.specs.Outcome.{log_lines, bad_line};
+ghost use Rattle.ftp_script_run.specs.Runs.{Keeps, MayTake, Takes, IsTaken, IsPartlyTaken};
+ghost use Rattle.ftp_options.specs.Builder.{settings_of};
+ghost use Rattle.ftp_event_text.specs.Setup.{IsItem};
+ghost use Rattle.ftp_script_text.specs.Script.{may_stand};
+
+use crate::printing::{print_bad_line, print_entry, print_files, print_links};
+use ftp_base::{
+    Bytes, FEATURE_RESTART, Failed, InsertError, LinkFault, LinkTable, MemoryLink, MemoryStorage,
+    Sink, StoreError,
+};
+use ftp_event_text::Item;
+use ftp_events::{Entry, HubEvent};
+use ftp_hub::{Hub, run_event};
+use ftp_options::{Options, ServerBuilder};
+use ftp_script_text::MAX_FILE;
+use ftp_text::FailingCalls;
+use std::alloc::Global;
+
+/// The hub since the options came, the storage, and the links. Of events and entries nothing is kept here.
+#[derive(Drop)]
+pub struct Run {
+    alloc: Global,
+    hub: Option<Hub>,
+    storage: MemoryStorage,
+    links: LinkTable<MemoryLink>,
+    // The text that is written next.
+    text: Vec<u8>,
+}
+
+impl Run {
+    /// Nothing came.
+    pub fn new(alloc: Global) -> Run
+        ensures { Keeps result [] [] }
+    {
+        Run {
+            alloc,
+            hub: None,
+            storage: MemoryStorage::new(alloc, MAX_FILE, Vec::new(alloc)),
+            links: LinkTable::new(alloc),
+            text: Vec::new(alloc),
+        }
+    }
+
+    /// The storage, as the items so far leave it.
+    pub fn storage(&self) -> &MemoryStorage
+        ensures { result.now ≡ self.now.storage }
+    {
+        &self.storage
+    }
+
+    /// Does what the item asks for, and writes the entry of an event.
+    pub fn take<K: Sink>(&mut self, item: Item, sink: &mut K) -> Result<(), Failed>
+        requires { MayTake self.old item }
+        ensures took { OnOk result ((items : List Item) (log : List Entry) → Keeps self.old items log → may_stand items item ≡ true →
+            IsTaken self.new (items ++ item ∷ []) log (K.written sink.old) (K.written sink.new)) }
+        ensures fault_rose { IsErrOf result Fault → HasRisen (K.faults sink.old) (K.faults sink.new) }
+        ensures count { K.faults sink.old ≤ K.faults sink.new }
+
+        // After an error a part from the front of the entry was written.
+        ensures front { OnErr result ((items : List Item) (log : List Entry) → Keeps self.old items log → may_stand items item ≡ true →
+            IsPartlyTaken self.new (items ++ item ∷ []) log (K.written sink.old) (K.written sink.new)) }
+    {
+        match item {
+            Item::Skip => Ok(()),
+            Item::Options {
+                lo,
+                hi,
+                idle,
+                restart,
+            } => {
+                self.start(lo, hi, idle, restart);
+                Ok(())
+            }
+            Item::Storage { max, fails } => {
+                self.set_storage(max, fails);
+                Ok(())
+            }
+            Item::Dir { path } => self.make_dir(path),
+            Item::File { bytes, path } => self.put_file(bytes, path),
+            Item::Link {
+                number,
+                chunk,
+                fails,
+                bytes,
+            } => self.link(number, chunk, fails, bytes),
+            Item::Event(event) => self.event(event, sink),
+        }
+    }
+
+    // Makes the hub.
+    fn start(&mut self, lo: u16, hi: u16, idle: u32, restart: bool)
+        requires { MayTake self.old (item.Options lo hi idle restart) }
+        ensures { Takes self.old (item.Options lo hi idle restart) self.new [] }
+    {
+        self.hub = Some(Hub::new(self.alloc, pooled(lo, hi, idle, restart)));
+    }
+
+    // Makes the storage, which has no files yet.
+    fn set_storage(&mut self, max: u64, fails: FailingCalls<u64>)
+        requires { MayTake self.old (item.Storage max fails) }
+        ensures { Takes self.old (item.Storage max fails) self.new [] }
+    {
+        self.storage = MemoryStorage::new(self.alloc, max, fails.into_vec());
+    }
+
+    // Makes a directory.
+    fn make_dir(&mut self, path: Bytes) -> Result<(), Failed>
+        requires { MayTake self.old (item.Dir path) }
+        ensures put { OnOk result (Takes self.old (item.Dir path) self.new []) }
+        ensures memory { IfErr result (λ e. e ≡ Memory) }
+    {
+        match self.storage.mkdir(path) {
+            Ok(()) => Ok(()),
+            Err(StoreError::OutOfMemory) => Err(Failed::Memory),
+            Err(StoreError::Kind(_)) => unreachable!(),
+            Err(StoreError::Failed) => unreachable!(),
+        }
+    }
+
+    // Puts a file into the storage.
+    fn put_file(&mut self, bytes: Bytes, path: Bytes) -> Result<(), Failed>
+        requires { MayTake self.old (item.File bytes path) }
+        ensures put { OnOk result (Takes self.old (item.File bytes path) self.new []) }
+        ensures memory { IfErr result (λ e. e ≡ Memory) }
+    {
+        match self.storage.put_file(path, bytes.into_vec()) {
+            Ok(()) => Ok(()),
+            Err(StoreError::OutOfMemory) => Err(Failed::Memory),
+            Err(StoreError::Kind(_)) => unreachable!(),
+            Err(StoreError::Failed) => unreachable!(),
+        }
+    }
+
+    // Puts a link into the table.
+    fn link(
+        &mut self,
+        number: u64,
+        chunk: u32,
+        fails: FailingCalls<(u64, LinkFault)>,
+        bytes: Bytes,
+    ) -> Result<(), Failed>
+        requires { MayTake self.old (item.Link number chunk fails bytes) }
+        ensures put { OnOk result (Takes self.old (item.Link number chunk fails bytes) self.new []) }
+        ensures memory { IfErr result (λ e. e ≡ Memory) }
+    {
+        let link = MemoryLink::new(self.alloc, bytes.into_vec(), chunk, fails.into_vec());
+        match self.links.insert(number, link) {
+            Ok(()) => Ok(()),
+            Err(InsertError::Taken(_)) => unreachable!(),
+            Err(InsertError::OutOfMemory(_)) => Err(Failed::Memory),
+        }
+    }
+
+    // Runs the event, writes its entry and lets it go.
+    fn event<K: Sink>(&mut self, event: HubEvent, sink: &mut K) -> Result<(), Failed>
+        requires { MayTake self.old (item.Event event) }
+        ensures took { OnOk result ((items : List Item) (log : List Entry) → Keeps self.old items log → may_stand items (item.Event event) ≡ true →
+            IsTaken self.new (items ++ item.Event event ∷ []) log (K.written sink.old) (K.written sink.new)) }
+        ensures fault_rose { IsErrOf result Fault → HasRisen (K.faults sink.old) (K.faults sink.new) }
+        ensures count { K.faults sink.old ≤ K.faults sink.new }
+        ensures front { OnErr result ((items : List Item) (log : List Entry) → Keeps self.old items log → may_stand items (item.Event event) ≡ true →
+            IsPartlyTaken self.new (items ++ item.Event event ∷ []) log (K.written sink.old) (K.written sink.new)) }
+    {
+        let entry = self.step(event)?;
+        print_entry(sink, &mut self.text, &entry)
+    }
+
+    // Runs the event. The hub's count of events cannot end in a script, which has far fewer lines.
+    fn step(&mut self, event: HubEvent) -> Result<Entry, Failed>
+        requires { MayTake self.old (item.Event event) }
+        ensures due { IfOk result (λ e. Takes self.old (item.Event event) self.new (e ∷ [])) }
+        ensures memory { IfErr result (λ e. e ≡ Memory) }
+    {
+        let Some(hub) = &mut self.hub else {
+            unreachable!()
+        };
+        match run_event(hub, &mut self.storage, &mut self.links, event) {
+            Ok(entry) => Ok(entry),
+            Err(_) => Err(Failed::Memory),
+        }
+    }
+
+    /// Writes the lines behind the log.
+    pub fn end<K: Sink>(&mut self, sink: &mut K) -> Result<(), Failed>
+        ensures wrote { OnOk result (Writes (K.written sink.old) (K.written sink.new) (end_lines self.old.links self.old.storage)) }
+        ensures fault_rose { IsErrOf result Fault → HasRisen (K.faults sink.old) (K.faults sink.new) }
+        ensures count { K.faults sink.old ≤ K.faults sink.new }
+
+        // After an error a part from the front was written.
+        ensures front { OnErr result (WritesFront (K.written sink.old) (K.written sink.new) (end_lines self.old.links self.old.storage)) }
+    {
+        print_links(self.alloc, sink, &mut self.text, &self.links)?;
+        print_files(sink, &mut self.text, &self.storage)
+    }
+
+    /// Writes the line that names a bad line.
+    pub fn bad_line<K: Sink>(&mut self, number: u64, sink: &mut K) -> Result<(), Failed>
+        ensures wrote { OnOk result (Writes (K.written sink.old) (K.written sink.new) (bad_line number)) }
+        ensures fault_rose { IsErrOf result Fault → HasRisen (K.faults sink.old) (K.faults sink.new) }
+        ensures count { K.faults sink.old ≤ K.faults sink.new }
+
+        // After an error a part from the front was written.
+        ensures front { OnErr result (WritesFront (K.written sink.old) (K.written sink.new) (bad_line number)) }
+    {
+        print_bad_line(sink, &mut self.text, number)
+    }
+}
+
+// The options of sessions that share the passive ports. The idle time is in seconds.
+fn pooled(lo: u16, hi: u16, idle: u32, restart: bool) -> Options
+    requires { IsItem (item.Options lo hi idle restart) }
+    ensures { Some (settings_of result) ≡ options_in (item.Options lo hi idle restart ∷ []) }
+{
+    let mut builder = ServerBuilder::new();
+    builder.pooled_listener_mode();
+    builder.passive_ports(lo, hi);
+    builder.idle_session_timeout(u64::from(idle));
+    builder.storage_features(features(restart));
+    match builder.build() {
+        Ok(built) => built.options,
+        Err(_) => unreachable!(),
+    }
+}
+
+// What the storage can do, where transfers can begin at a restart offset or not.
+fn features(restart: bool) -> u32
+    ensures { result ≡ features_of restart }
+{
+    if restart { FEATURE_RESTART } else { 0 }
+}

@@ -1,0 +1,146 @@
+//! A whole script: bytes in, lines out.
+
+ghost use Rattle.std.specs.Prelude.{◌≡◌, ◌≢◌, ℕ, ◌≤◌, ◌<◌, ◌↔◌, ◌⊎◌, ◌∷◌, ◌++◌, [], true, List, Option, Some, None, IfSome, IfNone, IsTrue, length, map};
+ghost use Rattle.std.specs.Option.{OnSome};
+ghost use Rattle.ftp_base.specs.Outside.{HasRisen};
+ghost use Rattle.ftp_events.specs.declared.entry.Entry.{Entry};
+ghost use Rattle.ftp_event_text.specs.declared.setup.Item.{Item};
+ghost use Rattle.ftp_script_text.specs.Script.{may_stand, script_of};
+ghost use Rattle.ftp_script_text.specs.ScriptReader.{IsLawful};
+ghost use Rattle.ftp_script_run.specs.Statuses.{IsScript, IsCutShort, HasNotRisen};
+ghost use Rattle.ftp_script_run.specs.Outcome.{IsDone, HasBadLine, WritesWhole, WritesPart, Outcome};
+ghost use Rattle.ftp_script_run.specs.Runs.{Keeps, MayTake, IsTaken, IsPartlyTaken, Running};
+
+use crate::run::Run;
+use crate::status::Status;
+use ftp_base::{Sink, Source};
+use ftp_event_text::Item;
+use ftp_script_text::{ScriptError, ScriptReader};
+use std::alloc::Global;
+
+/// Runs the script that the source gives, event by event, and writes its printed log, where the words are the one word
+/// `script`.
+///
+/// A line has at most 65,536 bytes, its line feed not counted, and a script 16,777,216. An entry is let go as soon as it
+/// is written.
+pub fn run_script<S: Source, K: Sink>(
+    alloc: Global,
+    words: &[Vec<u8>],
+    source: &mut S,
+    sink: &mut K,
+) -> Status
+    ensures usage { (result ≡ Status.Usage) ↔ (IsScript (map (λ w. w.items) words.now) → ⊥) }
+    ensures usage_idle { result ≡ Status.Usage → (source.new ≡ source.old) × (sink.new ≡ sink.old) }
+
+    // All was read and is a script, and its log was written.
+    ensures done { result ≡ Status.Done → IfSome (S.left source.old) (λ bytes. IsDone bytes (S.left source.new) (K.written sink.old) (K.written sink.new)) }
+    ensures bad_line { (k : ℕ) → result ≡ Status.BadLine k → IfSome (S.left source.old) (λ bytes. HasBadLine k bytes (K.written sink.old) (K.written sink.new)) }
+
+    // After a fault of the source the log of the whole lines that were read was written.
+    ensures read_fault { result ≡ Status.ReadFault → HasRisen (S.faults source.old) (S.faults source.new) }
+    ensures read_whole { result ≡ Status.ReadFault → IfSome (S.left source.old) (λ bytes. WritesWhole bytes (S.left source.new) (K.written sink.old) (K.written sink.new)) }
+
+    // After a fault of the sink, or where memory ran out, a part from the front was written.
+    ensures write_fault { result ≡ Status.WriteFault → HasRisen (K.faults sink.old) (K.faults sink.new) }
+    ensures front { IsCutShort result → IfSome (S.left source.old) (λ bytes. WritesPart bytes (K.written sink.old) (K.written sink.new)) }
+
+    // Where nothing fails, a script is run to its end, and the first bad line is named.
+    ensures complete { IsScript (map (λ w. w.items) words.now) → IfSome (S.left source.old) (λ bytes. (script_of bytes).1 ≡ None →
+        HasNotRisen (S.faults source.old) (S.faults source.new) → HasNotRisen (K.faults sink.old) (K.faults sink.new) →
+        (result ≡ Status.Done) ⊎ (result ≡ Status.OutOfMemory)) }
+    ensures first_bad { IsScript (map (λ w. w.items) words.now) → (k : ℕ) → IfSome (S.left source.old) (λ bytes. (script_of bytes).1 ≡ Some k →
+        HasNotRisen (S.faults source.old) (S.faults source.new) → HasNotRisen (K.faults sink.old) (K.faults sink.new) →
+        (result ≡ Status.BadLine k) ⊎ (result ≡ Status.OutOfMemory)) }
+
+    ensures source_count { S.faults source.old ≤ S.faults source.new }
+    ensures sink_count { K.faults sink.old ≤ K.faults sink.new }
+{
+    if !is_script(words) {
+        return Status::Usage;
+    }
+    let mut buffer = [0u8; 65537];
+    run_lines(alloc, &mut buffer, source, sink)
+}
+
+// Says whether the words are the one word of the command.
+fn is_script(words: &[Vec<u8>]) -> bool
+    ensures { IsTrue result ↔ IsScript (map (λ w. w.items) words.now) }
+{
+    match words {
+        [word] => word.as_slice() == b"script".as_slice(),
+        _ => false,
+    }
+}
+
+// Runs the script line by line, by way of a buffer in which any line fits.
+fn run_lines<S: Source, K: Sink>(
+    alloc: Global,
+    buffer: &mut [u8],
+    source: &mut S,
+    sink: &mut K,
+) -> Status
+    requires { length buffer.old ≡ 65537 }
+    ensures outcome { IfSome (S.left source.old) (λ bytes. Outcome result bytes (S.left source.new) (K.written sink.old) (K.written sink.new)) }
+    ensures no_usage { result ≢ Status.Usage }
+    ensures read_fault { result ≡ Status.ReadFault → HasRisen (S.faults source.old) (S.faults source.new) }
+    ensures write_fault { result ≡ Status.WriteFault → HasRisen (K.faults sink.old) (K.faults sink.new) }
+    ensures source_count { S.faults source.old ≤ S.faults source.new }
+    ensures sink_count { K.faults sink.old ≤ K.faults sink.new }
+{
+    let mut reader = ScriptReader::new(alloc);
+    let mut run = Run::new(alloc);
+    loop {
+        if let Some(status) = advance(alloc, &mut reader, &mut run, buffer, source, sink) {
+            return status;
+        }
+    }
+}
+
+// Reads a line and does what it asks for. It gives the status where the run is at its end.
+fn advance<S: Source, K: Sink>(
+    alloc: Global,
+    reader: &mut ScriptReader,
+    run: &mut Run,
+    buffer: &mut [u8],
+    source: &mut S,
+    sink: &mut K,
+) -> Option<Status>
+    requires lawful { IsLawful reader.old buffer.old }
+    requires running { (all : Option (List ℕ)) × (before : Option (List ℕ)) × Running all reader.old run.old buffer.old (S.left source.old) before (K.written sink.old) }
+    ensures goes_on { IfNone result ((all before : Option (List ℕ)) → Running all reader.old run.old buffer.old (S.left source.old) before (K.written sink.old) →
+        Running all reader.new run.new buffer.new (S.left source.new) before (K.written sink.new)) }
+    ensures ended { IfSome result (λ status. (all before : Option (List ℕ)) → Running all reader.old run.old buffer.old (S.left source.old) before (K.written sink.old) →
+        IfSome all (λ bytes. Outcome status bytes (S.left source.new) before (K.written sink.new))) }
+    ensures no_usage { result ≢ Some Status.Usage }
+    ensures read_fault { result ≡ Some Status.ReadFault → HasRisen (S.faults source.old) (S.faults source.new) }
+    ensures write_fault { result ≡ Some Status.WriteFault → HasRisen (K.faults sink.old) (K.faults sink.new) }
+    ensures source_count { S.faults source.old ≤ S.faults source.new }
+    ensures sink_count { K.faults sink.old ≤ K.faults sink.new }
+    ensures lawful { IfNone result (IsLawful reader.new buffer.new) }
+    ensures moved { IfNone result (reader.old.taken < reader.new.taken) }
+{
+    match reader.next_item(alloc, buffer, source, run.storage()) {
+        Ok(Some(item)) => taken(run, item, sink),
+        Ok(None) => Some(Status::Done.after(run.end(sink))),
+        Err(ScriptError::BadLine(k)) => Some(Status::BadLine(k).after(run.bad_line(k, sink))),
+        Err(ScriptError::Fault) => Some(Status::ReadFault),
+        Err(ScriptError::Memory) => Some(Status::OutOfMemory),
+    }
+}
+
+// Takes the item. It gives the status where that fails.
+fn taken<K: Sink>(run: &mut Run, item: Item, sink: &mut K) -> Option<Status>
+    requires { MayTake run.old item }
+    ensures took { IfNone result ((items : List Item) (log : List Entry) → Keeps run.old items log → may_stand items item ≡ true →
+        IsTaken run.new (items ++ item ∷ []) log (K.written sink.old) (K.written sink.new)) }
+    ensures front { OnSome result ((items : List Item) (log : List Entry) → Keeps run.old items log → may_stand items item ≡ true →
+        IsPartlyTaken run.new (items ++ item ∷ []) log (K.written sink.old) (K.written sink.new)) }
+    ensures cut_short { IfSome result IsCutShort }
+    ensures write_fault { result ≡ Some Status.WriteFault → HasRisen (K.faults sink.old) (K.faults sink.new) }
+    ensures sink_count { K.faults sink.old ≤ K.faults sink.new }
+{
+    match run.take(item, sink) {
+        Ok(()) => None,
+        Err(failed) => Some(Status::stopped_by(failed)),
+    }
+}
