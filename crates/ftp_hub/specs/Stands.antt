@@ -7,7 +7,7 @@ use Rattle.ftp_base.specs.Net.{ipv4}
 use Rattle.ftp_options.specs.declared.options.Options.{Options}
 use Rattle.ftp_transfer.specs.declared.job.Job.{Job}
 use Rattle.ftp_switchboard.specs.Board.{holder_at, HasRoom}
-use Rattle.ftp_numbers.specs.Used.{has}
+use Rattle.ftp_numbers.specs.Used.{has, HasSpare}
 use Rattle.ftp_events.specs.declared.action.Action.{Action}
 use Rattle.ftp_events.specs.declared.decision.Decision.{Decision}
 use Rattle.ftp_events.specs.declared.entry.Entry.{Entry}
@@ -122,5 +122,5 @@ pub record Fits (room : Room) (hub : Hub) (event : HubEvent) : Type 0 where
   pub need : need_in room ≡ need_for (job_for hub event.kind)
   pub sessions : 0 < map.spare hub.sessions
   pub jobs : 0 < map.spare hub.jobs
-  pub numbers : 0 < hub.numbers.room
+  pub numbers : HasSpare hub.numbers
   pub board : HasRoom hub.board (client_for hub event.kind)

@@ -5,6 +5,7 @@ ghost use Rattle.std.specs.Prelude.{◌≡◌, ◌<◌, ℕ, List, ◌||◌, IsT
 ghost use Rattle.std.specs.HashMap as map;
 ghost use Rattle.ftp_base.specs.Net.{same_ip, is_v6};
 ghost use Rattle.ftp_base.specs.Storage.{root};
+ghost use Rattle.ftp_numbers.specs.Used.{HasSpare};
 ghost use Rattle.ftp_options.specs.declared.options.Options.{Options};
 ghost use Rattle.ftp_events.specs.declared.entry.Entry.{Entry};
 ghost use Rattle.ftp_events.specs.declared.event.Answer.{Answer};
@@ -38,7 +39,7 @@ impl Hub {
         requires ready { IsReady room.old }
         requires kept { kept_in room.old ≡ kept_for self.old event.now.kind }
         requires sessions { 0 < map.spare self.old.sessions }
-        requires numbers { 0 < self.old.numbers.room }
+        requires numbers { HasSpare self.old.numbers }
         ensures serves { (log : List Entry) → Stands self.old log → Serves self.old self.new log event.now answer result (actions_in room.new) }
         ensures head { SameHead self.old self.new }
     {
@@ -70,7 +71,7 @@ impl Hub {
     pub(crate) fn data_in(&mut self, room: &mut Room, event: &HubEvent, answer: Answer) -> Decision
         requires of_this_event { IsTrue (is_data event.now.kind) }
         requires ready { IsReady room.old }
-        requires numbers { 0 < self.old.numbers.room }
+        requires numbers { HasSpare self.old.numbers }
         requires jobs { 0 < map.spare self.old.jobs }
         ensures serves { (log : List Entry) → Stands self.old log → Serves self.old self.new log event.now answer result (actions_in room.new) }
         ensures head { SameHead self.old self.new }

@@ -4,6 +4,7 @@ ghost use Rattle.std.specs.Prelude.{◌≡◌, ◌-◌, ◌^◌, ◌<◌, ◌≤
 ghost use Rattle.std.specs.Option.{option_copied, option_map_or};
 ghost use Rattle.std.specs.HashMap as map;
 ghost use Rattle.ftp_base.specs.Net.{ipv4};
+ghost use Rattle.ftp_numbers.specs.Used.{HasSpare};
 ghost use Rattle.ftp_switchboard.specs.Board.{HasRoom};
 ghost use Rattle.ftp_events.specs.Leads.{job_of_ticket};
 ghost use Rattle.ftp_events.specs.Login.{logged_user};
@@ -71,7 +72,7 @@ impl Hub {
     fn make_places(&mut self, kind: &EventKind) -> Result<(), AllocError>
         ensures sessions { OnOk result (0 < map.spare self.new.sessions) }
         ensures jobs { OnOk result (0 < map.spare self.new.jobs) }
-        ensures numbers { OnOk result (0 < self.new.numbers.room) }
+        ensures numbers { OnOk result (HasSpare self.new.numbers) }
         ensures board { OnOk result (HasRoom self.new.board (client_for self.old kind.now)) }
         ensures same { SameAnswers self.old self.new }
     {

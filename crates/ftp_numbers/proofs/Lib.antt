@@ -1,1 +1,1 @@
-pub mod Intervals
+mod SettledLemmas

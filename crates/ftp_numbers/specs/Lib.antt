@@ -1,2 +1,2 @@
 pub mod Used
-pub mod Places
+pub mod Settled

@@ -1,34 +1,40 @@
-//! Numbers as sorted intervals that do not touch.
+//! Numbers as intervals that do not touch.
 
-ghost use Rattle.std.specs.Prelude.{◌≡◌, ℕ, ◌+◌, ◌-◌, ◌<◌, ◌≤◌, ◌||◌, ◌==◌, ◌↔◌, false, length, IsTrue, OnOk, vec_len, vec_capacity};
-ghost use Rattle.ftp_numbers.specs.Used.{has, is_used, first_at, last_at, SameNumbers, IsApart};
-ghost use Rattle.ftp_numbers.specs.Places.{IsPlaceFor, IsGapFor};
+ghost use Rattle.std.specs.Prelude.{◌≡◌, ℕ, ◌+◌, ◌-◌, ◌<◌, ◌≤◌, ◌^◌, ◌||◌, ◌==◌, ◌≢◌, Some, false, map, unwrap_or, IfSome, IfNone, IfOk, OnOk, OnErr};
+ghost use Rattle.std.specs.Ordering.{nat_cmp};
+ghost use Rattle.std.specs.BTreeMap.{IsOrdered};
+ghost use Rattle.ftp_numbers.specs.Used.{has, is_used, HasSpare, IsApart, SameNumbers};
+ghost use Rattle.ftp_numbers.specs.Settled.{end_at, intervals_of, BeginsWith, BeginsNoneBy, IsDisjoint, IsLastBy};
 
 use std::alloc::{AllocError, Global};
+use std::collections::BTreeMap;
 use std::marker::Model;
 
 /// An interval of numbers, both ends included.
 #[derive(Clone, Copy, Debug, PartialEq, Eq)]
 pub struct Interval {
-    pub first: u64,
-    pub last: u64,
+    pub lo: u64,
+    pub hi: u64,
 }
 
 /// Numbers that were used.
 #[derive(Drop)]
 pub struct Numbers {
-    intervals: Vec<Interval>,
+    // Where each interval begins, and where it ends.
+    settled: BTreeMap<u64, u64>,
+    // The number that was put last, until there is memory to settle it.
+    newest: Option<u64>,
 }
 
 impl Model for Numbers {
-    ghost use Rattle.std.specs.Prelude.{◌-◌, vec_len, vec_capacity};
-    ghost use Rattle.ftp_numbers.specs.Used.{Used, IsApart};
+    ghost use Rattle.ftp_numbers.specs.Used.{Used};
+    ghost use Rattle.ftp_numbers.specs.Settled.{intervals_of, IsDisjoint};
 
     ghost Value = { Used };
 
-    ghost view = { λ a. record { intervals = a.intervals.items; room = vec_capacity a.intervals - vec_len a.intervals } };
+    ghost view = { λ a. record { intervals = intervals_of a.settled.entries; newest = a.newest } };
 
-    ghost invariant = { λ a. IsApart a.intervals.items };
+    ghost invariant = { λ a. IsDisjoint a.settled.entries };
 }
 
 impl Numbers {
@@ -37,7 +43,8 @@ impl Numbers {
         ensures { (n : ℕ) → has result n ≡ false }
     {
         Numbers {
-            intervals: Vec::new(alloc),
+            settled: BTreeMap::new(alloc),
+            newest: None,
         }
     }
 
@@ -45,142 +52,123 @@ impl Numbers {
     pub fn has(&self, n: u64) -> bool
         ensures { result ≡ has self.now n }
     {
-        let at = place_of(&self.intervals, n);
-        begins_by(&self.intervals, at, n)
+        self.newest == Some(n) || is_settled(&self.settled, n)
     }
 
-    /// Lends the intervals, the lowest first.
-    pub fn intervals(&self) -> &[Interval]
-        ensures all { result.now ≡ self.now.intervals }
-        ensures apart { IsApart result.now }
+    /// Gives the intervals, the lowest first.
+    pub fn intervals(&self, alloc: Global) -> Result<Vec<Interval>, AllocError>
+        ensures same { IfOk result (λ intervals. (n : ℕ) → is_used intervals.items n ≡ has self.now n) }
+        ensures apart { IfOk result (λ intervals. IsApart intervals.items) }
     {
-        self.intervals.as_slice()
+        list(alloc, &self.all_settled()?)
     }
 
-    /// Takes the memory that the next `put` may need.
+    // The intervals with the newest number among them.
+    fn all_settled(&self) -> Result<BTreeMap<u64, u64>, AllocError>
+        ensures numbers { IfOk result (λ settled. (n : ℕ) → is_used (intervals_of settled.entries) n ≡ has self.now n) }
+        ensures disjoint { IfOk result (λ settled. IsDisjoint settled.entries) }
+    {
+        let mut settled = self.settled.clone()?;
+        if let Some(n) = self.newest {
+            settle(&mut settled, n)?;
+        }
+        Ok(settled)
+    }
+
+    /// Takes the memory that the next `put` needs, in a time that grows with the logarithm of the count of intervals.
     pub fn make_room(&mut self) -> Result<(), AllocError>
-        ensures ok { OnOk result (0 < self.new.room) }
+        ensures ok { OnOk result (HasSpare self.new) }
         ensures same { SameNumbers self.old self.new }
     {
-        self.intervals.reserve(1)
+        if let Some(n) = self.newest {
+            settle(&mut self.settled, n)?;
+            self.newest = None;
+        }
+        Ok(())
     }
 
     /// Puts the number to those that were used, and takes no memory. A number that is there changes nothing.
     pub fn put(&mut self, n: u64)
-        requires { 0 < self.old.room }
+        requires { HasSpare self.old }
         ensures { (q : ℕ) → has self.new q ≡ ((n == q) || has self.old q) }
     {
-        put_into(&mut self.intervals, n);
+        self.newest = Some(n);
     }
 }
 
-// The place of the first interval that ends at the number or above it.
-fn place_of(intervals: &[Interval], n: u64) -> usize
-    requires { IsApart intervals.now }
-    ensures { IsPlaceFor intervals.now n result }
+// The last interval that begins at the number or below it.
+fn last_by(settled: &BTreeMap<u64, u64>, n: u64) -> Option<Interval>
+    ensures found { IfSome result (λ last. IsLastBy settled.now.entries n last.lo last.hi) }
+    ensures none { IfNone result (BeginsNoneBy settled.now.entries n) }
+    ensures ordered { IsOrdered nat_cmp settled.now }
 {
-    intervals.partition_point(|i| i.last < n)
+    let (lo, hi) = settled.range(..=n).next_back()?;
+    Some(Interval { lo: *lo, hi: *hi })
 }
 
-// Says whether the interval at the place is there and begins at the number or below it.
-fn begins_by(intervals: &[Interval], at: usize, n: u64) -> bool
-    ensures { IsTrue result ↔ ((at < length intervals.now) × (first_at intervals.now at ≤ n)) }
+// Says whether an interval has the number.
+fn is_settled(settled: &BTreeMap<u64, u64>, n: u64) -> bool
+    requires { IsDisjoint settled.now.entries }
+    ensures { result ≡ is_used (intervals_of settled.now.entries) n }
 {
-    at < intervals.len() && intervals[at].first <= n
-}
-
-// Says whether the interval before the place ends right below the number.
-fn touches_below(intervals: &[Interval], at: usize, n: u64) -> bool
-    requires { IsGapFor intervals.now n at }
-    ensures { IsTrue result ↔ ((0 < at) × (last_at intervals.now (at - 1) + 1 ≡ n)) }
-{
-    at > 0 && n - intervals[at - 1].last == 1
-}
-
-// Says whether the interval at the place begins right above the number.
-fn touches_above(intervals: &[Interval], at: usize, n: u64) -> bool
-    requires { IsGapFor intervals.now n at }
-    ensures { IsTrue result ↔ ((at < length intervals.now) × (first_at intervals.now at ≡ n + 1)) }
-{
-    at < intervals.len() && intervals[at].first - n == 1
-}
-
-// Puts the number to the intervals.
-fn put_into(intervals: &mut Vec<Interval>, n: u64)
-    requires room { vec_len intervals.old < vec_capacity intervals.old }
-    requires apart { IsApart intervals.old.items }
-    ensures numbers { (q : ℕ) → is_used intervals.new.items q ≡ ((n == q) || is_used intervals.old.items q) }
-    ensures apart { IsApart intervals.new.items }
-{
-    let at = place_of(intervals, n);
-    if begins_by(intervals, at, n) {
-        return;
-    }
-    if touches_below(intervals, at, n) {
-        if touches_above(intervals, at, n) {
-            join(intervals, at, n);
-        } else {
-            raise(intervals, at, n);
-        }
-    } else if touches_above(intervals, at, n) {
-        lower(intervals, at, n);
-    } else {
-        insert(intervals, at, n);
+    match last_by(settled, n) {
+        Some(last) => n <= last.hi,
+        None => false,
     }
 }
 
-// Makes one of the intervals before the place and at it, which the number joins.
-fn join(intervals: &mut Vec<Interval>, at: usize, n: u64)
-    requires gap { IsGapFor intervals.old.items n at }
-    requires below { (0 < at) × (last_at intervals.old.items (at - 1) + 1 ≡ n) }
-    requires above { (at < length intervals.old.items) × (first_at intervals.old.items at ≡ n + 1) }
-    requires apart { IsApart intervals.old.items }
-    ensures numbers { (q : ℕ) → is_used intervals.new.items q ≡ ((n == q) || is_used intervals.old.items q) }
-    ensures apart { IsApart intervals.new.items }
+// Where the interval begins that ends right below the number, or the number itself.
+fn lo_with(settled: &BTreeMap<u64, u64>, n: u64) -> u64
+    requires { IsDisjoint settled.now.entries }
+    ensures { BeginsWith settled.now.entries n result }
 {
-    let above = intervals.remove(at);
-    let below = &mut intervals[at - 1];
-    below.last = above.last;
-}
-
-// Makes the interval before the place end at the number.
-fn raise(intervals: &mut Vec<Interval>, at: usize, n: u64)
-    requires gap { IsGapFor intervals.old.items n at }
-    requires below { (0 < at) × (last_at intervals.old.items (at - 1) + 1 ≡ n) }
-    requires above { at < length intervals.old.items → n + 1 < first_at intervals.old.items at }
-    requires apart { IsApart intervals.old.items }
-    ensures numbers { (q : ℕ) → is_used intervals.new.items q ≡ ((n == q) || is_used intervals.old.items q) }
-    ensures apart { IsApart intervals.new.items }
-{
-    let below = &mut intervals[at - 1];
-    below.last = n;
-}
-
-// Makes the interval at the place begin at the number.
-fn lower(intervals: &mut Vec<Interval>, at: usize, n: u64)
-    requires gap { IsGapFor intervals.old.items n at }
-    requires below { 0 < at → last_at intervals.old.items (at - 1) + 1 < n }
-    requires above { (at < length intervals.old.items) × (first_at intervals.old.items at ≡ n + 1) }
-    requires apart { IsApart intervals.old.items }
-    ensures numbers { (q : ℕ) → is_used intervals.new.items q ≡ ((n == q) || is_used intervals.old.items q) }
-    ensures apart { IsApart intervals.new.items }
-{
-    let above = &mut intervals[at];
-    above.first = n;
-}
-
-// Puts an interval of the number alone to the place.
-fn insert(intervals: &mut Vec<Interval>, at: usize, n: u64)
-    requires room { vec_len intervals.old < vec_capacity intervals.old }
-    requires gap { IsGapFor intervals.old.items n at }
-    requires below { 0 < at → last_at intervals.old.items (at - 1) + 1 < n }
-    requires above { at < length intervals.old.items → n + 1 < first_at intervals.old.items at }
-    requires apart { IsApart intervals.old.items }
-    ensures numbers { (q : ℕ) → is_used intervals.new.items q ≡ ((n == q) || is_used intervals.old.items q) }
-    ensures apart { IsApart intervals.new.items }
-{
-    match intervals.insert(at, Interval { first: n, last: n }) {
-        Ok(()) => {}
-        Err(_) => unreachable!(),
+    match last_by(settled, n) {
+        Some(last) if last.hi.checked_add(1) == Some(n) => last.lo,
+        _ => n,
     }
+}
+
+// Where the interval ends that begins right above the number, or the number itself.
+fn hi_with(settled: &BTreeMap<u64, u64>, n: u64) -> u64
+    requires { IsDisjoint settled.now.entries }
+    ensures above { result ≡ unwrap_or (end_at settled.now.entries (n + 1)) n }
+    ensures fits { result < 2 ^ 64 }
+{
+    let Some(above) = n.checked_add(1) else {
+        return n;
+    };
+    match settled.get(&above) {
+        Some(hi) => *hi,
+        None => n,
+    }
+}
+
+// Adds the number to the intervals.
+fn settle(settled: &mut BTreeMap<u64, u64>, n: u64) -> Result<(), AllocError>
+    requires { IsDisjoint settled.old.entries }
+    ensures numbers { OnOk result ((q : ℕ) → is_used (intervals_of settled.new.entries) q ≡ ((n == q) || is_used (intervals_of settled.old.entries) q)) }
+    ensures disjoint { IsDisjoint settled.new.entries }
+    ensures unchanged { OnErr result (settled.new.entries ≡ settled.old.entries) }
+{
+    if is_settled(settled, n) {
+        return Ok(());
+    }
+    let lo = lo_with(settled, n);
+    let hi = hi_with(settled, n);
+    settled.insert(lo, hi)?;
+    if hi > n {
+        settled.remove(&(n + 1));
+    }
+    Ok(())
+}
+
+// Lists the intervals.
+fn list(alloc: Global, settled: &BTreeMap<u64, u64>) -> Result<Vec<Interval>, AllocError>
+    ensures all { IfOk result (λ intervals. intervals.items ≡ intervals_of settled.now.entries) }
+    ensures ordered { IsOrdered nat_cmp settled.now }
+{
+    settled
+        .iter()
+        .map(|(lo, hi)| Interval { lo: *lo, hi: *hi })
+        .collect(alloc)
 }

@@ -10,8 +10,8 @@ fn numbers_in_a_row_are_one_interval(rt: HostRuntime) -> Result<(), Fail> {
         numbers.make_room()?;
         numbers.put(n);
     }
-    let row = [Interval { first: 1, last: 3 }];
-    assert_eq!(rt; numbers.intervals(), row.as_slice());
+    let row = [Interval { lo: 1, hi: 3 }];
+    assert_eq!(rt; numbers.intervals(rt.alloc())?.as_slice(), row.as_slice());
     assert!(rt; numbers.has(3) && !numbers.has(0) && !numbers.has(4));
     Ok(())
 }
@@ -24,13 +24,13 @@ fn the_highest_number_can_be_put(rt: HostRuntime) -> Result<(), Fail> {
         numbers.put(n);
     }
     let ends = [
-        Interval { first: 0, last: 0 },
+        Interval { lo: 0, hi: 0 },
         Interval {
-            first: u64::MAX - 1,
-            last: u64::MAX,
+            lo: u64::MAX - 1,
+            hi: u64::MAX,
         },
     ];
-    assert_eq!(rt; numbers.intervals(), ends.as_slice());
+    assert_eq!(rt; numbers.intervals(rt.alloc())?.as_slice(), ends.as_slice());
     assert!(rt; numbers.has(u64::MAX) && !numbers.has(1));
     Ok(())
 }
