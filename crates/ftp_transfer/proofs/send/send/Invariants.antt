@@ -9,6 +9,7 @@ invariant-loop-sent g l =
     × Writes (g.L.Source.sending l.fn.link).sent (g.L.Source.sending l.link).sent (take l.sent l.bytes)
     × (g.L.Source.left l.link ≡ g.L.Source.left l.fn.link)
     × ((g.L.Source.sending l.link).closed ≡ (g.L.Source.sending l.fn.link).closed)
+    × ((g.L.Source.sending l.link).last_fault ≡ (g.L.Source.sending l.fn.link).last_fault)
     × (g.L.Source.faults l.fn.link ≤ g.L.Source.faults l.link)
 
 abbrev pub decreases-loop-sent : goal.decreases-loop-sent

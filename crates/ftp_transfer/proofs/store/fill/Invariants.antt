@@ -11,6 +11,7 @@ invariant-pieces g l = record {
   told : IsSome (g.S.Storage.files l.fn.storage) → IsSome (g.S.Storage.files l.storage);
   sent : (g.L.Source.sending l.link).sent ≡ (g.L.Source.sending l.fn.link).sent;
   closed : (g.L.Source.sending l.link).closed ≡ (g.L.Source.sending l.fn.link).closed;
+  last_fault : (g.L.Source.sending l.link).last_fault ≡ (g.L.Source.sending l.fn.link).last_fault;
   storage_count : g.S.Storage.faults l.fn.storage ≤ g.S.Storage.faults l.storage;
   link_count : g.L.Source.faults l.fn.link ≤ g.L.Source.faults l.link;
 }
