@@ -40,7 +40,9 @@ pub fn list<S: Storage, L: Link>(alloc: Global, job: &Job, storage: &mut S, link
     ensures left { L.left link.new ≡ L.left link.old }
     ensures closed { (L.sending link.new).closed ≡ (L.sending link.old).closed }
     ensures storage_count { S.faults storage.old ≤ S.faults storage.new }
+    ensures storage_limit { S.fault_limit storage.new ≤ S.fault_limit storage.old }
     ensures link_count { L.faults link.old ≤ L.faults link.new }
+    ensures link_limit { L.fault_limit link.new ≤ L.fault_limit link.old }
 {
     match storage.list(&job.user, &job.path) {
         Ok(children) => send_children(alloc, &job.command, children.as_slice(), link),
@@ -65,6 +67,7 @@ fn send_children<L: Link>(
     ensures left { L.left link.new ≡ L.left link.old }
     ensures closed { (L.sending link.new).closed ≡ (L.sending link.old).closed }
     ensures link_count { L.faults link.old ≤ L.faults link.new }
+    ensures link_limit { L.fault_limit link.new ≤ L.fault_limit link.old }
 {
     let Ok(text) = listing_text(alloc, command, children) else {
         return nothing_moved(Completion::OutOfMemory);
@@ -82,6 +85,7 @@ fn send_text<L: Link>(text: &[u8], link: &mut L) -> Outcome
     ensures left { L.left link.new ≡ L.left link.old }
     ensures closed { (L.sending link.new).closed ≡ (L.sending link.old).closed }
     ensures link_count { L.faults link.old ≤ L.faults link.new }
+    ensures link_limit { L.fault_limit link.new ≤ L.fault_limit link.old }
 {
     let sending = send(link, text);
     let (result, fault) = match sending.stopped {

@@ -41,7 +41,9 @@ pub fn retrieve<S: Storage, L: Link>(job: &Job, storage: &mut S, link: &mut L) -
     ensures left { L.left link.new ≡ L.left link.old }
     ensures closed { (L.sending link.new).closed ≡ (L.sending link.old).closed }
     ensures storage_count { S.faults storage.old ≤ S.faults storage.new }
+    ensures storage_limit { S.fault_limit storage.new ≤ S.fault_limit storage.old }
     ensures link_count { L.faults link.old ≤ L.faults link.new }
+    ensures link_limit { L.fault_limit link.new ≤ L.fault_limit link.old }
 {
     let mut buffer = [0; PIECE_LEN];
     let mut moved: u64 = 0;
@@ -95,7 +97,9 @@ pub fn send_piece<S: Storage, L: Link>(
     ensures left { L.left link.new ≡ L.left link.old }
     ensures closed { (L.sending link.new).closed ≡ (L.sending link.old).closed }
     ensures storage_count { S.faults storage.old ≤ S.faults storage.new }
+    ensures storage_limit { S.fault_limit storage.new ≤ S.fault_limit storage.old }
     ensures link_count { L.faults link.old ≤ L.faults link.new }
+    ensures link_limit { L.fault_limit link.new ≤ L.fault_limit link.old }
 {
     let room = piece_room(moved);
     if room == 0 {
@@ -127,6 +131,7 @@ fn send_read<L: Link>(link: &mut L, bytes: &[u8]) -> Turn
     ensures left { L.left link.new ≡ L.left link.old }
     ensures closed { (L.sending link.new).closed ≡ (L.sending link.old).closed }
     ensures link_count { L.faults link.old ≤ L.faults link.new }
+    ensures link_limit { L.fault_limit link.new ≤ L.fault_limit link.old }
 {
     let sending = send(link, bytes);
     let sent = sending.sent as u64;

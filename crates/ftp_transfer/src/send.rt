@@ -24,6 +24,7 @@ pub fn send<L: Link>(link: &mut L, bytes: &[u8]) -> SendResult
     ensures fault_rose { result.stopped ≡ Some Fault → HasRisen (L.faults link.old) (L.faults link.new) }
     ensures no_memory { L.takes_memory ≡ false → result.stopped ≡ Some Memory → ⊥ }
     ensures count { L.faults link.old ≤ L.faults link.new }
+    ensures limit { L.fault_limit link.new ≤ L.fault_limit link.old }
 {
     let mut sent = 0;
     while sent < bytes.len() {

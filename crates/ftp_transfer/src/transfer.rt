@@ -32,7 +32,9 @@ pub fn execute<S: Storage, L: Link>(
         result → IsDone result.result }
     ensures no_memory { is_retrieve job.command ≡ true → S.reads_take_memory ≡ false → L.takes_memory ≡ false → result.result ≡ done.OutOfMemory → ⊥ }
     ensures storage_count { S.faults storage.old ≤ S.faults storage.new }
+    ensures storage_limit { S.fault_limit storage.new ≤ S.fault_limit storage.old }
     ensures link_count { L.faults link.old ≤ L.faults link.new }
+    ensures link_limit { L.fault_limit link.new ≤ L.fault_limit link.old }
 {
     let outcome = run(alloc, &job, storage, link);
     let _ = link.close();
@@ -48,7 +50,9 @@ fn run<S: Storage, L: Link>(alloc: Global, job: &Job, storage: &mut S, link: &mu
     ensures suits { suits result.result job.now.command ≡ true }
     ensures no_memory { is_retrieve job.now.command ≡ true → S.reads_take_memory ≡ false → L.takes_memory ≡ false → result.result ≡ done.OutOfMemory → ⊥ }
     ensures storage_count { S.faults storage.old ≤ S.faults storage.new }
+    ensures storage_limit { S.fault_limit storage.new ≤ S.fault_limit storage.old }
     ensures link_count { L.faults link.old ≤ L.faults link.new }
+    ensures link_limit { L.fault_limit link.new ≤ L.fault_limit link.old }
 {
     match &job.command {
         DataChanCmd::Retr { .. } => retrieve(job, storage, link),

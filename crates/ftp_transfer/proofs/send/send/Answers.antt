@@ -14,4 +14,5 @@ loop-sent-preserved g c =
       c.write.ensures.closed ∙ kept.3,
       ok.last_fault ∙ kept.4,
       omega arith,
+      omega (arith, c.write.ensures.limit),
     )

@@ -36,4 +36,6 @@ pieces-preserved g c =
       last_fault = c.store_piece-turn.ensures.last_fault (search rules) ∙ c.pieces.invariant.last_fault;
       storage_count = omega (arith, c.store_piece-turn.ensures.storage_count);
       link_count = omega (arith, c.store_piece-turn.ensures.link_count);
+      storage_limit = omega (arith, c.store_piece-turn.ensures.storage_limit);
+      link_limit = omega (arith, c.store_piece-turn.ensures.link_limit);
     }
