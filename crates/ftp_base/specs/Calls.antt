@@ -1,6 +1,6 @@
 -- The calls of an object in memory: how many were made, how many failed, and which ones fail.
 use Rattle.std.specs.Prelude.{ℕ, ◌+◌, ◌-◌, ◌^◌, ◌==◌, ◌&&◌, nat_lt, if◌then◌else◌, Bool, true, List, [], ◌∷◌, refl}
-use Rattle.std.specs.List.{list_any}
+use Rattle.std.specs.List.{list_any, count_by}
 use Rattle.std.specs.Coded.{Coded, code_by, coded×, coded_ℕ, coded_list}
 
 -- the calls so far, how many of them failed, and the calls that fail, each with its number
@@ -19,9 +19,13 @@ calls_code {T} code =
 abbrev pub one_more : ℕ → ℕ
 one_more n = if nat_lt n (2 ^ 64 - 1) then n + 1 else n
 
--- whether the call that comes next is one of those that fail
+-- whether the call that comes next is one of those that fail; none is where the count of calls stands still
 abbrev pub fails_next_by : {T : Type 0} → (T → ℕ) → Calls T → Bool
-fails_next_by number c = list_any (λ f. number f == one_more c.made) c.failing
+fails_next_by number c = nat_lt c.made (2 ^ 64 - 1) && list_any (λ f. number f == one_more c.made) c.failing
+
+-- how many faults there can be in all: those counted, and the failing calls that are still to come
+abbrev pub fault_limit_by : {T : Type 0} → (T → ℕ) → Calls T → ℕ
+fault_limit_by number c = c.faults + count_by (λ f. nat_lt c.made (number f)) c.failing
 
 -- the numbers rise, from above n on
 abbrev pub rises_above : {T : Type 0} → (T → ℕ) → ℕ → List T → Bool

@@ -1,7 +1,7 @@
 -- What callers see of the objects in memory: sources, sinks and links.
 use Rattle.std.specs.Prelude.{ℕ, Bool, List, Contains, Option, IsSomeAnd}
 use Rattle.ftp_base.specs.declared.fault.LinkFault.{LinkFault}
-use Rattle.ftp_base.specs.Calls.{Calls, one_more, fails_next_by}
+use Rattle.ftp_base.specs.Calls.{Calls, one_more, fails_next_by, fault_limit_by}
 
 -- what a source has left, how much a call reads at most, and its calls
 pub record SourceState : Type 0 where
@@ -32,6 +32,14 @@ fails_next calls = fails_next_by (λ call. call) calls
 -- whether the call that comes next fails, where each comes with its fault
 abbrev pub link_fails_next : Calls (ℕ × LinkFault) → Bool
 link_fails_next calls = fails_next_by (λ call. call.0) calls
+
+-- how many faults there can be in all
+abbrev pub fault_limit : Calls ℕ → ℕ
+fault_limit calls = fault_limit_by (λ call. call) calls
+
+-- how many faults there can be in all, where each call comes with its fault
+abbrev pub link_fault_limit : Calls (ℕ × LinkFault) → ℕ
+link_fault_limit calls = fault_limit_by (λ call. call.0) calls
 
 -- the fault is one that the list names for the call that comes next
 abbrev pub IsNextFault : Calls (ℕ × LinkFault) → Option LinkFault → Type 0

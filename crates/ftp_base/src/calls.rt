@@ -1,10 +1,10 @@
 //! The calls of an object in memory, and which of them fail.
 
-ghost use Rattle.std.specs.Prelude.{◌≡◌, ◌==◌, ℕ, is_some, IfSome, IsTrue, Contains, IsPermutation};
+ghost use Rattle.std.specs.Prelude.{◌≡◌, ◌==◌, ◌≤◌, ℕ, true, length, is_some, IfSome, IsTrue, Contains, IsPermutation};
 ghost use Rattle.std.specs.List.{list_any};
 ghost use Rattle.std.specs.List.Sorted.{IsSortedByKey};
 ghost use Rattle.std.specs.Ordering.{nat_cmp};
-ghost use Rattle.ftp_base.specs.Calls.{one_more, fails_next_by, rises_above, after_call, after_fault};
+ghost use Rattle.ftp_base.specs.Calls.{one_more, fails_next_by, fault_limit_by, rises_above, after_call, after_fault};
 
 use crate::fault::LinkFault;
 use std::marker::Model;
@@ -63,6 +63,7 @@ impl<T: FailingCall> Calls<T> {
         ensures faults { result.faults ≡ 0 }
         ensures failing { IsPermutation failing.items result.failing }
         ensures kept { IsTrue (rises_above T.number 0 failing.items) → result.failing ≡ failing.items }
+        ensures limit { IsTrue (rises_above T.number 0 failing.items) → fault_limit_by T.number result ≡ length failing.items }
     {
         let mut failing = failing;
         if !rise(failing.as_slice()) {
@@ -81,19 +82,22 @@ impl<T: FailingCall> Calls<T> {
         ensures number { IfSome result (λ call. T.number call ≡ one_more self.now.made) }
         ensures listed { IfSome result (λ call. Contains self.now.failing call) }
     {
-        find_call(self.failing.as_slice(), self.made.saturating_add(1))
+        let number = self.made.checked_add(1)?;
+        find_call(self.failing.as_slice(), number)
     }
 
     /// Counts a call that goes well.
     pub fn count_call(&mut self)
-        ensures { self.new ≡ after_call self.old }
+        ensures counted { self.new ≡ after_call self.old }
+        ensures limit { fault_limit_by T.number self.new ≤ fault_limit_by T.number self.old }
     {
         self.made = self.made.saturating_add(1);
     }
 
     /// Counts a call that fails.
     pub fn count_fault(&mut self)
-        ensures { self.new ≡ after_fault self.old }
+        ensures counted { self.new ≡ after_fault self.old }
+        ensures limit { fails_next_by T.number self.old ≡ true → fault_limit_by T.number self.new ≤ fault_limit_by T.number self.old }
     {
         self.made = self.made.saturating_add(1);
         self.faults = self.faults.saturating_add(1);

@@ -4,7 +4,7 @@ ghost use Rattle.std.specs.Prelude.{◌≡◌, ◌↔◌, ◌<◌, ◌≤◌, []
 ghost use Rattle.ftp_base.specs.declared.fault.Failed.TheVariants.{Fault, Memory};
 ghost use Rattle.ftp_base.specs.declared.fault.LinkFault.{LinkFault};
 ghost use Rattle.ftp_base.specs.Calls.{rises_above, after_call, after_fault};
-ghost use Rattle.ftp_base.specs.Memory.{link_fails_next, IsNextFault};
+ghost use Rattle.ftp_base.specs.Memory.{link_fails_next, link_fault_limit, IsNextFault};
 ghost use Rattle.ftp_base.specs.Outside.{HasRisen, ReadsFront, Sending};
 
 use crate::calls::Calls;
@@ -58,6 +58,7 @@ impl MemoryLink {
         ensures no_fault { result.calls.faults ≡ 0 }
         ensures failing { IsPermutation fails.items result.calls.failing }
         ensures kept { IsTrue (rises_above (λ call. call.0) 0 fails.items) → result.calls.failing ≡ fails.items }
+        ensures limit { IsTrue (rises_above (λ call. call.0) 0 fails.items) → link_fault_limit result.calls ≡ length fails.items }
     {
         MemoryLink {
             bytes,
@@ -89,6 +90,8 @@ impl Source for MemoryLink {
 
     ghost faults = { λ s. s.calls.faults };
 
+    ghost fault_limit = { λ s. link_fault_limit s.calls };
+
     ghost sending = { λ s. record { sent = Some s.sent; closed = s.closed; last_fault = s.last_fault } };
 
     fn read(&mut self, out: &mut [u8]) -> Result<usize, Failed>
@@ -109,6 +112,7 @@ impl Source for MemoryLink {
         ensures sent { self.new.sent ≡ self.old.sent }
         ensures closed { self.new.closed ≡ self.old.closed }
         ensures count { self.old.calls.faults ≤ self.new.calls.faults }
+        ensures limit { link_fault_limit self.new.calls ≤ link_fault_limit self.old.calls }
         ensures chunk { self.new.chunk ≡ self.old.chunk }
     {
         if let Some((_, fault)) = self.calls.next_failing() {
@@ -144,6 +148,7 @@ impl Link for MemoryLink {
         ensures left { self.new.left ≡ self.old.left }
         ensures closed { self.new.closed ≡ self.old.closed }
         ensures count { self.old.calls.faults ≤ self.new.calls.faults }
+        ensures limit { link_fault_limit self.new.calls ≤ link_fault_limit self.old.calls }
         ensures chunk { self.new.chunk ≡ self.old.chunk }
     {
         if let Some((_, fault)) = self.calls.next_failing() {
@@ -173,6 +178,7 @@ impl Link for MemoryLink {
         ensures left { self.new.left ≡ self.old.left }
         ensures last_fault { self.new.last_fault ≡ self.old.last_fault }
         ensures count { self.old.calls.faults ≤ self.new.calls.faults }
+        ensures limit { link_fault_limit self.new.calls ≤ link_fault_limit self.old.calls }
         ensures chunk { self.new.chunk ≡ self.old.chunk }
     {
         if self.calls.next_failing().is_some() {

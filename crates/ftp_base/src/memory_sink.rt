@@ -2,8 +2,8 @@
 
 ghost use Rattle.std.specs.Prelude.{◌≡◌, ◌↔◌, ℕ, ◌<◌, ◌≤◌, [], ◌++◌, IsTrue, min, length, take, Some, IfOk, OnOk, OnErr, IsErrOf, IsPermutation};
 ghost use Rattle.ftp_base.specs.declared.fault.Failed.TheVariants.{Fault, Memory};
-ghost use Rattle.ftp_base.specs.Calls.{after_call, after_fault};
-ghost use Rattle.ftp_base.specs.Memory.{fails_next};
+ghost use Rattle.ftp_base.specs.Calls.{rises_above, after_call, after_fault};
+ghost use Rattle.ftp_base.specs.Memory.{fails_next, fault_limit};
 ghost use Rattle.ftp_base.specs.Outside.{HasRisen};
 
 use crate::calls::Calls;
@@ -41,6 +41,7 @@ impl MemorySink {
         ensures no_call { result.calls.made ≡ 0 }
         ensures no_fault { result.calls.faults ≡ 0 }
         ensures failing { IsPermutation fails.items result.calls.failing }
+        ensures limit { IsTrue (rises_above (λ call. call) 0 fails.items) → fault_limit result.calls ≡ length fails.items }
     {
         MemorySink {
             written: Vec::new(alloc),
@@ -62,6 +63,8 @@ impl Sink for MemorySink {
 
     ghost faults = { λ s. s.calls.faults };
 
+    ghost fault_limit = { λ s. fault_limit s.calls };
+
     fn write(&mut self, bytes: &[u8]) -> Result<usize, Failed>
         ensures within { IfOk result (λ n. n ≤ length bytes.now) }
         ensures some { IfOk result (λ n. 0 < length bytes.now → 0 < n) }
@@ -77,6 +80,7 @@ impl Sink for MemorySink {
         ensures unchanged { OnErr result (self.new.written ≡ self.old.written) }
 
         ensures count { self.old.calls.faults ≤ self.new.calls.faults }
+        ensures limit { fault_limit self.new.calls ≤ fault_limit self.old.calls }
         ensures chunk { self.new.chunk ≡ self.old.chunk }
     {
         if self.calls.next_failing().is_some() {

@@ -2,8 +2,8 @@
 
 ghost use Rattle.std.specs.Prelude.{◌≡◌, ◌↔◌, ◌<◌, ◌≤◌, min, length, IsTrue, Some, IfOk, IfErr, OnOk, OnErr, IsErrOf, IsPermutation};
 ghost use Rattle.ftp_base.specs.declared.fault.Failed.TheVariants.{Fault};
-ghost use Rattle.ftp_base.specs.Calls.{after_call, after_fault};
-ghost use Rattle.ftp_base.specs.Memory.{fails_next};
+ghost use Rattle.ftp_base.specs.Calls.{rises_above, after_call, after_fault};
+ghost use Rattle.ftp_base.specs.Memory.{fails_next, fault_limit};
 ghost use Rattle.ftp_base.specs.Outside.{HasRisen, ReadsFront};
 
 use crate::calls::Calls;
@@ -41,6 +41,7 @@ impl MemorySource {
         ensures no_call { result.calls.made ≡ 0 }
         ensures no_fault { result.calls.faults ≡ 0 }
         ensures failing { IsPermutation fails.items result.calls.failing }
+        ensures limit { IsTrue (rises_above (λ call. call) 0 fails.items) → fault_limit result.calls ≡ length fails.items }
     {
         MemorySource {
             bytes,
@@ -56,6 +57,8 @@ impl Source for MemorySource {
 
     ghost faults = { λ s. s.calls.faults };
 
+    ghost fault_limit = { λ s. fault_limit s.calls };
+
     fn read(&mut self, out: &mut [u8]) -> Result<usize, Failed>
         ensures within { IfOk result (λ n. n ≤ length out.new) }
         ensures moved { IfOk result (λ n. n ≡ min self.old.chunk (min (length out.old) (length self.old.left))) }
@@ -70,6 +73,7 @@ impl Source for MemorySource {
         ensures unchanged { OnErr result (self.new.left ≡ self.old.left) }
 
         ensures count { self.old.calls.faults ≤ self.new.calls.faults }
+        ensures limit { fault_limit self.new.calls ≤ fault_limit self.old.calls }
         ensures chunk { self.new.chunk ≡ self.old.chunk }
     {
         if self.calls.next_failing().is_some() {

@@ -92,11 +92,11 @@ impl Model for MemoryStorage {
 }
 
 impl MemoryStorage {
-    ghost use Rattle.std.specs.Prelude.{◌≡◌, ◌≢◌, ◌↔◌, ◌++◌, false, length, Some, None, IsTrue, IsSome, IsErr, IfOk, IfErr, OnOk, OnErr, MatchResult, IsPermutation};
+    ghost use Rattle.std.specs.Prelude.{◌≡◌, ◌≢◌, ◌↔◌, ◌≤◌, ◌++◌, false, length, Some, None, IsTrue, IsSome, IsErr, IfOk, IfErr, OnOk, OnErr, MatchResult, IsPermutation};
     ghost use Rattle.std.specs.FinMap as map;
     ghost use Rattle.std.specs.Option.{option_map};
     ghost use Rattle.ftp_base.specs.Calls.{rises_above};
-    ghost use Rattle.ftp_base.specs.Memory.{fails_next};
+    ghost use Rattle.ftp_base.specs.Memory.{fails_next, fault_limit};
     ghost use Rattle.ftp_base.specs.MemoryStorage.{standing_item, counted, failed, item_of, file_refusal, directory_refusal, append_refusal, if_within};
     ghost use Rattle.std.specs.Str.{bytes_eq};
     ghost use Rattle.ftp_base.specs.Storage.{Directory, root, item, contents, with_file, old_bytes, cut, listing, files_in_order, Refuses};
@@ -109,6 +109,7 @@ impl MemoryStorage {
         ensures no_fault { result.calls.faults ≡ 0 }
         ensures failing { IsPermutation fails.items result.calls.failing }
         ensures kept { IsTrue (rises_above (λ call. call) 0 fails.items) → result.calls.failing ≡ fails.items }
+        ensures limit { IsTrue (rises_above (λ call. call) 0 fails.items) → fault_limit result.calls ≡ length fails.items }
     {
         MemoryStorage {
             nodes: BTreeMap::new(alloc),
@@ -286,6 +287,7 @@ impl MemoryStorage {
         ensures only { IfErr result (λ e. e ≡ StoreError.Failed) }
         ensures counted { OnOk result (self.new ≡ counted self.old) }
         ensures fault_counted { OnErr result (self.new ≡ failed self.old) }
+        ensures limit { fault_limit self.new.calls ≤ fault_limit self.old.calls }
     {
         if self.calls.next_failing().is_some() {
             self.calls.count_fault();

@@ -1,9 +1,9 @@
 //! The traits of the outside: where bytes come from, where they go, and what keeps files.
 //!
-//! What an object holds is told or not told: `None` tells nothing. The count of faults never falls.
-//! A count at the end of its type stands still, so there a fault may always be answered.
+//! What an object holds is told or not told: `None` tells nothing. The count of faults never falls, and their limit
+//! never rises. A count at the end of its type stands still, so there a fault may always be answered.
 
-ghost use Rattle.std.specs.Prelude.{◌≡◌, ℕ, ◌<◌, ◌≤◌, ◌++◌, List, length, take, Bool, true, Option, Some, IsSome, IfOk, IfErr, OnOk, OnErr, IfSome, IsErrOf};
+ghost use Rattle.std.specs.Prelude.{◌≡◌, ℕ, ◌-◌, ◌^◌, ◌<◌, ◌≤◌, ◌++◌, List, length, take, Bool, true, Option, Some, IsSome, IfOk, IfErr, OnOk, OnErr, IfSome, IsErrOf};
 ghost use Rattle.ftp_base.specs.declared.fault.Failed.TheVariants.{Fault, Memory};
 ghost use Rattle.ftp_base.specs.declared.fault.LinkFault.{LinkFault};
 ghost use Rattle.ftp_base.specs.Outside.{HasRisen, ReadsFront, Writes, Sending, nothing_sent};
@@ -18,6 +18,9 @@ pub trait Source {
     // How many calls failed.
     ghost faults: { Self → ℕ };
 
+    // The most faults that will ever be counted.
+    ghost fault_limit: { Self → ℕ } = { λ _. 2 ^ 64 - 1 };
+
     // The other direction, where the source is a connection.
     ghost sending: { Self → Sending } = { λ _. nothing_sent };
 
@@ -31,7 +34,8 @@ pub trait Source {
         ensures only_fault { IfErr result (λ e. e ≡ Fault) }
         ensures fault_rose { OnErr result (HasRisen (faults self.old) (faults self.new)) }
         ensures unchanged { OnErr result (left self.new ≡ left self.old) }
-        ensures count { faults self.old ≤ faults self.new };
+        ensures count { faults self.old ≤ faults self.new }
+        ensures limit { fault_limit self.new ≤ fault_limit self.old };
 }
 
 /// Takes bytes, as a file or standard output does.
@@ -42,6 +46,9 @@ pub trait Sink {
     // How many calls failed.
     ghost faults: { Self → ℕ };
 
+    // The most faults that will ever be counted.
+    ghost fault_limit: { Self → ℕ } = { λ _. 2 ^ 64 - 1 };
+
     /// Writes bytes from the front, and says how many: at least one, where there is one.
     fn write(&mut self, bytes: &[u8]) -> Result<usize, Failed>
         ensures within { IfOk result (λ n. n ≤ length bytes.now) }
@@ -50,7 +57,8 @@ pub trait Sink {
         ensures fault_rose { IsErrOf result Fault → HasRisen (faults self.old) (faults self.new) }
         ensures memory { IsErrOf result Memory → faults self.new ≡ faults self.old }
         ensures unchanged { OnErr result (written self.new ≡ written self.old) }
-        ensures count { faults self.old ≤ faults self.new };
+        ensures count { faults self.old ≤ faults self.new }
+        ensures limit { fault_limit self.new ≤ fault_limit self.old };
 }
 
 /// Both directions of a connection, under one count of faults.
@@ -71,7 +79,8 @@ pub trait Link: Source {
         ensures takes_memory { IsErrOf result Memory → takes_memory ≡ true }
         ensures memory_last { IsErrOf result Memory → ((Self.sending self.new).last_fault ≡ (Self.sending self.old).last_fault) }
         ensures unchanged { OnErr result ((Self.sending self.new).sent ≡ (Self.sending self.old).sent) }
-        ensures count { Self.faults self.old ≤ Self.faults self.new };
+        ensures count { Self.faults self.old ≤ Self.faults self.new }
+        ensures limit { Self.fault_limit self.new ≤ Self.fault_limit self.old };
 
     /// Closes both directions. What was sent and what is left to be read stay as they are.
     fn close(&mut self) -> Result<(), Failed>
@@ -81,7 +90,8 @@ pub trait Link: Source {
         ensures last_fault { (Self.sending self.new).last_fault ≡ (Self.sending self.old).last_fault }
         ensures only_fault { IfErr result (λ e. e ≡ Fault) }
         ensures fault_rose { OnErr result (HasRisen (Self.faults self.old) (Self.faults self.new)) }
-        ensures count { Self.faults self.old ≤ Self.faults self.new };
+        ensures count { Self.faults self.old ≤ Self.faults self.new }
+        ensures limit { Self.fault_limit self.new ≤ Self.fault_limit self.old };
 
     /// What the last read or write that failed met; nothing before any failed.
     fn last_fault(&self) -> Option<LinkFault>

@@ -3,7 +3,7 @@
 //! A storage is a map from paths to the bytes of a file or a directory. Its meaning says which calls it refuses.
 //! A call that fails, finds no memory or is refused leaves the storage as it was.
 
-ghost use Rattle.std.specs.Prelude.{◌≡◌, ℕ, ◌+◌, ◌^◌, ◌<◌, ◌≤◌, Bool, true, length, Option, IfSome, IsSomeAnd, IfOk, OnOk, OnErr, IsErrOf};
+ghost use Rattle.std.specs.Prelude.{◌≡◌, ℕ, ◌+◌, ◌-◌, ◌^◌, ◌<◌, ◌≤◌, Bool, true, length, Option, IfSome, IsSomeAnd, IfOk, OnOk, OnErr, IsErrOf};
 ghost use Rattle.ftp_base.specs.declared.storage.StoreError.TheVariants.{OutOfMemory};
 ghost use Rattle.ftp_base.specs.Outside.{HasRisen};
 ghost use Rattle.ftp_base.specs.Storage.{Files, Meaning, Metadata, Listing, ReadAt, Begin, Append, Answers, item, meta_of, listing, ReadsFile, Begins, Grows};
@@ -62,6 +62,9 @@ pub trait Storage {
     // How many calls failed.
     ghost faults: { Self → ℕ };
 
+    // The most faults that will ever be counted.
+    ghost fault_limit: { Self → ℕ } = { λ _. 2 ^ 64 - 1 };
+
     // Whether reading a file may fail for want of memory.
     ghost reads_take_memory: { Bool };
 
@@ -76,7 +79,8 @@ pub trait Storage {
         ensures fault_rose { IsErrOf result StoreError.Failed → HasRisen (faults self.old) (faults self.new) }
         ensures unchanged { files self.new ≡ files self.old }
         ensures same_meaning { meaning self.new ≡ meaning self.old }
-        ensures count { faults self.old ≤ faults self.new };
+        ensures count { faults self.old ≤ faults self.new }
+        ensures limit { fault_limit self.new ≤ fault_limit self.old };
 
     /// The direct children of a directory in byte order of their names, equal names in byte order of their paths.
     fn list(&mut self, user: &Bytes, path: &Bytes) -> Result<Vec<FileInfo>, StoreError>
@@ -85,7 +89,8 @@ pub trait Storage {
         ensures fault_rose { IsErrOf result StoreError.Failed → HasRisen (faults self.old) (faults self.new) }
         ensures unchanged { files self.new ≡ files self.old }
         ensures same_meaning { meaning self.new ≡ meaning self.old }
-        ensures count { faults self.old ≤ faults self.new };
+        ensures count { faults self.old ≤ faults self.new }
+        ensures limit { fault_limit self.new ≤ fault_limit self.old };
 
     /// Reads to the front of `out` from a place in a file, and says how many bytes: none exactly at or past the end,
     /// where `out` has room.
@@ -104,7 +109,8 @@ pub trait Storage {
         ensures takes_memory { IsErrOf result StoreError.OutOfMemory → reads_take_memory ≡ true }
         ensures unchanged { files self.new ≡ files self.old }
         ensures same_meaning { meaning self.new ≡ meaning self.old }
-        ensures count { faults self.old ≤ faults self.new };
+        ensures count { faults self.old ≤ faults self.new }
+        ensures limit { fault_limit self.new ≤ fault_limit self.old };
 
     /// Cuts a file at a place, or fills it with zeros up to there; an absent file counts as empty.
     fn begin(&mut self, user: &Bytes, path: &Bytes, start: u64) -> Result<(), StoreError>
@@ -113,7 +119,8 @@ pub trait Storage {
         ensures fault_rose { IsErrOf result StoreError.Failed → HasRisen (faults self.old) (faults self.new) }
         ensures unchanged { OnErr result (files self.new ≡ files self.old) }
         ensures same_meaning { OnErr result (meaning self.new ≡ meaning self.old) }
-        ensures count { faults self.old ≤ faults self.new };
+        ensures count { faults self.old ≤ faults self.new }
+        ensures limit { fault_limit self.new ≤ fault_limit self.old };
 
     /// Puts bytes at the end of a file.
     fn append(&mut self, user: &Bytes, path: &Bytes, bytes: &[u8]) -> Result<(), StoreError>
@@ -122,5 +129,6 @@ pub trait Storage {
         ensures fault_rose { IsErrOf result StoreError.Failed → HasRisen (faults self.old) (faults self.new) }
         ensures unchanged { OnErr result (files self.new ≡ files self.old) }
         ensures same_meaning { OnErr result (meaning self.new ≡ meaning self.old) }
-        ensures count { faults self.old ≤ faults self.new };
+        ensures count { faults self.old ≤ faults self.new }
+        ensures limit { fault_limit self.new ≤ fault_limit self.old };
 }

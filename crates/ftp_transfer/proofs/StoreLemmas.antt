@@ -3,19 +3,17 @@ use Rattle.std.proofs.Common.{◌≡◌, inl, inr, ℕ, ◌+◌, ◌<◌, ◌≤
 use Rattle.std.specs.Prelude.{IsSome, IfSome, IsSomeAnd, Result, Ok, Err, IfOk, MatchResult, unwrap_or}
 use Rattle.std.specs.Option.{option_map, option_and_then}
 use Rattle.std.proofs.lemmas.List.{drop-drop, append-nil, length-append}
-use Rattle.std.proofs.Math.Seq.{take-append_seam}
 use Rattle.std.proofs.lemmas.Option.{IfSome_then}
 use Rattle.ftp_base.specs.declared.error_kind.ErrorKind.{ErrorKind}
 use Rattle.ftp_base.specs.declared.error_kind.ErrorKind.TheVariants as kind
 use Rattle.ftp_base.specs.declared.storage.Meta.{Meta}
 use Rattle.ftp_base.specs.declared.storage.StoreError.{StoreError}
 use Rattle.ftp_base.specs.declared.storage.StoreError.TheVariants.{Kind, Failed, OutOfMemory}
-use Rattle.ftp_base.specs.Outside.{ReadsFront}
-use Rattle.ftp_base.specs.Storage.{Item, Directory, File, Files, Meaning, Metadata, Begin, Append, item, bytes_of, contents, with_file, old_bytes, cut, meta_of, Begins, Refuses}
+use Rattle.ftp_base.specs.Storage.{Item, Directory, File, Files, Meaning, Metadata, Begin, item, bytes_of, contents, with_file, old_bytes, cut, meta_of, Begins, Refuses}
 use Rattle.ftp_base.proofs.Files.{with_file-with_file, contents-with_file}
 use Rattle.ftp_transfer.specs.declared.job.Outcome.{Outcome}
 use Rattle.ftp_transfer.specs.declared.job.Completion.{Completion}
-use Rattle.ftp_transfer.specs.Run.{EndsRefused, RefusedLast, GrowsFront, TakesFront, Stores, append_place, append_refusal}
+use Rattle.ftp_transfer.specs.Run.{RefusedLast, GrowsFront, TakesFront, Stores, append_place, append_refusal}
 use Rattle.ftp_transfer.specs.Turn.{start_after}
 use Rattle.ftp_transfer.proofs.Pieces.{take-plus}
 use Rattle.ftp_transfer.proofs.RunLemmas.{EndsRefused_later}
@@ -140,25 +138,7 @@ RefusedLast-none rose meaning user path rest later r same piece left k some take
     let e : piece ++ left ≡ left = cc in
     absurd (not_longer piece left some e)
 
--- a piece that was taken is the front of the rest
-taken_piece : (piece left l : List ℕ) (n : ℕ) → n ≤ length l → l ≡ piece ++ left → left ≡ drop n l → piece ≡ take n l
-taken_piece piece left l n le taken stays =
-    let long : length piece ≡ n = omega (arith, le, ap length taken, ap length stays, length-append piece left, length-drop n l) in
-    sym (take-append_seam piece left) ∙ ap (take (length piece)) (sym taken) ∙ ap (λ (j : ℕ). take j l) long
-
--- a refusal of the piece that was read is the result
-pub RefusedLast-piece : (rose : Type 0) (meaning : Meaning) (user path : List ℕ) (rest later : Option (List ℕ)) (n : ℕ) (out : List ℕ) (r : Completion) →
-    IfSome rest (λ l. ReadsFront l later n out) →
-    IfSome (meaning (Append user path (take n out))) (λ k. EndsRefused rose k r) → RefusedLast rose meaning user path rest later r
-RefusedLast-piece rose meaning user path None later n out r read shown piece left k some taken stays refused = cc
-RefusedLast-piece rose meaning user path (Some l) later n out r read shown piece left k some taken stays refused =
-    let e : l ≡ piece ++ left = cc in
-    let rest : Some left ≡ Some (drop n l) = sym stays ∙ read.rest in
-    let s : left ≡ drop n l = cc in
-    let same = taken_piece piece left l n read.within e s in
-    rw (read.front, sym same, refused) at shown
-
--- the same of the whole run, where the rest is what was left after the first pieces
+-- a refusal of the last piece is the result of the whole run, where the rest is what was left after the first pieces
 pub RefusedLast-told : (rose rose' : Type 0) (meaning : Meaning) (user path : List ℕ) (l rest later : Option (List ℕ)) (m : ℕ) (r : Completion) →
     (rose → rose') → IfSome l (λ l. TakesFront l rest m) → RefusedLast rose meaning user path rest later r → RefusedLast rose' meaning user path (option_map (drop m) l) later r
 RefusedLast-told rose rose' meaning user path None rest later m r rises taken last piece left k some is stays refused = cc

@@ -12,7 +12,7 @@ use Rattle.ftp_transfer.specs.declared.job.Outcome.{Outcome}
 use Rattle.ftp_transfer.specs.declared.job.Completion.{Completion}
 use Rattle.ftp_transfer.specs.declared.job.Completion.TheVariants as result
 use Rattle.ftp_transfer.specs.Listing.{listing_text}
-use Rattle.ftp_transfer.specs.Run.{Caused, RefusedFirst, RefusedLast, Stores, RefusesStore, Appends, RefusesAppe, append_refusal}
+use Rattle.ftp_transfer.specs.Run.{link_failure, Caused, RefusedFirst, RefusedLast, Stores, RefusesStore, Appends, RefusesAppe, append_refusal}
 use Rattle.ftp_transfer.specs.Transfer.{is_store}
 
 -- what a storage and a link tell, and their counts of faults
@@ -92,13 +92,21 @@ pub record Moves (job : Job) (old new : Told) (outcome : Outcome) : Type 0 where
   pub stored : IfSome old.files (λ f. IfSome old.left (λ l. StoresAs job.command job f old.meaning new.files l outcome))
   pub written : outcome.result ≡ result.Written → IfSome old.left (λ l. (outcome.bytes ≡ length l) × (new.left ≡ Some []))
   -- why it ended
-  pub cause : Caused (HasRisen old.link_faults new.link_faults) new.sending.last_fault (HasRisen old.storage_faults new.storage_faults) (λ k. IfSome old.files (λ f. Refuses job.command job f old.meaning new.meaning (option_map (drop outcome.bytes) old.left) new.left outcome.bytes k)) outcome.bytes outcome.result outcome.fault
+  pub cause : Caused (link_failure job.command)
+      (HasRisen old.link_faults new.link_faults) old.sending.last_fault new.sending.last_fault
+      (HasRisen old.storage_faults new.storage_faults)
+      (λ k. IfSome old.files (λ f. Refuses job.command job f old.meaning new.meaning
+      (option_map (drop outcome.bytes) old.left) new.left outcome.bytes k))
+      outcome.bytes outcome.result outcome.fault
   -- a refusal of the first call is the result, and then nothing is stored
-  pub refused : IfSome old.files (λ f. IfSome (first_refusal job.command job f old.meaning) (λ k. RefusedFirst (HasRisen old.storage_faults new.storage_faults) k outcome.bytes outcome.result × (new.files ≡ Some f)))
+  pub refused : IfSome old.files (λ f. IfSome (first_refusal job.command job f old.meaning) (λ k.
+      RefusedFirst (HasRisen old.storage_faults new.storage_faults) k outcome.bytes outcome.result × (new.files ≡ Some f)))
   -- a file was sent to its end only where no read there is refused
   pub unrefused : outcome.result ≡ result.Sent → IsSome old.files → old.meaning (ReadAt job.user job.path (job.offset + outcome.bytes)) ≡ None
   -- a refusal of the piece that a store took last is the result
-  pub refused_last : is_store job.command ≡ true → IsSome old.files → RefusedLast (HasRisen old.storage_faults new.storage_faults) new.meaning job.user job.path (option_map (drop outcome.bytes) old.left) new.left outcome.result
+  pub refused_last : is_store job.command ≡ true → IsSome old.files →
+      RefusedLast (HasRisen old.storage_faults new.storage_faults) new.meaning job.user job.path
+      (option_map (drop outcome.bytes) old.left) new.left outcome.result
 
 -- a run of a job, after which the link is closed or failed
 pub record Ran (job : Job) (old new : Told) (outcome : Outcome) : Type 0 where

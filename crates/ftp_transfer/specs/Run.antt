@@ -1,8 +1,9 @@
 -- What a run of a job sends and stores, and why it ends.
---   m        how many bytes moved
---   due f j  what job j sends of the files f
-use Rattle.std.specs.Prelude.{◌≡◌, ◌⊎◌, ℕ, ◌-◌, ◌^◌, ◌<◌, ◌≤◌, List, ◌++◌, length, take, drop, Option, Some, None, IfSome, IsSomeAnd, MatchOption}
+--   m              how many bytes moved
+--   before, last   what the link's last fault was before the run, and is after it
+use Rattle.std.specs.Prelude.{◌≡◌, ◌⊎◌, ℕ, ◌-◌, ◌^◌, ◌<◌, ◌≤◌, List, ◌++◌, length, take, drop, Option, Some, None, IfSome, IsSomeAnd, MatchOption, if◌then◌else◌}
 use Rattle.std.specs.Option.{option_map_or}
+use Rattle.ftp_base.specs.declared.command.DataChanCmd.{DataChanCmd}
 use Rattle.ftp_base.specs.declared.error_kind.ErrorKind.{ErrorKind}
 use Rattle.ftp_base.specs.declared.error_kind.ErrorKind.TheVariants as kind
 use Rattle.ftp_base.specs.declared.fault.LinkFault.{LinkFault}
@@ -11,6 +12,7 @@ use Rattle.ftp_base.specs.Storage.{Files, Meaning, Metadata, Begin, Append, cont
 use Rattle.ftp_transfer.specs.declared.job.Outcome.{Outcome}
 use Rattle.ftp_transfer.specs.declared.job.Completion.{Completion}
 use Rattle.ftp_transfer.specs.declared.job.Completion.TheVariants as result
+use Rattle.ftp_transfer.specs.Transfer.{is_listing}
 
 -- the first n bytes of a text were sent
 abbrev pub SendsFront : List ℕ → ℕ → Option (List ℕ) → Option (List ℕ) → Type 0
@@ -21,12 +23,30 @@ abbrev pub RefusedBy : Type 0 → (ErrorKind → Type 0) → ℕ → ErrorKind �
 RefusedBy storage_rose refuses bytes k =
     ((k ≡ kind.LocalError) × (storage_rose ⊎ (bytes ≡ 2 ^ 64 - 1))) ⊎ refuses k
 
--- why a run ended: where the link failed, the fault is what it met, and there is none otherwise
-abbrev pub Caused : Type 0 → Option LinkFault → Type 0 → (ErrorKind → Type 0) → ℕ → Completion → Option LinkFault → Type 0
-Caused link_rose last storage_rose refuses bytes result.WriteFailed fault = link_rose × (fault ≡ last)
-Caused link_rose last storage_rose refuses bytes (result.Refused k) fault =
-    ((k ≡ kind.ConnectionClosed) × link_rose × (fault ≡ last)) ⊎ ((fault ≡ None) × RefusedBy storage_rose refuses bytes k)
-Caused link_rose last storage_rose refuses bytes _ fault = fault ≡ None
+-- the result where a read or write of the link failed
+abbrev pub link_failure : DataChanCmd → Completion
+link_failure c = if is_listing c then result.WriteFailed else result.Refused kind.ConnectionClosed
+
+-- a read or write of the link failed: the result says so, and the fault is what the link met
+abbrev pub LinkFailed : Completion → Type 0 → Option LinkFault → Completion → Option LinkFault → Type 0
+LinkFailed failure link_rose last r fault = (r ≡ failure) × link_rose × (fault ≡ last)
+
+-- no read or write of the link failed: there is no fault, and the link met none
+abbrev pub LinkHeld : Option LinkFault → Option LinkFault → Option LinkFault → Type 0
+LinkHeld before last fault = (fault ≡ None) × (last ≡ before)
+
+-- a refusal has its cause, and no write failed
+abbrev pub IfRefused : (ErrorKind → Type 0) → Completion → Type 0
+IfRefused cause (result.Refused k) = cause k
+IfRefused cause result.WriteFailed = ⊥
+IfRefused cause _ = Unit {0}
+
+-- why a run ended: the link failed, or it held and the storage or the count of bytes refused what was refused
+abbrev pub Caused :
+    Completion → Type 0 → Option LinkFault → Option LinkFault → Type 0 → (ErrorKind → Type 0) → ℕ → Completion → Option LinkFault → Type 0
+Caused failure link_rose before last storage_rose refuses bytes r fault =
+    LinkFailed failure link_rose last r fault
+    ⊎ (LinkHeld before last fault × IfRefused (RefusedBy storage_rose refuses bytes) r)
 
 -- the refusal of a call is the result, unless that call failed or memory ran out
 abbrev pub EndsRefused : Type 0 → ErrorKind → Completion → Type 0
@@ -94,12 +114,14 @@ append_place (Some _) len = None
 -- the storage refuses metadata, to begin, or to append what was taken last
 abbrev pub RefusesAppe : Meaning → Meaning → List ℕ → List ℕ → ℕ → Option (List ℕ) → Option (List ℕ) → ℕ → ErrorKind → Type 0
 RefusesAppe old new user path len rest later m k =
-    MatchOption (append_place (old (Metadata user path)) len) ((m ≡ 0) × (old (Metadata user path) ≡ Some k)) (λ place. RefusesStore old new user path place rest later m k)
+    MatchOption (append_place (old (Metadata user path)) len) ((m ≡ 0) × (old (Metadata user path) ≡ Some k))
+    (λ place. RefusesStore old new user path place rest later m k)
 
 -- the file is the old one with the first bytes of the input put behind it, or nothing was begun
 abbrev pub Appends : Meaning → List ℕ → Files → Option Files → List ℕ → List ℕ → Outcome → Type 0
 Appends meaning user files new path input outcome =
-    MatchOption (append_place (meaning (Metadata user path)) (length (old_bytes files path))) ((new ≡ Some files) × NotBegun outcome) (λ place. Stores files new path place input outcome)
+    MatchOption (append_place (meaning (Metadata user path)) (length (old_bytes files path))) ((new ≡ Some files) × NotBegun outcome)
+    (λ place. Stores files new path place input outcome)
 
 -- how the first call of an APPE is refused that counts
 abbrev pub append_refusal : Meaning → List ℕ → List ℕ → ℕ → Option ErrorKind

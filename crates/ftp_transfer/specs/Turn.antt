@@ -1,5 +1,5 @@
 -- What stops a turn.
-use Rattle.std.specs.Prelude.{◌≡◌, ◌⊎◌, ℕ, Option, None, Result, Ok, Err}
+use Rattle.std.specs.Prelude.{◌≡◌, ◌⊎◌, ℕ, Option, Result, Ok, Err}
 use Rattle.ftp_base.specs.declared.command.DataChanCmd.{DataChanCmd}
 use Rattle.ftp_base.specs.declared.command.DataChanCmd.TheVariants as command
 use Rattle.ftp_base.specs.declared.fault.LinkFault.{LinkFault}
@@ -10,6 +10,7 @@ use Rattle.ftp_base.specs.declared.storage.StoreError.{StoreError}
 use Rattle.ftp_base.specs.declared.storage.StoreError.TheVariants.{Kind, Failed, OutOfMemory}
 use Rattle.ftp_transfer.specs.declared.job.Completion.{Completion}
 use Rattle.ftp_transfer.specs.declared.job.Completion.TheVariants as result
+use Rattle.ftp_transfer.specs.Run.{LinkFailed, LinkHeld}
 
 -- the result of a transfer that a storage stopped
 abbrev pub completion_of : StoreError → Completion
@@ -18,9 +19,10 @@ completion_of Failed = result.Refused kind.LocalError
 completion_of OutOfMemory = result.OutOfMemory
 
 -- a link failed, or found no memory, as bytes of a file were sent
-abbrev pub StopsSending : Type 0 → Option LinkFault → Completion → Option LinkFault → Type 0
-StopsSending link_rose last r fault =
-    ((r ≡ result.Refused kind.ConnectionClosed) × link_rose × (fault ≡ last)) ⊎ ((r ≡ result.OutOfMemory) × (fault ≡ None))
+abbrev pub StopsSending : Type 0 → Option LinkFault → Option LinkFault → Completion → Option LinkFault → Type 0
+StopsSending link_rose before last r fault =
+    LinkFailed (result.Refused kind.ConnectionClosed) link_rose last r fault
+    ⊎ ((r ≡ result.OutOfMemory) × LinkHeld before last fault)
 
 -- a storage failed, refused, or found no memory
 abbrev pub StopsStoring : Type 0 → (ErrorKind → Type 0) → Completion → Type 0
@@ -35,12 +37,11 @@ start_after (Ok meta) = Ok meta.len
 start_after (Err (Kind kind.PermanentFileNotAvailable)) = Ok 0
 start_after (Err e) = Err (completion_of e)
 
--- a link failed, or found no memory, as a listing was sent
-abbrev pub StopsListing : Type 0 → Option LinkFault → Completion → Option LinkFault → Type 0
-StopsListing link_rose last r fault =
-    ((r ≡ result.Listed) × (fault ≡ None))
-    ⊎ ((r ≡ result.WriteFailed) × link_rose × (fault ≡ last))
-    ⊎ ((r ≡ result.OutOfMemory) × (fault ≡ None))
+-- a listing was sent, or its link failed, or memory ran out
+abbrev pub StopsListing : Type 0 → Option LinkFault → Option LinkFault → Completion → Option LinkFault → Type 0
+StopsListing link_rose before last r fault =
+    LinkFailed result.WriteFailed link_rose last r fault
+    ⊎ (((r ≡ result.Listed) ⊎ (r ≡ result.OutOfMemory)) × LinkHeld before last fault)
 
 -- how a listing ends that the storage stopped: NLST turns each refusal
 abbrev pub listing_end : DataChanCmd → StoreError → Completion

@@ -21,19 +21,28 @@ use std::alloc::Global;
 pub fn list<S: Storage, L: Link>(alloc: Global, job: &Job, storage: &mut S, link: &mut L) -> Outcome
     requires command { is_listing job.now.command ≡ true }
 
-    ensures sent { IfSome (S.files storage.old) (λ f. SendsFront (text_of job.now.command (listing f job.now.path)) result.bytes (L.sending link.old).sent (L.sending link.new).sent) }
-    ensures whole { result.result ≡ done.Listed → IfSome (S.files storage.old) (λ f. result.bytes ≡ length (text_of job.now.command (listing f job.now.path))) }
+    ensures sent { IfSome (S.files storage.old) (λ f.
+        SendsFront (text_of job.now.command (listing f job.now.path)) result.bytes (L.sending link.old).sent (L.sending link.new).sent) }
+    ensures whole { result.result ≡ done.Listed →
+        IfSome (S.files storage.old) (λ f. result.bytes ≡ length (text_of job.now.command (listing f job.now.path))) }
 
     ensures suits { suits result.result job.now.command ≡ true }
-    ensures cause { Caused (HasRisen (L.faults link.old) (L.faults link.new)) (L.sending link.new).last_fault (HasRisen (S.faults storage.old) (S.faults storage.new)) (λ k. IsSome (S.files storage.old) → RefusesListing job.now.command (S.meaning storage.old) job.now.user job.now.path k) result.bytes result.result result.fault }
-    ensures refused { IsSome (S.files storage.old) → IfSome (S.meaning storage.old (Listing job.now.user job.now.path)) (λ k. RefusedFirst (HasRisen (S.faults storage.old) (S.faults storage.new)) (shown_refusal job.now.command k) result.bytes result.result) }
+    ensures cause { Caused done.WriteFailed
+        (HasRisen (L.faults link.old) (L.faults link.new)) (L.sending link.old).last_fault (L.sending link.new).last_fault
+        (HasRisen (S.faults storage.old) (S.faults storage.new))
+        (λ k. IsSome (S.files storage.old) → RefusesListing job.now.command (S.meaning storage.old) job.now.user job.now.path k)
+        result.bytes result.result result.fault }
+    ensures refused { IsSome (S.files storage.old) → IfSome (S.meaning storage.old (Listing job.now.user job.now.path))
+        (λ k. RefusedFirst (HasRisen (S.faults storage.old) (S.faults storage.new)) (shown_refusal job.now.command k) result.bytes result.result) }
 
     ensures files { S.files storage.new ≡ S.files storage.old }
     ensures meaning { S.meaning storage.new ≡ S.meaning storage.old }
     ensures left { L.left link.new ≡ L.left link.old }
     ensures closed { (L.sending link.new).closed ≡ (L.sending link.old).closed }
     ensures storage_count { S.faults storage.old ≤ S.faults storage.new }
+    ensures storage_limit { S.fault_limit storage.new ≤ S.fault_limit storage.old }
     ensures link_count { L.faults link.old ≤ L.faults link.new }
+    ensures link_limit { L.fault_limit link.new ≤ L.fault_limit link.old }
 {
     match storage.list(&job.user, &job.path) {
         Ok(children) => send_children(alloc, &job.command, children.as_slice(), link),
@@ -52,10 +61,13 @@ fn send_children<L: Link>(
 
     ensures sent { SendsFront (text_of command.now children.now) result.bytes (L.sending link.old).sent (L.sending link.new).sent }
     ensures whole { result.result ≡ done.Listed → result.bytes ≡ length (text_of command.now children.now) }
-    ensures end { StopsListing (HasRisen (L.faults link.old) (L.faults link.new)) (L.sending link.new).last_fault result.result result.fault }
+    ensures end { StopsListing
+        (HasRisen (L.faults link.old) (L.faults link.new)) (L.sending link.old).last_fault (L.sending link.new).last_fault
+        result.result result.fault }
     ensures left { L.left link.new ≡ L.left link.old }
     ensures closed { (L.sending link.new).closed ≡ (L.sending link.old).closed }
     ensures link_count { L.faults link.old ≤ L.faults link.new }
+    ensures link_limit { L.fault_limit link.new ≤ L.fault_limit link.old }
 {
     let Ok(text) = listing_text(alloc, command, children) else {
         return nothing_moved(Completion::OutOfMemory);
@@ -67,10 +79,13 @@ fn send_children<L: Link>(
 fn send_text<L: Link>(text: &[u8], link: &mut L) -> Outcome
     ensures sent { SendsFront text.now result.bytes (L.sending link.old).sent (L.sending link.new).sent }
     ensures whole { result.result ≡ done.Listed → result.bytes ≡ length text.now }
-    ensures end { StopsListing (HasRisen (L.faults link.old) (L.faults link.new)) (L.sending link.new).last_fault result.result result.fault }
+    ensures end { StopsListing
+        (HasRisen (L.faults link.old) (L.faults link.new)) (L.sending link.old).last_fault (L.sending link.new).last_fault
+        result.result result.fault }
     ensures left { L.left link.new ≡ L.left link.old }
     ensures closed { (L.sending link.new).closed ≡ (L.sending link.old).closed }
     ensures link_count { L.faults link.old ≤ L.faults link.new }
+    ensures link_limit { L.fault_limit link.new ≤ L.fault_limit link.old }
 {
     let sending = send(link, text);
     let (result, fault) = match sending.stopped {

@@ -1,6 +1,7 @@
 //! RETR (RFC 959, section 4.1.3): a file goes to the link, from a place on.
 
 ghost use Rattle.std.specs.Prelude.{◌≡◌, ◌+◌, ◌-◌, ◌^◌, ◌<◌, ◌≤◌, true, false, [], length, Some, None, IsSome, IsNone, IfSome};
+ghost use Rattle.ftp_base.specs.declared.error_kind.ErrorKind.TheVariants as kind;
 ghost use Rattle.ftp_base.specs.Outside.{HasRisen};
 ghost use Rattle.ftp_base.specs.Storage.{ReadAt, get, old_bytes};
 ghost use Rattle.ftp_transfer.specs.declared.job.Completion.TheVariants as done;
@@ -17,13 +18,22 @@ use ftp_base::{ErrorKind, Failed, Link, Storage};
 pub fn retrieve<S: Storage, L: Link>(job: &Job, storage: &mut S, link: &mut L) -> Outcome
     requires command { is_retrieve job.now.command ≡ true }
 
-    ensures sent { IfSome (S.files storage.old) (λ f. SendsFront (get (old_bytes f job.now.path) job.now.offset) result.bytes (L.sending link.old).sent (L.sending link.new).sent) }
-    ensures whole { result.result ≡ done.Sent → IfSome (S.files storage.old) (λ f. result.bytes ≡ length (get (old_bytes f job.now.path) job.now.offset)) }
+    ensures sent { IfSome (S.files storage.old) (λ f.
+        SendsFront (get (old_bytes f job.now.path) job.now.offset) result.bytes (L.sending link.old).sent (L.sending link.new).sent) }
+    ensures whole { result.result ≡ done.Sent →
+        IfSome (S.files storage.old) (λ f. result.bytes ≡ length (get (old_bytes f job.now.path) job.now.offset)) }
 
     ensures suits { suits result.result job.now.command ≡ true }
-    ensures cause { Caused (HasRisen (L.faults link.old) (L.faults link.new)) (L.sending link.new).last_fault (HasRisen (S.faults storage.old) (S.faults storage.new)) (λ k. IsSome (S.files storage.old) → S.meaning storage.old (ReadAt job.now.user job.now.path (job.now.offset + result.bytes)) ≡ Some k) result.bytes result.result result.fault }
-    ensures refused { IsSome (S.files storage.old) → IfSome (S.meaning storage.old (ReadAt job.now.user job.now.path job.now.offset)) (λ k. RefusedFirst (HasRisen (S.faults storage.old) (S.faults storage.new)) k result.bytes result.result) }
-    ensures unrefused { result.result ≡ done.Sent → IsSome (S.files storage.old) → S.meaning storage.old (ReadAt job.now.user job.now.path (job.now.offset + result.bytes)) ≡ None }
+    ensures cause { Caused (done.Refused kind.ConnectionClosed)
+        (HasRisen (L.faults link.old) (L.faults link.new)) (L.sending link.old).last_fault (L.sending link.new).last_fault
+        (HasRisen (S.faults storage.old) (S.faults storage.new))
+        (λ k. IsSome (S.files storage.old) →
+        S.meaning storage.old (ReadAt job.now.user job.now.path (job.now.offset + result.bytes)) ≡ Some k)
+        result.bytes result.result result.fault }
+    ensures refused { IsSome (S.files storage.old) → IfSome (S.meaning storage.old (ReadAt job.now.user job.now.path job.now.offset))
+        (λ k. RefusedFirst (HasRisen (S.faults storage.old) (S.faults storage.new)) k result.bytes result.result) }
+    ensures unrefused { result.result ≡ done.Sent → IsSome (S.files storage.old) →
+        S.meaning storage.old (ReadAt job.now.user job.now.path (job.now.offset + result.bytes)) ≡ None }
     ensures no_memory { S.reads_take_memory ≡ false → L.takes_memory ≡ false → result.result ≡ done.OutOfMemory → ⊥ }
 
     ensures files { S.files storage.new ≡ S.files storage.old }
@@ -31,7 +41,9 @@ pub fn retrieve<S: Storage, L: Link>(job: &Job, storage: &mut S, link: &mut L) -
     ensures left { L.left link.new ≡ L.left link.old }
     ensures closed { (L.sending link.new).closed ≡ (L.sending link.old).closed }
     ensures storage_count { S.faults storage.old ≤ S.faults storage.new }
+    ensures storage_limit { S.fault_limit storage.new ≤ S.fault_limit storage.old }
     ensures link_count { L.faults link.old ≤ L.faults link.new }
+    ensures link_limit { L.fault_limit link.new ≤ L.fault_limit link.old }
 {
     let mut buffer = [0; PIECE_LEN];
     let mut moved: u64 = 0;
@@ -59,14 +71,25 @@ pub fn send_piece<S: Storage, L: Link>(
     ensures some { IsNone result.end → 0 < result.bytes }
     ensures within { result.bytes ≤ PIECE_LEN }
     ensures in_range { job.now.offset + moved + result.bytes < 2 ^ 64 }
-    ensures sent { IfSome (S.files storage.old) (λ f. SendsFront (get (old_bytes f job.now.path) (job.now.offset + moved)) result.bytes (L.sending link.old).sent (L.sending link.new).sent) }
-    ensures whole { IfSome result.end (λ e. e.result ≡ done.Sent → (result.bytes ≡ 0) × IfSome (S.files storage.old) (λ f. get (old_bytes f job.now.path) (job.now.offset + moved) ≡ [])) }
+    ensures sent { IfSome (S.files storage.old) (λ f.
+        SendsFront (get (old_bytes f job.now.path) (job.now.offset + moved)) result.bytes (L.sending link.old).sent (L.sending link.new).sent) }
+    ensures whole { IfSome result.end (λ e. e.result ≡ done.Sent →
+        (result.bytes ≡ 0) × IfSome (S.files storage.old) (λ f. get (old_bytes f job.now.path) (job.now.offset + moved) ≡ [])) }
 
     ensures suits { IfSome result.end (λ e. suits e.result job.now.command ≡ true) }
-    ensures cause { IfSome result.end (λ e. Caused (HasRisen (L.faults link.old) (L.faults link.new)) (L.sending link.new).last_fault (HasRisen (S.faults storage.old) (S.faults storage.new)) (λ k. IsSome (S.files storage.old) → S.meaning storage.old (ReadAt job.now.user job.now.path (job.now.offset + moved + result.bytes)) ≡ Some k) (moved + result.bytes) e.result e.fault) }
+    ensures cause { IfSome result.end (λ e. Caused (done.Refused kind.ConnectionClosed)
+        (HasRisen (L.faults link.old) (L.faults link.new)) (L.sending link.old).last_fault (L.sending link.new).last_fault
+        (HasRisen (S.faults storage.old) (S.faults storage.new))
+        (λ k. IsSome (S.files storage.old) →
+        S.meaning storage.old (ReadAt job.now.user job.now.path (job.now.offset + moved + result.bytes)) ≡ Some k)
+        (moved + result.bytes) e.result e.fault) }
+    ensures last_fault { IsNone result.end → (L.sending link.new).last_fault ≡ (L.sending link.old).last_fault }
     ensures goes_on { IsSome (S.files storage.old) → IsNone result.end → S.meaning storage.old (ReadAt job.now.user job.now.path (job.now.offset + moved)) ≡ None }
-    ensures refused { IsSome (S.files storage.old) → moved < 2 ^ 64 - 1 → IfSome (S.meaning storage.old (ReadAt job.now.user job.now.path (job.now.offset + moved))) (λ k. IfSome result.end (λ e. RefusedFirst (HasRisen (S.faults storage.old) (S.faults storage.new)) k result.bytes e.result)) }
-    ensures unrefused { IfSome result.end (λ e. e.result ≡ done.Sent → IsSome (S.files storage.old) → S.meaning storage.old (ReadAt job.now.user job.now.path (job.now.offset + moved)) ≡ None) }
+    ensures refused { IsSome (S.files storage.old) → moved < 2 ^ 64 - 1 →
+        IfSome (S.meaning storage.old (ReadAt job.now.user job.now.path (job.now.offset + moved)))
+        (λ k. IfSome result.end (λ e. RefusedFirst (HasRisen (S.faults storage.old) (S.faults storage.new)) k result.bytes e.result)) }
+    ensures unrefused { IfSome result.end (λ e. e.result ≡ done.Sent → IsSome (S.files storage.old) →
+        S.meaning storage.old (ReadAt job.now.user job.now.path (job.now.offset + moved)) ≡ None) }
     ensures no_memory { S.reads_take_memory ≡ false → L.takes_memory ≡ false → IfSome result.end (λ e. e.result ≡ done.OutOfMemory → ⊥) }
 
     ensures files { S.files storage.new ≡ S.files storage.old }
@@ -74,7 +97,9 @@ pub fn send_piece<S: Storage, L: Link>(
     ensures left { L.left link.new ≡ L.left link.old }
     ensures closed { (L.sending link.new).closed ≡ (L.sending link.old).closed }
     ensures storage_count { S.faults storage.old ≤ S.faults storage.new }
+    ensures storage_limit { S.fault_limit storage.new ≤ S.fault_limit storage.old }
     ensures link_count { L.faults link.old ≤ L.faults link.new }
+    ensures link_limit { L.fault_limit link.new ≤ L.fault_limit link.old }
 {
     let room = piece_room(moved);
     if room == 0 {
@@ -98,11 +123,15 @@ fn send_read<L: Link>(link: &mut L, bytes: &[u8]) -> Turn
 
     ensures some { IsNone result.end → 0 < result.bytes }
     ensures sent { SendsFront bytes.now result.bytes (L.sending link.old).sent (L.sending link.new).sent }
-    ensures end { IfSome result.end (λ e. StopsSending (HasRisen (L.faults link.old) (L.faults link.new)) (L.sending link.new).last_fault e.result e.fault) }
+    ensures last_fault { IsNone result.end → (L.sending link.new).last_fault ≡ (L.sending link.old).last_fault }
+    ensures end { IfSome result.end (λ e. StopsSending
+        (HasRisen (L.faults link.old) (L.faults link.new)) (L.sending link.old).last_fault (L.sending link.new).last_fault
+        e.result e.fault) }
     ensures no_memory { L.takes_memory ≡ false → IfSome result.end (λ e. e.result ≡ done.OutOfMemory → ⊥) }
     ensures left { L.left link.new ≡ L.left link.old }
     ensures closed { (L.sending link.new).closed ≡ (L.sending link.old).closed }
     ensures link_count { L.faults link.old ≤ L.faults link.new }
+    ensures link_limit { L.fault_limit link.new ≤ L.fault_limit link.old }
 {
     let sending = send(link, bytes);
     let sent = sending.sent as u64;

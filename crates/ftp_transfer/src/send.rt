@@ -1,6 +1,6 @@
 //! Bytes that are sent whole.
 
-ghost use Rattle.std.specs.Prelude.{◌≡◌, ◌≤◌, false, length, take, Some, None};
+ghost use Rattle.std.specs.Prelude.{◌≡◌, ◌≢◌, ◌≤◌, false, length, take, Some, None};
 ghost use Rattle.ftp_base.specs.declared.fault.Failed.TheVariants.{Fault, Memory};
 ghost use Rattle.ftp_base.specs.Outside.{HasRisen, Writes};
 
@@ -20,9 +20,11 @@ pub fn send<L: Link>(link: &mut L, bytes: &[u8]) -> SendResult
     ensures wrote { Writes (L.sending link.old).sent (L.sending link.new).sent (take result.sent bytes.now) }
     ensures left { L.left link.new ≡ L.left link.old }
     ensures closed { (L.sending link.new).closed ≡ (L.sending link.old).closed }
+    ensures last_fault { result.stopped ≢ Some Fault → (L.sending link.new).last_fault ≡ (L.sending link.old).last_fault }
     ensures fault_rose { result.stopped ≡ Some Fault → HasRisen (L.faults link.old) (L.faults link.new) }
     ensures no_memory { L.takes_memory ≡ false → result.stopped ≡ Some Memory → ⊥ }
     ensures count { L.faults link.old ≤ L.faults link.new }
+    ensures limit { L.fault_limit link.new ≤ L.fault_limit link.old }
 {
     let mut sent = 0;
     while sent < bytes.len() {

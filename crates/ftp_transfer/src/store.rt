@@ -2,6 +2,7 @@
 
 ghost use Rattle.std.specs.Prelude.{◌≡◌, ◌≢◌, ◌+◌, ◌-◌, ◌^◌, ◌<◌, ◌≤◌, true, [], length, drop, Some, None, IsSome, IsNone, IfSome};
 ghost use Rattle.std.specs.Option.{option_map};
+ghost use Rattle.ftp_base.specs.declared.error_kind.ErrorKind.TheVariants as kind;
 ghost use Rattle.ftp_base.specs.Outside.{HasRisen};
 ghost use Rattle.ftp_base.specs.Storage.{Begin, Append, Grows, old_bytes};
 ghost use Rattle.ftp_transfer.specs.declared.job.Completion.TheVariants as done;
@@ -17,19 +18,31 @@ use ftp_base::{ErrorKind, Link, Meta, Storage, StoreError};
 pub fn store<S: Storage, L: Link>(job: &Job, start: u64, storage: &mut S, link: &mut L) -> Outcome
     requires command { is_store job.now.command ≡ true }
 
-    ensures stored { IfSome (S.files storage.old) (λ f. IfSome (L.left link.old) (λ l. Stores f (S.files storage.new) job.now.path start l result)) }
+    ensures stored { IfSome (S.files storage.old) (λ f. IfSome (L.left link.old) (λ l.
+        Stores f (S.files storage.new) job.now.path start l result)) }
     ensures within { IfSome (L.left link.old) (λ l. result.bytes ≤ length l) }
-    ensures whole { result.result ≡ done.Written → IfSome (L.left link.old) (λ l. (result.bytes ≡ length l) × (L.left link.new ≡ Some [])) }
+    ensures whole { result.result ≡ done.Written →
+        IfSome (L.left link.old) (λ l. (result.bytes ≡ length l) × (L.left link.new ≡ Some [])) }
 
     ensures suits { suits result.result job.now.command ≡ true }
-    ensures cause { Caused (HasRisen (L.faults link.old) (L.faults link.new)) (L.sending link.new).last_fault (HasRisen (S.faults storage.old) (S.faults storage.new)) (λ k. IfSome (S.files storage.old) (λ f. RefusesStore (S.meaning storage.old) (S.meaning storage.new) job.now.user job.now.path start (option_map (drop result.bytes) (L.left link.old)) (L.left link.new) result.bytes k)) result.bytes result.result result.fault }
-    ensures refused { IfSome (S.files storage.old) (λ f. IfSome (S.meaning storage.old (Begin job.now.user job.now.path start)) (λ k. RefusedFirst (HasRisen (S.faults storage.old) (S.faults storage.new)) k result.bytes result.result × (S.files storage.new ≡ Some f))) }
-    ensures refused_last { IsSome (S.files storage.old) → RefusedLast (HasRisen (S.faults storage.old) (S.faults storage.new)) (S.meaning storage.new) job.now.user job.now.path (option_map (drop result.bytes) (L.left link.old)) (L.left link.new) result.result }
+    ensures cause { Caused (done.Refused kind.ConnectionClosed)
+        (HasRisen (L.faults link.old) (L.faults link.new)) (L.sending link.old).last_fault (L.sending link.new).last_fault
+        (HasRisen (S.faults storage.old) (S.faults storage.new))
+        (λ k. IfSome (S.files storage.old) (λ f. RefusesStore (S.meaning storage.old) (S.meaning storage.new) job.now.user job.now.path start
+        (option_map (drop result.bytes) (L.left link.old)) (L.left link.new) result.bytes k))
+        result.bytes result.result result.fault }
+    ensures refused { IfSome (S.files storage.old) (λ f. IfSome (S.meaning storage.old (Begin job.now.user job.now.path start))
+        (λ k. RefusedFirst (HasRisen (S.faults storage.old) (S.faults storage.new)) k result.bytes result.result × (S.files storage.new ≡ Some f))) }
+    ensures refused_last { IsSome (S.files storage.old) →
+        RefusedLast (HasRisen (S.faults storage.old) (S.faults storage.new)) (S.meaning storage.new) job.now.user job.now.path
+        (option_map (drop result.bytes) (L.left link.old)) (L.left link.new) result.result }
 
     ensures sent { (L.sending link.new).sent ≡ (L.sending link.old).sent }
     ensures closed { (L.sending link.new).closed ≡ (L.sending link.old).closed }
     ensures storage_count { S.faults storage.old ≤ S.faults storage.new }
+    ensures storage_limit { S.fault_limit storage.new ≤ S.fault_limit storage.old }
     ensures link_count { L.faults link.old ≤ L.faults link.new }
+    ensures link_limit { L.fault_limit link.new ≤ L.fault_limit link.old }
 {
     match storage.begin(&job.user, &job.path, start) {
         Ok(()) => fill(job, storage, link),
@@ -41,19 +54,31 @@ pub fn store<S: Storage, L: Link>(job: &Job, start: u64, storage: &mut S, link: 
 pub fn append<S: Storage, L: Link>(job: &Job, storage: &mut S, link: &mut L) -> Outcome
     requires command { is_store job.now.command ≡ true }
 
-    ensures stored { IfSome (S.files storage.old) (λ f. IfSome (L.left link.old) (λ l. Appends (S.meaning storage.old) job.now.user f (S.files storage.new) job.now.path l result)) }
+    ensures stored { IfSome (S.files storage.old) (λ f. IfSome (L.left link.old) (λ l.
+        Appends (S.meaning storage.old) job.now.user f (S.files storage.new) job.now.path l result)) }
     ensures within { IfSome (L.left link.old) (λ l. result.bytes ≤ length l) }
-    ensures whole { result.result ≡ done.Written → IfSome (L.left link.old) (λ l. (result.bytes ≡ length l) × (L.left link.new ≡ Some [])) }
+    ensures whole { result.result ≡ done.Written →
+        IfSome (L.left link.old) (λ l. (result.bytes ≡ length l) × (L.left link.new ≡ Some [])) }
 
     ensures suits { suits result.result job.now.command ≡ true }
-    ensures cause { Caused (HasRisen (L.faults link.old) (L.faults link.new)) (L.sending link.new).last_fault (HasRisen (S.faults storage.old) (S.faults storage.new)) (λ k. IfSome (S.files storage.old) (λ f. RefusesAppe (S.meaning storage.old) (S.meaning storage.new) job.now.user job.now.path (length (old_bytes f job.now.path)) (option_map (drop result.bytes) (L.left link.old)) (L.left link.new) result.bytes k)) result.bytes result.result result.fault }
-    ensures refused { IfSome (S.files storage.old) (λ f. IfSome (append_refusal (S.meaning storage.old) job.now.user job.now.path (length (old_bytes f job.now.path))) (λ k. RefusedFirst (HasRisen (S.faults storage.old) (S.faults storage.new)) k result.bytes result.result × (S.files storage.new ≡ Some f))) }
-    ensures refused_last { IsSome (S.files storage.old) → RefusedLast (HasRisen (S.faults storage.old) (S.faults storage.new)) (S.meaning storage.new) job.now.user job.now.path (option_map (drop result.bytes) (L.left link.old)) (L.left link.new) result.result }
+    ensures cause { Caused (done.Refused kind.ConnectionClosed)
+        (HasRisen (L.faults link.old) (L.faults link.new)) (L.sending link.old).last_fault (L.sending link.new).last_fault
+        (HasRisen (S.faults storage.old) (S.faults storage.new))
+        (λ k. IfSome (S.files storage.old) (λ f. RefusesAppe (S.meaning storage.old) (S.meaning storage.new) job.now.user job.now.path (length (old_bytes f job.now.path))
+        (option_map (drop result.bytes) (L.left link.old)) (L.left link.new) result.bytes k))
+        result.bytes result.result result.fault }
+    ensures refused { IfSome (S.files storage.old) (λ f. IfSome (append_refusal (S.meaning storage.old) job.now.user job.now.path (length (old_bytes f job.now.path)))
+        (λ k. RefusedFirst (HasRisen (S.faults storage.old) (S.faults storage.new)) k result.bytes result.result × (S.files storage.new ≡ Some f))) }
+    ensures refused_last { IsSome (S.files storage.old) →
+        RefusedLast (HasRisen (S.faults storage.old) (S.faults storage.new)) (S.meaning storage.new) job.now.user job.now.path
+        (option_map (drop result.bytes) (L.left link.old)) (L.left link.new) result.result }
 
     ensures sent { (L.sending link.new).sent ≡ (L.sending link.old).sent }
     ensures closed { (L.sending link.new).closed ≡ (L.sending link.old).closed }
     ensures storage_count { S.faults storage.old ≤ S.faults storage.new }
+    ensures storage_limit { S.fault_limit storage.new ≤ S.fault_limit storage.old }
     ensures link_count { L.faults link.old ≤ L.faults link.new }
+    ensures link_limit { L.fault_limit link.new ≤ L.fault_limit link.old }
 {
     match start_after(storage.metadata(&job.user, &job.path)) {
         Ok(start) => store(job, start, storage, link),
@@ -76,18 +101,29 @@ fn start_after(found: Result<Meta, StoreError>) -> Result<u64, Completion>
 pub fn fill<S: Storage, L: Link>(job: &Job, storage: &mut S, link: &mut L) -> Outcome
     requires command { is_store job.now.command ≡ true }
 
-    ensures grown { IfSome (S.files storage.old) (λ f. IfSome (L.left link.old) (λ l. GrowsFront f (S.files storage.new) job.now.path l result.bytes)) }
+    ensures grown { IfSome (S.files storage.old) (λ f. IfSome (L.left link.old) (λ l.
+        GrowsFront f (S.files storage.new) job.now.path l result.bytes)) }
     ensures within { IfSome (L.left link.old) (λ l. result.bytes ≤ length l) }
-    ensures whole { result.result ≡ done.Written → IfSome (L.left link.old) (λ l. (result.bytes ≡ length l) × (L.left link.new ≡ Some [])) }
+    ensures whole { result.result ≡ done.Written →
+        IfSome (L.left link.old) (λ l. (result.bytes ≡ length l) × (L.left link.new ≡ Some [])) }
 
     ensures suits { suits result.result job.now.command ≡ true }
-    ensures cause { Caused (HasRisen (L.faults link.old) (L.faults link.new)) (L.sending link.new).last_fault (HasRisen (S.faults storage.old) (S.faults storage.new)) (λ k. IsSome (S.files storage.old) → RefusesAppend (S.meaning storage.new) job.now.user job.now.path (option_map (drop result.bytes) (L.left link.old)) (L.left link.new) k) result.bytes result.result result.fault }
-    ensures refused_last { IsSome (S.files storage.old) → RefusedLast (HasRisen (S.faults storage.old) (S.faults storage.new)) (S.meaning storage.new) job.now.user job.now.path (option_map (drop result.bytes) (L.left link.old)) (L.left link.new) result.result }
+    ensures cause { Caused (done.Refused kind.ConnectionClosed)
+        (HasRisen (L.faults link.old) (L.faults link.new)) (L.sending link.old).last_fault (L.sending link.new).last_fault
+        (HasRisen (S.faults storage.old) (S.faults storage.new))
+        (λ k. IsSome (S.files storage.old) → RefusesAppend (S.meaning storage.new) job.now.user job.now.path
+        (option_map (drop result.bytes) (L.left link.old)) (L.left link.new) k)
+        result.bytes result.result result.fault }
+    ensures refused_last { IsSome (S.files storage.old) →
+        RefusedLast (HasRisen (S.faults storage.old) (S.faults storage.new)) (S.meaning storage.new) job.now.user job.now.path
+        (option_map (drop result.bytes) (L.left link.old)) (L.left link.new) result.result }
 
     ensures sent { (L.sending link.new).sent ≡ (L.sending link.old).sent }
     ensures closed { (L.sending link.new).closed ≡ (L.sending link.old).closed }
     ensures storage_count { S.faults storage.old ≤ S.faults storage.new }
+    ensures storage_limit { S.fault_limit storage.new ≤ S.fault_limit storage.old }
     ensures link_count { L.faults link.old ≤ L.faults link.new }
+    ensures link_limit { L.fault_limit link.new ≤ L.fault_limit link.old }
 {
     let mut buffer = [0; PIECE_LEN];
     let mut moved: u64 = 0;
@@ -114,22 +150,34 @@ pub fn store_piece<S: Storage, L: Link>(
     ensures some { IsNone result.end → 0 < result.bytes }
     ensures within { result.bytes ≤ PIECE_LEN }
     ensures in_range { moved + result.bytes < 2 ^ 64 }
-    ensures grown { IfSome (S.files storage.old) (λ f. IfSome (L.left link.old) (λ l. GrowsFront f (S.files storage.new) job.now.path l result.bytes)) }
+    ensures grown { IfSome (S.files storage.old) (λ f. IfSome (L.left link.old) (λ l.
+        GrowsFront f (S.files storage.new) job.now.path l result.bytes)) }
     ensures told { IsSome (S.files storage.old) → IsSome (S.files storage.new) }
     ensures taken { IsNone result.end → IfSome (L.left link.old) (λ l. TakesFront l (L.left link.new) result.bytes) }
     ensures last { IsSome result.end → result.bytes ≡ 0 }
     ensures unchanged { IsSome result.end → S.files storage.new ≡ S.files storage.old }
     ensures same_meaning { IsSome result.end → S.meaning storage.new ≡ S.meaning storage.old }
-    ensures whole { IfSome result.end (λ e. e.result ≡ done.Written → IfSome (L.left link.old) (λ l. (l ≡ []) × (L.left link.new ≡ Some []))) }
+    ensures whole { IfSome result.end (λ e. e.result ≡ done.Written →
+        IfSome (L.left link.old) (λ l. (l ≡ []) × (L.left link.new ≡ Some []))) }
 
     ensures suits { IfSome result.end (λ e. suits e.result job.now.command ≡ true) }
-    ensures cause { IfSome result.end (λ e. Caused (HasRisen (L.faults link.old) (L.faults link.new)) (L.sending link.new).last_fault (HasRisen (S.faults storage.old) (S.faults storage.new)) (λ k. IsSome (S.files storage.old) → RefusesAppend (S.meaning storage.new) job.now.user job.now.path (L.left link.old) (L.left link.new) k) (moved + result.bytes) e.result e.fault) }
-    ensures refused_last { IfSome result.end (λ e. IsSome (S.files storage.old) → RefusedLast (HasRisen (S.faults storage.old) (S.faults storage.new)) (S.meaning storage.new) job.now.user job.now.path (L.left link.old) (L.left link.new) e.result) }
+    ensures cause { IfSome result.end (λ e. Caused (done.Refused kind.ConnectionClosed)
+        (HasRisen (L.faults link.old) (L.faults link.new)) (L.sending link.old).last_fault (L.sending link.new).last_fault
+        (HasRisen (S.faults storage.old) (S.faults storage.new))
+        (λ k. IsSome (S.files storage.old) → RefusesAppend (S.meaning storage.new) job.now.user job.now.path
+        (L.left link.old) (L.left link.new) k)
+        (moved + result.bytes) e.result e.fault) }
+    ensures last_fault { IsNone result.end → (L.sending link.new).last_fault ≡ (L.sending link.old).last_fault }
+    ensures refused_last { IfSome result.end (λ e. IsSome (S.files storage.old) →
+        RefusedLast (HasRisen (S.faults storage.old) (S.faults storage.new)) (S.meaning storage.new) job.now.user job.now.path
+        (L.left link.old) (L.left link.new) e.result) }
 
     ensures sent { (L.sending link.new).sent ≡ (L.sending link.old).sent }
     ensures closed { (L.sending link.new).closed ≡ (L.sending link.old).closed }
     ensures storage_count { S.faults storage.old ≤ S.faults storage.new }
+    ensures storage_limit { S.fault_limit storage.new ≤ S.fault_limit storage.old }
     ensures link_count { L.faults link.old ≤ L.faults link.new }
+    ensures link_limit { L.fault_limit link.new ≤ L.fault_limit link.old }
 {
     let room = piece_room(moved);
     if room == 0 {
@@ -156,9 +204,14 @@ fn append_read<S: Storage>(job: &Job, bytes: &[u8], storage: &mut S) -> Turn
     ensures last { IsSome result.end → result.bytes ≡ 0 }
     ensures unchanged { IsSome result.end → S.files storage.new ≡ S.files storage.old }
     ensures same_meaning { IsSome result.end → S.meaning storage.new ≡ S.meaning storage.old }
-    ensures refused { IfSome result.end (λ e. (e.fault ≡ None) × StopsStoring (HasRisen (S.faults storage.old) (S.faults storage.new)) (λ k. IsSome (S.files storage.old) → S.meaning storage.old (Append job.now.user job.now.path bytes.now) ≡ Some k) e.result) }
-    ensures refused_last { IfSome result.end (λ e. IsSome (S.files storage.old) → IfSome (S.meaning storage.old (Append job.now.user job.now.path bytes.now)) (λ k. EndsRefused (HasRisen (S.faults storage.old) (S.faults storage.new)) k e.result)) }
+    ensures refused { IfSome result.end (λ e. (e.fault ≡ None) ×
+        StopsStoring (HasRisen (S.faults storage.old) (S.faults storage.new))
+        (λ k. IsSome (S.files storage.old) → S.meaning storage.old (Append job.now.user job.now.path bytes.now) ≡ Some k) e.result) }
+    ensures refused_last { IfSome result.end (λ e. IsSome (S.files storage.old) →
+        IfSome (S.meaning storage.old (Append job.now.user job.now.path bytes.now))
+        (λ k. EndsRefused (HasRisen (S.faults storage.old) (S.faults storage.new)) k e.result)) }
     ensures storage_count { S.faults storage.old ≤ S.faults storage.new }
+    ensures storage_limit { S.fault_limit storage.new ≤ S.fault_limit storage.old }
 {
     match storage.append(&job.user, &job.path, bytes) {
         Ok(()) => Turn::more(bytes.len() as u64),

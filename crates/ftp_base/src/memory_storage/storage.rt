@@ -11,6 +11,7 @@ use crate::storage::{FEATURE_RESTART, FileInfo, Meta, Storage, StoreError};
 
 impl Storage for MemoryStorage {
     ghost use Rattle.std.specs.Prelude.{◌≡◌, ◌+◌, ◌^◌, ◌<◌, ◌≤◌, length, Some, IsSomeAnd, false, IfOk, OnOk, OnErr, IsErrOf};
+    ghost use Rattle.ftp_base.specs.Memory.{fault_limit};
     ghost use Rattle.ftp_base.specs.MemoryStorage.{Counts, memory_meaning};
     ghost use Rattle.ftp_base.specs.Outside.{HasRisen};
     ghost use Rattle.ftp_base.specs.Storage.{Metadata, Listing, ReadAt, Begin, Append, Answers, item, meta_of, listing, with_file, old_bytes, cut, ReadsFile, Grows};
@@ -22,6 +23,8 @@ impl Storage for MemoryStorage {
     ghost meaning = { λ s. memory_meaning s.files s.max_file };
 
     ghost faults = { λ s. s.calls.faults };
+
+    ghost fault_limit = { λ s. fault_limit s.calls };
 
     ghost reads_take_memory = { false };
 
@@ -36,6 +39,7 @@ impl Storage for MemoryStorage {
         ensures unchanged { self.new.files ≡ self.old.files }
         ensures same_meaning { memory_meaning self.new.files self.new.max_file ≡ memory_meaning self.old.files self.old.max_file }
         ensures count { self.old.calls.faults ≤ self.new.calls.faults }
+        ensures limit { fault_limit self.new.calls ≤ fault_limit self.old.calls }
         ensures counted { Counts self.old self.new result }
     {
         let _ = user;
@@ -53,6 +57,7 @@ impl Storage for MemoryStorage {
         ensures unchanged { self.new.files ≡ self.old.files }
         ensures same_meaning { memory_meaning self.new.files self.new.max_file ≡ memory_meaning self.old.files self.old.max_file }
         ensures count { self.old.calls.faults ≤ self.new.calls.faults }
+        ensures limit { fault_limit self.new.calls ≤ fault_limit self.old.calls }
         ensures counted { Counts self.old self.new result }
     {
         let _ = user;
@@ -79,6 +84,7 @@ impl Storage for MemoryStorage {
         ensures unchanged { self.new.files ≡ self.old.files }
         ensures same_meaning { memory_meaning self.new.files self.new.max_file ≡ memory_meaning self.old.files self.old.max_file }
         ensures count { self.old.calls.faults ≤ self.new.calls.faults }
+        ensures limit { fault_limit self.new.calls ≤ fault_limit self.old.calls }
         ensures counted { Counts self.old self.new result }
     {
         let _ = user;
@@ -96,6 +102,7 @@ impl Storage for MemoryStorage {
         ensures unchanged { OnErr result (self.new.files ≡ self.old.files) }
         ensures same_meaning { OnErr result (memory_meaning self.new.files self.new.max_file ≡ memory_meaning self.old.files self.old.max_file) }
         ensures count { self.old.calls.faults ≤ self.new.calls.faults }
+        ensures limit { fault_limit self.new.calls ≤ fault_limit self.old.calls }
         ensures counted { Counts self.old self.new result }
     {
         let _ = user;
@@ -114,6 +121,7 @@ impl Storage for MemoryStorage {
         ensures unchanged { OnErr result (self.new.files ≡ self.old.files) }
         ensures same_meaning { OnErr result (memory_meaning self.new.files self.new.max_file ≡ memory_meaning self.old.files self.old.max_file) }
         ensures count { self.old.calls.faults ≤ self.new.calls.faults }
+        ensures limit { fault_limit self.new.calls ≤ fault_limit self.old.calls }
         ensures counted { Counts self.old self.new result }
     {
         let _ = user;

@@ -11,10 +11,10 @@ returns-in-Some-clause-sent g c =
 
 pub returns-in-Some-clause-cause : goal.returns-in-Some-clause-cause
 returns-in-Some-clause-cause g c =
-    let cause = rw (c.in-Some.is, c.pieces.invariant.files, c.pieces.invariant.meaning) at c.send_piece-turn.ensures.cause in
+    let cause = rw (c.in-Some.is, c.pieces.invariant.files, c.pieces.invariant.meaning, c.pieces.invariant.last_fault) at c.send_piece-turn.ensures.cause in
     let place : c.args.job.now.offset + c.pieces.moved + c.send_piece-turn.result.bytes ≡ c.args.job.now.offset + (c.pieces.moved + c.send_piece-turn.result.bytes) = omega arith in
     rw c.outcome.ensures
-    (Caused_later _ _ _ _ _ _ _ _ c.in-Some.end.result c.in-Some.end.fault
+    (Caused_later _ _ _ _ _ _ _ _ _ _ c.in-Some.end.result c.in-Some.end.fault
     (HasRisen_later _ _ _ c.pieces.invariant.link_count c.send_piece-turn.ensures.link_count)
     (HasRisen_later _ _ _ c.pieces.invariant.storage_count c.send_piece-turn.ensures.storage_count)
     (λ k h. rw place at h)
@@ -53,6 +53,9 @@ pieces-preserved g c =
       meaning = c.send_piece-turn.ensures.meaning ∙ c.pieces.invariant.meaning;
       left = c.send_piece-turn.ensures.left ∙ c.pieces.invariant.left;
       closed = c.send_piece-turn.ensures.closed ∙ c.pieces.invariant.closed;
+      last_fault = c.send_piece-turn.ensures.last_fault (search rules) ∙ c.pieces.invariant.last_fault;
       storage_count = omega (arith, c.send_piece-turn.ensures.storage_count);
       link_count = omega (arith, c.send_piece-turn.ensures.link_count);
+      storage_limit = omega (arith, c.send_piece-turn.ensures.storage_limit);
+      link_limit = omega (arith, c.send_piece-turn.ensures.link_limit);
     }

@@ -9,7 +9,9 @@ invariant-loop-sent g l =
     × Writes (g.L.Source.sending l.fn.link).sent (g.L.Source.sending l.link).sent (take l.sent l.bytes)
     × (g.L.Source.left l.link ≡ g.L.Source.left l.fn.link)
     × ((g.L.Source.sending l.link).closed ≡ (g.L.Source.sending l.fn.link).closed)
+    × ((g.L.Source.sending l.link).last_fault ≡ (g.L.Source.sending l.fn.link).last_fault)
     × (g.L.Source.faults l.fn.link ≤ g.L.Source.faults l.link)
+    × (g.L.Source.fault_limit l.link ≤ g.L.Source.fault_limit l.fn.link)
 
 abbrev pub decreases-loop-sent : goal.decreases-loop-sent
 decreases-loop-sent g l = length l.bytes - l.sent

@@ -33,6 +33,9 @@ pieces-preserved g c =
       told = λ told. c.store_piece-turn.ensures.told (c.pieces.invariant.told told);
       sent = c.store_piece-turn.ensures.sent ∙ c.pieces.invariant.sent;
       closed = c.store_piece-turn.ensures.closed ∙ c.pieces.invariant.closed;
+      last_fault = c.store_piece-turn.ensures.last_fault (search rules) ∙ c.pieces.invariant.last_fault;
       storage_count = omega (arith, c.store_piece-turn.ensures.storage_count);
       link_count = omega (arith, c.store_piece-turn.ensures.link_count);
+      storage_limit = omega (arith, c.store_piece-turn.ensures.storage_limit);
+      link_limit = omega (arith, c.store_piece-turn.ensures.link_limit);
     }

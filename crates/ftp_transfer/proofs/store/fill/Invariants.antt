@@ -11,8 +11,11 @@ invariant-pieces g l = record {
   told : IsSome (g.S.Storage.files l.fn.storage) → IsSome (g.S.Storage.files l.storage);
   sent : (g.L.Source.sending l.link).sent ≡ (g.L.Source.sending l.fn.link).sent;
   closed : (g.L.Source.sending l.link).closed ≡ (g.L.Source.sending l.fn.link).closed;
+  last_fault : (g.L.Source.sending l.link).last_fault ≡ (g.L.Source.sending l.fn.link).last_fault;
   storage_count : g.S.Storage.faults l.fn.storage ≤ g.S.Storage.faults l.storage;
   link_count : g.L.Source.faults l.fn.link ≤ g.L.Source.faults l.link;
+  storage_limit : g.S.Storage.fault_limit l.storage ≤ g.S.Storage.fault_limit l.fn.storage;
+  link_limit : g.L.Source.fault_limit l.link ≤ g.L.Source.fault_limit l.fn.link;
 }
 
 abbrev pub decreases-pieces : goal.decreases-pieces

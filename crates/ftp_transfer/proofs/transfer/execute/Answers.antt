@@ -15,7 +15,7 @@ returns-clause-ran g c =
         stored = moves.stored;
         written = λ done. rw c.close.ensures.left (moves.written done);
         cause = rw (c.close.ensures.last_fault, c.close.ensures.left)
-            (Caused_later _ _ _ _ _ _ _ _ c.run-outcome.result.result c.run-outcome.result.fault
+            (Caused_later _ _ _ _ _ _ _ _ _ _ c.run-outcome.result.result c.run-outcome.result.fault
             (HasRisen-more _ _ _ c.close.ensures.count)
             (λ h. h)
             (λ k h. h)

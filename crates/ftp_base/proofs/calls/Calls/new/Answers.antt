@@ -1,9 +1,9 @@
-use Rattle.std.proofs.Common.{rules, sym, subst, ap, ◌∙◌}
+use Rattle.std.proofs.Common.{rules, refl, sym, subst, ap, ◌∙◌}
 use Rattle.std.specs.Ordering.{nat_cmp}
 use Rattle.std.specs.List.Sorted.{IsSortedByKey}
 use Rattle.std.proofs.lemmas.List.Sorted.{answers_always}
 use Rattle.ftp_base.specs.Calls.{rises_above}
-use Rattle.ftp_base.proofs.CallsLemmas.{IsSortedByKey-rises}
+use Rattle.ftp_base.proofs.CallsLemmas.{IsSortedByKey-rises, fault_limit_by-first}
 use Rattle.ftp_base.proofs.calls.Calls.new.Goals as goal
 use Rattle.ftp_base.proofs.calls.Calls.new.Goals.{then-not-rise, else-not-rise}
 
@@ -18,3 +18,11 @@ invariant_of-result g c =
           (IsSortedByKey-rises g.T.FailingCall.number 0 c.args.failing.items
           (ap (rises_above g.T.FailingCall.number 0) (sym c.as_slice.ensures.value) ∙ sym c.rise.ensures ∙ w.if-not-rise.false))
     ]
+
+pub returns-clause-kept : goal.returns-clause-kept
+returns-clause-kept g c rises = search rules
+
+pub returns-clause-limit : goal.returns-clause-limit
+returns-clause-limit g c rises =
+    fault_limit_by-first g.T.FailingCall.number (record { made = 0; faults = 0; failing = c.if-not-rise.failing.items }) c.args.failing.items
+    refl refl (returns-clause-kept g c rises) rises
