@@ -49,7 +49,7 @@ running-more all left later before now new reader next run after buffer out i r 
       (writes-more before now new (log_lines r.log) (log_lines took.0) r.written took.2);
 }
 
--- of what whole lines give, all that came was written
+-- of the whole output, all that came so far was written
 part-whole : (bytes : List ℕ) (left before now : Option (List ℕ)) (reader : ScriptReader) (buffer : List ℕ) (run : Run) (items : List Item) (log : List Entry) →
     HasRead items bytes reader buffer left →
     Keeps run items log →
@@ -67,7 +67,7 @@ part-whole bytes left before now reader buffer run items log h kept written = re
   links = run.links;
   storage = run.storage;
   legal = kept-legal run items log kept;
-  written = front-whole before now (log_lines log) (end_lines run.links run.storage) written;
+  written = front-whole before now (log_lines log) (closing run.links run.storage None h.bytes) written;
 }
 
 pub out-memory : (all left before now : Option (List ℕ)) (reader : ScriptReader) (run : Run) (buffer : List ℕ) →
@@ -103,7 +103,7 @@ out-cut all left later before now new reader next run after buffer out i s r tol
         storage = after.storage;
         legal = kept-legal after (r.items ++ i ∷ []) (taken.0 ++ r.log) taken.1;
         written =
-            front-longer before new (log_lines (taken.0 ++ r.log)) (end_lines after.links after.storage)
+            front-longer before new (log_lines (taken.0 ++ r.log)) (closing after.links after.storage None more.bytes)
             (subst (WritesFront before new) (sym (log_lines-append taken.0 r.log))
             (front-more before now new (log_lines r.log) (log_lines taken.0) r.written taken.2));
       }
@@ -113,7 +113,7 @@ part-closing : (bytes : List ℕ) (before now new : Option (List ℕ)) (run : Ru
     script_of bytes ≡ (items, bad) →
     Keeps run items log →
     Writes before now (log_lines log) →
-    WritesFront now new (closing run.links run.storage bad) →
+    WritesFront now new (closing run.links run.storage bad []) →
     WritesPart bytes before new
 part-closing bytes before now new run items log bad script kept written more = record {
   read = bytes;
@@ -127,7 +127,7 @@ part-closing bytes before now new run items log bad script kept written more = r
   links = run.links;
   storage = run.storage;
   legal = kept-legal run items log kept;
-  written = front-more before now new (log_lines log) (closing run.links run.storage bad) written more;
+  written = front-more before now new (log_lines log) (closing run.links run.storage bad []) written more;
 }
 
 pub out-end : (all left later before now new : Option (List ℕ)) (reader : ScriptReader) (run : Run) (buffer : List ℕ) (last : Result Unit Failed) (r : Running all reader run buffer left before now) →

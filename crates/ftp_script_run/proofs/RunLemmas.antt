@@ -24,7 +24,7 @@ use Rattle.ftp_hub.proofs.Links.{links-more, insert-linked}
 use Rattle.ftp_event_text.specs.declared.setup.Item.{Item}
 use Rattle.ftp_event_text.specs.declared.setup.Item.TheVariants as item
 use Rattle.ftp_script_text.specs.Script.{says, has_options, has_link, may_stand}
-use Rattle.ftp_script_text.specs.SetUp.{has_event, new_storage, set_up, storage_in}
+use Rattle.ftp_script_text.specs.SetUp.{has_event, set_up, storage_in}
 use Rattle.ftp_script_run.specs.declared.run.Run.{Run}
 use Rattle.ftp_script_run.specs.Items.{events_in, options_in, new_link, link_in, links_in}
 use Rattle.ftp_script_run.specs.Legal.{memory_views, start_of, IsDue, IsIdle, IsLegal}
@@ -75,14 +75,6 @@ kept-legal run items log kept = record { events = kept.events; due = by run.hub 
   by : (found : Option Hub) → HasHub found items log (outside run) → Due (options_in items)
   by None h = subst Due (sym h.0) h.1
   by (Some hub) h = subst Due (sym h.options) (record { options = options_of hub; set = refl; right = h.stands.right; acted = h.stands.acted; led = h.led })
-
-pub keeps-nil : (run : Run) → run.hub ≡ None → run.links ≡ map.empty → run.storage ≡ new_storage 16777216 [] → Keeps run [] []
-keeps-nil run none empty new = record {
-  events = refl;
-  hub =
-      subst (λ (found : Option Hub). HasHub found [] [] (outside run)) (sym none)
-      (refl, record { empty = refl; same = λ i. record { storage = new i; links = empty i } });
-}
 
 -- the text that is written next is not asked for
 pub keeps-text : (old new : Run) (items : List Item) (log : List Entry) → new.hub ≡ old.hub → outside new ≡ outside old → Keeps old items log → Keeps new items log

@@ -1,5 +1,5 @@
 -- What sets up a storage or a link: it is made as its line says, and it is not refused.
-use Rattle.std.proofs.Common.{◌≡◌, ℕ, true, false, not, ◌&&◌, leb, ltb, List, [], Option, Some, None, is_some, length, refl, sym, ap, subst, ◌∙◌, arith}
+use Rattle.std.proofs.Common.{◌≡◌, ◌≢◌, ℕ, true, false, not, ◌&&◌, leb, ltb, List, [], Option, Some, None, is_some, length, refl, sym, ap, subst, ◌∙◌, arith}
 use Rattle.std.specs.Prelude.{is_none, Result, Err, IfErr}
 use Rattle.std.specs.FinMap as map
 use Rattle.std.proofs.lemmas.Bool.{not-true, leb-true, and_parts}
@@ -91,9 +91,11 @@ file_taken run bytes path may =
     (free_is run items may.1.1 path kept first parts.0)
     (ap (λ (s : MemoryState). leb (length bytes) s.max_file) (kept-storage run items may.1.1 kept first) ∙ parts.1)
 
--- what is not refused is not answered with a refusal
-pub not_refused : (refusal : Option ErrorKind) (e : StoreError) (k : ErrorKind) → refusal ≡ None → e ≡ store.Kind k → Refuses refusal e → ⊥
-not_refused refusal e k none is refused = let given : refusal ≡ Some k = subst (Refuses refusal) is refused in absurd cc
+-- what is not refused and does not fail is stopped by want of memory alone
+pub not_refused : (refusal : Option ErrorKind) (e : StoreError) → refusal ≡ None → Refuses refusal e → e ≢ store.Failed → e ≡ store.OutOfMemory
+not_refused refusal (store.Kind k) none refused no_fault = absurd cc
+not_refused refusal store.Failed none refused no_fault = absurd (no_fault refl)
+not_refused refusal store.OutOfMemory none refused no_fault = refl
 
 -- ---- links
 

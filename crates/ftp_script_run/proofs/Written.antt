@@ -20,10 +20,6 @@ pub writes-nil : (old : Option (List ℕ)) → Writes old old []
 writes-nil None = tt
 writes-nil (Some w) = ap Some (sym (append-nil w))
 
-pub front-nil : (old : Option (List ℕ)) (bytes : List ℕ) → WritesFront old old bytes
-front-nil None bytes = tt
-front-nil (Some w) bytes = (0, omega arith, ap Some (sym (append-nil w)))
-
 -- one text and then another
 pub writes-more : (old now new : Option (List ℕ)) (a b : List ℕ) → Writes old now a → Writes now new b → Writes old new (a ++ b)
 writes-more None now new a b first second = tt

@@ -55,13 +55,14 @@ pub record WritesWhole (bytes : List ℕ) (left old new : Option (List ℕ)) : T
   pub legal : IsLegal items log links storage
   pub written : Writes old new (log_lines log)
 
--- what is written behind the log of a script: the lines on the links and files that it leaves, or the line that names its
--- bad line
-abbrev pub closing : Numbered LinkState → MemoryState → Option ℕ → List ℕ
-closing links storage None = end_lines links storage
-closing links storage (Some k) = bad_line k
+-- what is written behind the log of a script's front, with the rest behind it: the line that names its bad line, or with no
+-- rest the lines on the links and files that it leaves
+abbrev pub closing : Numbered LinkState → MemoryState → Option ℕ → List ℕ → List ℕ
+closing links storage (Some k) rest = bad_line k
+closing links storage None [] = end_lines links storage
+closing links storage None (c ∷ rest) = []
 
--- of what whole lines of the bytes give, a part from the front was written
+-- a part from the front of the whole output was written, as a front of whole lines tells it
 pub record WritesPart (bytes : List ℕ) (old new : Option (List ℕ)) : Type 0 where
   pub read : List ℕ
   pub rest : List ℕ
@@ -74,7 +75,7 @@ pub record WritesPart (bytes : List ℕ) (old new : Option (List ℕ)) : Type 0 
   pub links : Numbered LinkState
   pub storage : MemoryState
   pub legal : IsLegal items log links storage
-  pub written : WritesFront old new (log_lines log ++ closing links storage bad)
+  pub written : WritesFront old new (log_lines log ++ closing links storage bad rest)
 
 -- what was read of these bytes and what was written, by the status
 abbrev pub Outcome : Status → List ℕ → Option (List ℕ) → Option (List ℕ) → Option (List ℕ) → Type 0

@@ -119,13 +119,11 @@ impl Run {
     fn make_dir(&mut self, path: Bytes) -> Result<(), Failed>
         requires { MayTake self.old (item.Dir path) }
         ensures put { OnOk result (Takes self.old (item.Dir path) self.new []) }
-        ensures memory { IfErr result (λ e. e ≡ Memory) }
+        ensures only_memory { IfErr result (λ e. e ≡ Memory) }
     {
         match self.storage.mkdir(path) {
             Ok(()) => Ok(()),
-            Err(StoreError::OutOfMemory) => Err(Failed::Memory),
-            Err(StoreError::Kind(_)) => unreachable!(),
-            Err(StoreError::Failed) => unreachable!(),
+            Err(error) => Err(want_of_memory(error)),
         }
     }
 
@@ -133,13 +131,11 @@ impl Run {
     fn put_file(&mut self, bytes: Bytes, path: Bytes) -> Result<(), Failed>
         requires { MayTake self.old (item.File bytes path) }
         ensures put { OnOk result (Takes self.old (item.File bytes path) self.new []) }
-        ensures memory { IfErr result (λ e. e ≡ Memory) }
+        ensures only_memory { IfErr result (λ e. e ≡ Memory) }
     {
         match self.storage.put_file(path, bytes.into_vec()) {
             Ok(()) => Ok(()),
-            Err(StoreError::OutOfMemory) => Err(Failed::Memory),
-            Err(StoreError::Kind(_)) => unreachable!(),
-            Err(StoreError::Failed) => unreachable!(),
+            Err(error) => Err(want_of_memory(error)),
         }
     }
 
@@ -153,7 +149,7 @@ impl Run {
     ) -> Result<(), Failed>
         requires { MayTake self.old (item.Link number chunk fails bytes) }
         ensures put { OnOk result (Takes self.old (item.Link number chunk fails bytes) self.new []) }
-        ensures memory { IfErr result (λ e. e ≡ Memory) }
+        ensures only_memory { IfErr result (λ e. e ≡ Memory) }
     {
         let link = MemoryLink::new(self.alloc, bytes.into_vec(), chunk, fails.into_vec());
         match self.links.insert(number, link) {
@@ -181,7 +177,7 @@ impl Run {
     fn step(&mut self, event: HubEvent) -> Result<Entry, Failed>
         requires { MayTake self.old (item.Event event) }
         ensures due { IfOk result (λ e. Takes self.old (item.Event event) self.new (e ∷ [])) }
-        ensures memory { IfErr result (λ e. e ≡ Memory) }
+        ensures only_memory { IfErr result (λ e. e ≡ Memory) }
     {
         let Some(hub) = &mut self.hub else {
             unreachable!()
@@ -215,6 +211,17 @@ impl Run {
         ensures front { OnErr result (WritesFront (K.written sink.old) (K.written sink.new) (bad_line number)) }
     {
         print_bad_line(sink, &mut self.text, number)
+    }
+}
+
+// What stops a run where the storage does not take what it neither refuses nor fails at.
+fn want_of_memory(error: StoreError) -> Failed
+    requires { error ≡ StoreError.OutOfMemory }
+    ensures { result ≡ Memory }
+{
+    match error {
+        StoreError::OutOfMemory => Failed::Memory,
+        StoreError::Kind(_) | StoreError::Failed => unreachable!(),
     }
 }
 

@@ -15,7 +15,7 @@ use crate::run::Run;
 use crate::status::Status;
 use ftp_base::{Sink, Source};
 use ftp_event_text::Item;
-use ftp_script_text::{ScriptError, ScriptReader};
+use ftp_script_text::{BUFFER_SIZE, ScriptError, ScriptReader};
 use std::alloc::Global;
 
 /// Runs the script that the source gives, event by event, and writes its printed log, where the words are the one word
@@ -58,7 +58,7 @@ pub fn run_script<S: Source, K: Sink>(
     if !is_script(words) {
         return Status::Usage;
     }
-    let mut buffer = [0u8; 65537];
+    let mut buffer = [0u8; BUFFER_SIZE];
     run_lines(alloc, &mut buffer, source, sink)
 }
 

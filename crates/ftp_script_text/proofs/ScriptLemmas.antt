@@ -2,7 +2,6 @@
 use Rattle.std.proofs.Common.{◌≡◌, ℕ, zero, suc, ◌+◌, ◌<◌, ◌≤◌, Bool, true, false, cond, ◌&&◌, leb, List, [], ◌∷◌, ◌++◌, length, Option, Some, None, refl, sym, ap, subst, ◌∙◌, arith, take, drop, get_or, ◌⊎◌, inl, inr, eqb-true, append_assoc}
 use Rattle.std.specs.Prelude.{IfSome, Ok}
 use Rattle.std.specs.List.{position_or_len}
-use Rattle.std.proofs.lemmas.Bool.{leb-true}
 use Rattle.std.proofs.lemmas.Bool.Decides.{nat_tests}
 use Rattle.std.proofs.lemmas.List.{length-drop, length-take, length-take-le, length-append, append-nil, take-append-drop, take-append-le, take-take, take_more, take_all, drop_all, drop_at, get_or-take}
 use Rattle.std.proofs.lemmas.List.Sums.{fails_before_first, passes_at_first, position_or_len_is}
@@ -15,7 +14,7 @@ use Rattle.ftp_event_text.specs.declared.setup.Item.{Item}
 use Rattle.ftp_event_text.specs.SetupReading.{item_of}
 use Rattle.ftp_script_text.specs.declared.script.ScriptReader.{ScriptReader}
 use Rattle.ftp_script_text.specs.Script.{may_stand, line_item, line_size, goes_on, script_from, script_behind, script_of}
-use Rattle.ftp_script_text.specs.Admission.{Stands}
+use Rattle.ftp_script_text.specs.Admission.{Remembers}
 use Rattle.ftp_script_text.specs.ScriptReader.{AreWhole, HasRead, StopsBehind}
 
 abbrev Script : Type 0
@@ -163,7 +162,7 @@ pub start_told : (reader : ScriptReader) (buffer bytes : List ℕ) →
     reader.number ≡ 0 →
     reader.taken ≡ 0 →
     bytes_in buffer reader.held ≡ [] →
-    Stands reader.admission [] →
+    Remembers reader.admission [] →
     HasRead [] bytes reader buffer (Some bytes)
 start_told reader buffer bytes number taken held known = record {
   number = number;
@@ -298,7 +297,7 @@ pub more_told : (before : List Item) (all : List ℕ) (reader new : ScriptReader
     IfSome left (λ l. size + length (behind_line (bytes_in buffer reader.held ++ l)) ≡ length (bytes_in buffer reader.held ++ l)) →
     new.taken ≡ reader.taken + size →
     new.number ≡ reader.number + 1 →
-    (line_item before new.taken (bytes_in now line) ≡ Some i) × Stands new.admission (before ++ i ∷ []) →
+    (line_item before new.taken (bytes_in now line) ≡ Some i) × Remembers new.admission (before ++ i ∷ []) →
     HasRead (before ++ i ∷ []) all new now later
 more_told before all reader new buffer left line now later size i h told taken sum count good =
     let found : Found h.bytes line now (bytes_in now new.held) later = with_rest (bytes_in buffer reader.held) left h.bytes (λ b. Found b line now (bytes_in now new.held) later) h.rest told in
@@ -333,11 +332,3 @@ line_item-stands before taken line i e = stands_cases (leb (length line) 65536 &
   stands_cases true (Some j) h = chosen (may_stand before j) j refl h
   stands_cases true None h = absurd cc
   stands_cases false o h = absurd cc
-
--- a line that gives its item ends within the limit
-pub line_item-small : (before : List Item) (taken : ℕ) (line : List ℕ) (i : Item) → line_item before taken line ≡ Some i → taken ≤ 16777216
-line_item-small before taken line i e = small_cases (leb (length line) 65536) (leb taken 16777216) refl e where
-  small_cases : (a b : Bool) → leb taken 16777216 ≡ b → cond (a && b) (item_of line >>= λ j. cond (may_stand before j) (Some j) None) None ≡ Some i → taken ≤ 16777216
-  small_cases true true p h = leb-true _ _ p
-  small_cases true false p h = absurd cc
-  small_cases false b p h = absurd cc

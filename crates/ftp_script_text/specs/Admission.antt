@@ -12,23 +12,22 @@ use Rattle.ftp_script_text.specs.SetUp.{storage_in, has_event}
 
 -- what is kept of these items: whether one says something, is the options, is an event, or sets up a part of the storage, how
 -- long a file may be, and which links there are
-abbrev pub Stands : Admission → List Item → Type 0
-Stands a before =
-    (a.begun ≡ list_any says before)
-    × (a.has_options ≡ has_options before)
-    × (a.has_event ≡ has_event before)
-    × (a.has_stored ≡ has_stored before)
-    × (a.max_file ≡ (storage_in before).max_file)
-    × ((n : ℕ) → contains nat_cmp a.links n ≡ has_link n before)
+pub record Remembers (a : Admission) (before : List Item) : Type 0 where
+  pub begun : a.begun ≡ list_any says before
+  pub options : a.has_options ≡ has_options before
+  pub event : a.has_event ≡ has_event before
+  pub stored : a.has_stored ≡ has_stored before
+  pub longest : a.max_file ≡ (storage_in before).max_file
+  pub links : (n : ℕ) → contains nat_cmp a.links n ≡ has_link n before
 
 -- an item was let in behind these items where it may stand there, and is then among them
 abbrev pub LetsIn : {T : Type 0} → List Item → Item → Result T LineFault → Admission → Type 0
-LetsIn before i (Ok x) later = (may_stand before i ≡ true) × Stands later (before ++ i ∷ [])
-LetsIn before i (Err fault.Bad) later = (may_stand before i ≡ false) × Stands later before
-LetsIn before i (Err fault.Memory) later = Stands later before
+LetsIn before i (Ok x) later = (may_stand before i ≡ true) × Remembers later (before ++ i ∷ [])
+LetsIn before i (Err fault.Bad) later = (may_stand before i ≡ false) × Remembers later before
+LetsIn before i (Err fault.Memory) later = Remembers later before
 
 -- a line gave its item behind these items, which is then among them
 abbrev pub GivesItem : List Item → ℕ → List ℕ → Result Item LineFault → Admission → Type 0
-GivesItem before taken line (Ok i) later = (line_item before taken line ≡ Some i) × Stands later (before ++ i ∷ [])
-GivesItem before taken line (Err fault.Bad) later = (line_item before taken line ≡ None) × Stands later before
-GivesItem before taken line (Err fault.Memory) later = Stands later before
+GivesItem before taken line (Ok i) later = (line_item before taken line ≡ Some i) × Remembers later (before ++ i ∷ [])
+GivesItem before taken line (Err fault.Bad) later = (line_item before taken line ≡ None) × Remembers later before
+GivesItem before taken line (Err fault.Memory) later = Remembers later before

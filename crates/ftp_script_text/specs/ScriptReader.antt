@@ -10,7 +10,7 @@ use Rattle.ftp_script_text.specs.declared.script.ScriptError.TheVariants as erro
 use Rattle.ftp_script_text.specs.declared.script.Next.{Next}
 use Rattle.ftp_script_text.specs.declared.script.Next.TheVariants as next
 use Rattle.ftp_script_text.specs.Script.{may_stand, script_behind, script_of}
-use Rattle.ftp_script_text.specs.Admission.{Stands}
+use Rattle.ftp_script_text.specs.Admission.{Remembers}
 
 -- the reader and its buffer belong together, and no more than the limit was read
 pub record IsLawful (reader : ScriptReader) (buffer : List ℕ) : Type 0 where
@@ -21,7 +21,7 @@ pub record IsLawful (reader : ScriptReader) (buffer : List ℕ) : Type 0 where
 
 -- the reader knows which lines may follow these items
 abbrev pub Follows : ScriptReader → List Item → Type 0
-Follows reader before = Stands reader.admission before
+Follows reader before = Remembers reader.admission before
 
 -- nothing, or lines of which the last has its line feed
 abbrev pub EndsLine : List ℕ → Type 0

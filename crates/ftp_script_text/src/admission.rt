@@ -8,7 +8,7 @@ ghost use Rattle.ftp_event_text.specs.declared.setup.Item.{Item};
 ghost use Rattle.ftp_event_text.specs.declared.setup.Item.TheVariants as item;
 ghost use Rattle.ftp_event_text.specs.Setup.{IsItem};
 ghost use Rattle.ftp_events.specs.Covers.{is_covered};
-ghost use Rattle.ftp_script_text.specs.Admission.{Stands, LetsIn, GivesItem};
+ghost use Rattle.ftp_script_text.specs.Admission.{Remembers, LetsIn, GivesItem};
 ghost use Rattle.ftp_script_text.specs.SetUp.{has_event, IsSetUp};
 ghost use Rattle.ftp_script_text.specs.Script.{is_free};
 
@@ -18,6 +18,12 @@ use ftp_events::{EventKind, HubEvent};
 use ftp_text::LineFault;
 use std::alloc::Global;
 use std::collections::BTreeSet;
+
+/// No line is longer, in bytes, its line feed not counted.
+pub const LONGEST_LINE: usize = 65_536;
+
+/// No script is longer, in bytes.
+pub const LONGEST_SCRIPT: usize = 16_777_216;
 
 /// No file is longer, in bytes, where no line says otherwise.
 pub const MAX_FILE: u64 = 16_777_216;
@@ -37,7 +43,7 @@ pub struct Admission {
 impl Admission {
     /// Nothing came.
     pub fn new(alloc: Global) -> Admission
-        ensures { Stands result [] }
+        ensures { Remembers result [] }
     {
         Admission {
             begun: false,
@@ -58,11 +64,11 @@ impl Admission {
         line: &[u8],
         storage: &MemoryStorage,
     ) -> Result<Item, LineFault>
-        ensures let_in { (before : List Item) → Stands self.old before → IsSetUp storage.now before → GivesItem before taken line.now result self.new }
+        ensures let_in { (before : List Item) → Remembers self.old before → IsSetUp storage.now before → GivesItem before taken line.now result self.new }
         ensures item { IfOk result IsItem }
         ensures limit { OnOk result (taken ≤ 16777216) }
     {
-        if line.len() > 65536 || taken > 16_777_216 {
+        if line.len() > LONGEST_LINE || taken > LONGEST_SCRIPT {
             return Err(LineFault::Bad);
         }
         match read_item(alloc, line) {
@@ -74,7 +80,7 @@ impl Admission {
     // The item, where its line may stand there.
     fn keep(&mut self, item: Item, storage: &MemoryStorage) -> Result<Item, LineFault>
         ensures same { IfOk result (λ i. i ≡ item) }
-        ensures let_in { (before : List Item) → Stands self.old before → IsSetUp storage.now before → LetsIn before item result self.new }
+        ensures let_in { (before : List Item) → Remembers self.old before → IsSetUp storage.now before → LetsIn before item result self.new }
     {
         match self.let_in(&item, storage) {
             Ok(()) => Ok(item),
@@ -86,7 +92,7 @@ impl Admission {
     }
 
     fn let_in(&mut self, item: &Item, storage: &MemoryStorage) -> Result<(), LineFault>
-        ensures { (before : List Item) → Stands self.old before → IsSetUp storage.now before → LetsIn before item.now result self.new }
+        ensures { (before : List Item) → Remembers self.old before → IsSetUp storage.now before → LetsIn before item.now result self.new }
     {
         match item {
             Item::Skip => Ok(()),
@@ -106,7 +112,7 @@ impl Admission {
 
     // The options, where nothing was said.
     fn let_options_in(&mut self) -> Result<(), LineFault>
-        ensures { (before : List Item) (lo hi idle : ℕ) (restart : Bool) → Stands self.old before → LetsIn before (item.Options lo hi idle restart) result self.new }
+        ensures { (before : List Item) (lo hi idle : ℕ) (restart : Bool) → Remembers self.old before → LetsIn before (item.Options lo hi idle restart) result self.new }
     {
         if self.begun {
             return Err(LineFault::Bad);
@@ -118,7 +124,7 @@ impl Admission {
 
     // The storage, where no part of it and no event came.
     fn let_storage_in(&mut self, max: u64) -> Result<(), LineFault>
-        ensures { (before : List Item) (fails : List ℕ) → Stands self.old before → LetsIn before (item.Storage max fails) result self.new }
+        ensures { (before : List Item) (fails : List ℕ) → Remembers self.old before → LetsIn before (item.Storage max fails) result self.new }
     {
         if self.has_event || self.has_stored {
             return Err(LineFault::Bad);
@@ -131,7 +137,7 @@ impl Admission {
 
     // A directory, where no event came and its path is free.
     fn let_dir_in(&mut self, path: &Bytes, storage: &MemoryStorage) -> Result<(), LineFault>
-        ensures { (before : List Item) → Stands self.old before → IsSetUp storage.now before → LetsIn before (item.Dir path.now) result self.new }
+        ensures { (before : List Item) → Remembers self.old before → IsSetUp storage.now before → LetsIn before (item.Dir path.now) result self.new }
     {
         if !self.takes(path.as_slice(), storage) {
             return Err(LineFault::Bad);
@@ -148,7 +154,7 @@ impl Admission {
         path: &Bytes,
         storage: &MemoryStorage,
     ) -> Result<(), LineFault>
-        ensures { (before : List Item) → Stands self.old before → IsSetUp storage.now before → LetsIn before (item.File bytes.now path.now) result self.new }
+        ensures { (before : List Item) → Remembers self.old before → IsSetUp storage.now before → LetsIn before (item.File bytes.now path.now) result self.new }
     {
         if !self.takes(path.as_slice(), storage) || bytes.as_slice().len() as u64 > self.max_file {
             return Err(LineFault::Bad);
@@ -160,14 +166,14 @@ impl Admission {
 
     // Whether no event came and the path is free.
     fn takes(&self, path: &[u8], storage: &MemoryStorage) -> bool
-        ensures { (before : List Item) → Stands self.now before → IsSetUp storage.now before → result ≡ (not (has_event before) && is_free before path.now) }
+        ensures { (before : List Item) → Remembers self.now before → IsSetUp storage.now before → result ≡ (not (has_event before) && is_free before path.now) }
     {
         !self.has_event && storage.directory_refusal(path).is_none()
     }
 
     // An event, where the options came and the connection that comes with it is linked.
     fn let_event_in(&mut self, event: &HubEvent) -> Result<(), LineFault>
-        ensures { (before : List Item) → Stands self.old before → LetsIn before (item.Event event.now) result self.new }
+        ensures { (before : List Item) → Remembers self.old before → LetsIn before (item.Event event.now) result self.new }
     {
         if !self.has_options || !self.covers(&event.kind) {
             return Err(LineFault::Bad);
@@ -179,7 +185,7 @@ impl Admission {
 
     // A link, where its number is new.
     fn let_link_in(&mut self, number: u64) -> Result<(), LineFault>
-        ensures { (before : List Item) (chunk : ℕ) (fails : List (ℕ × LinkFault)) (bytes : List ℕ) → Stands self.old before → LetsIn before (item.Link number chunk fails bytes) result self.new }
+        ensures { (before : List Item) (chunk : ℕ) (fails : List (ℕ × LinkFault)) (bytes : List ℕ) → Remembers self.old before → LetsIn before (item.Link number chunk fails bytes) result self.new }
     {
         if !self.links.insert(number)? {
             return Err(LineFault::Bad);

@@ -7,5 +7,5 @@
 mod admission;
 mod script;
 
-pub use admission::MAX_FILE;
-pub use script::{ScriptError, ScriptReader};
+pub use admission::{LONGEST_LINE, LONGEST_SCRIPT, MAX_FILE};
+pub use script::{BUFFER_SIZE, ScriptError, ScriptReader};

@@ -8,12 +8,15 @@ ghost use Rattle.ftp_event_text.specs.Setup.{IsItem};
 ghost use Rattle.ftp_script_text.specs.SetUp.{IsSetUp};
 ghost use Rattle.ftp_script_text.specs.ScriptReader.{IsLawful, Follows, HasRead, Answers, IsLetIn, IfLine, IsFault, NextIs, next_of};
 
-use crate::admission::Admission;
+use crate::admission::{Admission, LONGEST_LINE};
 use ftp_base::{MemoryStorage, Source};
 use ftp_event_text::Item;
 use ftp_stream::{LineError, Span, next_line};
 use ftp_text::LineFault;
 use std::alloc::Global;
+
+/// How many bytes the buffer of a reader has: any line fits with its line feed.
+pub const BUFFER_SIZE: usize = LONGEST_LINE + 1;
 
 /// Why there is no next item.
 #[derive(Clone, Copy, Debug, PartialEq, Eq)]
@@ -25,7 +28,7 @@ pub enum ScriptError {
     BadLine(u64),
 }
 
-/// How far a script is read, by way of a buffer of 65,537 bytes.
+/// How far a script is read, by way of a buffer of `BUFFER_SIZE` bytes.
 #[derive(Drop)]
 pub struct ScriptReader {
     admission: Admission,

@@ -1,9 +1,9 @@
 -- Line feeds, spans and reads.
-use Rattle.std.proofs.Common.{◌≡◌, ℕ, ◌+◌, ◌-◌, ◌<◌, ◌≤◌, List, [], ◌++◌, length, get_or, take, drop, Bool, true, false, eqb, Option, Some, None, refl, sym, ap, subst, ◌∙◌, append_assoc, arith, inl, inr, eq-eqb, not}
+use Rattle.std.proofs.Common.{◌≡◌, ℕ, ◌+◌, ◌-◌, ◌<◌, ◌≤◌, List, ◌++◌, length, get_or, take, drop, Bool, true, false, eqb, Option, Some, None, refl, sym, ap, subst, ◌∙◌, append_assoc, arith, inl, inr, eq-eqb, not}
 use Rattle.std.specs.Prelude.{IfSome, slice_range}
 use Rattle.std.specs.List.{position_or_len}
 use Rattle.std.proofs.lemmas.Bool.{cases_lt}
-use Rattle.std.proofs.lemmas.List.{append-nil, take-append-drop, drop-take, length-take, length-drop, length-append, length-take-le, drop-append-le, take-append-le, take_at, take-take, drop-drop, take_all, drop_all, get_or-drop}
+use Rattle.std.proofs.lemmas.List.{take-append-drop, drop-take, length-take, length-drop, length-append, length-take-le, drop-append-le, take-append-le, take_at, take-take, drop-drop, take_all, get_or-drop}
 use Rattle.std.proofs.lemmas.List.Folds.{prefix_len-append}
 use Rattle.std.proofs.lemmas.Bool.Decides.{nat_tests}
 use Rattle.std.proofs.lemmas.List.Sums.{fails_before_first, position_or_len_is}
@@ -161,38 +161,9 @@ long_told held limit (Some l) all none len rest =
     let q = ap (position_or_len is_line_feed) (sym rest) ∙ p in
     omega (arith, length-take (position_or_len is_line_feed all) all, q, len, ap length (sym rest), length-append held l)
 
-pub last_told : (held : List ℕ) (limit : ℕ) (all : List ℕ) → position_or_len is_line_feed held ≡ length held → length held ≤ limit → 0 < length held → held ++ [] ≡ all →
-    (0 < length all) × (held ≡ first_line all) × (length (first_line all) ≤ limit) × ([] ≡ behind_line all)
-last_told held limit all none short some rest =
-    let same : held ≡ all = sym (append-nil held) ∙ rest in
-    let p : position_or_len is_line_feed all ≡ length all = ap (position_or_len is_line_feed) (sym same) ∙ none ∙ ap length same in
-    let line : first_line all ≡ all = take_all (position_or_len is_line_feed all) all (omega (arith, p)) in
-    (omega (arith, ap length same), same ∙ sym line, omega (arith, ap length line, ap length same), sym (drop_all (position_or_len is_line_feed all + 1) all (omega (arith, p))))
-
-pub last_on : (held buffer : List ℕ) (a b limit : ℕ) (now later : Option (List ℕ)) (all : List ℕ) → take (b - a) (drop a buffer) ≡ held → position_or_len is_line_feed held ≡ length held → length held ≤ limit → 0 < length held →
-    Rest held now all → IfSome now (λ l. (l ≡ []) × (later ≡ Some [])) →
-    (0 < length all) × (take (b - a) (drop a buffer) ≡ first_line all) × (length (first_line all) ≤ limit) × Rest (take (b - b) (drop b buffer)) later (behind_line all)
-last_on held buffer a b limit None later all same none short some rest end = absurd rest
-last_on held buffer a b limit (Some l) later all same none short some rest end =
-    let t = last_told held limit all none short some (ap (λ (x : List ℕ). held ++ x) (sym end.0) ∙ rest) in
-    let z : b - b ≡ 0 = omega arith in (
-      t.0,
-      same ∙ t.1,
-      t.2,
-      subst (λ (o : Option (List ℕ)). Rest (take (b - b) (drop b buffer)) o (behind_line all)) (sym end.1)
-          (append-nil (take (b - b) (drop b buffer)) ∙ ap (λ (n : ℕ). take n (drop b buffer)) z ∙ t.3),
-    )
-
 pub found_taken : (held : List ℕ) (start i : ℕ) (left : Option (List ℕ)) (all : List ℕ) → position_or_len is_line_feed held ≡ i → i < length held → Rest held left all →
     start + (i + 1) - start + length (behind_line all) ≡ length all
 found_taken held start i None all pos lt rest = absurd rest
 found_taken held start i (Some l) all pos lt rest =
     let p : position_or_len is_line_feed all ≡ i = ap (position_or_len is_line_feed) (sym rest) ∙ pos_found held l i pos lt in
     omega (arith, length-drop (position_or_len is_line_feed all + 1) all, p, ap length (sym rest), length-append held l)
-
-pub last_taken : (held : List ℕ) (a b : ℕ) (now later : Option (List ℕ)) (all : List ℕ) → length held ≡ b - a → position_or_len is_line_feed held ≡ length held →
-    Rest held now all → IfSome now (λ l. (l ≡ []) × (later ≡ Some [])) → b - a + length (behind_line all) ≡ length all
-last_taken held a b None later all len none rest end = absurd rest
-last_taken held a b (Some l) later all len none rest end =
-    let same : held ≡ all = sym (append-nil held) ∙ ap (λ (x : List ℕ). held ++ x) (sym end.0) ∙ rest in
-    omega (arith, length-drop (position_or_len is_line_feed all + 1) all, ap (position_or_len is_line_feed) (sym same), none, ap length same, len)

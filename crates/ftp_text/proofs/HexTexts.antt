@@ -35,38 +35,6 @@ pair_again b lt =
     pair_is (16 * digit_value (digit_glyph false (b / 16)) + digit_value (digit_glyph false (b % 16))) b (digit_glyph false (b / 16)) (digit_glyph false (b % 16))
     (omega (arith, glyph_value (b / 16) (omega arith), glyph_value (b % 16) (omega arith))) lt refl
 
--- the digits of two values below 16 spell a byte
-pub pair_spelled : (m n h l : ℕ) → m < 16 → n < 16 → digit_glyph false m ≡ h → digit_glyph false n ≡ l → hex_pair h l ≡ Some (m * 16 + n)
-pair_spelled m n h l high low e d =
-    let b = m * 16 + n in
-    let first : b / 16 ≡ m = omega arith in
-    let second : b % 16 ≡ n = omega arith in
-    let p = pair_again b (omega arith) in
-    subst (λ (y : ℕ). hex_pair h y ≡ Some b) (ap (digit_glyph false) second ∙ d)
-    (subst (λ (x : ℕ). hex_pair x (digit_glyph false (b % 16)) ≡ Some b) (ap (digit_glyph false) first ∙ e) p)
-
-none_is : (r : Option ℕ) → ((b : ℕ) → r ≡ Some b → ⊥) → r ≡ None
-none_is None h = refl
-none_is (Some b) h = absurd (h b refl)
-
-heads : (a b c d : ℕ) → a ∷ b ∷ [] ≡ c ∷ d ∷ [] → (a ≡ c) × (b ≡ d)
-heads a b c d e = (cc, cc)
-
--- with a byte that is no digit nothing is spelled
-pub pair_no_high : (h l : ℕ) → ((n : ℕ) → n < 16 → digit_glyph false n ≡ h → ⊥) → hex_pair h l ≡ None
-pair_no_high h l never =
-    none_is (hex_pair h l)
-    (λ b e.
-    let t = pair_takes h l b e in
-    never (b / 16) (omega (arith, t.1)) (heads (digit_glyph false (b / 16)) (digit_glyph false (b % 16)) h l t.0).0)
-
-pub pair_no_low : (h l : ℕ) → ((n : ℕ) → n < 16 → digit_glyph false n ≡ l → ⊥) → hex_pair h l ≡ None
-pair_no_low h l never =
-    none_is (hex_pair h l)
-    (λ b e.
-    let t = pair_takes h l b e in
-    never (b % 16) (omega arith) (heads (digit_glyph false (b / 16)) (digit_glyph false (b % 16)) h l t.0).1)
-
 -- ---- the loop
 
 -- a byte more

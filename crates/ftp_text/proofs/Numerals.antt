@@ -51,9 +51,6 @@ numeral_leading ds zero_first long =
           omega (arith, ap length (sym d ∙ e))
     ])
 
-pub numeral_large : (ds : List ℕ) → 2 ^ 64 ≤ digits_value 10 ds → numeral ds ≡ None
-numeral_large ds large = numeral_none ds (λ e small. omega arith)
-
 digit_small : (c : ℕ) → is_ascii_digit c ≡ true → digit_value c < 10
 digit_small c h = grind (arith, nat_tests)
 

@@ -9,10 +9,6 @@ use Rattle.ftp_text.specs.declared.fault.LineFault.{LineFault}
 use Rattle.ftp_text.specs.declared.fault.LineFault.TheVariants as fault
 use Rattle.ftp_text.specs.Reading.{◌>>=◌, Fails, escaped_at, text_byte_at, text_from, text_of}
 
-pub bind_some : {A : Type 0} (r : Option A) → (r >>= λ x. Some x) ≡ r
-bind_some (Some x) = refl
-bind_some None = refl
-
 abbrev pub then_text : Option (ℕ × List ℕ) → Option (List ℕ)
 then_text read = read >>= λ x. text_from [] x.1 >>= λ t. Some (x.0 ∷ t)
 

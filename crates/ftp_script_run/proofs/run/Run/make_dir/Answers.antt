@@ -5,10 +5,10 @@ use Rattle.ftp_script_run.proofs.RunLemmas.{keeps-stored}
 use Rattle.ftp_script_run.proofs.SetUpLemmas.{dir_first, dir_taken, not_refused}
 use Rattle.ftp_script_run.proofs.run.Run.make_dir.Goals as goal
 
-pub unreachable-requires : goal.unreachable-requires
-unreachable-requires c =
-    not_refused (directory_refusal c.args.self.now.storage.files c.args.path) c.in-Err-Kind.field-0 c.in-Err-Kind.field-0-0
-    (dir_taken c.args.self.now c.args.path c.requires) c.in-Err-Kind.field-0-is c.in-Err-Kind.ensures.refused
+pub want_of_memory-requires : goal.want_of_memory-requires
+want_of_memory-requires c =
+    not_refused (directory_refusal c.args.self.now.storage.files c.args.path) c.in-Err.error
+    (dir_taken c.args.self.now c.args.path c.requires) c.in-Err.ensures.refused c.in-Err.ensures.no_fault
 
 pub returns-in-Ok-clause-put : goal.returns-in-Ok-clause-put
 returns-in-Ok-clause-put c = λ items log kept may.

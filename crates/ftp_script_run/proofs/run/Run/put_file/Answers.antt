@@ -6,12 +6,13 @@ use Rattle.ftp_script_run.proofs.RunLemmas.{keeps-stored}
 use Rattle.ftp_script_run.proofs.SetUpLemmas.{file_taken, not_refused, file_first}
 use Rattle.ftp_script_run.proofs.run.Run.put_file.Goals as goal
 
-pub unreachable-requires : goal.unreachable-requires
-unreachable-requires c =
+pub want_of_memory-requires : goal.want_of_memory-requires
+want_of_memory-requires c =
     let s = c.args.self.now.storage in
     let none : file_refusal s.files s.max_file c.args.path (length c.into_vec.result.items) ≡ None =
     ap (λ (b : List ℕ). file_refusal s.files s.max_file c.args.path (length b)) c.into_vec.ensures ∙ file_taken c.args.self.now c.args.bytes c.args.path c.requires in
-    not_refused (file_refusal s.files s.max_file c.args.path (length c.into_vec.result.items)) c.in-Err-Kind.field-0 c.in-Err-Kind.field-0-0 none c.in-Err-Kind.field-0-is c.in-Err-Kind.ensures.refused
+    not_refused (file_refusal s.files s.max_file c.args.path (length c.into_vec.result.items)) c.in-Err.error
+    none c.in-Err.ensures.refused c.in-Err.ensures.no_fault
 
 pub returns-in-Ok-clause-put : goal.returns-in-Ok-clause-put
 returns-in-Ok-clause-put c = λ items log kept may.
