@@ -30,7 +30,8 @@ use Rattle.ftp_events.specs.Slot.{Lane, drops, lane_of, lane_after}
 use Rattle.ftp_events.specs.Session.{lives_on, session, life_by, running_job, queued_for, lane_in}
 use Rattle.ftp_events.specs.Decide.{due, decide}
 use Rattle.ftp_events.specs.Right.{IsRight}
-use Rattle.ftp_laws.proofs.Facts.{is_connection, named-no_connection, opened-unused, IsLive, granted-live}
+use Rattle.ftp_laws.proofs.Facts.{is_connection, named-no_connection, opened-unused, IsLive}
+use Rattle.ftp_laws.proofs.Grants.{granted-is, granted-free}
 use Rattle.ftp_laws.proofs.Laws.{session-own, session-other, session_by, session-told, counting-refused, counting-counts}
 
 -- the port that a slot waits for
@@ -243,14 +244,6 @@ holder-stays o past e s a p m fit ih w c ends = by_concern (concerns o past e s)
     by_concern false h = waits-other o past e s a p w unopened h
     by_concern true h = by_name (is_number (named_session e.event.kind) s) refl h
 
--- a port that was granted is that of a grant
-pub granted-is :
-    (d : Decision) (p : ℕ) →
-    is_number (granted_port d) p ≡ true →
-    d ≡ decision.Granted p
-granted-is (decision.Granted port) p h = ap decision.Granted (eqb-true port p h)
-granted-is _ p h = cc
-
 -- a number is itself
 pub names-itself : (n : Option ℕ) (s : ℕ) → n ≡ Some s → is_number n s ≡ true
 names-itself n s e = rw e (eq-eqb s s refl)
@@ -274,7 +267,7 @@ grant-waits o past e s a p fit gives names =
     let comes_from : Bool = is_client past (named_session e.event.kind) a in
     let parts : (grants ≡ true) × (comes_from ≡ true) = and_parts grants comes_from (and_parts (not (is_legacy o.mode)) (grants && comes_from) gives).1 in
     let grant : e.decision ≡ decision.Granted p = granted-is e.decision p parts.0 in
-    let alive : IsLive o past e.event.kind = granted-live o past e.event.at e.event.kind e.answer p (sym fit ∙ grant) in
+    let alive : IsLive o past e.event.kind = (granted-free o past e.event.at e.event.kind e.answer p (sym fit ∙ grant)).alive in
     let number : alive.number ≡ s = same_Some _ _ (sym alive.named ∙ names) in
     let v : Session = alive.session_then in
     let known : session o past s ≡ Some v = subst (λ (n : ℕ). session o past n ≡ Some v) number alive.known in

@@ -1,12 +1,11 @@
 -- Whoever waits for a port holds it, and when a hold ends.
 use Rattle.std.proofs.Common.{◌≡◌, refl, sym, ◌∙◌, ap, subst, ℕ, Bool, true, false, true≢false, not, ◌&&◌, cond, List, [], ◌∷◌, Option, Some, None, arith, eqb-true, eq-eqb, inl, inr}
-use Rattle.std.specs.Prelude.{◌≢◌, ◌==◌, unwrap_or, find, is_none}
+use Rattle.std.specs.Prelude.{◌≢◌, ◌==◌, unwrap_or}
 use Rattle.std.specs.Option.{option_map_or}
 use Rattle.std.proofs.lemmas.Option.{same_Some}
 use Rattle.std.proofs.lemmas.Bool.{and_parts}
 use Rattle.ftp_base.specs.declared.net.IpAddr.{IpAddr}
 use Rattle.ftp_base.specs.Net.{same_ip}
-use Rattle.ftp_base.specs.Ports.{port_order}
 use Rattle.ftp_options.specs.declared.options.Options.{Options}
 use Rattle.ftp_options.specs.Modes.{is_legacy}
 use Rattle.ftp_transfer.specs.declared.job.Job.{Job}
@@ -23,16 +22,16 @@ use Rattle.ftp_events.specs.declared.session.Slot.TheVariants.{Empty, Waits, Lin
 use Rattle.ftp_events.specs.Words.{is_number}
 use Rattle.ftp_events.specs.Log.{named_session, is_refusal, past_of}
 use Rattle.ftp_events.specs.Opening.{opened_number, opener}
-use Rattle.ftp_events.specs.Board.{Target, target, granted_port, is_client, gives_hold, comes_to, ends_hold, gives_up_hold, holder, first_free_port}
+use Rattle.ftp_events.specs.Board.{Target, target, granted_port, is_client, gives_hold, comes_to, ends_hold, gives_up_hold, holder}
 use Rattle.ftp_events.specs.History.{subject, concerns, opens, history}
 use Rattle.ftp_events.specs.Slot.{Lane, with_link, lane_after, queued_in}
 use Rattle.ftp_events.specs.Session.{lives_on, life_by, session, session_by_history, is_live, running_job, next_lane, queued_for, lane_in}
-use Rattle.ftp_events.specs.CommandRows.{is_logged_in, if_logged_in, pasv_row}
-use Rattle.ftp_events.specs.Decide.{due, decide, if_live}
+use Rattle.ftp_events.specs.Decide.{due, decide}
 use Rattle.ftp_events.specs.Right.{IsRight}
 use Rattle.ftp_laws.proofs.Facts.{is_connection, named-no_connection}
+use Rattle.ftp_laws.proofs.Grants.{IsGrant, granted-free, granted-is}
 use Rattle.ftp_laws.proofs.Laws.{session-own, session-other, session_by, IsTold, session-told, counting-refused, counting-counts}
-use Rattle.ftp_laws.proofs.Holds.{port_of, port-lane, port-kept, touch-free, number-is, or-number, same_ip-equal, WaitsFor, comes-for, granted-is}
+use Rattle.ftp_laws.proofs.Holds.{port_of, port-lane, port-kept, touch-free, number-is, or-number, same_ip-equal, WaitsFor, comes-for}
 use Rattle.ftp_laws.proofs.Served.{connection-goes, Goes}
 
 -- an entry that opens a session is about nobody
@@ -70,82 +69,6 @@ named-target o k answer s n = go (target o k answer) refl
     go None x = refl
     go (Some t) x = let c : None ≡ Some s = sym (target-unnamed o k answer t x) ∙ n in cc
 
--- what is found passes the test
-pub find-holds : {X : Type 0} (p : X → Bool) (xs : List X) (x : X) → find p xs ≡ Some x → p x ≡ true
-find-holds p [] x e = cc
-find-holds p (y ∷ ys) x e = go (p y) refl e (λ later. find-holds p ys x later)
-  where
-    go :
-        (b : Bool) → p y ≡ b →
-        cond b (Some y) (find p ys) ≡ Some x →
-        (find p ys ≡ Some x → p x ≡ true) → p x ≡ true
-    go true h e' ih = subst (λ z. p z ≡ true) (same_Some _ _ e') h
-    go false h e' ih = ih e'
-
--- a number that is not there is none
-pub none-is : (n : Option ℕ) → is_none n ≡ true → n ≡ None
-none-is None h = refl
-none-is (Some m) h = cc
-
--- a first free port has no holder
-pub free-unheld :
-    (o : Options) (past : List Entry) (a : IpAddr) (word p : ℕ) →
-    first_free_port o past a word ≡ Some p →
-    holder o past a p ≡ None
-free-unheld o past a word p e = none-is (holder o past a p) (find-holds (λ q. is_none (holder o past a q)) (port_order o.lo o.hi word) p e)
-
--- what is known of a grant: its session is live, and the port was free for its client
-pub record IsGrant (o : Options) (past : List Entry) (k : EventKind) (p : ℕ) : Type 0 where
-  pub number : ℕ
-  pub session_then : Session
-  pub named : named_session k ≡ Some number
-  pub known : session o past number ≡ Some session_then
-  pub free : holder o past session_then.opening.client p ≡ None
-
--- the port of a grant was free
-pub granted-free :
-    (o : Options) (past : List Entry) (at : ℕ) (k : EventKind) (answer : Answer) (p : ℕ) →
-    due o past at k answer ≡ decision.Granted p →
-    IsGrant o past k p
-granted-free o past at (kind.Pasv s word lookup bound) answer p e = by_session (session o past s) refl e
-  where
-    by_port :
-        (v : Session) (f : Option ℕ) →
-        session o past s ≡ Some v →
-        first_free_port o past v.opening.client word ≡ f →
-        option_map_or decision.Granted f decision.Full ≡ decision.Granted p →
-        IsGrant o past (kind.Pasv s word lookup bound) p
-    by_port v None k f d = cc
-    by_port v (Some q) k f d =
-        let same : q ≡ p = ap (λ x. unwrap_or (granted_port x) 0) d in
-        record { number = s; session_then = v; named = refl; known = k; free = free-unheld o past v.opening.client word p (f ∙ ap Some same) }
-
-    by_login :
-        (v : Session) (b : Bool) →
-        session o past s ≡ Some v →
-        cond b (pasv_row o past word v) decision.NotLoggedIn ≡ decision.Granted p →
-        IsGrant o past (kind.Pasv s word lookup bound) p
-    by_login v true k d = by_port v (first_free_port o past v.opening.client word) k refl d
-    by_login v false k d = cc
-
-    by_session :
-        (v : Option Session) → session o past s ≡ v →
-        if_live v (λ v. if_logged_in v (pasv_row o past word v)) ≡ decision.Granted p →
-        IsGrant o past (kind.Pasv s word lookup bound) p
-    by_session None k d = cc
-    by_session (Some v) k d = by_login v (is_logged_in v.login) k d
-granted-free o past at (kind.Connect s raw local trace) answer p e = grind arith
-granted-free o past at (kind.DataIn number raw port) answer p e = grind arith
-granted-free o past at (kind.User s name) answer p e = grind arith
-granted-free o past at (kind.Pass s) answer p e = grind arith
-granted-free o past at (kind.AuthDone s said) answer p e = grind arith
-granted-free o past at (kind.Rest s offset) answer p e = grind arith
-granted-free o past at (kind.Cwd s path refusal) answer p e = grind arith
-granted-free o past at (kind.Transfer s c) answer p e = grind arith
-granted-free o past at (kind.Stou s word) answer p e = grind arith
-granted-free o past at (kind.End ticket) answer p e = grind arith
-granted-free o past at (kind.Closed s) answer p e = grind arith
-
 -- the client of a live session is that of its opening
 pub client-known :
     (o : Options) (past : List Entry) (s : ℕ) (v : Session) (a : IpAddr) →
@@ -166,8 +89,8 @@ held-ungranted o past e a p s fit held = go (gives_hold o past e a p) refl
     go true x =
         let parts = and_parts (is_number (granted_port e.decision) p) (is_client past (named_session e.event.kind) a) (and_parts (not (is_legacy o.mode)) (is_number (granted_port e.decision) p && is_client past (named_session e.event.kind) a) x).1 in
         let grant : IsGrant o past e.event.kind p = granted-free o past e.event.at e.event.kind e.answer p (sym fit ∙ granted-is e.decision p parts.0) in
-        let client : is_client past (Some grant.number) a ≡ true = subst (λ (n : Option ℕ). is_client past n a ≡ true) grant.named parts.1 in
-        let same : grant.session_then.opening.client ≡ a = same_ip-equal _ _ (sym (client-known o past grant.number grant.session_then a grant.known) ∙ client) in
+        let client : is_client past (Some grant.alive.number) a ≡ true = subst (λ (n : Option ℕ). is_client past n a ≡ true) grant.alive.named parts.1 in
+        let same : grant.alive.session_then.opening.client ≡ a = same_ip-equal _ _ (sym (client-known o past grant.alive.number grant.alive.session_then a grant.alive.known) ∙ client) in
         let free : holder o past a p ≡ None = subst (λ (b : IpAddr). holder o past b p ≡ None) same grant.free in
         let c : None ≡ Some s = sym free ∙ held in
         cc
@@ -251,7 +174,7 @@ pub port-arrived :
     d ≡ due o past at k answer → is_refusal d ≡ false →
     target o k answer ≡ Some t →
     port_of (lane_after k d queued l).slot ≡ None
-port-arrived o past at (kind.DataIn number raw port) answer d t queued l fit c w = go (connection-goes o past at (kind.DataIn number raw port) answer d t fit c w).0
+port-arrived o past at (kind.DataIn number raw port) answer d t queued l fit c w = go (connection-goes o past at (kind.DataIn number raw port) answer d t fit c w)
   where
     go :
         Goes o past d t.client t.port →
