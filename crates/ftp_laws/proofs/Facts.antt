@@ -26,17 +26,7 @@ pub named-no_connection :
     is_legacy o.mode ≡ false → named_session k ≡ Some s →
     is_connection (due o past at k answer) ≡ false
 named-no_connection o past at (kind.Connect s raw local trace) answer n m e = cc
-named-no_connection o past at (kind.DataIn number raw port) answer n m e = cc
-named-no_connection o past at (kind.User s name) answer n m e = grind arith
-named-no_connection o past at (kind.Pass s) answer n m e = grind arith
-named-no_connection o past at (kind.AuthDone s said) answer n m e = grind arith
-named-no_connection o past at (kind.Pasv s word lookup bound) answer n m e = grind arith
-named-no_connection o past at (kind.Rest s offset) answer n m e = grind arith
-named-no_connection o past at (kind.Cwd s path refusal) answer n m e = grind arith
-named-no_connection o past at (kind.Transfer s c) answer n m e = grind arith
-named-no_connection o past at (kind.Stou s word) answer n m e = grind arith
-named-no_connection o past at (kind.End ticket) answer n m e = grind arith
-named-no_connection o past at (kind.Closed s) answer n m e = grind arith
+named-no_connection o past at k answer n m e = grind arith
 
 -- a number that an entry opens was not used
 pub opened-unused :
@@ -44,17 +34,7 @@ pub opened-unused :
     opened_number k (due o past at k answer) ≡ Some n →
     is_used past n ≡ false
 opened-unused o past at (kind.Connect s raw local trace) answer n e = grind arith
-opened-unused o past at (kind.DataIn number raw port) answer n e = grind arith
-opened-unused o past at (kind.User s name) answer n e = grind arith
-opened-unused o past at (kind.Pass s) answer n e = grind arith
-opened-unused o past at (kind.AuthDone s said) answer n e = grind arith
-opened-unused o past at (kind.Pasv s word lookup bound) answer n e = grind arith
-opened-unused o past at (kind.Rest s offset) answer n e = grind arith
-opened-unused o past at (kind.Cwd s path refusal) answer n e = grind arith
-opened-unused o past at (kind.Transfer s c) answer n e = grind arith
-opened-unused o past at (kind.Stou s word) answer n e = grind arith
-opened-unused o past at (kind.End ticket) answer n e = grind arith
-opened-unused o past at (kind.Closed s) answer n e = grind arith
+opened-unused o past at k answer n e = grind arith
 
 -- an entry that is decided for a session names a live one
 pub record IsLive (o : Options) (past : List Entry) (k : EventKind) : Type 0 where

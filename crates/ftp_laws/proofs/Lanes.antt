@@ -86,16 +86,7 @@ pub queued-live :
     IsQueue o past k t
 queued-live o past at (kind.Transfer s c) answer t e = transfer-queued o past _ s c t refl refl e
 queued-live o past at (kind.Stou s word) answer t e = transfer-queued o past _ s (Stor (unique_name word)) t refl refl e
-queued-live o past at (kind.Connect s raw local trace) answer t e = grind arith
-queued-live o past at (kind.DataIn number raw port) answer t e = grind arith
-queued-live o past at (kind.User s name) answer t e = grind arith
-queued-live o past at (kind.Pass s) answer t e = grind arith
-queued-live o past at (kind.AuthDone s said) answer t e = grind arith
-queued-live o past at (kind.Pasv s word lookup bound) answer t e = grind arith
-queued-live o past at (kind.Rest s offset) answer t e = grind arith
-queued-live o past at (kind.Cwd s path refusal) answer t e = grind arith
-queued-live o past at (kind.End ticket) answer t e = grind arith
-queued-live o past at (kind.Closed s) answer t e = grind arith
+queued-live o past at k answer t e = grind arith
 
 -- an entry that names a session and concerns one is about that one
 pub named-concern :

@@ -24,14 +24,14 @@ use Rattle.ftp_events.specs.Log.{named_session, is_refusal, past_of}
 use Rattle.ftp_events.specs.Opening.{opened_number, opener}
 use Rattle.ftp_events.specs.Board.{Target, target, granted_port, is_client, gives_hold, comes_to, ends_hold, gives_up_hold, holder}
 use Rattle.ftp_events.specs.History.{subject, concerns, opens, history}
-use Rattle.ftp_events.specs.Slot.{Lane, with_link, lane_after, queued_in}
+use Rattle.ftp_events.specs.Slot.{Lane, with_link, waiting_port, lane_after, queued_in}
 use Rattle.ftp_events.specs.Session.{lives_on, life_by, session, session_by_history, is_live, running_job, next_lane, queued_for, lane_in}
 use Rattle.ftp_events.specs.Decide.{due, decide}
 use Rattle.ftp_events.specs.Right.{IsRight}
 use Rattle.ftp_laws.proofs.Facts.{is_connection, named-no_connection}
 use Rattle.ftp_laws.proofs.Grants.{IsGrant, granted-free, granted-is}
 use Rattle.ftp_laws.proofs.Laws.{session-own, session-other, session_by, IsTold, session-told, counting-refused, counting-counts}
-use Rattle.ftp_laws.proofs.Holds.{port_of, port-lane, port-kept, touch-free, number-is, or-number, same_ip-equal, WaitsFor, comes-for}
+use Rattle.ftp_laws.proofs.Holds.{port-lane, port-kept, touch-free, number-is, or-number, same_ip-equal, WaitsFor, comes-for}
 use Rattle.ftp_laws.proofs.Served.{connection-goes, Goes}
 
 -- an entry that opens a session is about nobody
@@ -40,17 +40,7 @@ pub opened-subject :
     due o past at k answer ≡ decision.Opened →
     subject o past (record { event = record { at = at; kind = k }; answer = answer; decision = decision.Opened; actions = [] }) ≡ None
 opened-subject o past at (kind.Connect s raw local trace) answer e = refl
-opened-subject o past at (kind.DataIn number raw port) answer e = grind arith
-opened-subject o past at (kind.User s name) answer e = grind arith
-opened-subject o past at (kind.Pass s) answer e = grind arith
-opened-subject o past at (kind.AuthDone s said) answer e = grind arith
-opened-subject o past at (kind.Pasv s word lookup bound) answer e = grind arith
-opened-subject o past at (kind.Rest s offset) answer e = grind arith
-opened-subject o past at (kind.Cwd s path refusal) answer e = grind arith
-opened-subject o past at (kind.Transfer s c) answer e = grind arith
-opened-subject o past at (kind.Stou s word) answer e = grind arith
-opened-subject o past at (kind.End ticket) answer e = grind arith
-opened-subject o past at (kind.Closed s) answer e = grind arith
+opened-subject o past at k answer e = grind arith
 
 -- no event that names a session is a data connection
 pub target-unnamed :
@@ -155,7 +145,7 @@ session-before o past e s v fit n c known =
     go w k false l h = cc
 
 -- a slot that was given a link waits for nothing
-pub port-linked : (slot : Slot) (n : ℕ) → port_of (with_link slot (Some n)) ≡ None
+pub port-linked : (slot : Slot) (n : ℕ) → waiting_port (with_link slot (Some n)) ≡ None
 port-linked Empty n = refl
 port-linked (Waits port) n = refl
 port-linked (Linked m) n = refl
@@ -163,7 +153,7 @@ port-linked (Linked m) n = refl
 -- nor does one whose connection was turned away
 pub port-turned :
     (k : EventKind) (queued : Option Pending) (slot : Slot) (pending : Option Pending) (job : Option Job) →
-    port_of (lane_after k decision.Turned queued (record { slot = slot; pending = pending; running = job })).slot ≡ None
+    waiting_port (lane_after k decision.Turned queued (record { slot = slot; pending = pending; running = job })).slot ≡ None
 port-turned k queued Empty pending job = refl
 port-turned k queued (Waits port) pending job = refl
 port-turned k queued (Linked m) pending job = refl
@@ -173,12 +163,12 @@ pub port-arrived :
     (o : Options) (past : List Entry) (at : ℕ) (k : EventKind) (answer : Answer) (d : Decision) (t : Target) (queued : Option Pending) (l : Lane) →
     d ≡ due o past at k answer → is_refusal d ≡ false →
     target o k answer ≡ Some t →
-    port_of (lane_after k d queued l).slot ≡ None
+    waiting_port (lane_after k d queued l).slot ≡ None
 port-arrived o past at (kind.DataIn number raw port) answer d t queued l fit c w = go (connection-goes o past at (kind.DataIn number raw port) answer d t fit c w)
   where
     go :
         Goes o past d t.client t.port →
-        port_of (lane_after (kind.DataIn number raw port) d queued l).slot ≡ None
+        waiting_port (lane_after (kind.DataIn number raw port) d queued l).slot ≡ None
     go (inl x) = rw x.1 (port-lane (with_link l.slot (Some number)) l.pending l.running ∙ port-linked l.slot number)
     go (inr x) = rw x (port-turned (kind.DataIn number raw port) queued l.slot l.pending l.running)
 port-arrived o past at k answer d t queued l fit c w = cc
@@ -187,7 +177,7 @@ port-arrived o past at k answer d t queued l fit c w = cc
 pub port-opened :
     (k : EventKind) (d : Decision) (queued pending : Option Pending) (job : Option Job) (s : ℕ) →
     is_number (opened_number k d) s ≡ true →
-    port_of (lane_after k d queued (record { slot = Empty; pending = pending; running = job })).slot ≡ None
+    waiting_port (lane_after k d queued (record { slot = Empty; pending = pending; running = job })).slot ≡ None
 port-opened k decision.Opened queued pending job s h = refl
 port-opened k _ queued pending job s h = cc
 
@@ -195,7 +185,7 @@ port-opened k _ queued pending job s h = cc
 pub port-given-up :
     (k : EventKind) (d : Decision) (queued : Option Pending) (l : Lane) (p : ℕ) →
     gives_up_hold d ≡ true →
-    port_of (lane_after k d queued l).slot ≡ Some p →
+    waiting_port (lane_after k d queued l).slot ≡ Some p →
     d ≡ decision.Granted p
 port-given-up k (decision.Granted port) queued l p g h = ap decision.Granted (same_Some _ _ h)
 port-given-up k decision.Closed queued l p g h = cc
@@ -244,7 +234,7 @@ waits-holds-step o past e m fit counts ih a p s w = by_opening (opens e s) refl
         (v : Session) → session o past s ≡ Some v →
         named_session e.event.kind ≡ Some s →
         same_ip v.opening.client a ≡ true →
-        port_of (next_lane e.event.kind e.decision (running_job o past s) v).slot ≡ Some p →
+        waiting_port (next_lane e.event.kind e.decision (running_job o past s) v).slot ≡ Some p →
         (b : Bool) → gives_up_hold e.decision ≡ b →
         holder o (e ∷ past) a p ≡ Some s
     by_change v known n client port true g =
@@ -252,7 +242,7 @@ waits-holds-step o past e m fit counts ih a p s w = by_opening (opens e s) refl
         rw (m, grant, n, (session-told o past s v known).opening, client, eq-eqb p p refl) refl
     by_change v known n client port false g =
         let plain : is_connection e.decision ≡ false = subst (λ (d : Decision). is_connection d ≡ false) (sym fit) (named-no_connection o past e.event.at e.event.kind e.answer s m n) in
-        let kept : port_of (next_lane e.event.kind e.decision (running_job o past s) v).slot ≡ port_of v.slot = port-kept e.event.kind e.decision (queued_for e.decision e.event.kind v) (lane_in v (running_job o past s)) (touch-free e.decision v.slot g plain) in
+        let kept : waiting_port (next_lane e.event.kind e.decision (running_job o past s) v).slot ≡ waiting_port v.slot = port-kept e.event.kind e.decision (queued_for e.decision e.event.kind v) (lane_in v (running_job o past s)) (touch-free e.decision v.slot g plain) in
         let held : holder o past a p ≡ Some s = ih a p s (record { view = v; known = known; client = client; port = sym kept ∙ port }) in
         holder-stays-held o past e a p s held (held-ungranted o past e a p s fit held) (rw (named-target o e.event.kind e.answer s n) refl) (rw (n, g, eq-eqb s s refl) refl)
 
@@ -260,7 +250,7 @@ waits-holds-step o past e m fit counts ih a p s w = by_opening (opens e s) refl
         (v : Session) → session o past s ≡ Some v →
         concerns o past e s ≡ true →
         same_ip v.opening.client a ≡ true →
-        port_of (next_lane e.event.kind e.decision (running_job o past s) v).slot ≡ Some p →
+        waiting_port (next_lane e.event.kind e.decision (running_job o past s) v).slot ≡ Some p →
         (b : Bool) →
         is_number (named_session e.event.kind) s ≡ b →
         holder o (e ∷ past) a p ≡ Some s
@@ -281,7 +271,7 @@ waits-holds-step o past e m fit counts ih a p s w = by_opening (opens e s) refl
     by_concern n true c =
         let x : IsAfter o past e s w.view = session-before o past e s w.view fit n c w.known in
         let client : same_ip x.before.opening.client a ≡ true = subst (λ (v : Session). same_ip v.opening.client a ≡ true) (sym x.after) w.client in
-        let port : port_of (next_lane e.event.kind e.decision (running_job o past s) x.before).slot ≡ Some p = subst (λ (v : Session). port_of v.slot ≡ Some p) (sym x.after) w.port in
+        let port : waiting_port (next_lane e.event.kind e.decision (running_job o past s) x.before).slot ≡ Some p = subst (λ (v : Session). waiting_port v.slot ≡ Some p) (sym x.after) w.port in
         by_name x.before x.known c client port (is_number (named_session e.event.kind) s) refl
 
     by_opening : (b : Bool) → opens e s ≡ b → holder o (e ∷ past) a p ≡ Some s
@@ -290,7 +280,7 @@ waits-holds-step o past e m fit counts ih a p s w = by_opening (opens e s) refl
         let t : IsTold s (history o (e ∷ past) s) (opener (e ∷ past) s) w.view = session-told o (e ∷ past) s w.view w.known in
         let start : history o (e ∷ past) s ≡ e ∷ [] = rw n refl in
         let told : session_by_history s (e ∷ []) w.view.opening ≡ w.view = subst (λ (h : List Entry). session_by_history s h w.view.opening ≡ w.view) start t.told in
-        let z : None ≡ Some p = sym (port-opened e.event.kind e.decision (queued_in [] e) None None s n) ∙ (ap (λ (v : Session). port_of v.slot) told ∙ w.port) in
+        let z : None ≡ Some p = sym (port-opened e.event.kind e.decision (queued_in [] e) None None s n) ∙ (ap (λ (v : Session). waiting_port v.slot) told ∙ w.port) in
         cc
 
 -- where there is no legacy listener, in every right log a live session holds the port that its slot waits for, for its client
