@@ -53,7 +53,3 @@ replies (e ∷ log) s = replies log s ++ filter_map (reply_to s) e.actions
 -- the events of a log with their answers
 abbrev pub events_of : List Entry → List (HubEvent × Answer)
 events_of log = map (λ (e : Entry). (e.event, e.answer)) log
-
--- its decisions
-abbrev pub decisions_of : List Entry → List Decision
-decisions_of log = map (λ (e : Entry). e.decision) log

@@ -1,11 +1,11 @@
 -- One more event of a run, and the headline of a whole run.
-use Rattle.std.proofs.Common.{◌≡◌, refl, sym, ap, ◌∙◌, subst, ℕ, ◌+◌, ◌<◌, ◌≤◌, false, append-nil, take_all, List, [], ◌∷◌, ◌++◌, map, reverse, take, get_or, length, append_assoc}
+use Rattle.std.proofs.Common.{◌≡◌, refl, sym, ap, ◌∙◌, subst, ℕ, ◌+◌, ◌<◌, ◌≤◌, append-nil, take_all, List, [], ◌∷◌, ◌++◌, map, reverse, take, get_or, length, append_assoc}
 use Rattle.std.proofs.lemmas.List.{reverse-append, take_more, map-append}
 use Rattle.ftp_options.specs.declared.options.Options.{Options}
 use Rattle.ftp_events.specs.declared.entry.Entry.{Entry}
 use Rattle.ftp_events.specs.declared.event.HubEvent.{HubEvent}
 use Rattle.ftp_events.specs.Leads.{Views, Outside, LeadsOne, Leads}
-use Rattle.ftp_events.specs.Log.{past_of, is_refusal}
+use Rattle.ftp_events.specs.Log.{past_of}
 use Rattle.ftp_events.specs.Right.{IsRight, IsActed}
 use Rattle.ftp_events.specs.Headline.{IsServed, AllServed}
 use Rattle.ftp_laws.proofs.Served.{all-served}
@@ -36,11 +36,11 @@ goes-on-more first old new events i item before next within read =
     }
 
 -- every entry of a log that is served is served
-served-at : (o : Options) (log after before : List Entry) (e : Entry) → AllServed o log → log ≡ after ++ e ∷ before → is_refusal e.decision ≡ false → IsServed o (past_of before) e
-served-at o log after before e all is counts = go after (subst (AllServed o) is all)
+served-at : (o : Options) (log after before : List Entry) (e : Entry) → AllServed o log → log ≡ after ++ e ∷ before → IsServed o (past_of before) e
+served-at o log after before e all is = go after (subst (AllServed o) is all)
   where
     go : (after : List Entry) → AllServed o (after ++ e ∷ before) → IsServed o (past_of before) e
-    go [] all = all.1 counts
+    go [] all = all.1
     go (x ∷ after) all = go after all.0
 
 -- the log of a whole run on a fresh hub is as the headline says
@@ -59,8 +59,9 @@ headline-fresh old new events done before log fresh empty same stands goes all =
           ap (λ es. map (λ (e : Entry). e.event) (reverse es)) (goes.log_is ∙ ap (λ es. goes.newer ++ es) empty ∙ append-nil goes.newer)
           ∙ goes.in_order
           ∙ take_all done events all;
-      every_connection = λ after before e t is counts to. (served-at o log after before e served is counts).connections t to;
-      every_grant = λ after before e s word lookup bound v is counts kind known admitted. (served-at o log after before e served is counts).grants s word lookup bound v kind known admitted;
+      every_connection = λ after before e t is to unbarred. (served-at o log after before e served is).connections t to unbarred;
+      every_refusal = λ after before e is barred. (served-at o log after before e served is).refusals barred;
+      every_grant = λ after before e s word lookup bound v is kind known admitted. (served-at o log after before e served is).grants s word lookup bound v kind known admitted;
     }
 
 -- what newer entries did, and those after them, all together did

@@ -1,5 +1,5 @@
 -- The headline: what the log of a run on a fresh hub promises, entry by entry.
-use Rattle.std.specs.Prelude.{ℕ, ◌≡◌, false, List, [], ◌∷◌, ◌++◌, map, reverse, Option, Some, IsTrue}
+use Rattle.std.specs.Prelude.{ℕ, ◌≡◌, true, false, List, [], ◌∷◌, ◌++◌, map, reverse, Option, Some, IsTrue}
 use Rattle.ftp_options.specs.declared.options.Options.{Options}
 use Rattle.ftp_options.specs.Modes.{is_legacy}
 use Rattle.ftp_events.specs.declared.entry.Entry.{Entry}
@@ -9,7 +9,7 @@ use Rattle.ftp_events.specs.declared.session.Session.{Session}
 use Rattle.ftp_events.specs.Log.{past_of, is_refusal}
 use Rattle.ftp_events.specs.Board.{Target, target}
 use Rattle.ftp_events.specs.Session.{session}
-use Rattle.ftp_events.specs.Headline.{is_admitted, AttachedOrClosed, GrantedOrFull}
+use Rattle.ftp_events.specs.Headline.{is_barred, is_admitted, AttachedOrClosed, GrantedOrFull}
 use Rattle.ftp_hub.specs.declared.hub.Hub.{Hub}
 use Rattle.ftp_hub.specs.Stands.{Stands, options_of}
 
@@ -18,16 +18,20 @@ pub record IsFresh (hub : Hub) : Type 0 where
   pub unused : Stands hub []
   pub shares : is_legacy (options_of hub).mode ≡ false
 
--- the log has exactly the given events in order; every data connection that counts is attached to the session that by
--- the entries before it holds its client address and port, or else closed; every admitted PASV is granted the first port
--- from its word that nobody holds, or refused as full where none is free
+-- the log has exactly the given events in order; every data connection is attached to the session that by the entries
+-- before it holds its client address and port, or closed where nobody holds them, or refused where it is barred; every
+-- admitted PASV is granted the first port from its word that nobody holds, or refused as full where none is free
 pub record Headline (o : Options) (events : List HubEvent) (log : List Entry) : Type 0 where
   pub exactly_the_events : map (λ (e : Entry). e.event) (reverse log) ≡ events
   pub every_connection :
-      (after before : List Entry) (e : Entry) (t : Target) → log ≡ after ++ e ∷ before → is_refusal e.decision ≡ false →
-      target o e.event.kind e.answer ≡ Some t → AttachedOrClosed o (past_of before) e t
+      (after before : List Entry) (e : Entry) (t : Target) → log ≡ after ++ e ∷ before →
+      target o e.event.kind e.answer ≡ Some t → is_barred o (past_of before) e.event.kind ≡ false →
+      AttachedOrClosed o (past_of before) e t
+  pub every_refusal :
+      (after before : List Entry) (e : Entry) → log ≡ after ++ e ∷ before →
+      is_barred o (past_of before) e.event.kind ≡ true → is_refusal e.decision ≡ true
   pub every_grant :
       (after before : List Entry) (e : Entry) (s word : ℕ) (lookup bound : Option ℕ) (v : Session) →
-      log ≡ after ++ e ∷ before → is_refusal e.decision ≡ false → e.event.kind ≡ Pasv s word lookup bound →
+      log ≡ after ++ e ∷ before → e.event.kind ≡ Pasv s word lookup bound →
       session o (past_of before) s ≡ Some v → IsTrue (is_admitted o e.event.kind v) →
       GrantedOrFull o (past_of before) e v word

@@ -36,7 +36,7 @@ use Rattle.ftp_laws.proofs.Holds.{number-is, live-used}
 use Rattle.ftp_laws.proofs.Told.{opened-is}
 use Rattle.ftp_laws.proofs.Lanes.{IsQueue, queued-live, named-concern, IsBare}
 use Rattle.ftp_laws.proofs.Counts.{count-about, count-nobody}
-use Rattle.ftp_laws.proofs.Tickets.{same_ticket-equal, same_ticket-other, one, settles-on-transfers, settles-start_acts, settles-drop_acts, settles-other, IsEnd, finished-known, IsFit, lost}
+use Rattle.ftp_laws.proofs.Tickets.{same_ticket-equal, same_ticket-other, one, settles-on-transfers, settles-on-cancelled, count-start_acts, settles-drop_acts, settles-other, IsEnd, finished-known, IsFit, lost}
 
 -- what is queued is a transfer under its ticket
 pub queue-made :
@@ -249,7 +249,7 @@ settles-elsewhere o past e t counts acted c own = by_subject (subject o past e) 
           count-about (settles t) o past e s (settles-on-transfers t) counts acted x,
           settles-other t e.event.kind e.decision (stays e.decision v) by_end,
           settles-drop_acts t s (stays e.decision v) e.decision (slot_of v) (pending_in v),
-          settles-start_acts t (option_and_then (starting e.event.kind e.decision (running_job o past s)) v),
+          count-start_acts t (settles t) (option_and_then (starting e.event.kind e.decision (running_job o past s)) v) (settles-on-cancelled t),
           none-lost (drops e.decision (slot_of v)) (is_pending t (pending_in v)) kept,
         )
 
@@ -271,5 +271,5 @@ settles-here o past e t counts acted c bare =
       arith,
       count-about (settles t) o past e s (settles-on-transfers t) counts acted (number-is (subject o past e) s c),
       same,
-      settles-start_acts t (option_and_then (starting e.event.kind e.decision (running_job o past s)) v),
+      count-start_acts t (settles t) (option_and_then (starting e.event.kind e.decision (running_job o past s)) v) (settles-on-cancelled t),
     )

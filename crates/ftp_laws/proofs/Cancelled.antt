@@ -1,11 +1,10 @@
 -- What cancels a transfer.
-use Rattle.std.proofs.Common.{◌≡◌, refl, sym, ◌∙◌, ap, subst, ℕ, ◌+◌, ◌≤◌, Bool, true, false, cond, List, [], ◌∷◌, ◌++◌, Option, Some, None, arith, eq-eqb}
+use Rattle.std.proofs.Common.{◌≡◌, refl, sym, ◌∙◌, ap, subst, ℕ, ◌+◌, ◌≤◌, Bool, true, false, cond, List, [], ◌∷◌, Option, Some, None, arith, eq-eqb}
 use Rattle.std.specs.Prelude.{◌↔◌, count_by, IsSomeAnd}
 use Rattle.std.specs.List.{list_any}
 use Rattle.std.specs.Option.{option_and_then}
 use Rattle.std.proofs.lemmas.List.Sums.{sum_by-cons}
 use Rattle.ftp_options.specs.declared.options.Options.{Options}
-use Rattle.ftp_transfer.specs.declared.job.Job.{Job}
 use Rattle.ftp_transfer.specs.declared.job.Ticket.{Ticket}
 use Rattle.ftp_events.specs.declared.action.Action.{Action}
 use Rattle.ftp_events.specs.declared.decision.Decision.{Decision}
@@ -21,14 +20,14 @@ use Rattle.ftp_events.specs.Log.{is_refusal, past_of}
 use Rattle.ftp_events.specs.History.{subject, concerns, history}
 use Rattle.ftp_events.specs.Slot.{drops, lane}
 use Rattle.ftp_events.specs.Session.{session, running_job}
-use Rattle.ftp_events.specs.Acts.{acts, acts_of, completions, cancellations, closings, link_in, drop_acts, stays, slot_of, pending_in, start_acts, starting}
+use Rattle.ftp_events.specs.Acts.{acts, acts_of, completions, stays, slot_of, pending_in, starting}
 use Rattle.ftp_events.specs.Right.{IsRight, IsActed}
 use Rattle.ftp_events.specs.Fate.{cancels, is_pending}
 use Rattle.ftp_laws.specs.Fates.{can_cancel, LosesSlot}
 use Rattle.ftp_laws.proofs.Laws.{session-told}
 use Rattle.ftp_laws.proofs.Holds.{number-is}
-use Rattle.ftp_laws.proofs.Counts.{IsOnTransfers, count-append, count-closings, count-about, count-nobody}
-use Rattle.ftp_laws.proofs.Tickets.{same_ticket-equal, one}
+use Rattle.ftp_laws.proofs.Counts.{IsOnTransfers, count-about, count-nobody}
+use Rattle.ftp_laws.proofs.Tickets.{same_ticket-equal, one, IsOnCancelled, count-start_acts, count-drop_acts-own}
 use Rattle.ftp_laws.proofs.Accounts.{owned}
 
 -- what some item passes is counted
@@ -73,36 +72,9 @@ pub cancels-completions :
 cancels-completions t (End ticket) decision.Finished delivered = refl
 cancels-completions t k d delivered = refl
 
--- nor does a start
-pub cancels-start_acts : (t : Ticket) (job : Option Job) → count_by (cancels t) (start_acts job) ≡ 0
-cancels-start_acts t None = refl
-cancels-start_acts t (Some j) = refl
-
--- a transfer that is dropped is cancelled
-pub cancels-cancellations :
-    (t : Ticket) (s : ℕ) (staying : Bool) (pending : Option Pending) →
-    count_by (cancels t) (cancellations s staying pending) ≡ one (is_pending t pending)
-cancels-cancellations t s staying None = refl
-cancels-cancellations t s true (Some p) = omega arith
-cancels-cancellations t s false (Some p) = omega arith
-
--- so the transfer in a slot that is dropped is, and no other
-pub cancels-drop_acts :
-    (t : Ticket) (s : ℕ) (staying : Bool) (d : Decision) (slot : Slot) (pending : Option Pending) →
-    count_by (cancels t) (drop_acts s staying d slot pending) ≡ cond (drops d slot) (one (is_pending t pending)) 0
-cancels-drop_acts t s staying d slot pending = go (drops d slot)
-  where
-    go :
-        (b : Bool) →
-        count_by (cancels t) (cond b (cancellations s staying pending ++ closings (link_in slot)) []) ≡ cond b (one (is_pending t pending)) 0
-    go false = refl
-    go true =
-        omega (
-          arith,
-          count-append (cancels t) (cancellations s staying pending) (closings (link_in slot)),
-          cancels-cancellations t s staying pending,
-          count-closings (cancels t) (link_in slot) (cancels-on-transfers t),
-        )
+-- nor does a start, while the transfer in a slot that is dropped is cancelled
+pub cancels-on-cancelled : (t : Ticket) → IsOnCancelled t (cancels t)
+cancels-on-cancelled t = record { plain = cancels-on-transfers t; cancelled = λ u. refl; started = λ u n. refl }
 
 -- an entry about a session cancels the transfer in its slot, where it drops that
 pub cancels-about :
@@ -117,8 +89,8 @@ cancels-about o past e t s counts acted about =
       arith,
       count-about (cancels t) o past e s (cancels-on-transfers t) counts acted about,
       cancels-completions t e.event.kind e.decision (stays e.decision v),
-      cancels-drop_acts t s (stays e.decision v) e.decision (slot_of v) (pending_in v),
-      cancels-start_acts t (option_and_then (starting e.event.kind e.decision (running_job o past s)) v),
+      count-drop_acts-own t (cancels t) s (stays e.decision v) e.decision (slot_of v) (pending_in v) (cancels-on-cancelled t),
+      count-start_acts t (cancels t) (option_and_then (starting e.event.kind e.decision (running_job o past s)) v) (cancels-on-cancelled t),
     )
 
 -- where something is lost with a slot, the slot is dropped and has it

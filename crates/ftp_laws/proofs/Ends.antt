@@ -20,16 +20,16 @@ use Rattle.ftp_events.specs.declared.session.Slot.TheVariants.{Empty, Waits, Lin
 use Rattle.ftp_events.specs.Words.{is_number}
 use Rattle.ftp_events.specs.Log.{named_session, is_refusal, past_of}
 use Rattle.ftp_events.specs.Board.{target, is_client, gives_hold, comes_to, ends_hold, gives_up_hold, holder}
-use Rattle.ftp_events.specs.Session.{session}
+use Rattle.ftp_events.specs.Slot.{waiting_port}
 use Rattle.ftp_events.specs.Decide.{due, decide}
 use Rattle.ftp_events.specs.Right.{IsRight}
 use Rattle.ftp_laws.specs.Holds.{WaitsOn, ComesTo, GrantsAnother, EndsSession, EndsHold}
 use Rattle.ftp_laws.proofs.Laws.{counting-counts}
-use Rattle.ftp_laws.proofs.Holds.{port_of, WaitsFor, holder-waits, same_ip-equal, same_ip-refl, number-is, names-itself}
-use Rattle.ftp_laws.proofs.Waits.{waits-holds, named-target, held-ungranted, client-known}
+use Rattle.ftp_laws.proofs.Holds.{WaitsFor, holder-waits, same_ip-equal, same_ip-refl, number-is}
+use Rattle.ftp_laws.proofs.Waits.{named-target, held-ungranted, client-known}
 
 -- the slot that waits for a port
-pub slot-waits : (slot : Slot) (p : ℕ) → port_of slot ≡ Some p → slot ≡ Waits p
+pub slot-waits : (slot : Slot) (p : ℕ) → waiting_port slot ≡ Some p → slot ≡ Waits p
 slot-waits (Waits port) p h = ap Waits (same_Some _ _ h)
 slot-waits Empty p h = cc
 slot-waits (Linked number) p h = cc
@@ -44,33 +44,7 @@ pub on-waits :
     (o : Options) (past : List Entry) (s : ℕ) (a : IpAddr) (p : ℕ) →
     WaitsOn o past s a p → WaitsFor o past s a p
 on-waits o past s a p w =
-    record { view = w.0; known = w.1; client = subst (λ (b : IpAddr). same_ip w.0.opening.client b ≡ true) w.2 (same_ip-refl w.0.opening.client); port = ap port_of w.3 }
-
--- a live session holds the port that its slot waits for, for its client, and no other
-pub holder-view :
-    (o : Options) (log : List Entry) (a : IpAddr) (p s : ℕ) (v : Session) →
-    is_legacy o.mode ≡ false → IsRight o log →
-    session o (past_of log) s ≡ Some v →
-    is_number (holder o (past_of log) a p) s ≡ (is_number (port_of v.slot) p && same_ip v.opening.client a)
-holder-view o log a p s v m r known = go (is_number (holder o (past_of log) a p) s) (is_number (port_of v.slot) p && same_ip v.opening.client a) refl refl
-  where
-    go :
-        (b c : Bool) →
-        is_number (holder o (past_of log) a p) s ≡ b →
-        (is_number (port_of v.slot) p && same_ip v.opening.client a) ≡ c →
-        b ≡ c
-    go true true x y = refl
-    go false false x y = refl
-    go true false x y =
-        let w : WaitsFor o (past_of log) s a p = holder-waits o log m r a p s (number-is _ s x) in
-        let same : w.view ≡ v = same_Some _ _ (sym w.known ∙ known) in
-        let port : port_of v.slot ≡ Some p = ap (λ (u : Session). port_of u.slot) (sym same) ∙ w.port in
-        let client : same_ip v.opening.client a ≡ true = ap (λ (u : Session). same_ip u.opening.client a) (sym same) ∙ w.client in
-        sym (rw (port, client, eq-eqb p p refl) refl) ∙ y
-    go false true x y =
-        let parts = and_parts (is_number (port_of v.slot) p) (same_ip v.opening.client a) y in
-        let held = waits-holds o log m r a p s (record { view = v; known = known; client = parts.1; port = number-is _ p parts.0 }) in
-        sym x ∙ names-itself _ s held
+    record { view = w.0; known = w.1; client = subst (λ (b : IpAddr). same_ip w.0.opening.client b ≡ true) w.2 (same_ip-refl w.0.opening.client); port = ap waiting_port w.3 }
 
 -- a session holds one port at most
 pub holds-one :
@@ -83,7 +57,7 @@ holds-one o log a b p q s m r x y =
     let w : WaitsFor o (past_of log) s b q = holder-waits o log m r b q s y in
     let same : v.view ≡ w.view = same_Some _ _ (sym v.known ∙ w.known) in (
       sym (same_ip-equal _ _ v.client) ∙ (ap (λ (u : Session). u.opening.client) same ∙ same_ip-equal _ _ w.client),
-      same_Some _ _ (sym v.port ∙ (ap (λ (u : Session). port_of u.slot) same ∙ w.port)),
+      same_Some _ _ (sym v.port ∙ (ap (λ (u : Session). waiting_port u.slot) same ∙ w.port)),
     )
 
 -- only the end of a control connection is decided as a closing
@@ -92,17 +66,7 @@ pub closed-kind :
     due o past at k answer ≡ decision.Closed →
     named_session k ≡ Some s → k ≡ kind.Closed s
 closed-kind o past at (kind.Closed n) answer s e x = ap kind.Closed (same_Some _ _ x)
-closed-kind o past at (kind.Connect n raw local trace) answer s e x = cc
-closed-kind o past at (kind.DataIn number raw port) answer s e x = cc
-closed-kind o past at (kind.User n name) answer s e x = grind arith
-closed-kind o past at (kind.Pass n) answer s e x = grind arith
-closed-kind o past at (kind.AuthDone n said) answer s e x = grind arith
-closed-kind o past at (kind.Pasv n word lookup bound) answer s e x = grind arith
-closed-kind o past at (kind.Rest n offset) answer s e x = grind arith
-closed-kind o past at (kind.Cwd n path refusal) answer s e x = grind arith
-closed-kind o past at (kind.Transfer n c) answer s e x = grind arith
-closed-kind o past at (kind.Stou n word) answer s e x = grind arith
-closed-kind o past at (kind.End ticket) answer s e x = grind arith
+closed-kind o past at k answer s e x = grind arith
 
 -- a data connection to a key, in words
 pub comes-in-words :

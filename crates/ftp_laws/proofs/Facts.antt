@@ -1,6 +1,5 @@
 -- What a decision tells of the past.
-use Rattle.std.proofs.Common.{◌≡◌, refl, sym, ℕ, Bool, true, false, List, Option, Some, None, arith}
-use Rattle.std.specs.Prelude.{◌≢◌}
+use Rattle.std.proofs.Common.{◌≡◌, ℕ, Bool, true, false, List, Some, arith}
 use Rattle.ftp_options.specs.declared.options.Options.{Options}
 use Rattle.ftp_options.specs.Modes.{is_legacy}
 use Rattle.ftp_events.specs.declared.entry.Entry.{Entry}
@@ -11,7 +10,7 @@ use Rattle.ftp_events.specs.declared.decision.Decision.{Decision}
 use Rattle.ftp_events.specs.declared.decision.Decision.TheVariants as decision
 use Rattle.ftp_events.specs.declared.session.Session.{Session}
 use Rattle.ftp_events.specs.Log.{named_session, is_used}
-use Rattle.ftp_events.specs.Decide.{due, if_live}
+use Rattle.ftp_events.specs.Decide.{due}
 use Rattle.ftp_events.specs.Opening.{opened_number}
 use Rattle.ftp_events.specs.Session.{session}
 
@@ -27,17 +26,7 @@ pub named-no_connection :
     is_legacy o.mode ≡ false → named_session k ≡ Some s →
     is_connection (due o past at k answer) ≡ false
 named-no_connection o past at (kind.Connect s raw local trace) answer n m e = cc
-named-no_connection o past at (kind.DataIn number raw port) answer n m e = cc
-named-no_connection o past at (kind.User s name) answer n m e = grind arith
-named-no_connection o past at (kind.Pass s) answer n m e = grind arith
-named-no_connection o past at (kind.AuthDone s said) answer n m e = grind arith
-named-no_connection o past at (kind.Pasv s word lookup bound) answer n m e = grind arith
-named-no_connection o past at (kind.Rest s offset) answer n m e = grind arith
-named-no_connection o past at (kind.Cwd s path refusal) answer n m e = grind arith
-named-no_connection o past at (kind.Transfer s c) answer n m e = grind arith
-named-no_connection o past at (kind.Stou s word) answer n m e = grind arith
-named-no_connection o past at (kind.End ticket) answer n m e = grind arith
-named-no_connection o past at (kind.Closed s) answer n m e = grind arith
+named-no_connection o past at k answer n m e = grind arith
 
 -- a number that an entry opens was not used
 pub opened-unused :
@@ -45,17 +34,7 @@ pub opened-unused :
     opened_number k (due o past at k answer) ≡ Some n →
     is_used past n ≡ false
 opened-unused o past at (kind.Connect s raw local trace) answer n e = grind arith
-opened-unused o past at (kind.DataIn number raw port) answer n e = grind arith
-opened-unused o past at (kind.User s name) answer n e = grind arith
-opened-unused o past at (kind.Pass s) answer n e = grind arith
-opened-unused o past at (kind.AuthDone s said) answer n e = grind arith
-opened-unused o past at (kind.Pasv s word lookup bound) answer n e = grind arith
-opened-unused o past at (kind.Rest s offset) answer n e = grind arith
-opened-unused o past at (kind.Cwd s path refusal) answer n e = grind arith
-opened-unused o past at (kind.Transfer s c) answer n e = grind arith
-opened-unused o past at (kind.Stou s word) answer n e = grind arith
-opened-unused o past at (kind.End ticket) answer n e = grind arith
-opened-unused o past at (kind.Closed s) answer n e = grind arith
+opened-unused o past at k answer n e = grind arith
 
 -- an entry that is decided for a session names a live one
 pub record IsLive (o : Options) (past : List Entry) (k : EventKind) : Type 0 where
@@ -63,31 +42,3 @@ pub record IsLive (o : Options) (past : List Entry) (k : EventKind) : Type 0 whe
   pub session_then : Session
   pub named : named_session k ≡ Some number
   pub known : session o past number ≡ Some session_then
-
--- a row that is not a refusal had a live session
-pub known-live :
-    (o : Options) (past : List Entry) (k : EventKind) (s : ℕ) (v : Option Session) →
-    session o past s ≡ v → named_session k ≡ Some s →
-    (row : Session → Decision) (d : Decision) →
-    if_live v row ≡ d → d ≢ decision.UnknownNumber →
-    IsLive o past k
-known-live o past k s None e n row d r u = absurd (u (sym r))
-known-live o past k s (Some v) e n row d r u = record { number = s; session_then = v; named = n; known = e }
-
--- a grant is for a live session
-pub granted-live :
-    (o : Options) (past : List Entry) (at : ℕ) (k : EventKind) (answer : Answer) (p : ℕ) →
-    due o past at k answer ≡ decision.Granted p →
-    IsLive o past k
-granted-live o past at (kind.Pasv s word lookup bound) answer p e = known-live o past _ s (session o past s) refl refl _ _ e (λ c. cc)
-granted-live o past at (kind.Connect s raw local trace) answer p e = grind arith
-granted-live o past at (kind.DataIn number raw port) answer p e = grind arith
-granted-live o past at (kind.User s name) answer p e = grind arith
-granted-live o past at (kind.Pass s) answer p e = grind arith
-granted-live o past at (kind.AuthDone s said) answer p e = grind arith
-granted-live o past at (kind.Rest s offset) answer p e = grind arith
-granted-live o past at (kind.Cwd s path refusal) answer p e = grind arith
-granted-live o past at (kind.Transfer s c) answer p e = grind arith
-granted-live o past at (kind.Stou s word) answer p e = grind arith
-granted-live o past at (kind.End ticket) answer p e = grind arith
-granted-live o past at (kind.Closed s) answer p e = grind arith

@@ -26,17 +26,13 @@ use Rattle.ftp_events.specs.Log.{named_session, new_number, is_used, is_refusal,
 use Rattle.ftp_events.specs.Opening.{opened_number, opening_by, opener}
 use Rattle.ftp_events.specs.Board.{Target, target, granted_port, is_client, gives_hold, comes_to, ends_hold, gives_up_hold, holder}
 use Rattle.ftp_events.specs.History.{concerns, opens}
-use Rattle.ftp_events.specs.Slot.{Lane, drops, lane_of, lane_after}
+use Rattle.ftp_events.specs.Slot.{Lane, drops, waiting_port, lane_of, lane_after}
 use Rattle.ftp_events.specs.Session.{lives_on, session, life_by, running_job, queued_for, lane_in}
 use Rattle.ftp_events.specs.Decide.{due, decide}
 use Rattle.ftp_events.specs.Right.{IsRight}
-use Rattle.ftp_laws.proofs.Facts.{is_connection, named-no_connection, opened-unused, IsLive, granted-live}
+use Rattle.ftp_laws.proofs.Facts.{is_connection, named-no_connection, opened-unused, IsLive}
+use Rattle.ftp_laws.proofs.Grants.{granted-is, granted-free}
 use Rattle.ftp_laws.proofs.Laws.{session-own, session-other, session_by, session-told, counting-refused, counting-counts}
-
--- the port that a slot waits for
-abbrev pub port_of : Slot → Option ℕ
-port_of (Waits port) = Some port
-port_of _ = None
 
 -- the number that opens a session is new
 pub opened-new :
@@ -71,7 +67,7 @@ touches d slot = drops d slot
 -- a job that starts takes no port
 pub port-lane :
     (slot : Slot) (pending : Option Pending) (job : Option Job) →
-    port_of (lane_of slot pending job).slot ≡ port_of slot
+    waiting_port (lane_of slot pending job).slot ≡ waiting_port slot
 port-lane (Linked number) (Some p) None = refl
 port-lane (Linked number) (Some p) (Some job) = refl
 port-lane (Linked number) None job = refl
@@ -82,12 +78,12 @@ port-lane (Waits port) pending job = refl
 pub port-kept :
     (k : EventKind) (d : Decision) (queued : Option Pending) (l : Lane) →
     touches d l.slot ≡ false →
-    port_of (lane_after k d queued l).slot ≡ port_of l.slot
+    waiting_port (lane_after k d queued l).slot ≡ waiting_port l.slot
 port-kept k (decision.Granted port) queued l t = cc
 port-kept k (decision.Attached s) queued l t = cc
 port-kept k (decision.Queued ticket) queued l t = port-lane l.slot queued l.running
 port-kept k decision.Finished queued l t = port-lane l.slot l.pending None
-port-kept k _ queued l t = ap port_of (cond-false _ Empty l.slot t)
+port-kept k _ queued l t = ap waiting_port (cond-false _ Empty l.slot t)
 
 -- a decision that neither gives the slot up nor is on a connection does not touch it
 pub touch-free :
@@ -121,7 +117,7 @@ pub record WaitsFor (o : Options) (past : List Entry) (s : ℕ) (a : IpAddr) (p 
   pub view : Session
   pub known : session o past s ≡ Some view
   pub client : same_ip view.opening.client a ≡ true
-  pub port : port_of view.slot ≡ Some p
+  pub port : waiting_port view.slot ≡ Some p
 
 -- the number of a live session is used
 pub live-used :
@@ -209,7 +205,7 @@ pub comes-to-port :
 comes-to-port o past e s a p w t e' w' =
     let same : w.view ≡ w'.view = same_Some _ _ (sym w.known ∙ w'.known) in
     let client : t.client ≡ a = sym (same_ip-equal _ _ w'.client) ∙ (ap (λ (v : Session). v.opening.client) (sym same) ∙ same_ip-equal _ _ w.client) in
-    let port : t.port ≡ p = same_Some _ _ (sym w'.port ∙ (ap (λ (v : Session). port_of v.slot) (sym same) ∙ w.port)) in
+    let port : t.port ≡ p = same_Some _ _ (sym w'.port ∙ (ap (λ (v : Session). waiting_port v.slot) (sym same) ∙ w.port)) in
     rw (e', client, port, same_ip-refl a, eq-eqb p p refl) refl
 
 -- the holder goes on waiting
@@ -243,14 +239,6 @@ holder-stays o past e s a p m fit ih w c ends = by_concern (concerns o past e s)
     by_concern false h = waits-other o past e s a p w unopened h
     by_concern true h = by_name (is_number (named_session e.event.kind) s) refl h
 
--- a port that was granted is that of a grant
-pub granted-is :
-    (d : Decision) (p : ℕ) →
-    is_number (granted_port d) p ≡ true →
-    d ≡ decision.Granted p
-granted-is (decision.Granted port) p h = ap decision.Granted (eqb-true port p h)
-granted-is _ p h = cc
-
 -- a number is itself
 pub names-itself : (n : Option ℕ) (s : ℕ) → n ≡ Some s → is_number n s ≡ true
 names-itself n s e = rw e (eq-eqb s s refl)
@@ -259,7 +247,7 @@ names-itself n s e = rw e (eq-eqb s s refl)
 pub port-granted :
     (k : EventKind) (d : Decision) (queued : Option Pending) (l : Lane) (p : ℕ) →
     d ≡ decision.Granted p →
-    port_of (lane_after k d queued l).slot ≡ Some p
+    waiting_port (lane_after k d queued l).slot ≡ Some p
 port-granted k d queued l p e = rw e refl
 
 -- the session that is granted a port waits for it
@@ -274,7 +262,7 @@ grant-waits o past e s a p fit gives names =
     let comes_from : Bool = is_client past (named_session e.event.kind) a in
     let parts : (grants ≡ true) × (comes_from ≡ true) = and_parts grants comes_from (and_parts (not (is_legacy o.mode)) (grants && comes_from) gives).1 in
     let grant : e.decision ≡ decision.Granted p = granted-is e.decision p parts.0 in
-    let alive : IsLive o past e.event.kind = granted-live o past e.event.at e.event.kind e.answer p (sym fit ∙ grant) in
+    let alive : IsLive o past e.event.kind = (granted-free o past e.event.at e.event.kind e.answer p (sym fit ∙ grant)).alive in
     let number : alive.number ≡ s = same_Some _ _ (sym alive.named ∙ names) in
     let v : Session = alive.session_then in
     let known : session o past s ≡ Some v = subst (λ (n : ℕ). session o past n ≡ Some v) number alive.known in

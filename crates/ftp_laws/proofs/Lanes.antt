@@ -25,7 +25,8 @@ use Rattle.ftp_events.specs.Session.{lives_on, session, running_job}
 use Rattle.ftp_events.specs.CommandRows.{is_logged_in, if_logged_in, can_queue, transfer_row}
 use Rattle.ftp_events.specs.Decide.{due, decide, if_live}
 use Rattle.ftp_events.specs.Right.{IsRight}
-use Rattle.ftp_laws.proofs.Facts.{IsLive, granted-live}
+use Rattle.ftp_laws.proofs.Facts.{IsLive}
+use Rattle.ftp_laws.proofs.Grants.{granted-free}
 use Rattle.ftp_laws.proofs.Laws.{counting-refused, counting-counts, history-other, history-own, session-other, session-own, session_by, session-told}
 use Rattle.ftp_laws.proofs.Told.{opened-is}
 
@@ -85,16 +86,7 @@ pub queued-live :
     IsQueue o past k t
 queued-live o past at (kind.Transfer s c) answer t e = transfer-queued o past _ s c t refl refl e
 queued-live o past at (kind.Stou s word) answer t e = transfer-queued o past _ s (Stor (unique_name word)) t refl refl e
-queued-live o past at (kind.Connect s raw local trace) answer t e = grind arith
-queued-live o past at (kind.DataIn number raw port) answer t e = grind arith
-queued-live o past at (kind.User s name) answer t e = grind arith
-queued-live o past at (kind.Pass s) answer t e = grind arith
-queued-live o past at (kind.AuthDone s said) answer t e = grind arith
-queued-live o past at (kind.Pasv s word lookup bound) answer t e = grind arith
-queued-live o past at (kind.Rest s offset) answer t e = grind arith
-queued-live o past at (kind.Cwd s path refusal) answer t e = grind arith
-queued-live o past at (kind.End ticket) answer t e = grind arith
-queued-live o past at (kind.Closed s) answer t e = grind arith
+queued-live o past at k answer t e = grind arith
 
 -- an entry that names a session and concerns one is about that one
 pub named-concern :
@@ -143,7 +135,7 @@ pub filled-live :
     (o : Options) (past : List Entry) (at : ℕ) (k : EventKind) (answer : Answer) (d : Decision) →
     due o past at k answer ≡ d → fills d ≡ true →
     IsLive o past k
-filled-live o past at k answer (decision.Granted port) e f = granted-live o past at k answer port e
+filled-live o past at k answer (decision.Granted port) e f = (granted-free o past at k answer port e).alive
 filled-live o past at k answer (decision.Queued ticket) e f =
     let q : IsQueue o past k ticket = queued-live o past at k answer ticket e in
     record { number = q.number; session_then = q.session_then; named = q.named; known = q.known }

@@ -13,7 +13,7 @@ use Rattle.ftp_events.specs.Log.{is_refusal, past_of}
 use Rattle.ftp_events.specs.Opening.{opened_number, opening_by, opener}
 use Rattle.ftp_events.specs.History.{concerns, opens, history}
 use Rattle.ftp_events.specs.Notices.{is_notice_to}
-use Rattle.ftp_events.specs.Slot.{lane_after, lane, queued_in}
+use Rattle.ftp_events.specs.Slot.{lane}
 use Rattle.ftp_events.specs.Session.{lives_on, session_after, is_live, session_by_history, session, running_job, next_lane, new_session}
 
 -- a refused entry is not in the past
@@ -116,23 +116,6 @@ running-own o past e s v known n c =
     let t : IsTold s h (opener past s) v = session-told o past s v known in
     ap (λ l. (lane l).running) (history-own o past e s n c) ∙
     subst (λ (w : Session). (lane (e ∷ h)).running ≡ (next_lane e.event.kind e.decision (running_job o past s) w).running) t.told refl
-
--- whoever the entry concerns, the job is read from the history before it
-pub running-kept :
-    (o : Options) (past : List Entry) (e : Entry) (s : ℕ) →
-    opens e s ≡ false → concerns o past e s ≡ true →
-    running_job o (e ∷ past) s ≡ (lane_after e.event.kind e.decision (queued_in (history o past s) e) (lane (history o past s))).running
-running-kept o past e s n c = ap (λ l. (lane l).running) (history-own o past e s n c)
-
--- no job runs when a session is opened
-pub running-opened :
-    (o : Options) (past : List Entry) (e : Entry) (s : ℕ) →
-    opens e s ≡ true → e.decision ≡ Opened →
-    running_job o (e ∷ past) s ≡ None
-running-opened o past e s n d = ap (λ l. (lane l).running) start ∙ rw d refl
-  where
-    start : history o (e ∷ past) s ≡ e ∷ []
-    start = rw n refl
 
 -- the session after it was opened
 pub session-opened :

@@ -1,5 +1,6 @@
 pub mod Laws
 pub mod Facts
+pub mod Grants
 pub mod Holds
 pub mod Tables
 pub mod Served

@@ -27,11 +27,10 @@ use Rattle.ftp_events.specs.History.{subject, concerns}
 use Rattle.ftp_events.specs.Login.{login_by, logged_user}
 use Rattle.ftp_events.specs.Notices.{is_notice_to}
 use Rattle.ftp_events.specs.Slot.{drops}
-use Rattle.ftp_events.specs.Session.{session_after, session, running_job}
+use Rattle.ftp_events.specs.Session.{session, running_job}
 use Rattle.ftp_events.specs.Reply.{message_for, reply_for, delay_of}
 use Rattle.ftp_events.specs.Acts.{acts_of, acts_for, session_acts, completions, cancellations, stays, drop_acts, pending_in, start_acts, starting, link_in, closings, refused_link, notice_and_reply, notifications, reply_acts, notice_for, presence_for, farewells, slot_of}
 use Rattle.ftp_laws.specs.Notices.{notice_to}
-use Rattle.ftp_laws.proofs.Laws.{session_by}
 use Rattle.ftp_laws.proofs.Tables.{same-both}
 
 -- as many notifications are counted as are listed
@@ -193,17 +192,3 @@ notices-entry o past e s counts acted = ap (filter_map (notice_to s)) done ∙ g
         filter_map (notice_to s) (option_map_or (acts_for o past e) t (refused_link e.event.kind e.decision)) ≡ cond (is_number t s) (told_in o past e s) []
     go None = notices-refused_link s e.event.kind e.decision
     go (Some t) = notices-session_acts o s t e.event.kind e.answer e.decision (running_job o past t) (session o past t) ∙ by_number t (t == s) refl
-
--- so an entry makes of a live session what its kind and its decision make of it
-pub session_by-acted :
-    (o : Options) (past : List Entry) (e : Entry) (s : ℕ) (v : Session) →
-    is_refusal e.decision ≡ false →
-    e.actions ≡ acts_of o past e →
-    concerns o past e s ≡ true →
-    session o past s ≡ Some v →
-    session_by s e (running_job o past s) v ≡ session_after e.event.kind e.answer e.decision (length (told_by e.event.kind e.answer e.decision (running_job o past s) (Some v))) (running_job o past s) v
-session_by-acted o past e s v counts acted about known =
-    ap (λ n. session_after e.event.kind e.answer e.decision n (running_job o past s) v) (sym (length-notices s e.actions) ∙ ap length told)
-  where
-    told : filter_map (notice_to s) e.actions ≡ told_by e.event.kind e.answer e.decision (running_job o past s) (Some v)
-    told = notices-entry o past e s counts acted ∙ rw (about, known) refl

@@ -1,14 +1,16 @@
 -- Every right and acted log serves its data connections and its PASVs as promised.
-use Rattle.std.proofs.Common.{◌≡◌, refl, sym, ◌∙◌, ap, subst, ℕ, Bool, true, false, true≢false, not, cond, List, [], ◌∷◌, ◌++◌, Option, Some, None, inl, inr}
-use Rattle.std.specs.Prelude.{◌⊎◌, Contains}
+use Rattle.std.proofs.Common.{◌≡◌, refl, sym, ◌∙◌, ap, subst, ℕ, Bool, true, false, true≢false, not, ◌&&◌, ◌||◌, cond, List, [], ◌∷◌, ◌++◌, Option, Some, None, inl, inr}
+use Rattle.std.specs.Prelude.{◌⊎◌, Contains, MatchOption, unwrap_or}
+use Rattle.std.specs.Bool.{then_some}
 use Rattle.std.specs.Option.{option_map_or, option_and_then}
+use Rattle.std.proofs.lemmas.Bool.{and_parts, or_parts}
 use Rattle.std.proofs.lemmas.Option.{same_Some}
 use Rattle.std.proofs.lemmas.List.Elements.{Contains-append_left, Contains-append_right, Contains-push}
 use Rattle.ftp_base.specs.declared.net.IpAddr.{IpAddr}
 use Rattle.ftp_base.specs.declared.net.SocketAddr.{SocketAddr}
-use Rattle.ftp_base.specs.Net.{same_ip}
+use Rattle.ftp_base.specs.Net.{same_ip, is_v6}
 use Rattle.ftp_options.specs.declared.options.Options.{Options}
-use Rattle.ftp_options.specs.Modes.{is_legacy}
+use Rattle.ftp_options.specs.Modes.{is_legacy, is_pooled}
 use Rattle.ftp_transfer.specs.declared.job.Job.{Job}
 use Rattle.ftp_events.specs.declared.action.Action.{Action}
 use Rattle.ftp_events.specs.declared.action.Action.TheVariants.{Close}
@@ -18,10 +20,13 @@ use Rattle.ftp_events.specs.declared.entry.Entry.{Entry}
 use Rattle.ftp_events.specs.declared.event.EventKind.{EventKind}
 use Rattle.ftp_events.specs.declared.event.EventKind.TheVariants as kind
 use Rattle.ftp_events.specs.declared.event.Answer.{Answer}
+use Rattle.ftp_events.specs.declared.session.Opening.{Opening}
 use Rattle.ftp_events.specs.declared.session.Session.{Session}
+use Rattle.ftp_events.specs.Words.{is_number}
 use Rattle.ftp_events.specs.Modes.{in_range}
-use Rattle.ftp_events.specs.Log.{past_of, is_refusal, is_used, new_number}
-use Rattle.ftp_events.specs.Board.{Target, target, holder, first_free_port}
+use Rattle.ftp_events.specs.Log.{past_of, is_refusal, is_used, new_number, named_session}
+use Rattle.ftp_events.specs.Opening.{opened_number, opening_by, opener}
+use Rattle.ftp_events.specs.Board.{Target, target, granted_port, is_client, gives_hold, comes_to, ends_hold, holder, first_free_port}
 use Rattle.ftp_events.specs.History.{subject}
 use Rattle.ftp_events.specs.Session.{session, running_job}
 use Rattle.ftp_events.specs.ConnectionRows.{arrival_row, holder_row}
@@ -29,7 +34,10 @@ use Rattle.ftp_events.specs.CommandRows.{is_logged_in}
 use Rattle.ftp_events.specs.Decide.{due, decide}
 use Rattle.ftp_events.specs.Acts.{acts, acts_of, acts_for, completions, stays, drop_acts, slot_of, pending_in, refused_link, notice_and_reply, start_acts, starting, farewells}
 use Rattle.ftp_events.specs.Right.{IsRight, IsActed}
-use Rattle.ftp_events.specs.Headline.{is_admitted, AttachedOrClosed, GrantedOrFull, AllServed}
+use Rattle.ftp_events.specs.Headline.{is_barred, is_admitted, IsClosed, AttachedOrClosed, GrantedOrFull, AllServed}
+use Rattle.ftp_laws.proofs.Laws.{counting-refused, counting-counts, session-told}
+use Rattle.ftp_laws.proofs.Grants.{granted-is, granted-free}
+use Rattle.ftp_laws.proofs.Holds.{WaitsFor, holder-waits}
 
 -- a new connection that is turned away is closed
 pub closes-link :
@@ -100,35 +108,161 @@ arrival-goes o past raw a p = by_range (in_range o p)
     by_range true = by_holder (holder o past a p) refl
     by_range false = inr refl
 
--- a row's refusal is not what was decided
-pub past-guard :
-    (b : Bool) (x y d : Decision) → d ≡ cond b x y →
-    is_refusal x ≡ true → is_refusal d ≡ false → d ≡ y
-past-guard true x y d e r c = absurd (true≢false (sym r ∙ (ap is_refusal (sym e) ∙ c)))
-past-guard false x y d e r c = e
+-- the decision on a barred data connection is a refusal
+pub barred-refused :
+    (o : Options) (past : List Entry) (at : ℕ) (k : EventKind) (a : Answer) →
+    is_barred o past k ≡ true →
+    is_refusal (due o past at k a) ≡ true
+barred-refused o past at (kind.DataIn number raw port) a b = go (not (is_pooled o.mode) || is_v6 raw.ip) (is_used past number) b
+  where
+    go :
+        (strange used : Bool) → (strange || used) ≡ true →
+        is_refusal (cond strange decision.Misplaced (cond used decision.UsedNumber (arrival_row o past raw raw.ip port))) ≡ true
+    go true used x = refl
+    go false true x = refl
+    go false false x = cc
+barred-refused o past at k a b = cc
 
--- where a data connection goes, and that it has a number
+-- a data connection that is not barred: its raw peer, and its number
+pub record Arrives (o : Options) (past : List Entry) (k : EventKind) (d : Decision) (t : Target) : Type 0 where
+  pub raw : SocketAddr
+  pub number : ℕ
+  pub new : new_number k decision.Turned ≡ Some number
+  pub row : d ≡ arrival_row o past raw raw.ip t.port
+  pub client : raw.ip ≡ t.client
+
+-- the decision on it is that of its row
+pub unbarred-arrives :
+    (o : Options) (past : List Entry) (at : ℕ) (k : EventKind) (a : Answer) (t : Target) →
+    target o k a ≡ Some t →
+    is_barred o past k ≡ false →
+    Arrives o past k (due o past at k a) t
+unbarred-arrives o past at (kind.DataIn number raw port) a t w b =
+    let parts = or_parts (not (is_pooled o.mode) || is_v6 raw.ip) (is_used past number) b in
+    let row : due o past at (kind.DataIn number raw port) a ≡ arrival_row o past raw raw.ip port = rw (parts.0, parts.1) refl in
+    subst (λ (x : Target). Arrives o past (kind.DataIn number raw port) (due o past at (kind.DataIn number raw port) a) x) (same_Some _ _ w)
+    (record { raw = raw; number = number; new = refl; row = row; client = refl })
+unbarred-arrives o past at k a t w b = cc
+
+-- where a data connection goes that is not refused
 pub connection-goes :
     (o : Options) (past : List Entry) (at : ℕ) (k : EventKind) (a : Answer) (d : Decision) (t : Target) →
     d ≡ due o past at k a → is_refusal d ≡ false →
     target o k a ≡ Some t →
-    Goes o past d t.client t.port × ((n : ℕ) × (new_number k decision.Turned ≡ Some n))
-connection-goes o past at (kind.DataIn number raw port) a d t fit c w =
-    let e1 = past-guard _ decision.Misplaced _ d fit refl c in
-    let e2 : d ≡ arrival_row o past raw raw.ip port = past-guard (is_used past number) decision.UsedNumber _ d e1 refl c in
-    let goes : Goes o past d raw.ip port = subst (λ (x : Decision). Goes o past x raw.ip port) (sym e2) (arrival-goes o past raw raw.ip port) in
-    (subst (λ (x : Target). Goes o past d x.client x.port) (same_Some _ _ w) goes, (number, refl))
-connection-goes o past at k a d t fit c w = cc
+    Goes o past d t.client t.port
+connection-goes o past at k a d t fit c w = go (is_barred o past k) refl
+  where
+    go : (b : Bool) → is_barred o past k ≡ b → Goes o past d t.client t.port
+    go true b = absurd (true≢false (sym (barred-refused o past at k a b) ∙ (ap is_refusal (sym fit) ∙ c)))
+    go false b =
+        let x : Arrives o past k (due o past at k a) t = unbarred-arrives o past at k a t w b in
+        subst (λ (i : IpAddr). Goes o past d i t.port) x.client
+        (subst (λ (y : Decision). Goes o past y x.raw.ip t.port) (sym (fit ∙ x.row)) (arrival-goes o past x.raw x.raw.ip t.port))
 
--- it is attached to the holder or closed
+-- the client of a session is its raw peer
+pub opener-raw :
+    (past : List Entry) (s : ℕ) (opening : Opening) →
+    opener past s ≡ Some opening →
+    opening.client ≡ opening.raw.ip
+opener-raw [] s opening h = cc
+opener-raw (e ∷ past) s opening h =
+    by_opening (is_number (opened_number e.event.kind e.decision) s) h (λ later. opener-raw past s opening later)
+  where
+    by_kind :
+        (k : EventKind) → opening_by k e.answer ≡ Some opening →
+        opening.client ≡ opening.raw.ip
+    by_kind (kind.Connect n raw local trace) x = subst (λ (y : Opening). y.client ≡ y.raw.ip) (same_Some _ _ x) refl
+    by_kind k x = cc
+
+    by_opening :
+        (b : Bool) →
+        unwrap_or (then_some b (opening_by e.event.kind e.answer)) (opener past s) ≡ Some opening →
+        (opener past s ≡ Some opening → opening.client ≡ opening.raw.ip) →
+        opening.client ≡ opening.raw.ip
+    by_opening true x ih = by_kind e.event.kind x
+    by_opening false x ih = ih x
+
+-- a port that is held is one of the range
+pub holder-ranged :
+    (o : Options) (log : List Entry) → IsRight o log →
+    (a : IpAddr) (p s : ℕ) →
+    holder o (past_of log) a p ≡ Some s →
+    in_range o p ≡ true
+unfolding decide
+holder-ranged o [] r a p s held = cc
+holder-ranged o (e ∷ log) r a p s held = go (is_refusal e.decision) refl (λ h. holder-ranged o log r.0 a p s h)
+  where
+    past : List Entry
+    past = past_of log
+
+    stayed : (b c : Bool) (h : Option ℕ) → cond b None (cond c None h) ≡ Some s → h ≡ Some s
+    stayed false false h x = x
+    stayed false true h x = cc
+    stayed true c h x = cc
+
+    by_grant :
+        (b : Bool) → gives_hold o past e a p ≡ b →
+        cond b (named_session e.event.kind) (cond (comes_to o e a p) None (cond (option_map_or (ends_hold e) (holder o past a p) false) None (holder o past a p))) ≡ Some s →
+        (holder o past a p ≡ Some s → in_range o p ≡ true) →
+        in_range o p ≡ true
+    by_grant true g h ih =
+        let parts = and_parts (is_number (granted_port e.decision) p) (is_client past (named_session e.event.kind) a) (and_parts (not (is_legacy o.mode)) (is_number (granted_port e.decision) p && is_client past (named_session e.event.kind) a) g).1 in
+        (granted-free o past e.event.at e.event.kind e.answer p (sym r.1 ∙ granted-is e.decision p parts.0)).ranged
+    by_grant false g h ih = ih (stayed (comes_to o e a p) (option_map_or (ends_hold e) (holder o past a p) false) (holder o past a p) h)
+
+    go :
+        (b : Bool) → is_refusal e.decision ≡ b →
+        (holder o past a p ≡ Some s → in_range o p ≡ true) →
+        in_range o p ≡ true
+    go true x ih = ih (subst (λ (l : List Entry). holder o l a p ≡ Some s) (counting-refused e log x) held)
+    go false x ih =
+        by_grant (gives_hold o past e a p) refl (subst (λ (l : List Entry). holder o l a p ≡ Some s) (counting-counts e log x) held) ih
+
+-- a data connection to a key that is held goes to its holder
+pub arrival_row-held :
+    (o : Options) (log : List Entry) →
+    is_legacy o.mode ≡ false → IsRight o log →
+    (raw : SocketAddr) (p s : ℕ) →
+    holder o (past_of log) raw.ip p ≡ Some s →
+    arrival_row o (past_of log) raw raw.ip p ≡ decision.Attached s
+arrival_row-held o log m r raw p s held =
+    let w : WaitsFor o (past_of log) s raw.ip p = holder-waits o log m r raw.ip p s held in
+    let own : w.view.opening.client ≡ w.view.opening.raw.ip = opener-raw (past_of log) s w.view.opening (session-told o (past_of log) s w.view w.known).opening in
+    let peer : same_ip w.view.opening.raw.ip raw.ip ≡ true = subst (λ (i : IpAddr). same_ip i raw.ip ≡ true) own w.client in
+    rw (holder-ranged o log r raw.ip p s held, held, w.known, peer) refl
+
+-- one to a key that nobody holds is turned away
+pub arrival_row-unheld :
+    (o : Options) (past : List Entry) (raw : SocketAddr) (p : ℕ) →
+    holder o past raw.ip p ≡ None →
+    arrival_row o past raw raw.ip p ≡ decision.Turned
+arrival_row-unheld o past raw p held = go (in_range o p)
+  where
+    go :
+        (b : Bool) →
+        cond (not b) decision.Turned (holder_row o past raw (holder o past raw.ip p)) ≡ decision.Turned
+    go true = rw held refl
+    go false = refl
+
+-- so a data connection is attached to the holder, or closed where there is none
 pub serves-connection :
-    (o : Options) (past : List Entry) (e : Entry) (t : Target) →
-    e.actions ≡ acts_of o past e →
-    Goes o past e.decision t.client t.port × ((n : ℕ) × (new_number e.event.kind decision.Turned ≡ Some n)) →
-    AttachedOrClosed o past e t
-serves-connection o past e t acted (inl s, n) = inl s
-serves-connection o past e t acted (inr turned, n) =
-    inr (n.0, turned, n.1, subst (λ (xs : List Action). Contains xs (Close n.0)) (sym acted) (turned-closes o past e n.0 turned n.1))
+    (o : Options) (log : List Entry) (e : Entry) (t : Target) →
+    is_legacy o.mode ≡ false → IsRight o log →
+    e.actions ≡ acts_of o (past_of log) e →
+    Arrives o (past_of log) e.event.kind e.decision t →
+    AttachedOrClosed o (past_of log) e t
+serves-connection o log e t m r acted x =
+    subst (λ (i : IpAddr). MatchOption (holder o (past_of log) i t.port) (IsClosed e) (λ s. e.decision ≡ decision.Attached s)) x.client
+    (go (holder o (past_of log) x.raw.ip t.port) refl)
+  where
+    go :
+        (h : Option ℕ) →
+        holder o (past_of log) x.raw.ip t.port ≡ h →
+        MatchOption h (IsClosed e) (λ s. e.decision ≡ decision.Attached s)
+    go None h =
+        let turned : e.decision ≡ decision.Turned = x.row ∙ arrival_row-unheld o (past_of log) x.raw t.port h in
+        (x.number, turned, x.new, subst (λ (xs : List Action). Contains xs (Close x.number)) (sym acted) (turned-closes o (past_of log) e x.number turned x.new))
+    go (Some s) h = x.row ∙ arrival_row-held o log m r x.raw t.port s h
 
 -- an admitted PASV is granted the first free port, or is told that there is none
 pub serves-grant :
@@ -139,7 +273,7 @@ pub serves-grant :
     is_admitted o e.event.kind v ≡ true →
     GrantedOrFull o past e v word
 serves-grant o past e s word lookup bound v fit k known admitted =
-    go (first_free_port o past v.opening.client word) refl
+    go (first_free_port o past v.opening.client word) row
   where
     login : is_logged_in v.login ≡ true
     login = subst (λ (x : EventKind). is_admitted o x v ≡ true) k admitted
@@ -149,12 +283,12 @@ serves-grant o past e s word lookup bound v fit k known admitted =
 
     go :
         (f : Option ℕ) →
-        first_free_port o past v.opening.client word ≡ f →
-        GrantedOrFull o past e v word
-    go None x = inr (row ∙ rw x refl, x)
-    go (Some p) x = inl (p, row ∙ rw x refl, x)
+        e.decision ≡ option_map_or decision.Granted f decision.Full →
+        MatchOption f (e.decision ≡ decision.Full) (λ p. e.decision ≡ decision.Granted p)
+    go None x = x
+    go (Some p) x = x
 
--- where there is no legacy listener, every counting entry of a right and acted log is served as the headline says
+-- where there is no legacy listener, every entry of a right and acted log is served as the headline says
 pub all-served :
     (o : Options) (log : List Entry) →
     is_legacy o.mode ≡ false → IsRight o log →
@@ -163,8 +297,11 @@ unfolding decide acts
 all-served o [] m r a = tt
 all-served o (e ∷ log) m r a = (
   all-served o log m r.0 a.0,
-  λ counts. record {
-    connections = λ t w. serves-connection o (past_of log) e t a.1 (connection-goes o (past_of log) e.event.at e.event.kind e.answer e.decision t r.1 counts w);
+  record {
+    connections = λ t w b.
+        serves-connection o log e t m r.0 a.1
+        (subst (λ (d : Decision). Arrives o (past_of log) e.event.kind d t) (sym r.1) (unbarred-arrives o (past_of log) e.event.at e.event.kind e.answer t w b));
+    refusals = λ b. ap is_refusal r.1 ∙ barred-refused o (past_of log) e.event.at e.event.kind e.answer b;
     grants = λ s word lookup bound v k known admitted. serves-grant o (past_of log) e s word lookup bound v r.1 k known admitted;
   },
 )

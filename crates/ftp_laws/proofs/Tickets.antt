@@ -5,6 +5,7 @@ use Rattle.std.proofs.lemmas.Bool.{and_parts}
 use Rattle.ftp_options.specs.declared.options.Options.{Options}
 use Rattle.ftp_transfer.specs.declared.job.Job.{Job}
 use Rattle.ftp_transfer.specs.declared.job.Ticket.{Ticket}
+use Rattle.ftp_events.specs.declared.action.Action.{Action}
 use Rattle.ftp_events.specs.declared.action.Action.TheVariants as action
 use Rattle.ftp_events.specs.declared.decision.Decision.{Decision}
 use Rattle.ftp_events.specs.declared.decision.Decision.TheVariants as decision
@@ -58,36 +59,55 @@ lane_of-carried t (Waits port) pending running = refl
 pub settles-on-transfers : (t : Ticket) → IsOnTransfers (settles t)
 settles-on-transfers t = record { closes = λ m. refl; notifies = λ s meta what. refl; replies = λ s delay r. refl }
 
--- a job that starts settles nothing
-pub settles-start_acts : (t : Ticket) (job : Option Job) → count_by (settles t) (start_acts job) ≡ 0
-settles-start_acts t None = refl
-settles-start_acts t (Some j) = refl
+-- the test passes that the transfer is cancelled, and no start
+pub record IsOnCancelled (t : Ticket) (p : Action → Bool) : Type 0 where
+  pub plain : IsOnTransfers p
+  pub cancelled : (u : Ticket) → p (action.Cancelled u) ≡ same_ticket u t
+  pub started : (u : Ticket) (n : ℕ) → p (action.Start u n) ≡ false
 
--- a transfer that is dropped is settled
-pub settles-cancellations :
-    (t : Ticket) (s : ℕ) (staying : Bool) (pending : Option Pending) →
-    count_by (settles t) (cancellations s staying pending) ≡ one (is_pending t pending)
-settles-cancellations t s staying None = refl
-settles-cancellations t s true (Some p) = omega arith
-settles-cancellations t s false (Some p) = omega arith
+-- that on what settles it does
+pub settles-on-cancelled : (t : Ticket) → IsOnCancelled t (settles t)
+settles-on-cancelled t = record { plain = settles-on-transfers t; cancelled = λ u. refl; started = λ u n. refl }
 
--- so what is lost with a slot is settled
-pub settles-drop_acts :
-    (t : Ticket) (s : ℕ) (staying : Bool) (d : Decision) (slot : Slot) (pending : Option Pending) →
-    count_by (settles t) (drop_acts s staying d slot pending) ≡ cond (drops d slot) (one (is_pending t pending)) 0
-settles-drop_acts t s staying d slot pending = go (drops d slot)
+-- a job that starts does not count
+pub count-start_acts :
+    (t : Ticket) (p : Action → Bool) (job : Option Job) → IsOnCancelled t p →
+    count_by p (start_acts job) ≡ 0
+count-start_acts t p None c = refl
+count-start_acts t p (Some j) c = rw (c.started j.ticket j.number) refl
+
+-- a transfer that is dropped counts
+pub count-cancellations :
+    (t : Ticket) (p : Action → Bool) (s : ℕ) (staying : Bool) (pending : Option Pending) → IsOnCancelled t p →
+    count_by p (cancellations s staying pending) ≡ one (is_pending t pending)
+count-cancellations t p s staying None c = refl
+count-cancellations t p s true (Some q) c = rw (c.cancelled q.ticket, c.plain.replies s 0 _) (omega arith)
+count-cancellations t p s false (Some q) c = rw (c.cancelled q.ticket) (omega arith)
+
+-- so the transfer in a slot that is dropped counts, and no other
+pub count-drop_acts-own :
+    (t : Ticket) (p : Action → Bool) (s : ℕ) (staying : Bool) (d : Decision) (slot : Slot) (pending : Option Pending) →
+    IsOnCancelled t p →
+    count_by p (drop_acts s staying d slot pending) ≡ cond (drops d slot) (one (is_pending t pending)) 0
+count-drop_acts-own t p s staying d slot pending c = go (drops d slot)
   where
     go :
         (b : Bool) →
-        count_by (settles t) (cond b (cancellations s staying pending ++ closings (link_in slot)) []) ≡ cond b (one (is_pending t pending)) 0
+        count_by p (cond b (cancellations s staying pending ++ closings (link_in slot)) []) ≡ cond b (one (is_pending t pending)) 0
     go false = refl
     go true =
         omega (
           arith,
-          count-append (settles t) (cancellations s staying pending) (closings (link_in slot)),
-          settles-cancellations t s staying pending,
-          count-closings (settles t) (link_in slot) (settles-on-transfers t),
+          count-append p (cancellations s staying pending) (closings (link_in slot)),
+          count-cancellations t p s staying pending c,
+          count-closings p (link_in slot) c.plain,
         )
+
+-- what is lost with a slot is settled
+pub settles-drop_acts :
+    (t : Ticket) (s : ℕ) (staying : Bool) (d : Decision) (slot : Slot) (pending : Option Pending) →
+    count_by (settles t) (drop_acts s staying d slot pending) ≡ cond (drops d slot) (one (is_pending t pending)) 0
+settles-drop_acts t s staying d slot pending = count-drop_acts-own t (settles t) s staying d slot pending (settles-on-cancelled t)
 
 -- an end settles its own transfer alone
 pub settles-other :
@@ -141,17 +161,7 @@ finished-known o past at (kind.End ticket) answer e = by_job (running_job o past
         IsEnd o past (kind.End ticket)
     by_job None x h = cc
     by_job (Some j) x h = by_ticket j (same_ticket j.ticket ticket) x refl h
-finished-known o past at (kind.Connect s raw local trace) answer e = grind arith
-finished-known o past at (kind.DataIn number raw port) answer e = grind arith
-finished-known o past at (kind.User s name) answer e = grind arith
-finished-known o past at (kind.Pass s) answer e = grind arith
-finished-known o past at (kind.AuthDone s said) answer e = grind arith
-finished-known o past at (kind.Pasv s word lookup bound) answer e = grind arith
-finished-known o past at (kind.Transfer s c) answer e = grind arith
-finished-known o past at (kind.Stou s word) answer e = grind arith
-finished-known o past at (kind.Rest s offset) answer e = grind arith
-finished-known o past at (kind.Cwd s path refusal) answer e = grind arith
-finished-known o past at (kind.Closed s) answer e = grind arith
+finished-known o past at k answer e = grind arith
 
 -- what an entry needs, so that no transfer is lost or doubled: one that queues finds a free slot, one that ends a job names it
 pub record IsFit (k : EventKind) (d : Decision) (queued : Option Pending) (l : Lane) : Type 0 where

@@ -1,12 +1,11 @@
 -- Whoever waits for a port holds it, and when a hold ends.
 use Rattle.std.proofs.Common.{◌≡◌, refl, sym, ◌∙◌, ap, subst, ℕ, Bool, true, false, true≢false, not, ◌&&◌, cond, List, [], ◌∷◌, Option, Some, None, arith, eqb-true, eq-eqb, inl, inr}
-use Rattle.std.specs.Prelude.{◌≢◌, ◌==◌, unwrap_or, find, is_none}
+use Rattle.std.specs.Prelude.{◌≢◌, ◌==◌, unwrap_or}
 use Rattle.std.specs.Option.{option_map_or}
 use Rattle.std.proofs.lemmas.Option.{same_Some}
 use Rattle.std.proofs.lemmas.Bool.{and_parts}
 use Rattle.ftp_base.specs.declared.net.IpAddr.{IpAddr}
 use Rattle.ftp_base.specs.Net.{same_ip}
-use Rattle.ftp_base.specs.Ports.{port_order}
 use Rattle.ftp_options.specs.declared.options.Options.{Options}
 use Rattle.ftp_options.specs.Modes.{is_legacy}
 use Rattle.ftp_transfer.specs.declared.job.Job.{Job}
@@ -23,16 +22,16 @@ use Rattle.ftp_events.specs.declared.session.Slot.TheVariants.{Empty, Waits, Lin
 use Rattle.ftp_events.specs.Words.{is_number}
 use Rattle.ftp_events.specs.Log.{named_session, is_refusal, past_of}
 use Rattle.ftp_events.specs.Opening.{opened_number, opener}
-use Rattle.ftp_events.specs.Board.{Target, target, granted_port, is_client, gives_hold, comes_to, ends_hold, gives_up_hold, holder, first_free_port}
+use Rattle.ftp_events.specs.Board.{Target, target, granted_port, is_client, gives_hold, comes_to, ends_hold, gives_up_hold, holder}
 use Rattle.ftp_events.specs.History.{subject, concerns, opens, history}
-use Rattle.ftp_events.specs.Slot.{Lane, with_link, lane_after, queued_in}
+use Rattle.ftp_events.specs.Slot.{Lane, with_link, waiting_port, lane_after, queued_in}
 use Rattle.ftp_events.specs.Session.{lives_on, life_by, session, session_by_history, is_live, running_job, next_lane, queued_for, lane_in}
-use Rattle.ftp_events.specs.CommandRows.{is_logged_in, if_logged_in, pasv_row}
-use Rattle.ftp_events.specs.Decide.{due, decide, if_live}
+use Rattle.ftp_events.specs.Decide.{due, decide}
 use Rattle.ftp_events.specs.Right.{IsRight}
 use Rattle.ftp_laws.proofs.Facts.{is_connection, named-no_connection}
+use Rattle.ftp_laws.proofs.Grants.{IsGrant, granted-free, granted-is}
 use Rattle.ftp_laws.proofs.Laws.{session-own, session-other, session_by, IsTold, session-told, counting-refused, counting-counts}
-use Rattle.ftp_laws.proofs.Holds.{port_of, port-lane, port-kept, touch-free, number-is, or-number, same_ip-equal, WaitsFor, comes-for, granted-is}
+use Rattle.ftp_laws.proofs.Holds.{port-lane, port-kept, touch-free, number-is, or-number, same_ip-equal, WaitsFor, comes-for}
 use Rattle.ftp_laws.proofs.Served.{connection-goes, Goes}
 
 -- an entry that opens a session is about nobody
@@ -41,17 +40,7 @@ pub opened-subject :
     due o past at k answer ≡ decision.Opened →
     subject o past (record { event = record { at = at; kind = k }; answer = answer; decision = decision.Opened; actions = [] }) ≡ None
 opened-subject o past at (kind.Connect s raw local trace) answer e = refl
-opened-subject o past at (kind.DataIn number raw port) answer e = grind arith
-opened-subject o past at (kind.User s name) answer e = grind arith
-opened-subject o past at (kind.Pass s) answer e = grind arith
-opened-subject o past at (kind.AuthDone s said) answer e = grind arith
-opened-subject o past at (kind.Pasv s word lookup bound) answer e = grind arith
-opened-subject o past at (kind.Rest s offset) answer e = grind arith
-opened-subject o past at (kind.Cwd s path refusal) answer e = grind arith
-opened-subject o past at (kind.Transfer s c) answer e = grind arith
-opened-subject o past at (kind.Stou s word) answer e = grind arith
-opened-subject o past at (kind.End ticket) answer e = grind arith
-opened-subject o past at (kind.Closed s) answer e = grind arith
+opened-subject o past at k answer e = grind arith
 
 -- no event that names a session is a data connection
 pub target-unnamed :
@@ -69,82 +58,6 @@ named-target o k answer s n = go (target o k answer) refl
     go : (t : Option Target) → target o k answer ≡ t → t ≡ None
     go None x = refl
     go (Some t) x = let c : None ≡ Some s = sym (target-unnamed o k answer t x) ∙ n in cc
-
--- what is found passes the test
-pub find-holds : {X : Type 0} (p : X → Bool) (xs : List X) (x : X) → find p xs ≡ Some x → p x ≡ true
-find-holds p [] x e = cc
-find-holds p (y ∷ ys) x e = go (p y) refl e (λ later. find-holds p ys x later)
-  where
-    go :
-        (b : Bool) → p y ≡ b →
-        cond b (Some y) (find p ys) ≡ Some x →
-        (find p ys ≡ Some x → p x ≡ true) → p x ≡ true
-    go true h e' ih = subst (λ z. p z ≡ true) (same_Some _ _ e') h
-    go false h e' ih = ih e'
-
--- a number that is not there is none
-pub none-is : (n : Option ℕ) → is_none n ≡ true → n ≡ None
-none-is None h = refl
-none-is (Some m) h = cc
-
--- a first free port has no holder
-pub free-unheld :
-    (o : Options) (past : List Entry) (a : IpAddr) (word p : ℕ) →
-    first_free_port o past a word ≡ Some p →
-    holder o past a p ≡ None
-free-unheld o past a word p e = none-is (holder o past a p) (find-holds (λ q. is_none (holder o past a q)) (port_order o.lo o.hi word) p e)
-
--- what is known of a grant: its session is live, and the port was free for its client
-pub record IsGrant (o : Options) (past : List Entry) (k : EventKind) (p : ℕ) : Type 0 where
-  pub number : ℕ
-  pub session_then : Session
-  pub named : named_session k ≡ Some number
-  pub known : session o past number ≡ Some session_then
-  pub free : holder o past session_then.opening.client p ≡ None
-
--- the port of a grant was free
-pub granted-free :
-    (o : Options) (past : List Entry) (at : ℕ) (k : EventKind) (answer : Answer) (p : ℕ) →
-    due o past at k answer ≡ decision.Granted p →
-    IsGrant o past k p
-granted-free o past at (kind.Pasv s word lookup bound) answer p e = by_session (session o past s) refl e
-  where
-    by_port :
-        (v : Session) (f : Option ℕ) →
-        session o past s ≡ Some v →
-        first_free_port o past v.opening.client word ≡ f →
-        option_map_or decision.Granted f decision.Full ≡ decision.Granted p →
-        IsGrant o past (kind.Pasv s word lookup bound) p
-    by_port v None k f d = cc
-    by_port v (Some q) k f d =
-        let same : q ≡ p = ap (λ x. unwrap_or (granted_port x) 0) d in
-        record { number = s; session_then = v; named = refl; known = k; free = free-unheld o past v.opening.client word p (f ∙ ap Some same) }
-
-    by_login :
-        (v : Session) (b : Bool) →
-        session o past s ≡ Some v →
-        cond b (pasv_row o past word v) decision.NotLoggedIn ≡ decision.Granted p →
-        IsGrant o past (kind.Pasv s word lookup bound) p
-    by_login v true k d = by_port v (first_free_port o past v.opening.client word) k refl d
-    by_login v false k d = cc
-
-    by_session :
-        (v : Option Session) → session o past s ≡ v →
-        if_live v (λ v. if_logged_in v (pasv_row o past word v)) ≡ decision.Granted p →
-        IsGrant o past (kind.Pasv s word lookup bound) p
-    by_session None k d = cc
-    by_session (Some v) k d = by_login v (is_logged_in v.login) k d
-granted-free o past at (kind.Connect s raw local trace) answer p e = grind arith
-granted-free o past at (kind.DataIn number raw port) answer p e = grind arith
-granted-free o past at (kind.User s name) answer p e = grind arith
-granted-free o past at (kind.Pass s) answer p e = grind arith
-granted-free o past at (kind.AuthDone s said) answer p e = grind arith
-granted-free o past at (kind.Rest s offset) answer p e = grind arith
-granted-free o past at (kind.Cwd s path refusal) answer p e = grind arith
-granted-free o past at (kind.Transfer s c) answer p e = grind arith
-granted-free o past at (kind.Stou s word) answer p e = grind arith
-granted-free o past at (kind.End ticket) answer p e = grind arith
-granted-free o past at (kind.Closed s) answer p e = grind arith
 
 -- the client of a live session is that of its opening
 pub client-known :
@@ -166,8 +79,8 @@ held-ungranted o past e a p s fit held = go (gives_hold o past e a p) refl
     go true x =
         let parts = and_parts (is_number (granted_port e.decision) p) (is_client past (named_session e.event.kind) a) (and_parts (not (is_legacy o.mode)) (is_number (granted_port e.decision) p && is_client past (named_session e.event.kind) a) x).1 in
         let grant : IsGrant o past e.event.kind p = granted-free o past e.event.at e.event.kind e.answer p (sym fit ∙ granted-is e.decision p parts.0) in
-        let client : is_client past (Some grant.number) a ≡ true = subst (λ (n : Option ℕ). is_client past n a ≡ true) grant.named parts.1 in
-        let same : grant.session_then.opening.client ≡ a = same_ip-equal _ _ (sym (client-known o past grant.number grant.session_then a grant.known) ∙ client) in
+        let client : is_client past (Some grant.alive.number) a ≡ true = subst (λ (n : Option ℕ). is_client past n a ≡ true) grant.alive.named parts.1 in
+        let same : grant.alive.session_then.opening.client ≡ a = same_ip-equal _ _ (sym (client-known o past grant.alive.number grant.alive.session_then a grant.alive.known) ∙ client) in
         let free : holder o past a p ≡ None = subst (λ (b : IpAddr). holder o past b p ≡ None) same grant.free in
         let c : None ≡ Some s = sym free ∙ held in
         cc
@@ -232,7 +145,7 @@ session-before o past e s v fit n c known =
     go w k false l h = cc
 
 -- a slot that was given a link waits for nothing
-pub port-linked : (slot : Slot) (n : ℕ) → port_of (with_link slot (Some n)) ≡ None
+pub port-linked : (slot : Slot) (n : ℕ) → waiting_port (with_link slot (Some n)) ≡ None
 port-linked Empty n = refl
 port-linked (Waits port) n = refl
 port-linked (Linked m) n = refl
@@ -240,7 +153,7 @@ port-linked (Linked m) n = refl
 -- nor does one whose connection was turned away
 pub port-turned :
     (k : EventKind) (queued : Option Pending) (slot : Slot) (pending : Option Pending) (job : Option Job) →
-    port_of (lane_after k decision.Turned queued (record { slot = slot; pending = pending; running = job })).slot ≡ None
+    waiting_port (lane_after k decision.Turned queued (record { slot = slot; pending = pending; running = job })).slot ≡ None
 port-turned k queued Empty pending job = refl
 port-turned k queued (Waits port) pending job = refl
 port-turned k queued (Linked m) pending job = refl
@@ -250,12 +163,12 @@ pub port-arrived :
     (o : Options) (past : List Entry) (at : ℕ) (k : EventKind) (answer : Answer) (d : Decision) (t : Target) (queued : Option Pending) (l : Lane) →
     d ≡ due o past at k answer → is_refusal d ≡ false →
     target o k answer ≡ Some t →
-    port_of (lane_after k d queued l).slot ≡ None
-port-arrived o past at (kind.DataIn number raw port) answer d t queued l fit c w = go (connection-goes o past at (kind.DataIn number raw port) answer d t fit c w).0
+    waiting_port (lane_after k d queued l).slot ≡ None
+port-arrived o past at (kind.DataIn number raw port) answer d t queued l fit c w = go (connection-goes o past at (kind.DataIn number raw port) answer d t fit c w)
   where
     go :
         Goes o past d t.client t.port →
-        port_of (lane_after (kind.DataIn number raw port) d queued l).slot ≡ None
+        waiting_port (lane_after (kind.DataIn number raw port) d queued l).slot ≡ None
     go (inl x) = rw x.1 (port-lane (with_link l.slot (Some number)) l.pending l.running ∙ port-linked l.slot number)
     go (inr x) = rw x (port-turned (kind.DataIn number raw port) queued l.slot l.pending l.running)
 port-arrived o past at k answer d t queued l fit c w = cc
@@ -264,7 +177,7 @@ port-arrived o past at k answer d t queued l fit c w = cc
 pub port-opened :
     (k : EventKind) (d : Decision) (queued pending : Option Pending) (job : Option Job) (s : ℕ) →
     is_number (opened_number k d) s ≡ true →
-    port_of (lane_after k d queued (record { slot = Empty; pending = pending; running = job })).slot ≡ None
+    waiting_port (lane_after k d queued (record { slot = Empty; pending = pending; running = job })).slot ≡ None
 port-opened k decision.Opened queued pending job s h = refl
 port-opened k _ queued pending job s h = cc
 
@@ -272,7 +185,7 @@ port-opened k _ queued pending job s h = cc
 pub port-given-up :
     (k : EventKind) (d : Decision) (queued : Option Pending) (l : Lane) (p : ℕ) →
     gives_up_hold d ≡ true →
-    port_of (lane_after k d queued l).slot ≡ Some p →
+    waiting_port (lane_after k d queued l).slot ≡ Some p →
     d ≡ decision.Granted p
 port-given-up k (decision.Granted port) queued l p g h = ap decision.Granted (same_Some _ _ h)
 port-given-up k decision.Closed queued l p g h = cc
@@ -321,7 +234,7 @@ waits-holds-step o past e m fit counts ih a p s w = by_opening (opens e s) refl
         (v : Session) → session o past s ≡ Some v →
         named_session e.event.kind ≡ Some s →
         same_ip v.opening.client a ≡ true →
-        port_of (next_lane e.event.kind e.decision (running_job o past s) v).slot ≡ Some p →
+        waiting_port (next_lane e.event.kind e.decision (running_job o past s) v).slot ≡ Some p →
         (b : Bool) → gives_up_hold e.decision ≡ b →
         holder o (e ∷ past) a p ≡ Some s
     by_change v known n client port true g =
@@ -329,7 +242,7 @@ waits-holds-step o past e m fit counts ih a p s w = by_opening (opens e s) refl
         rw (m, grant, n, (session-told o past s v known).opening, client, eq-eqb p p refl) refl
     by_change v known n client port false g =
         let plain : is_connection e.decision ≡ false = subst (λ (d : Decision). is_connection d ≡ false) (sym fit) (named-no_connection o past e.event.at e.event.kind e.answer s m n) in
-        let kept : port_of (next_lane e.event.kind e.decision (running_job o past s) v).slot ≡ port_of v.slot = port-kept e.event.kind e.decision (queued_for e.decision e.event.kind v) (lane_in v (running_job o past s)) (touch-free e.decision v.slot g plain) in
+        let kept : waiting_port (next_lane e.event.kind e.decision (running_job o past s) v).slot ≡ waiting_port v.slot = port-kept e.event.kind e.decision (queued_for e.decision e.event.kind v) (lane_in v (running_job o past s)) (touch-free e.decision v.slot g plain) in
         let held : holder o past a p ≡ Some s = ih a p s (record { view = v; known = known; client = client; port = sym kept ∙ port }) in
         holder-stays-held o past e a p s held (held-ungranted o past e a p s fit held) (rw (named-target o e.event.kind e.answer s n) refl) (rw (n, g, eq-eqb s s refl) refl)
 
@@ -337,7 +250,7 @@ waits-holds-step o past e m fit counts ih a p s w = by_opening (opens e s) refl
         (v : Session) → session o past s ≡ Some v →
         concerns o past e s ≡ true →
         same_ip v.opening.client a ≡ true →
-        port_of (next_lane e.event.kind e.decision (running_job o past s) v).slot ≡ Some p →
+        waiting_port (next_lane e.event.kind e.decision (running_job o past s) v).slot ≡ Some p →
         (b : Bool) →
         is_number (named_session e.event.kind) s ≡ b →
         holder o (e ∷ past) a p ≡ Some s
@@ -358,7 +271,7 @@ waits-holds-step o past e m fit counts ih a p s w = by_opening (opens e s) refl
     by_concern n true c =
         let x : IsAfter o past e s w.view = session-before o past e s w.view fit n c w.known in
         let client : same_ip x.before.opening.client a ≡ true = subst (λ (v : Session). same_ip v.opening.client a ≡ true) (sym x.after) w.client in
-        let port : port_of (next_lane e.event.kind e.decision (running_job o past s) x.before).slot ≡ Some p = subst (λ (v : Session). port_of v.slot ≡ Some p) (sym x.after) w.port in
+        let port : waiting_port (next_lane e.event.kind e.decision (running_job o past s) x.before).slot ≡ Some p = subst (λ (v : Session). waiting_port v.slot ≡ Some p) (sym x.after) w.port in
         by_name x.before x.known c client port (is_number (named_session e.event.kind) s) refl
 
     by_opening : (b : Bool) → opens e s ≡ b → holder o (e ∷ past) a p ≡ Some s
@@ -367,7 +280,7 @@ waits-holds-step o past e m fit counts ih a p s w = by_opening (opens e s) refl
         let t : IsTold s (history o (e ∷ past) s) (opener (e ∷ past) s) w.view = session-told o (e ∷ past) s w.view w.known in
         let start : history o (e ∷ past) s ≡ e ∷ [] = rw n refl in
         let told : session_by_history s (e ∷ []) w.view.opening ≡ w.view = subst (λ (h : List Entry). session_by_history s h w.view.opening ≡ w.view) start t.told in
-        let z : None ≡ Some p = sym (port-opened e.event.kind e.decision (queued_in [] e) None None s n) ∙ (ap (λ (v : Session). port_of v.slot) told ∙ w.port) in
+        let z : None ≡ Some p = sym (port-opened e.event.kind e.decision (queued_in [] e) None None s n) ∙ (ap (λ (v : Session). waiting_port v.slot) told ∙ w.port) in
         cc
 
 -- where there is no legacy listener, in every right log a live session holds the port that its slot waits for, for its client
