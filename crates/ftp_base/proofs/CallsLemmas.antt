@@ -66,7 +66,8 @@ above-next m k =
     ]
 
 -- one more element counts where it passes
-count_by-cons : {X : Type 0} (p : X → Bool) (x : X) (xs : List X) → count_by p (x ∷ xs) ≡ cond {A = ℕ} (p x) 1 0 + count_by p xs
+count_by-cons : {X : Type 0} (p : X → Bool) (x : X) (xs : List X) →
+    count_by p (x ∷ xs) ≡ cond {A = ℕ} (p x) 1 0 + count_by p xs
 count_by-cons p x xs = sum_by-cons (λ y. cond (p y) 1 0) x xs
 
 -- where an element passes, one is counted
@@ -82,7 +83,8 @@ count_by-some p (x ∷ xs) h =
 
 -- at most one is counted more
 one_more-le : (n : ℕ) → one_more n ≤ n + 1
-one_more-le n = elim (ltb n (2 ^ 64 - 1)) as (λ b. cond {A = ℕ} b (n + 1) n ≤ n + 1) [ true ↦ omega arith | false ↦ omega arith ]
+one_more-le n =
+    elim (ltb n (2 ^ 64 - 1)) as (λ b. cond {A = ℕ} b (n + 1) n ≤ n + 1) [ true ↦ omega arith | false ↦ omega arith ]
 
 module _ {T : Type 0} (number : T → ℕ) where
   -- a call that is still to come is the next one or comes after that
@@ -109,12 +111,14 @@ module _ {T : Type 0} (number : T → ℕ) where
       ]
 
   -- one more call that fails as it is listed raises no limit
-  pub fault_limit_by-after_fault : (c : Calls T) → fails_next_by number c ≡ true → fault_limit_by number (after_fault c) ≤ fault_limit_by number c
+  pub fault_limit_by-after_fault : (c : Calls T) → fails_next_by number c ≡ true →
+      fault_limit_by number (after_fault c) ≤ fault_limit_by number c
   fault_limit_by-after_fault c fails =
       let parts = and_parts (ltb c.made (2 ^ 64 - 1)) (list_any (λ f. number f == one_more c.made) c.failing) fails in
       let next : one_more c.made ≡ c.made + 1 = rw parts.0 refl in
       let listed : list_any (λ f. number f == c.made + 1) c.failing ≡ true = rw next at parts.1 in
-      let left : count_by (λ f. ltb (one_more c.made) (number f)) c.failing ≡ count_by (λ f. ltb (c.made + 1) (number f)) c.failing = rw next refl in
+      let left : count_by (λ f. ltb (one_more c.made) (number f)) c.failing
+      ≡ count_by (λ f. ltb (c.made + 1) (number f)) c.failing = rw next refl in
       omega (
         arith,
         left,
@@ -124,7 +128,8 @@ module _ {T : Type 0} (number : T → ℕ) where
       )
 
   -- calls that rise from above a number on are all above what is below that
-  count_by-rises : (m n : ℕ) (xs : List T) → m ≤ n → rises_above number n xs ≡ true → count_by (λ f. ltb m (number f)) xs ≡ length xs
+  count_by-rises : (m n : ℕ) (xs : List T) → m ≤ n → rises_above number n xs ≡ true →
+      count_by (λ f. ltb m (number f)) xs ≡ length xs
   count_by-rises m n [] le h = refl
   count_by-rises m n (x ∷ xs) le h =
       let parts = and_parts (ltb n (number x)) (rises_above number (number x) xs) h in
@@ -133,7 +138,8 @@ module _ {T : Type 0} (number : T → ℕ) where
       omega (arith, one, count_by-cons (λ f. ltb m (number f)) x xs, count_by-rises m (number x) xs (omega arith) parts.1)
 
   -- where the calls that fail rise, as many faults can come as are listed
-  pub fault_limit_by-first : (c : Calls T) (xs : List T) → c.made ≡ 0 → c.faults ≡ 0 → c.failing ≡ xs → rises_above number 0 xs ≡ true →
+  pub fault_limit_by-first : (c : Calls T) (xs : List T) →
+      c.made ≡ 0 → c.faults ≡ 0 → c.failing ≡ xs → rises_above number 0 xs ≡ true →
       fault_limit_by number c ≡ length xs
   fault_limit_by-first c xs no_call no_fault kept rises =
       let count = count_by-rises c.made 0 xs (omega (arith, no_call)) rises in

@@ -134,7 +134,7 @@ counted s = record s { calls = after_call s.calls }
 abbrev pub failed : MemoryState → MemoryState
 failed s = record s { calls = after_fault s.calls }
 
--- exactly the listed calls fail, each call is counted, and the limit stays
+-- exactly the listed calls fail, each call is counted, and how many bytes a file may have stays
 pub record Counts {A : Type 0} (old new : MemoryState) (result : Result A StoreError) : Type 0 where
   pub fails : IsErrOf result Failed ↔ IsTrue (fails_next old.calls)
   pub fault_counted : IsErrOf result Failed → new ≡ failed old

@@ -46,7 +46,8 @@ RefusedBy_later s s' r r' m k rose refuses (inl (e, inr h)) = inl (e, inr h)
 RefusedBy_later s s' r r' m k rose refuses (inr h) = inr (refuses k h)
 
 -- what is refused is refused for more causes too
-IfRefused_later : (p q : ErrorKind → Type 0) (c : Completion) → ((k : ErrorKind) → p k → q k) → IfRefused p c → IfRefused q c
+IfRefused_later : (p q : ErrorKind → Type 0) (c : Completion) →
+    ((k : ErrorKind) → p k → q k) → IfRefused p c → IfRefused q c
 IfRefused_later p q (result.Refused k) more h = more k h
 IfRefused_later p q result.WriteFailed more h = h
 IfRefused_later p q result.Sent more h = h
@@ -55,11 +56,16 @@ IfRefused_later p q result.Listed more h = h
 IfRefused_later p q result.OutOfMemory more h = h
 
 -- an end has its cause in the longer run too
-pub Caused_later : (failure : Completion) (l l' s s' : Type 0) (r r' : ErrorKind → Type 0) (before last : Option LinkFault) (m : ℕ) (c : Completion) (f : Option LinkFault) →
-    (l → l') → (s → s') → ((x : ErrorKind) → r x → r' x) → Caused failure l before last s r m c f → Caused failure l' before last s' r' m c f
+pub Caused_later : (failure : Completion) (l l' s s' : Type 0) (r r' : ErrorKind → Type 0)
+    (before last : Option LinkFault) (m : ℕ) (c : Completion) (f : Option LinkFault) →
+    (l → l') → (s → s') → ((x : ErrorKind) → r x → r' x) →
+    Caused failure l before last s r m c f → Caused failure l' before last s' r' m c f
 Caused_later failure l l' s s' r r' before last m c f rose rose' refuses (inl (is, h, e)) = inl (is, rose h, e)
 Caused_later failure l l' s s' r r' before last m c f rose rose' refuses (inr (held, h)) =
-    inr (held, IfRefused_later (RefusedBy s r m) (RefusedBy s' r' m) c (λ k. RefusedBy_later s s' r r' m k rose' refuses) h)
+    inr (
+      held,
+      IfRefused_later (RefusedBy s r m) (RefusedBy s' r' m) c (λ k. RefusedBy_later s s' r r' m k rose' refuses) h,
+    )
 
 -- a refusal of the first call is the result of the longer run too
 pub RefusedFirst_later : (o : Option ErrorKind) (s s' : Type 0) (m m' : ℕ) (r : Completion) → (s → s') → m' ≡ m →

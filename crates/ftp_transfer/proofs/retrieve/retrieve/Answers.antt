@@ -11,7 +11,12 @@ returns-in-Some-clause-sent g c =
 
 pub returns-in-Some-clause-cause : goal.returns-in-Some-clause-cause
 returns-in-Some-clause-cause g c =
-    let cause = rw (c.in-Some.is, c.pieces.invariant.files, c.pieces.invariant.meaning, c.pieces.invariant.last_fault) at c.send_piece-turn.ensures.cause in
+    let cause = rw (
+      c.in-Some.is,
+      c.pieces.invariant.files,
+      c.pieces.invariant.meaning,
+      c.pieces.invariant.last_fault,
+    ) at c.send_piece-turn.ensures.cause in
     let place : c.args.job.now.offset + c.pieces.moved + c.send_piece-turn.result.bytes ≡ c.args.job.now.offset + (c.pieces.moved + c.send_piece-turn.result.bytes) = omega arith in
     rw c.outcome.ensures
     (Caused_later _ _ _ _ _ _ _ _ _ _ c.in-Some.end.result c.in-Some.end.fault

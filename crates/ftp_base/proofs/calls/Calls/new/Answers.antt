@@ -24,5 +24,5 @@ returns-clause-kept g c rises = search rules
 
 pub returns-clause-limit : goal.returns-clause-limit
 returns-clause-limit g c rises =
-    fault_limit_by-first g.T.FailingCall.number (record { made = 0; faults = 0; failing = c.if-not-rise.failing.items }) c.args.failing.items
-    refl refl (returns-clause-kept g c rises) rises
+    fault_limit_by-first g.T.FailingCall.number (record { made = 0; faults = 0; failing = c.if-not-rise.failing.items })
+    c.args.failing.items refl refl (returns-clause-kept g c rises) rises
