@@ -1,7 +1,6 @@
 -- The words of the program.
-use Rattle.std.specs.Prelude.{◌≡◌, ℕ, ◌^◌, ◌<◌, List, [], ◌∷◌, Option, Some, None, codes, if◌then◌else◌}
+use Rattle.std.specs.Prelude.{◌≡◌, ℕ, ◌^◌, ◌<◌, List, [], ◌∷◌, Option, Some, None, codes, decimal, if◌then◌else◌}
 use Rattle.std.specs.Str.{bytes_eq}
-use Rattle.std.specs.Str.Parse.{IsNumeral, digits_value, without_leading_plus}
 use Rattle.ftp_bench.specs.declared.command.Kind.{Kind}
 use Rattle.ftp_bench.specs.declared.command.Kind.TheVariants.{Retr, Stor, Copy}
 use Rattle.ftp_bench.specs.declared.command.Command.{Command}
@@ -17,9 +16,9 @@ abbrev pub command_of : List ℕ → Option Command
 command_of word =
     if bytes_eq word (codes "--help") then Some Help else if bytes_eq word (codes "--version") then Some Version else None
 
--- a word is a number in decimal digits, below a limit; a plus may stand first
+-- a word is a number below a limit in decimal digits, without a sign or a leading zero
 abbrev pub IsNumber : ℕ → List ℕ → ℕ → Type 0
-IsNumber limit word n = IsNumeral 10 (without_leading_plus word) × (digits_value 10 (without_leading_plus word) ≡ n) × (n < limit)
+IsNumber limit word n = (word ≡ decimal n) × (n < limit)
 
 -- the words behind the program's name ask for the command
 abbrev pub Asks : List (List ℕ) → Command → Type 0

@@ -1,8 +1,8 @@
 //! What the words of the program ask for.
 
-ghost use Rattle.std.specs.Prelude.{◌≡◌, map, string_bytes, IfSome, IsNone};
+ghost use Rattle.std.specs.Prelude.{◌≡◌, ℕ, map, string_bytes, IfSome, IsNone};
 ghost use Rattle.ftp_bench.specs.declared.command.Command.{Command};
-ghost use Rattle.ftp_bench.specs.Words.{command_of, kind_of, Asks};
+ghost use Rattle.ftp_bench.specs.Words.{command_of, kind_of, IsNumber, Asks};
 
 /// What is moved.
 #[derive(Clone, Copy, Debug, PartialEq, Eq)]
@@ -53,8 +53,8 @@ impl Command {
             [word] => Command::of_word(word.as_bytes()),
             [kind, mebibytes, rounds] => Some(Command::Move(Load {
                 kind: Kind::named(kind.as_bytes())?,
-                mebibytes: mebibytes.as_str().parse::<u8>().ok()?,
-                rounds: rounds.as_str().parse::<u16>().ok()?,
+                mebibytes: number(mebibytes.as_str(), 1 << 8)? as u8,
+                rounds: number(rounds.as_str(), 1 << 16)? as u16,
             })),
             _ => None,
         }
@@ -71,5 +71,21 @@ impl Command {
         } else {
             None
         }
+    }
+}
+
+/// The number below a limit that a word spells in decimal digits, without a sign or a leading zero.
+fn number(word: &str, limit: u32) -> Option<u32>
+    ensures found { IfSome result (IsNumber limit word.now) }
+    ensures none { IsNone result → (n : ℕ) → IsNumber limit word.now n → ⊥ }
+{
+    let digits = word.as_bytes();
+    let first = *digits.first()?;
+    if first == b'+' || (first == b'0' && digits.len() > 1) {
+        return None;
+    }
+    match word.parse::<u32>() {
+        Ok(n) if n < limit => Some(n),
+        _ => None,
     }
 }

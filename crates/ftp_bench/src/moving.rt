@@ -1,8 +1,9 @@
 //! The rounds that are timed.
 
-ghost use Rattle.std.specs.Prelude.{◌≡◌, length, codes, IfOk};
+ghost use Rattle.std.specs.Prelude.{◌≡◌, length, codes, IfOk, IfErr, OnErr};
 ghost use Rattle.ftp_base.specs.Storage.{old_bytes};
 ghost use Rattle.ftp_transfer.specs.Ran.{IsDone};
+ghost use Rattle.ftp_bench.specs.declared.moving.MoveError.TheVariants.{Storage, OutOfMemory};
 ghost use Rattle.ftp_bench.specs.Moving.{total, round_size};
 
 use crate::command::{Kind, Load};
@@ -24,12 +25,16 @@ pub enum MoveError {
 }
 
 impl From<AllocError> for MoveError {
+    ghost from_gives = { λ _ e. e ≡ OutOfMemory };
+
     fn from(_: AllocError) -> MoveError {
         MoveError::OutOfMemory
     }
 }
 
 impl From<StoreError> for MoveError {
+    ghost from_gives = { λ error e. e ≡ Storage error };
+
     fn from(error: StoreError) -> MoveError {
         MoveError::Storage(error)
     }
@@ -122,6 +127,8 @@ fn job(alloc: Global, command: DataChanCmd) -> Result<Job, AllocError>
 /// How many bytes a transfer moved, where it went well.
 fn moved(outcome: Outcome) -> Result<u64, MoveError>
     ensures moved { IfOk result (λ n. (n ≡ outcome.bytes) × IsDone outcome.result) }
+    ensures stopped { IfErr result (λ e. e ≡ MoveError.Transfer outcome.result) }
+    ensures not_done { OnErr result (IsDone outcome.result → ⊥) }
 {
     match outcome.result {
         Completion::Sent | Completion::Written | Completion::Listed => Ok(outcome.bytes),
