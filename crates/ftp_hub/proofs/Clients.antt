@@ -27,7 +27,7 @@ use Rattle.ftp_events.specs.Decide.{due, decide}
 use Rattle.ftp_events.specs.Right.{IsRight}
 use Rattle.ftp_laws.proofs.Laws.{session-told}
 use Rattle.ftp_laws.proofs.Told.{opened-is}
-use Rattle.ftp_hub.proofs.Entries.{past-more}
+use Rattle.ftp_laws.proofs.Entries.{past-more}
 
 -- where sessions share the ports, none has a listener of its own
 pub pooled-shared : (m : ListenerMode) → is_pooled m ≡ true → is_legacy m ≡ false

@@ -27,7 +27,7 @@ use Rattle.ftp_events.specs.Acts.{notice_for, session_acts, acts_of, acts}
 use Rattle.ftp_events.specs.Right.{IsActed}
 use Rattle.ftp_laws.proofs.Notices as law
 use Rattle.ftp_hub.specs.Handlers.{notices_of}
-use Rattle.ftp_hub.proofs.Entries.{past-more, history-more}
+use Rattle.ftp_laws.proofs.Entries.{past-more, history-more}
 
 -- the message of an outcome notifies where a file was moved
 told-outcome : (path : List ℕ) (outcome : Outcome) (n : ℕ) (c : Completion) → length {A = ℕ × Notice} (option_map_or (λ what. (n + 1, what) ∷ []) (notice_for (Some (message_of_outcome path outcome c)) None) []) ≡ cond (moves_file c) 1 0

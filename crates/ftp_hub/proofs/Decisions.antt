@@ -19,7 +19,9 @@ use Rattle.ftp_events.specs.Session.{lives_on, session_after, queued_for, lane_i
 use Rattle.ftp_events.specs.Acts.{session_acts, starting, stays}
 use Rattle.ftp_hub.specs.Handlers.{Jobs, Starts, held_after, notices_of}
 use Rattle.ftp_laws.proofs.Tables.{same-both}
-use Rattle.ftp_hub.proofs.Running.{IsIdle, is_finish, no-completion, count-start, running-acts, running-after}
+use Rattle.ftp_laws.proofs.Tickets.{is_finished}
+use Rattle.ftp_laws.proofs.Running.{no-completion, running-after}
+use Rattle.ftp_hub.proofs.Running.{IsIdle, count-start, running-acts}
 
 -- a decision that neither opens a session nor ends one, grants no port, is no refusal and no end of a transfer, and sends its session no notice
 pub record Comes (d : Decision) : Type 0 where
@@ -29,7 +31,7 @@ pub record Comes (d : Decision) : Type 0 where
   pub lives : lives_on d ≡ true
   pub silent : (answer : Answer) → notices_of d answer ≡ 0
   pub as_many : (n : ℕ) → live_after d n ≡ n
-  pub unfinished : is_finish d ≡ false
+  pub unfinished : is_finished d ≡ false
 
 -- with such a decision no hold changes
 pub comes-held : (d : Decision) (s client : ℕ) (waited : Option ℕ) (a p : ℕ) (before : Option ℕ) → Comes d → held_after d s client waited a p before ≡ before
@@ -50,14 +52,14 @@ pub put-back : {A : Type 0} (table : ℕ → A) (s q : ℕ) → cond (s == q) (t
 put-back table s q = at-key table table s q ∙ same-both (s == q) (table q)
 
 -- the jobs after an entry that ends no transfer, with which one may start
-pub jobs-started : (old new : Jobs) (s q : ℕ) (k : EventKind) (d : Decision) (v : Session) → is_finish d ≡ false → Starts old new s (starting k d (map.get nat_eq old s) v) → map.get nat_eq new q ≡ cond (s == q) (next_lane k d (map.get nat_eq old s) v).running (map.get nat_eq old q)
+pub jobs-started : (old new : Jobs) (s q : ℕ) (k : EventKind) (d : Decision) (v : Session) → is_finished d ≡ false → Starts old new s (starting k d (map.get nat_eq old s) v) → map.get nat_eq new q ≡ cond (s == q) (next_lane k d (map.get nat_eq old s) v).running (map.get nat_eq old q)
 jobs-started old new s q k d v unfinished begins =
     begins.jobs q
     ∙ sym (at-key (λ n. option_or (starting k d (map.get nat_eq old s) v) (map.get nat_eq old n)) (map.get nat_eq old) s q)
     ∙ ap (λ (x : Option Job). cond (s == q) x (map.get nat_eq old q)) (sym (running-after k d (queued_for d k v) (lane_in v (map.get nat_eq old s)) unfinished))
 
 -- how many jobs run after it
-pub running-started : (o : Options) (s : ℕ) (k : EventKind) (answer : Answer) (d : Decision) (v : Session) (old new : Jobs) → is_finish d ≡ false → Starts old new s (starting k d (map.get nat_eq old s) v) → map.hash_map_len new ≡ running_after (session_acts o s k answer d (map.get nat_eq old s) (Some v)) (map.hash_map_len old)
+pub running-started : (o : Options) (s : ℕ) (k : EventKind) (answer : Answer) (d : Decision) (v : Session) (old new : Jobs) → is_finished d ≡ false → Starts old new s (starting k d (map.get nat_eq old s) v) → map.hash_map_len new ≡ running_after (session_acts o s k answer d (map.get nat_eq old s) (Some v)) (map.hash_map_len old)
 running-started o s k answer d v old new unfinished begins =
     omega (arith, begins.len, running-acts o s k answer d (map.get nat_eq old s) v (map.hash_map_len old), ap (total ended) (no-completion d k (stays d (Some v)) unfinished), count-start (starting k d (map.get nat_eq old s) v))
 

@@ -42,7 +42,8 @@ use Rattle.ftp_laws.proofs.Tables.{holder-named}
 use Rattle.ftp_hub.specs.declared.hub.Hub.{Hub}
 use Rattle.ftp_hub.specs.Handlers.{Jobs, Starts, command_row, is_transfer}
 use Rattle.ftp_hub.specs.Stands.{Tables, Stands, Serves, entry}
-use Rattle.ftp_hub.proofs.Running.{count-start, running-acts, runs-started}
+use Rattle.ftp_laws.proofs.Running.{runs-started}
+use Rattle.ftp_hub.proofs.Running.{count-start, running-acts}
 use Rattle.ftp_hub.proofs.Decisions.{Comes}
 use Rattle.ftp_hub.proofs.Commands.{is_end}
 

@@ -30,7 +30,7 @@ use Rattle.ftp_events.specs.Slot.{Lane, drops, lane, lane_of, lane_after, queued
 use Rattle.ftp_events.specs.Session.{running_job}
 use Rattle.ftp_events.specs.Decide.{due, decide}
 use Rattle.ftp_events.specs.Right.{IsRight}
-use Rattle.ftp_hub.proofs.Entries.{past-more, history-more}
+use Rattle.ftp_laws.proofs.Entries.{past-more, history-more}
 use Rattle.ftp_hub.specs.declared.hub.Hub.{Hub}
 use Rattle.ftp_hub.specs.Runs.{is_linked}
 use Rattle.ftp_hub.specs.Stands.{Stands, job_for}

@@ -29,7 +29,8 @@ use Rattle.ftp_laws.proofs.Told.{unused-opener}
 use Rattle.ftp_hub.specs.declared.hub.Hub.{Hub}
 use Rattle.ftp_hub.specs.Handlers.{Jobs}
 use Rattle.ftp_hub.specs.Stands.{Tables, Stands, Serves, entry}
-use Rattle.ftp_hub.proofs.Running.{running-none, unused-idle}
+use Rattle.ftp_laws.proofs.Running.{unused-idle}
+use Rattle.ftp_hub.proofs.Running.{running-none}
 
 -- an unused number is that of no session
 pub unused-none : (o : Options) (past : List Entry) (s : ℕ) → is_used past s ≡ false → session o past s ≡ None

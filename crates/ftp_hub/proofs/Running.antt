@@ -1,8 +1,6 @@
 -- How the jobs that run change with an entry.
-use Rattle.std.proofs.Common.{◌≡◌, refl, sym, ap, ◌∙◌, ℕ, ◌+◌, ◌-◌, Bool, true, false, cond, List, [], ◌∷◌, Option, Some, None, arith}
+use Rattle.std.proofs.Common.{◌≡◌, refl, ap, ◌∙◌, ℕ, ◌+◌, ◌-◌, Bool, false, cond, List, [], ◌∷◌, Option, Some, None, arith}
 use Rattle.std.specs.Prelude.{◌==◌, count_by, is_some}
-use Rattle.std.specs.Option.{option_or}
-use Rattle.std.proofs.lemmas.Bool.{or_right}
 use Rattle.std.proofs.lemmas.List.Sums.{sum_by-cons}
 use Rattle.ftp_options.specs.declared.options.Options.{Options}
 use Rattle.ftp_transfer.specs.declared.job.Job.{Job}
@@ -11,26 +9,18 @@ use Rattle.ftp_events.specs.declared.action.Action.{Action}
 use Rattle.ftp_events.specs.declared.action.Action.TheVariants as action
 use Rattle.ftp_events.specs.declared.decision.Decision.{Decision}
 use Rattle.ftp_events.specs.declared.decision.Decision.TheVariants as decision
-use Rattle.ftp_events.specs.declared.entry.Entry.{Entry}
 use Rattle.ftp_events.specs.declared.event.Answer.{Answer}
 use Rattle.ftp_events.specs.declared.event.EventKind.{EventKind}
 use Rattle.ftp_events.specs.declared.event.EventKind.TheVariants as kind
 use Rattle.ftp_events.specs.declared.session.Pending.{Pending}
 use Rattle.ftp_events.specs.declared.session.Session.{Session}
-use Rattle.ftp_events.specs.declared.session.Slot.{Slot}
-use Rattle.ftp_events.specs.declared.session.Slot.TheVariants.{Empty, Waits, Linked}
-use Rattle.ftp_events.specs.Words.{is_number, total}
-use Rattle.ftp_events.specs.Log.{is_used, new_number, past_of}
-use Rattle.ftp_events.specs.History.{history}
-use Rattle.ftp_events.specs.Slot.{Lane, with_link, startable, lane_of, lane_after, started_by, queued_in, lane}
-use Rattle.ftp_events.specs.Session.{session, running_job}
-use Rattle.ftp_events.specs.Right.{IsRight}
-use Rattle.ftp_laws.proofs.Holds.{live-used, opened-new}
+use Rattle.ftp_events.specs.Words.{total}
+use Rattle.ftp_events.specs.Slot.{Lane, started_by}
 use Rattle.ftp_laws.proofs.Counts.{IsOnTransfers, count-drop_acts, count-session_acts}
-use Rattle.ftp_laws.proofs.Lanes.{ended-empty}
+use Rattle.ftp_laws.proofs.Tickets.{is_finished}
+use Rattle.ftp_laws.proofs.Running.{no-completion}
 use Rattle.ftp_events.specs.Acts.{completions, session_acts, start_acts, starting, stays}
 use Rattle.ftp_events.specs.Running.{ended, started, running_after}
-use Rattle.ftp_hub.proofs.Entries.{past-more, history-more}
 
 -- a count in which an action is one or nothing, and only what becomes of transfers is one, but no cancellation
 record TellsJobs (f : Action → ℕ) : Type 0 where
@@ -104,35 +94,9 @@ running-acts o s k answer d job v n =
     none_starts (kind.End t) decision.Finished b = refl
     none_starts k d b = refl
 
--- the job of a slot from which one can start is the one that starts, or that ran
-pub runs-started : (slot : Slot) (pending : Option Pending) (job : Option Job) → (lane_of slot pending job).running ≡ option_or (startable slot pending job) job
-runs-started Empty pending job = refl
-runs-started (Waits port) pending job = refl
-runs-started (Linked number) None job = refl
-runs-started (Linked number) (Some p) None = refl
-runs-started (Linked number) (Some p) (Some job) = refl
-
--- the decision on a transfer that has ended
-abbrev pub is_finish : Decision → Bool
-is_finish decision.Finished = true
-is_finish _ = false
-
--- the job after any other decision is the one that starts, or that ran
-pub running-after : (k : EventKind) (d : Decision) (queued : Option Pending) (l : Lane) → is_finish d ≡ false → (lane_after k d queued l).running ≡ option_or (started_by k d queued l) l.running
-running-after k (decision.Attached s) queued l u = runs-started (with_link l.slot (new_number k (decision.Attached s))) l.pending l.running
-running-after k (decision.Queued t) queued l u = runs-started l.slot queued l.running
-running-after k decision.Finished queued l u = cc
-running-after k d queued l u = refl
-
--- nor does any other complete a job
-pub no-completion : (d : Decision) (k : EventKind) (b : Bool) → is_finish d ≡ false → completions k d b ≡ []
-no-completion decision.Finished k b u = cc
-no-completion d (kind.End t) b u = refl
-no-completion d k b u = refl
-
 -- a decision with which no job ends or starts
 pub record IsIdle (d : Decision) : Type 0 where
-  pub unfinished : is_finish d ≡ false
+  pub unfinished : is_finished d ≡ false
   pub starts : (k : EventKind) (queued : Option Pending) (l : Lane) → started_by k d queued l ≡ None
 
 -- so as many run as before
@@ -151,48 +115,3 @@ running-none xs n none = ap (λ ys. running_after ys n) none ∙ omega arith
 pub count-start : (job : Option Job) → total started (start_acts job) ≡ cond (is_some job) 1 0
 count-start None = refl
 count-start (Some job) = refl
-
--- a job that runs over an empty slot ran before
-runs-before : (k : EventKind) (d : Decision) (queued : Option Pending) (l : Lane) (job : Job) → l.slot ≡ Empty → (lane_after k d queued l).running ≡ Some job → l.running ≡ Some job
-runs-before k (decision.Attached s) queued l job bare h = rw bare at h
-runs-before k (decision.Queued t) queued l job bare h = rw bare at h
-runs-before k decision.Finished queued l job bare h =
-    let clash : None ≡ Some job = rw bare at h in
-    cc
-runs-before k d queued l job bare h = h
-
--- a session for which a job runs was opened once
-job-used : (o : Options) (log : List Entry) (s : ℕ) (job : Job) → IsRight o log → running_job o (past_of log) s ≡ Some job → is_used (past_of log) s ≡ true
-job-used o [] s job r h = cc
-job-used o (e ∷ log) s job r h =
-    past-more (λ p. running_job o p s ≡ Some job → is_used p s ≡ true) e log (λ x. job-used o log s job r.0 x)
-    (λ counts.
-    history-more (λ l. (lane l).running ≡ Some job → is_used (e ∷ past) s ≡ true) o past e s (λ n x. rw (opened-new e.event.kind e.decision s n) refl)
-    (λ about. own (session o past s) refl (λ x. job-used o log s job r.0 x))
-    (λ x. stays_used (job-used o log s job r.0 x)))
-    h
-  where
-    past : List Entry
-    past = past_of log
-
-    stays_used : is_used past s ≡ true → is_used (e ∷ past) s ≡ true
-    stays_used u = or_right (is_number (new_number e.event.kind e.decision) s) (is_used past s) u
-
-    own :
-        (v : Option Session) → session o past s ≡ v →
-        (running_job o past s ≡ Some job → is_used past s ≡ true) →
-        (lane (e ∷ history o past s)).running ≡ Some job →
-        is_used (e ∷ past) s ≡ true
-    own (Some v) known ih x = stays_used (live-used o past s v known)
-    own None known ih x =
-        stays_used (ih (runs-before e.event.kind e.decision (queued_in (history o past s) e) (lane (history o past s)) job (ended-empty o log s r.0 known).0 x))
-
--- so no job runs for a number that was not used
-pub unused-idle : (o : Options) (log : List Entry) (s : ℕ) → IsRight o log → is_used (past_of log) s ≡ false → running_job o (past_of log) s ≡ None
-unused-idle o log s r unused = go (running_job o (past_of log) s) refl
-  where
-    go : (job : Option Job) → running_job o (past_of log) s ≡ job → job ≡ None
-    go None x = refl
-    go (Some job) x =
-        let clash : true ≡ false = sym (job-used o log s job r x) ∙ unused in
-        cc

@@ -79,7 +79,22 @@ pending-after k d queued l p e = inl (dropped-pending (drops d l.slot) l.pending
 abbrev pub IsOwned : ℕ → Lane → Type 0
 IsOwned s l = (p : Pending) → l.pending ≡ Some p → p.ticket.session ≡ s
 
--- so it is after an entry that is decided as it has to be
+-- one that waited, or is queued by an entry about session s that is decided as it has to be, is of session s
+pub placed-owned :
+    (o : Options) (past : List Entry) (e : Entry) (s : ℕ) →
+    e.decision ≡ due o past e.event.at e.event.kind e.answer →
+    IsOwned s (lane (history o past s)) →
+    concerns o past e s ≡ true → (p : Pending) →
+    ((lane (history o past s)).pending ≡ Some p) ⊎ ((t : Ticket) × (e.decision ≡ decision.Queued t) × (queued_in (history o past s) e ≡ Some p)) →
+    p.ticket.session ≡ s
+placed-owned o past e s fit h c p (inl x) = h p x
+placed-owned o past e s fit h c p (inr x) =
+    let q : IsQueue o past e.event.kind x.0 = queued-live o past e.event.at e.event.kind e.answer x.0 (sym fit ∙ x.1) in
+    let made = queue-made (history o past s) e x.0 q.command x.1 q.asked in
+    let same : made.0 ≡ p = same_Some _ _ (sym made.1 ∙ x.2) in
+    ap (λ (r : Pending). r.ticket.session) (sym same) ∙ (ap (λ (u : Ticket). u.session) (made.2 ∙ q.ticket) ∙ named-concern o past e q.number s q.named c)
+
+-- so is what waits after the entry
 pub owned-step :
     (o : Options) (past : List Entry) (e : Entry) (s : ℕ) →
     e.decision ≡ due o past e.event.at e.event.kind e.answer →
@@ -87,17 +102,6 @@ pub owned-step :
     IsOwned s (lane (history o (e ∷ past) s))
 owned-step o past e s fit h = by_opening (opens e s) refl
   where
-    by_place :
-        concerns o past e s ≡ true → (p : Pending) →
-        ((lane (history o past s)).pending ≡ Some p) ⊎ ((t : Ticket) × (e.decision ≡ decision.Queued t) × (queued_in (history o past s) e ≡ Some p)) →
-        p.ticket.session ≡ s
-    by_place c p (inl x) = h p x
-    by_place c p (inr x) =
-        let q : IsQueue o past e.event.kind x.0 = queued-live o past e.event.at e.event.kind e.answer x.0 (sym fit ∙ x.1) in
-        let made = queue-made (history o past s) e x.0 q.command x.1 q.asked in
-        let same : made.0 ≡ p = same_Some _ _ (sym made.1 ∙ x.2) in
-        ap (λ (r : Pending). r.ticket.session) (sym same) ∙ (ap (λ (u : Ticket). u.session) (made.2 ∙ q.ticket) ∙ named-concern o past e q.number s q.named c)
-
     by_concern :
         opens e s ≡ false → (b : Bool) →
         concerns o past e s ≡ b →
@@ -105,7 +109,7 @@ owned-step o past e s fit h = by_opening (opens e s) refl
     by_concern n false c = subst (λ (l : List Entry). IsOwned s (lane l)) (sym (history-other o past e s n c)) h
     by_concern n true c =
         subst (λ (l : List Entry). IsOwned s (lane l)) (sym (history-own o past e s n c))
-        (λ p x. by_place c p (pending-after e.event.kind e.decision (queued_in (history o past s) e) (lane (history o past s)) p x))
+        (λ p x. placed-owned o past e s fit h c p (pending-after e.event.kind e.decision (queued_in (history o past s) e) (lane (history o past s)) p x))
 
     by_opening : (b : Bool) → opens e s ≡ b → IsOwned s (lane (history o (e ∷ past) s))
     by_opening false n = by_concern n (concerns o past e s) refl

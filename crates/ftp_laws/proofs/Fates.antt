@@ -21,7 +21,7 @@ use Rattle.ftp_events.specs.Place.{is_queued, ticket_count}
 use Rattle.ftp_events.specs.Slot.{Lane, queued_in, lane}
 use Rattle.ftp_events.specs.Session.{session, running_job}
 use Rattle.ftp_events.specs.Decide.{due, decide}
-use Rattle.ftp_events.specs.Acts.{acts, acts_of, stays}
+use Rattle.ftp_events.specs.Acts.{acts, acts_of, stays, pending_in}
 use Rattle.ftp_events.specs.Right.{IsRight, IsActed}
 use Rattle.ftp_events.specs.Fate.{Fate, CompletedAt, CancelledAt, AwaitsConnection, AwaitsItsEnd, AwaitsEarlierEnd, completes, cancels, settlement, is_running, is_pending, in_slot, wait, fate}
 use Rattle.ftp_laws.specs.Fates.{queues, was_queued, settles, settle_count}
@@ -34,7 +34,7 @@ use Rattle.ftp_laws.proofs.Lanes.{IsBare, ended-empty, pending-placed}
 use Rattle.ftp_laws.proofs.Links.{or-second}
 use Rattle.ftp_laws.proofs.Counts.{count-nobody}
 use Rattle.ftp_laws.proofs.Tickets.{one, carried, settles-on-transfers, lane-balance}
-use Rattle.ftp_laws.proofs.Accounts.{IsOwned, owned, IsNext, queues-next, entry-fit, settles-elsewhere, settles-here}
+use Rattle.ftp_laws.proofs.Accounts.{IsOwned, owned, slot-told, IsNext, queues-next, entry-fit, settles-elsewhere, settles-here}
 
 -- how often a transfer was queued
 abbrev pub queue_count : Ticket → List Entry → ℕ
@@ -414,3 +414,19 @@ pub settled-once :
 settled-once o log t r a =
     let h : IsAccounted o (past_of log) t (settle_count t log) (queue_count t log) = accounted o log t r a in
     omega (arith, h.balance, h.once)
+
+-- a transfer that runs is in no slot
+pub running-unslotted :
+    (o : Options) (log : List Entry) (t : Ticket) →
+    IsRight o log → IsActed o log →
+    is_running t (running_job o (past_of log) t.session) ≡ true →
+    is_pending t (pending_in (session o (past_of log) t.session)) ≡ false
+running-unslotted o log t r a runs =
+    let told = slot-told o (past_of log) t.session (ended-empty o log t.session r) in
+    go (is_pending t (pending_in (session o (past_of log) t.session))) (sym (ap (is_pending t) told.1))
+  where
+    go : (b : Bool) → is_pending t (lane (history o (past_of log) t.session)).pending ≡ b → b ≡ false
+    go false x = refl
+    go true x =
+        let known = accounted o log t r a in
+        absurd (omega (arith, known.balance, known.once, ap one runs, ap one x))

@@ -1,4 +1,5 @@
 pub mod Laws
+pub mod Entries
 pub mod Facts
 pub mod Grants
 pub mod Holds
@@ -12,6 +13,7 @@ pub mod Determined
 pub mod Notices
 pub mod Told
 pub mod Lanes
+pub mod Running
 pub mod Counts
 pub mod Links
 pub mod Offsets
@@ -19,4 +21,6 @@ pub mod Tickets
 pub mod Accounts
 pub mod Fates
 pub mod Cancelled
+pub mod Jobs
+pub mod Brought
 mod Needed

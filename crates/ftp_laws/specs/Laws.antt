@@ -1,5 +1,5 @@
 -- What holds of every right log, in plain words.
-use Rattle.std.specs.Prelude.{ℕ, ◌≡◌, ◌≤◌, ◌↔◌, ◌⊎◌, List, ◌∷◌, map, length, true, false, Some, None, is_some, if◌then◌else◌}
+use Rattle.std.specs.Prelude.{ℕ, ◌+◌, ◌≡◌, ◌≤◌, ◌↔◌, ◌⊎◌, List, ◌∷◌, map, length, true, false, Some, None, is_some, if◌then◌else◌}
 use Rattle.std.specs.List.{list_any, range_with_len}
 use Rattle.ftp_base.specs.declared.net.IpAddr.{IpAddr}
 use Rattle.ftp_options.specs.declared.options.Options.{Options}
@@ -13,17 +13,19 @@ use Rattle.ftp_events.specs.declared.event.Answer.TheVariants.{Done}
 use Rattle.ftp_events.specs.declared.event.EventKind.TheVariants.{End}
 use Rattle.ftp_events.specs.declared.event.HubEvent.{HubEvent}
 use Rattle.ftp_events.specs.declared.session.Session.{Session}
+use Rattle.ftp_events.specs.Acts.{pending_in}
 use Rattle.ftp_events.specs.Board.{holder}
-use Rattle.ftp_events.specs.Fate.{cancels, settlement, wait, fate}
+use Rattle.ftp_events.specs.Fate.{cancels, settlement, is_running, is_pending, wait, fate}
 use Rattle.ftp_events.specs.Headline.{AllServed}
 use Rattle.ftp_events.specs.History.{concerns}
 use Rattle.ftp_events.specs.Isolation.{client_log, IsApart}
 use Rattle.ftp_events.specs.Log.{past_of, is_refusal}
 use Rattle.ftp_events.specs.Right.{IsRight, IsActed, log_of, events_of}
-use Rattle.ftp_events.specs.Session.{session}
+use Rattle.ftp_events.specs.Session.{session, running_job}
 use Rattle.ftp_events.specs.Transfer.{moves_file}
 use Rattle.ftp_laws.specs.Holds.{WaitsOn, EndsHold}
 use Rattle.ftp_laws.specs.Fates.{was_queued, settle_count, can_cancel, LosesSlot}
+use Rattle.ftp_laws.specs.Jobs.{started_count, completed_count, starts_there, has_brought}
 use Rattle.ftp_laws.specs.Links.{start_count}
 use Rattle.ftp_laws.specs.Notices.{notices, NoneLoggedOut, LastLoggedOut, HasEnded}
 use Rattle.ftp_laws.specs.Offsets.{TakesRest, EndsWell}
@@ -118,6 +120,19 @@ LinksTakeOneJob =
     (o : Options) (log : List Entry) (n : ℕ) → IsRight o log → IsActed o log →
     start_count n log ≤ 1
 
+-- the transfers that a session has started are those of it that were completed, and one more where a job of it runs
+abbrev pub SessionsRunOneJob : Type 0
+SessionsRunOneJob =
+    (o : Options) (log : List Entry) (s : ℕ) → IsRight o log → IsActed o log →
+    started_count s log ≡ completed_count s log + (if is_some (running_job o (past_of log) s) then 1 else 0)
+
+-- a transfer starts on a link that its entry, or an earlier one, attached to its session
+abbrev pub StartsOnOwnLink : Type 0
+StartsOnOwnLink =
+    (o : Options) (log : List Entry) (e : Entry) (s n : ℕ) → IsRight o (e ∷ log) → IsActed o (e ∷ log) →
+    list_any (starts_there s n) e.actions ≡ true →
+    has_brought s n (e ∷ log) ≡ true
+
 -- after a RETR, STOR or APPE that succeeded a live session has the offset 0, and after any other end the one that it had
 abbrev pub EndsSetOffset : Type 0
 EndsSetOffset =
@@ -164,3 +179,10 @@ abbrev pub CancelledWithSlot : Type 0
 CancelledWithSlot =
     (o : Options) (log : List Entry) (e : Entry) (t : Ticket) → IsRight o (e ∷ log) → IsActed o (e ∷ log) →
     (list_any (cancels t) e.actions ≡ true) ↔ LosesSlot o (past_of log) e t
+
+-- a transfer that runs is in no slot
+abbrev pub RunningAreInNoSlot : Type 0
+RunningAreInNoSlot =
+    (o : Options) (log : List Entry) (t : Ticket) → IsRight o log → IsActed o log →
+    is_running t (running_job o (past_of log) t.session) ≡ true →
+    is_pending t (pending_in (session o (past_of log) t.session)) ≡ false

@@ -3,4 +3,5 @@ pub mod Notices
 pub mod Links
 pub mod Fates
 pub mod Offsets
+pub mod Jobs
 pub mod Laws

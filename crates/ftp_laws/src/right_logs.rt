@@ -1,8 +1,8 @@
 //! The laws of right logs. The functions do nothing: their clauses are the laws.
 ghost use Rattle.ftp_laws.specs.Laws.{RightLogsExist, RightLogsAreDetermined, RightLogsServe, HoldersWait, HoldsOnePort, HoldsEndOnlySo, EachEndsHold};
 ghost use Rattle.ftp_laws.specs.Laws.{NoticesAreNumbered, NoticesAreCounted, EndedAreLoggedOut, LiveAreNotLoggedOut, ClientsAreIsolated, ClientsAreAsIfAlone};
-ghost use Rattle.ftp_laws.specs.Laws.{LinksTakeOneJob, EndsSetOffset, OffsetsLast};
-ghost use Rattle.ftp_laws.specs.Laws.{QueuedHaveFates, SettledDoNotWait, SettledOnce, CancelledOnlySo, CancelledWithSlot};
+ghost use Rattle.ftp_laws.specs.Laws.{LinksTakeOneJob, SessionsRunOneJob, StartsOnOwnLink, EndsSetOffset, OffsetsLast};
+ghost use Rattle.ftp_laws.specs.Laws.{QueuedHaveFates, SettledDoNotWait, SettledOnce, RunningAreInNoSlot, CancelledOnlySo, CancelledWithSlot};
 
 /// There is one right and acted log for given events and answers.
 pub fn right_logs_are_determined()
@@ -45,11 +45,19 @@ pub fn links_take_one_job()
     ensures links { LinksTakeOneJob }
 {}
 
+/// One transfer of a session runs at most: those that were started are those that were completed, and one
+/// more while a job runs. Each starts on a link that was attached to its session.
+pub fn sessions_run_one_job()
+    ensures jobs { SessionsRunOneJob }
+    ensures links { StartsOnOwnLink }
+{}
+
 /// Each transfer that was queued has one fate: it waits, it runs, or it was completed or cancelled, once.
 pub fn transfers_have_one_fate()
     ensures queued { QueuedHaveFates }
     ensures settled { SettledDoNotWait }
     ensures once { SettledOnce }
+    ensures apart { RunningAreInNoSlot }
 {}
 
 /// A transfer is cancelled exactly where its session loses the slot in which it waits: by another grant,

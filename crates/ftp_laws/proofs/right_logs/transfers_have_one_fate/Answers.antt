@@ -1,4 +1,4 @@
-use Rattle.ftp_laws.proofs.Fates.{fate-had, settled-once}
+use Rattle.ftp_laws.proofs.Fates.{fate-had, settled-once, running-unslotted}
 use Rattle.ftp_laws.proofs.right_logs.transfers_have_one_fate.Goals as goal
 
 pub returns : goal.returns
@@ -7,4 +7,5 @@ returns c =
       queued = λ o log t r a. (fate-had o log t r a).0;
       settled = λ o log t r a. (fate-had o log t r a).1;
       once = settled-once;
+      apart = running-unslotted;
     }
