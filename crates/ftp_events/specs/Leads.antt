@@ -1,7 +1,6 @@
 -- What a log did to a storage and to links.
-use Rattle.std.specs.Prelude.{◌≡◌, ℕ, ◌≤◌, Bool, true, List, [], ◌∷◌, ◌++◌, Option, Some, None, is_some, MatchOption, if◌then◌else◌}
+use Rattle.std.specs.Prelude.{◌≡◌, ℕ, ◌≤◌, true, List, [], ◌∷◌, ◌++◌, Option, Some, None, is_some, MatchOption, if◌then◌else◌}
 use Rattle.std.specs.FinMap as map
-use Rattle.std.specs.List.{list_any}
 use Rattle.ftp_base.specs.LinkTable.{Numbered}
 use Rattle.ftp_base.specs.Outside.{Sending}
 use Rattle.ftp_base.specs.Storage.{Files, Meaning}
@@ -16,10 +15,9 @@ use Rattle.ftp_events.specs.declared.event.Answer.{Answer}
 use Rattle.ftp_events.specs.declared.event.Answer.TheVariants as answer
 use Rattle.ftp_events.specs.declared.event.EventKind.{EventKind}
 use Rattle.ftp_events.specs.declared.event.EventKind.TheVariants.{End}
-use Rattle.ftp_events.specs.Words.{is_number}
-use Rattle.ftp_events.specs.Covers.{link_number}
+use Rattle.ftp_events.specs.Acts.{link_in, slot_of}
 use Rattle.ftp_events.specs.Log.{past_of}
-use Rattle.ftp_events.specs.Session.{running_job}
+use Rattle.ftp_events.specs.Session.{session, running_job}
 use Rattle.ftp_events.specs.Transfer.{same_ticket}
 
 -- what storages and links tell
@@ -36,17 +34,32 @@ pub record Outside (S L : Type 0) : Type 0 where
   pub storage : S
   pub links : Numbered L
 
+-- what storages and links tell, by a word for each
+abbrev pub views :
+    {S L : Type 0} → (S → Option Files) → (S → Meaning) → (S → ℕ) →
+    (L → Option (List ℕ)) → (L → Sending) → (L → ℕ) → Views S L
+views files meaning storage_faults left sending link_faults =
+    record {
+      files = files;
+      meaning = meaning;
+      storage_faults = storage_faults;
+      left = left;
+      sending = sending;
+      link_faults = link_faults;
+    }
+
+-- a storage beside links
+abbrev pub beside : {S L : Type 0} → S → Numbered L → Outside S L
+beside storage links = record { storage = storage; links = links }
+
 -- what a storage and a link tell together
 abbrev pub told_by : {S L : Type 0} → Views S L → S → L → Told
 told_by v s l = told (v.files s) (v.meaning s) (v.storage_faults s) (v.left l) (v.sending l) (v.link_faults l)
 
--- a data connection of this number came
-abbrev pub is_brought : List Entry → ℕ → Bool
-is_brought past n = list_any (λ e. is_number (link_number e.event.kind) n) past
-
--- each connection that came has its link
-abbrev pub HasLinks : {L : Type 0} → List Entry → Numbered L → Type 0
-HasLinks past links = (n : ℕ) → is_brought past n ≡ true → is_some (map.get links n) ≡ true
+-- each link that a live session has in its slot, or a running job transfers over, is in the table
+pub record HasLinks {L : Type 0} (o : Options) (past : List Entry) (links : Numbered L) : Type 0 where
+  pub slots : (s n : ℕ) → link_in (slot_of (session o past s)) ≡ Some n → is_some (map.get links n) ≡ true
+  pub jobs : (s : ℕ) (job : Job) → running_job o past s ≡ Some job → is_some (map.get links job.number) ≡ true
 
 -- the job of a ticket, where it runs
 abbrev pub job_of_ticket : Option Job → Ticket → Option Job

@@ -1,8 +1,10 @@
 -- Runs of events: what they need, and how the log goes on.
-use Rattle.std.specs.Prelude.{ℕ, ◌≡◌, Bool, is_some, List, ◌++◌, map, reverse, ⊤}
+use Rattle.std.specs.Prelude.{ℕ, ◌≡◌, Bool, true, is_some, List, ◌++◌, map, reverse, Option, ⊤}
+use Rattle.std.specs.Option.{option_map_or}
 use Rattle.std.specs.FinMap as table
 use Rattle.ftp_base.specs.LinkTable.{Numbered}
 use Rattle.ftp_options.specs.declared.options.Options.{Options}
+use Rattle.ftp_transfer.specs.declared.job.Job.{Job}
 use Rattle.ftp_events.specs.declared.entry.Entry.{Entry}
 use Rattle.ftp_events.specs.Leads.{Views, Outside, Leads}
 use Rattle.ftp_events.specs.declared.event.HubEvent.{HubEvent}
@@ -12,6 +14,10 @@ use Rattle.ftp_hub.specs.declared.run.RunError.TheVariants.{OutOfMemory, Exhaust
 -- the number has a link
 abbrev pub is_linked : {L : Type 0} → Numbered L → ℕ → Bool
 is_linked links n = is_some (table.get links n)
+
+-- the link of the job, where there is one, is in the table
+abbrev pub has_link_of : {L : Type 0} → Numbered L → Option Job → Bool
+has_link_of links job = option_map_or (λ (j : Job). is_linked links j.number) job true
 
 -- the log goes on by one entry for each of the events, in their order
 pub record GoesOn (old new : List Entry) (events : List HubEvent) : Type 0 where

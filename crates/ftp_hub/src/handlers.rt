@@ -78,7 +78,7 @@ pub(crate) fn command(
     ensures session { session.old.notices + 1 < 2 ^ 64 → (answer : Answer) (job : Option Job) → session.new ≡ session_after args.now answer result (notices_of result answer) job session.old }
     ensures actions { session.old.notices + 1 < 2 ^ 64 → (answer : Answer) (job : Option Job) → actions_in room.new ≡ session_acts options.now (number_of args.now) args.now answer result job (Some session.old) }
     ensures holders { (a p : ℕ) → holder_at board.new a p ≡ held_after result (number_of args.now) (ipv4 session.old.opening.client) (waiting_port session.old.slot) a p (holder_at board.old a p) }
-    ensures same_range { SameRange board.old board.new }
+    ensures range { SameRange board.old board.new }
 {
     match args {
         EventKind::User { .. } => user::handle(session, args, board, room, at, options),

@@ -1,15 +1,15 @@
 //! Runs: one event, and a list of events with its log.
 
-ghost use Rattle.std.specs.Prelude.{◌≡◌, ◌+◌, ◌-◌, ◌^◌, ◌<◌, ◌↔◌, ◌∷◌, [], ℕ, List, IsTrue, true, false, take, length, IfOk, IfErr, IfSome, OnOk, OnErr, IsErrOf};
+ghost use Rattle.std.specs.Prelude.{◌≡◌, ◌+◌, ◌-◌, ◌^◌, ◌<◌, ◌↔◌, ◌∷◌, [], ℕ, List, IsTrue, true, false, take, length, IfOk, IfErr, OnOk, OnErr, IsErrOf};
 ghost use Rattle.std.specs.List.{list_all};
 ghost use Rattle.ftp_events.specs.declared.entry.Entry.{Entry};
 ghost use Rattle.ftp_events.specs.Right.{next_entry};
 ghost use Rattle.ftp_hub.specs.Headline.{IsFresh, Headline};
 ghost use Rattle.ftp_events.specs.Covers.{is_covered};
-ghost use Rattle.ftp_events.specs.Leads.{HasLinks, LeadsOne, LeavesAll, RunsJob, job_to_run};
+ghost use Rattle.ftp_events.specs.Leads.{HasLinks, LeadsOne, LeavesAll, RunsJob, beside, job_to_run, views};
 ghost use Rattle.ftp_events.specs.Log.{past_of};
 ghost use Rattle.ftp_hub.specs.Rooms.{job_in};
-ghost use Rattle.ftp_hub.specs.Runs.{GoesOn, LeadsOn, is_linked, done_of, IsExhausted};
+ghost use Rattle.ftp_hub.specs.Runs.{GoesOn, LeadsOn, has_link_of, is_linked, done_of, IsExhausted};
 ghost use Rattle.ftp_hub.specs.Stands.{Stands, SameAnswers, Fits, job_for, options_of, count_of};
 
 use crate::hub::Hub;
@@ -83,10 +83,21 @@ pub fn run_event<S: Storage, L: Link>(
 ) -> Result<Entry, RunError>
     requires covered { IsTrue (is_covered (is_linked links.old) event.kind) }
     ensures event { IfOk result (λ e. e.event ≡ event) }
-    ensures due { IfOk result (λ e. (log : List Entry) → Stands hub.old log → e ≡ next_entry (options_of hub.old) log event e.answer) }
-    ensures stands { IfOk result (λ e. (log : List Entry) → Stands hub.old log → Stands hub.new (e ∷ log)) }
-    ensures leads { IfOk result (λ e. (log : List Entry) → Stands hub.old log → HasLinks (past_of log) links.old → LeadsOne (record { files = S.files; meaning = S.meaning; storage_faults = S.faults; left = L.left; sending = L.sending; link_faults = L.faults }) (options_of hub.old) (past_of log) e (record { storage = storage.old; links = links.old }) (record { storage = storage.new; links = links.new })) }
-    ensures lacks { IfOk result (λ e. (log : List Entry) → Stands hub.old log → IfSome (job_to_run (options_of hub.old) (past_of log) event.kind) (λ job. is_linked links.old job.number ≡ false → LeavesAll e.answer (record { storage = storage.old; links = links.old }) (record { storage = storage.new; links = links.new }))) }
+    ensures due { IfOk result (λ e.
+        (log : List Entry) → Stands hub.old log →
+        e ≡ next_entry (options_of hub.old) log event e.answer) }
+    ensures stands { IfOk result (λ e.
+        (log : List Entry) → Stands hub.old log → Stands hub.new (e ∷ log)) }
+    ensures leads { IfOk result (λ e.
+        (log : List Entry) → Stands hub.old log →
+        has_link_of links.old (job_to_run (options_of hub.old) (past_of log) event.kind) ≡ true →
+        LeadsOne (views S.files S.meaning S.faults L.left L.sending L.faults)
+        (options_of hub.old) (past_of log) e
+        (beside storage.old links.old) (beside storage.new links.new)) }
+    ensures lacks { IfOk result (λ e.
+        (log : List Entry) → Stands hub.old log →
+        has_link_of links.old (job_to_run (options_of hub.old) (past_of log) event.kind) ≡ false →
+        LeavesAll e.answer (beside storage.old links.old) (beside storage.new links.new)) }
     ensures linked { (n : ℕ) → is_linked links.old n ≡ true → is_linked links.new n ≡ true }
     ensures options { options_of hub.new ≡ options_of hub.old }
     ensures count { OnOk result (count_of hub.new ≡ count_of hub.old + 1) }
@@ -114,10 +125,17 @@ fn run_prepared<S: Storage, L: Link>(
     requires fits { Fits room hub.old event }
     requires job { job_in room ≡ job_for hub.old event.kind }
     ensures event { result.event ≡ event }
-    ensures due { (log : List Entry) → Stands hub.old log → result ≡ next_entry (options_of hub.old) log event result.answer }
+    ensures due { (log : List Entry) → Stands hub.old log →
+        result ≡ next_entry (options_of hub.old) log event result.answer }
     ensures stands { (log : List Entry) → Stands hub.old log → Stands hub.new (result ∷ log) }
-    ensures leads { (log : List Entry) → Stands hub.old log → HasLinks (past_of log) links.old → LeadsOne (record { files = S.files; meaning = S.meaning; storage_faults = S.faults; left = L.left; sending = L.sending; link_faults = L.faults }) (options_of hub.old) (past_of log) result (record { storage = storage.old; links = links.old }) (record { storage = storage.new; links = links.new }) }
-    ensures lacks { (log : List Entry) → Stands hub.old log → IfSome (job_to_run (options_of hub.old) (past_of log) event.kind) (λ job. is_linked links.old job.number ≡ false → LeavesAll result.answer (record { storage = storage.old; links = links.old }) (record { storage = storage.new; links = links.new })) }
+    ensures leads { (log : List Entry) → Stands hub.old log →
+        has_link_of links.old (job_to_run (options_of hub.old) (past_of log) event.kind) ≡ true →
+        LeadsOne (views S.files S.meaning S.faults L.left L.sending L.faults)
+        (options_of hub.old) (past_of log) result
+        (beside storage.old links.old) (beside storage.new links.new) }
+    ensures lacks { (log : List Entry) → Stands hub.old log →
+        has_link_of links.old (job_to_run (options_of hub.old) (past_of log) event.kind) ≡ false →
+        LeavesAll result.answer (beside storage.old links.old) (beside storage.new links.new) }
     ensures linked { (n : ℕ) → is_linked links.old n ≡ true → is_linked links.new n ≡ true }
     ensures options { options_of hub.new ≡ options_of hub.old }
     ensures count { count_of hub.new ≡ count_of hub.old + 1 }
@@ -137,8 +155,11 @@ fn run_job<S: Storage, L: Link>(
     storage: &mut S,
     links: &mut LinkTable<L>,
 ) -> Answer
-    ensures ran { is_linked links.old job.number ≡ true → RunsJob (record { files = S.files; meaning = S.meaning; storage_faults = S.faults; left = L.left; sending = L.sending; link_faults = L.faults }) job result (record { storage = storage.old; links = links.old }) (record { storage = storage.new; links = links.new }) }
-    ensures lacks { is_linked links.old job.number ≡ false → LeavesAll result (record { storage = storage.old; links = links.old }) (record { storage = storage.new; links = links.new }) }
+    ensures ran { is_linked links.old job.number ≡ true →
+        RunsJob (views S.files S.meaning S.faults L.left L.sending L.faults)
+        job result (beside storage.old links.old) (beside storage.new links.new) }
+    ensures lacks { is_linked links.old job.number ≡ false →
+        LeavesAll result (beside storage.old links.old) (beside storage.new links.new) }
     ensures linked { (n : ℕ) → is_linked links.old n ≡ true → is_linked links.new n ≡ true }
 {
     match links.get_mut(job.number) {
@@ -159,17 +180,27 @@ pub fn run_events<S: Storage, L: Link>(
     log: &mut Log,
 ) -> Result<(), RunError>
     requires covered { IsTrue (list_all (λ e. is_covered (is_linked links.old) e.kind) events.now) }
-    ensures headline { IsFresh hub.old → log.old.entries ≡ [] → OnOk result (Headline (options_of hub.old) events.now log.new.entries) }
+    ensures headline { IsFresh hub.old → log.old.entries ≡ [] →
+        OnOk result (Headline (options_of hub.old) events.now log.new.entries) }
     ensures stands { Stands hub.old log.old.entries → Stands hub.new log.new.entries }
     ensures events { OnOk result (GoesOn log.old.entries log.new.entries events.now) }
-    ensures first { IfErr result (λ e. GoesOn log.old.entries log.new.entries (take (done_of e) events.now)) }
+    ensures first { IfErr result (λ e.
+        GoesOn log.old.entries log.new.entries (take (done_of e) events.now)) }
     ensures stopped { IfErr result (λ e. done_of e < length events.now) }
-    ensures exhausted { IfErr result (λ e. IsExhausted e ↔ (count_of hub.old + done_of e ≡ 2 ^ 64 - 1)) }
+    ensures exhausted { IfErr result (λ e.
+        IsExhausted e ↔ (count_of hub.old + done_of e ≡ 2 ^ 64 - 1)) }
     ensures count { OnOk result (count_of hub.new ≡ count_of hub.old + length events.now) }
+    ensures count_stopped { IfErr result (λ e. count_of hub.new ≡ count_of hub.old + done_of e) }
     ensures options { options_of hub.new ≡ options_of hub.old }
-    ensures leads { Stands hub.old log.old.entries → HasLinks (past_of log.old.entries) links.old → LeadsOn (record { files = S.files; meaning = S.meaning; storage_faults = S.faults; left = L.left; sending = L.sending; link_faults = L.faults }) (options_of hub.old) log.old.entries log.new.entries (record { storage = storage.old; links = links.old }) (record { storage = storage.new; links = links.new }) }
+    ensures leads { Stands hub.old log.old.entries →
+        HasLinks (options_of hub.old) (past_of log.old.entries) links.old →
+        LeadsOn (views S.files S.meaning S.faults L.left L.sending L.faults)
+        (options_of hub.old) log.old.entries log.new.entries
+        (beside storage.old links.old) (beside storage.new links.new) }
     ensures linked { (n : ℕ) → is_linked links.old n ≡ true → is_linked links.new n ≡ true }
-    ensures has_links { HasLinks (past_of log.old.entries) links.old → HasLinks (past_of log.new.entries) links.new }
+    ensures has_links { Stands hub.old log.old.entries →
+        HasLinks (options_of hub.old) (past_of log.old.entries) links.old →
+        HasLinks (options_of hub.old) (past_of log.new.entries) links.new }
 {
     let mut done = 0;
     for event in events {
@@ -192,13 +223,22 @@ fn run_next<S: Storage, L: Link>(
     requires covered { IsTrue (is_covered (is_linked links.old) event.now.kind) }
     ensures stands { Stands hub.old log.old.entries → Stands hub.new log.new.entries }
     ensures event { OnOk result (GoesOn log.old.entries log.new.entries (event.now ∷ [])) }
-    ensures unchanged { OnErr result (log.new.entries ≡ log.old.entries) }
+    ensures unchanged { OnErr result (SameAnswers hub.old hub.new) }
+    ensures log { OnErr result (log.new.entries ≡ log.old.entries) }
+    ensures storage { OnErr result (storage.new ≡ storage.old) }
+    ensures links { OnErr result (links.new ≡ links.old) }
     ensures exhausted { IfErr result (λ e. IsExhausted e ↔ (count_of hub.old ≡ 2 ^ 64 - 1)) }
     ensures count { OnOk result (count_of hub.new ≡ count_of hub.old + 1) }
     ensures options { options_of hub.new ≡ options_of hub.old }
-    ensures leads { Stands hub.old log.old.entries → HasLinks (past_of log.old.entries) links.old → LeadsOn (record { files = S.files; meaning = S.meaning; storage_faults = S.faults; left = L.left; sending = L.sending; link_faults = L.faults }) (options_of hub.old) log.old.entries log.new.entries (record { storage = storage.old; links = links.old }) (record { storage = storage.new; links = links.new }) }
+    ensures leads { Stands hub.old log.old.entries →
+        HasLinks (options_of hub.old) (past_of log.old.entries) links.old →
+        LeadsOn (views S.files S.meaning S.faults L.left L.sending L.faults)
+        (options_of hub.old) log.old.entries log.new.entries
+        (beside storage.old links.old) (beside storage.new links.new) }
     ensures linked { (n : ℕ) → is_linked links.old n ≡ true → is_linked links.new n ≡ true }
-    ensures has_links { HasLinks (past_of log.old.entries) links.old → HasLinks (past_of log.new.entries) links.new }
+    ensures has_links { Stands hub.old log.old.entries →
+        HasLinks (options_of hub.old) (past_of log.old.entries) links.old →
+        HasLinks (options_of hub.old) (past_of log.new.entries) links.new }
 {
     if hub.events() == u64::MAX {
         return Err(RunError::Exhausted { done: 0 });

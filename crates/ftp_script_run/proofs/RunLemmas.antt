@@ -15,12 +15,12 @@ use Rattle.ftp_options.specs.Builder.{settings_of}
 use Rattle.ftp_events.specs.declared.entry.Entry.{Entry}
 use Rattle.ftp_events.specs.declared.event.HubEvent.{HubEvent}
 use Rattle.ftp_events.specs.Covers.{is_covered}
-use Rattle.ftp_events.specs.Leads.{Outside, HasLinks, LeadsOne, Leads}
+use Rattle.ftp_events.specs.Leads.{Outside, HasLinks, LeadsOne, Leads, job_to_run}
 use Rattle.ftp_events.specs.Log.{past_of}
 use Rattle.ftp_hub.specs.declared.hub.Hub.{Hub}
-use Rattle.ftp_hub.specs.Runs.{is_linked}
+use Rattle.ftp_hub.specs.Runs.{has_link_of, is_linked}
 use Rattle.ftp_hub.specs.Stands.{Stands, options_of}
-use Rattle.ftp_hub.proofs.Links.{links-more, insert-linked}
+use Rattle.ftp_hub.proofs.Links.{has_link_of-due, has_links-under, links-more, insert-linked}
 use Rattle.ftp_event_text.specs.declared.setup.Item.{Item}
 use Rattle.ftp_event_text.specs.declared.setup.Item.TheVariants as item
 use Rattle.ftp_script_text.specs.Script.{says, has_options, has_link, may_stand}
@@ -98,7 +98,10 @@ hub-moves None items more log old new same moves h = (same ∙ h.0, moves.idle h
 hub-moves (Some hub) items more log old new same moves h = record {
   options = same ∙ h.options;
   stands = h.stands;
-  has_links = λ n brought. moves.linked n (h.has_links n brought);
+  has_links = record {
+    slots = λ s n x. moves.linked n (h.has_links.slots s n x);
+    jobs = λ s job x. moves.linked job.number (h.has_links.jobs s job x);
+  };
   led = moves.led (options_of hub) h.led;
 }
 
@@ -229,7 +232,9 @@ keeps-options old new items log lo hi seconds restart made o is links storage st
           (record {
             options = options_in-none items (options ∷ []) none ∙ sym set ∙ ap (λ (p : Options). Some (settings_of p)) (sym same);
             stands = subst (Stands made) (sym idle.empty) stands;
-            has_links = subst (λ (entries : List Entry). HasLinks (past_of entries) new.links) (sym idle.empty) (λ n brought. cc);
+            has_links =
+                subst (λ (entries : List Entry). HasLinks (options_of made) (past_of entries) new.links) (sym idle.empty)
+                (record { slots = λ s n x. cc; jobs = λ s job x. cc });
             led =
                 subst (λ (entries : List Entry). Leads memory_views (options_of made) [] entries (start_of more) (outside new)) (sym idle.empty)
                 ((λ k. record { storage = storage k; links = links k }) ∙ idle.same ∙ sym (start-more items options refl));
@@ -283,7 +288,9 @@ pub keeps-event : (old new : Run) (items : List Item) (log : List Entry) (event 
     options_of after ≡ options_of before →
     e.event ≡ event →
     (Stands before log → Stands after (e ∷ log)) →
-    (Stands before log → HasLinks (past_of log) old.links → LeadsOne memory_views (options_of before) (past_of log) e (outside old) (outside new)) →
+    (Stands before log →
+    has_link_of old.links (job_to_run (options_of before) (past_of log) event.kind) ≡ true →
+    LeadsOne memory_views (options_of before) (past_of log) e (outside old) (outside new)) →
     ((n : ℕ) → is_linked old.links n ≡ true → is_linked new.links n ≡ true) →
     may_stand items (item.Event event) ≡ true →
     Keeps old items log →
@@ -297,14 +304,19 @@ keeps-event old new items log event e before after was is same of_event stands l
             options = options_in-some items (item.Event event ∷ []) (settings_of (options_of before)) had.options ∙ ap (λ (o : Options). Some (settings_of o)) (sym same);
             stands = stands had.stands;
             has_links =
-                links-more e log old.links new.links had.has_links
+                links-more (options_of after) e log old.links new.links (stands had.stands).right
+                (has_links-under _ _ (past_of log) old.links (sym same) had.has_links)
                 (subst (λ (x : HubEvent). is_covered (is_linked old.links) x.kind ≡ true) (sym of_event) (covered-in old items log event kept may))
                 linked;
             led =
                 subst (λ (o : Options). Leads memory_views o [] (e ∷ log) (start_of more) (outside new)) (sym same)
                 (subst (λ (start : Outside MemoryState LinkState). Leads memory_views (options_of before) [] (e ∷ log) start (outside new))
-                (sym (start-more items (item.Event event) refl))
-                (outside old, had.led, subst (λ (past : List Entry). LeadsOne memory_views (options_of before) (past_of past) e (outside old) (outside new)) (sym (append-nil log)) (leads had.stands had.has_links)));
+                (sym (start-more items (item.Event event) refl)) (
+                  outside old,
+                  had.led,
+                  subst (λ (past : List Entry). LeadsOne memory_views (options_of before) (past_of past) e (outside old) (outside new)) (sym (append-nil log))
+                      (leads had.stands (has_link_of-due (options_of before) (past_of log) event.kind old.links had.has_links)),
+                ));
           });
     } where
       more : List Item

@@ -24,11 +24,11 @@ use Rattle.ftp_script_run.specs.Outcome.{log_lines}
 abbrev pub outside : Run → Outside MemoryState LinkState
 outside run = record { storage = run.storage; links = run.links }
 
--- a hub with the options of the items stands for the log, whose connections have their links and whose jobs were run
+-- a hub with the options of the items stands for the log, whose slots and jobs have their links and whose ended jobs were run
 pub record HasRun (hub : Hub) (items : List Item) (log : List Entry) (now : Outside MemoryState LinkState) : Type 0 where
   pub options : options_in items ≡ Some (settings_of (options_of hub))
   pub stands : Stands hub log
-  pub has_links : HasLinks (past_of log) now.links
+  pub has_links : HasLinks (options_of hub) (past_of log) now.links
   pub led : Leads memory_views (options_of hub) [] log (start_of items) now
 
 -- there is such a hub since the options came; before nothing was run

@@ -34,7 +34,7 @@ pub(crate) fn handle(
     ensures decision { result ≡ decision.Closed }
     ensures actions { session.old.notices + 1 < 2 ^ 64 → (answer : Answer) (job : Option Job) → actions_in room.new ≡ session_acts options.now (number_of args.now) args.now answer result job (Some session.old) }
     ensures holders { (a p : ℕ) → holder_at board.new a p ≡ held_after result (number_of args.now) (ipv4 session.old.opening.client) (waiting_port session.old.slot) a p (holder_at board.old a p) }
-    ensures same_range { SameRange board.old board.new }
+    ensures range { SameRange board.old board.new }
 {
     let EventKind::Closed { session: number } = args else {
         unreachable!()
@@ -57,7 +57,7 @@ pub(crate) fn handle(
 // Frees the port that the session waits for.
 fn release(board: &mut Switchboard, session: &Session, number: u64)
     ensures holders { (a p : ℕ) → holder_at board.new a p ≡ held_after decision.Closed number (ipv4 session.now.opening.client) (waiting_port session.now.slot) a p (holder_at board.old a p) }
-    ensures same_range { SameRange board.old board.new }
+    ensures range { SameRange board.old board.new }
 {
     if let Some(port) = waiting_port(session.slot) {
         let key = SwitchboardKey {

@@ -37,7 +37,7 @@ pub fn handle(
     ensures session { (answer : Answer) (job : Option Job) → session.new ≡ session_after args.now answer result 0 job session.old }
     ensures actions { (answer : Answer) (job : Option Job) → actions_in room.new ≡ session_acts options.now (number_of args.now) args.now answer result job (Some session.old) }
     ensures holders { (a p : ℕ) → holder_at board.new a p ≡ held_after result (number_of args.now) (ipv4 session.old.opening.client) (waiting_port session.old.slot) a p (holder_at board.old a p) }
-    ensures same_range { SameRange board.old board.new }
+    ensures range { SameRange board.old board.new }
 {
     let EventKind::Pasv {
         session: number,

@@ -1,5 +1,6 @@
-use Rattle.std.proofs.Common.{◌∙◌, arith}
+use Rattle.std.proofs.Common.{◌∙◌, sym, arith}
 use Rattle.ftp_hub.specs.Stands.{options_of}
+use Rattle.ftp_hub.proofs.Links.{has_links-under}
 use Rattle.ftp_hub.proofs.Runs.{goes-on-more, headline-fresh, leads-on, leads-under}
 use Rattle.ftp_hub.proofs.run.run_events.Goals as goal
 
@@ -15,10 +16,14 @@ loop-event-preserved g c =
       count = omega (arith, next.count, so_far.count);
       options = next.options ∙ so_far.options;
       leads = λ stood has.
-          leads-on _ (options_of c.args.hub.now) c.args.log.now.entries c.loop-event.log.entries c.run_next.new.log.entries _ _ _ (so_far.leads stood has)
-          (leads-under _ _ (options_of c.args.hub.now) c.loop-event.log.entries c.run_next.new.log.entries _ _ so_far.options (next.leads (so_far.stands stood) (so_far.has_links has)));
+          leads-on _ (options_of c.args.hub.now) c.args.log.now.entries c.loop-event.log.entries c.run_next.new.log.entries _ _ _
+          (so_far.leads stood has)
+          (leads-under _ _ (options_of c.args.hub.now) c.loop-event.log.entries c.run_next.new.log.entries _ _ so_far.options
+          (next.leads (so_far.stands stood) (has_links-under _ _ _ _ (sym so_far.options) (so_far.has_links stood has))));
       linked = λ n has. next.linked n (so_far.linked n has);
-      has_links = λ has. next.has_links (so_far.has_links has);
+      has_links = λ stood has.
+          has_links-under _ _ _ _ so_far.options
+          (next.has_links (so_far.stands stood) (has_links-under _ _ _ _ (sym so_far.options) (so_far.has_links stood has)));
     }
 
 -- the whole run

@@ -1,5 +1,5 @@
 use Rattle.std.proofs.Common.{◌≡◌, ◌+◌, ℕ, true, take}
-use Rattle.ftp_events.specs.Leads.{HasLinks}
+use Rattle.ftp_events.specs.Leads.{HasLinks, beside, views}
 use Rattle.ftp_events.specs.Log.{past_of}
 use Rattle.ftp_hub.specs.Runs.{GoesOn, LeadsOn, is_linked}
 use Rattle.ftp_hub.specs.Stands.{Stands, options_of, count_of}
@@ -13,7 +13,16 @@ invariant-loop-event g l = record {
   done : l.done ≡ l.event-index;
   count : count_of l.hub ≡ count_of l.fn.hub + l.event-index;
   options : options_of l.hub ≡ options_of l.fn.hub;
-  leads : Stands l.fn.hub l.fn.log.entries → HasLinks (past_of l.fn.log.entries) l.fn.links → LeadsOn (record { files = g.S.Storage.files; meaning = g.S.Storage.meaning; storage_faults = g.S.Storage.faults; left = g.L.Source.left; sending = g.L.Source.sending; link_faults = g.L.Source.faults }) (options_of l.fn.hub) l.fn.log.entries l.log.entries (record { storage = l.fn.storage; links = l.fn.links }) (record { storage = l.storage; links = l.links });
+  leads :
+      Stands l.fn.hub l.fn.log.entries →
+      HasLinks (options_of l.fn.hub) (past_of l.fn.log.entries) l.fn.links →
+      LeadsOn
+      (views g.S.Storage.files g.S.Storage.meaning g.S.Storage.faults g.L.Source.left g.L.Source.sending g.L.Source.faults)
+      (options_of l.fn.hub) l.fn.log.entries l.log.entries
+      (beside l.fn.storage l.fn.links) (beside l.storage l.links);
   linked : (n : ℕ) → is_linked l.fn.links n ≡ true → is_linked l.links n ≡ true;
-  has_links : HasLinks (past_of l.fn.log.entries) l.fn.links → HasLinks (past_of l.log.entries) l.links;
+  has_links :
+      Stands l.fn.hub l.fn.log.entries →
+      HasLinks (options_of l.fn.hub) (past_of l.fn.log.entries) l.fn.links →
+      HasLinks (options_of l.fn.hub) (past_of l.log.entries) l.links;
 }

@@ -1,11 +1,14 @@
 use Rattle.std.proofs.Common.{◌≡◌, sym, ap, subst, ◌∙◌, ◌∷◌, List, true}
+use Rattle.ftp_options.specs.declared.options.Options.{Options}
 use Rattle.ftp_events.specs.declared.entry.Entry.{Entry}
 use Rattle.ftp_events.specs.declared.event.HubEvent.{HubEvent}
 use Rattle.ftp_events.specs.Covers.{is_covered}
 use Rattle.ftp_events.specs.Leads.{HasLinks}
 use Rattle.ftp_events.specs.Log.{past_of}
+use Rattle.ftp_events.specs.Right.{IsRight}
 use Rattle.ftp_hub.specs.Runs.{is_linked}
-use Rattle.ftp_hub.proofs.Links.{links-more}
+use Rattle.ftp_hub.specs.Stands.{options_of}
+use Rattle.ftp_hub.proofs.Links.{has_link_of-due, links-more}
 use Rattle.ftp_hub.proofs.Runs.{goes-on-one, leads-one}
 use Rattle.ftp_hub.proofs.run.run_next.Goals as goal
 
@@ -19,15 +22,27 @@ returns-clause-event g c =
 -- the entry did to storage and links what it says
 pub returns-clause-leads : goal.returns-clause-leads
 returns-clause-leads g c st has =
-    leads-one _ _ c.args.log.now.entries c.push_reserved.new.self.entries c.in_ok-entry.entry _ _
+    let o = options_of c.args.hub.now in
+    let log = c.args.log.now.entries in
+    leads-one _ o log c.push_reserved.new.self.entries c.in_ok-entry.entry _ _
     (c.push_reserved.ensures.pushed ∙ ap (λ log. c.in_ok-entry.entry ∷ log) c.make_room.ensures.same)
-    (c.in_ok-entry.ensures.leads c.args.log.now.entries st has)
+    (c.in_ok-entry.ensures.leads log st (has_link_of-due o (past_of log) _ c.args.links.now has))
 
--- each connection still has its link
+-- each session and each job still has its link
 pub returns-clause-has_links : goal.returns-clause-has_links
-returns-clause-has_links g c has =
-    let pushed : c.push_reserved.new.self.entries ≡ c.in_ok-entry.entry ∷ c.args.log.now.entries = c.push_reserved.ensures.pushed ∙ ap (λ log. c.in_ok-entry.entry ∷ log) c.make_room.ensures.same in
-    let same : c.in_ok-entry.entry.event ≡ c.args.event.now = c.in_ok-entry.ensures.event ∙ c.in-Ok.ensures in
-    let covered : is_covered (is_linked c.args.links.now) c.in_ok-entry.entry.event.kind ≡ true = ap (λ (e : HubEvent). is_covered (is_linked c.args.links.now) e.kind) same ∙ c.requires.covered in
-    subst (λ (log : List Entry). HasLinks (past_of log) c.run_event.new.links) (sym pushed)
-    (links-more c.in_ok-entry.entry c.args.log.now.entries c.args.links.now c.run_event.new.links has covered c.in_ok-entry.ensures.linked)
+returns-clause-has_links g c st has =
+    let o = options_of c.args.hub.now in
+    let log = c.args.log.now.entries in
+    let e = c.in_ok-entry.entry in
+    let pushed : c.push_reserved.new.self.entries ≡ e ∷ log =
+    c.push_reserved.ensures.pushed ∙ ap (λ log. e ∷ log) c.make_room.ensures.same
+    in
+    let same : e.event ≡ c.args.event.now = c.in_ok-entry.ensures.event ∙ c.in-Ok.ensures in
+    let covered : is_covered (is_linked c.args.links.now) e.event.kind ≡ true =
+    ap (λ (e : HubEvent). is_covered (is_linked c.args.links.now) e.kind) same ∙ c.requires.covered
+    in
+    let right : IsRight o (e ∷ log) =
+    subst (λ (o : Options). IsRight o (e ∷ log)) c.run_event.ensures.options (c.in_ok-entry.ensures.stands log st).right
+    in
+    subst (λ (log : List Entry). HasLinks o (past_of log) c.run_event.new.links) (sym pushed)
+    (links-more o e log c.args.links.now c.run_event.new.links right has covered c.in_ok-entry.ensures.linked)
