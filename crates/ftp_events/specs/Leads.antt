@@ -25,9 +25,11 @@ pub record Views (S L : Type 0) : Type 0 where
   pub files : S → Option Files
   pub meaning : S → Meaning
   pub storage_faults : S → ℕ
+  pub storage_limit : S → ℕ
   pub left : L → Option (List ℕ)
   pub sending : L → Sending
   pub link_faults : L → ℕ
+  pub link_limit : L → ℕ
 
 -- a storage and links by their numbers
 pub record Outside (S L : Type 0) : Type 0 where
@@ -36,16 +38,18 @@ pub record Outside (S L : Type 0) : Type 0 where
 
 -- what storages and links tell, by a word for each
 abbrev pub views :
-    {S L : Type 0} → (S → Option Files) → (S → Meaning) → (S → ℕ) →
-    (L → Option (List ℕ)) → (L → Sending) → (L → ℕ) → Views S L
-views files meaning storage_faults left sending link_faults =
+    {S L : Type 0} → (S → Option Files) → (S → Meaning) → (S → ℕ) → (S → ℕ) →
+    (L → Option (List ℕ)) → (L → Sending) → (L → ℕ) → (L → ℕ) → Views S L
+views files meaning storage_faults storage_limit left sending link_faults link_limit =
     record {
       files = files;
       meaning = meaning;
       storage_faults = storage_faults;
+      storage_limit = storage_limit;
       left = left;
       sending = sending;
       link_faults = link_faults;
+      link_limit = link_limit;
     }
 
 -- a storage beside links
@@ -85,6 +89,8 @@ pub record RunsJob {S L : Type 0} (v : Views S L) (job : Job) (given : Answer) (
   pub complete : IsClean (told_by v old.storage before) (told_by v new.storage after) outcome → IsDone outcome.result
   pub storage_count : v.storage_faults old.storage ≤ v.storage_faults new.storage
   pub link_count : v.link_faults before ≤ v.link_faults after
+  pub storage_limit : v.storage_limit new.storage ≤ v.storage_limit old.storage
+  pub link_limit : v.link_limit after ≤ v.link_limit before
 
 -- nothing was asked, read, written or stored
 pub record LeavesAll {S L : Type 0} (given : Answer) (old new : Outside S L) : Type 0 where

@@ -1,5 +1,5 @@
 -- Links under a log: their numbers stay, and one more of them changes nothing.
-use Rattle.std.proofs.Common.{◌≡◌, ◌≢◌, ℕ, Bool, true, false, cond, List, [], ◌∷◌, ◌++◌, Option, Some, None, is_some, refl, sym, ap, subst, ◌∙◌, eqb-true}
+use Rattle.std.proofs.Common.{◌≡◌, ◌≢◌, ℕ, Bool, true, false, cond, List, [], ◌∷◌, ◌++◌, Option, Some, None, is_some, refl, sym, ap, subst, ◌∙◌, ◌≤◌, eqb-true, arith}
 use Rattle.std.specs.Prelude.{MatchOption}
 use Rattle.std.specs.Ordering.{nat_cmp, eq_by_cmp}
 use Rattle.std.specs.Cmp.{nat_cmp_total, unsigned_tied}
@@ -85,6 +85,8 @@ one-framed {S} {L} v o past e old new n link unlinked led = by (job_to_run o pas
         complete = ran.complete;
         storage_count = ran.storage_count;
         link_count = ran.link_count;
+        storage_limit = ran.storage_limit;
+        link_limit = ran.link_limit;
       }
 
 -- a link at a number that had none is used by no entry
@@ -99,3 +101,66 @@ leads-framed {S} {L} v o log (e ∷ newer) old new n link unlinked led =
       leads-framed v o log newer old x.0 n link unlinked x.1,
       one-framed v o (past_of (newer ++ log)) e x.0 new n link (leads-numbers v o log newer old x.0 n x.1 ∙ unlinked) x.2,
     )
+
+-- ---- limits of faults
+
+-- no limit is higher than before, and each link was there before
+pub record LimitsFall {S L : Type 0} (v : Views S L) (old new : Outside S L) : Type 0 where
+  pub storage : v.storage_limit new.storage ≤ v.storage_limit old.storage
+  pub links :
+      (n : ℕ) (after : L) → map.get new.links n ≡ Some after →
+      (before : L) × (map.get old.links n ≡ Some before) × (v.link_limit after ≤ v.link_limit before)
+
+pub LimitsFall-same : {S L : Type 0} (v : Views S L) (x : Outside S L) → LimitsFall v x x
+LimitsFall-same v x = record { storage = omega arith; links = λ n after there. (after, there, omega arith) }
+
+-- a link that is found where one was put under its number, whose limit had not risen
+found-put : {L : Type 0} (limit : L → ℕ) (links : Numbered L) (k n : ℕ) (before put after : L) →
+    map.get links k ≡ Some before →
+    limit put ≤ limit before →
+    map.get (map.insert links k put) n ≡ Some after →
+    (old : L) × (map.get links n ≡ Some old) × (limit after ≤ limit old)
+found-put {L} limit links k n before put after was falls there = by (eq_by_cmp nat_cmp n k) refl
+  where
+    found : (here : Bool) → eq_by_cmp nat_cmp n k ≡ here → cond here (Some put) (map.get links n) ≡ Some after
+    found here is =
+        sym (ap (λ b. cond b (Some put) (map.get links n)) is)
+        ∙ sym (map.get-insert nat_cmp_total links k put n)
+        ∙ there
+
+    by : (here : Bool) → eq_by_cmp nat_cmp n k ≡ here → (old : L) × (map.get links n ≡ Some old) × (limit after ≤ limit old)
+    by true is =
+        let puts = found true is in
+        let same : put ≡ after = cc in
+        (before, ap (map.get links) (same_number n k is) ∙ was, subst (λ (x : L). limit x ≤ limit before) same falls)
+    by false is = (after, found false is, omega arith)
+
+LimitsFall-one : {S L : Type 0} (v : Views S L) (o : Options) (past : List Entry) (e : Entry) (old new : Outside S L) →
+    LeadsOne v o past e old new →
+    LimitsFall v old new
+LimitsFall-one {S} {L} v o past e old new led = by (job_to_run o past e.event.kind) led where
+  by : (found : Option Job) → MatchOption found (LeavesAll e.answer old new) (λ job. RunsJob v job e.answer old new) → LimitsFall v old new
+  by None idle = subst (λ (x : Outside S L). LimitsFall v old x) (sym idle.same) (LimitsFall-same v old)
+  by (Some job) ran = record {
+    storage = ran.storage_limit;
+    links = λ n after there.
+        found-put v.link_limit old.links job.number n ran.before ran.after after ran.there ran.link_limit
+        (ap (λ (links : Numbered L). map.get links n) (sym ran.links) ∙ there);
+  }
+
+-- what a log does raises no limit of faults
+pub leads-limits : {S L : Type 0} (v : Views S L) (o : Options) (log newer : List Entry) (old new : Outside S L) →
+    Leads v o log newer old new →
+    LimitsFall v old new
+leads-limits {S} {L} v o log [] old new led = subst (λ (x : Outside S L). LimitsFall v old x) (sym led) (LimitsFall-same v old)
+leads-limits {S} {L} v o log (e ∷ newer) old new led =
+    let x : (between : Outside S L) × Leads v o log newer old between × LeadsOne v o (past_of (newer ++ log)) e between new = led in
+    let first = leads-limits v o log newer old x.0 x.1 in
+    let last = LimitsFall-one v o (past_of (newer ++ log)) e x.0 new x.2 in
+    record {
+      storage = omega arith;
+      links = λ n after there.
+          (let later = last.links n after there in
+          let before = first.links n later.0 later.1 in
+          (before.0, before.1, omega arith));
+    }

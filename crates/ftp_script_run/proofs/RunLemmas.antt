@@ -1,6 +1,6 @@
 -- A run, and one more item.
 use Rattle.std.specs.List.{list_any}
-use Rattle.std.proofs.Common.{◌≡◌, ℕ, Bool, true, false, List, [], ◌∷◌, ◌++◌, Option, Some, None, is_some, refl, sym, ap, subst, ◌∙◌}
+use Rattle.std.proofs.Common.{◌≡◌, ℕ, Bool, true, false, List, [], ◌∷◌, ◌++◌, Option, Some, None, is_some, refl, sym, ap, subst, ◌∙◌, ◌≤◌, arith}
 use Rattle.std.specs.Prelude.{MatchOption, IsTrue}
 use Rattle.std.specs.FinMap as map
 use Rattle.std.proofs.lemmas.List.{append-nil}
@@ -8,7 +8,7 @@ use Rattle.std.proofs.lemmas.Bool.{not-true, and_parts}
 use Rattle.ftp_base.specs.declared.fault.LinkFault.{LinkFault}
 use Rattle.ftp_base.specs.MemoryStorage.{MemoryState}
 use Rattle.ftp_base.specs.LinkTable.{Numbered}
-use Rattle.ftp_base.specs.Memory.{LinkState}
+use Rattle.ftp_base.specs.Memory.{LinkState, link_fault_limit}
 use Rattle.ftp_options.specs.declared.options.Options.{Options}
 use Rattle.ftp_options.specs.Settings.{Settings}
 use Rattle.ftp_options.specs.Builder.{settings_of}
@@ -27,11 +27,11 @@ use Rattle.ftp_script_text.specs.Script.{says, has_options, has_link, may_stand}
 use Rattle.ftp_script_text.specs.SetUp.{has_event, set_up, storage_in}
 use Rattle.ftp_script_run.specs.declared.run.Run.{Run}
 use Rattle.ftp_script_run.specs.Items.{events_in, options_in, new_link, link_in, links_in}
-use Rattle.ftp_script_run.specs.Legal.{memory_views, start_of, IsDue, IsIdle, IsLegal}
+use Rattle.ftp_script_run.specs.Legal.{memory_views, start_of, FailsAsListed, IsDue, IsIdle, IsLegal}
 use Rattle.ftp_script_run.specs.Runs.{outside, HasRun, HasHub, Keeps, MayTake}
 use Rattle.ftp_script_run.proofs.ItemLemmas.{options_in-some, options_in-none, has_options-is, is_some-links_in, links_in-other, links_in-link, storage_in-more}
 use Rattle.ftp_script_run.proofs.LegalLemmas.{events-other, events-more, no-entry}
-use Rattle.ftp_script_run.proofs.LeadsLemmas.{leads-numbers, with_link, leads-framed}
+use Rattle.ftp_script_run.proofs.LeadsLemmas.{leads-numbers, with_link, leads-framed, LimitsFall, LimitsFall-same, leads-limits}
 
 -- ---- options
 
@@ -67,8 +67,25 @@ kept-numbers run items log n kept = by run.hub kept.hub ∙ is_some-links_in ite
   by None idle = ap (λ (x : Outside MemoryState LinkState). is_linked x.links n) idle.1.same
   by (Some hub) h = leads-numbers memory_views (options_of hub) [] log (start_of items) (outside run) n h.led
 
+-- no more calls failed than the items list
+kept-listed : (run : Run) (items : List Item) (log : List Entry) → Keeps run items log → FailsAsListed (start_of items) (outside run)
+kept-listed run items log kept = listed (fall run.hub kept.hub) where
+  fall : (found : Option Hub) → HasHub found items log (outside run) → LimitsFall memory_views (start_of items) (outside run)
+  fall None idle = subst (λ (x : Outside MemoryState LinkState). LimitsFall memory_views (start_of items) x) (sym idle.1.same) (LimitsFall-same memory_views (start_of items))
+  fall (Some hub) h = leads-limits memory_views (options_of hub) [] log (start_of items) (outside run) h.led
+
+  listed : LimitsFall memory_views (start_of items) (outside run) → FailsAsListed (start_of items) (outside run)
+  listed falls = record {
+    storage = omega (arith, falls.storage);
+    links = λ n before after was there.
+        (let found = falls.links n after there in
+        let same : found.0 ≡ before = cc in
+        let limit = subst (λ (x : LinkState). link_fault_limit after.calls ≤ link_fault_limit x.calls) same found.2 in
+        omega (arith, limit));
+  }
+
 pub kept-legal : (run : Run) (items : List Item) (log : List Entry) → Keeps run items log → IsLegal items log run.links run.storage
-kept-legal run items log kept = record { events = kept.events; due = by run.hub kept.hub } where
+kept-legal run items log kept = record { events = kept.events; due = by run.hub kept.hub; listed = kept-listed run items log kept } where
   Due : Option Settings → Type 0
   Due found = MatchOption found (IsIdle log (start_of items) (outside run)) (λ settings. IsDue settings log (start_of items) (outside run))
 

@@ -1,7 +1,8 @@
 -- The legal log of a script's items, the newest entry first, and what it does to their storage and links.
-use Rattle.std.specs.Prelude.{◌≡◌, List, [], map, reverse, Some, MatchOption}
+use Rattle.std.specs.Prelude.{ℕ, ◌≡◌, ◌≤◌, List, [], map as map_list, reverse, Some, MatchOption}
+use Rattle.std.specs.FinMap as map
 use Rattle.ftp_base.specs.LinkTable.{Numbered}
-use Rattle.ftp_base.specs.Memory.{LinkState}
+use Rattle.ftp_base.specs.Memory.{LinkState, fault_limit, link_fault_limit}
 use Rattle.ftp_base.specs.MemoryStorage.{MemoryState, memory_meaning}
 use Rattle.ftp_options.specs.declared.options.Options.{Options}
 use Rattle.ftp_options.specs.Settings.{Settings}
@@ -20,14 +21,23 @@ memory_views =
       files = λ s. Some s.files;
       meaning = λ s. memory_meaning s.files s.max_file;
       storage_faults = λ s. s.calls.faults;
+      storage_limit = λ s. fault_limit s.calls;
       left = λ l. Some l.left;
       sending = λ l. record { sent = Some l.sent; closed = l.closed; last_fault = l.last_fault };
       link_faults = λ l. l.calls.faults;
+      link_limit = λ l. link_fault_limit l.calls;
     }
 
 -- the storage and all links as the items set them up; an event can use no link before its line
 abbrev pub start_of : List Item → Outside MemoryState LinkState
 start_of items = record { storage = storage_in items; links = links_in items }
+
+-- of a storage and its links no more calls failed than were listed to come
+pub record FailsAsListed (old new : Outside MemoryState LinkState) : Type 0 where
+  pub storage : new.storage.calls.faults ≤ fault_limit old.storage.calls
+  pub links :
+      (n : ℕ) (before after : LinkState) → map.get old.links n ≡ Some before → map.get new.links n ≡ Some after →
+      after.calls.faults ≤ link_fault_limit before.calls
 
 -- by options with these settings each decision and each action is due, and each job was run, at its end, from old to new
 pub record IsDue (settings : Settings) (log : List Entry) (old new : Outside MemoryState LinkState) : Type 0 where
@@ -42,9 +52,11 @@ pub record IsIdle (log : List Entry) (old new : Outside MemoryState LinkState) :
   pub empty : log ≡ []
   pub same : new ≡ old
 
--- the entries are those of the script's events, in their order; all that they say is due, and leaves these links and this storage
+-- the entries are those of the script's events, in their order; all that they say is due, and leaves these links and this
+-- storage, of which no more calls failed than the script lists
 pub record IsLegal (items : List Item) (log : List Entry) (links : Numbered LinkState) (storage : MemoryState) : Type 0 where
-  pub events : map (λ (e : Entry). e.event) (reverse log) ≡ events_in items
+  pub events : map_list (λ (e : Entry). e.event) (reverse log) ≡ events_in items
   pub due :
       MatchOption (options_in items) (IsIdle log (start_of items) (record { storage = storage; links = links }))
       (λ settings. IsDue settings log (start_of items) (record { storage = storage; links = links }))
+  pub listed : FailsAsListed (start_of items) (record { storage = storage; links = links })

@@ -22,6 +22,8 @@ returns-in-Some-clause-ran g c linked =
       complete = c.execute.ensures.complete;
       storage_count = c.execute.ensures.storage_count;
       link_count = c.execute.ensures.link_count;
+      storage_limit = c.execute.ensures.storage_limit;
+      link_limit = c.execute.ensures.link_limit;
     }
 
 -- every number that had a link has one
