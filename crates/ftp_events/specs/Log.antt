@@ -54,3 +54,10 @@ named_session _ = None
 abbrev pub is_ending : Decision → Bool
 is_ending Closed = true
 is_ending _ = false
+
+-- the event has a name, a path or a command, so that its copy takes memory
+abbrev pub has_text : EventKind → Bool
+has_text (User session name) = true
+has_text (Transfer session command) = true
+has_text (Cwd session path refusal) = true
+has_text _ = false

@@ -1,6 +1,8 @@
 //! What happens, and what the outside answers.
 
-ghost use Rattle.std.specs.Prelude.{◌≡◌, IfOk};
+ghost use Rattle.std.specs.Prelude.{◌≡◌, false, IfOk};
+ghost use Rattle.ftp_events.specs.Covers.{link_number};
+ghost use Rattle.ftp_events.specs.Log.{named_session, has_text};
 
 use ftp_base::{AuthAnswer, Bytes, DataChanCmd, ErrorKind, SocketAddr};
 use ftp_transfer::{Outcome, Ticket};
@@ -93,59 +95,47 @@ pub enum Answer {
 }
 
 impl EventKind {
+    /// The session that the event or its ticket names.
+    pub fn named_session(&self) -> Option<u64>
+        ensures { result ≡ named_session self.now }
+    {
+        match self {
+            EventKind::User { session, .. }
+            | EventKind::Transfer { session, .. }
+            | EventKind::Stou { session, .. }
+            | EventKind::Pass { session }
+            | EventKind::AuthDone { session, .. }
+            | EventKind::Pasv { session, .. }
+            | EventKind::Rest { session, .. }
+            | EventKind::Cwd { session, .. }
+            | EventKind::Closed { session } => Some(*session),
+            EventKind::End { ticket } => Some(ticket.session),
+            EventKind::Connect { .. } | EventKind::DataIn { .. } => None,
+        }
+    }
+
+    /// The number of the connection that comes with the event.
+    pub fn link_number(&self) -> Option<u64>
+        ensures { result ≡ link_number self.now }
+    {
+        match self {
+            EventKind::DataIn { number, .. } => Some(*number),
+            _ => None,
+        }
+    }
+
     /// Gives an equal kind.
     pub fn copy(&self, alloc: Global) -> Result<EventKind, AllocError>
         ensures { IfOk result (λ copy. copy ≡ self.now) }
     {
         match self {
-            EventKind::Connect {
-                session,
-                raw,
-                local,
-                trace,
-            } => Ok(EventKind::Connect {
-                session: *session,
-                raw: *raw,
-                local: *local,
-                trace: *trace,
-            }),
-            EventKind::DataIn { number, raw, port } => Ok(EventKind::DataIn {
-                number: *number,
-                raw: *raw,
-                port: *port,
-            }),
             EventKind::User { session, name } => Ok(EventKind::User {
                 session: *session,
                 name: name.copy(alloc)?,
             }),
-            EventKind::Pass { session } => Ok(EventKind::Pass { session: *session }),
-            EventKind::AuthDone { session, answer } => Ok(EventKind::AuthDone {
-                session: *session,
-                answer: *answer,
-            }),
-            EventKind::Pasv {
-                session,
-                word,
-                lookup,
-                bound,
-            } => Ok(EventKind::Pasv {
-                session: *session,
-                word: *word,
-                lookup: *lookup,
-                bound: *bound,
-            }),
             EventKind::Transfer { session, command } => Ok(EventKind::Transfer {
                 session: *session,
                 command: command.copy(alloc)?,
-            }),
-            EventKind::Stou { session, word } => Ok(EventKind::Stou {
-                session: *session,
-                word: *word,
-            }),
-            EventKind::End { ticket } => Ok(EventKind::End { ticket: *ticket }),
-            EventKind::Rest { session, offset } => Ok(EventKind::Rest {
-                session: *session,
-                offset: *offset,
             }),
             EventKind::Cwd {
                 session,
@@ -156,7 +146,46 @@ impl EventKind {
                 path: path.copy(alloc)?,
                 refusal: *refusal,
             }),
-            EventKind::Closed { session } => Ok(EventKind::Closed { session: *session }),
+            _ => Ok(self.copy_numbers()),
+        }
+    }
+
+    // Gives an equal kind, for an event without a text.
+    fn copy_numbers(&self) -> EventKind
+        requires { has_text self.now ≡ false }
+        ensures { result ≡ self.now }
+    {
+        match *self {
+            EventKind::Connect {
+                session,
+                raw,
+                local,
+                trace,
+            } => EventKind::Connect {
+                session,
+                raw,
+                local,
+                trace,
+            },
+            EventKind::DataIn { number, raw, port } => EventKind::DataIn { number, raw, port },
+            EventKind::Pass { session } => EventKind::Pass { session },
+            EventKind::AuthDone { session, answer } => EventKind::AuthDone { session, answer },
+            EventKind::Pasv {
+                session,
+                word,
+                lookup,
+                bound,
+            } => EventKind::Pasv {
+                session,
+                word,
+                lookup,
+                bound,
+            },
+            EventKind::Stou { session, word } => EventKind::Stou { session, word },
+            EventKind::Rest { session, offset } => EventKind::Rest { session, offset },
+            EventKind::End { ticket } => EventKind::End { ticket },
+            EventKind::Closed { session } => EventKind::Closed { session },
+            _ => unreachable!(),
         }
     }
 }

@@ -5,7 +5,7 @@ ghost use Rattle.std.specs.Option.{option_map};
 ghost use Rattle.ftp_base.specs.declared.net.IpAddr.TheVariants.{V4};
 ghost use Rattle.ftp_events.specs.declared.decision.Decision.TheVariants.{Opened};
 ghost use Rattle.ftp_events.specs.Words.{is_number};
-ghost use Rattle.ftp_events.specs.Log.{past_of, is_refusal, named_session, new_number};
+ghost use Rattle.ftp_events.specs.Log.{past_of, is_refusal, new_number};
 ghost use Rattle.ftp_events.specs.Opening.{opened_number, opening_by, opener};
 ghost use Rattle.ftp_events.specs.Board.{target, comes_to, is_client, gives_hold, gives_up_hold, ends_hold, holder};
 ghost use Rattle.ftp_events.specs.Right.{reply_to, replies};
@@ -99,7 +99,7 @@ fn holder_after(
         return held;
     }
     if gives_hold(options, before, e, client, port) {
-        return named_session(&e.event.kind);
+        return e.event.kind.named_session();
     }
     if comes_to(options, e, client, port) {
         return None;
@@ -116,7 +116,7 @@ fn gives_hold(options: &Options, before: &[Entry], e: &Entry, client: IpAddr, po
 {
     match (options.mode, e.decision) {
         (ListenerMode::Pooled, Decision::Granted { port: granted }) => {
-            granted == port && is_client(before, named_session(&e.event.kind), client)
+            granted == port && is_client(before, e.event.kind.named_session(), client)
         }
         _ => false,
     }
@@ -218,7 +218,7 @@ fn target(options: &Options, kind: &EventKind, answer: Answer) -> Option<SocketA
 fn ends_hold(e: &Entry, session: u64) -> bool
     ensures { result ≡ ends_hold e.now session }
 {
-    named_session(&e.event.kind) == Some(session) && gives_up_hold(e.decision)
+    e.event.kind.named_session() == Some(session) && gives_up_hold(e.decision)
 }
 
 // Says whether the decision replaces or drops the slot of the session that the entry names.
@@ -236,23 +236,4 @@ fn is_refusal(decision: Decision) -> bool
         decision,
         Decision::UnknownNumber | Decision::UsedNumber | Decision::Misplaced | Decision::NotExpected
     )
-}
-
-// The session that an event names.
-fn named_session(kind: &EventKind) -> Option<u64>
-    ensures { result ≡ named_session kind.now }
-{
-    match kind {
-        EventKind::User { session, .. }
-        | EventKind::Transfer { session, .. }
-        | EventKind::Stou { session, .. }
-        | EventKind::Pass { session }
-        | EventKind::AuthDone { session, .. }
-        | EventKind::Pasv { session, .. }
-        | EventKind::Rest { session, .. }
-        | EventKind::Cwd { session, .. }
-        | EventKind::Closed { session } => Some(*session),
-        EventKind::End { ticket } => Some(ticket.session),
-        EventKind::Connect { .. } | EventKind::DataIn { .. } => None,
-    }
 }

@@ -20,47 +20,24 @@ pub const PASSIVE_TEXT: usize = 64;
 pub fn reply_of(alloc: Global, message: &ControlChanMsg) -> Result<Reply, AllocError>
     ensures { IfOk result (λ reply. reply ≡ reply_of message.now) }
 {
-    let (code, msg) = match message {
-        ControlChanMsg::AuthSuccess { .. } => {
-            (
-                ReplyCode::UserLoggedIn,
-                b"User logged in, proceed".as_slice(),
-            )
-        }
-        ControlChanMsg::AuthFailed => {
-            (ReplyCode::NotLoggedIn, b"Authentication failed".as_slice())
-        }
-        ControlChanMsg::CwdSuccess => {
-            (
-                ReplyCode::FileActionOkay,
-                b"Successfully changed working directory".as_slice(),
-            )
-        }
+    let (code, msg): (ReplyCode, &[u8]) = match message {
+        ControlChanMsg::AuthSuccess { .. } => (ReplyCode::UserLoggedIn, b"User logged in, proceed"),
+        ControlChanMsg::AuthFailed => (ReplyCode::NotLoggedIn, b"Authentication failed"),
+        ControlChanMsg::CwdSuccess => (
+            ReplyCode::FileActionOkay,
+            b"Successfully changed working directory",
+        ),
         ControlChanMsg::StorageError(kind) => refusal(*kind),
-        ControlChanMsg::SentData { .. } => {
-            (
-                ReplyCode::ClosingDataConnection,
-                b"Successfully sent".as_slice(),
-            )
-        }
-        ControlChanMsg::WrittenData { .. } => {
-            (
-                ReplyCode::ClosingDataConnection,
-                b"File successfully written".as_slice(),
-            )
-        }
-        ControlChanMsg::WriteFailed => {
-            (
-                ReplyCode::TransientFileError,
-                b"Failed to write file".as_slice(),
-            )
-        }
-        ControlChanMsg::DirectorySuccessfullyListed => {
-            (
-                ReplyCode::ClosingDataConnection,
-                b"Listed the directory".as_slice(),
-            )
-        }
+        ControlChanMsg::SentData { .. } => (ReplyCode::ClosingDataConnection, b"Successfully sent"),
+        ControlChanMsg::WrittenData { .. } => (
+            ReplyCode::ClosingDataConnection,
+            b"File successfully written",
+        ),
+        ControlChanMsg::WriteFailed => (ReplyCode::TransientFileError, b"Failed to write file"),
+        ControlChanMsg::DirectorySuccessfullyListed => (
+            ReplyCode::ClosingDataConnection,
+            b"Listed the directory",
+        ),
         ControlChanMsg::CommandChannelReply(reply) => return reply.copy(alloc),
     };
     let msg = Bytes::from_slice(alloc, msg)?;

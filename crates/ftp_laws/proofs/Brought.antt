@@ -56,7 +56,9 @@ attached-subject :
     due o past at k answer ≡ decision.Attached q →
     option_or (named_session k) (holder_of_target o past k answer) ≡ Some q
 attached-subject o past at (kind.DataIn number raw port) answer q h =
-    go (connection-goes o past at (kind.DataIn number raw port) answer (due o past at (kind.DataIn number raw port) answer) (record { client = raw.ip; port = port }) refl (ap is_refusal h) refl)
+    go
+    (connection-goes o past at (kind.DataIn number raw port) answer (due o past at (kind.DataIn number raw port) answer)
+    (record { client = raw.ip; port = port }) refl (ap is_refusal h) refl)
   where
     go :
         Goes o past (due o past at (kind.DataIn number raw port) answer) raw.ip port →
@@ -142,8 +144,12 @@ starts-on-own o log e s n r a h = by_refusal (is_refusal e.decision) refl
         let own : q ≡ s = sym (started_in-owned o log e q j r.0 r.1 c x) ∙ eqb-true j.ticket.session s parts.0 in
         let link : j.number ≡ n = eqb-true j.number n parts.1 in
         let about : concerns o past e s ≡ true = subst (λ (m : ℕ). concerns o past e m ≡ true) own c in
-        let brings = started-brings e.event.kind e.decision (queued_in (history o past q) e) (lane (history o past q)) j (sym (starting-history o past e q (ended-empty o log q r.0)) ∙ x) in
-        by_link about (subst (λ (m : ℕ). Brings e.event.kind e.decision (lane (history o past m)).slot n) own (subst (λ (m : ℕ). Brings e.event.kind e.decision (lane (history o past q)).slot m) link brings))
+        let brings =
+        started-brings e.event.kind e.decision (queued_in (history o past q) e) (lane (history o past q)) j
+        (sym (starting-history o past e q (ended-empty o log q r.0)) ∙ x) in
+        by_link about
+        (subst (λ (m : ℕ). Brings e.event.kind e.decision (lane (history o past m)).slot n) own
+        (subst (λ (m : ℕ). Brings e.event.kind e.decision (lane (history o past q)).slot m) link brings))
 
     by_job :
         (q : ℕ) → concerns o past e q ≡ true →
@@ -167,7 +173,8 @@ starts-on-own o log e s n r a h = by_refusal (is_refusal e.decision) refl
           counted,
           count-about (starts_there s n) o past e q (starts_there-on-transfers s n) counts a.1 about,
           starts_there-completions s n e.event.kind e.decision (stays e.decision (session o past q)),
-          count-drop_acts (starts_there s n) q (stays e.decision (session o past q)) e.decision (slot_of (session o past q)) (pending_in (session o past q)) (starts_there-on-transfers s n) (λ t. refl),
+          count-drop_acts (starts_there s n) q (stays e.decision (session o past q)) e.decision (slot_of (session o past q)) (pending_in (session o past q))
+              (starts_there-on-transfers s n) (λ t. refl),
         ))
 
     by_refusal : (b : Bool) → is_refusal e.decision ≡ b → has_brought s n (e ∷ log) ≡ true

@@ -2,6 +2,7 @@
 use Rattle.std.proofs.Common.{◌≡◌, refl, sym, ◌∙◌, ap, subst, ℕ, ◌+◌, ◌≤◌, Bool, true, false, true≢false, ◌||◌, cond, List, [], ◌∷◌, length, Option, Some, None, arith, inl, inr}
 use Rattle.std.specs.Prelude.{◌⊎◌, count_by, is_some}
 use Rattle.std.specs.List.{list_any}
+use Rattle.std.proofs.lemmas.Bool.{or_parts}
 use Rattle.std.proofs.lemmas.List.Sums.{sum_by-cons}
 use Rattle.ftp_options.specs.declared.options.Options.{Options}
 use Rattle.ftp_transfer.specs.declared.job.Ticket.{Ticket}
@@ -31,7 +32,6 @@ use Rattle.ftp_laws.proofs.Holds.{number-is}
 use Rattle.ftp_laws.proofs.Waits.{opened-subject}
 use Rattle.ftp_laws.proofs.Told.{opened-is}
 use Rattle.ftp_laws.proofs.Lanes.{IsBare, ended-empty, pending-placed}
-use Rattle.ftp_laws.proofs.Links.{or-second}
 use Rattle.ftp_laws.proofs.Counts.{count-nobody}
 use Rattle.ftp_laws.proofs.Tickets.{one, carried, settles-on-transfers, lane-balance}
 use Rattle.ftp_laws.proofs.Accounts.{IsOwned, owned, slot-told, IsNext, queues-next, entry-fit, settles-elsewhere, settles-here}
@@ -97,7 +97,7 @@ accounted-other o past e t settled queued fit counts acted n c own h =
     let kept : carried t (lane (history o (e ∷ past) s)) ≡ carried t (lane (history o past s)) = ap (λ (x : List Entry). carried t (lane x)) same in
     record {
       balance = omega (arith, kept, h.balance, unqueued, silent);
-      fresh = λ x. omega (arith, unqueued, h.fresh (or-second (is_number (new_number e.event.kind e.decision) s) (is_used past s) x));
+      fresh = λ x. omega (arith, unqueued, h.fresh (or_parts (is_number (new_number e.event.kind e.decision) s) (is_used past s) x).1);
       numbered = numbers unqueued h.numbered;
       once = omega (arith, unqueued, h.once);
     }
@@ -133,7 +133,7 @@ accounted-own o past e t settled queued fit counts acted n c bare h =
         settles-here o past e t counts acted c bare,
         lane-balance t t.session (stays e.decision (session o past t.session)) e.event.kind e.decision (queued_in (history o past t.session) e) (lane (history o past t.session)) (entry-fit o past e t.session fit c),
       );
-      fresh = λ x. unused (or-second (is_number (new_number e.event.kind e.decision) t.session) (is_used past t.session) x) (queues t e.decision) refl;
+      fresh = λ x. unused (or_parts (is_number (new_number e.event.kind e.decision) t.session) (is_used past t.session) x).1 (queues t e.decision) refl;
       numbered = numbers (queues t e.decision) refl h.numbered;
       once = single (queues t e.decision) refl h.numbered;
     }

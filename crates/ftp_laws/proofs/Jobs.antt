@@ -118,12 +118,14 @@ started-bare k d queued l h = refl
 pub starting-history :
     (o : Options) (past : List Entry) (e : Entry) (s : ℕ) →
     (session o past s ≡ None → IsBare (lane (history o past s))) →
-    option_and_then (starting e.event.kind e.decision (running_job o past s)) (session o past s) ≡ started_by e.event.kind e.decision (queued_in (history o past s) e) (lane (history o past s))
+    option_and_then (starting e.event.kind e.decision (running_job o past s)) (session o past s)
+    ≡ started_by e.event.kind e.decision (queued_in (history o past s) e) (lane (history o past s))
 starting-history o past e s bare = go (session o past s) refl
   where
     go :
         (v : Option Session) → session o past s ≡ v →
-        option_and_then (starting e.event.kind e.decision (running_job o past s)) v ≡ started_by e.event.kind e.decision (queued_in (history o past s) e) (lane (history o past s))
+        option_and_then (starting e.event.kind e.decision (running_job o past s)) v
+        ≡ started_by e.event.kind e.decision (queued_in (history o past s) e) (lane (history o past s))
     go None x = sym (started-bare e.event.kind e.decision (queued_in (history o past s) e) (lane (history o past s)) (bare x))
     go (Some v) x = starting-told o past e s v x
 
@@ -190,12 +192,19 @@ running-balance :
     (s : ℕ) (k : EventKind) (d : Decision) (b : Bool) (queued : Option Pending) (l : Lane) →
     IsFit k d queued l →
     ((ticket : Ticket) → k ≡ kind.End ticket → ticket.session ≡ s) →
-    one (is_some (lane_after k d queued l).running) + count_by (completes_for s) (completions k d b) ≡ one (is_some l.running) + one (is_some (started_by k d queued l))
+    one (is_some (lane_after k d queued l).running) + count_by (completes_for s) (completions k d b)
+    ≡ one (is_some l.running) + one (is_some (started_by k d queued l))
 running-balance s k decision.Finished b queued l fit named =
     let x = fit.end refl in
     let told : count_by (completes_for s) (completions k decision.Finished b) ≡ 1 = rw x.1 (rw (named x.0 x.1, eq-eqb s s refl) refl) in
     let ran : one (is_some l.running) ≡ 1 = rw x.2.1 refl in
-    omega (arith, told, ran, ap (λ (r : Option Job). one (is_some r)) (runs-started l.slot l.pending None), one-either (startable l.slot l.pending None) None (λ j h. refl))
+    omega (
+      arith,
+      told,
+      ran,
+      ap (λ (r : Option Job). one (is_some r)) (runs-started l.slot l.pending None),
+      one-either (startable l.slot l.pending None) None (λ j h. refl),
+    )
 running-balance s k d b queued l fit named =
     omega (
       arith,
@@ -207,7 +216,8 @@ running-balance s k d b queued l fit named =
 -- what an entry starts and completes of session s, and which job of it runs then
 abbrev pub IsBalanced : Options → List Entry → Entry → ℕ → Type 0
 IsBalanced o past e s =
-    count_by (starts_for s) e.actions + one (is_some (running_job o past s)) ≡ count_by (completes_for s) e.actions + one (is_some (running_job o (e ∷ past) s))
+    count_by (starts_for s) e.actions + one (is_some (running_job o past s))
+    ≡ count_by (completes_for s) e.actions + one (is_some (running_job o (e ∷ past) s))
 
 -- an entry that counts is balanced
 pub jobs-balance :
@@ -227,7 +237,8 @@ jobs-balance o log e s r fit counts acted = by_opening (opens e s) refl
           arith,
           count-about (starts_for s) o past e q (starts_for-on-transfers s) counts acted about,
           starts_for-completions s e.event.kind e.decision (stays e.decision (session o past q)),
-          count-drop_acts (starts_for s) q (stays e.decision (session o past q)) e.decision (slot_of (session o past q)) (pending_in (session o past q)) (starts_for-on-transfers s) (λ t. refl),
+          count-drop_acts (starts_for s) q (stays e.decision (session o past q)) e.decision (slot_of (session o past q)) (pending_in (session o past q))
+              (starts_for-on-transfers s) (λ t. refl),
         )
 
     completes :
@@ -238,7 +249,8 @@ jobs-balance o log e s r fit counts acted = by_opening (opens e s) refl
           arith,
           count-about (completes_for s) o past e q (completes_for-on-transfers s) counts acted about,
           completes_for-start_acts s (started_in o past e q),
-          count-drop_acts (completes_for s) q (stays e.decision (session o past q)) e.decision (slot_of (session o past q)) (pending_in (session o past q)) (completes_for-on-transfers s) (λ t. refl),
+          count-drop_acts (completes_for s) q (stays e.decision (session o past q)) e.decision (slot_of (session o past q)) (pending_in (session o past q))
+              (completes_for-on-transfers s) (λ t. refl),
         )
 
     silent :
@@ -283,7 +295,9 @@ jobs-balance o log e s r fit counts acted = by_opening (opens e s) refl
           count-own_start s (started_in o past e s) (λ j h. started_in-owned o log e s j r fit c h),
           ap (λ (j : Option Job). one (is_some j)) (starting-history o past e s (ended-empty o log s r)),
           completes s about,
-          running-balance s e.event.kind e.decision (stays e.decision (session o past s)) (queued_in (history o past s) e) (lane (history o past s)) (entry-fit o past e s fit c) (λ ticket k. named-concern o past e ticket.session s (ap named_session k) c),
+          running-balance s e.event.kind e.decision (stays e.decision (session o past s)) (queued_in (history o past s) e) (lane (history o past s))
+              (entry-fit o past e s fit c)
+              (λ ticket k. named-concern o past e ticket.session s (ap named_session k) c),
           ap (λ (h : List Entry). one (is_some (lane h).running)) (history-own o past e s n c),
         )
 
@@ -291,7 +305,8 @@ jobs-balance o log e s r fit counts acted = by_opening (opens e s) refl
     by_opening false n = by_concern n (concerns o past e s) refl
     by_opening true n =
         let d : e.decision ≡ decision.Opened = opened-is e.event.kind e.decision s n in
-        let first : opened_number e.event.kind (due o past e.event.at e.event.kind e.answer) ≡ Some s = subst (λ (x : Decision). opened_number e.event.kind x ≡ Some s) fit (number-is _ s n) in
+        let first : opened_number e.event.kind (due o past e.event.at e.event.kind e.answer) ≡ Some s =
+        subst (λ (x : Decision). opened_number e.event.kind x ≡ Some s) fit (number-is _ s n) in
         let about : subject o past e ≡ None = opened-subject o past e.event.at e.event.kind e.answer (sym fit ∙ d) in
         let before : running_job o past s ≡ None = unused-idle o log s r (opened-unused o past e.event.at e.event.kind e.answer s first) in
         let start : history o (e ∷ past) s ≡ e ∷ [] = rw n refl in
@@ -311,7 +326,8 @@ runs-one o (e ∷ log) s r a = go (is_refusal e.decision) refl (runs-one o log s
     go :
         (b : Bool) → is_refusal e.decision ≡ b →
         started_count s log ≡ completed_count s log + one (is_some (running_job o (past_of log) s)) →
-        started_count s log + count_by (starts_for s) e.actions ≡ (completed_count s log + count_by (completes_for s) e.actions) + one (is_some (running_job o (past_of (e ∷ log)) s))
+        started_count s log + count_by (starts_for s) e.actions
+        ≡ (completed_count s log + count_by (completes_for s) e.actions) + one (is_some (running_job o (past_of (e ∷ log)) s))
     go true x h =
         let none : e.actions ≡ [] = a.1 ∙ rw x refl in
         omega (

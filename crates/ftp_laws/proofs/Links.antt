@@ -1,9 +1,9 @@
 -- A link takes one job at most.
-use Rattle.std.proofs.Common.{◌≡◌, refl, sym, ◌∙◌, ap, subst, ℕ, ◌+◌, ◌≤◌, Bool, true, false, true≢false, ◌||◌, cond, List, [], ◌∷◌, ◌++◌, Option, Some, None, arith, eqb-true, eq-eqb, inl, inr}
+use Rattle.std.proofs.Common.{◌≡◌, refl, sym, ◌∙◌, ap, subst, ℕ, ◌+◌, ◌≤◌, Bool, true, false, true≢false, cond, List, [], ◌∷◌, ◌++◌, Option, Some, None, arith, eqb-true, eq-eqb, inl, inr}
 use Rattle.std.specs.Prelude.{◌⊎◌, ◌==◌, count_by}
 use Rattle.std.specs.Option.{option_map_or, option_and_then}
 use Rattle.std.proofs.lemmas.Option.{same_Some}
-use Rattle.std.proofs.lemmas.Bool.{or_right}
+use Rattle.std.proofs.lemmas.Bool.{or_right, or_parts}
 use Rattle.ftp_options.specs.declared.options.Options.{Options}
 use Rattle.ftp_transfer.specs.declared.job.Job.{Job}
 use Rattle.ftp_events.specs.declared.action.Action.{Action}
@@ -301,11 +301,6 @@ starts-leave o past e n st = by_opening (opens e s) refl
         let start : history o (e ∷ past) s ≡ e ∷ [] = rw x refl in
         subst (λ (l : List Entry). link_in (lane l).slot ≡ None) (sym start) (rw (opened-is e.event.kind e.decision s x) refl)
 
--- of two that do not hold together neither does the second
-pub or-second : (a b : Bool) → (a || b) ≡ false → b ≡ false
-or-second true b e = cc
-or-second false b e = e
-
 -- what the past says of link n, on which so many jobs were started
 pub record IsTakenOnce (o : Options) (past : List Entry) (n count : ℕ) : Type 0 where
   pub once : count ≤ 1
@@ -364,7 +359,7 @@ taken-step o past e n count fit counts acted h =
         StartsOrNot o past e n →
         is_used (e ∷ past) n ≡ false →
         count + count_by (starts_on n) e.actions ≡ 0
-    still_fresh (inl x) y = omega (arith, x, h.fresh (or-second (is_number (new_number e.event.kind e.decision) n) (is_used past n) y))
+    still_fresh (inl x) y = omega (arith, x, h.fresh (or_parts (is_number (new_number e.event.kind e.decision) n) (is_used past n) y).1)
     still_fresh (inr st) y = absurd (true≢false (sym (by_link (brings st)) ∙ y))
       where
         by_link :

@@ -202,11 +202,14 @@ holder-ranged o (e ∷ log) r a p s held = go (is_refusal e.decision) refl (λ h
 
     by_grant :
         (b : Bool) → gives_hold o past e a p ≡ b →
-        cond b (named_session e.event.kind) (cond (comes_to o e a p) None (cond (option_map_or (ends_hold e) (holder o past a p) false) None (holder o past a p))) ≡ Some s →
+        cond b (named_session e.event.kind)
+        (cond (comes_to o e a p) None (cond (option_map_or (ends_hold e) (holder o past a p) false) None (holder o past a p))) ≡ Some s →
         (holder o past a p ≡ Some s → in_range o p ≡ true) →
         in_range o p ≡ true
     by_grant true g h ih =
-        let parts = and_parts (is_number (granted_port e.decision) p) (is_client past (named_session e.event.kind) a) (and_parts (not (is_legacy o.mode)) (is_number (granted_port e.decision) p && is_client past (named_session e.event.kind) a) g).1 in
+        let grants : Bool = is_number (granted_port e.decision) p in
+        let comes_from : Bool = is_client past (named_session e.event.kind) a in
+        let parts = and_parts grants comes_from (and_parts (not (is_legacy o.mode)) (grants && comes_from) g).1 in
         (granted-free o past e.event.at e.event.kind e.answer p (sym r.1 ∙ granted-is e.decision p parts.0)).ranged
     by_grant false g h ih = ih (stayed (comes_to o e a p) (option_map_or (ends_hold e) (holder o past a p) false) (holder o past a p) h)
 
