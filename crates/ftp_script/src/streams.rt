@@ -1,6 +1,6 @@
 //! Standard input and output: what no clause tells the content of, counted where it fails.
 
-ghost use Rattle.std.specs.Prelude.{None};
+ghost use Rattle.std.specs.Prelude.{◌≡◌, None};
 
 use ftp_base::{Failed, Sink, Source};
 use std::io::{Read, Write};
@@ -13,7 +13,10 @@ pub struct Input<R> {
 }
 
 impl<R> Input<R> {
-    pub fn new(reader: R) -> Input<R> {
+    /// The reader, which has not failed yet.
+    pub fn new(reader: R) -> Input<R>
+        ensures faults { result.faults ≡ 0 }
+    {
         Input { reader, faults: 0 }
     }
 }
@@ -42,7 +45,10 @@ pub struct Output<W> {
 }
 
 impl<W> Output<W> {
-    pub fn new(writer: W) -> Output<W> {
+    /// The writer, which has not failed yet.
+    pub fn new(writer: W) -> Output<W>
+        ensures faults { result.faults ≡ 0 }
+    {
         Output { writer, faults: 0 }
     }
 }
