@@ -194,20 +194,7 @@ fn need_for(job: &Option<Job>) -> Need
 fn number_of(kind: &EventKind) -> u64
     ensures { result ≡ number_of kind.now }
 {
-    match kind {
-        EventKind::User { session, .. } => *session,
-        EventKind::Pass { session } => *session,
-        EventKind::AuthDone { session, .. } => *session,
-        EventKind::Pasv { session, .. } => *session,
-        EventKind::Transfer { session, .. } => *session,
-        EventKind::Stou { session, .. } => *session,
-        EventKind::End { ticket } => ticket.session,
-        EventKind::Rest { session, .. } => *session,
-        EventKind::Cwd { session, .. } => *session,
-        EventKind::Closed { session } => *session,
-        EventKind::Connect { .. } => 0,
-        EventKind::DataIn { .. } => 0,
-    }
+    kind.named_session().unwrap_or(0)
 }
 
 // The name or the path that an event keeps or tells of a session.

@@ -16,7 +16,7 @@ use crate::hub::Hub;
 use crate::prepare::PrepareError;
 use crate::room::Room;
 use ftp_base::{Link, LinkTable, Storage};
-use ftp_events::{Answer, Entry, EventKind, HubEvent, Log};
+use ftp_events::{Answer, Entry, HubEvent, Log};
 use ftp_transfer::{Job, execute};
 use std::alloc::Global;
 use thiserror::Error;
@@ -65,9 +65,9 @@ pub fn covers<L: Link>(links: &LinkTable<L>, events: &[HubEvent]) -> bool
 fn is_covered<L: Link>(links: &LinkTable<L>, event: &HubEvent) -> bool
     ensures { result ≡ is_covered (is_linked links.now) event.now.kind }
 {
-    match &event.kind {
-        EventKind::DataIn { number, .. } => links.has(*number),
-        _ => true,
+    match event.kind.link_number() {
+        Some(number) => links.has(number),
+        None => true,
     }
 }
 

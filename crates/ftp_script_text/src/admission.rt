@@ -198,9 +198,9 @@ impl Admission {
     fn covers(&self, kind: &EventKind) -> bool
         ensures { result ≡ is_covered (contains nat_cmp self.now.links) kind.now }
     {
-        match kind {
-            EventKind::DataIn { number, .. } => self.links.contains(number),
-            _ => true,
+        match kind.link_number() {
+            Some(number) => self.links.contains(&number),
+            None => true,
         }
     }
 }

@@ -3,6 +3,8 @@
 ghost use Rattle.std.specs.Prelude.{IfOk, IsTrue};
 ghost use Rattle.ftp_options.specs.Modes.{is_pooled};
 
+use crate::headline::run_all;
+use crate::values::{CLIENT, CONNECT, PASV};
 use ftp_base::{
     AuthAnswer, Bytes, DataChanCmd, IpAddr, LinkTable, MemoryLink, MemoryStorage, SocketAddr,
 };
@@ -13,33 +15,11 @@ use ftp_transfer::Ticket;
 use std::alloc::{AllocError, Global};
 use std::test::Fail;
 
-const CLIENT: u32 = 0x0a00_0001;
-
 const TICKET: Ticket = Ticket { session: 1, nr: 1 };
-
-const CONNECT: EventKind = EventKind::Connect {
-    session: 1,
-    raw: SocketAddr {
-        ip: IpAddr::V4(CLIENT),
-        port: 4000,
-    },
-    local: SocketAddr {
-        ip: IpAddr::V4(0x0a00_0009),
-        port: 21,
-    },
-    trace: 1,
-};
 
 const AUTH: EventKind = EventKind::AuthDone {
     session: 1,
     answer: AuthAnswer::Good,
-};
-
-const PASV: EventKind = EventKind::Pasv {
-    session: 1,
-    word: 0,
-    lookup: None,
-    bound: None,
 };
 
 /// A data connection from an address.
@@ -115,10 +95,9 @@ fn a_client_takes_a_file_and_another_is_turned_away(rt: HostRuntime) -> Result<(
     if !covers(&links, &events) {
         return Err(Fail::from("a link is not found"));
     }
-    let mut hub = Hub::new(alloc, options);
-    let mut log = Log::new(alloc);
-    let run = run_events(&mut hub, &mut storage, &mut links, &events, &mut log);
-    assert_eq!(rt; run, Ok(()));
+    let log = run_all(alloc, options, &mut storage, &mut links, &events)
+        .ok()
+        .ok_or("not run")?;
     let decisions = [
         Decision::Opened,
         Decision::NeedPass,

@@ -5,6 +5,8 @@
 #![tactic(auto)]
 
 #[cfg(test)]
+mod headline;
+#[cfg(test)]
 mod hub;
 #[cfg(test)]
 mod links;
@@ -24,3 +26,5 @@ mod switchboard;
 mod texts;
 #[cfg(test)]
 mod transfers;
+#[cfg(test)]
+mod values;

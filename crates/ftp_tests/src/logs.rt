@@ -1,14 +1,13 @@
 //! Events and logs that are put together by hand.
 
-use ftp_base::{Bytes, IpAddr, Reply, ReplyCode, SocketAddr};
+use crate::values::{CLIENT, CONNECT, PASV};
+use ftp_base::{Bytes, Reply, ReplyCode};
 use ftp_events::{
     Action, Actions, Answer, Decision, Entry, EventKind, HubEvent, Log, holder_of, replies_of,
 };
 use ftp_options::{ActivePassiveMode, ListenerMode, Options, PassiveHost};
 use std::alloc::Global;
 use std::test::Fail;
-
-const CLIENT: u32 = 0x0a00_0001;
 
 const OPTIONS: Options = Options {
     mode: ListenerMode::Pooled,
@@ -18,26 +17,6 @@ const OPTIONS: Options = Options {
     active_passive: ActivePassiveMode::PassiveOnly,
     idle_ms: 600_000,
     features: 1,
-};
-
-const CONNECT: EventKind = EventKind::Connect {
-    session: 1,
-    raw: SocketAddr {
-        ip: IpAddr::V4(CLIENT),
-        port: 4000,
-    },
-    local: SocketAddr {
-        ip: IpAddr::V4(CLIENT),
-        port: 21,
-    },
-    trace: 7,
-};
-
-const PASV: EventKind = EventKind::Pasv {
-    session: 1,
-    word: 0,
-    lookup: None,
-    bound: None,
 };
 
 /// Puts an entry without actions to the log.

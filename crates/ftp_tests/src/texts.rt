@@ -1,9 +1,9 @@
 //! What is printed: replies, numbers, paths and times.
 
-use ftp_base::{Bytes, ControlChanMsg, Reply, ReplyCode, TraceId};
+use ftp_base::{Bytes, ControlChanMsg, Meta, Reply, ReplyCode, TraceId};
 use ftp_events::{make_pasv_reply, reply_of};
 use ftp_options::PassiveHost;
-use ftp_transfer::{HumanDuration, join_path};
+use ftp_transfer::{HumanDuration, format_facts, join_path};
 use std::test::Fail;
 
 #[test]
@@ -84,6 +84,19 @@ fn leading_zero_parts_are_dropped(rt: HostRuntime) -> Result<(), Fail> {
     ];
     for (millis, text) in rows {
         assert_eq!(rt; HumanDuration(millis).text(rt.alloc())?.as_slice(), text);
+    }
+    Ok(())
+}
+
+// RFC 3659, section 7: a fact is a name, an equals sign, a value and a semicolon.
+#[test]
+fn a_file_tells_its_type_and_size_and_a_directory_its_type(rt: HostRuntime) -> Result<(), Fail> {
+    for (is_dir, len, facts) in [
+        (false, 5, b"type=file;size=5;".as_slice()),
+        (true, 0, b"type=dir;"),
+    ] {
+        let text = format_facts(rt.alloc(), &Meta { is_dir, len })?;
+        assert_eq!(rt; text.as_slice(), facts);
     }
     Ok(())
 }
