@@ -1,6 +1,6 @@
 //! Numbers as intervals that do not touch.
 
-ghost use Rattle.std.specs.Prelude.{◌≡◌, ℕ, ◌+◌, ◌-◌, ◌<◌, ◌≤◌, ◌^◌, ◌||◌, ◌==◌, ◌≢◌, Some, false, map, unwrap_or, IfSome, IfNone, IfOk, OnOk, OnErr};
+ghost use Rattle.std.specs.Prelude.{◌≡◌, ℕ, ◌+◌, ◌-◌, ◌<◌, ◌≤◌, ◌^◌, ◌||◌, ◌==◌, ◌≢◌, Some, true, false, map, unwrap_or, IfSome, IfNone, IfOk, OnOk, OnErr};
 ghost use Rattle.std.specs.Ordering.{nat_cmp};
 ghost use Rattle.std.specs.BTreeMap.{IsOrdered};
 ghost use Rattle.ftp_numbers.specs.Used.{has, is_used, HasSpare, IsApart, SameNumbers};
@@ -117,14 +117,17 @@ fn is_settled(settled: &BTreeMap<u64, u64>, n: u64) -> bool
     }
 }
 
-// Where the interval begins that ends right below the number, or the number itself.
-fn lo_with(settled: &BTreeMap<u64, u64>, n: u64) -> u64
+// Where the interval begins that ends right below the number, or the number itself; none where an interval has it.
+fn lo_with(settled: &BTreeMap<u64, u64>, n: u64) -> Option<u64>
     requires { IsDisjoint settled.now.entries }
-    ensures { BeginsWith settled.now.entries n result }
+    ensures begins { IfSome result (λ lo. BeginsWith settled.now.entries n lo) }
+    ensures unused { IfSome result (λ lo. is_used (intervals_of settled.now.entries) n ≡ false) }
+    ensures used { IfNone result (is_used (intervals_of settled.now.entries) n ≡ true) }
 {
     match last_by(settled, n) {
-        Some(last) if last.hi.checked_add(1) == Some(n) => last.lo,
-        _ => n,
+        Some(last) if n <= last.hi => None,
+        Some(last) if last.hi + 1 == n => Some(last.lo),
+        _ => Some(n),
     }
 }
 
@@ -150,10 +153,9 @@ fn settle(settled: &mut BTreeMap<u64, u64>, n: u64) -> Result<(), AllocError>
     ensures disjoint { IsDisjoint settled.new.entries }
     ensures unchanged { OnErr result (settled.new.entries ≡ settled.old.entries) }
 {
-    if is_settled(settled, n) {
+    let Some(lo) = lo_with(settled, n) else {
         return Ok(());
-    }
-    let lo = lo_with(settled, n);
+    };
     let hi = hi_with(settled, n);
     settled.insert(lo, hi)?;
     if hi > n {

@@ -1,31 +1,31 @@
-use Rattle.std.proofs.Common.{sym, ◌∙◌, arith}
+use Rattle.std.proofs.Common.{arith}
 use Rattle.std.proofs.lemmas.Bool.Decides.{nat_tests}
 use Rattle.ftp_numbers.proofs.SettledLemmas.{Widens, is_used-widened, IsDisjoint-widened, hi-above}
 use Rattle.ftp_numbers.proofs.numbers.settle.Goals as goal
 
-then-widens : (c : goal.After-remove) → Widens c.args.settled.now.entries c.remove.new.self.entries c.args.n c.lo_with-lo.result c.hi_with-hi.result
+then-widens : (c : goal.After-remove) → Widens c.args.settled.now.entries c.remove.new.self.entries c.args.n c.in-Some.lo c.hi_with-hi.result
 then-widens c = record {
   disjoint = c.requires;
   was_sorted = c.insert.ensures.was_ordered;
   sorted = c.remove.ensures.ordered;
-  unused = sym c.is_settled.ensures ∙ c.if-is_settled.false;
-  begins = c.lo_with-lo.ensures;
+  unused = c.in-Some.ensures.unused;
+  begins = c.in-Some.ensures.begins;
   ends = c.hi_with-hi.ensures.above;
   fits = c.hi_with-hi.ensures.fits;
   after = λ q.
       (let inserted = c.in_ok-insert.ensures.updates.0 q in
       let removed = c.remove.ensures.updates.0 q in
-      let below = c.lo_with-lo.ensures.below in
+      let below = c.in-Some.ensures.begins.below in
       grind (arith, nat_tests, inserted, removed));
 }
 
-else-widens : (c : goal.Else-hi-n) → Widens c.args.settled.now.entries c.insert.new.self.entries c.args.n c.lo_with-lo.result c.hi_with-hi.result
+else-widens : (c : goal.Else-hi-n) → Widens c.args.settled.now.entries c.insert.new.self.entries c.args.n c.in-Some.lo c.hi_with-hi.result
 else-widens c = record {
   disjoint = c.requires;
   was_sorted = c.insert.ensures.was_ordered;
   sorted = c.insert.ensures.ordered;
-  unused = sym c.is_settled.ensures ∙ c.if-is_settled.false;
-  begins = c.lo_with-lo.ensures;
+  unused = c.in-Some.ensures.unused;
+  begins = c.in-Some.ensures.begins;
   ends = c.hi_with-hi.ensures.above;
   fits = c.hi_with-hi.ensures.fits;
   after = λ q.
