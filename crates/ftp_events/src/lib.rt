@@ -12,6 +12,7 @@ mod log;
 mod questions;
 mod session;
 mod text;
+pub mod wording;
 
 pub use action::{Action, Actions};
 pub use decision::Decision;

@@ -7,6 +7,7 @@ ghost use Rattle.ftp_events.specs.Text.{passive_text, passive_numbers, offset_te
 ghost use Rattle.ftp_events.specs.Message.{reply_of, reply_of_kind};
 ghost use Rattle.ftp_events.specs.Reply.{passive_reply};
 
+use crate::wording;
 use ftp_base::{Bytes, ControlChanMsg, ErrorKind, Reply, ReplyCode};
 use ftp_options::PassiveHost;
 use itoa::Buffer;
@@ -20,23 +21,17 @@ pub const PASSIVE_TEXT: usize = 64;
 pub fn reply_of(alloc: Global, message: &ControlChanMsg) -> Result<Reply, AllocError>
     ensures { IfOk result (λ reply. reply ≡ reply_of message.now) }
 {
-    let (code, msg): (ReplyCode, &[u8]) = match message {
-        ControlChanMsg::AuthSuccess { .. } => (ReplyCode::UserLoggedIn, b"User logged in, proceed"),
-        ControlChanMsg::AuthFailed => (ReplyCode::NotLoggedIn, b"Authentication failed"),
-        ControlChanMsg::CwdSuccess => (
-            ReplyCode::FileActionOkay,
-            b"Successfully changed working directory",
-        ),
+    let (code, msg) = match message {
+        ControlChanMsg::AuthSuccess { .. } => (ReplyCode::UserLoggedIn, wording::LOGGED_IN),
+        ControlChanMsg::AuthFailed => (ReplyCode::NotLoggedIn, wording::AUTH_FAILED),
+        ControlChanMsg::CwdSuccess => (ReplyCode::FileActionOkay, wording::CWD_CHANGED),
         ControlChanMsg::StorageError(kind) => refusal(*kind),
-        ControlChanMsg::SentData { .. } => (ReplyCode::ClosingDataConnection, b"Successfully sent"),
-        ControlChanMsg::WrittenData { .. } => (
-            ReplyCode::ClosingDataConnection,
-            b"File successfully written",
-        ),
-        ControlChanMsg::WriteFailed => (ReplyCode::TransientFileError, b"Failed to write file"),
+        ControlChanMsg::SentData { .. } => (ReplyCode::ClosingDataConnection, wording::SENT),
+        ControlChanMsg::WrittenData { .. } => (ReplyCode::ClosingDataConnection, wording::WRITTEN),
+        ControlChanMsg::WriteFailed => (ReplyCode::TransientFileError, wording::WRITE_FAILED),
         ControlChanMsg::DirectorySuccessfullyListed => (
             ReplyCode::ClosingDataConnection,
-            b"Listed the directory",
+            wording::LISTED,
         ),
         ControlChanMsg::CommandChannelReply(reply) => return reply.copy(alloc),
     };

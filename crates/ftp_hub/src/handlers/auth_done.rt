@@ -10,7 +10,7 @@ ghost use Rattle.ftp_hub.specs.Handlers.{is_auth, number_of, kept_by, answered_r
 
 use crate::room::Room;
 use ftp_base::{AuthAnswer, Notice, PresenceEvent, ReplyCode};
-use ftp_events::{Decision, EventKind, Login, Session};
+use ftp_events::{Decision, EventKind, Login, Session, wording};
 use ftp_options::Options;
 use ftp_switchboard::Switchboard;
 
@@ -43,7 +43,7 @@ pub(crate) fn handle(
     }
     if !matches!(answer, AuthAnswer::Good) {
         session.login = Login::New;
-        room.reply(*number, ReplyCode::NotLoggedIn, b"Authentication failed");
+        room.reply(*number, ReplyCode::NotLoggedIn, wording::AUTH_FAILED);
         return Decision::LoginFailed {
             lock: None,
             delay: 0,
@@ -59,6 +59,6 @@ pub(crate) fn handle(
         session.notices,
         Notice::Presence(PresenceEvent::LoggedIn),
     );
-    room.reply(*number, ReplyCode::UserLoggedIn, b"User logged in, proceed");
+    room.reply(*number, ReplyCode::UserLoggedIn, wording::LOGGED_IN);
     Decision::LoggedIn
 }

@@ -12,7 +12,7 @@ ghost use Rattle.ftp_hub.specs.Handlers.{is_cwd, number_of, refusal_of, kept_by}
 use crate::handlers::ask_for_login;
 use crate::room::Room;
 use ftp_base::ReplyCode;
-use ftp_events::{Decision, EventKind, Login, Session, refusal};
+use ftp_events::{Decision, EventKind, Login, Session, refusal, wording};
 use ftp_options::Options;
 use ftp_switchboard::Switchboard;
 
@@ -47,11 +47,7 @@ pub fn handle(
     match refused {
         None => {
             session.cwd = room.take_kept();
-            room.reply(
-                *number,
-                ReplyCode::FileActionOkay,
-                b"Successfully changed working directory",
-            );
+            room.reply(*number, ReplyCode::FileActionOkay, wording::CWD_CHANGED);
             Decision::CwdOk
         }
         Some(kind) => {

@@ -16,7 +16,7 @@ ghost use Rattle.ftp_hub.specs.Handlers.{with_end};
 
 use crate::room::Room;
 use ftp_base::{DataEvent, Notice, ReplyCode};
-use ftp_events::{Session, refusal};
+use ftp_events::{Session, refusal, wording};
 use ftp_options::Options;
 use ftp_transfer::{Completion, Job, Outcome};
 
@@ -44,25 +44,21 @@ pub(crate) fn deliver(
                 path: job.path,
                 bytes: outcome.bytes,
             };
-            moved(session, number, what, b"Successfully sent", room);
+            moved(session, number, what, wording::SENT, room);
         }
         Completion::Written => {
             let what = DataEvent::Put {
                 path: job.path,
                 bytes: outcome.bytes,
             };
-            moved(session, number, what, b"File successfully written", room);
+            moved(session, number, what, wording::WRITTEN, room);
         }
-        Completion::Listed => room.reply(
-            number,
-            ReplyCode::ClosingDataConnection,
-            b"Listed the directory",
-        ),
-        Completion::WriteFailed => room.reply(
-            number,
-            ReplyCode::TransientFileError,
-            b"Failed to write file",
-        ),
+        Completion::Listed => {
+            room.reply(number, ReplyCode::ClosingDataConnection, wording::LISTED);
+        }
+        Completion::WriteFailed => {
+            room.reply(number, ReplyCode::TransientFileError, wording::WRITE_FAILED);
+        }
         Completion::Refused(kind) => {
             let (code, text) = refusal(kind);
             room.reply(number, code, text);
