@@ -21,6 +21,9 @@ use ftp_transfer::{Job, Ticket, join_path};
 use std::alloc::{AllocError, Global};
 use thiserror::Error;
 
+// Who is told of where nobody has said a name.
+const UNKNOWN: &[u8] = b"unknown";
+
 /// Why a step cannot be prepared.
 #[derive(Clone, Copy, Debug, PartialEq, Eq, Error)]
 pub enum PrepareError {
@@ -169,14 +172,8 @@ fn copy_job(alloc: Global, job: Option<&Job>, ticket: Ticket) -> Result<Option<J
     ensures { IfOk result (λ copy. copy ≡ job_of_ticket (option_copied job.entry) ticket) }
 {
     match job {
-        Some(job) => {
-            if job.ticket == ticket {
-                Ok(Some(job.copy(alloc)?))
-            } else {
-                Ok(None)
-            }
-        }
-        None => Ok(None),
+        Some(job) if job.ticket == ticket => Ok(Some(job.copy(alloc)?)),
+        _ => Ok(None),
     }
 }
 
@@ -204,8 +201,7 @@ fn copy_kept(alloc: Global, kind: &EventKind, session: &Session) -> Result<Bytes
     match kind {
         EventKind::User { name, .. } => name.copy(alloc),
         EventKind::AuthDone { .. } => known_name(alloc, session),
-        EventKind::Closed { .. } => copy_user(alloc, session),
-        EventKind::End { .. } => copy_user(alloc, session),
+        EventKind::Closed { .. } | EventKind::End { .. } => copy_user(alloc, session),
         EventKind::Cwd { path, .. } => join_path(alloc, &session.cwd, path),
         EventKind::Connect { .. }
         | EventKind::DataIn { .. }
@@ -234,7 +230,7 @@ fn copy_user(alloc: Global, session: &Session) -> Result<Bytes, AllocError>
 {
     match session.login {
         Login::LoggedIn => known_name(alloc, session),
-        Login::New | Login::Named | Login::Checking => Bytes::from_slice(alloc, b"unknown"),
+        Login::New | Login::Named | Login::Checking => Bytes::from_slice(alloc, UNKNOWN),
     }
 }
 
@@ -292,12 +288,11 @@ fn command_path(alloc: Global, cwd: &Bytes, command: &DataChanCmd) -> Result<Byt
     ensures { IfOk result (λ path. path ≡ command_path cwd.now command.now) }
 {
     match command {
-        DataChanCmd::Retr { path } => join_path(alloc, cwd, path),
-        DataChanCmd::Stor { path } => join_path(alloc, cwd, path),
-        DataChanCmd::Appe { path } => join_path(alloc, cwd, path),
-        DataChanCmd::List { path, .. } => listed_path(alloc, cwd, path),
-        DataChanCmd::Nlst { path } => listed_path(alloc, cwd, path),
-        DataChanCmd::Mlsd { path } => listed_path(alloc, cwd, path),
+        DataChanCmd::Retr { path } | DataChanCmd::Stor { path } | DataChanCmd::Appe { path } => {
+            join_path(alloc, cwd, path)
+        }
+        DataChanCmd::List { path, .. } | DataChanCmd::Nlst { path } | DataChanCmd::Mlsd { path } =>
+            listed_path(alloc, cwd, path),
     }
 }
 
@@ -306,14 +301,8 @@ fn listed_path(alloc: Global, cwd: &Bytes, path: &Option<Bytes>) -> Result<Bytes
     ensures { IfOk result (λ listed. listed ≡ listed_path cwd.now path.now) }
 {
     match path {
-        None => cwd.copy(alloc),
-        Some(path) => {
-            if path.as_slice() == b".".as_slice() {
-                cwd.copy(alloc)
-            } else {
-                join_path(alloc, cwd, path)
-            }
-        }
+        Some(path) if path.as_slice() != b".".as_slice() => join_path(alloc, cwd, path),
+        _ => cwd.copy(alloc),
     }
 }
 
@@ -322,8 +311,7 @@ fn command_offset(offset: u64, command: &DataChanCmd) -> u64
     ensures { result ≡ command_offset offset command.now }
 {
     match command {
-        DataChanCmd::Retr { .. } => offset,
-        DataChanCmd::Stor { .. } => offset,
+        DataChanCmd::Retr { .. } | DataChanCmd::Stor { .. } => offset,
         _ => 0,
     }
 }
@@ -334,6 +322,6 @@ fn known_name(alloc: Global, session: &Session) -> Result<Bytes, AllocError>
 {
     match &session.name {
         Some(name) => name.copy(alloc),
-        None => Bytes::from_slice(alloc, b"unknown"),
+        None => Bytes::from_slice(alloc, UNKNOWN),
     }
 }
