@@ -1,7 +1,7 @@
 -- The tables after a command of a session.
 use Rattle.std.proofs.Common.{◌≡◌, refl, sym, ap, ◌∙◌, ℕ, ◌-◌, ◌^◌, ◌<◌, Bool, true, false, cond, List, [], Option, Some, None}
 use Rattle.std.specs.Prelude.{◌==◌, unwrap_or, nat_eq}
-use Rattle.std.specs.Option.{option_map_or}
+use Rattle.std.specs.Option.{option_and_then, option_map_or}
 use Rattle.std.specs.HashMap as map
 use Rattle.ftp_base.specs.declared.net.IpAddr.{IpAddr}
 use Rattle.ftp_base.specs.declared.net.IpAddr.TheVariants.{V4}
@@ -21,13 +21,14 @@ use Rattle.ftp_events.specs.declared.event.HubEvent.{HubEvent}
 use Rattle.ftp_events.specs.declared.session.Session.{Session}
 use Rattle.ftp_events.specs.Log.{past_of, is_refusal, named_session}
 use Rattle.ftp_events.specs.Board.{holder}
+use Rattle.ftp_events.specs.CommandRows.{command_row}
 use Rattle.ftp_events.specs.Running.{running_after}
 use Rattle.ftp_events.specs.Slot.{waiting_port}
 use Rattle.ftp_events.specs.Session.{session, running_job, lives_on, session_after, next_lane, live_after}
 use Rattle.ftp_events.specs.Decide.{if_live, due, decide}
 use Rattle.ftp_events.specs.Acts.{session_acts}
 use Rattle.ftp_hub.specs.declared.hub.Hub.{Hub}
-use Rattle.ftp_hub.specs.Handlers.{IsFew, held_after, notices_of, number_of, held_for, command_row, is_command, is_closed}
+use Rattle.ftp_hub.specs.Handlers.{IsFew, held_after, notices_of, number_of, held_for, is_command, is_closed}
 use Rattle.ftp_hub.specs.Stands.{Tables, Stands, Serves}
 use Rattle.ftp_hub.proofs.Clients.{client-v4}
 use Rattle.ftp_hub.proofs.Refusals.{serves-refusal}
@@ -41,7 +42,7 @@ is_end (kind.End t) = true
 is_end _ = false
 
 -- what is due on an event that names a session and is no end of a transfer is the row of its command
-due-row : (o : Options) (past : List Entry) (at : ℕ) (k : EventKind) (answer : Answer) (s : ℕ) → is_end k ≡ false → named_session k ≡ Some s → due o past at k answer ≡ if_live (session o past (number_of k)) (λ v. command_row o (holder o past v.opening.client) k v)
+due-row : (o : Options) (past : List Entry) (at : ℕ) (k : EventKind) (answer : Answer) (s : ℕ) → is_end k ≡ false → named_session k ≡ Some s → due o past at k answer ≡ if_live (option_and_then (session o past) (named_session k)) (λ v. command_row o (holder o past v.opening.client) k v)
 due-row o past at (kind.Connect q raw local trace) answer s c n = cc
 due-row o past at (kind.DataIn q raw port) answer s c n = cc
 due-row o past at (kind.End t) answer s c n = cc
@@ -51,7 +52,7 @@ due-row o past at k answer s c n = refl
 due-named : (o : Options) (past : List Entry) (at : ℕ) (k : EventKind) (answer : Answer) (s : ℕ) (x : Option Session) → is_end k ≡ false → named_session k ≡ Some s → session o past s ≡ x → due o past at k answer ≡ option_map_or (λ v. command_row o (holder o past v.opening.client) k v) x decision.UnknownNumber
 due-named o past at k answer s x c n known =
     due-row o past at k answer s c n
-    ∙ ap (λ (y : Option Session). if_live y (λ v. command_row o (holder o past v.opening.client) k v)) (ap (λ (m : Option ℕ). session o past (unwrap_or m 0)) n ∙ known)
+    ∙ ap (λ (y : Option Session). if_live y (λ v. command_row o (holder o past v.opening.client) k v)) (ap (option_and_then (session o past)) n ∙ known)
 
 -- the kinds of events that are no end of a transfer
 pub command-plain : (k : EventKind) → is_command k ≡ true → is_end k ≡ false

@@ -31,7 +31,7 @@ use Rattle.ftp_events.specs.History.{history, opens, concerns}
 use Rattle.ftp_events.specs.Running.{running_after, running_count}
 use Rattle.ftp_events.specs.Slot.{lane}
 use Rattle.ftp_events.specs.Session.{session, running_job, life_by, is_live, session_by_history, next_lane}
-use Rattle.ftp_events.specs.CommandRows.{is_logged_in, if_logged_in, can_queue, transfer_row}
+use Rattle.ftp_events.specs.CommandRows.{is_logged_in, if_logged_in, can_queue, transfer_row, command_row}
 use Rattle.ftp_events.specs.EndRows.{end_row}
 use Rattle.ftp_events.specs.Transfer.{same_ticket}
 use Rattle.ftp_events.specs.Decide.{decide}
@@ -40,7 +40,7 @@ use Rattle.ftp_laws.proofs.Laws.{counting-counts, history-own, running-other, se
 use Rattle.ftp_laws.proofs.Lanes.{ended-empty}
 use Rattle.ftp_laws.proofs.Tables.{holder-named}
 use Rattle.ftp_hub.specs.declared.hub.Hub.{Hub}
-use Rattle.ftp_hub.specs.Handlers.{Jobs, Starts, command_row, is_transfer}
+use Rattle.ftp_hub.specs.Handlers.{Jobs, Starts, is_transfer}
 use Rattle.ftp_hub.specs.Stands.{Tables, Stands, Serves, entry}
 use Rattle.ftp_laws.proofs.Running.{runs-started}
 use Rattle.ftp_hub.proofs.Running.{count-start, running-acts}

@@ -16,8 +16,8 @@ use Rattle.ftp_events.specs.declared.session.Login.TheVariants as login
 use Rattle.ftp_events.specs.declared.session.Session.{Session}
 use Rattle.ftp_events.specs.Session.{lives_on, live_after}
 use Rattle.ftp_events.specs.LoginRows.{user_row, pass_row, answer_row, auth_row}
-use Rattle.ftp_events.specs.CommandRows.{is_logged_in, cwd_row}
-use Rattle.ftp_hub.specs.Handlers.{command_row, is_command}
+use Rattle.ftp_events.specs.CommandRows.{is_logged_in, cwd_row, command_row}
+use Rattle.ftp_hub.specs.Handlers.{is_command}
 use Rattle.ftp_hub.proofs.Running.{IsIdle}
 
 -- a decision that neither opens nor ends the session, and with which no job starts or ends

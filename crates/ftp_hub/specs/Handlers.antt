@@ -1,11 +1,10 @@
 -- What a handler decides on a live session, and what it makes of the board.
 use Rattle.std.proofs.Common.{BuildHasherDefault, FoldHasher}
 use Rattle.std.specs.Prelude.{◌≡◌, ℕ, ◌+◌, ◌-◌, ◌^◌, ◌<◌, ◌==◌, nat_eq, is_some, min, Bool, true, false, List, [], codes, ◌||◌, Option, Some, None, unwrap_or, if◌then◌else◌}
-use Rattle.std.specs.Option.{option_map_or, option_or}
+use Rattle.std.specs.Option.{option_or}
 use Rattle.std.specs.HashMap as map
 use Rattle.ftp_base.specs.declared.error_kind.ErrorKind.{ErrorKind}
 use Rattle.ftp_base.specs.Net.{ipv4}
-use Rattle.ftp_base.specs.Ports.{first_free}
 use Rattle.ftp_base.specs.Storage.{root}
 use Rattle.ftp_options.specs.declared.options.Options.{Options}
 use Rattle.ftp_transfer.specs.declared.job.Job.{Job}
@@ -17,7 +16,7 @@ use Rattle.ftp_events.specs.declared.event.EventKind.TheVariants as kind
 use Rattle.ftp_events.specs.declared.event.Answer.{Answer}
 use Rattle.ftp_events.specs.declared.event.Answer.TheVariants.{Done}
 use Rattle.ftp_events.specs.declared.decision.Decision.{Decision}
-use Rattle.ftp_events.specs.declared.decision.Decision.TheVariants.{UnknownNumber, Granted, Full, Queued, Finished, Closed, LoggedIn}
+use Rattle.ftp_events.specs.declared.decision.Decision.TheVariants.{UnknownNumber, Granted, Queued, Finished, Closed, LoggedIn}
 use Rattle.ftp_events.specs.declared.session.Login.{Login}
 use Rattle.ftp_events.specs.declared.session.Pending.{Pending}
 use Rattle.ftp_events.specs.declared.session.Session.{Session}
@@ -28,8 +27,7 @@ use Rattle.ftp_events.specs.Session.{queued_for}
 use Rattle.ftp_events.specs.Slot.{Lane}
 use Rattle.ftp_events.specs.Text.{unique_name}
 use Rattle.ftp_events.specs.Transfer.{moves_file}
-use Rattle.ftp_events.specs.LoginRows.{user_row, pass_row, auth_row}
-use Rattle.ftp_events.specs.CommandRows.{if_logged_in, transfer_row, rest_row, cwd_row}
+use Rattle.ftp_events.specs.LoginRows.{auth_row}
 
 -- the kinds of the handlers
 abbrev pub is_user : EventKind → Bool
@@ -82,23 +80,6 @@ word_of _ = 0
 -- the holders of a client's ports, by the board
 abbrev pub held_for : Board → Session → ℕ → Option ℕ
 held_for board v = holder_at board (ipv4 v.opening.client)
-
--- PASV, by the holders of the client's ports
-abbrev pub port_row : Options → (ℕ → Option ℕ) → ℕ → Decision
-port_row o holders word = option_map_or Granted (first_free holders o.lo o.hi word) Full
-
--- what is decided on a command of a live session, by the holders of its client's ports
-abbrev pub command_row : Options → (ℕ → Option ℕ) → EventKind → Session → Decision
-command_row o holders (kind.User s name) v = user_row v.login
-command_row o holders (kind.Pass s) v = pass_row v.login
-command_row o holders (kind.AuthDone s said) v = auth_row said v.login
-command_row o holders (kind.Pasv s word lookup bound) v = if_logged_in v (port_row o holders word)
-command_row o holders (kind.Transfer s c) v = if_logged_in v (transfer_row s v)
-command_row o holders (kind.Stou s word) v = if_logged_in v (transfer_row s v)
-command_row o holders (kind.Rest s offset) v = if_logged_in v (rest_row o)
-command_row o holders (kind.Cwd s path refusal) v = if_logged_in v (cwd_row refusal)
-command_row o holders (kind.Closed s) v = Closed
-command_row o holders _ v = UnknownNumber
 
 -- what an event keeps whatever its session is: a new session is in the root, and STOU has a unique name
 abbrev pub kept_alone : EventKind → List ℕ

@@ -9,11 +9,12 @@ ghost use Rattle.ftp_base.specs.Net.{ipv4};
 ghost use Rattle.ftp_switchboard.specs.Board.{HasRoom, SameRange, holder_at};
 ghost use Rattle.ftp_transfer.specs.declared.job.Job.{Job};
 ghost use Rattle.ftp_events.specs.declared.event.Answer.{Answer};
+ghost use Rattle.ftp_events.specs.CommandRows.{command_row};
 ghost use Rattle.ftp_events.specs.Slot.{waiting_port};
 ghost use Rattle.ftp_events.specs.Session.{session_after};
 ghost use Rattle.ftp_events.specs.Acts.{session_acts};
 ghost use Rattle.ftp_hub.specs.Rooms.{IsReady, HasPlace, actions_in, kept_in};
-ghost use Rattle.ftp_hub.specs.Handlers.{is_command, number_of, kept_by, notices_of, held_for, command_row, HasRange, held_after};
+ghost use Rattle.ftp_hub.specs.Handlers.{is_command, number_of, kept_by, notices_of, held_for, HasRange, held_after};
 
 use crate::room::Room;
 use ftp_base::ReplyCode;

@@ -84,7 +84,7 @@ arrival-alike o log K raw b a p m r l x =
 pub pasv-alike :
     (o : Options) (P K : List Entry) (a : IpAddr) (word : ℕ) (v : Session) →
     Alike o P K a → v.opening.client ≡ a →
-    if_logged_in v (pasv_row o K word v) ≡ if_logged_in v (pasv_row o P word v)
+    if_logged_in v (pasv_row o (holder o K v.opening.client) word) ≡ if_logged_in v (pasv_row o (holder o P v.opening.client) word)
 pasv-alike o P K a word v l c =
     let free : first_free_port o K v.opening.client word ≡ first_free_port o P v.opening.client word =
     subst (λ (b : IpAddr). first_free_port o K b word ≡ first_free_port o P b word) (sym c) (free-alike o P K a word l) in

@@ -117,14 +117,14 @@ granted-free o past at (kind.Pasv s word lookup bound) answer p e = by_session (
     by_login :
         (v : Session) (b : Bool) →
         session o past s ≡ Some v →
-        cond b (pasv_row o past word v) decision.NotLoggedIn ≡ decision.Granted p →
+        cond b (pasv_row o (holder o past v.opening.client) word) decision.NotLoggedIn ≡ decision.Granted p →
         IsGrant o past (kind.Pasv s word lookup bound) p
     by_login v true k d = by_port v (first_free_port o past v.opening.client word) k refl d
     by_login v false k d = cc
 
     by_session :
         (v : Option Session) → session o past s ≡ v →
-        if_live v (λ v. if_logged_in v (pasv_row o past word v)) ≡ decision.Granted p →
+        if_live v (λ v. if_logged_in v (pasv_row o (holder o past v.opening.client) word)) ≡ decision.Granted p →
         IsGrant o past (kind.Pasv s word lookup bound) p
     by_session None k d = cc
     by_session (Some v) k d = by_login v (is_logged_in v.login) k d

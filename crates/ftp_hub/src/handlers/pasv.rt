@@ -5,12 +5,12 @@ ghost use Rattle.ftp_base.specs.Net.{ipv4};
 ghost use Rattle.ftp_switchboard.specs.Board.{HasRoom, SameRange, holder_at};
 ghost use Rattle.ftp_transfer.specs.declared.job.Job.{Job};
 ghost use Rattle.ftp_events.specs.declared.event.Answer.{Answer};
-ghost use Rattle.ftp_events.specs.CommandRows.{if_logged_in};
+ghost use Rattle.ftp_events.specs.CommandRows.{if_logged_in, pasv_row};
 ghost use Rattle.ftp_events.specs.Slot.{waiting_port};
 ghost use Rattle.ftp_events.specs.Session.{session_after};
 ghost use Rattle.ftp_events.specs.Acts.{session_acts};
 ghost use Rattle.ftp_hub.specs.Rooms.{IsReady, actions_in};
-ghost use Rattle.ftp_hub.specs.Handlers.{is_pasv, number_of, word_of, held_for, port_row, HasRange, held_after};
+ghost use Rattle.ftp_hub.specs.Handlers.{is_pasv, number_of, word_of, held_for, HasRange, held_after};
 
 use crate::handlers::ask_for_login;
 use crate::room::Room;
@@ -33,7 +33,7 @@ pub fn handle(
     requires room { IsReady room.old }
     requires range { HasRange board.old options.now }
     requires board_room { HasRoom board.old (ipv4 session.old.opening.client) }
-    ensures decision { result ≡ if_logged_in session.old (port_row options.now (held_for board.old session.old) (word_of args.now)) }
+    ensures decision { result ≡ if_logged_in session.old (pasv_row options.now (held_for board.old session.old) (word_of args.now)) }
     ensures session { (answer : Answer) (job : Option Job) → session.new ≡ session_after args.now answer result 0 job session.old }
     ensures actions { (answer : Answer) (job : Option Job) → actions_in room.new ≡ session_acts options.now (number_of args.now) args.now answer result job (Some session.old) }
     ensures holders { (a p : ℕ) → holder_at board.new a p ≡ held_after result (number_of args.now) (ipv4 session.old.opening.client) (waiting_port session.old.slot) a p (holder_at board.old a p) }
