@@ -193,7 +193,6 @@ fn with_link(slot: Slot, number: u64) -> Slot
 {
     match slot {
         Slot::Waits { port: _ } => Slot::Linked { number },
-        Slot::Empty => slot,
-        Slot::Linked { number: _ } => slot,
+        Slot::Empty | Slot::Linked { .. } => slot,
     }
 }

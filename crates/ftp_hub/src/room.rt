@@ -130,8 +130,7 @@ impl Room {
     {
         match slot {
             Slot::Linked { number } => self.close(number),
-            Slot::Empty => {}
-            Slot::Waits { port: _ } => {}
+            Slot::Empty | Slot::Waits { .. } => {}
         }
     }
 

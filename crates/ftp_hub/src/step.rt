@@ -53,15 +53,16 @@ impl Hub {
         match &event.kind {
             EventKind::Connect { .. } => self.connect(room, event, answer),
             EventKind::DataIn { .. } => self.data_in(room, event, answer),
-            EventKind::User { session, .. } => self.command(room, event, answer, *session),
-            EventKind::Pass { session } => self.command(room, event, answer, *session),
-            EventKind::AuthDone { session, .. } => self.command(room, event, answer, *session),
-            EventKind::Pasv { session, .. } => self.command(room, event, answer, *session),
-            EventKind::Transfer { session, .. } => self.transfer(room, event, answer, *session),
-            EventKind::Stou { session, .. } => self.transfer(room, event, answer, *session),
+            EventKind::User { session, .. }
+            | EventKind::Pass { session }
+            | EventKind::AuthDone { session, .. }
+            | EventKind::Pasv { session, .. }
+            | EventKind::Rest { session, .. }
+            | EventKind::Cwd { session, .. } => self.command(room, event, answer, *session),
+            EventKind::Transfer { session, .. } | EventKind::Stou { session, .. } => {
+                self.transfer(room, event, answer, *session)
+            }
             EventKind::End { ticket } => self.end(room, event, answer, *ticket),
-            EventKind::Rest { session, .. } => self.command(room, event, answer, *session),
-            EventKind::Cwd { session, .. } => self.command(room, event, answer, *session),
             EventKind::Closed { session } => self.close(room, event, answer, *session),
         }
     }
