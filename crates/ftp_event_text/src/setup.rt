@@ -92,8 +92,7 @@ fn is_skipped(line: &[u8]) -> bool
     ensures { result ≡ is_skipped line.now }
 {
     match line {
-        [] => true,
-        [b'#', ..] => true,
+        [] | [b'#', ..] => true,
         _ => false,
     }
 }

@@ -37,8 +37,7 @@ impl RunError {
         ensures { result ≡ done_of self }
     {
         match self {
-            RunError::OutOfMemory { done } => done,
-            RunError::Exhausted { done } => done,
+            RunError::OutOfMemory { done } | RunError::Exhausted { done } => done,
         }
     }
 

@@ -76,7 +76,6 @@ pub(crate) fn waiting_port(slot: Slot) -> Option<u16>
 {
     match slot {
         Slot::Waits { port } => Some(port),
-        Slot::Empty => None,
-        Slot::Linked { number: _ } => None,
+        Slot::Empty | Slot::Linked { .. } => None,
     }
 }

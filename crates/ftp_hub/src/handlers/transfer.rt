@@ -73,8 +73,7 @@ fn can_queue(session: &Session) -> bool
 {
     match session.slot {
         Slot::Empty => false,
-        Slot::Waits { port: _ } => session.pending.is_none(),
-        Slot::Linked { number: _ } => session.pending.is_none(),
+        Slot::Waits { .. } | Slot::Linked { .. } => session.pending.is_none(),
     }
 }
 
@@ -85,10 +84,9 @@ fn ready_text(command: &DataChanCmd) -> &'static [u8]
 {
     match command {
         DataChanCmd::Retr { .. } => b"Sending data",
-        DataChanCmd::Stor { .. } => b"Ready to receive data",
-        DataChanCmd::Appe { .. } => b"Ready to receive data",
-        DataChanCmd::List { .. } => b"Sending directory list",
-        DataChanCmd::Nlst { .. } => b"Sending directory list",
-        DataChanCmd::Mlsd { .. } => b"Sending directory list",
+        DataChanCmd::Stor { .. } | DataChanCmd::Appe { .. } => b"Ready to receive data",
+        DataChanCmd::List { .. } | DataChanCmd::Nlst { .. } | DataChanCmd::Mlsd { .. } => {
+            b"Sending directory list"
+        }
     }
 }
