@@ -119,7 +119,7 @@ next_ticket s v = record { session = s; nr = min (v.tickets + 1) (2 ^ 64 - 1) }
 
 -- the transfer that an event asks for, as it is fixed now
 abbrev pub asked_for : EventKind → Session → Option Pending
-asked_for k v = queued_for (Queued (next_ticket (unwrap_or (named_session k) 0) v)) k v
+asked_for k v = queued_for (Queued (next_ticket (number_of k) v)) k v
 
 -- a session with the transfer that is queued, before it starts
 abbrev pub with_queued : EventKind → Decision → Session → Session

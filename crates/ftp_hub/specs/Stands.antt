@@ -1,5 +1,5 @@
 -- When a hub stands for a log.
-use Rattle.std.specs.Prelude.{◌≡◌, ℕ, ◌+◌, ◌-◌, ◌^◌, ◌<◌, ◌∷◌, List, length, Option, Some, None, nat_eq, unwrap_or}
+use Rattle.std.specs.Prelude.{◌≡◌, ℕ, ◌+◌, ◌-◌, ◌^◌, ◌<◌, ◌∷◌, List, length, Option, Some, None, nat_eq}
 use Rattle.std.specs.Option.{option_and_then, option_map_or}
 use Rattle.std.specs.HashMap as map
 use Rattle.ftp_base.specs.declared.net.IpAddr.TheVariants.{V4}
@@ -88,7 +88,7 @@ pub record SameAnswers (old new : Hub) : Type 0 where
 
 -- the session that an event names, where it is live
 abbrev pub named_in : Hub → EventKind → Option Session
-named_in hub k = map.get nat_eq hub.sessions (unwrap_or (named_session k) 0)
+named_in hub k = option_and_then (map.get nat_eq hub.sessions) (named_session k)
 
 -- the name or the path that an event keeps or tells
 abbrev pub kept_for : Hub → EventKind → List ℕ

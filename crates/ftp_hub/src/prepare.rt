@@ -9,7 +9,7 @@ ghost use Rattle.ftp_switchboard.specs.Board.{HasRoom};
 ghost use Rattle.ftp_events.specs.Leads.{job_of_ticket};
 ghost use Rattle.ftp_events.specs.Login.{logged_user};
 ghost use Rattle.ftp_events.specs.Transfer.{command_offset, command_path, listed_path, pending_of};
-ghost use Rattle.ftp_hub.specs.Handlers.{number_of, asked_for, kept_alone, kept_by, next_ticket};
+ghost use Rattle.ftp_hub.specs.Handlers.{asked_for, kept_alone, kept_by, next_ticket};
 ghost use Rattle.ftp_hub.specs.Rooms.{IsReady, job_in, kept_in, need_in};
 ghost use Rattle.ftp_hub.specs.Stands.{Fits, SameAnswers, count_of, named_in, kept_for, pending_for, job_for, need_for, client_for};
 
@@ -90,7 +90,7 @@ impl Hub {
     fn named(&self, kind: &EventKind) -> Option<&Session>
         ensures { option_copied result ≡ named_in self.now kind.now }
     {
-        self.sessions.get(&number_of(kind))
+        self.sessions.get(&kind.named_session()?)
     }
 
     // The client of the session that an event names.
@@ -187,13 +187,6 @@ fn need_for(job: &Option<Job>) -> Need
     }
 }
 
-// The session that an event names, and 0 for an event that names none.
-fn number_of(kind: &EventKind) -> u64
-    ensures { result ≡ number_of kind.now }
-{
-    kind.named_session().unwrap_or(0)
-}
-
 // The name or the path that an event keeps or tells of a session.
 fn copy_kept(alloc: Global, kind: &EventKind, session: &Session) -> Result<Bytes, AllocError>
     ensures { IfOk result (λ kept. kept ≡ kept_by kind.now session.now) }
@@ -244,16 +237,21 @@ fn fix_transfer(
     requires { kept.now ≡ kept_by kind.now session.now }
     ensures { IfOk result (λ pending. pending ≡ asked_for kind.now session.now) }
 {
-    let number = number_of(kind);
     match kind {
-        EventKind::Transfer { command, .. } => {
+        EventKind::Transfer {
+            session: number,
+            command,
+        } => {
             let command = command.copy(alloc)?;
-            Ok(Some(pending_of(alloc, number, command, session)?))
+            Ok(Some(pending_of(alloc, *number, command, session)?))
         }
-        EventKind::Stou { .. } => {
+        EventKind::Stou {
+            session: number,
+            ..
+        } => {
             let path = kept.copy(alloc)?;
             let command = DataChanCmd::Stor { path };
-            Ok(Some(pending_of(alloc, number, command, session)?))
+            Ok(Some(pending_of(alloc, *number, command, session)?))
         }
         _ => Ok(None),
     }

@@ -5,7 +5,7 @@ use Rattle.ftp_events.specs.declared.session.Pending.{Pending}
 use Rattle.ftp_events.specs.declared.session.Session.{Session}
 use Rattle.ftp_events.specs.Login.{logged_user}
 use Rattle.ftp_events.specs.Transfer.{pending_of}
-use Rattle.ftp_hub.specs.Handlers.{asked_for, kept_by, next_ticket, number_of}
+use Rattle.ftp_hub.specs.Handlers.{asked_for, kept_by, next_ticket}
 use Rattle.ftp_hub.proofs.prepare.fix_transfer.Goals as goal
 
 -- STOU stores under the unique name that is kept
@@ -14,7 +14,6 @@ returns-in_ok-pending_of-in-Stou c =
     let v : Session = c.args.session.now in
     let made : ℕ → List ℕ → Option Pending = λ n path. Some (pending_of (next_ticket n v) (logged_user v.login v.name) v.cwd v.offset (Stor path)) in
     ap Some c.in_ok-pending_of-in-Stou.ensures
-    ∙ ap (λ n. made n c.in_ok-path-in-Stou.path) c.number_of-number.ensures
-    ∙ ap (made (number_of c.args.kind.now)) (c.in_ok-path-in-Stou.ensures ∙ c.requires)
-    ∙ ap (λ (k : EventKind). made (number_of k) (kept_by k v)) c.in-Stou.is
+    ∙ ap (made c.in-Stou.number) (c.in_ok-path-in-Stou.ensures ∙ c.requires)
+    ∙ ap (λ (k : EventKind). made c.in-Stou.number (kept_by k v)) c.in-Stou.is
     ∙ ap (λ (k : EventKind). asked_for k v) (sym c.in-Stou.is)
