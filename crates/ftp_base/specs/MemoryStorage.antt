@@ -18,7 +18,7 @@ use Rattle.ftp_base.specs.declared.memory_storage.Standing.{Standing}
 use Rattle.ftp_base.specs.declared.memory_storage.Standing.TheVariants as standing
 use Rattle.ftp_base.specs.Calls.{Calls, calls_code, after_call, after_fault}
 use Rattle.ftp_base.specs.Memory.{fails_next}
-use Rattle.ftp_base.specs.Storage.{Item, Directory, File, Files, Call, Metadata, Listing, ReadAt, Begin, Append, item, bytes_of, contents, parent, root, is_child, file_at}
+use Rattle.ftp_base.specs.Storage.{Item, Directory, File, Files, Call, Metadata, Listing, ReadAt, Begin, Append, Rule, item, bytes_of, contents, parent, root, is_child, file_at}
 
 -- the files, how many bytes each may have, and the calls so far
 pub record MemoryState : Type 0 where
@@ -120,6 +120,10 @@ memory_meaning files max_file (Listing user path) = if_directory (item files pat
 memory_meaning files max_file (ReadAt user path place) = unless_there (contents files path) kind.PermanentFileNotAvailable
 memory_meaning files max_file (Begin user path start) = file_refusal files max_file path start
 memory_meaning files max_file (Append user path bytes) = append_refusal (contents files path) max_file (length bytes)
+
+-- the same by what stands at each path, where a file may have so many bytes
+abbrev pub memory_rule : ℕ → Rule
+memory_rule max_file files = memory_meaning files max_file
 
 -- what was found at a path
 abbrev pub standing_item : Standing → Item

@@ -131,6 +131,15 @@ pub data Call : Type 0 where
 abbrev pub Meaning : Type 0
 Meaning = Call → Option ErrorKind
 
+-- the meaning by what stands at each path
+abbrev pub Rule : Type 0
+Rule = Files → Meaning
+
+-- the meaning of the files by a rule; where they are not told it refuses nothing, and binds nothing
+abbrev pub meaning_of : Rule → Option Files → Meaning
+meaning_of rule None call = None
+meaning_of rule (Some files) call = rule files call
+
 -- an answer refuses as the meaning says, unless the call failed or memory ran out
 abbrev pub Refuses : Option ErrorKind → StoreError → Type 0
 Refuses refusal (Kind k) = refusal ≡ Some k

@@ -1,6 +1,6 @@
 //! Both directions of a connection in memory.
 
-ghost use Rattle.std.specs.Prelude.{◌≡◌, ◌↔◌, ◌<◌, ◌≤◌, [], ◌++◌, true, false, IsTrue, min, length, take, Some, None, IfOk, IfErr, OnOk, OnErr, IsErrOf, IsPermutation};
+ghost use Rattle.std.specs.Prelude.{◌≡◌, ◌↔◌, ◌<◌, ◌≤◌, [], ◌++◌, true, false, IsTrue, min, length, take, Some, None, refl, IsSome, IfOk, IfErr, OnOk, OnErr, IsErrOf, IsPermutation};
 ghost use Rattle.ftp_base.specs.declared.fault.Failed.TheVariants.{Fault, Memory};
 ghost use Rattle.ftp_base.specs.declared.fault.LinkFault.{LinkFault};
 ghost use Rattle.ftp_base.specs.Calls.{rises_above, after_call, after_fault};
@@ -94,6 +94,8 @@ impl Source for MemoryLink {
 
     ghost sending = { λ s. record { sent = Some s.sent; closed = s.closed; last_fault = s.last_fault } };
 
+    ghost is_link = { true };
+
     fn read(&mut self, out: &mut [u8]) -> Result<usize, Failed>
         ensures within { IfOk result (λ n. n ≤ length out.new) }
         ensures moved { IfOk result (λ n. n ≡ min self.old.chunk (min (length out.old) (length self.old.left))) }
@@ -105,6 +107,7 @@ impl Source for MemoryLink {
         ensures fails { IsErrOf result Fault ↔ IsTrue (link_fails_next self.old.calls) }
         ensures fault { OnErr result (IsNextFault self.old.calls self.new.last_fault) }
         ensures only_fault { IfErr result (λ e. e ≡ Fault) }
+        ensures met { OnErr result (IsSome self.new.last_fault) }
         ensures fault_counted { OnErr result (self.new.calls ≡ after_fault self.old.calls) }
         ensures fault_rose { OnErr result (HasRisen self.old.calls.faults self.new.calls.faults) }
         ensures unchanged { OnErr result (self.new.left ≡ self.old.left) }
@@ -140,6 +143,7 @@ impl Link for MemoryLink {
         // Exactly the listed calls fail with a fault.
         ensures fails { IsErrOf result Fault ↔ IsTrue (link_fails_next self.old.calls) }
         ensures fault { IsErrOf result Fault → IsNextFault self.old.calls self.new.last_fault }
+        ensures met { IsErrOf result Fault → IsSome self.new.last_fault }
         ensures fault_counted { IsErrOf result Fault → self.new.calls ≡ after_fault self.old.calls }
         ensures fault_rose { IsErrOf result Fault → HasRisen self.old.calls.faults self.new.calls.faults }
         ensures memory { IsErrOf result Memory → self.new ≡ self.old }
@@ -195,4 +199,6 @@ impl Link for MemoryLink {
     {
         self.last_fault
     }
+
+    ghost connects = { refl };
 }

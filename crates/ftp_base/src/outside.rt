@@ -3,7 +3,7 @@
 //! What an object holds is told or not told: `None` tells nothing. The count of faults never falls, and their limit
 //! never rises. A count at the end of its type stands still, so there a fault may always be answered.
 
-ghost use Rattle.std.specs.Prelude.{◌≡◌, ℕ, ◌-◌, ◌^◌, ◌<◌, ◌≤◌, ◌++◌, List, length, take, Bool, true, Option, Some, IsSome, IfOk, IfErr, OnOk, OnErr, IfSome, IsErrOf};
+ghost use Rattle.std.specs.Prelude.{◌≡◌, ℕ, ◌-◌, ◌^◌, ◌<◌, ◌≤◌, ◌++◌, List, length, take, Bool, true, false, Option, Some, IsSome, IfOk, IfErr, OnOk, OnErr, IfSome, IsErrOf};
 ghost use Rattle.ftp_base.specs.declared.fault.Failed.TheVariants.{Fault, Memory};
 ghost use Rattle.ftp_base.specs.declared.fault.LinkFault.{LinkFault};
 ghost use Rattle.ftp_base.specs.Outside.{HasRisen, ReadsFront, Writes, Sending, nothing_sent};
@@ -24,6 +24,9 @@ pub trait Source {
     // The other direction, where the source is a connection.
     ghost sending: { Self → Sending } = { λ _. nothing_sent };
 
+    // Whether the source is a connection, of which each failed read leaves a last fault.
+    ghost is_link: { Bool } = { false };
+
     /// Reads to the front of `out`, and says how many bytes: none exactly at the end, where `out` has room.
     fn read(&mut self, out: &mut [u8]) -> Result<usize, Failed>
         ensures within { IfOk result (λ n. n ≤ length out.new) }
@@ -32,6 +35,7 @@ pub trait Source {
         ensures closed { (sending self.new).closed ≡ (sending self.old).closed }
         ensures last_fault { OnOk result ((sending self.new).last_fault ≡ (sending self.old).last_fault) }
         ensures only_fault { IfErr result (λ e. e ≡ Fault) }
+        ensures met { OnErr result (is_link ≡ true → IsSome (sending self.new).last_fault) }
         ensures fault_rose { OnErr result (HasRisen (faults self.old) (faults self.new)) }
         ensures unchanged { OnErr result (left self.new ≡ left self.old) }
         ensures count { faults self.old ≤ faults self.new }
@@ -74,6 +78,7 @@ pub trait Link: Source {
         ensures left { Self.left self.new ≡ Self.left self.old }
         ensures closed { (Self.sending self.new).closed ≡ (Self.sending self.old).closed }
         ensures last_fault { OnOk result ((Self.sending self.new).last_fault ≡ (Self.sending self.old).last_fault) }
+        ensures met { IsErrOf result Fault → IsSome (Self.sending self.new).last_fault }
         ensures fault_rose { IsErrOf result Fault → HasRisen (Self.faults self.old) (Self.faults self.new) }
         ensures memory { IsErrOf result Memory → (Self.faults self.new ≡ Self.faults self.old) }
         ensures takes_memory { IsErrOf result Memory → takes_memory ≡ true }
@@ -96,4 +101,7 @@ pub trait Link: Source {
     /// What the last read or write that failed met; nothing before any failed.
     fn last_fault(&self) -> Option<LinkFault>
         ensures { result ≡ (Self.sending self.now).last_fault };
+
+    // A link is a connection.
+    ghost connects: { Self.is_link ≡ true };
 }

@@ -1,12 +1,12 @@
 //! What keeps the files that transfers read and write.
 //!
-//! A storage is a map from paths to the bytes of a file or a directory. Its meaning says which calls it refuses.
-//! A call that fails, finds no memory or is refused leaves the storage as it was.
+//! A storage is a map from paths to the bytes of a file or a directory. Its rule says, by what stands there, which calls
+//! it refuses; no call changes the rule. A call that fails, finds no memory or is refused leaves the storage as it was.
 
 ghost use Rattle.std.specs.Prelude.{◌≡◌, ℕ, ◌+◌, ◌-◌, ◌^◌, ◌<◌, ◌≤◌, Bool, true, length, Option, IfSome, IsSomeAnd, IfOk, OnOk, OnErr, IsErrOf};
 ghost use Rattle.ftp_base.specs.declared.storage.StoreError.TheVariants.{OutOfMemory};
 ghost use Rattle.ftp_base.specs.Outside.{HasRisen};
-ghost use Rattle.ftp_base.specs.Storage.{Files, Meaning, Metadata, Listing, ReadAt, Begin, Append, Answers, item, meta_of, listing, ReadsFile, Begins, Grows};
+ghost use Rattle.ftp_base.specs.Storage.{Files, Rule, meaning_of, Metadata, Listing, ReadAt, Begin, Append, Answers, item, meta_of, listing, ReadsFile, Begins, Grows};
 
 use crate::bytes::Bytes;
 use crate::error_kind::ErrorKind;
@@ -56,8 +56,8 @@ pub trait Storage {
     // What stands at each path, where the storage tells it.
     ghost files: { Self → Option Files };
 
-    // Which calls the storage refuses, and how; it binds where the storage tells what it keeps.
-    ghost meaning: { Self → Meaning };
+    // Which calls the storage refuses, and how, by what stands at each path; it binds where the storage tells that.
+    ghost rule: { Self → Rule };
 
     // How many calls failed.
     ghost faults: { Self → ℕ };
@@ -75,20 +75,20 @@ pub trait Storage {
     /// What stands at a path.
     fn metadata(&mut self, user: &Bytes, path: &Bytes) -> Result<Meta, StoreError>
         ensures found { IfOk result (λ meta. IfSome (files self.old) (λ f. IsSomeAnd (item f path.now) (λ i. meta ≡ meta_of i))) }
-        ensures refused { Answers (files self.old) (meaning self.old (Metadata user.now path.now)) result }
+        ensures refused { Answers (files self.old) (meaning_of (rule self.old) (files self.old) (Metadata user.now path.now)) result }
         ensures fault_rose { IsErrOf result StoreError.Failed → HasRisen (faults self.old) (faults self.new) }
         ensures unchanged { files self.new ≡ files self.old }
-        ensures same_meaning { meaning self.new ≡ meaning self.old }
+        ensures same_rule { rule self.new ≡ rule self.old }
         ensures count { faults self.old ≤ faults self.new }
         ensures limit { fault_limit self.new ≤ fault_limit self.old };
 
     /// The direct children of a directory in byte order of their names, equal names in byte order of their paths.
     fn list(&mut self, user: &Bytes, path: &Bytes) -> Result<Vec<FileInfo>, StoreError>
         ensures listed { IfOk result (λ found. IfSome (files self.old) (λ f. found.items ≡ listing f path.now)) }
-        ensures refused { Answers (files self.old) (meaning self.old (Listing user.now path.now)) result }
+        ensures refused { Answers (files self.old) (meaning_of (rule self.old) (files self.old) (Listing user.now path.now)) result }
         ensures fault_rose { IsErrOf result StoreError.Failed → HasRisen (faults self.old) (faults self.new) }
         ensures unchanged { files self.new ≡ files self.old }
-        ensures same_meaning { meaning self.new ≡ meaning self.old }
+        ensures same_rule { rule self.new ≡ rule self.old }
         ensures count { faults self.old ≤ faults self.new }
         ensures limit { fault_limit self.new ≤ fault_limit self.old };
 
@@ -104,31 +104,31 @@ pub trait Storage {
         ensures within { IfOk result (λ n. n ≤ length out.new) }
         ensures in_range { IfOk result (λ n. at + n < 2 ^ 64) }
         ensures read { IfOk result (λ n. IfSome (files self.old) (λ f. ReadsFile f path.now at n out.new)) }
-        ensures refused { Answers (files self.old) (meaning self.old (ReadAt user.now path.now at)) result }
+        ensures refused { Answers (files self.old) (meaning_of (rule self.old) (files self.old) (ReadAt user.now path.now at)) result }
         ensures fault_rose { IsErrOf result StoreError.Failed → HasRisen (faults self.old) (faults self.new) }
         ensures takes_memory { IsErrOf result StoreError.OutOfMemory → reads_take_memory ≡ true }
         ensures unchanged { files self.new ≡ files self.old }
-        ensures same_meaning { meaning self.new ≡ meaning self.old }
+        ensures same_rule { rule self.new ≡ rule self.old }
         ensures count { faults self.old ≤ faults self.new }
         ensures limit { fault_limit self.new ≤ fault_limit self.old };
 
     /// Cuts a file at a place, or fills it with zeros up to there; an absent file counts as empty.
     fn begin(&mut self, user: &Bytes, path: &Bytes, start: u64) -> Result<(), StoreError>
         ensures begun { OnOk result (Begins (files self.old) (files self.new) path.now start) }
-        ensures refused { Answers (files self.old) (meaning self.old (Begin user.now path.now start)) result }
+        ensures refused { Answers (files self.old) (meaning_of (rule self.old) (files self.old) (Begin user.now path.now start)) result }
         ensures fault_rose { IsErrOf result StoreError.Failed → HasRisen (faults self.old) (faults self.new) }
         ensures unchanged { OnErr result (files self.new ≡ files self.old) }
-        ensures same_meaning { OnErr result (meaning self.new ≡ meaning self.old) }
+        ensures same_rule { rule self.new ≡ rule self.old }
         ensures count { faults self.old ≤ faults self.new }
         ensures limit { fault_limit self.new ≤ fault_limit self.old };
 
     /// Puts bytes at the end of a file.
     fn append(&mut self, user: &Bytes, path: &Bytes, bytes: &[u8]) -> Result<(), StoreError>
         ensures grown { OnOk result (Grows (files self.old) (files self.new) path.now bytes.now) }
-        ensures refused { Answers (files self.old) (meaning self.old (Append user.now path.now bytes.now)) result }
+        ensures refused { Answers (files self.old) (meaning_of (rule self.old) (files self.old) (Append user.now path.now bytes.now)) result }
         ensures fault_rose { IsErrOf result StoreError.Failed → HasRisen (faults self.old) (faults self.new) }
         ensures unchanged { OnErr result (files self.new ≡ files self.old) }
-        ensures same_meaning { OnErr result (meaning self.new ≡ meaning self.old) }
+        ensures same_rule { rule self.new ≡ rule self.old }
         ensures count { faults self.old ≤ faults self.new }
         ensures limit { fault_limit self.new ≤ fault_limit self.old };
 }

@@ -1,5 +1,5 @@
 -- What is done because of an entry, in order.
-use Rattle.std.specs.Prelude.{ℕ, ◌+◌, ◌&&◌, Bool, List, [], ◌∷◌, ◌++◌, Option, Some, None, codes, is_some, unwrap_or, if◌then◌else◌}
+use Rattle.std.specs.Prelude.{ℕ, ◌+◌, ◌&&◌, Bool, List, [], ◌∷◌, ◌++◌, Option, Some, None, codes, flat_map, is_some, unwrap_or, if◌then◌else◌}
 use Rattle.std.specs.Option.{option_and_then, option_map, option_map_or}
 use Rattle.ftp_base.specs.declared.message.ControlChanMsg.{ControlChanMsg}
 use Rattle.ftp_base.specs.declared.notice.Notice.{Notice}
@@ -9,7 +9,7 @@ use Rattle.ftp_base.specs.declared.notice.PresenceEvent.TheVariants as presence
 use Rattle.ftp_base.specs.declared.reply.Reply.{Reply}
 use Rattle.ftp_base.specs.declared.reply.Reply.TheVariants as reply
 use Rattle.ftp_base.specs.declared.reply.ReplyCode.TheVariants as code
-use Rattle.ftp_transfer.specs.declared.job.Job.{Job}
+use Rattle.ftp_events.specs.declared.session.Running.{Running}
 use Rattle.ftp_options.specs.declared.options.Options.{Options}
 use Rattle.ftp_events.specs.declared.action.Action.{Action}
 use Rattle.ftp_events.specs.declared.action.Action.TheVariants as action
@@ -19,16 +19,19 @@ use Rattle.ftp_events.specs.declared.event.EventKind.TheVariants.{End}
 use Rattle.ftp_events.specs.declared.event.Answer.{Answer}
 use Rattle.ftp_events.specs.declared.decision.Decision.{Decision}
 use Rattle.ftp_events.specs.declared.decision.Decision.TheVariants.{Turned, LoggedIn, Finished}
+use Rattle.ftp_events.specs.declared.decision.Life.{Life}
+use Rattle.ftp_events.specs.declared.decision.Life.TheVariants.{Ends}
 use Rattle.ftp_events.specs.declared.session.Pending.{Pending}
 use Rattle.ftp_events.specs.declared.session.Slot.{Slot}
 use Rattle.ftp_events.specs.declared.session.Slot.TheVariants.{Empty, Linked}
 use Rattle.ftp_events.specs.declared.session.Session.{Session}
 use Rattle.ftp_events.specs.Words.{◌⇒◌∣◌}
-use Rattle.ftp_events.specs.Log.{is_refusal, past_of, new_number, is_ending}
-use Rattle.ftp_events.specs.History.{subject}
+use Rattle.ftp_events.specs.Classes.{life, is_ending}
+use Rattle.ftp_events.specs.Log.{is_refusal, past_of, new_number}
+use Rattle.ftp_events.specs.History.{Subject, Nobody, One, All, subject}
 use Rattle.ftp_events.specs.Login.{login_by, logged_user}
 use Rattle.ftp_events.specs.Slot.{drops, started_by}
-use Rattle.ftp_events.specs.Session.{lives_on, queued_for, lane_in, session, running_job}
+use Rattle.ftp_events.specs.Session.{lives_on, queued_for, lane_in, session, live_sessions, running_job}
 use Rattle.ftp_events.specs.Message.{notice_of}
 use Rattle.ftp_events.specs.Reply.{trace_of, message_for, reply_for, delay_of}
 
@@ -53,10 +56,15 @@ abbrev pub closings : Option ℕ → List Action
 closings None = []
 closings (Some number) = action.Close number ∷ []
 
+-- every end of a life is a going, and a login a coming
+abbrev pub presence_of : Life → Decision → Option PresenceEvent
+presence_of Ends d = Some presence.LoggedOut
+presence_of _ LoggedIn = Some presence.LoggedIn
+presence_of _ d = None
+
 -- the coming or going that a decision is
 abbrev pub presence_for : Decision → Option PresenceEvent
-presence_for LoggedIn = Some presence.LoggedIn
-presence_for d = is_ending d ⇒ Some presence.LoggedOut ∣ None
+presence_for d = presence_of (life d) d
 
 -- what listeners are told: a coming or going, or what a message notifies
 abbrev pub notice_for : Option ControlChanMsg → Option PresenceEvent → Option Notice
@@ -84,7 +92,7 @@ abbrev pub farewells : ℕ → Decision → List Action
 farewells s d = is_ending d ⇒ action.Close s ∷ [] ∣ []
 
 -- what a live session gets: a notice, and a reply
-abbrev pub notice_and_reply : Options → ℕ → EventKind → Answer → Decision → Option Job → Session → List Action
+abbrev pub notice_and_reply : Options → ℕ → EventKind → Answer → Decision → Option Running → Session → List Action
 notice_and_reply o s k answer d job v =
     let m = message_for v job k answer d in
     notifications s v (logged_user (unwrap_or (login_by d) v.login) v.name) (notice_for m (presence_for d)) ++
@@ -109,16 +117,16 @@ abbrev pub drop_acts : ℕ → Bool → Decision → Slot → Option Pending →
 drop_acts s staying d slot pending = if drops d slot then cancellations s staying pending ++ closings (link_in slot) else []
 
 -- the job that starts
-abbrev pub start_acts : Option Job → List Action
+abbrev pub start_acts : Option Running → List Action
 start_acts None = []
-start_acts (Some job) = action.Start job.ticket job.number ∷ []
+start_acts (Some r) = action.Start r.job.ticket r.job.number ∷ []
 
 -- the job of a live session that starts with an event
-abbrev pub starting : EventKind → Decision → Option Job → Session → Option Job
+abbrev pub starting : EventKind → Decision → Option Running → Session → Option Running
 starting k d job v = started_by k d (queued_for d k v) (lane_in v job)
 
 -- what an event does for the session that it is about, in order, from what the session is before and the job that ran
-abbrev pub session_acts : Options → ℕ → EventKind → Answer → Decision → Option Job → Option Session → List Action
+abbrev pub session_acts : Options → ℕ → EventKind → Answer → Decision → Option Running → Option Session → List Action
 session_acts o s k answer d job v =
     completions k d (stays d v) ++
     drop_acts s (stays d v) d (slot_of v) (pending_in v) ++
@@ -131,11 +139,17 @@ session_acts o s k answer d job v =
 abbrev pub acts_for : Options → List Entry → Entry → ℕ → List Action
 acts_for o past e s = session_acts o s e.event.kind e.answer e.decision (running_job o past s) (session o past s)
 
+-- what an entry does for whom it is about, one session after the other
+abbrev pub subject_acts : Options → List Entry → Entry → Subject → List Action
+subject_acts o past e Nobody = refused_link e.event.kind e.decision
+subject_acts o past e (One s) = acts_for o past e s
+subject_acts o past e All = flat_map (acts_for o past e) (live_sessions o past)
+
 -- what an entry does
 abbrev pub acts_of : Options → List Entry → Entry → List Action
 acts_of o past e =
     is_refusal e.decision ⇒ []
-    ∣ option_map_or (acts_for o past e) (subject o past e) (refused_link e.event.kind e.decision)
+    ∣ subject_acts o past e (subject o past e)
 
 -- the actions of an entry, after a log
 unfoldable pub acts : Options → List Entry → Entry → List Action

@@ -1,5 +1,5 @@
 -- Who holds which port, for each client.
-use Rattle.std.specs.Prelude.{ℕ, Bool, true, false, ◌&&◌, not, ◌==◌, List, [], ◌∷◌, Option, Some, None}
+use Rattle.std.specs.Prelude.{ℕ, Bool, false, ◌&&◌, ◌||◌, not, ◌==◌, List, [], ◌∷◌, Option, Some, None}
 use Rattle.std.specs.Option.{option_and_then, option_map_or}
 use Rattle.ftp_base.specs.declared.net.IpAddr.{IpAddr}
 use Rattle.ftp_base.specs.Net.{same_ip}
@@ -13,7 +13,8 @@ use Rattle.ftp_events.specs.declared.event.Answer.{Answer}
 use Rattle.ftp_events.specs.declared.decision.Decision.{Decision}
 use Rattle.ftp_events.specs.declared.decision.Decision.TheVariants.{Granted}
 use Rattle.ftp_events.specs.Words.{◌⇒◌∣◌, is_number}
-use Rattle.ftp_events.specs.Log.{named_session, is_ending}
+use Rattle.ftp_events.specs.Classes.{is_stop, slot_move, gives_up}
+use Rattle.ftp_events.specs.Log.{named_session}
 use Rattle.ftp_events.specs.Opening.{opener}
 
 -- what a data connection comes for: its client and the port that it comes to
@@ -47,12 +48,11 @@ comes_to o e a p =
 
 -- the decisions that replace or drop the slot of the session that the entry names
 abbrev pub gives_up_hold : Decision → Bool
-gives_up_hold (Granted port) = true
-gives_up_hold d = is_ending d
+gives_up_hold d = gives_up (slot_move d)
 
--- the entry ends a hold of session h
+-- the entry ends a hold of session h: a stop ends every hold
 abbrev pub ends_hold : Entry → ℕ → Bool
-ends_hold e h = is_number (named_session e.event.kind) h && gives_up_hold e.decision
+ends_hold e h = is_stop e.decision || (is_number (named_session e.event.kind) h && gives_up_hold e.decision)
 
 -- the session that holds port p for the client a
 abbrev pub holder : Options → List Entry → IpAddr → ℕ → Option ℕ

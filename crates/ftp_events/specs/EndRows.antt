@@ -2,6 +2,7 @@
 use Rattle.std.specs.Prelude.{Option, Some, None}
 use Rattle.ftp_transfer.specs.declared.job.Ticket.{Ticket}
 use Rattle.ftp_transfer.specs.declared.job.Job.{Job}
+use Rattle.ftp_events.specs.declared.session.Running.{Running}
 use Rattle.ftp_transfer.specs.Transfer.{suits}
 use Rattle.ftp_events.specs.declared.event.Answer.{Answer}
 use Rattle.ftp_events.specs.declared.event.Answer.TheVariants.{Done}
@@ -16,6 +17,6 @@ outcome_row job (Done outcome) = suits outcome.result job.command ⇒ Finished �
 outcome_row job _ = NotExpected
 
 -- the end of a job that runs
-abbrev pub end_row : Ticket → Answer → Option Job → Decision
+abbrev pub end_row : Ticket → Answer → Option Running → Decision
 end_row ticket answer None = UnknownNumber
-end_row ticket answer (Some job) = same_ticket job.ticket ticket ⇒ outcome_row job answer ∣ UnknownNumber
+end_row ticket answer (Some r) = same_ticket r.job.ticket ticket ⇒ outcome_row r.job answer ∣ UnknownNumber

@@ -3,7 +3,7 @@ use Rattle.std.specs.Prelude.{ℕ, Bool, false, List, [], ◌∷◌, length, Opt
 use Rattle.std.specs.List.{list_any}
 use Rattle.std.specs.Option.{option_map_or}
 use Rattle.ftp_options.specs.declared.options.Options.{Options}
-use Rattle.ftp_transfer.specs.declared.job.Job.{Job}
+use Rattle.ftp_events.specs.declared.session.Running.{Running}
 use Rattle.ftp_transfer.specs.declared.job.Ticket.{Ticket}
 use Rattle.ftp_events.specs.declared.action.Action.{Action}
 use Rattle.ftp_events.specs.declared.action.Action.TheVariants as action
@@ -43,8 +43,8 @@ settlement (e ∷ log) t =
     ∣ settlement log t
 
 -- it is this transfer that runs
-abbrev pub is_running : Ticket → Option Job → Bool
-is_running t job = option_map_or (λ j. same_ticket j.ticket t) job false
+abbrev pub is_running : Ticket → Option Running → Bool
+is_running t run = option_map_or (λ r. same_ticket r.job.ticket t) run false
 
 -- it is this transfer that waits in a slot
 abbrev pub is_pending : Ticket → Option Pending → Bool

@@ -3,9 +3,10 @@ use Rattle.std.specs.Prelude.{◌≡◌, ℕ, ◌≤◌, true, List, [], ◌∷�
 use Rattle.std.specs.FinMap as map
 use Rattle.ftp_base.specs.LinkTable.{Numbered}
 use Rattle.ftp_base.specs.Outside.{Sending}
-use Rattle.ftp_base.specs.Storage.{Files, Meaning}
+use Rattle.ftp_base.specs.Storage.{Files, Rule}
 use Rattle.ftp_options.specs.declared.options.Options.{Options}
 use Rattle.ftp_transfer.specs.declared.job.Job.{Job}
+use Rattle.ftp_events.specs.declared.session.Running.{Running}
 use Rattle.ftp_transfer.specs.declared.job.Ticket.{Ticket}
 use Rattle.ftp_transfer.specs.declared.job.Outcome.{Outcome}
 use Rattle.ftp_transfer.specs.Ran.{Told, told, Ran, IsClean, IsDone}
@@ -23,7 +24,7 @@ use Rattle.ftp_events.specs.Transfer.{same_ticket}
 -- what storages and links tell
 pub record Views (S L : Type 0) : Type 0 where
   pub files : S → Option Files
-  pub meaning : S → Meaning
+  pub rule : S → Rule
   pub storage_faults : S → ℕ
   pub storage_limit : S → ℕ
   pub left : L → Option (List ℕ)
@@ -38,12 +39,12 @@ pub record Outside (S L : Type 0) : Type 0 where
 
 -- what storages and links tell, by a word for each
 abbrev pub views :
-    {S L : Type 0} → (S → Option Files) → (S → Meaning) → (S → ℕ) → (S → ℕ) →
+    {S L : Type 0} → (S → Option Files) → (S → Rule) → (S → ℕ) → (S → ℕ) →
     (L → Option (List ℕ)) → (L → Sending) → (L → ℕ) → (L → ℕ) → Views S L
-views files meaning storage_faults storage_limit left sending link_faults link_limit =
+views files rule storage_faults storage_limit left sending link_faults link_limit =
     record {
       files = files;
-      meaning = meaning;
+      rule = rule;
       storage_faults = storage_faults;
       storage_limit = storage_limit;
       left = left;
@@ -58,17 +59,17 @@ beside storage links = record { storage = storage; links = links }
 
 -- what a storage and a link tell together
 abbrev pub told_by : {S L : Type 0} → Views S L → S → L → Told
-told_by v s l = told (v.files s) (v.meaning s) (v.storage_faults s) (v.left l) (v.sending l) (v.link_faults l)
+told_by v s l = told (v.files s) (v.rule s) (v.storage_faults s) (v.left l) (v.sending l) (v.link_faults l)
 
 -- each link that a live session has in its slot, or a running job transfers over, is in the table
 pub record HasLinks {L : Type 0} (o : Options) (past : List Entry) (links : Numbered L) : Type 0 where
   pub slots : (s n : ℕ) → link_in (slot_of (session o past s)) ≡ Some n → is_some (map.get links n) ≡ true
-  pub jobs : (s : ℕ) (job : Job) → running_job o past s ≡ Some job → is_some (map.get links job.number) ≡ true
+  pub jobs : (s : ℕ) (r : Running) → running_job o past s ≡ Some r → is_some (map.get links r.job.number) ≡ true
 
 -- the job of a ticket, where it runs
-abbrev pub job_of_ticket : Option Job → Ticket → Option Job
+abbrev pub job_of_ticket : Option Running → Ticket → Option Job
 job_of_ticket None ticket = None
-job_of_ticket (Some job) ticket = if same_ticket job.ticket ticket then Some job else None
+job_of_ticket (Some r) ticket = if same_ticket r.job.ticket ticket then Some r.job else None
 
 -- the job that an event is the end of, where it runs
 abbrev pub job_to_run : Options → List Entry → EventKind → Option Job
@@ -85,8 +86,8 @@ pub record RunsJob {S L : Type 0} (v : Views S L) (job : Job) (given : Answer) (
   pub there : map.get old.links job.number ≡ Some before
   pub links : new.links ≡ map.insert old.links job.number after
   pub ran : Ran job (told_by v old.storage before) (told_by v new.storage after) outcome
-  -- a job that nothing refused and nothing stopped is done
-  pub complete : IsClean (told_by v old.storage before) (told_by v new.storage after) outcome → IsDone outcome.result
+  -- a job of which the storage's rule refused no call, and that nothing stopped, is done
+  pub complete : IsClean job (told_by v old.storage before) (told_by v new.storage after) outcome → IsDone outcome.result
   pub storage_count : v.storage_faults old.storage ≤ v.storage_faults new.storage
   pub link_count : v.link_faults before ≤ v.link_faults after
   pub storage_limit : v.storage_limit new.storage ≤ v.storage_limit old.storage

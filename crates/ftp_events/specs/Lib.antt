@@ -1,4 +1,5 @@
 pub mod Words
+pub mod Classes
 pub mod Log
 pub mod Covers
 pub mod Modes

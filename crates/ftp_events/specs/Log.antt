@@ -6,7 +6,7 @@ use Rattle.ftp_events.specs.declared.event.EventKind.{EventKind}
 use Rattle.ftp_events.specs.declared.event.EventKind.TheVariants.{Connect, DataIn, User, Pass, AuthDone, Pasv, Transfer, Stou, Rest, Cwd, End}
 use Rattle.ftp_events.specs.declared.event.EventKind.TheVariants as kind
 use Rattle.ftp_events.specs.declared.decision.Decision.{Decision}
-use Rattle.ftp_events.specs.declared.decision.Decision.TheVariants.{UnknownNumber, UsedNumber, Misplaced, NotExpected, Closed}
+use Rattle.ftp_events.specs.declared.decision.Decision.TheVariants.{UnknownNumber, UsedNumber, Misplaced, NotExpected}
 use Rattle.ftp_events.specs.Words.{is_number}
 
 -- a log as callers see it: the entries, the newest first, and how many more need no memory
@@ -49,11 +49,6 @@ named_session (Cwd session path refusal) = Some session
 named_session (End ticket) = Some ticket.session
 named_session (kind.Closed session) = Some session
 named_session _ = None
-
--- a decision that ends the session which the event names
-abbrev pub is_ending : Decision → Bool
-is_ending Closed = true
-is_ending _ = false
 
 -- the event has a name, a path or a command, so that its copy takes memory
 abbrev pub has_text : EventKind → Bool

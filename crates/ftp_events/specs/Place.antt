@@ -1,5 +1,5 @@
 -- A session's directory, restart offset and count of transfers, read from the session's history.
-use Rattle.std.specs.Prelude.{ℕ, Bool, true, false, List, [], ◌∷◌, Option, Some, None, if◌then◌else◌}
+use Rattle.std.specs.Prelude.{ℕ, Bool, List, [], ◌∷◌, Option, Some, None, if◌then◌else◌}
 use Rattle.std.specs.Bool.{then_some}
 use Rattle.ftp_base.specs.Storage.{root}
 use Rattle.ftp_transfer.specs.Path.{join_path}
@@ -9,8 +9,9 @@ use Rattle.ftp_events.specs.declared.event.EventKind.TheVariants.{Rest, Cwd}
 use Rattle.ftp_events.specs.declared.event.Answer.{Answer}
 use Rattle.ftp_events.specs.declared.event.Answer.TheVariants.{Done}
 use Rattle.ftp_events.specs.declared.decision.Decision.{Decision}
-use Rattle.ftp_events.specs.declared.decision.Decision.TheVariants.{Queued, RestOk, CwdOk, Finished}
+use Rattle.ftp_events.specs.declared.decision.Decision.TheVariants.{RestOk, CwdOk, Finished}
 use Rattle.ftp_events.specs.Words.{latest, total}
+use Rattle.ftp_events.specs.Classes.{slot_move, queues_one}
 use Rattle.ftp_events.specs.Transfer.{moves_file}
 
 -- the directory after an entry
@@ -35,8 +36,7 @@ offset h = latest 0 (λ e. offset_by e.decision e.event.kind e.answer) h
 
 -- a transfer was queued
 abbrev pub is_queued : Decision → Bool
-is_queued (Queued ticket) = true
-is_queued _ = false
+is_queued d = queues_one (slot_move d)
 
 -- how many transfers were queued
 abbrev pub ticket_count : List Entry → ℕ

@@ -8,7 +8,7 @@ use Rattle.ftp_base.specs.declared.reply.Reply.TheVariants as reply
 use Rattle.ftp_base.specs.declared.trace.TraceId.{TraceId}
 use Rattle.ftp_base.specs.Net.{ipv4}
 use Rattle.ftp_base.specs.declared.command.DataChanCmd.TheVariants.{Retr, Stor, Appe}
-use Rattle.ftp_transfer.specs.declared.job.Job.{Job}
+use Rattle.ftp_events.specs.declared.session.Running.{Running}
 use Rattle.ftp_options.specs.declared.options.Options.{Options}
 use Rattle.ftp_options.specs.declared.options.PassiveHost.{PassiveHost}
 use Rattle.ftp_options.specs.declared.options.PassiveHost.TheVariants.{FromConnection}
@@ -53,16 +53,16 @@ queued_text (kind.Transfer session (Appe path)) = codes "Ready to receive data"
 queued_text _ = codes "Sending directory list"
 
 -- the path of a job, where there is one
-abbrev pub path_of_job : Option Job → List ℕ
+abbrev pub path_of_job : Option Running → List ℕ
 path_of_job None = []
-path_of_job (Some job) = job.path
+path_of_job (Some r) = r.job.path
 
 -- a trace id
 abbrev pub trace_of : ℕ → TraceId
 trace_of trace = record { 0 = trace }
 
 -- the message to the control layer that goes with a decision
-abbrev pub message_for : Session → Option Job → EventKind → Answer → Decision → Option ControlChanMsg
+abbrev pub message_for : Session → Option Running → EventKind → Answer → Decision → Option ControlChanMsg
 message_for v job k answer LoggedIn = Some (message.AuthSuccess (unwrap_or v.name []) (trace_of v.opening.trace))
 message_for v job k answer (LoginFailed lock delay) = Some message.AuthFailed
 message_for v job k (Done outcome) Finished = Some (message_of_outcome (path_of_job job) outcome outcome.result)

@@ -1,32 +1,38 @@
 -- What the log tells of a session.
-use Rattle.std.specs.Prelude.{ℕ, ◌+◌, ◌-◌, Bool, true, false, List, [], ◌∷◌, Option, Some, None, unwrap_or, if◌then◌else◌}
-use Rattle.std.specs.Option.{option_map}
+use Rattle.std.specs.Prelude.{ℕ, ◌+◌, ◌-◌, Bool, true, false, List, [], ◌∷◌, Option, Some, None, unwrap_or, is_some, filter, nat_lt, if◌then◌else◌}
+use Rattle.std.specs.Option.{option_map, option_map_or}
 use Rattle.ftp_base.specs.Storage.{root}
 use Rattle.ftp_options.specs.declared.options.Options.{Options}
-use Rattle.ftp_transfer.specs.declared.job.Job.{Job}
+use Rattle.ftp_events.specs.declared.session.Running.{Running}
 use Rattle.ftp_events.specs.declared.entry.Entry.{Entry}
 use Rattle.ftp_events.specs.declared.event.EventKind.{EventKind}
 use Rattle.ftp_events.specs.declared.event.Answer.{Answer}
 use Rattle.ftp_events.specs.declared.decision.Decision.{Decision}
-use Rattle.ftp_events.specs.declared.decision.Decision.TheVariants.{Opened, Closed}
+use Rattle.ftp_events.specs.declared.decision.Life.{Life}
+use Rattle.ftp_events.specs.declared.decision.Life.TheVariants.{Goes, Opens, Ends}
 use Rattle.ftp_events.specs.declared.session.Opening.{Opening}
 use Rattle.ftp_events.specs.declared.session.Login.TheVariants as login
 use Rattle.ftp_events.specs.declared.session.Pending.{Pending}
 use Rattle.ftp_events.specs.declared.session.Session.{Session}
 use Rattle.ftp_events.specs.declared.session.Slot.TheVariants.{Empty}
 use Rattle.ftp_events.specs.Words.{◌⇒◌∣◌, latest}
-use Rattle.ftp_events.specs.Opening.{opener}
+use Rattle.ftp_events.specs.Classes.{life, is_stop}
+use Rattle.ftp_events.specs.Opening.{opener, opened_number}
 use Rattle.ftp_events.specs.History.{history}
 use Rattle.ftp_events.specs.Login.{login_by, name_by, login_state, user_name, logged_user}
 use Rattle.ftp_events.specs.Notices.{notice_count}
 use Rattle.ftp_events.specs.Place.{cwd_after, cwd, offset_by, offset, is_queued, ticket_count}
 use Rattle.ftp_events.specs.Slot.{Lane, lane_after, lane, queued_by}
 
--- what a decision makes of the session's life
+-- what a turn of a life says of it
+abbrev pub told_of_life : Life → Option Bool
+told_of_life Opens = Some true
+told_of_life Ends = Some false
+told_of_life Goes = None
+
+-- what a decision says of the session's life
 abbrev pub life_by : Decision → Option Bool
-life_by Opened = Some true
-life_by Closed = Some false
-life_by _ = None
+life_by d = told_of_life (life d)
 
 -- the session was opened and did not end
 abbrev pub is_live : List Entry → Bool
@@ -54,8 +60,24 @@ session o past s =
     is_live h ⇒ option_map (session_by_history s h) (opener past s)
     ∣ None
 
+-- a number put in its place
+abbrev pub in_order : ℕ → List ℕ → List ℕ
+in_order s [] = s ∷ []
+in_order s (x ∷ xs) = nat_lt s x ⇒ s ∷ x ∷ xs ∣ x ∷ in_order s xs
+
+-- the sessions that were opened, in order of their numbers
+abbrev pub opened_sessions : List Entry → List ℕ
+opened_sessions [] = []
+opened_sessions (e ∷ past) =
+    let before = opened_sessions past in
+    option_map_or (λ s. in_order s before) (opened_number e.event.kind e.decision) before
+
+-- the live sessions, in order of their numbers
+abbrev pub live_sessions : Options → List Entry → List ℕ
+live_sessions o past = filter (λ s. is_some (session o past s)) (opened_sessions past)
+
 -- the job of session s that runs, also of a session that has ended
-abbrev pub running_job : Options → List Entry → ℕ → Option Job
+abbrev pub running_job : Options → List Entry → ℕ → Option Running
 running_job o past s = (lane (history o past s)).running
 
 -- a session that is live goes on living
@@ -67,15 +89,15 @@ abbrev pub queued_for : Decision → EventKind → Session → Option Pending
 queued_for d k v = queued_by d k (logged_user v.login v.name) v.cwd v.offset
 
 -- the slot of a session, with the job that runs
-abbrev pub lane_in : Session → Option Job → Lane
+abbrev pub lane_in : Session → Option Running → Lane
 lane_in v job = record { slot = v.slot; pending = v.pending; running = job }
 
 -- the slot and the job after an event
-abbrev pub next_lane : EventKind → Decision → Option Job → Session → Lane
+abbrev pub next_lane : EventKind → Decision → Option Running → Session → Lane
 next_lane k d job v = lane_after k d (queued_for d k v) (lane_in v job)
 
 -- what an event makes of a live session, with its answer, its decision, how many notices it sends and the job that ran before it
-abbrev pub session_after : EventKind → Answer → Decision → ℕ → Option Job → Session → Session
+abbrev pub session_after : EventKind → Answer → Decision → ℕ → Option Running → Session → Session
 session_after k answer d sent job v =
     record {
       opening = v.opening;
@@ -89,11 +111,15 @@ session_after k answer d sent job v =
       notices = v.notices + sent;
     }
 
--- how many sessions are live after a decision
+-- how many sessions are live where one life took this turn
+abbrev pub live_by_life : Life → ℕ → ℕ
+live_by_life Opens n = n + 1
+live_by_life Ends n = n - 1
+live_by_life Goes n = n
+
+-- how many sessions are live after a decision: none after a stop
 abbrev pub live_after : Decision → ℕ → ℕ
-live_after Opened n = n + 1
-live_after Closed n = n - 1
-live_after _ n = n
+live_after d n = is_stop d ⇒ 0 ∣ live_by_life (life d) n
 
 -- how many sessions are live
 abbrev pub live_count : List Entry → ℕ

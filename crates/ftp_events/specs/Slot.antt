@@ -3,20 +3,23 @@ use Rattle.std.specs.Prelude.{ℕ, Bool, true, false, List, [], ◌∷◌, Optio
 use Rattle.std.specs.Option.{option_map}
 use Rattle.ftp_base.specs.declared.command.DataChanCmd.{DataChanCmd}
 use Rattle.ftp_base.specs.declared.command.DataChanCmd.TheVariants.{Stor}
-use Rattle.ftp_transfer.specs.declared.job.Job.{Job}
+use Rattle.ftp_events.specs.declared.session.Running.{Running}
 use Rattle.ftp_events.specs.declared.entry.Entry.{Entry}
 use Rattle.ftp_events.specs.declared.event.EventKind.{EventKind}
 use Rattle.ftp_events.specs.declared.event.EventKind.TheVariants.{Transfer, Stou}
 use Rattle.ftp_events.specs.declared.decision.Decision.{Decision}
-use Rattle.ftp_events.specs.declared.decision.Decision.TheVariants.{Turned, Attached, Granted, Queued, Finished, Closed}
+use Rattle.ftp_events.specs.declared.decision.Decision.TheVariants.{Queued}
+use Rattle.ftp_events.specs.declared.decision.SlotMove.{SlotMove}
+use Rattle.ftp_events.specs.declared.decision.SlotMove.TheVariants.{Empties, EmptiesWaiting, Awaits, Links, Queues, Finishes}
 use Rattle.ftp_events.specs.declared.session.Pending.{Pending}
 use Rattle.ftp_events.specs.declared.session.Slot.{Slot}
 use Rattle.ftp_events.specs.declared.session.Slot.TheVariants.{Empty, Waits, Linked}
+use Rattle.ftp_events.specs.Classes.{slot_move}
 use Rattle.ftp_events.specs.Log.{new_number}
 use Rattle.ftp_events.specs.Login.{login_state, user_name, logged_user}
 use Rattle.ftp_events.specs.Place.{cwd, offset}
 use Rattle.ftp_events.specs.Text.{unique_name}
-use Rattle.ftp_events.specs.Transfer.{pending_of, job_of}
+use Rattle.ftp_events.specs.Transfer.{pending_of, run_of}
 
 -- the command that an event asks for: STOU stores under a unique name
 abbrev pub asked_command : EventKind → Option DataChanCmd
@@ -44,44 +47,56 @@ abbrev pub waiting_port : Slot → Option ℕ
 waiting_port (Waits port) = Some port
 waiting_port slot = None
 
--- the decisions that drop what the slot has; a connection that is turned away does so where the slot waits for one
+-- the moves that drop what the slot has
+abbrev pub empties : SlotMove → Slot → Bool
+empties Empties slot = true
+empties (Awaits port) slot = true
+empties EmptiesWaiting slot = is_waiting slot
+empties _ slot = false
+
+-- the decisions that do
 abbrev pub drops : Decision → Slot → Bool
-drops (Granted port) slot = true
-drops Closed slot = true
-drops Turned slot = is_waiting slot
-drops _ slot = false
+drops d slot = empties (slot_move d) slot
 
 -- a slot, the transfer that waits in it, and the job that runs
 pub record Lane : Type 0 where
   pub slot : Slot
   pub pending : Option Pending
-  pub running : Option Job
+  pub running : Option Running
 
 -- the job that can start: the slot has a link and a transfer, and no job runs
-abbrev pub startable : Slot → Option Pending → Option Job → Option Job
-startable (Linked number) (Some p) None = Some (job_of p number)
+abbrev pub startable : Slot → Option Pending → Option Running → Option Running
+startable (Linked number) (Some p) None = Some (run_of p number)
 startable _ _ _ = None
 
 -- where a job can start, it starts, and the slot is empty
-abbrev pub lane_of : Slot → Option Pending → Option Job → Lane
-lane_of (Linked number) (Some p) None = record { slot = Empty; pending = None; running = Some (job_of p number) }
+abbrev pub lane_of : Slot → Option Pending → Option Running → Lane
+lane_of (Linked number) (Some p) None = record { slot = Empty; pending = None; running = Some (run_of p number) }
 lane_of slot pending running = record { slot = slot; pending = pending; running = running }
 
--- what an entry makes of the slot and the job, with the transfer that it queues
+-- what a move makes of the slot and the job, with the connection that comes and the transfer that is queued
+abbrev pub moved : SlotMove → Option ℕ → Option Pending → Lane → Lane
+moved (Awaits port) number queued l = record { slot = Waits port; pending = None; running = l.running }
+moved Links number queued l = lane_of (with_link l.slot number) l.pending l.running
+moved (Queues ticket) number queued l = lane_of l.slot queued l.running
+moved Finishes number queued l = lane_of l.slot l.pending None
+moved m number queued l =
+    record { slot = if empties m l.slot then Empty else l.slot; pending = if empties m l.slot then None else l.pending; running = l.running }
+
+-- what an entry makes of them
 abbrev pub lane_after : EventKind → Decision → Option Pending → Lane → Lane
-lane_after k (Granted port) queued l = record { slot = Waits port; pending = None; running = l.running }
-lane_after k (Attached session) queued l = lane_of (with_link l.slot (new_number k (Attached session))) l.pending l.running
-lane_after k (Queued ticket) queued l = lane_of l.slot queued l.running
-lane_after k Finished queued l = lane_of l.slot l.pending None
-lane_after k d queued l =
-    record { slot = if drops d l.slot then Empty else l.slot; pending = if drops d l.slot then None else l.pending; running = l.running }
+lane_after k d queued l = moved (slot_move d) (new_number k d) queued l
+
+-- the job that starts with a move
+abbrev pub starts_by : SlotMove → Option ℕ → Option Pending → Lane → Option Running
+starts_by Links number queued l = startable (with_link l.slot number) l.pending l.running
+starts_by (Queues ticket) number queued l = startable l.slot queued l.running
+starts_by Finishes number queued l = startable l.slot l.pending None
+starts_by _ number queued l = None
 
 -- the job that starts with an entry
-abbrev pub started_by : EventKind → Decision → Option Pending → Lane → Option Job
-started_by k (Attached session) queued l = startable (with_link l.slot (new_number k (Attached session))) l.pending l.running
-started_by k (Queued ticket) queued l = startable l.slot queued l.running
-started_by k Finished queued l = startable l.slot l.pending None
-started_by k d queued l = None
+abbrev pub started_by : EventKind → Decision → Option Pending → Lane → Option Running
+started_by k d queued l = starts_by (slot_move d) (new_number k d) queued l
 
 -- the transfer that an entry queues, after a history
 abbrev pub queued_in : List Entry → Entry → Option Pending

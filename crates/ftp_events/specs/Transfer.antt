@@ -10,6 +10,7 @@ use Rattle.ftp_transfer.specs.declared.job.Completion.{Completion}
 use Rattle.ftp_transfer.specs.declared.job.Completion.TheVariants as result
 use Rattle.ftp_transfer.specs.Path.{join_path}
 use Rattle.ftp_events.specs.declared.session.Pending.{Pending}
+use Rattle.ftp_events.specs.declared.session.Running.{Running}
 
 -- the tickets are equal
 abbrev pub same_ticket : Ticket → Ticket → Bool
@@ -44,6 +45,10 @@ pending_of ticket user dir n c =
 abbrev pub job_of : Pending → ℕ → Job
 job_of p number =
     record { ticket = p.ticket; user = p.user; command = p.command; path = p.path; offset = p.offset; number = number }
+
+-- it as it starts
+abbrev pub run_of : Pending → ℕ → Running
+run_of p number = record { job = job_of p number }
 
 -- a RETR, STOR or APPE that succeeded
 abbrev pub moves_file : Completion → Bool

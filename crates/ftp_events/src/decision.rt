@@ -1,4 +1,7 @@
-//! What the server decides on an event.
+//! What the server decides on an event, and the classes of that.
+
+ghost use Rattle.std.specs.Prelude.{◌≡◌};
+ghost use Rattle.ftp_events.specs.Classes.{life, slot_move, gives_up};
 
 use ftp_base::{ErrorKind, LockState};
 use ftp_transfer::Ticket;
@@ -48,4 +51,73 @@ pub enum Decision {
     CwdOk,
     /// The session has ended with its control connection.
     Closed,
+}
+
+/// What a decision makes of the life of the session that it is about.
+#[derive(Clone, Copy, Debug, PartialEq, Eq)]
+pub enum Life {
+    /// It goes on as it was.
+    Goes,
+    /// It begins.
+    Opens,
+    /// It ends.
+    Ends,
+}
+
+/// What a decision makes of the slot of the session that it is about.
+#[derive(Clone, Copy, Debug, PartialEq, Eq)]
+pub enum SlotMove {
+    /// Nothing.
+    Keeps,
+    /// What the slot has is dropped.
+    Empties,
+    /// What the slot has is dropped where it waits for a connection.
+    EmptiesWaiting,
+    /// The slot waits for a connection to this port, and what it had is dropped.
+    Awaits { port: u16 },
+    /// The connection that comes is the link of a slot that waits.
+    Links,
+    /// The transfer waits in the slot.
+    Queues { ticket: Ticket },
+    /// The job that ran has ended.
+    Finishes,
+}
+
+impl Decision {
+    /// What it makes of the session's life.
+    pub fn life(self) -> Life
+        ensures { result ≡ life self }
+    {
+        match self {
+            Decision::Opened => Life::Opens,
+            Decision::Closed => Life::Ends,
+            _ => Life::Goes,
+        }
+    }
+
+    /// What it makes of the session's slot.
+    pub fn slot_move(self) -> SlotMove
+        ensures { result ≡ slot_move self }
+    {
+        match self {
+            Decision::Granted { port } => SlotMove::Awaits { port },
+            Decision::Attached { .. } => SlotMove::Links,
+            Decision::Queued { ticket } => SlotMove::Queues { ticket },
+            Decision::Finished => SlotMove::Finishes,
+            Decision::Turned => SlotMove::EmptiesWaiting,
+            _ => match self.life() {
+                Life::Ends => SlotMove::Empties,
+                _ => SlotMove::Keeps,
+            },
+        }
+    }
+}
+
+impl SlotMove {
+    /// Says whether it replaces or drops the slot, whatever that has.
+    pub fn gives_up(self) -> bool
+        ensures { result ≡ gives_up self }
+    {
+        matches!(self, SlotMove::Empties | SlotMove::Awaits { .. })
+    }
 }

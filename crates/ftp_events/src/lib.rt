@@ -15,12 +15,12 @@ mod text;
 pub mod wording;
 
 pub use action::{Action, Actions};
-pub use decision::Decision;
+pub use decision::{Decision, Life, SlotMove};
 pub use entry::Entry;
 pub use event::{Answer, EventKind, HubEvent};
 pub use log::Log;
 pub use questions::{holder_of, replies_of};
-pub use session::{Login, Opening, Pending, Session, Slot};
+pub use session::{Login, Opening, Pending, Running, Session, Slot};
 pub use text::{
     make_pasv_reply, refusal, reply_of, unique_name, write_offset_text, write_passive_text,
 };

@@ -7,7 +7,7 @@ ghost use Rattle.ftp_events.specs.declared.decision.Decision.TheVariants.{Opened
 ghost use Rattle.ftp_events.specs.Words.{is_number};
 ghost use Rattle.ftp_events.specs.Log.{past_of, is_refusal, new_number};
 ghost use Rattle.ftp_events.specs.Opening.{opened_number, opening_by, opener};
-ghost use Rattle.ftp_events.specs.Board.{target, comes_to, is_client, gives_hold, gives_up_hold, ends_hold, holder};
+ghost use Rattle.ftp_events.specs.Board.{target, comes_to, is_client, gives_hold, ends_hold, holder};
 ghost use Rattle.ftp_events.specs.Right.{reply_to, replies};
 
 use crate::action::Action;
@@ -218,14 +218,7 @@ fn target(options: &Options, kind: &EventKind, answer: Answer) -> Option<SocketA
 fn ends_hold(e: &Entry, session: u64) -> bool
     ensures { result ≡ ends_hold e.now session }
 {
-    e.event.kind.named_session() == Some(session) && gives_up_hold(e.decision)
-}
-
-// Says whether the decision replaces or drops the slot of the session that the entry names.
-fn gives_up_hold(decision: Decision) -> bool
-    ensures { result ≡ gives_up_hold decision }
-{
-    matches!(decision, Decision::Granted { .. } | Decision::Closed)
+    e.event.kind.named_session() == Some(session) && e.decision.slot_move().gives_up()
 }
 
 // Says whether the decision is one of the four refusals.

@@ -2,7 +2,7 @@
 
 ghost use Rattle.std.specs.Prelude.{◌≡◌};
 ghost use Rattle.ftp_events.specs.Login.{state_of};
-ghost use Rattle.ftp_events.specs.Transfer.{job_of};
+ghost use Rattle.ftp_events.specs.Transfer.{run_of};
 
 use ftp_base::{Bytes, DataChanCmd, IpAddr, SessionState, SocketAddr};
 use ftp_transfer::{Job, Ticket};
@@ -64,19 +64,27 @@ pub struct Pending {
 }
 
 impl Pending {
-    /// The transfer on the link of this number.
-    pub fn on(self, number: u64) -> Job
-        ensures { result ≡ job_of self number }
+    /// The transfer as it starts, on the link of this number.
+    pub fn on(self, number: u64) -> Running
+        ensures { result ≡ run_of self number }
     {
-        Job {
-            ticket: self.ticket,
-            user: self.user,
-            command: self.command,
-            path: self.path,
-            offset: self.offset,
-            number,
+        Running {
+            job: Job {
+                ticket: self.ticket,
+                user: self.user,
+                command: self.command,
+                path: self.path,
+                offset: self.offset,
+                number,
+            },
         }
     }
+}
+
+/// A transfer that runs.
+#[derive(Debug, Drop)]
+pub struct Running {
+    pub job: Job,
 }
 
 #[derive(Drop)]

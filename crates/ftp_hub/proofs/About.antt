@@ -4,7 +4,7 @@ use Rattle.std.specs.Prelude.{◌==◌, nat_eq, count_by}
 use Rattle.std.specs.HashMap as map
 use Rattle.ftp_base.specs.declared.net.IpAddr.TheVariants.{V4}
 use Rattle.ftp_options.specs.declared.options.Options.{Options}
-use Rattle.ftp_transfer.specs.declared.job.Job.{Job}
+use Rattle.ftp_events.specs.declared.session.Running.{Running}
 use Rattle.ftp_switchboard.specs.Board.{holder_at}
 use Rattle.ftp_numbers.specs.Used.{has}
 use Rattle.ftp_events.specs.declared.action.Action.{Action}
@@ -59,8 +59,8 @@ serves-about old new log event answer d done s v after st counts about known rig
         live = len ∙ ap (live_after d) st.tables.live;
         jobs = λ q.
             jobs q
-            ∙ ap (λ (x : Option Job). cond (s == q) (next_lane event.kind d x v).running (map.get nat_eq old.jobs q)) (st.tables.jobs s)
-            ∙ ap (λ (x : Option Job). cond (s == q) (next_lane event.kind d job v).running x) (st.tables.jobs q)
+            ∙ ap (λ (x : Option Running). cond (s == q) (next_lane event.kind d x v).running (map.get nat_eq old.jobs q)) (st.tables.jobs s)
+            ∙ ap (λ (x : Option Running). cond (s == q) (next_lane event.kind d job v).running x) (st.tables.jobs q)
             ∙ sym (running-about o past e s v q about known)
             ∙ ap (λ (o : Options). running_job o (e ∷ past) q) (sym same);
         running = running ∙ ap (running_after done) st.tables.running;
@@ -75,18 +75,18 @@ serves-about old new log event answer d done s v after st counts about known rig
     past : List Entry
     past = past_of log
 
-    job : Option Job
+    job : Option Running
     job = running_job o past s
 
     e : Entry
     e = entry event answer d done
 
     done_are : done ≡ session_acts o s event.kind answer d job (Some v)
-    done_are = acted ∙ ap (λ (x : Option Job). session_acts o s event.kind answer d x (Some v)) (st.tables.jobs s)
+    done_are = acted ∙ ap (λ (x : Option Running). session_acts o s event.kind answer d x (Some v)) (st.tables.jobs s)
 
     counted : session_after event.kind answer d (notices_of d answer) (map.get nat_eq old.jobs s) v ≡ session_by s e job v
     counted =
-        ap (λ (x : Option Job). session_after event.kind answer d (notices_of d answer) x v) (st.tables.jobs s)
+        ap (λ (x : Option Running). session_after event.kind answer d (notices_of d answer) x v) (st.tables.jobs s)
         ∙ ap (λ c. session_after event.kind answer d c job v) (sym (ap (count_by (is_notice_to s)) done_are ∙ count-session_acts o s event.kind answer d job v))
 
     due_acts : acts_of o past e ≡ session_acts o s event.kind answer d job (Some v)

@@ -7,7 +7,7 @@ use Rattle.ftp_base.specs.declared.net.IpAddr.{IpAddr}
 use Rattle.ftp_base.specs.declared.net.IpAddr.TheVariants.{V4}
 use Rattle.ftp_base.specs.Net.{ipv4}
 use Rattle.ftp_options.specs.declared.options.Options.{Options}
-use Rattle.ftp_transfer.specs.declared.job.Job.{Job}
+use Rattle.ftp_events.specs.declared.session.Running.{Running}
 use Rattle.ftp_switchboard.specs.Board.{holder_at}
 use Rattle.ftp_numbers.specs.Used.{has}
 use Rattle.ftp_events.specs.declared.action.Action.{Action}
@@ -138,7 +138,7 @@ serves-command old new log event answer d done s v after st below plain named th
           live = len ∙ unchanged d refused ∙ st.tables.live;
           jobs = λ q.
               jobs few q
-              ∙ ap (λ (x : Option Job). cond (s == q) x (map.get nat_eq old.jobs q)) (leaves.runs event.kind (map.get nat_eq old.jobs s) v)
+              ∙ ap (λ (x : Option Running). cond (s == q) x (map.get nat_eq old.jobs q)) (leaves.runs event.kind (map.get nat_eq old.jobs s) v)
               ∙ put-back (map.get nat_eq old.jobs) s q
               ∙ st.tables.jobs q
               ∙ ap (λ (o : Options). running_job o (past_of log) q) (sym same);

@@ -4,7 +4,7 @@ use Rattle.std.specs.Prelude.{count_by}
 use Rattle.std.specs.Option.{option_map_or}
 use Rattle.ftp_base.specs.declared.notice.Notice.{Notice}
 use Rattle.ftp_options.specs.declared.options.Options.{Options}
-use Rattle.ftp_transfer.specs.declared.job.Job.{Job}
+use Rattle.ftp_events.specs.declared.session.Running.{Running}
 use Rattle.ftp_transfer.specs.declared.job.Outcome.{Outcome}
 use Rattle.ftp_transfer.specs.declared.job.Completion.{Completion}
 use Rattle.ftp_transfer.specs.declared.job.Completion.TheVariants as result
@@ -36,14 +36,14 @@ told-outcome path outcome n result.Written = refl
 told-outcome path outcome n c = refl
 
 -- what is told of a live session is the notice of the decision
-told-live : (k : EventKind) (answer : Answer) (d : Decision) (job : Option Job) (v : Session) → length (law.told_by k answer d job (Some v)) ≡ notices_of d answer
+told-live : (k : EventKind) (answer : Answer) (d : Decision) (job : Option Running) (v : Session) → length (law.told_by k answer d job (Some v)) ≡ notices_of d answer
 told-live k answer decision.LoggedIn job v = refl
 told-live k answer decision.Closed job v = refl
 told-live k (answer.Done outcome) decision.Finished job v = told-outcome (path_of_job job) outcome v.notices outcome.result
 told-live k answer _ job v = refl
 
 -- an entry about a live session sends it the notice of its decision
-pub count-session_acts : (o : Options) (s : ℕ) (k : EventKind) (answer : Answer) (d : Decision) (job : Option Job) (v : Session) → count_by (is_notice_to s) (session_acts o s k answer d job (Some v)) ≡ notices_of d answer
+pub count-session_acts : (o : Options) (s : ℕ) (k : EventKind) (answer : Answer) (d : Decision) (job : Option Running) (v : Session) → count_by (is_notice_to s) (session_acts o s k answer d job (Some v)) ≡ notices_of d answer
 count-session_acts o s k answer d job v = law.count-session_acts o s s k answer d job (Some v) ∙ rw (eq-eqb s s refl) (told-live k answer d job v)
 
 -- what is there or not is one at most
@@ -59,7 +59,7 @@ notices-one decision.Finished (answer.Done outcome) = one-most (moves_file outco
 notices-one _ answer = omega arith
 
 -- one notice at most is told of a session by a decision
-told-few : (k : EventKind) (answer : Answer) (d : Decision) (job : Option Job) (v : Option Session) → length (law.told_by k answer d job v) ≤ 1
+told-few : (k : EventKind) (answer : Answer) (d : Decision) (job : Option Running) (v : Option Session) → length (law.told_by k answer d job v) ≤ 1
 told-few k answer d job None = omega arith
 told-few k answer d job (Some v) = omega (arith, told-live k answer d job v, notices-one d answer)
 

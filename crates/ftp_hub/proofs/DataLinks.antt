@@ -7,7 +7,7 @@ use Rattle.ftp_base.specs.declared.net.IpAddr.TheVariants.{V4}
 use Rattle.ftp_base.specs.declared.net.SocketAddr.{SocketAddr}
 use Rattle.ftp_base.specs.Net.{is_v6, same_ip}
 use Rattle.ftp_options.specs.declared.options.Options.{Options}
-use Rattle.ftp_transfer.specs.declared.job.Job.{Job}
+use Rattle.ftp_events.specs.declared.session.Running.{Running}
 use Rattle.ftp_switchboard.specs.Board.{holder_at, is_key}
 use Rattle.ftp_numbers.specs.Used.{has}
 use Rattle.ftp_events.specs.declared.action.Action.{Action}
@@ -151,7 +151,7 @@ serves-held old new log event answer done n source port s raw v after st arr hel
     past : List Entry
     past = past_of log
 
-    job : Option Job
+    job : Option Running
     job = map.get nat_eq old.jobs s
 
     k : EventKind

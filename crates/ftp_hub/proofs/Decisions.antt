@@ -4,14 +4,15 @@ use Rattle.std.specs.Prelude.{◌==◌, nat_eq}
 use Rattle.std.specs.Option.{option_or}
 use Rattle.std.specs.HashMap as map
 use Rattle.ftp_options.specs.declared.options.Options.{Options}
-use Rattle.ftp_transfer.specs.declared.job.Job.{Job}
+use Rattle.ftp_events.specs.declared.session.Running.{Running}
 use Rattle.ftp_events.specs.declared.decision.Decision.{Decision}
 use Rattle.ftp_events.specs.declared.decision.Decision.TheVariants as decision
 use Rattle.ftp_events.specs.declared.event.Answer.{Answer}
 use Rattle.ftp_events.specs.declared.event.EventKind.{EventKind}
 use Rattle.ftp_events.specs.declared.session.Session.{Session}
 use Rattle.ftp_events.specs.Words.{total}
-use Rattle.ftp_events.specs.Log.{is_refusal}
+use Rattle.ftp_events.specs.Classes.{slot_move}
+use Rattle.ftp_events.specs.Log.{is_refusal, new_number}
 use Rattle.ftp_events.specs.Opening.{opened_number}
 use Rattle.ftp_events.specs.Board.{granted_port}
 use Rattle.ftp_events.specs.Running.{ended, running_after}
@@ -56,7 +57,7 @@ pub jobs-started : (old new : Jobs) (s q : ℕ) (k : EventKind) (d : Decision) (
 jobs-started old new s q k d v unfinished begins =
     begins.jobs q
     ∙ sym (at-key (λ n. option_or (starting k d (map.get nat_eq old s) v) (map.get nat_eq old n)) (map.get nat_eq old) s q)
-    ∙ ap (λ (x : Option Job). cond (s == q) x (map.get nat_eq old q)) (sym (running-after k d (queued_for d k v) (lane_in v (map.get nat_eq old s)) unfinished))
+    ∙ ap (λ (x : Option Running). cond (s == q) x (map.get nat_eq old q)) (sym (running-after (slot_move d) (new_number k d) (queued_for d k v) (lane_in v (map.get nat_eq old s)) unfinished))
 
 -- how many jobs run after it
 pub running-started : (o : Options) (s : ℕ) (k : EventKind) (answer : Answer) (d : Decision) (v : Session) (old new : Jobs) → is_finished d ≡ false → Starts old new s (starting k d (map.get nat_eq old s) v) → map.hash_map_len new ≡ running_after (session_acts o s k answer d (map.get nat_eq old s) (Some v)) (map.hash_map_len old)
@@ -70,9 +71,9 @@ starts-none jobs s = record { jobs = λ q. sym (same-both (s == q) (map.get nat_
 -- a decision that leaves a live session, its job and the holds as they are, and with which nothing is done
 pub record Leaves (d : Decision) : Type 0 where
   pub lives : lives_on d ≡ true
-  pub session : (k : EventKind) (answer : Answer) (job : Option Job) (v : Session) → session_after k answer d (notices_of d answer) job v ≡ v
-  pub acts : (o : Options) (s : ℕ) (k : EventKind) (answer : Answer) (job : Option Job) (v : Session) → session_acts o s k answer d job (Some v) ≡ []
-  pub runs : (k : EventKind) (job : Option Job) (v : Session) → (next_lane k d job v).running ≡ job
+  pub session : (k : EventKind) (answer : Answer) (job : Option Running) (v : Session) → session_after k answer d (notices_of d answer) job v ≡ v
+  pub acts : (o : Options) (s : ℕ) (k : EventKind) (answer : Answer) (job : Option Running) (v : Session) → session_acts o s k answer d job (Some v) ≡ []
+  pub runs : (k : EventKind) (job : Option Running) (v : Session) → (next_lane k d job v).running ≡ job
   pub held : (s client : ℕ) (waited : Option ℕ) (a p : ℕ) (before : Option ℕ) → held_after d s client waited a p before ≡ before
 
 -- a session with no notice and no transfer more is as it was

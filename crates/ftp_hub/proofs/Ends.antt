@@ -8,7 +8,7 @@ use Rattle.ftp_base.specs.declared.net.IpAddr.TheVariants.{V4}
 use Rattle.ftp_options.specs.declared.options.Options.{Options}
 use Rattle.ftp_switchboard.specs.Board.{holder_at}
 use Rattle.ftp_numbers.specs.Used.{has}
-use Rattle.ftp_transfer.specs.declared.job.Job.{Job}
+use Rattle.ftp_events.specs.declared.session.Running.{Running}
 use Rattle.ftp_transfer.specs.declared.job.Ticket.{Ticket}
 use Rattle.ftp_transfer.specs.declared.job.Outcome.{Outcome}
 use Rattle.ftp_transfer.specs.Transfer.{suits}
@@ -76,13 +76,13 @@ same-ticket : (a b : Ticket) → a ≡ b → same_ticket a b ≡ true
 same-ticket a b e = rw (eq-eqb a.session b.session (ap (λ (t : Ticket). t.session) e), eq-eqb a.nr b.nr (ap (λ (t : Ticket). t.nr) e)) refl
 
 -- what is due on the end of a job that runs
-pub end-due : (hub : Hub) (log : List Entry) (event : HubEvent) (answer : Answer) (t : Ticket) (x : Option Job) → Stands hub log → event.kind ≡ kind.End t → map.get nat_eq hub.jobs t.session ≡ x → decide hub.options log event answer ≡ end_row t answer x
+pub end-due : (hub : Hub) (log : List Entry) (event : HubEvent) (answer : Answer) (t : Ticket) (x : Option Running) → Stands hub log → event.kind ≡ kind.End t → map.get nat_eq hub.jobs t.session ≡ x → decide hub.options log event answer ≡ end_row t answer x
 unfolding decide
 end-due hub log event answer t x st k there = rw k (ap (end_row t answer) (sym (st.tables.jobs t.session) ∙ there))
 
 -- a job that runs ends with an outcome that suits it
-pub finish-due : (hub : Hub) (log : List Entry) (event : HubEvent) (outcome : Outcome) (t : Ticket) (job : Job) → Stands hub log → event.kind ≡ kind.End t → map.get nat_eq hub.jobs t.session ≡ Some job → job.ticket ≡ t → suits outcome.result job.command ≡ true → decision.Finished ≡ decide hub.options log event (Done outcome)
-finish-due hub log event outcome t job st k there same fits = sym (end-due hub log event (Done outcome) t (Some job) st k there ∙ rw (same-ticket job.ticket t same, fits) refl)
+pub finish-due : (hub : Hub) (log : List Entry) (event : HubEvent) (outcome : Outcome) (t : Ticket) (job : Running) → Stands hub log → event.kind ≡ kind.End t → map.get nat_eq hub.jobs t.session ≡ Some job → job.job.ticket ≡ t → suits outcome.result job.job.command ≡ true → decision.Finished ≡ decide hub.options log event (Done outcome)
+finish-due hub log event outcome t job st k there same fits = sym (end-due hub log event (Done outcome) t (Some job) st k there ∙ rw (same-ticket job.job.ticket t same, fits) refl)
 
 -- a session that is not live stays so
 lost-session : (o : Options) (past : List Entry) (e : Entry) (s : ℕ) → opens e s ≡ false → concerns o past e s ≡ true → e.decision ≡ decision.Finished → session o past s ≡ None → session o (e ∷ past) s ≡ None
@@ -97,9 +97,9 @@ lost-session o past e s n c d none =
 
 -- the tables after the end of a transfer whose session has ended
 pub serves-lost :
-    (old new : Hub) (log : List Entry) (event : HubEvent) (outcome : Outcome) (done : List Action) (t : Ticket) (job : Job) →
+    (old new : Hub) (log : List Entry) (event : HubEvent) (outcome : Outcome) (done : List Action) (t : Ticket) (job : Running) →
     Stands old log → event.kind ≡ kind.End t →
-    map.get nat_eq old.jobs t.session ≡ Some job → job.ticket ≡ t → suits outcome.result job.command ≡ true →
+    map.get nat_eq old.jobs t.session ≡ Some job → job.job.ticket ≡ t → suits outcome.result job.job.command ≡ true →
     map.get nat_eq old.sessions t.session ≡ None → done ≡ action.Completed t false ∷ [] →
     new.options ≡ old.options →
     ((q : ℕ) → map.get nat_eq new.sessions q ≡ map.get nat_eq old.sessions q) →
@@ -161,11 +161,11 @@ serves-lost old new log event outcome done t job st k there ticket fits none com
     one_less n = omega arith
 
 -- the jobs after the end of a transfer of a live session
-pub jobs-finished : (old taken new : Jobs) (s q : ℕ) (k : EventKind) (job : Job) (v : Session) → ((n : ℕ) → map.get nat_eq taken n ≡ cond (s == n) None (map.get nat_eq old n)) → Starts taken new s (starting k decision.Finished (Some job) v) → map.get nat_eq new q ≡ cond (s == q) (next_lane k decision.Finished (Some job) v).running (map.get nat_eq old q)
+pub jobs-finished : (old taken new : Jobs) (s q : ℕ) (k : EventKind) (job : Running) (v : Session) → ((n : ℕ) → map.get nat_eq taken n ≡ cond (s == n) None (map.get nat_eq old n)) → Starts taken new s (starting k decision.Finished (Some job) v) → map.get nat_eq new q ≡ cond (s == q) (next_lane k decision.Finished (Some job) v).running (map.get nat_eq old q)
 jobs-finished old taken new s q k job v took begins =
-    begins.jobs q ∙ ap (λ (x : Option Job). cond (s == q) (option_or begun x) x) (took q) ∙ go (s == q)
+    begins.jobs q ∙ ap (λ (x : Option Running). cond (s == q) (option_or begun x) x) (took q) ∙ go (s == q)
   where
-    begun : Option Job
+    begun : Option Running
     begun = starting k decision.Finished (Some job) v
 
     go : (b : Bool) → cond b (option_or begun (cond b None (map.get nat_eq old q))) (cond b None (map.get nat_eq old q)) ≡ cond b (next_lane k decision.Finished (Some job) v).running (map.get nat_eq old q)
@@ -173,6 +173,6 @@ jobs-finished old taken new s q k job v took begins =
     go false = refl
 
 -- and how many run
-pub running-finished : (o : Options) (s : ℕ) (t : Ticket) (answer : Answer) (job : Job) (v : Session) (old taken new : Jobs) → map.hash_map_len taken + 1 ≡ map.hash_map_len old → Starts taken new s (starting (kind.End t) decision.Finished (Some job) v) → map.hash_map_len new ≡ running_after (session_acts o s (kind.End t) answer decision.Finished (Some job) (Some v)) (map.hash_map_len old)
+pub running-finished : (o : Options) (s : ℕ) (t : Ticket) (answer : Answer) (job : Running) (v : Session) (old taken new : Jobs) → map.hash_map_len taken + 1 ≡ map.hash_map_len old → Starts taken new s (starting (kind.End t) decision.Finished (Some job) v) → map.hash_map_len new ≡ running_after (session_acts o s (kind.End t) answer decision.Finished (Some job) (Some v)) (map.hash_map_len old)
 running-finished o s t answer job v old taken new fewer begins =
     omega (arith, begins.len, fewer, running-acts o s (kind.End t) answer decision.Finished (Some job) v (map.hash_map_len old), count-start (starting (kind.End t) decision.Finished (Some job) v))

@@ -9,6 +9,7 @@ use Rattle.std.specs.Option.{option_map_or}
 use Rattle.ftp_base.specs.LinkTable.{Numbered}
 use Rattle.ftp_options.specs.declared.options.Options.{Options}
 use Rattle.ftp_transfer.specs.declared.job.Job.{Job}
+use Rattle.ftp_events.specs.declared.session.Running.{Running}
 use Rattle.ftp_transfer.specs.declared.job.Ticket.{Ticket}
 use Rattle.ftp_events.specs.declared.decision.Decision.{Decision}
 use Rattle.ftp_events.specs.declared.decision.Decision.TheVariants as decision
@@ -38,9 +39,9 @@ use Rattle.ftp_hub.specs.Runs.{has_link_of, is_linked}
 use Rattle.ftp_hub.specs.Stands.{Stands, job_for}
 
 -- the link of a job
-abbrev link_at : Option Job → Option ℕ
+abbrev link_at : Option Running → Option ℕ
 link_at None = None
-link_at (Some job) = Some job.number
+link_at (Some r) = Some r.job.number
 
 -- the link of a slot and that of a job are among those that are linked
 record AreLinked (linked : ℕ → Bool) (l : Lane) : Type 0 where
@@ -49,7 +50,7 @@ record AreLinked (linked : ℕ → Bool) (l : Lane) : Type 0 where
 
 -- a job that starts has the link of its slot
 lane_of-linked :
-    (linked : ℕ → Bool) (slot : Slot) (pending : Option Pending) (running : Option Job) →
+    (linked : ℕ → Bool) (slot : Slot) (pending : Option Pending) (running : Option Running) →
     ((n : ℕ) → link_in slot ≡ Some n → linked n ≡ true) →
     ((n : ℕ) → link_at running ≡ Some n → linked n ≡ true) →
     AreLinked linked (lane_of slot pending running)
@@ -120,7 +121,7 @@ lane-linked o log s links r has =
         has.slots s n (rw x (sym (ap (λ (w : Session). link_in w.slot) told.told) ∙ h))
 
     by_job :
-        (job : Option Job) → running_job o past s ≡ job →
+        (job : Option Running) → running_job o past s ≡ job →
         (n : ℕ) → link_at (running_job o past s) ≡ Some n → is_linked links n ≡ true
     by_job None x n h =
         let z : None ≡ Some n = sym (ap link_at x) ∙ h in
@@ -136,7 +137,7 @@ lane-has :
 lane-has o past links h =
     record {
       slots = λ s n x. by_session s (session o past s) refl n x;
-      jobs = λ s job x. (h s).running job.number (ap link_at x);
+      jobs = λ s r x. (h s).running r.job.number (ap link_at x);
     }
   where
     by_session :
@@ -206,16 +207,16 @@ pub job-due :
     Stands hub log → taken ≡ job_for hub k →
     job_to_run hub.options (past_of log) k ≡ taken
 job-due hub log (kind.End t) taken st is =
-    sym (is ∙ ap (λ (x : Option Job). job_of_ticket x t) (st.tables.jobs t.session))
+    sym (is ∙ ap (λ (x : Option Running). job_of_ticket x t) (st.tables.jobs t.session))
 job-due hub log k taken st is = sym is
 
 -- the job of a ticket runs
-ticket-runs : (x : Option Job) (t : Ticket) (job : Job) → job_of_ticket x t ≡ Some job → x ≡ Some job
+ticket-runs : (x : Option Running) (t : Ticket) (job : Job) → job_of_ticket x t ≡ Some job → (r : Running) × (x ≡ Some r) × (r.job ≡ job)
 ticket-runs None t job h = cc
-ticket-runs (Some j) t job h = go (same_ticket j.ticket t) h
+ticket-runs (Some r) t job h = go (same_ticket r.job.ticket t) h
   where
-    go : (b : Bool) → cond b (Some j) None ≡ Some job → Some j ≡ Some job
-    go true e = e
+    go : (b : Bool) → cond b (Some r.job) None ≡ Some job → (u : Running) × (Some r ≡ Some u) × (u.job ≡ job)
+    go true e = (r, refl, same_Some _ _ e)
     go false e = cc
 
 -- where each running job has its link, so has the one that is to be run
@@ -226,7 +227,9 @@ pub has_link_of-due :
 has_link_of-due o past k links has = by_job (job_to_run o past k) refl
   where
     linked : (k : EventKind) (job : Job) → job_to_run o past k ≡ Some job → is_linked links job.number ≡ true
-    linked (kind.End t) job runs = has.jobs t.session job (ticket-runs (running_job o past t.session) t job runs)
+    linked (kind.End t) job runs =
+        let x = ticket-runs (running_job o past t.session) t job runs in
+        subst (λ (i : Job). is_linked links i.number ≡ true) x.2 (has.jobs t.session x.0 x.1)
     linked k job runs = cc
 
     by_job :

@@ -3,7 +3,7 @@ use Rattle.std.proofs.Common.{◌≡◌, refl, ap, ◌∙◌, ℕ, ◌+◌, ◌-
 use Rattle.std.specs.Prelude.{◌==◌, count_by, is_some}
 use Rattle.std.proofs.lemmas.List.Sums.{sum_by-cons}
 use Rattle.ftp_options.specs.declared.options.Options.{Options}
-use Rattle.ftp_transfer.specs.declared.job.Job.{Job}
+use Rattle.ftp_events.specs.declared.session.Running.{Running}
 use Rattle.ftp_transfer.specs.declared.job.Ticket.{Ticket}
 use Rattle.ftp_events.specs.declared.action.Action.{Action}
 use Rattle.ftp_events.specs.declared.action.Action.TheVariants as action
@@ -61,7 +61,7 @@ total-counted f t (x ∷ xs) = omega (arith, total-counted f t xs, t.once x, sum
 
 -- of a session's actions only the completion and the start of a job count
 total-acts :
-    (f : Action → ℕ) (o : Options) (s : ℕ) (k : EventKind) (answer : Answer) (d : Decision) (job : Option Job) (v : Session) → TellsJobs f →
+    (f : Action → ℕ) (o : Options) (s : ℕ) (k : EventKind) (answer : Answer) (d : Decision) (job : Option Running) (v : Session) → TellsJobs f →
     total f (session_acts o s k answer d job (Some v)) ≡ total f (completions k d (stays d (Some v))) + total f (start_acts (starting k d job v))
 total-acts f o s k answer d job v t =
     omega (
@@ -75,7 +75,7 @@ total-acts f o s k answer d job v t =
 
 -- a session's actions end the job that completes, and start the one that starts
 pub running-acts :
-    (o : Options) (s : ℕ) (k : EventKind) (answer : Answer) (d : Decision) (job : Option Job) (v : Session) (n : ℕ) →
+    (o : Options) (s : ℕ) (k : EventKind) (answer : Answer) (d : Decision) (job : Option Running) (v : Session) (n : ℕ) →
     running_after (session_acts o s k answer d job (Some v)) n ≡ n - total ended (completions k d (stays d (Some v))) + total started (start_acts (starting k d job v))
 running-acts o s k answer d job v n =
     omega (
@@ -86,7 +86,7 @@ running-acts o s k answer d job v n =
       none_starts k d (stays d (Some v)),
     )
   where
-    none_ends : (job : Option Job) → total ended (start_acts job) ≡ 0
+    none_ends : (job : Option Running) → total ended (start_acts job) ≡ 0
     none_ends None = refl
     none_ends (Some job) = refl
 
@@ -101,7 +101,7 @@ pub record IsIdle (d : Decision) : Type 0 where
 
 -- so as many run as before
 pub running-idle :
-    (o : Options) (s : ℕ) (k : EventKind) (answer : Answer) (d : Decision) (job : Option Job) (v : Session) (n : ℕ) → IsIdle d →
+    (o : Options) (s : ℕ) (k : EventKind) (answer : Answer) (d : Decision) (job : Option Running) (v : Session) (n : ℕ) → IsIdle d →
     running_after (session_acts o s k answer d job (Some v)) n ≡ n
 running-idle o s k answer d job v n idle =
     let none : start_acts (starting k d job v) ≡ [] = ap start_acts (idle.starts k _ _) in
@@ -112,6 +112,6 @@ pub running-none : (xs : List Action) (n : ℕ) → xs ≡ [] → running_after 
 running-none xs n none = ap (λ ys. running_after ys n) none ∙ omega arith
 
 -- one start is counted where one starts
-pub count-start : (job : Option Job) → total started (start_acts job) ≡ cond (is_some job) 1 0
+pub count-start : (job : Option Running) → total started (start_acts job) ≡ cond (is_some job) 1 0
 count-start None = refl
 count-start (Some job) = refl

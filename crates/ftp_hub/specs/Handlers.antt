@@ -7,7 +7,7 @@ use Rattle.ftp_base.specs.declared.error_kind.ErrorKind.{ErrorKind}
 use Rattle.ftp_base.specs.Net.{ipv4}
 use Rattle.ftp_base.specs.Storage.{root}
 use Rattle.ftp_options.specs.declared.options.Options.{Options}
-use Rattle.ftp_transfer.specs.declared.job.Job.{Job}
+use Rattle.ftp_events.specs.declared.session.Running.{Running}
 use Rattle.ftp_transfer.specs.declared.job.Ticket.{Ticket}
 use Rattle.ftp_transfer.specs.Path.{join_path}
 use Rattle.ftp_switchboard.specs.Board.{Board, holder_at, is_key, still_holder}
@@ -135,10 +135,10 @@ with_lane v l = record v { slot = l.slot; pending = l.pending }
 
 -- the jobs that run, by session
 abbrev pub Jobs : Type 0
-Jobs = map.HashMap ℕ Job (BuildHasherDefault FoldHasher)
+Jobs = map.HashMap ℕ Running (BuildHasherDefault FoldHasher)
 
 -- a job starts for session s in a table of jobs, or none
-pub record Starts (old new : Jobs) (s : ℕ) (job : Option Job) : Type 0 where
+pub record Starts (old new : Jobs) (s : ℕ) (job : Option Running) : Type 0 where
   pub jobs : (q : ℕ) → map.get nat_eq new q ≡ (if s == q then option_or job (map.get nat_eq old q) else map.get nat_eq old q)
   pub len : map.hash_map_len new ≡ map.hash_map_len old + (if is_some job then 1 else 0)
 

@@ -25,10 +25,9 @@ use crate::jobs::start;
 use crate::room::Room;
 use crate::tables::put;
 use ftp_base::{Bytes, IpAddr, SocketAddr};
-use ftp_events::{Answer, Decision, EventKind, HubEvent, Login, Opening, Session, Slot};
+use ftp_events::{Answer, Decision, EventKind, HubEvent, Login, Opening, Running, Session, Slot};
 use ftp_options::Options;
 use ftp_switchboard::SwitchboardKey;
-use ftp_transfer::Job;
 use std::collections::HashMap;
 use std::mem;
 
@@ -163,7 +162,7 @@ impl Arrival {
         self,
         holder: u64,
         session: &mut Session,
-        jobs: &mut HashMap<u64, Job>,
+        jobs: &mut HashMap<u64, Running>,
         room: &mut Room,
     ) -> Decision
         requires ready { IsReady room.old }

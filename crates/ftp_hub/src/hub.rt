@@ -3,11 +3,10 @@
 ghost use Rattle.std.specs.Prelude.{◌≡◌, true};
 ghost use Rattle.ftp_options.specs.Modes.{is_pooled};
 
-use ftp_events::Session;
+use ftp_events::{Running, Session};
 use ftp_numbers::Numbers;
 use ftp_options::Options;
 use ftp_switchboard::Switchboard;
-use ftp_transfer::Job;
 use std::alloc::Global;
 use std::collections::HashMap;
 
@@ -18,7 +17,7 @@ pub struct Hub {
     pub(crate) options: Options,
     pub(crate) sessions: HashMap<u64, Session>,
     // The job that runs for a session, which may have ended.
-    pub(crate) jobs: HashMap<u64, Job>,
+    pub(crate) jobs: HashMap<u64, Running>,
     pub(crate) numbers: Numbers,
     pub(crate) board: Switchboard,
     // The count of events that the hub was made with.

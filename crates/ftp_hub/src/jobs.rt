@@ -18,10 +18,10 @@ ghost use Rattle.ftp_hub.specs.Handlers.{is_transfer, IsFew, asked_for, kept_by,
 use crate::handlers::{end, transfer};
 use crate::room::Room;
 use crate::tables::put;
-use ftp_events::{Decision, HubEvent, Session, Slot};
+use ftp_events::{Decision, HubEvent, Running, Session, Slot};
 use ftp_options::Options;
 use ftp_switchboard::Switchboard;
-use ftp_transfer::{Job, Outcome};
+use ftp_transfer::Outcome;
 use std::collections::HashMap;
 use std::mem;
 
@@ -29,7 +29,7 @@ use std::mem;
 pub(crate) fn start(
     session: &mut Session,
     number: u64,
-    jobs: &mut HashMap<u64, Job>,
+    jobs: &mut HashMap<u64, Running>,
     room: &mut Room,
 )
     requires place { HasPlace room.old }
@@ -57,7 +57,7 @@ pub(crate) fn queue(
     session: &mut Session,
     number: u64,
     event: &HubEvent,
-    jobs: &mut HashMap<u64, Job>,
+    jobs: &mut HashMap<u64, Running>,
     board: &mut Switchboard,
     room: &mut Room,
     options: &Options,
@@ -84,21 +84,21 @@ pub(crate) fn queue(
 /// Tells the session of the end of its transfer, and starts the one that waits for its end.
 pub(crate) fn finish(
     session: &mut Session,
-    job: Job,
+    job: Running,
     outcome: Outcome,
-    jobs: &mut HashMap<u64, Job>,
+    jobs: &mut HashMap<u64, Running>,
     room: &mut Room,
     options: &Options,
 )
     requires room { IsReady room.old }
     requires kept { kept_in room.old ≡ logged_user session.old.login session.old.name }
     requires spare { 0 < map.spare jobs.old }
-    requires ended { map.get nat_eq jobs.old job.ticket.session ≡ None }
-    ensures session { session.old.notices + 1 < 2 ^ 64 → session.new ≡ session_after (End job.ticket) (Done outcome) Finished (notices_of Finished (Done outcome)) (Some job) session.old }
-    ensures actions { session.old.notices + 1 < 2 ^ 64 → actions_in room.new ≡ session_acts options.now job.ticket.session (End job.ticket) (Done outcome) Finished (Some job) (Some session.old) }
-    ensures starts { Starts jobs.old jobs.new job.ticket.session (starting (End job.ticket) Finished (Some job) session.old) }
+    requires ended { map.get nat_eq jobs.old job.job.ticket.session ≡ None }
+    ensures session { session.old.notices + 1 < 2 ^ 64 → session.new ≡ session_after (End job.job.ticket) (Done outcome) Finished (notices_of Finished (Done outcome)) (Some job) session.old }
+    ensures actions { session.old.notices + 1 < 2 ^ 64 → actions_in room.new ≡ session_acts options.now job.job.ticket.session (End job.job.ticket) (Done outcome) Finished (Some job) (Some session.old) }
+    ensures starts { Starts jobs.old jobs.new job.job.ticket.session (starting (End job.job.ticket) Finished (Some job) session.old) }
 {
-    let number = job.ticket.session;
+    let number = job.job.ticket.session;
     end::deliver(session, job, outcome, room, options);
     start(session, number, jobs, room);
 }

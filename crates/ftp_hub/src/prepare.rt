@@ -16,7 +16,7 @@ ghost use Rattle.ftp_hub.specs.Stands.{Fits, SameAnswers, count_of, named_in, ke
 use crate::hub::Hub;
 use crate::room::{LONGEST_TEXT, MOST_ACTIONS, Need, Room};
 use ftp_base::{Bytes, DataChanCmd};
-use ftp_events::{EventKind, HubEvent, Login, Pending, Session, unique_name};
+use ftp_events::{EventKind, HubEvent, Login, Pending, Running, Session, unique_name};
 use ftp_transfer::{Job, Ticket, join_path};
 use std::alloc::{AllocError, Global};
 use thiserror::Error;
@@ -168,11 +168,15 @@ impl Hub {
 }
 
 // The job, where it is that of the ticket.
-fn copy_job(alloc: Global, job: Option<&Job>, ticket: Ticket) -> Result<Option<Job>, AllocError>
-    ensures { IfOk result (λ copy. copy ≡ job_of_ticket (option_copied job.entry) ticket) }
+fn copy_job(
+    alloc: Global,
+    running: Option<&Running>,
+    ticket: Ticket,
+) -> Result<Option<Job>, AllocError>
+    ensures { IfOk result (λ copy. copy ≡ job_of_ticket (option_copied running.entry) ticket) }
 {
-    match job {
-        Some(job) if job.ticket == ticket => Ok(Some(job.copy(alloc)?)),
+    match running {
+        Some(running) if running.job.ticket == ticket => Ok(Some(running.job.copy(alloc)?)),
         _ => Ok(None),
     }
 }

@@ -154,13 +154,13 @@ impl Hub {
         let Some(job) = self.jobs.get(&ticket.session) else {
             return Decision::UnknownNumber;
         };
-        if job.ticket != ticket {
+        if job.job.ticket != ticket {
             return Decision::UnknownNumber;
         }
         let Answer::Done(outcome) = answer else {
             return Decision::NotExpected;
         };
-        if !outcome.suits(&job.command) {
+        if !outcome.suits(&job.job.command) {
             return Decision::NotExpected;
         }
         self.finish(room, event, ticket, outcome)
@@ -176,7 +176,7 @@ impl Hub {
     ) -> Decision
         requires fits { Fits room.old self.old event.now }
         requires of_this_event { event.now.kind ≡ End ticket }
-        requires runs { IsSomeAnd (map.get nat_eq self.old.jobs ticket.session) (λ job. (job.ticket ≡ ticket) × (suits outcome.result job.command ≡ true)) }
+        requires runs { IsSomeAnd (map.get nat_eq self.old.jobs ticket.session) (λ job. (job.job.ticket ≡ ticket) × (suits outcome.result job.job.command ≡ true)) }
         ensures serves { (log : List Entry) → Stands self.old log → Serves self.old self.new log event.now (Done outcome) result (actions_in room.new) }
         ensures head { SameHead self.old self.new }
     {

@@ -5,25 +5,13 @@ use Rattle.std.specs.List.{list_any}
 use Rattle.std.specs.Option.{option_or}
 use Rattle.std.proofs.lemmas.Bool.{and_parts, or_right}
 use Rattle.std.proofs.lemmas.List.Sums.{sum_by-cons}
-use Rattle.ftp_options.specs.declared.options.Options.{Options}
-use Rattle.ftp_transfer.specs.declared.job.Job.{Job}
-use Rattle.ftp_events.specs.declared.action.Action.{Action}
 use Rattle.ftp_events.specs.declared.action.Action.TheVariants as action
-use Rattle.ftp_events.specs.declared.decision.Decision.{Decision}
 use Rattle.ftp_events.specs.declared.decision.Decision.TheVariants as decision
-use Rattle.ftp_events.specs.declared.entry.Entry.{Entry}
-use Rattle.ftp_events.specs.declared.event.Answer.{Answer}
-use Rattle.ftp_events.specs.declared.event.EventKind.{EventKind}
 use Rattle.ftp_events.specs.declared.event.EventKind.TheVariants as kind
-use Rattle.ftp_events.specs.Words.{is_number}
-use Rattle.ftp_events.specs.Log.{is_refusal, past_of, named_session, new_number}
-use Rattle.ftp_events.specs.Board.{holder, holder_of_target}
-use Rattle.ftp_events.specs.History.{subject, concerns, history}
-use Rattle.ftp_events.specs.Slot.{queued_in, lane}
-use Rattle.ftp_events.specs.Session.{session}
-use Rattle.ftp_events.specs.Decide.{due, decide}
-use Rattle.ftp_events.specs.Acts.{acts, completions, stays, slot_of, pending_in, start_acts}
-use Rattle.ftp_events.specs.Right.{IsRight, IsActed}
+use Rattle.ftp_events.specs.History.{Nobody, One, All}
+use Rattle.ftp_events.specs.Classes.{is_stop}
+use Rattle.ftp_laws.proofs.Common.{Subject, slot_move, Options, Running, Action, Decision, Entry, Answer, EventKind, is_number, is_refusal, past_of, named_session, new_number, holder, holder_of_target, subject, concerns, history, queued_in, lane, session, due, decide, acts, completions, stays, slot_of, pending_in, start_acts, IsRight, IsActed}
+use Rattle.ftp_laws.proofs.Subjects.{no-stop, one-own, not-all, concerns-plain}
 use Rattle.ftp_laws.specs.Jobs.{starts_there, attaches_to, brings_link, has_brought}
 use Rattle.ftp_laws.proofs.Entries.{past-more}
 use Rattle.ftp_laws.proofs.Served.{Goes, connection-goes}
@@ -80,7 +68,7 @@ attached-own o past e s fit c a = go e.decision refl a
         (d : Decision) → e.decision ≡ d → is_attached d ≡ true →
         attaches_to s d ≡ true
     go (decision.Attached q) x h =
-        sym (ap (λ m. is_number m s) (attached-subject o past e.event.at e.event.kind e.answer q (sym fit ∙ x))) ∙ c
+        sym (ap (λ m. is_number m s) (attached-subject o past e.event.at e.event.kind e.answer q (sym fit ∙ x))) ∙ (sym (concerns-plain o past e s (ap is_stop x)) ∙ c)
     go d x h = cc
 
 -- an entry that attaches link n brings it to the session that it concerns
@@ -128,46 +116,47 @@ starts-on-own o log e s n r a h = by_refusal (is_refusal e.decision) refl
 
     by_link :
         concerns o past e s ≡ true →
-        Brings e.event.kind e.decision (lane (history o past s)).slot n →
+        Brings (slot_move e.decision) (new_number e.event.kind e.decision) (lane (history o past s)).slot n →
         has_brought s n (e ∷ log) ≡ true
     by_link c (inl x) = or_right (brings_link s n e) (has_brought s n log) (link-brought o log s n r.0 x)
     by_link c (inr x) = rw (attached-brings o past e s n r.1 c x) refl
 
     by_test :
-        (q : ℕ) (j : Job) → concerns o past e q ≡ true →
+        (q : ℕ) (j : Running) → concerns o past e q ≡ true →
         started_in o past e q ≡ Some j →
-        (b : Bool) → starts_there s n (action.Start j.ticket j.number) ≡ b →
+        (b : Bool) → starts_there s n (action.Start j.job.ticket j.job.number) ≡ b →
         1 ≤ one b → has_brought s n (e ∷ log) ≡ true
     by_test q j c x false y z = absurd (omega (arith, z))
     by_test q j c x true y z =
-        let parts = and_parts (j.ticket.session == s) (j.number == n) y in
-        let own : q ≡ s = sym (started_in-owned o log e q j r.0 r.1 c x) ∙ eqb-true j.ticket.session s parts.0 in
-        let link : j.number ≡ n = eqb-true j.number n parts.1 in
+        let parts = and_parts (j.job.ticket.session == s) (j.job.number == n) y in
+        let own : q ≡ s = sym (started_in-owned o log e q j r.0 r.1 c x) ∙ eqb-true j.job.ticket.session s parts.0 in
+        let link : j.job.number ≡ n = eqb-true j.job.number n parts.1 in
         let about : concerns o past e s ≡ true = subst (λ (m : ℕ). concerns o past e m ≡ true) own c in
         let brings =
-        started-brings e.event.kind e.decision (queued_in (history o past q) e) (lane (history o past q)) j
+        started-brings (slot_move e.decision) (new_number e.event.kind e.decision) (queued_in (history o past q) e) (lane (history o past q)) j
         (sym (starting-history o past e q (ended-empty o log q r.0)) ∙ x) in
         by_link about
-        (subst (λ (m : ℕ). Brings e.event.kind e.decision (lane (history o past m)).slot n) own
-        (subst (λ (m : ℕ). Brings e.event.kind e.decision (lane (history o past q)).slot m) link brings))
+        (subst (λ (m : ℕ). Brings (slot_move e.decision) (new_number e.event.kind e.decision) (lane (history o past m)).slot n) own
+        (subst (λ (m : ℕ). Brings (slot_move e.decision) (new_number e.event.kind e.decision) (lane (history o past q)).slot m) link brings))
 
     by_job :
         (q : ℕ) → concerns o past e q ≡ true →
-        (j : Option Job) → started_in o past e q ≡ j →
+        (j : Option Running) → started_in o past e q ≡ j →
         1 ≤ count_by (starts_there s n) (start_acts j) →
         has_brought s n (e ∷ log) ≡ true
     by_job q c None x y = absurd (omega (arith, y))
     by_job q c (Some j) x y =
-        by_test q j c x (starts_there s n (action.Start j.ticket j.number)) refl
-        (omega (arith, y, sum_by-cons (λ z. one (starts_there s n z)) (action.Start j.ticket j.number) []))
+        by_test q j c x (starts_there s n (action.Start j.job.ticket j.job.number)) refl
+        (omega (arith, y, sum_by-cons (λ z. one (starts_there s n z)) (action.Start j.job.ticket j.job.number) []))
 
     by_subject :
-        is_refusal e.decision ≡ false → (q : Option ℕ) →
+        is_refusal e.decision ≡ false → (q : Subject) →
         subject o past e ≡ q →
         has_brought s n (e ∷ log) ≡ true
-    by_subject counts None about = absurd (omega (arith, counted, count-nobody (starts_there s n) o past e (starts_there-on-transfers s n) a.1 about))
-    by_subject counts (Some q) about =
-        by_job q (ap (λ m. is_number m q) about ∙ eq-eqb q q refl) (started_in o past e q) refl
+    by_subject counts All about = absurd (not-all o past e (no-stop e.decision) about)
+    by_subject counts Nobody about = absurd (omega (arith, counted, count-nobody (starts_there s n) o past e (starts_there-on-transfers s n) a.1 about))
+    by_subject counts (One q) about =
+        by_job q (one-own o past e q about) (started_in o past e q) refl
         (omega (
           arith,
           counted,

@@ -1,65 +1,36 @@
 -- What cancels a transfer.
-use Rattle.std.proofs.Common.{◌≡◌, refl, sym, ◌∙◌, ap, subst, ℕ, ◌+◌, ◌≤◌, Bool, true, false, cond, List, [], ◌∷◌, Option, Some, None, arith, eq-eqb}
+use Rattle.std.proofs.Common.{◌≡◌, refl, sym, ◌∙◌, ap, subst, ℕ, ◌≤◌, Bool, true, false, cond, List, [], ◌∷◌, Option, Some, None, arith, eq-eqb, inl, inr, true≢false}
 use Rattle.std.specs.Prelude.{◌↔◌, count_by, IsSomeAnd}
 use Rattle.std.specs.List.{list_any}
 use Rattle.std.specs.Option.{option_and_then}
-use Rattle.std.proofs.lemmas.List.Sums.{sum_by-cons}
-use Rattle.ftp_options.specs.declared.options.Options.{Options}
-use Rattle.ftp_transfer.specs.declared.job.Ticket.{Ticket}
-use Rattle.ftp_events.specs.declared.action.Action.{Action}
-use Rattle.ftp_events.specs.declared.decision.Decision.{Decision}
 use Rattle.ftp_events.specs.declared.decision.Decision.TheVariants as decision
-use Rattle.ftp_events.specs.declared.entry.Entry.{Entry}
-use Rattle.ftp_events.specs.declared.event.EventKind.{EventKind}
+use Rattle.ftp_events.specs.declared.decision.SlotMove.TheVariants.{Empties, EmptiesWaiting, Awaits}
 use Rattle.ftp_events.specs.declared.event.EventKind.TheVariants.{End}
-use Rattle.ftp_events.specs.declared.session.Pending.{Pending}
-use Rattle.ftp_events.specs.declared.session.Session.{Session}
-use Rattle.ftp_events.specs.declared.session.Slot.{Slot}
-use Rattle.ftp_events.specs.Words.{is_number}
-use Rattle.ftp_events.specs.Log.{is_refusal, past_of}
-use Rattle.ftp_events.specs.History.{subject, concerns, history}
-use Rattle.ftp_events.specs.Slot.{drops, lane}
-use Rattle.ftp_events.specs.Session.{session, running_job}
-use Rattle.ftp_events.specs.Acts.{acts, acts_of, completions, stays, slot_of, pending_in, starting}
-use Rattle.ftp_events.specs.Right.{IsRight, IsActed}
-use Rattle.ftp_events.specs.Fate.{cancels, is_pending}
-use Rattle.ftp_laws.specs.Fates.{can_cancel, LosesSlot}
+use Rattle.ftp_events.specs.Fate.{cancels}
+use Rattle.ftp_events.specs.History.{Nobody, One, All}
+use Rattle.ftp_laws.proofs.Common.{Subject, Options, Ticket, Action, Decision, Entry, EventKind, Pending, Session, Slot, is_refusal, past_of, subject, concerns, history, slot_move, SlotMove, empties, drops, lane, session, running_job, acts, acts_of, completions, stays, slot_of, pending_in, starting, IsRight, IsActed, is_pending}
+use Rattle.ftp_laws.proofs.Subjects.{no-stop, concerned, one-concerns, not-all}
+use Rattle.ftp_laws.specs.Fates.{may_cancel, can_cancel, LosesSlot}
 use Rattle.ftp_laws.proofs.Laws.{session-told}
-use Rattle.ftp_laws.proofs.Holds.{number-is}
-use Rattle.ftp_laws.proofs.Counts.{IsOnTransfers, count-about, count-nobody}
+use Rattle.ftp_laws.proofs.Counts.{IsOnTransfers, count-about, count-nobody, CountsTest, counts-any}
 use Rattle.ftp_laws.proofs.Tickets.{same_ticket-equal, one, IsOnCancelled, count-start_acts, count-drop_acts-own}
-use Rattle.ftp_laws.proofs.Accounts.{owned}
+use Rattle.ftp_laws.proofs.Sound.{sound}
 
 -- what some item passes is counted
 pub any-counted : (p : Action → Bool) (xs : List Action) → list_any p xs ≡ true → 1 ≤ count_by p xs
-any-counted p [] h = cc
-any-counted p (x ∷ xs) h = go (p x) refl h (λ later. any-counted p xs later)
+any-counted p xs h = go (counts-any p xs)
   where
-    more : count_by p (x ∷ xs) ≡ one (p x) + count_by p xs
-    more = sum_by-cons (λ y. one (p y)) x xs
-
-    go :
-        (b : Bool) → p x ≡ b →
-        list_any p (x ∷ xs) ≡ true →
-        (list_any p xs ≡ true → 1 ≤ count_by p xs) →
-        1 ≤ count_by p (x ∷ xs)
-    go true e h' ih = omega (arith, more, ap one e)
-    go false e h' ih = omega (arith, more, ih (sym (rw e refl) ∙ h'))
+    go : CountsTest (count_by p xs) (list_any p xs) → 1 ≤ count_by p xs
+    go (inl x) = absurd (true≢false (sym h ∙ x.1))
+    go (inr x) = x.0
 
 -- what is counted some item passes
 pub counted-any : (p : Action → Bool) (xs : List Action) → 1 ≤ count_by p xs → list_any p xs ≡ true
-counted-any p [] h = absurd (omega (arith, h))
-counted-any p (x ∷ xs) h = go (p x) refl (λ later. counted-any p xs later)
+counted-any p xs h = go (counts-any p xs)
   where
-    more : count_by p (x ∷ xs) ≡ one (p x) + count_by p xs
-    more = sum_by-cons (λ y. one (p y)) x xs
-
-    go :
-        (b : Bool) → p x ≡ b →
-        (1 ≤ count_by p xs → list_any p xs ≡ true) →
-        list_any p (x ∷ xs) ≡ true
-    go true e ih = rw e refl
-    go false e ih = rw e (ih (omega (arith, h, more, ap one e)))
+    go : CountsTest (count_by p xs) (list_any p xs) → list_any p xs ≡ true
+    go (inl x) = absurd (omega (arith, h, x.0))
+    go (inr x) = x.1
 
 -- the test on cancellations is one on transfers
 pub cancels-on-transfers : (t : Ticket) → IsOnTransfers (cancels t)
@@ -81,7 +52,7 @@ pub cancels-about :
     (o : Options) (past : List Entry) (e : Entry) (t : Ticket) (s : ℕ) →
     is_refusal e.decision ≡ false →
     e.actions ≡ acts_of o past e →
-    subject o past e ≡ Some s →
+    subject o past e ≡ One s →
     count_by (cancels t) e.actions ≡ cond (drops e.decision (slot_of (session o past s))) (one (is_pending t (pending_in (session o past s)))) 0
 cancels-about o past e t s counts acted about =
     let v : Option Session = session o past s in
@@ -99,12 +70,12 @@ lost-both true true h = (refl, refl)
 lost-both true false h = absurd (omega (arith, h))
 lost-both false c h = absurd (omega (arith, h))
 
--- only the decisions that can cancel drop a slot
-pub drops-cancels : (d : Decision) (slot : Slot) → drops d slot ≡ true → can_cancel d ≡ true
-drops-cancels (decision.Granted port) slot h = refl
-drops-cancels decision.Turned slot h = refl
-drops-cancels decision.Closed slot h = refl
-drops-cancels d slot h = cc
+-- only the moves that can cancel drop a slot
+pub drops-cancels : (m : SlotMove) (slot : Slot) → empties m slot ≡ true → may_cancel m ≡ true
+drops-cancels (Awaits port) slot h = refl
+drops-cancels EmptiesWaiting slot h = refl
+drops-cancels Empties slot h = refl
+drops-cancels m slot h = cc
 
 -- and none of them is a refusal
 pub drops-counts : (d : Decision) (slot : Slot) → drops d slot ≡ true → is_refusal d ≡ false
@@ -125,7 +96,7 @@ pending-owned o log s v t r known waits = go v.pending refl waits
     go None y w = cc
     go (Some p) y w =
         let same : (lane (history o (past_of log) s)).pending ≡ Some p = ap (λ (u : Session). u.pending) (session-told o (past_of log) s v known).told ∙ y in
-        sym (owned o log s r p same) ∙ ap (λ (u : Ticket). u.session) (same_ticket-equal p.ticket t w)
+        sym ((sound o log s r).waits p same) ∙ ap (λ (u : Ticket). u.session) (same_ticket-equal p.ticket t w)
 
 -- the session loses the slot in which the transfer waits
 abbrev pub IsLost : Entry → Ticket → Option Session → Type 0
@@ -148,7 +119,7 @@ cancelled-loses o log e t r a h = by_refusal (is_refusal e.decision) refl
     counted = any-counted (cancels t) e.actions h
 
     by_session :
-        (s : ℕ) → subject o (past_of log) e ≡ Some s →
+        (s : ℕ) → subject o (past_of log) e ≡ One s →
         (v : Option Session) →
         session o (past_of log) s ≡ v →
         (drops e.decision (slot_of v) ≡ true) × (is_pending t (pending_in v) ≡ true) →
@@ -157,14 +128,15 @@ cancelled-loses o log e t r a h = by_refusal (is_refusal e.decision) refl
     by_session s x (Some v) y l =
         let own : s ≡ t.session = pending-owned o log s v t r.0 y l.1 in
         let known : session o past t.session ≡ Some v = subst (λ (n : ℕ). session o past n ≡ Some v) own y in
-        (ap (λ n. is_number n t.session) x ∙ eq-eqb s t.session own, subst (IsLost e t) (sym known) l)
+        (one-concerns o past e s t.session x ∙ eq-eqb s t.session own, subst (IsLost e t) (sym known) l)
 
     by_subject :
-        is_refusal e.decision ≡ false → (s : Option ℕ) →
+        is_refusal e.decision ≡ false → (s : Subject) →
         subject o (past_of log) e ≡ s →
         LosesSlot o (past_of log) e t
-    by_subject counts None x = absurd (omega (arith, counted, count-nobody (cancels t) o past e (cancels-on-transfers t) a.1 x))
-    by_subject counts (Some s) x =
+    by_subject counts All x = absurd (not-all o past e (no-stop e.decision) x)
+    by_subject counts Nobody x = absurd (omega (arith, counted, count-nobody (cancels t) o past e (cancels-on-transfers t) a.1 x))
+    by_subject counts (One s) x =
         let v : Option Session = session o past s in
         by_session s x v refl (lost-both (drops e.decision (slot_of v)) (is_pending t (pending_in v)) (omega (arith, counted, cancels-about o past e t s counts a.1 x)))
 
@@ -195,7 +167,7 @@ loses-cancelled o log e t a l = by_session (session o past t.session) refl l.1
         list_any (cancels t) e.actions ≡ true
     by_session None y m = absurd m
     by_session (Some v) y m =
-        let about : subject o past e ≡ Some t.session = number-is (subject o past e) t.session l.0 in
+        let about : subject o past e ≡ One t.session = concerned o past e t.session (no-stop e.decision) l.0 in
         let count = cancels-about o past e t t.session (drops-counts e.decision v.slot m.0) a.1 about in
         let lost : cond (drops e.decision (slot_of (session o past t.session))) (one (is_pending t (pending_in (session o past t.session)))) 0 ≡ 1 = rw (y, m.0, m.1) refl in
         counted-any (cancels t) e.actions (omega (arith, count, lost))
@@ -219,4 +191,4 @@ cancelled-so o log e t r a h =
   where
     can : (v : Option Session) → IsLost e t v → can_cancel e.decision ≡ true
     can None m = absurd m
-    can (Some v) m = drops-cancels e.decision v.slot m.0
+    can (Some v) m = drops-cancels (slot_move e.decision) v.slot m.0

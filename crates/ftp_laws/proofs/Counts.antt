@@ -1,33 +1,21 @@
 -- How many of the actions of an entry pass a test on transfers.
-use Rattle.std.proofs.Common.{◌≡◌, refl, ◌∙◌, ap, ℕ, ◌+◌, Bool, true, false, cond, List, [], ◌∷◌, ◌++◌, Option, Some, None, arith}
-use Rattle.std.specs.Prelude.{count_by, unwrap_or}
+use Rattle.std.proofs.Common.{◌≡◌, refl, sym, ◌∙◌, ap, ℕ, ◌+◌, ◌≤◌, ◌||◌, inl, inr, Bool, true, false, cond, List, [], ◌∷◌, ◌++◌, Option, Some, None, arith}
+use Rattle.std.specs.Prelude.{◌⊎◌, count_by, unwrap_or}
 use Rattle.std.specs.Option.{option_map_or, option_and_then}
-use Rattle.std.proofs.lemmas.List.Sums.{sum_by-append}
+use Rattle.std.proofs.lemmas.List.Sums.{sum_by-append, sum_by-cons}
+use Rattle.std.specs.List.{list_any}
 use Rattle.ftp_base.specs.declared.message.ControlChanMsg.{ControlChanMsg}
 use Rattle.ftp_base.specs.declared.notice.EventMeta.{EventMeta}
 use Rattle.ftp_base.specs.declared.notice.Notice.{Notice}
 use Rattle.ftp_base.specs.declared.reply.Reply.{Reply}
 use Rattle.ftp_base.specs.declared.reply.Reply.TheVariants as reply
-use Rattle.ftp_options.specs.declared.options.Options.{Options}
-use Rattle.ftp_transfer.specs.declared.job.Job.{Job}
-use Rattle.ftp_transfer.specs.declared.job.Ticket.{Ticket}
-use Rattle.ftp_events.specs.declared.action.Action.{Action}
 use Rattle.ftp_events.specs.declared.action.Action.TheVariants as action
-use Rattle.ftp_events.specs.declared.decision.Decision.{Decision}
 use Rattle.ftp_events.specs.declared.decision.Decision.TheVariants as decision
-use Rattle.ftp_events.specs.declared.entry.Entry.{Entry}
-use Rattle.ftp_events.specs.declared.event.EventKind.{EventKind}
-use Rattle.ftp_events.specs.declared.event.Answer.{Answer}
-use Rattle.ftp_events.specs.declared.session.Pending.{Pending}
-use Rattle.ftp_events.specs.declared.session.Session.{Session}
-use Rattle.ftp_events.specs.declared.session.Slot.{Slot}
-use Rattle.ftp_events.specs.Log.{is_refusal, is_ending, new_number}
-use Rattle.ftp_events.specs.History.{subject}
 use Rattle.ftp_events.specs.Login.{login_by, logged_user}
-use Rattle.ftp_events.specs.Slot.{drops}
-use Rattle.ftp_events.specs.Session.{session, running_job}
 use Rattle.ftp_events.specs.Reply.{message_for, reply_for, delay_of}
-use Rattle.ftp_events.specs.Acts.{acts_of, acts_for, session_acts, completions, cancellations, closings, link_in, stays, drop_acts, slot_of, pending_in, refused_link, notice_and_reply, notifications, notice_for, presence_for, reply_acts, start_acts, starting, farewells}
+use Rattle.ftp_events.specs.Acts.{session_acts, notice_and_reply, notifications, notice_for, presence_for, reply_acts, farewells}
+use Rattle.ftp_events.specs.History.{Nobody, One}
+use Rattle.ftp_laws.proofs.Common.{subject_acts, is_ending, Options, Running, Ticket, Action, Decision, Entry, EventKind, Answer, Pending, Session, Slot, is_refusal, new_number, subject, drops, session, running_job, acts_of, acts_for, completions, cancellations, closings, link_in, stays, drop_acts, slot_of, pending_in, refused_link, start_acts, starting}
 
 -- the test passes nothing but what becomes of transfers
 pub record IsOnTransfers (p : Action → Bool) : Type 0 where
@@ -98,7 +86,7 @@ count-reply_acts p s delay (reply.CodeAndMsg c msg) t = rw (t.replies s delay (r
 
 -- so what a live session is told does not
 pub count-told :
-    (p : Action → Bool) (o : Options) (s : ℕ) (k : EventKind) (answer : Answer) (d : Decision) (job : Option Job) (v : Option Session) →
+    (p : Action → Bool) (o : Options) (s : ℕ) (k : EventKind) (answer : Answer) (d : Decision) (job : Option Running) (v : Option Session) →
     IsOnTransfers p →
     count_by p (option_map_or (notice_and_reply o s k answer d job) v []) ≡ 0
 count-told p o s k answer d job None t = refl
@@ -120,7 +108,7 @@ count-farewells p s d t = go (is_ending d)
 
 -- what counts is that transfers end, are dropped, and start
 pub count-session_acts :
-    (p : Action → Bool) (o : Options) (s : ℕ) (k : EventKind) (answer : Answer) (d : Decision) (job : Option Job) (v : Option Session) →
+    (p : Action → Bool) (o : Options) (s : ℕ) (k : EventKind) (answer : Answer) (d : Decision) (job : Option Running) (v : Option Session) →
     IsOnTransfers p →
     count_by p (session_acts o s k answer d job v) ≡ count_by p (completions k d (stays d v)) + count_by p (drop_acts s (stays d v) d (slot_of v) (pending_in v)) + count_by p (start_acts (option_and_then (starting k d job) v))
 count-session_acts p o s k answer d job v t =
@@ -146,7 +134,7 @@ pub count-about :
     (p : Action → Bool) (o : Options) (past : List Entry) (e : Entry) (s : ℕ) →
     IsOnTransfers p → is_refusal e.decision ≡ false →
     e.actions ≡ acts_of o past e →
-    subject o past e ≡ Some s →
+    subject o past e ≡ One s →
     count_by p e.actions ≡ count_by p (completions e.event.kind e.decision (stays e.decision (session o past s))) + count_by p (drop_acts s (stays e.decision (session o past s)) e.decision (slot_of (session o past s)) (pending_in (session o past s))) + count_by p (start_acts (option_and_then (starting e.event.kind e.decision (running_job o past s)) (session o past s)))
 count-about p o past e s t counts acted about =
     let done : e.actions ≡ acts_for o past e s = acted ∙ rw (counts, about) refl in
@@ -156,11 +144,41 @@ count-about p o past e s t counts acted about =
 pub count-nobody :
     (p : Action → Bool) (o : Options) (past : List Entry) (e : Entry) →
     IsOnTransfers p → e.actions ≡ acts_of o past e →
-    subject o past e ≡ None → count_by p e.actions ≡ 0
+    subject o past e ≡ Nobody → count_by p e.actions ≡ 0
 count-nobody p o past e t acted about = ap (count_by p) acted ∙ go (is_refusal e.decision)
   where
     go :
         (b : Bool) →
-        count_by p (cond b [] (option_map_or (acts_for o past e) (subject o past e) (refused_link e.event.kind e.decision))) ≡ 0
+        count_by p (cond b [] (subject_acts o past e (subject o past e))) ≡ 0
     go true = refl
     go false = rw about (count-refused_link p e.event.kind e.decision t)
+
+-- a count goes with a test: nothing is counted where it fails, and something where it holds
+abbrev pub CountsTest : ℕ → Bool → Type 0
+CountsTest n b = ((n ≡ 0) × (b ≡ false)) ⊎ ((1 ≤ n) × (b ≡ true))
+
+-- one for what holds
+pub counts-one : (b : Bool) → CountsTest (cond b 1 0) b
+counts-one true = inr (omega arith, refl)
+counts-one false = inl (refl, refl)
+
+-- a sum goes with either test
+pub counts-or :
+    (k m n : ℕ) (a b : Bool) → k ≡ m + n →
+    CountsTest m a → CountsTest n b → CountsTest k (a || b)
+counts-or k m n a b e (inl x) (inl y) = inl (omega (arith, e, x.0, y.0), rw (x.1, y.1) refl)
+counts-or k m n a b e (inl x) (inr y) = inr (omega (arith, e, y.0), rw (x.1, y.1) refl)
+counts-or k m n a b e (inr x) y = inr (omega (arith, e, x.0), rw x.1 refl)
+
+-- the tests of one count are the same
+pub counts-same : (n : ℕ) (a b : Bool) → CountsTest n a → CountsTest n b → a ≡ b
+counts-same n a b (inl x) (inl y) = x.1 ∙ sym y.1
+counts-same n a b (inl x) (inr y) = absurd (omega (arith, x.0, y.0))
+counts-same n a b (inr x) (inl y) = absurd (omega (arith, x.0, y.0))
+counts-same n a b (inr x) (inr y) = x.1 ∙ sym y.1
+
+-- how many actions pass a test goes with whether one does
+pub counts-any : (p : Action → Bool) (xs : List Action) → CountsTest (count_by p xs) (list_any p xs)
+counts-any p [] = inl (refl, refl)
+counts-any p (x ∷ xs) =
+    counts-or (count_by p (x ∷ xs)) (cond (p x) 1 0) (count_by p xs) (p x) (list_any p xs) (sum_by-cons (λ y. cond (p y) 1 0) x xs) (counts-one (p x)) (counts-any p xs)

@@ -3,31 +3,22 @@ use Rattle.std.proofs.Common.{◌≡◌, refl, sym, ◌∙◌, ap, ap₂, subst,
 use Rattle.std.specs.Prelude.{Contains, find, is_none}
 use Rattle.std.specs.Option.{option_map_or, option_or}
 use Rattle.std.proofs.lemmas.List.Elements.{Contains-push, Contains-append_left, Contains-append_right}
-use Rattle.ftp_base.specs.declared.net.IpAddr.{IpAddr}
 use Rattle.ftp_base.specs.declared.net.SocketAddr.{SocketAddr}
-use Rattle.ftp_base.specs.Net.{same_ip}
 use Rattle.ftp_base.specs.Ports.{port_order}
-use Rattle.ftp_options.specs.declared.options.Options.{Options}
-use Rattle.ftp_options.specs.Modes.{is_legacy}
-use Rattle.ftp_events.specs.declared.decision.Decision.{Decision}
 use Rattle.ftp_events.specs.declared.decision.Decision.TheVariants as decision
-use Rattle.ftp_events.specs.declared.entry.Entry.{Entry}
-use Rattle.ftp_events.specs.declared.event.EventKind.{EventKind}
 use Rattle.ftp_events.specs.declared.event.EventKind.TheVariants as kind
-use Rattle.ftp_events.specs.declared.session.Opening.{Opening}
-use Rattle.ftp_events.specs.declared.session.Session.{Session}
 use Rattle.ftp_events.specs.Modes.{in_range}
-use Rattle.ftp_events.specs.Log.{past_of, is_refusal, is_used, named_session}
-use Rattle.ftp_events.specs.Board.{target, holder, holder_of_target, first_free_port}
-use Rattle.ftp_events.specs.History.{subject}
-use Rattle.ftp_events.specs.Session.{session}
+use Rattle.ftp_events.specs.Board.{first_free_port}
 use Rattle.ftp_events.specs.ConnectionRows.{arrival_row, holder_row}
 use Rattle.ftp_events.specs.CommandRows.{pasv_row, if_logged_in}
 use Rattle.ftp_events.specs.EndRows.{end_row}
-use Rattle.ftp_events.specs.Decide.{due, decide, if_live}
-use Rattle.ftp_events.specs.Acts.{acts, acts_of, acts_for, session_acts, refused_link}
-use Rattle.ftp_events.specs.Right.{IsRight, IsActed}
-use Rattle.ftp_events.specs.Isolation.{owner, is_own, client_log, numbers_in, own_numbers, IsApart}
+use Rattle.ftp_events.specs.Decide.{if_live}
+use Rattle.ftp_events.specs.Acts.{session_acts}
+use Rattle.ftp_events.specs.Isolation.{owner, is_own, numbers_in, own_numbers, IsApart}
+use Rattle.ftp_events.specs.History.{Nobody, One, All, one_or_nobody}
+use Rattle.ftp_events.specs.Classes.{is_stop}
+use Rattle.ftp_laws.proofs.Common.{Subject, subject_acts, IpAddr, same_ip, Options, is_legacy, Decision, Entry, EventKind, Opening, Session, past_of, is_refusal, is_used, named_session, target, holder, holder_of_target, subject, session, due, decide, acts, acts_of, IsRight, IsActed, client_log}
+use Rattle.ftp_laws.proofs.Subjects.{no-stop, one-meant, not-all}
 use Rattle.ftp_laws.proofs.Laws.{session-told}
 use Rattle.ftp_laws.proofs.Holds.{same_ip-equal, ComesFor, comes-for, names-itself}
 use Rattle.ftp_laws.proofs.Isolated.{Alike, alike, is_of, is_kept, kept-name, kept-target, kept-comes, sessions-alike, jobs-alike, holder-of, used-alike, foreign-stays}
@@ -142,9 +133,9 @@ pub kept-subject :
     (o : Options) (log : List Entry) (e : Entry) (a : IpAddr) (s : ℕ) →
     is_legacy o.mode ≡ false → IsRight o log →
     is_kept (past_of log) e a ≡ true →
-    subject o (past_of log) e ≡ Some s →
+    subject o (past_of log) e ≡ One s →
     is_of (past_of log) s a ≡ true
-kept-subject o log e a s m r kept about = by_name (named_session e.event.kind) refl about
+kept-subject o log e a s m r kept about = by_name (named_session e.event.kind) refl (one-meant o (past_of log) e s about)
   where
     by_name :
         (n : Option ℕ) → named_session e.event.kind ≡ n →
@@ -165,16 +156,17 @@ pub acts-alike :
     acts_of o K e ≡ acts_of o (past_of log) e
 acts-alike o log K e a m r kept l =
     ap (cond (is_refusal e.decision) [])
-    (ap (λ (s : Option ℕ). option_map_or (acts_for o K e) s (refused_link e.event.kind e.decision)) same ∙ go (subject o (past_of log) e) refl)
+    (ap (subject_acts o K e) same ∙ go (subject o (past_of log) e) refl)
   where
     same : subject o K e ≡ subject o (past_of log) e
-    same = ap (option_or (named_session e.event.kind)) (kept-comes o (past_of log) K e a kept l)
+    same = ap (λ h. cond (is_stop e.decision) All (one_or_nobody (option_or (named_session e.event.kind) h))) (kept-comes o (past_of log) K e a kept l)
 
     go :
-        (s : Option ℕ) → subject o (past_of log) e ≡ s →
-        option_map_or (acts_for o K e) s (refused_link e.event.kind e.decision) ≡ option_map_or (acts_for o (past_of log) e) s (refused_link e.event.kind e.decision)
-    go None x = refl
-    go (Some s) x =
+        (s : Subject) → subject o (past_of log) e ≡ s →
+        subject_acts o K e s ≡ subject_acts o (past_of log) e s
+    go All x = absurd (not-all o (past_of log) e (no-stop e.decision) x)
+    go Nobody x = refl
+    go (One s) x =
         let own : is_of (past_of log) s a ≡ true = kept-subject o log e a s m r kept x in
         ap₂ (session_acts o s e.event.kind e.answer e.decision) (jobs-alike o (past_of log) K a s l own) (sessions-alike o (past_of log) K a s l own)
 

@@ -1,16 +1,9 @@
 -- A right and acted log is the one that its events and answers give.
 use Rattle.std.proofs.Common.{◌≡◌, refl, sym, ◌∙◌, ap, false, List, [], ◌∷◌}
-use Rattle.ftp_base.specs.declared.net.IpAddr.{IpAddr}
-use Rattle.ftp_options.specs.declared.options.Options.{Options}
-use Rattle.ftp_options.specs.Modes.{is_legacy}
-use Rattle.ftp_events.specs.declared.action.Action.{Action}
-use Rattle.ftp_events.specs.declared.entry.Entry.{Entry}
-use Rattle.ftp_events.specs.declared.event.Answer.{Answer}
 use Rattle.ftp_events.specs.declared.event.HubEvent.{HubEvent}
-use Rattle.ftp_events.specs.Decide.{decide}
-use Rattle.ftp_events.specs.Acts.{acts}
-use Rattle.ftp_events.specs.Right.{IsRight, IsActed, with_decision, next_entry, log_of, events_of}
-use Rattle.ftp_events.specs.Isolation.{client_log, IsApart}
+use Rattle.ftp_events.specs.Right.{with_decision, next_entry, log_of, events_of}
+use Rattle.ftp_events.specs.Isolation.{IsApart}
+use Rattle.ftp_laws.proofs.Common.{IpAddr, Options, is_legacy, Action, Entry, Answer, decide, acts, IsRight, IsActed, client_log}
 use Rattle.ftp_laws.proofs.Decided.{client-right}
 
 -- the actions of an entry do not hang on the actions that it has

@@ -1,29 +1,17 @@
 -- Who holds a port, both ways, and when a hold ends.
-use Rattle.std.proofs.Common.{◌≡◌, refl, sym, ◌∙◌, ap, subst, ℕ, Bool, true, false, true≢false, ◌&&◌, List, ◌∷◌, Some, None, arith, eqb-true, eq-eqb, inl, inr}
+use Rattle.std.proofs.Common.{◌≡◌, refl, sym, ◌∙◌, ap, subst, ℕ, Bool, true, false, true≢false, ◌&&◌, List, ◌∷◌, Some, None, eqb-true, eq-eqb, inl, inr}
 use Rattle.std.specs.Prelude.{◌≢◌, ◌⊎◌, ◌==◌}
 use Rattle.std.specs.Option.{option_map_or}
 use Rattle.std.proofs.lemmas.Option.{same_Some}
 use Rattle.std.proofs.lemmas.Bool.{and_parts}
-use Rattle.ftp_base.specs.declared.net.IpAddr.{IpAddr}
-use Rattle.ftp_base.specs.Net.{same_ip}
-use Rattle.ftp_options.specs.declared.options.Options.{Options}
-use Rattle.ftp_options.specs.Modes.{is_legacy}
-use Rattle.ftp_events.specs.declared.decision.Decision.{Decision}
-use Rattle.ftp_events.specs.declared.decision.Decision.TheVariants as decision
-use Rattle.ftp_events.specs.declared.entry.Entry.{Entry}
-use Rattle.ftp_events.specs.declared.event.EventKind.{EventKind}
+use Rattle.ftp_events.specs.declared.decision.SlotMove.TheVariants.{Empties, Awaits}
 use Rattle.ftp_events.specs.declared.event.EventKind.TheVariants as kind
-use Rattle.ftp_events.specs.declared.event.Answer.{Answer}
-use Rattle.ftp_events.specs.declared.session.Session.{Session}
-use Rattle.ftp_events.specs.declared.session.Slot.{Slot}
 use Rattle.ftp_events.specs.declared.session.Slot.TheVariants.{Empty, Waits, Linked}
-use Rattle.ftp_events.specs.Words.{is_number}
-use Rattle.ftp_events.specs.Log.{named_session, is_refusal, past_of}
-use Rattle.ftp_events.specs.Board.{target, is_client, gives_hold, comes_to, ends_hold, gives_up_hold, holder}
 use Rattle.ftp_events.specs.Slot.{waiting_port}
-use Rattle.ftp_events.specs.Decide.{due, decide}
-use Rattle.ftp_events.specs.Right.{IsRight}
+use Rattle.ftp_laws.proofs.Common.{SlotMove, slot_move, gives_up, IpAddr, same_ip, Options, is_legacy, Entry, EventKind, Session, Slot, is_number, named_session, is_refusal, past_of, target, is_client, gives_hold, comes_to, ends_hold, gives_up_hold, holder, due, decide, IsRight}
+use Rattle.ftp_laws.proofs.Subjects.{no-stop, ends-plain, named-ends}
 use Rattle.ftp_laws.specs.Holds.{WaitsOn, ComesTo, GrantsAnother, EndsSession, EndsHold}
+use Rattle.ftp_laws.proofs.Classes.{awaits-is, empties-ends, ending-gives_up}
 use Rattle.ftp_laws.proofs.Laws.{counting-counts}
 use Rattle.ftp_laws.proofs.Holds.{WaitsFor, holder-waits, same_ip-equal, same_ip-refl, number-is}
 use Rattle.ftp_laws.proofs.Waits.{named-target, held-ungranted, client-known}
@@ -60,14 +48,6 @@ holds-one o log a b p q s m r x y =
       same_Some _ _ (sym v.port ∙ (ap (λ (u : Session). waiting_port u.slot) same ∙ w.port)),
     )
 
--- only the end of a control connection is decided as a closing
-pub closed-kind :
-    (o : Options) (past : List Entry) (at : ℕ) (k : EventKind) (answer : Answer) (s : ℕ) →
-    due o past at k answer ≡ decision.Closed →
-    named_session k ≡ Some s → k ≡ kind.Closed s
-closed-kind o past at (kind.Closed n) answer s e x = ap kind.Closed (same_Some _ _ x)
-closed-kind o past at k answer s e x = grind arith
-
 -- a data connection to a key, in words
 pub comes-in-words :
     (o : Options) (e : Entry) (a : IpAddr) (p : ℕ) →
@@ -93,23 +73,23 @@ pub ends-in-words :
     named_session e.event.kind ≡ Some s →
     gives_up_hold e.decision ≡ true →
     GrantsAnother e s p ⊎ EndsSession e s
-ends-in-words o past e a p s m fit ungranted w n g = by_decision e.decision refl g
+ends-in-words o past e a p s m fit ungranted w n g = by_move (slot_move e.decision) refl g
   where
     client : is_client past (Some s) a ≡ true
     client = client-known o past s w.view a w.known ∙ w.client
 
-    by_decision :
-        (d : Decision) → e.decision ≡ d →
-        gives_up_hold d ≡ true →
+    by_move :
+        (x : SlotMove) → slot_move e.decision ≡ x →
+        gives_up x ≡ true →
         GrantsAnother e s p ⊎ EndsSession e s
-    by_decision (decision.Granted q) x h = inl (q, other, x, n)
+    by_move (Awaits q) x h = inl (q, other, awaits-is e.decision q x, n)
       where
         other : q ≢ p
         other same =
-            let gives : gives_hold o past e a p ≡ true = rw (m, x, n, client, same, eq-eqb p p refl) refl in
+            let gives : gives_hold o past e a p ≡ true = rw (m, awaits-is e.decision q x, n, client, same, eq-eqb p p refl) refl in
             true≢false (sym gives ∙ ungranted)
-    by_decision decision.Closed x h = inr (closed-kind o past e.event.at e.event.kind e.answer s (sym fit ∙ x) n, x)
-    by_decision d x h = cc
+    by_move Empties x h = inr (n, empties-ends e.decision x)
+    by_move d x h = cc
 
 -- a hold stays, or ends for one of the reasons
 pub holds-end-step :
@@ -129,7 +109,7 @@ holds-end-step o past e a p s m fit w held = by_arrival (comes_to o e a p) refl
         (holder o (e ∷ past) a p ≡ Some s) ⊎ ((holder o (e ∷ past) a p ≡ None) × EndsHold e s a p)
     by_end c false x = inl (rw (ungranted, c, held, x) refl)
     by_end c true x =
-        let parts = and_parts (is_number (named_session e.event.kind) s) (gives_up_hold e.decision) x in
+        let parts = and_parts (is_number (named_session e.event.kind) s) (gives_up_hold e.decision) (sym (ends-plain e s (no-stop e.decision)) ∙ x) in
         inr (rw (ungranted, c, held, x) refl, inr (ends-in-words o past e a p s m fit ungranted w (number-is _ s parts.0) parts.1))
 
     by_arrival :
@@ -162,8 +142,8 @@ pub each-ends :
     holder o past a p ≡ Some s → EndsHold e s a p →
     holder o (e ∷ past) a p ≡ None
 each-ends o past e a p s g held (inl x) = rw (g, x.2, x.3, same_ip-refl a, eq-eqb p p refl) refl
-each-ends o past e a p s g held (inr (inl x)) = rw (g, named-target o e.event.kind e.answer s x.3, held, x.2, x.3, eq-eqb s s refl) refl
-each-ends o past e a p s g held (inr (inr x)) = rw (g, x.0, x.1, held, eq-eqb s s refl) refl
+each-ends o past e a p s g held (inr (inl x)) = rw (g, named-target o e.event.kind e.answer s x.3, held, named-ends e s x.3 (ap gives_up_hold x.2)) refl
+each-ends o past e a p s g held (inr (inr x)) = rw (g, named-target o e.event.kind e.answer s x.0, held, named-ends e s x.0 (ending-gives_up e.decision x.1)) refl
 
 -- so it is in every right log, where the entry is not refused
 pub holds-ended :

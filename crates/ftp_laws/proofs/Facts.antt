@@ -1,24 +1,18 @@
 -- What a decision tells of the past.
 use Rattle.std.proofs.Common.{◌≡◌, ℕ, Bool, true, false, List, Some, arith}
-use Rattle.ftp_options.specs.declared.options.Options.{Options}
-use Rattle.ftp_options.specs.Modes.{is_legacy}
-use Rattle.ftp_events.specs.declared.entry.Entry.{Entry}
-use Rattle.ftp_events.specs.declared.event.EventKind.{EventKind}
 use Rattle.ftp_events.specs.declared.event.EventKind.TheVariants as kind
-use Rattle.ftp_events.specs.declared.event.Answer.{Answer}
-use Rattle.ftp_events.specs.declared.decision.Decision.{Decision}
-use Rattle.ftp_events.specs.declared.decision.Decision.TheVariants as decision
-use Rattle.ftp_events.specs.declared.session.Session.{Session}
-use Rattle.ftp_events.specs.Log.{named_session, is_used}
-use Rattle.ftp_events.specs.Decide.{due}
-use Rattle.ftp_events.specs.Opening.{opened_number}
-use Rattle.ftp_events.specs.Session.{session}
+use Rattle.ftp_events.specs.declared.decision.SlotMove.TheVariants.{Links, EmptiesWaiting}
+use Rattle.ftp_laws.proofs.Common.{SlotMove, slot_move, Options, is_legacy, Entry, EventKind, Answer, Decision, Session, named_session, is_used, due, opened_number, session}
 
--- decisions on a data connection
+-- the moves by a data connection
+abbrev pub by_connection : SlotMove → Bool
+by_connection Links = true
+by_connection EmptiesWaiting = true
+by_connection _ = false
+
+-- decisions on one
 abbrev pub is_connection : Decision → Bool
-is_connection (decision.Attached s) = true
-is_connection decision.Turned = true
-is_connection _ = false
+is_connection d = by_connection (slot_move d)
 
 -- no decision on an event that names a session is one on a data connection, where there is no legacy listener
 pub named-no_connection :

@@ -1,40 +1,31 @@
 -- Each transfer that was queued has one fate.
-use Rattle.std.proofs.Common.{◌≡◌, refl, sym, ◌∙◌, ap, subst, ℕ, ◌+◌, ◌≤◌, Bool, true, false, true≢false, ◌||◌, cond, List, [], ◌∷◌, length, Option, Some, None, arith, inl, inr}
+use Rattle.std.proofs.Common.{◌≡◌, refl, sym, ◌∙◌, ap, ap₂, subst, ℕ, ◌+◌, ◌≤◌, Bool, true, false, true≢false, ◌||◌, cond, List, [], ◌∷◌, length, Option, Some, None, arith, inl, inr}
 use Rattle.std.specs.Prelude.{◌⊎◌, count_by, is_some}
 use Rattle.std.specs.List.{list_any}
+use Rattle.std.proofs.Math.Bool.{or_assoc, or-false}
+use Rattle.std.specs.Option.{option_map_or}
 use Rattle.std.proofs.lemmas.Bool.{or_parts}
-use Rattle.std.proofs.lemmas.List.Sums.{sum_by-cons}
-use Rattle.ftp_options.specs.declared.options.Options.{Options}
-use Rattle.ftp_transfer.specs.declared.job.Ticket.{Ticket}
-use Rattle.ftp_events.specs.declared.action.Action.{Action}
-use Rattle.ftp_events.specs.declared.decision.Decision.{Decision}
 use Rattle.ftp_events.specs.declared.decision.Decision.TheVariants as decision
-use Rattle.ftp_events.specs.declared.entry.Entry.{Entry}
-use Rattle.ftp_events.specs.declared.session.Pending.{Pending}
-use Rattle.ftp_events.specs.declared.session.Session.{Session}
-use Rattle.ftp_events.specs.declared.session.Slot.{Slot}
 use Rattle.ftp_events.specs.declared.session.Slot.TheVariants.{Empty, Waits, Linked}
-use Rattle.ftp_events.specs.Words.{is_number, total}
-use Rattle.ftp_events.specs.Log.{is_refusal, past_of, is_used, new_number}
-use Rattle.ftp_events.specs.Opening.{opened_number}
-use Rattle.ftp_events.specs.History.{subject, concerns, opens, history}
+use Rattle.ftp_events.specs.Words.{total}
 use Rattle.ftp_events.specs.Place.{is_queued, ticket_count}
-use Rattle.ftp_events.specs.Slot.{Lane, queued_in, lane}
-use Rattle.ftp_events.specs.Session.{session, running_job}
-use Rattle.ftp_events.specs.Decide.{due, decide}
-use Rattle.ftp_events.specs.Acts.{acts, acts_of, stays, pending_in}
-use Rattle.ftp_events.specs.Right.{IsRight, IsActed}
-use Rattle.ftp_events.specs.Fate.{Fate, CompletedAt, CancelledAt, AwaitsConnection, AwaitsItsEnd, AwaitsEarlierEnd, completes, cancels, settlement, is_running, is_pending, in_slot, wait, fate}
+use Rattle.ftp_events.specs.Fate.{Fate, CompletedAt, CancelledAt, AwaitsConnection, AwaitsItsEnd, AwaitsEarlierEnd, completes, cancels, settlement, is_running, in_slot, wait, fate}
+use Rattle.ftp_events.specs.Acts.{slot_of}
+use Rattle.ftp_events.specs.History.{Nobody}
+use Rattle.ftp_laws.proofs.Common.{Options, Ticket, Action, Decision, Entry, Pending, Session, Slot, is_number, is_refusal, past_of, is_used, new_number, opened_number, subject, concerns, opens, history, Lane, queued_in, lane, session, running_job, due, acts_of, stays, pending_in, IsRight, IsActed, is_pending}
 use Rattle.ftp_laws.specs.Fates.{queues, was_queued, settles, settle_count}
 use Rattle.ftp_laws.proofs.Facts.{opened-unused}
-use Rattle.ftp_laws.proofs.Laws.{counting-refused, counting-counts, history-other, history-own, session-told}
+use Rattle.ftp_laws.proofs.Laws.{history-other, history-own}
 use Rattle.ftp_laws.proofs.Holds.{number-is}
 use Rattle.ftp_laws.proofs.Waits.{opened-subject}
 use Rattle.ftp_laws.proofs.Told.{opened-is}
-use Rattle.ftp_laws.proofs.Lanes.{IsBare, ended-empty, pending-placed}
-use Rattle.ftp_laws.proofs.Counts.{count-nobody}
+use Rattle.ftp_laws.proofs.Lanes.{IsBare, ended-empty}
+use Rattle.ftp_laws.proofs.Counts.{count-nobody, CountsTest, counts-one, counts-or, counts-same, counts-any}
 use Rattle.ftp_laws.proofs.Tickets.{one, carried, settles-on-transfers, lane-balance}
-use Rattle.ftp_laws.proofs.Accounts.{IsOwned, owned, slot-told, IsNext, queues-next, entry-fit, settles-elsewhere, settles-here}
+use Rattle.ftp_laws.proofs.Sound.{Sound, sound}
+use Rattle.ftp_laws.proofs.Accounts.{slot-told, IsNext, queues-next, entry-fit, settles-elsewhere, settles-here}
+use Rattle.ftp_laws.proofs.Entries.{acted-past}
+use Rattle.ftp_laws.proofs.Cases.{by_part}
 
 -- how often a transfer was queued
 abbrev pub queue_count : Ticket → List Entry → ℕ
@@ -65,7 +56,7 @@ accounted-opened o past e t settled queued fit acted n h =
     let first : opened_number e.event.kind (due o past e.event.at e.event.kind e.answer) ≡ Some s = subst (λ (x : Decision). opened_number e.event.kind x ≡ Some s) fit (number-is _ s n) in
     let none : queued ≡ 0 = h.fresh (opened-unused o past e.event.at e.event.kind e.answer s first) in
     let unqueued : one (queues t e.decision) ≡ 0 = ap one (opened-unqueued t e.decision d) in
-    let about : subject o past e ≡ None = opened-subject o past e.event.at e.event.kind e.answer (sym fit ∙ d) in
+    let about : subject o past e ≡ Nobody = opened-subject o past e d (sym fit ∙ d) in
     let silent : count_by (settles t) e.actions ≡ 0 = count-nobody (settles t) o past e (settles-on-transfers t) acted about in
     let start : history o (e ∷ past) s ≡ e ∷ [] = rw n refl in
     let bare : carried t (lane (e ∷ [])) ≡ 0 = rw d refl in
@@ -86,7 +77,7 @@ pub accounted-other :
     e.actions ≡ acts_of o past e →
     opens e t.session ≡ false →
     concerns o past e t.session ≡ false →
-    ((s : ℕ) → IsOwned s (lane (history o past s))) →
+    ((s : ℕ) → Sound s (lane (history o past s))) →
     IsAccounted o past t settled queued →
     IsAccounted o (e ∷ past) t (settled + count_by (settles t) e.actions) (queued + one (queues t e.decision))
 accounted-other o past e t settled queued fit counts acted n c own h =
@@ -180,206 +171,84 @@ pub accounted :
     (o : Options) (log : List Entry) (t : Ticket) →
     IsRight o log → IsActed o log →
     IsAccounted o (past_of log) t (settle_count t log) (queue_count t log)
-unfolding decide acts
-accounted o [] t r a = record { balance = refl; fresh = λ x. refl; numbered = inl refl; once = omega arith }
-accounted o (e ∷ log) t r a = go (is_refusal e.decision) refl (accounted o log t r.0 a.0)
+accounted o log t r a =
+    acted-past o (λ log past. IsAccounted o past t (settle_count t log) (queue_count t log))
+    (record { balance = refl; fresh = λ x. refl; numbered = inl refl; once = omega arith })
+    (λ log e none refused h.
+    let settled : settle_count t log ≡ settle_count t (e ∷ log) = omega (arith, ap (count_by (settles t)) none) in
+    let queued : queue_count t log ≡ queue_count t (e ∷ log) = omega (arith, ap one (refused-unqueued t e.decision refused)) in
+    subst (IsAccounted o (past_of log) t (settle_count t (e ∷ log))) queued (subst (λ (n : ℕ). IsAccounted o (past_of log) t n (queue_count t log)) settled h))
+    (λ log e comes a acted h.
+    by_part o (past_of log) e t.session
+    (λ n. accounted-opened o (past_of log) e t (settle_count t log) (queue_count t log) comes.fit acted n h)
+    (λ n c. accounted-own o (past_of log) e t (settle_count t log) (queue_count t log) comes.fit comes.counts acted n c (ended-empty o log t.session comes.right) h)
+    (λ n c. accounted-other o (past_of log) e t (settle_count t log) (queue_count t log) comes.fit comes.counts acted n c (λ s. sound o log s comes.right) h)) log r a
+
+-- a test that one of two holds is passed in a list where one of both is
+any-or : (p q : Action → Bool) (xs : List Action) → list_any (λ x. p x || q x) xs ≡ (list_any p xs || list_any q xs)
+any-or p q [] = refl
+any-or p q (x ∷ xs) = rw (any-or p q xs) (regroup (p x) (q x) (list_any p xs) (list_any q xs))
   where
-    by_concern :
-        is_refusal e.decision ≡ false →
-        opens e t.session ≡ false → (b : Bool) →
-        concerns o (past_of log) e t.session ≡ b →
-        IsAccounted o (past_of log) t (settle_count t log) (queue_count t log) →
-        IsAccounted o (e ∷ past_of log) t (settle_count t log + count_by (settles t) e.actions) (queue_count t log + one (queues t e.decision))
-    by_concern x n false c h = accounted-other o (past_of log) e t (settle_count t log) (queue_count t log) r.1 x a.1 n c (λ s. owned o log s r.0) h
-    by_concern x n true c h = accounted-own o (past_of log) e t (settle_count t log) (queue_count t log) r.1 x a.1 n c (ended-empty o log t.session r.0) h
+    regroup : (a b c d : Bool) → ((a || b) || (c || d)) ≡ ((a || c) || (b || d))
+    regroup true b c d = refl
+    regroup false true true d = refl
+    regroup false true false d = refl
+    regroup false false c d = refl
 
-    by_opening :
-        is_refusal e.decision ≡ false → (b : Bool) →
-        opens e t.session ≡ b →
-        IsAccounted o (past_of log) t (settle_count t log) (queue_count t log) →
-        IsAccounted o (e ∷ past_of log) t (settle_count t log + count_by (settles t) e.actions) (queue_count t log + one (queues t e.decision))
-    by_opening x true n h = accounted-opened o (past_of log) e t (settle_count t log) (queue_count t log) r.1 a.1 n h
-    by_opening x false n h = by_concern x n (concerns o (past_of log) e t.session) refl h
+-- a value in one of two cases, or what is there otherwise
+some-either : (b : Bool) (x : Fate) (others : Option Fate) → is_some (cond b (Some x) others) ≡ (b || is_some others)
+some-either true x others = refl
+some-either false x others = refl
 
-    go :
-        (b : Bool) → is_refusal e.decision ≡ b →
-        IsAccounted o (past_of log) t (settle_count t log) (queue_count t log) →
-        IsAccounted o (past_of (e ∷ log)) t (settle_count t log + count_by (settles t) e.actions) (queue_count t log + one (queues t e.decision))
-    go false x h =
-        subst (λ (l : List Entry). IsAccounted o l t (settle_count t log + count_by (settles t) e.actions) (queue_count t log + one (queues t e.decision))) (sym (counting-counts e log x))
-        (by_opening x (opens e t.session) refl h)
-    go true x h =
-        let done : e.actions ≡ [] = a.1 ∙ rw x refl in
-        let silent : count_by (settles t) e.actions ≡ 0 = ap (λ (xs : List Action). count_by (settles t) xs) done in
-        let unqueued : one (queues t e.decision) ≡ 0 = ap one (refused-unqueued t e.decision x) in
-        let settled : settle_count t log ≡ settle_count t log + count_by (settles t) e.actions = omega (arith, silent) in
-        let queued : queue_count t log ≡ queue_count t log + one (queues t e.decision) = omega (arith, unqueued) in
-        subst (λ (l : List Entry). IsAccounted o l t (settle_count t log + count_by (settles t) e.actions) (queue_count t log + one (queues t e.decision))) (sym (counting-refused e log x))
-        (subst (λ (n : ℕ). IsAccounted o (past_of log) t (settle_count t log + count_by (settles t) e.actions) n) queued (subst (λ (n : ℕ). IsAccounted o (past_of log) t n (queue_count t log)) settled h))
-
--- a list of actions settles the transfer, or does not
-abbrev pub SettlesOrNot : Ticket → List Action → Type 0
-SettlesOrNot t xs =
-    ((list_any (completes t) xs ≡ false) × (list_any (cancels t) xs ≡ false) × (count_by (settles t) xs ≡ 0))
-    ⊎ (((list_any (completes t) xs || list_any (cancels t) xs) ≡ true) × (1 ≤ count_by (settles t) xs))
-
--- one action settles it, or does not
-pub action-settles :
-    (t : Ticket) (x : Action) →
-    ((completes t x ≡ false) × (cancels t x ≡ false) × (settles t x ≡ false)) ⊎ (((completes t x || cancels t x) ≡ true) × (settles t x ≡ true))
-action-settles t x = go (completes t x) (cancels t x)
+-- the log counts how often it settled the transfer where it did
+settled-counts : (t : Ticket) (log : List Entry) → CountsTest (settle_count t log) (is_some (settlement log t))
+settled-counts t [] = inl (refl, refl)
+settled-counts t (e ∷ log) =
+    subst (CountsTest (settle_count t (e ∷ log))) (sym more)
+    (counts-or (settle_count t (e ∷ log)) (count_by (settles t) e.actions) (settle_count t log) _ _ (omega arith) (counts-any (settles t) e.actions) (settled-counts t log))
   where
-    go :
-        (a b : Bool) →
-        ((a ≡ false) × (b ≡ false) × ((a || b) ≡ false)) ⊎ (((a || b) ≡ true) × ((a || b) ≡ true))
-    go true b = inr (refl, refl)
-    go false true = inr (refl, refl)
-    go false false = inl (refl, refl, refl)
+    more : is_some (settlement (e ∷ log) t) ≡ (list_any (settles t) e.actions || is_some (settlement log t))
+    more =
+        some-either (list_any (completes t) e.actions) (CompletedAt (length log)) _
+        ∙ ap (λ b. list_any (completes t) e.actions || b) (some-either (list_any (cancels t) e.actions) (CancelledAt (length log)) (settlement log t))
+        ∙ sym (or_assoc (list_any (completes t) e.actions) (list_any (cancels t) e.actions) (is_some (settlement log t)))
+        ∙ ap (λ b. b || is_some (settlement log t)) (sym (any-or (completes t) (cancels t) e.actions))
 
--- so does a list
-pub actions-settle : (t : Ticket) (xs : List Action) → SettlesOrNot t xs
-actions-settle t [] = inl (refl, refl, refl)
-actions-settle t (x ∷ xs) = go (action-settles t x) (actions-settle t xs)
-  where
-    more : count_by (settles t) (x ∷ xs) ≡ one (settles t x) + count_by (settles t) xs
-    more = sum_by-cons (λ y. one (settles t y)) x xs
+-- and how often it queued it
+queued-counts : (t : Ticket) (log : List Entry) → CountsTest (queue_count t log) (was_queued t log)
+queued-counts t [] = inl (refl, refl)
+queued-counts t (e ∷ log) =
+    counts-or (queue_count t (e ∷ log)) (one (queues t e.decision)) (queue_count t log) _ _ (omega arith) (counts-one (queues t e.decision)) (queued-counts t log)
 
-    either :
-        (a b A B : Bool) → (a || b) ≡ true →
-        ((a || A) || (b || B)) ≡ true
-    either true b A B e = refl
-    either false true true B e = refl
-    either false true false B e = refl
-    either false false A B e = cc
+-- a transfer waits in a slot that is not empty where it is the one in it
+in_slot-some :
+    (t : Ticket) (slot : Slot) (pending : Option Pending) → (slot ≡ Empty → pending ≡ None) →
+    is_some (in_slot t slot pending) ≡ is_pending t pending
+in_slot-some t Empty pending h = rw (h refl) refl
+in_slot-some t (Waits port) pending h = some-either (is_pending t pending) AwaitsConnection None ∙ or-false (is_pending t pending)
+in_slot-some t (Linked n) pending h = some-either (is_pending t pending) AwaitsEarlierEnd None ∙ or-false (is_pending t pending)
 
-    later : (A B : Bool) → (A || B) ≡ true → ((false || A) || (false || B)) ≡ true
-    later A B e = e
-
-    go :
-        ((completes t x ≡ false) × (cancels t x ≡ false) × (settles t x ≡ false)) ⊎ (((completes t x || cancels t x) ≡ true) × (settles t x ≡ true)) →
-        SettlesOrNot t xs → SettlesOrNot t (x ∷ xs)
-    go (inl i) (inl j) = inl (rw (i.0, j.0) refl, rw (i.1, j.1) refl, omega (arith, more, ap one i.2, j.2))
-    go (inl i) (inr j) = inr (rw (i.0, i.1) (later (list_any (completes t) xs) (list_any (cancels t) xs) j.0), omega (arith, more, j.1))
-    go (inr i) j = inr (either (completes t x) (cancels t x) (list_any (completes t) xs) (list_any (cancels t) xs) i.0, omega (arith, more, ap one i.1))
-
--- the log settled the transfer, or did not
-abbrev pub SettledOrNot : Ticket → List Entry → Type 0
-SettledOrNot t log =
-    ((settle_count t log ≡ 0) × (settlement log t ≡ None)) ⊎ ((1 ≤ settle_count t log) × ((f : Fate) × (settlement log t ≡ Some f)))
-
--- one of the two is so
-pub settled-cases :
-    (t : Ticket) (log : List Entry) →
-    SettledOrNot t log
-settled-cases t [] = inl (refl, refl)
-settled-cases t (e ∷ log) = go (actions-settle t e.actions) (settled-cases t log)
-  where
-    by_action :
-        (a b : Bool) → list_any (completes t) e.actions ≡ a →
-        list_any (cancels t) e.actions ≡ b →
-        (a || b) ≡ true →
-        (f : Fate) × (settlement (e ∷ log) t ≡ Some f)
-    by_action true b x y h = (CompletedAt (length log), rw x refl)
-    by_action false true x y h = (CancelledAt (length log), rw (x, y) refl)
-    by_action false false x y h = cc
-
-    go :
-        SettlesOrNot t e.actions →
-        SettledOrNot t log →
-        SettledOrNot t (e ∷ log)
-    go (inl i) (inl j) = inl (omega (arith, i.2, j.0), rw (i.0, i.1) j.1)
-    go (inl i) (inr j) = inr (omega (arith, j.0), (j.1.0, rw (i.0, i.1) j.1.1))
-    go (inr i) j = inr (omega (arith, i.1), by_action (list_any (completes t) e.actions) (list_any (cancels t) e.actions) refl refl i.0)
-
--- the log queued the transfer, or did not
-abbrev pub QueuedOrNot : Ticket → List Entry → Type 0
-QueuedOrNot t log =
-    ((queue_count t log ≡ 0) × (was_queued t log ≡ false)) ⊎ ((1 ≤ queue_count t log) × (was_queued t log ≡ true))
-
--- one of the two is so
-pub queued-cases :
-    (t : Ticket) (log : List Entry) →
-    QueuedOrNot t log
-queued-cases t [] = inl (refl, refl)
-queued-cases t (e ∷ log) = go (queues t e.decision) refl (queued-cases t log)
-  where
-    go :
-        (b : Bool) → queues t e.decision ≡ b →
-        QueuedOrNot t log →
-        QueuedOrNot t (e ∷ log)
-    go true x j = inr (omega (arith, ap one x), rw x refl)
-    go false x (inl j) = inl (omega (arith, ap one x, j.0), rw (x, j.1) refl)
-    go false x (inr j) = inr (omega (arith, j.0), rw (x, j.1) refl)
-
--- the transfer waits in the slot, or does not
-abbrev pub InSlotOrNot : Ticket → Slot → Option Pending → Type 0
-InSlotOrNot t slot pending =
-    ((is_pending t pending ≡ false) × (in_slot t slot pending ≡ None)) ⊎ ((is_pending t pending ≡ true) × ((f : Fate) × (in_slot t slot pending ≡ Some f)))
-
--- one of the two is so, where the slot is not empty
-pub in_slot-cases :
-    (t : Ticket) (slot : Slot) (pending : Option Pending) →
-    (slot ≡ Empty → pending ≡ None) →
-    InSlotOrNot t slot pending
-in_slot-cases t Empty pending h = inl (rw (h refl) refl, refl)
-in_slot-cases t (Waits port) pending h = go (is_pending t pending) refl
-  where
-    go :
-        (b : Bool) → is_pending t pending ≡ b →
-        ((b ≡ false) × (cond b (Some AwaitsConnection) None ≡ None)) ⊎ ((b ≡ true) × ((f : Fate) × (cond b (Some AwaitsConnection) None ≡ Some f)))
-    go true x = inr (refl, (AwaitsConnection, refl))
-    go false x = inl (refl, refl)
-in_slot-cases t (Linked n) pending h = go (is_pending t pending) refl
-  where
-    go :
-        (b : Bool) → is_pending t pending ≡ b →
-        ((b ≡ false) × (cond b (Some AwaitsEarlierEnd) None ≡ None)) ⊎ ((b ≡ true) × ((f : Fate) × (cond b (Some AwaitsEarlierEnd) None ≡ Some f)))
-    go true x = inr (refl, (AwaitsEarlierEnd, refl))
-    go false x = inl (refl, refl)
-
--- the transfer waits or runs, or does not
-abbrev pub WaitsOrNot : Options → List Entry → Ticket → Type 0
-WaitsOrNot o past t =
-    ((carried t (lane (history o past t.session)) ≡ 0) × (wait o past t ≡ None)) ⊎ ((1 ≤ carried t (lane (history o past t.session))) × ((f : Fate) × (wait o past t ≡ Some f)))
-
--- one of the two is so
-pub wait-cases :
+-- what waits or runs is counted
+wait-counts :
     (o : Options) (log : List Entry) (t : Ticket) → IsRight o log →
-    WaitsOrNot o (past_of log) t
-wait-cases o log t r = by_job (is_running t (running_job o (past_of log) t.session)) refl
+    CountsTest (carried t (lane (history o (past_of log) t.session))) (is_some (wait o (past_of log) t))
+wait-counts o log t r =
+    subst (CountsTest (carried t l)) (sym either)
+    (counts-or (carried t l) (one (is_running t l.running)) (one (is_pending t l.pending)) _ _ refl (counts-one (is_running t l.running)) (counts-one (is_pending t l.pending)))
   where
-    past : List Entry
-    past = past_of log
-
     l : Lane
     l = lane (history o (past_of log) t.session)
 
-    by_slot :
-        (v : Session) → session o (past_of log) t.session ≡ Some v →
-        is_running t (running_job o (past_of log) t.session) ≡ false →
-        InSlotOrNot t v.slot v.pending →
-        (l.pending ≡ v.pending) →
-        WaitsOrNot o (past_of log) t
-    by_slot v x i (inl j) same = inl (omega (arith, ap one i, ap (λ p. one (is_pending t p)) same, ap one j.0), rw (i, x) j.1)
-    by_slot v x i (inr j) same = inr (omega (arith, ap (λ p. one (is_pending t p)) same, ap one j.0), (j.1.0, rw (i, x) j.1.1))
+    in_view : (v : Option Session) → option_map_or (λ v. in_slot t v.slot v.pending) v None ≡ in_slot t (slot_of v) (pending_in v)
+    in_view None = refl
+    in_view (Some v) = refl
 
-    by_session :
-        (v : Option Session) → session o (past_of log) t.session ≡ v →
-        is_running t (running_job o (past_of log) t.session) ≡ false →
-        WaitsOrNot o (past_of log) t
-    by_session None x i =
-        inl (omega (arith, ap one i, ap (λ p. one (is_pending t p)) (ended-empty o log t.session r x).1), rw (i, x) refl)
-    by_session (Some v) x i =
-        let told = (session-told o (past_of log) t.session v x).told in
-        let placed : v.slot ≡ Empty → v.pending ≡ None = subst (λ (w : Session). w.slot ≡ Empty → w.pending ≡ None) told (pending-placed o log t.session r) in
-        by_slot v x i (in_slot-cases t v.slot v.pending placed) (ap (λ (w : Session). w.pending) told)
-
-    by_job :
-        (b : Bool) →
-        is_running t (running_job o (past_of log) t.session) ≡ b →
-        WaitsOrNot o (past_of log) t
-    by_job true i = inr (omega (arith, ap one i), (AwaitsItsEnd, rw i refl))
-    by_job false i = by_session (session o (past_of log) t.session) refl i
+    either : is_some (wait o (past_of log) t) ≡ (is_running t l.running || is_pending t l.pending)
+    either =
+        let told = slot-told o (past_of log) t.session (ended-empty o log t.session r) in
+        some-either (is_running t l.running) AwaitsItsEnd _
+        ∙ ap (λ (f : Option Fate). is_running t l.running || is_some f) (in_view (session o (past_of log) t.session) ∙ ap₂ (in_slot t) told.0 told.1)
+        ∙ ap (λ b. is_running t l.running || b) (in_slot-some t l.slot l.pending (sound o log t.session r).placed)
 
 -- what the log says of a transfer, together
 abbrev pub HasFate : Options → List Entry → Ticket → Type 0
@@ -390,22 +259,26 @@ HasFate o log t =
 pub fate-had :
     (o : Options) (log : List Entry) (t : Ticket) →
     IsRight o log → IsActed o log → HasFate o log t
-fate-had o log t r a =
-    go (settled-cases t log) (wait-cases o log t r) (queued-cases t log) (accounted o log t r a)
+fate-had o log t r a = (by_settlement (settlement log t) ∙ counts-same (queue_count t log) _ _ all (queued-counts t log), alone)
   where
-    go :
-        SettledOrNot t log →
-        WaitsOrNot o (past_of log) t →
-        QueuedOrNot t log →
-        IsAccounted o (past_of log) t (settle_count t log) (queue_count t log) →
-        HasFate o log t
-    go (inl i) (inl j) (inl k) h = (rw (i.1, j.1, k.1) refl, λ x. j.1)
-    go (inl i) (inl j) (inr k) h = absurd (omega (arith, i.0, j.0, k.0, h.balance))
-    go (inl i) (inr j) (inl k) h = absurd (omega (arith, i.0, j.0, k.0, h.balance))
-    go (inl i) (inr j) (inr k) h = (rw (i.1, j.1.1, k.1) refl, λ x. absurd (true≢false (sym x ∙ ap is_some i.1)))
-    go (inr i) (inl j) (inl k) h = absurd (omega (arith, i.0, j.0, k.0, h.balance))
-    go (inr i) (inl j) (inr k) h = (rw (i.1.1, k.1) refl, λ x. j.1)
-    go (inr i) (inr j) k h = absurd (omega (arith, i.0, j.0, h.balance, h.once))
+    h : IsAccounted o (past_of log) t (settle_count t log) (queue_count t log)
+    h = accounted o log t r a
+
+    all : CountsTest (queue_count t log) (is_some (settlement log t) || is_some (wait o (past_of log) t))
+    all = counts-or (queue_count t log) (settle_count t log) (carried t (lane (history o (past_of log) t.session))) _ _ (omega (arith, h.balance)) (settled-counts t log) (wait-counts o log t r)
+
+    by_settlement : (f : Option Fate) → is_some (option_map_or Some f (wait o (past_of log) t)) ≡ (is_some f || is_some (wait o (past_of log) t))
+    by_settlement None = refl
+    by_settlement (Some f) = refl
+
+    nothing : (n m : ℕ) (f g : Option Fate) → n + m ≤ 1 → CountsTest n (is_some f) → CountsTest m (is_some g) → is_some f ≡ true → g ≡ None
+    nothing n m f None le x y s = refl
+    nothing n m f (Some g) le (inl x) y s = absurd (true≢false (sym s ∙ x.1))
+    nothing n m f (Some g) le (inr x) (inl y) s = absurd (true≢false y.1)
+    nothing n m f (Some g) le (inr x) (inr y) s = absurd (omega (arith, le, x.0, y.0))
+
+    alone : is_some (settlement log t) ≡ true → wait o (past_of log) t ≡ None
+    alone = nothing (settle_count t log) _ (settlement log t) _ (omega (arith, h.balance, h.once)) (settled-counts t log) (wait-counts o log t r)
 
 -- no transfer is settled twice
 pub settled-once :

@@ -6,22 +6,14 @@ use Rattle.std.specs.Option.{option_map_or}
 use Rattle.std.proofs.lemmas.Bool.{le-leb}
 use Rattle.std.proofs.lemmas.Nat.{mod_below}
 use Rattle.std.proofs.lemmas.Option.{same_Some}
-use Rattle.ftp_base.specs.declared.net.IpAddr.{IpAddr}
 use Rattle.ftp_base.specs.Ports.{port_order}
-use Rattle.ftp_options.specs.declared.options.Options.{Options}
-use Rattle.ftp_events.specs.declared.entry.Entry.{Entry}
-use Rattle.ftp_events.specs.declared.event.EventKind.{EventKind}
 use Rattle.ftp_events.specs.declared.event.EventKind.TheVariants as kind
-use Rattle.ftp_events.specs.declared.event.Answer.{Answer}
-use Rattle.ftp_events.specs.declared.decision.Decision.{Decision}
 use Rattle.ftp_events.specs.declared.decision.Decision.TheVariants as decision
-use Rattle.ftp_events.specs.declared.session.Session.{Session}
-use Rattle.ftp_events.specs.Words.{is_number}
 use Rattle.ftp_events.specs.Modes.{in_range}
-use Rattle.ftp_events.specs.Board.{granted_port, holder, first_free_port}
-use Rattle.ftp_events.specs.Session.{session}
+use Rattle.ftp_events.specs.Board.{first_free_port}
 use Rattle.ftp_events.specs.CommandRows.{is_logged_in, if_logged_in, pasv_row}
-use Rattle.ftp_events.specs.Decide.{due, if_live}
+use Rattle.ftp_events.specs.Decide.{if_live}
+use Rattle.ftp_laws.proofs.Common.{IpAddr, Options, Entry, EventKind, Answer, Decision, Session, is_number, granted_port, holder, session, due}
 use Rattle.ftp_laws.proofs.Facts.{IsLive}
 
 -- what is found passes the test

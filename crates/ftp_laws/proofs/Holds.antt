@@ -4,35 +4,23 @@ use Rattle.std.specs.Prelude.{unwrap_or}
 use Rattle.std.specs.Bool.{then_some}
 use Rattle.std.specs.Option.{option_map_or, option_and_then, option_or}
 use Rattle.std.proofs.lemmas.Option.{same_Some}
-use Rattle.std.proofs.lemmas.Bool.{and_parts, or_right, cond-false}
-use Rattle.ftp_base.specs.declared.net.IpAddr.{IpAddr}
+use Rattle.std.proofs.lemmas.Bool.{and_parts, or_parts, or_right, cond-false}
 use Rattle.ftp_base.specs.declared.net.IpAddr.TheVariants.{V4, V6}
-use Rattle.ftp_base.specs.Net.{same_ip}
-use Rattle.ftp_options.specs.declared.options.Options.{Options}
-use Rattle.ftp_options.specs.Modes.{is_legacy}
-use Rattle.ftp_transfer.specs.declared.job.Job.{Job}
-use Rattle.ftp_events.specs.declared.entry.Entry.{Entry}
-use Rattle.ftp_events.specs.declared.event.EventKind.{EventKind}
-use Rattle.ftp_events.specs.declared.event.Answer.{Answer}
-use Rattle.ftp_events.specs.declared.decision.Decision.{Decision}
 use Rattle.ftp_events.specs.declared.decision.Decision.TheVariants as decision
-use Rattle.ftp_events.specs.declared.session.Opening.{Opening}
-use Rattle.ftp_events.specs.declared.session.Pending.{Pending}
-use Rattle.ftp_events.specs.declared.session.Session.{Session}
-use Rattle.ftp_events.specs.declared.session.Slot.{Slot}
+use Rattle.ftp_events.specs.declared.decision.Life.TheVariants.{Ends}
+use Rattle.ftp_events.specs.declared.decision.SlotMove.TheVariants.{Empties, EmptiesWaiting, Awaits, Links, Queues, Finishes}
 use Rattle.ftp_events.specs.declared.session.Slot.TheVariants.{Empty, Waits, Linked}
-use Rattle.ftp_events.specs.Words.{is_number}
-use Rattle.ftp_events.specs.Log.{named_session, new_number, is_used, is_refusal, past_of}
-use Rattle.ftp_events.specs.Opening.{opened_number, opening_by, opener}
-use Rattle.ftp_events.specs.Board.{Target, target, granted_port, is_client, gives_hold, comes_to, ends_hold, gives_up_hold, holder}
-use Rattle.ftp_events.specs.History.{concerns, opens}
-use Rattle.ftp_events.specs.Slot.{Lane, drops, waiting_port, lane_of, lane_after}
-use Rattle.ftp_events.specs.Session.{lives_on, session, life_by, running_job, queued_for, lane_in}
-use Rattle.ftp_events.specs.Decide.{due, decide}
-use Rattle.ftp_events.specs.Right.{IsRight}
-use Rattle.ftp_laws.proofs.Facts.{is_connection, named-no_connection, opened-unused, IsLive}
+use Rattle.ftp_events.specs.Slot.{waiting_port}
+use Rattle.ftp_events.specs.Session.{told_of_life, queued_for, lane_in}
+use Rattle.ftp_events.specs.Classes.{is_stop}
+use Rattle.ftp_laws.proofs.Common.{Life, SlotMove, life, slot_move, gives_up, empties, moved, IpAddr, same_ip, Options, is_legacy, Running, Entry, EventKind, Answer, Decision, Opening, Pending, Session, Slot, is_number, named_session, new_number, is_used, past_of, opened_number, opening_by, opener, Target, target, granted_port, is_client, gives_hold, comes_to, ends_hold, gives_up_hold, holder, concerns, opens, Lane, lane_of, lane_after, lives_on, session, running_job, due, IsRight}
+use Rattle.ftp_laws.proofs.Subjects.{concerns-plain, ends-plain, named-concerns}
+use Rattle.ftp_laws.proofs.Facts.{by_connection, is_connection, named-no_connection, opened-unused, IsLive}
 use Rattle.ftp_laws.proofs.Grants.{granted-is, granted-free}
-use Rattle.ftp_laws.proofs.Laws.{session-own, session-other, session_by, session-told, counting-refused, counting-counts}
+use Rattle.ftp_laws.proofs.Classes.{ending-empties}
+use Rattle.ftp_laws.proofs.Laws.{session-own, session-other, session_by, session-told}
+use Rattle.ftp_laws.proofs.Entries.{right-past}
+use Rattle.ftp_laws.proofs.Cases.{by_test}
 
 -- the number that opens a session is new
 pub opened-new :
@@ -58,15 +46,15 @@ opener-used (e ∷ past) s opening h = go (is_number (opened_number e.event.kind
     go true eq h' ih = rw (opened-new e.event.kind e.decision s eq) refl
     go false eq h' ih = rw (ih h') (or_right _ true refl)
 
--- the decisions that change which port a slot waits for
-abbrev pub touches : Decision → Slot → Bool
-touches (decision.Granted port) slot = true
-touches (decision.Attached session) slot = true
-touches d slot = drops d slot
+-- the moves that change which port a slot waits for
+abbrev pub touches : SlotMove → Slot → Bool
+touches (Awaits port) slot = true
+touches Links slot = true
+touches m slot = empties m slot
 
 -- a job that starts takes no port
 pub port-lane :
-    (slot : Slot) (pending : Option Pending) (job : Option Job) →
+    (slot : Slot) (pending : Option Pending) (job : Option Running) →
     waiting_port (lane_of slot pending job).slot ≡ waiting_port slot
 port-lane (Linked number) (Some p) None = refl
 port-lane (Linked number) (Some p) (Some job) = refl
@@ -74,31 +62,34 @@ port-lane (Linked number) None job = refl
 port-lane Empty pending job = refl
 port-lane (Waits port) pending job = refl
 
--- every other decision leaves the port that the slot waits for
+-- every other move leaves the port that the slot waits for
 pub port-kept :
-    (k : EventKind) (d : Decision) (queued : Option Pending) (l : Lane) →
-    touches d l.slot ≡ false →
-    waiting_port (lane_after k d queued l).slot ≡ waiting_port l.slot
-port-kept k (decision.Granted port) queued l t = cc
-port-kept k (decision.Attached s) queued l t = cc
-port-kept k (decision.Queued ticket) queued l t = port-lane l.slot queued l.running
-port-kept k decision.Finished queued l t = port-lane l.slot l.pending None
-port-kept k _ queued l t = ap waiting_port (cond-false _ Empty l.slot t)
+    (m : SlotMove) (number : Option ℕ) (queued : Option Pending) (l : Lane) →
+    touches m l.slot ≡ false →
+    waiting_port (moved m number queued l).slot ≡ waiting_port l.slot
+port-kept (Awaits port) number queued l t = cc
+port-kept Links number queued l t = cc
+port-kept (Queues ticket) number queued l t = port-lane l.slot queued l.running
+port-kept Finishes number queued l t = port-lane l.slot l.pending None
+port-kept _ number queued l t = ap waiting_port (cond-false _ Empty l.slot t)
 
--- a decision that neither gives the slot up nor is on a connection does not touch it
+-- a move that neither gives the slot up nor is by a connection does not touch it
 pub touch-free :
-    (d : Decision) (slot : Slot) → gives_up_hold d ≡ false →
-    is_connection d ≡ false → touches d slot ≡ false
-touch-free (decision.Granted port) slot g c = cc
-touch-free decision.Closed slot g c = cc
-touch-free (decision.Attached s) slot g c = cc
-touch-free decision.Turned slot g c = cc
+    (m : SlotMove) (slot : Slot) → gives_up m ≡ false →
+    by_connection m ≡ false → touches m slot ≡ false
+touch-free (Awaits port) slot g c = cc
+touch-free Empties slot g c = cc
+touch-free Links slot g c = cc
+touch-free EmptiesWaiting slot g c = cc
 touch-free _ slot g c = refl
 
 -- a decision that does not give the slot up lets the session live
-pub lives-kept : (d : Decision) → gives_up_hold d ≡ false → unwrap_or (life_by d) true ≡ true
-lives-kept decision.Closed g = cc
-lives-kept _ g = refl
+pub lives-kept : (d : Decision) → gives_up_hold d ≡ false → lives_on d ≡ true
+lives-kept d g = go (life d) refl
+  where
+    go : (l : Life) → life d ≡ l → unwrap_or (told_of_life l) true ≡ true
+    go Ends x = absurd (true≢false (sym (ap gives_up (ending-empties d x)) ∙ g))
+    go _ x = refl
 
 -- addresses that are the same are equal
 pub same_ip-equal : (a b : IpAddr) → same_ip a b ≡ true → a ≡ b
@@ -134,7 +125,7 @@ number-is (Some k) m h = ap Some (eqb-true k m h)
 pub waits-own :
     (o : Options) (past : List Entry) (e : Entry) (s : ℕ) (a : IpAddr) (p : ℕ) (w : WaitsFor o past s a p) →
     opens e s ≡ false → concerns o past e s ≡ true →
-    touches e.decision w.view.slot ≡ false →
+    touches (slot_move e.decision) w.view.slot ≡ false →
     lives_on e.decision ≡ true → WaitsFor o (e ∷ past) s a p
 waits-own o past e s a p w n c t l =
     let after = session-own o past e s w.view w.known n c in
@@ -142,7 +133,7 @@ waits-own o past e s a p w n c t l =
       view = session_by s e (running_job o past s) w.view;
       known = after ∙ rw l refl;
       client = w.client;
-      port = port-kept e.event.kind e.decision (queued_for e.decision e.event.kind w.view) (lane_in w.view (running_job o past s)) t ∙ w.port;
+      port = port-kept (slot_move e.decision) (new_number e.event.kind e.decision) (queued_for e.decision e.event.kind w.view) (lane_in w.view (running_job o past s)) t ∙ w.port;
     }
 
 -- it waits too after an entry that does not concern it
@@ -216,28 +207,25 @@ pub holder-stays :
     ((b : IpAddr) (q : ℕ) → holder o past b q ≡ Some s → WaitsFor o past s b q) →
     (w : WaitsFor o past s a p) → comes_to o e a p ≡ false →
     ends_hold e s ≡ false → WaitsFor o (e ∷ past) s a p
-holder-stays o past e s a p m fit ih w c ends = by_concern (concerns o past e s) refl
+holder-stays o past e s a p m fit ih w c ends =
+    by_test (concerns o past e s)
+    (λ h.
+    by_test (is_number (named_session e.event.kind) s)
+    (λ n.
+    let gives : gives_up_hold e.decision ≡ false = and-false _ _ (sym (ends-plain e s plain_ends) ∙ ends) n in
+    let names : named_session e.event.kind ≡ Some s = number-is _ s n in
+    let plain : is_connection e.decision ≡ false = subst (λ (d : Decision). is_connection d ≡ false) (sym fit) (named-no_connection o past e.event.at e.event.kind e.answer s m names) in
+    waits-own o past e s a p w unopened h (touch-free (slot_move e.decision) w.view.slot gives plain) (lives-kept e.decision gives))
+    (λ n.
+    let comes = comes-for o past e.event.kind e.answer s (target o e.event.kind e.answer) refl (or-number _ _ s (sym (concerns-plain o past e s plain_ends) ∙ h) n) in
+    absurd (true≢false (sym (comes-to-port o past e s a p w comes.to comes.target_is (ih comes.to.client comes.to.port comes.held)) ∙ c))))
+    (λ h. waits-other o past e s a p w unopened h)
   where
+    plain_ends : is_stop e.decision ≡ false
+    plain_ends = (or_parts (is_stop e.decision) (is_number (named_session e.event.kind) s && gives_up_hold e.decision) ends).0
+
     unopened : is_number (opened_number e.event.kind e.decision) s ≡ false
     unopened = live-unopened o past e s w.view fit w.known
-
-    by_name :
-        (n : Bool) →
-        is_number (named_session e.event.kind) s ≡ n →
-        concerns o past e s ≡ true →
-        WaitsFor o (e ∷ past) s a p
-    by_name true n h =
-        let gives : gives_up_hold e.decision ≡ false = and-false _ _ ends n in
-        let names : named_session e.event.kind ≡ Some s = number-is _ s n in
-        let plain : is_connection e.decision ≡ false = subst (λ (d : Decision). is_connection d ≡ false) (sym fit) (named-no_connection o past e.event.at e.event.kind e.answer s m names) in
-        waits-own o past e s a p w unopened h (touch-free e.decision w.view.slot gives plain) (lives-kept e.decision gives)
-    by_name false n h =
-        let comes = comes-for o past e.event.kind e.answer s (target o e.event.kind e.answer) refl (or-number _ _ s h n) in
-        absurd (true≢false (sym (comes-to-port o past e s a p w comes.to comes.target_is (ih comes.to.client comes.to.port comes.held)) ∙ c))
-
-    by_concern : (b : Bool) → concerns o past e s ≡ b → WaitsFor o (e ∷ past) s a p
-    by_concern false h = waits-other o past e s a p w unopened h
-    by_concern true h = by_name (is_number (named_session e.event.kind) s) refl h
 
 -- a number is itself
 pub names-itself : (n : Option ℕ) (s : ℕ) → n ≡ Some s → is_number n s ≡ true
@@ -270,7 +258,7 @@ grant-waits o past e s a p fit gives names =
     subst (λ (x : Option Opening). option_map_or (λ opening. same_ip opening.client a) x false ≡ true) (session-told o past s v known).opening
     (subst (λ (n : Option ℕ). option_map_or (λ opening. same_ip opening.client a) (option_and_then (opener past) n) false ≡ true) names parts.1) in
     let unopened : is_number (opened_number e.event.kind e.decision) s ≡ false = rw grant refl in
-    let about : concerns o past e s ≡ true = rw (names, eq-eqb s s refl) refl in
+    let about : concerns o past e s ≡ true = named-concerns o past e s names in
     let lives : lives_on e.decision ≡ true = rw grant refl in
     record {
       view = session_by s e (running_job o past s) v;
@@ -322,13 +310,6 @@ pub holder-waits :
     (a : IpAddr) (p s : ℕ) →
     holder o (past_of log) a p ≡ Some s →
     WaitsFor o (past_of log) s a p
-unfolding decide
-holder-waits o [] m r a p s held = cc
-holder-waits o (e ∷ log) m r a p s held = go (is_refusal e.decision) refl (λ b q t h. holder-waits o log m r.0 b q t h)
-  where
-    go :
-        (b : Bool) → is_refusal e.decision ≡ b →
-        ((b : IpAddr) (q t : ℕ) → holder o (past_of log) b q ≡ Some t → WaitsFor o (past_of log) t b q) →
-        WaitsFor o (past_of (e ∷ log)) s a p
-    go true x ih = subst (λ (l : List Entry). WaitsFor o l s a p) (sym (counting-refused e log x)) (ih a p s (subst (λ (l : List Entry). holder o l a p ≡ Some s) (counting-refused e log x) held))
-    go false x ih = subst (λ (l : List Entry). WaitsFor o l s a p) (sym (counting-counts e log x)) (holder-waits-step o (past_of log) e m r.1 ih a p s (subst (λ (l : List Entry). holder o l a p ≡ Some s) (counting-counts e log x) held))
+holder-waits o log m r =
+    right-past o (λ past. (a : IpAddr) (p s : ℕ) → holder o past a p ≡ Some s → WaitsFor o past s a p) (λ a p s held. cc)
+    (λ log e comes ih a p s held. holder-waits-step o (past_of log) e m comes.fit ih a p s held) log r

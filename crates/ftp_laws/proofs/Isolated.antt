@@ -5,24 +5,10 @@ use Rattle.std.specs.Bool.{then_some}
 use Rattle.std.specs.Option.{option_map_or, option_and_then, option_map, option_or}
 use Rattle.std.proofs.lemmas.Option.{same_Some}
 use Rattle.std.proofs.lemmas.List.Elements.{Contains-push, Contains-append_left, Contains-append_right}
-use Rattle.ftp_base.specs.declared.net.IpAddr.{IpAddr}
-use Rattle.ftp_base.specs.Net.{same_ip}
-use Rattle.ftp_options.specs.declared.options.Options.{Options}
-use Rattle.ftp_options.specs.Modes.{is_legacy}
-use Rattle.ftp_events.specs.declared.entry.Entry.{Entry}
-use Rattle.ftp_events.specs.declared.event.EventKind.{EventKind}
 use Rattle.ftp_events.specs.declared.event.EventKind.TheVariants as kind
-use Rattle.ftp_events.specs.declared.event.Answer.{Answer}
-use Rattle.ftp_events.specs.declared.session.Opening.{Opening}
-use Rattle.ftp_events.specs.Words.{is_number}
-use Rattle.ftp_events.specs.Log.{past_of, is_refusal, named_session, is_used, new_number}
-use Rattle.ftp_events.specs.Opening.{opening_by, opener}
-use Rattle.ftp_events.specs.Board.{Target, target, is_client, gives_hold, granted_port, comes_to, ends_hold, holder, holder_of_target}
-use Rattle.ftp_events.specs.History.{concerns, opens, history}
-use Rattle.ftp_events.specs.Slot.{lane}
-use Rattle.ftp_events.specs.Session.{session, running_job}
-use Rattle.ftp_events.specs.Right.{IsRight}
-use Rattle.ftp_events.specs.Isolation.{owner, is_own, client_log, foreign_numbers}
+use Rattle.ftp_events.specs.Isolation.{owner, is_own, foreign_numbers}
+use Rattle.ftp_laws.proofs.Common.{IpAddr, same_ip, Options, is_legacy, Entry, EventKind, Answer, Opening, is_number, past_of, is_refusal, named_session, is_used, new_number, opening_by, opener, Target, target, is_client, gives_hold, granted_port, comes_to, ends_hold, holder, holder_of_target, concerns, opens, history, lane, session, running_job, IsRight, client_log}
+use Rattle.ftp_laws.proofs.Subjects.{concerns-plain, no-stop, ends-plain}
 use Rattle.ftp_laws.proofs.Laws.{opener-other, session-told, history-other}
 use Rattle.ftp_laws.proofs.Holds.{WaitsFor, holder-waits, same_ip-equal, same_ip-refl, number-is}
 use Rattle.ftp_laws.proofs.Tables.{and-zero, same-both}
@@ -171,6 +157,7 @@ pub foreign-concerns :
     is_of (past_of log) s a ≡ true →
     concerns o (past_of log) e s ≡ false
 foreign-concerns o log e a s m r f w =
+    concerns-plain o (past_of log) e s (no-stop e.decision) ∙
     or-number-false (named_session e.event.kind) (holder_of_target o (past_of log) e.event.kind e.answer) s (foreign-name (past_of log) e a s f w) (foreign-comes o log e a s m r f w)
 
 -- whoever opens a session owns the entry
@@ -248,7 +235,9 @@ foreign-holder o log e a p m r f = rw (gift, foreign-arrival o (past_of log) e a
         (h : Option ℕ) → holder o (past_of log) a p ≡ h →
         cond (option_map_or (ends_hold e) h false) None h ≡ h
     go None x = same-both (option_map_or (ends_hold e) None false) None
-    go (Some h) x = rw (foreign-name (past_of log) e a h f (holder-of o log a p h m r x)) refl
+    go (Some h) x =
+        let ends : ends_hold e h ≡ false = ends-plain e h (no-stop e.decision) ∙ rw (foreign-name (past_of log) e a h f (holder-of o log a p h m r x)) refl in
+        ap (λ b. cond b None (Some h)) ends
 
 -- an entry of another client leaves the two pasts alike
 pub alike-foreign :

@@ -1,34 +1,28 @@
 -- What can be in a session's slot, and beside which job.
-use Rattle.std.proofs.Common.{◌≡◌, refl, sym, ◌∙◌, ap, subst, ℕ, ◌+◌, Bool, true, false, true≢false, cond, List, [], ◌∷◌, Option, Some, None, arith, eqb-true}
+use Rattle.std.proofs.Common.{◌≡◌, refl, sym, ◌∙◌, ap, subst, ℕ, ◌+◌, Bool, true, false, true≢false, cond, List, ◌∷◌, Option, Some, None, arith, eqb-true}
 use Rattle.std.proofs.lemmas.Option.{same_Some}
-use Rattle.std.specs.Prelude.{◌≢◌}
+use Rattle.std.specs.Prelude.{◌≢◌, unwrap_or}
 use Rattle.ftp_base.specs.declared.command.DataChanCmd.{DataChanCmd}
 use Rattle.ftp_base.specs.declared.command.DataChanCmd.TheVariants.{Stor}
-use Rattle.ftp_options.specs.declared.options.Options.{Options}
-use Rattle.ftp_transfer.specs.declared.job.Job.{Job}
-use Rattle.ftp_transfer.specs.declared.job.Ticket.{Ticket}
-use Rattle.ftp_events.specs.declared.decision.Decision.{Decision}
 use Rattle.ftp_events.specs.declared.decision.Decision.TheVariants as decision
-use Rattle.ftp_events.specs.declared.entry.Entry.{Entry}
-use Rattle.ftp_events.specs.declared.event.EventKind.{EventKind}
+use Rattle.ftp_events.specs.declared.decision.Life.TheVariants.{Ends}
+use Rattle.ftp_events.specs.declared.decision.SlotMove.TheVariants.{Awaits, Links, Queues, Finishes}
 use Rattle.ftp_events.specs.declared.event.EventKind.TheVariants as kind
-use Rattle.ftp_events.specs.declared.event.Answer.{Answer}
-use Rattle.ftp_events.specs.declared.session.Pending.{Pending}
-use Rattle.ftp_events.specs.declared.session.Session.{Session}
-use Rattle.ftp_events.specs.declared.session.Slot.{Slot}
 use Rattle.ftp_events.specs.declared.session.Slot.TheVariants.{Empty, Waits, Linked}
-use Rattle.ftp_events.specs.Log.{named_session, new_number, is_refusal, past_of}
 use Rattle.ftp_events.specs.Text.{unique_name}
-use Rattle.ftp_events.specs.History.{concerns, opens, history}
-use Rattle.ftp_events.specs.Slot.{Lane, asked_command, with_link, drops, lane_of, lane_after, queued_in, lane}
-use Rattle.ftp_events.specs.Session.{lives_on, session, running_job}
+use Rattle.ftp_events.specs.Slot.{asked_command}
+use Rattle.ftp_events.specs.Session.{told_of_life}
 use Rattle.ftp_events.specs.CommandRows.{is_logged_in, if_logged_in, can_queue, transfer_row}
-use Rattle.ftp_events.specs.Decide.{due, decide, if_live}
-use Rattle.ftp_events.specs.Right.{IsRight}
+use Rattle.ftp_events.specs.Decide.{if_live}
+use Rattle.ftp_laws.proofs.Common.{Life, SlotMove, life, slot_move, empties, moved, new_number, Options, Ticket, Decision, Entry, EventKind, Answer, Pending, Session, Slot, named_session, past_of, concerns, history, Lane, lane_after, queued_in, lane, lives_on, session, running_job, due, IsRight}
+use Rattle.ftp_laws.proofs.Subjects.{no-stop, named-one, one-concerns}
+use Rattle.ftp_laws.proofs.Classes.{awaits-is, queues-is, ending-empties}
 use Rattle.ftp_laws.proofs.Facts.{IsLive}
 use Rattle.ftp_laws.proofs.Grants.{granted-free}
-use Rattle.ftp_laws.proofs.Laws.{counting-refused, counting-counts, history-other, history-own, session-other, session-own, session_by, session-told}
+use Rattle.ftp_laws.proofs.Laws.{history-other, history-own, session-other, session-own, session_by}
+use Rattle.ftp_laws.proofs.Entries.{right-past}
 use Rattle.ftp_laws.proofs.Told.{opened-is}
+use Rattle.ftp_laws.proofs.Cases.{by_test, by_option, by_part}
 
 -- the ticket of a transfer that was queued
 abbrev pub queued_ticket : Decision → Option Ticket
@@ -93,16 +87,16 @@ pub named-concern :
     (o : Options) (past : List Entry) (e : Entry) (n s : ℕ) →
     named_session e.event.kind ≡ Some n →
     concerns o past e s ≡ true → n ≡ s
-named-concern o past e n s named c = eqb-true n s (sym (rw named refl) ∙ c)
+named-concern o past e n s named c = eqb-true n s (sym (one-concerns o past e n s (named-one o past e n (no-stop e.decision) named)) ∙ c)
 
 -- nothing is in the slot
 abbrev pub IsBare : Lane → Type 0
 IsBare l = (l.slot ≡ Empty) × (l.pending ≡ None)
 
--- the decisions that put something into an empty slot
-abbrev pub fills : Decision → Bool
-fills (decision.Granted port) = true
-fills (decision.Queued ticket) = true
+-- the moves that put something into an empty slot
+abbrev pub fills : SlotMove → Bool
+fills (Awaits port) = true
+fills (Queues ticket) = true
 fills _ = false
 
 -- a slot that is dropped is empty, or stays
@@ -112,34 +106,40 @@ pub dropped-bare :
 dropped-bare true l h = (refl, refl)
 dropped-bare false l h = h
 
--- no other decision does
-pub lane_after-bare :
-    (k : EventKind) (d : Decision) (queued : Option Pending) (l : Lane) →
-    fills d ≡ false → IsBare l →
-    IsBare (lane_after k d queued l)
-lane_after-bare k (decision.Granted port) queued l f h = cc
-lane_after-bare k (decision.Queued ticket) queued l f h = cc
-lane_after-bare k (decision.Attached s) queued l f h = rw (h.0, h.1) (refl, refl)
-lane_after-bare k decision.Finished queued l f h = rw (h.0, h.1) (refl, refl)
-lane_after-bare k d queued l f h = dropped-bare (drops d l.slot) l h
+-- no other move does
+pub moved-bare :
+    (m : SlotMove) (number : Option ℕ) (queued : Option Pending) (l : Lane) →
+    fills m ≡ false → IsBare l →
+    IsBare (moved m number queued l)
+moved-bare (Awaits port) number queued l f h = cc
+moved-bare (Queues ticket) number queued l f h = cc
+moved-bare Links number queued l f h = rw (h.0, h.1) (refl, refl)
+moved-bare Finishes number queued l f h = rw (h.0, h.1) (refl, refl)
+moved-bare m number queued l f h = dropped-bare (empties m l.slot) l h
 
 -- where a session ends nothing is left in its slot
 pub lane_after-ended :
     (k : EventKind) (d : Decision) (queued : Option Pending) (l : Lane) →
     lives_on d ≡ false → IsBare (lane_after k d queued l)
-lane_after-ended k decision.Closed queued l e = (refl, refl)
-lane_after-ended k d queued l e = cc
+lane_after-ended k d queued l e = go (life d) refl e
+  where
+    go : (x : Life) → life d ≡ x → unwrap_or (told_of_life x) true ≡ false → IsBare (lane_after k d queued l)
+    go Ends x y = rw (ending-empties d x) (refl, refl)
+    go _ x y = cc
 
 -- only the slot of a live session is filled
 pub filled-live :
     (o : Options) (past : List Entry) (at : ℕ) (k : EventKind) (answer : Answer) (d : Decision) →
-    due o past at k answer ≡ d → fills d ≡ true →
+    due o past at k answer ≡ d → fills (slot_move d) ≡ true →
     IsLive o past k
-filled-live o past at k answer (decision.Granted port) e f = (granted-free o past at k answer port e).alive
-filled-live o past at k answer (decision.Queued ticket) e f =
-    let q : IsQueue o past k ticket = queued-live o past at k answer ticket e in
-    record { number = q.number; session_then = q.session_then; named = q.named; known = q.known }
-filled-live o past at k answer d e f = cc
+filled-live o past at k answer d e f = go (slot_move d) refl f
+  where
+    go : (m : SlotMove) → slot_move d ≡ m → fills m ≡ true → IsLive o past k
+    go (Awaits port) x y = (granted-free o past at k answer port (e ∙ awaits-is d port x)).alive
+    go (Queues ticket) x y =
+        let q : IsQueue o past k ticket = queued-live o past at k answer ticket (e ∙ queues-is d ticket x) in
+        record { number = q.number; session_then = q.session_then; named = q.named; known = q.known }
+    go m x y = cc
 
 -- after an entry that is decided as it has to be, nothing is in the slot of a session that is not live
 pub ended-step :
@@ -148,12 +148,21 @@ pub ended-step :
     (session o past s ≡ None → IsBare (lane (history o past s))) →
     session o (e ∷ past) s ≡ None →
     IsBare (lane (history o (e ∷ past) s))
-ended-step o past e s fit ih none = by_opening (opens e s) refl
+ended-step o past e s fit ih none =
+    by_part o past e s (λ n. rw (n, opened-is e.event.kind e.decision s n) (refl, refl))
+    (λ n c.
+    subst (λ (h : List Entry). IsBare (lane h)) (sym (history-own o past e s n c))
+    (by_option (session o past s)
+    (λ x. moved-bare (slot_move e.decision) (new_number e.event.kind e.decision) (queued_in (history o past s) e) (lane (history o past s)) (unfilled x c (fills (slot_move e.decision)) refl) (ih x))
+    (λ v x. by_test (lives_on e.decision)
+    (λ l. let z : Some (session_by s e (running_job o past s) v) ≡ None = sym (session-own o past e s v x n c ∙ rw l refl) ∙ none in cc)
+    (λ l. lane_after-ended e.event.kind e.decision (queued_in (history o past s) e) (lane (history o past s)) l))))
+    (λ n c. subst (λ (h : List Entry). IsBare (lane h)) (sym (history-other o past e s n c)) (ih (sym (session-other o past e s n c) ∙ none)))
   where
     unfilled :
         session o past s ≡ None →
         concerns o past e s ≡ true → (b : Bool) →
-        fills e.decision ≡ b → b ≡ false
+        fills (slot_move e.decision) ≡ b → b ≡ false
     unfilled x c false f = refl
     unfilled x c true f =
         let alive : IsLive o past e.event.kind = filled-live o past e.event.at e.event.kind e.answer e.decision (sym fit) f in
@@ -161,79 +170,14 @@ ended-step o past e s fit ih none = by_opening (opens e s) refl
         let z : None ≡ Some alive.session_then = sym x ∙ known in
         cc
 
-    by_life :
-        (v : Session) → session o past s ≡ Some v →
-        opens e s ≡ false → concerns o past e s ≡ true →
-        (b : Bool) → lives_on e.decision ≡ b →
-        IsBare (lane (e ∷ history o past s))
-    by_life v x n c false l = lane_after-ended e.event.kind e.decision (queued_in (history o past s) e) (lane (history o past s)) l
-    by_life v x n c true l =
-        let z : Some (session_by s e (running_job o past s) v) ≡ None = sym (session-own o past e s v x n c ∙ rw l refl) ∙ none in
-        cc
-
-    by_session :
-        (v : Option Session) → session o past s ≡ v →
-        opens e s ≡ false → concerns o past e s ≡ true →
-        IsBare (lane (e ∷ history o past s))
-    by_session None x n c =
-        lane_after-bare e.event.kind e.decision (queued_in (history o past s) e) (lane (history o past s)) (unfilled x c (fills e.decision) refl) (ih x)
-    by_session (Some v) x n c = by_life v x n c (lives_on e.decision) refl
-
-    by_concern :
-        opens e s ≡ false → (b : Bool) →
-        concerns o past e s ≡ b →
-        IsBare (lane (history o (e ∷ past) s))
-    by_concern n false c = subst (λ (h : List Entry). IsBare (lane h)) (sym (history-other o past e s n c)) (ih (sym (session-other o past e s n c) ∙ none))
-    by_concern n true c = subst (λ (h : List Entry). IsBare (lane h)) (sym (history-own o past e s n c)) (by_session (session o past s) refl n c)
-
-    by_opening : (b : Bool) → opens e s ≡ b → IsBare (lane (history o (e ∷ past) s))
-    by_opening false n = by_concern n (concerns o past e s) refl
-    by_opening true n =
-        let start : history o (e ∷ past) s ≡ e ∷ [] = rw n refl in
-        subst (λ (h : List Entry). IsBare (lane h)) (sym start)
-        (subst (λ (d : Decision). IsBare (lane_after e.event.kind d (queued_in [] e) (lane []))) (sym (opened-is e.event.kind e.decision s n)) (refl, refl))
-
 -- after a right log, nothing is in the slot of a session that has ended, or was never opened
 pub ended-empty :
     (o : Options) (log : List Entry) (s : ℕ) → IsRight o log →
     session o (past_of log) s ≡ None →
     IsBare (lane (history o (past_of log) s))
-unfolding decide
-ended-empty o [] s r none = (refl, refl)
-ended-empty o (e ∷ log) s r none = go (is_refusal e.decision) refl (ended-empty o log s r.0)
-  where
-    go :
-        (b : Bool) → is_refusal e.decision ≡ b →
-        (session o (past_of log) s ≡ None → IsBare (lane (history o (past_of log) s))) →
-        IsBare (lane (history o (past_of (e ∷ log)) s))
-    go true x ih =
-        subst (λ (l : List Entry). IsBare (lane (history o l s))) (sym (counting-refused e log x))
-        (ih (subst (λ (l : List Entry). session o l s ≡ None) (counting-refused e log x) none))
-    go false x ih =
-        subst (λ (l : List Entry). IsBare (lane (history o l s))) (sym (counting-counts e log x))
-        (ended-step o (past_of log) e s r.1 ih (subst (λ (l : List Entry). session o l s ≡ None) (counting-counts e log x) none))
-
--- a transfer waits only in a slot that has or awaits a link
-abbrev pub IsPlaced : Lane → Type 0
-IsPlaced l = l.slot ≡ Empty → l.pending ≡ None
-
--- a job that starts leaves nothing
-pub lane_of-placed :
-    (slot : Slot) (pending : Option Pending) (job : Option Job) →
-    (slot ≡ Empty → pending ≡ None) →
-    IsPlaced (lane_of slot pending job)
-lane_of-placed (Linked number) (Some p) None h x = refl
-lane_of-placed (Linked number) (Some p) (Some job) h x = h x
-lane_of-placed (Linked number) None job h x = h x
-lane_of-placed Empty pending job h x = h x
-lane_of-placed (Waits port) pending job h x = h x
-
--- a slot that is given a link was not empty
-pub linked-empty : (slot : Slot) (n : Option ℕ) → with_link slot n ≡ Empty → slot ≡ Empty
-linked-empty (Waits port) (Some n) e = cc
-linked-empty (Waits port) None e = e
-linked-empty Empty n e = refl
-linked-empty (Linked m) n e = e
+ended-empty o log s r =
+    right-past o (λ past. session o past s ≡ None → IsBare (lane (history o past s))) (λ none. (refl, refl))
+    (λ log e comes ih. ended-step o (past_of log) e s comes.fit ih) log r
 
 -- a slot that can take a transfer is not empty
 pub queue-placed :
@@ -242,72 +186,3 @@ pub queue-placed :
 queue-placed Empty pending c e = absurd (true≢false (sym c))
 queue-placed (Waits port) pending c e = cc
 queue-placed (Linked number) pending c e = cc
-
--- a slot that is dropped has no transfer left
-pub dropped-placed :
-    (b : Bool) (l : Lane) → IsPlaced l →
-    IsPlaced (record { slot = cond b Empty l.slot; pending = cond b None l.pending; running = l.running })
-dropped-placed true l h x = refl
-dropped-placed false l h x = h x
-
--- so it is after an entry that queues no transfer for an empty slot
-pub lane_after-placed :
-    (k : EventKind) (d : Decision) (queued : Option Pending) (l : Lane) →
-    ((t : Ticket) → d ≡ decision.Queued t → l.slot ≢ Empty) →
-    IsPlaced l → IsPlaced (lane_after k d queued l)
-lane_after-placed k (decision.Granted port) queued l q h = λ x. refl
-lane_after-placed k (decision.Attached s) queued l q h =
-    lane_of-placed (with_link l.slot (new_number k (decision.Attached s))) l.pending l.running (λ x. h (linked-empty l.slot (new_number k (decision.Attached s)) x))
-lane_after-placed k (decision.Queued ticket) queued l q h = lane_of-placed l.slot queued l.running (λ x. absurd (q ticket refl x))
-lane_after-placed k decision.Finished queued l q h = lane_of-placed l.slot l.pending None h
-lane_after-placed k d queued l q h = dropped-placed (drops d l.slot) l h
-
--- after an entry that is decided as it has to be, a transfer waits only in a slot that has or awaits a link
-pub placed-step :
-    (o : Options) (past : List Entry) (e : Entry) (s : ℕ) →
-    e.decision ≡ due o past e.event.at e.event.kind e.answer →
-    IsPlaced (lane (history o past s)) →
-    IsPlaced (lane (history o (e ∷ past) s))
-placed-step o past e s fit h = by_opening (opens e s) refl
-  where
-    filled :
-        concerns o past e s ≡ true → (t : Ticket) →
-        e.decision ≡ decision.Queued t →
-        (lane (history o past s)).slot ≢ Empty
-    filled c t d x =
-        let q : IsQueue o past e.event.kind t = queued-live o past e.event.at e.event.kind e.answer t (sym fit ∙ d) in
-        let v : Session = q.session_then in
-        let known : session o past s ≡ Some v = subst (λ (n : ℕ). session o past n ≡ Some v) (named-concern o past e q.number s q.named c) q.known in
-        let same : (lane (history o past s)).slot ≡ v.slot = ap (λ (w : Session). w.slot) (session-told o past s v known).told in
-        queue-placed v.slot v.pending q.room (sym same ∙ x)
-
-    by_concern :
-        opens e s ≡ false → (b : Bool) →
-        concerns o past e s ≡ b →
-        IsPlaced (lane (history o (e ∷ past) s))
-    by_concern n false c = subst (λ (l : List Entry). IsPlaced (lane l)) (sym (history-other o past e s n c)) h
-    by_concern n true c =
-        subst (λ (l : List Entry). IsPlaced (lane l)) (sym (history-own o past e s n c))
-        (lane_after-placed e.event.kind e.decision (queued_in (history o past s) e) (lane (history o past s)) (filled c) h)
-
-    by_opening : (b : Bool) → opens e s ≡ b → IsPlaced (lane (history o (e ∷ past) s))
-    by_opening false n = by_concern n (concerns o past e s) refl
-    by_opening true n =
-        let start : history o (e ∷ past) s ≡ e ∷ [] = rw n refl in
-        subst (λ (l : List Entry). IsPlaced (lane l)) (sym start)
-        (subst (λ (d : Decision). IsPlaced (lane_after e.event.kind d (queued_in [] e) (lane []))) (sym (opened-is e.event.kind e.decision s n)) (λ x. refl))
-
--- after a right log a transfer waits only in a slot that has or awaits a link
-pub pending-placed :
-    (o : Options) (log : List Entry) (s : ℕ) → IsRight o log →
-    IsPlaced (lane (history o (past_of log) s))
-unfolding decide
-pending-placed o [] s r = λ x. refl
-pending-placed o (e ∷ log) s r = go (is_refusal e.decision) refl (pending-placed o log s r.0)
-  where
-    go :
-        (b : Bool) → is_refusal e.decision ≡ b →
-        IsPlaced (lane (history o (past_of log) s)) →
-        IsPlaced (lane (history o (past_of (e ∷ log)) s))
-    go true x h = subst (λ (l : List Entry). IsPlaced (lane (history o l s))) (sym (counting-refused e log x)) h
-    go false x h = subst (λ (l : List Entry). IsPlaced (lane (history o l s))) (sym (counting-counts e log x)) (placed-step o (past_of log) e s r.1 h)

@@ -3,18 +3,10 @@ use Rattle.std.proofs.Common.{◌≡◌, refl, sym, ◌∙◌, ap, subst, ℕ, B
 use Rattle.std.specs.Prelude.{count_by}
 use Rattle.std.proofs.lemmas.Option.{same_Some}
 use Rattle.std.specs.Option.{option_map}
-use Rattle.ftp_options.specs.declared.options.Options.{Options}
-use Rattle.ftp_transfer.specs.declared.job.Job.{Job}
-use Rattle.ftp_events.specs.declared.entry.Entry.{Entry}
 use Rattle.ftp_events.specs.declared.decision.Decision.TheVariants.{Opened}
-use Rattle.ftp_events.specs.declared.session.Session.{Session}
-use Rattle.ftp_events.specs.declared.session.Opening.{Opening}
-use Rattle.ftp_events.specs.Log.{is_refusal, past_of}
-use Rattle.ftp_events.specs.Opening.{opened_number, opening_by, opener}
-use Rattle.ftp_events.specs.History.{concerns, opens, history}
 use Rattle.ftp_events.specs.Notices.{is_notice_to}
-use Rattle.ftp_events.specs.Slot.{lane}
-use Rattle.ftp_events.specs.Session.{lives_on, session_after, is_live, session_by_history, session, running_job, next_lane, new_session}
+use Rattle.ftp_events.specs.Session.{session_after, is_live, session_by_history, next_lane, new_session}
+use Rattle.ftp_laws.proofs.Common.{Options, Running, Entry, Session, Opening, is_refusal, past_of, opened_number, opening_by, opener, concerns, opens, history, lane, lives_on, session, running_job}
 
 -- a refused entry is not in the past
 pub counting-refused :
@@ -65,7 +57,7 @@ pub running-other :
 running-other o past e s n c = ap (λ h. (lane h).running) (history-other o past e s n c)
 
 -- what an entry makes of a live session, with the job that ran before it
-abbrev pub session_by : ℕ → Entry → Option Job → Session → Session
+abbrev pub session_by : ℕ → Entry → Option Running → Session → Session
 session_by s e job v = session_after e.event.kind e.answer e.decision (count_by (is_notice_to s) e.actions) job v
 
 -- a live session is what its history and its opener tell

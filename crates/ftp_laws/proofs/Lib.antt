@@ -1,4 +1,8 @@
+pub mod Common
+pub mod Classes
+pub mod Subjects
 pub mod Laws
+pub mod Cases
 pub mod Entries
 pub mod Facts
 pub mod Grants
@@ -18,6 +22,7 @@ pub mod Counts
 pub mod Links
 pub mod Offsets
 pub mod Tickets
+pub mod Sound
 pub mod Accounts
 pub mod Fates
 pub mod Cancelled

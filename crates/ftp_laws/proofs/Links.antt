@@ -1,69 +1,56 @@
 -- A link takes one job at most.
-use Rattle.std.proofs.Common.{◌≡◌, refl, sym, ◌∙◌, ap, subst, ℕ, ◌+◌, ◌≤◌, Bool, true, false, true≢false, cond, List, [], ◌∷◌, ◌++◌, Option, Some, None, arith, eqb-true, eq-eqb, inl, inr}
+use Rattle.std.proofs.Common.{◌≡◌, refl, sym, ◌∙◌, ap, subst, ℕ, ◌+◌, ◌≤◌, Bool, true, false, true≢false, cond, List, ◌∷◌, Option, Some, None, arith, eqb-true, eq-eqb, inl, inr}
 use Rattle.std.specs.Prelude.{◌⊎◌, ◌==◌, count_by}
 use Rattle.std.specs.Option.{option_map_or, option_and_then}
 use Rattle.std.proofs.lemmas.Option.{same_Some}
 use Rattle.std.proofs.lemmas.Bool.{or_right, or_parts}
-use Rattle.ftp_options.specs.declared.options.Options.{Options}
-use Rattle.ftp_transfer.specs.declared.job.Job.{Job}
-use Rattle.ftp_events.specs.declared.action.Action.{Action}
-use Rattle.ftp_events.specs.declared.decision.Decision.{Decision}
 use Rattle.ftp_events.specs.declared.decision.Decision.TheVariants as decision
-use Rattle.ftp_events.specs.declared.entry.Entry.{Entry}
-use Rattle.ftp_events.specs.declared.event.EventKind.{EventKind}
+use Rattle.ftp_events.specs.declared.decision.SlotMove.TheVariants.{Awaits, Links, Queues, Finishes}
 use Rattle.ftp_events.specs.declared.event.EventKind.TheVariants as kind
 use Rattle.ftp_events.specs.declared.event.EventKind.TheVariants.{End}
-use Rattle.ftp_events.specs.declared.event.Answer.{Answer}
-use Rattle.ftp_events.specs.declared.session.Pending.{Pending}
-use Rattle.ftp_events.specs.declared.session.Session.{Session}
-use Rattle.ftp_events.specs.declared.session.Slot.{Slot}
 use Rattle.ftp_events.specs.declared.session.Slot.TheVariants.{Empty, Waits, Linked}
-use Rattle.ftp_events.specs.Words.{is_number}
-use Rattle.ftp_events.specs.Log.{is_refusal, past_of, is_used, new_number}
-use Rattle.ftp_events.specs.History.{subject, concerns, opens, history}
-use Rattle.ftp_events.specs.Slot.{Lane, with_link, drops, startable, lane_of, lane_after, started_by, queued_in, lane}
-use Rattle.ftp_events.specs.Session.{session, running_job}
-use Rattle.ftp_events.specs.Decide.{due, decide}
-use Rattle.ftp_events.specs.Acts.{acts, acts_of, completions, cancellations, closings, link_in, stays, drop_acts, slot_of, pending_in, start_acts, starting}
-use Rattle.ftp_events.specs.Right.{IsRight, IsActed}
+use Rattle.ftp_events.specs.Slot.{startable, started_by}
+use Rattle.ftp_events.specs.History.{Nobody, One, All}
+use Rattle.ftp_laws.proofs.Common.{Subject, SlotMove, slot_move, empties, moved, starts_by, Options, Running, Decision, Entry, EventKind, Answer, Pending, Session, Slot, is_number, is_refusal, past_of, is_used, new_number, subject, concerns, opens, history, Lane, with_link, lane_of, queued_in, lane, session, running_job, due, acts_of, completions, link_in, stays, slot_of, pending_in, start_acts, starting, IsRight, IsActed}
+use Rattle.ftp_laws.proofs.Subjects.{no-stop, concerned, one-own, one-same, not-all}
 use Rattle.ftp_laws.specs.Links.{starts_on, start_count}
-use Rattle.ftp_laws.proofs.Laws.{counting-refused, counting-counts, history-other, history-own, session-told}
-use Rattle.ftp_laws.proofs.Holds.{number-is}
+use Rattle.ftp_laws.proofs.Laws.{history-other, history-own, session-told}
 use Rattle.ftp_laws.proofs.Told.{opened-is}
-use Rattle.ftp_laws.proofs.Counts.{IsOnTransfers, count-about, count-nobody}
+use Rattle.ftp_laws.proofs.Counts.{IsOnTransfers, count-drop_acts, count-about, count-nobody}
+use Rattle.ftp_laws.proofs.Entries.{acted-past}
+use Rattle.ftp_laws.proofs.Cases.{by_test, by_part}
+
+-- the move by a connection that is attached
+abbrev pub links : SlotMove → Bool
+links Links = true
+links _ = false
 
 -- a data connection is attached
 abbrev pub is_attached : Decision → Bool
-is_attached (decision.Attached s) = true
-is_attached _ = false
+is_attached d = links (slot_move d)
 
 -- the link n is in the slot, or comes for it
-abbrev pub Brings : EventKind → Decision → Slot → ℕ → Type 0
-Brings k d slot n =
-    (link_in slot ≡ Some n) ⊎ ((is_attached d ≡ true) × (new_number k d ≡ Some n))
+abbrev pub Brings : SlotMove → Option ℕ → Slot → ℕ → Type 0
+Brings m number slot n =
+    (link_in slot ≡ Some n) ⊎ ((links m ≡ true) × (number ≡ Some n))
 
 -- what a link comes for has it, or had one
 pub with_link-brings :
-    (k : EventKind) (d : Decision) (slot : Slot) (n : ℕ) →
-    is_attached d ≡ true →
-    link_in (with_link slot (new_number k d)) ≡ Some n →
-    Brings k d slot n
-with_link-brings k d slot n a e = go slot (new_number k d) refl e
-  where
-    go :
-        (x : Slot) (m : Option ℕ) → new_number k d ≡ m →
-        link_in (with_link x m) ≡ Some n → Brings k d x n
-    go (Waits port) (Some m) y h = inr (a, y ∙ h)
-    go (Waits port) None y h = cc
-    go Empty m y h = cc
-    go (Linked m) x y h = inl h
+    (m : SlotMove) (number : Option ℕ) (slot : Slot) (n : ℕ) →
+    links m ≡ true →
+    link_in (with_link slot number) ≡ Some n →
+    Brings m number slot n
+with_link-brings m (Some number) (Waits port) n a h = inr (a, h)
+with_link-brings m None (Waits port) n a h = cc
+with_link-brings m number Empty n a h = cc
+with_link-brings m number (Linked x) n a h = inl h
 
 -- a job starts on the link of its slot
 pub startable-link :
-    (slot : Slot) (pending : Option Pending) (running : Option Job) (j : Job) →
+    (slot : Slot) (pending : Option Pending) (running : Option Running) (j : Running) →
     startable slot pending running ≡ Some j →
-    link_in slot ≡ Some j.number
-startable-link (Linked n) (Some p) None j e = ap (λ (x : Option Job). option_map_or (λ y. Some y.number) x None) e
+    link_in slot ≡ Some j.job.number
+startable-link (Linked n) (Some p) None j e = ap (λ (x : Option Running). option_map_or (λ y. Some y.job.number) x None) e
 startable-link (Linked n) (Some p) (Some i) j e = cc
 startable-link (Linked n) None running j e = cc
 startable-link Empty pending running j e = cc
@@ -71,7 +58,7 @@ startable-link (Waits port) pending running j e = cc
 
 -- a job that starts leaves no link
 pub startable-leaves :
-    (slot : Slot) (pending : Option Pending) (running : Option Job) (j : Job) →
+    (slot : Slot) (pending : Option Pending) (running : Option Running) (j : Running) →
     startable slot pending running ≡ Some j →
     link_in (lane_of slot pending running).slot ≡ None
 startable-leaves (Linked n) (Some p) None j e = refl
@@ -82,7 +69,7 @@ startable-leaves (Waits port) pending running j e = cc
 
 -- a link that is left was there
 pub lane_of-link :
-    (slot : Slot) (pending : Option Pending) (running : Option Job) (n : ℕ) →
+    (slot : Slot) (pending : Option Pending) (running : Option Running) (n : ℕ) →
     link_in (lane_of slot pending running).slot ≡ Some n →
     link_in slot ≡ Some n
 lane_of-link (Linked m) (Some p) None n e = cc
@@ -101,36 +88,34 @@ dropped-link false slot n e = e
 
 -- the link of a job that starts with an entry
 pub started-brings :
-    (k : EventKind) (d : Decision) (queued : Option Pending) (l : Lane) (j : Job) →
-    started_by k d queued l ≡ Some j →
-    Brings k d l.slot j.number
-started-brings k (decision.Attached s) queued l j e =
-    with_link-brings k (decision.Attached s) l.slot j.number refl (startable-link (with_link l.slot (new_number k (decision.Attached s))) l.pending l.running j e)
-started-brings k (decision.Queued ticket) queued l j e = inl (startable-link l.slot queued l.running j e)
-started-brings k decision.Finished queued l j e = inl (startable-link l.slot l.pending None j e)
-started-brings k d queued l j e = cc
+    (m : SlotMove) (number : Option ℕ) (queued : Option Pending) (l : Lane) (j : Running) →
+    starts_by m number queued l ≡ Some j →
+    Brings m number l.slot j.job.number
+started-brings Links number queued l j e = with_link-brings Links number l.slot j.job.number refl (startable-link (with_link l.slot number) l.pending l.running j e)
+started-brings (Queues ticket) number queued l j e = inl (startable-link l.slot queued l.running j e)
+started-brings Finishes number queued l j e = inl (startable-link l.slot l.pending None j e)
+started-brings m number queued l j e = cc
 
 -- where a job starts no link is left
 pub started-leaves :
-    (k : EventKind) (d : Decision) (queued : Option Pending) (l : Lane) (j : Job) →
-    started_by k d queued l ≡ Some j →
-    link_in (lane_after k d queued l).slot ≡ None
-started-leaves k (decision.Attached s) queued l j e = startable-leaves (with_link l.slot (new_number k (decision.Attached s))) l.pending l.running j e
-started-leaves k (decision.Queued ticket) queued l j e = startable-leaves l.slot queued l.running j e
-started-leaves k decision.Finished queued l j e = startable-leaves l.slot l.pending None j e
-started-leaves k d queued l j e = cc
+    (m : SlotMove) (number : Option ℕ) (queued : Option Pending) (l : Lane) (j : Running) →
+    starts_by m number queued l ≡ Some j →
+    link_in (moved m number queued l).slot ≡ None
+started-leaves Links number queued l j e = startable-leaves (with_link l.slot number) l.pending l.running j e
+started-leaves (Queues ticket) number queued l j e = startable-leaves l.slot queued l.running j e
+started-leaves Finishes number queued l j e = startable-leaves l.slot l.pending None j e
+started-leaves m number queued l j e = cc
 
 -- a link after an entry
 pub link-brings :
-    (k : EventKind) (d : Decision) (queued : Option Pending) (l : Lane) (n : ℕ) →
-    link_in (lane_after k d queued l).slot ≡ Some n →
-    Brings k d l.slot n
-link-brings k (decision.Attached s) queued l n e =
-    with_link-brings k (decision.Attached s) l.slot n refl (lane_of-link (with_link l.slot (new_number k (decision.Attached s))) l.pending l.running n e)
-link-brings k (decision.Queued ticket) queued l n e = inl (lane_of-link l.slot queued l.running n e)
-link-brings k decision.Finished queued l n e = inl (lane_of-link l.slot l.pending None n e)
-link-brings k (decision.Granted port) queued l n e = cc
-link-brings k d queued l n e = inl (dropped-link (drops d l.slot) l.slot n e)
+    (m : SlotMove) (number : Option ℕ) (queued : Option Pending) (l : Lane) (n : ℕ) →
+    link_in (moved m number queued l).slot ≡ Some n →
+    Brings m number l.slot n
+link-brings Links number queued l n e = with_link-brings Links number l.slot n refl (lane_of-link (with_link l.slot number) l.pending l.running n e)
+link-brings (Queues ticket) number queued l n e = inl (lane_of-link l.slot queued l.running n e)
+link-brings Finishes number queued l n e = inl (lane_of-link l.slot l.pending None n e)
+link-brings (Awaits port) number queued l n e = cc
+link-brings m number queued l n e = inl (dropped-link (empties m l.slot) l.slot n e)
 
 -- a connection that is attached has a new number
 pub attached-unused :
@@ -164,30 +149,13 @@ pub starts-completions :
 starts-completions n (End ticket) decision.Finished delivered = refl
 starts-completions n k d delivered = refl
 
--- nor does a slot that is dropped
-pub starts-drop_acts :
-    (n s : ℕ) (staying : Bool) (d : Decision) (slot : Slot) (pending : Option Pending) →
-    count_by (starts_on n) (drop_acts s staying d slot pending) ≡ 0
-starts-drop_acts n s staying d slot pending = go (drops d slot) staying pending (link_in slot)
-  where
-    go :
-        (b stays : Bool) (pending : Option Pending) (link : Option ℕ) →
-        count_by (starts_on n) (cond b (cancellations s stays pending ++ closings link) []) ≡ 0
-    go true stays None None = refl
-    go true stays None (Some m) = refl
-    go true true (Some p) None = refl
-    go true true (Some p) (Some m) = refl
-    go true false (Some p) None = refl
-    go true false (Some p) (Some m) = refl
-    go false stays pending link = refl
-
 -- an entry starts a job on link n
 pub record StartsOn (o : Options) (past : List Entry) (e : Entry) (n : ℕ) : Type 0 where
   pub number : ℕ
-  pub about : subject o past e ≡ Some number
-  pub job : Job
+  pub about : subject o past e ≡ One number
+  pub job : Running
   pub started : started_by e.event.kind e.decision (queued_in (history o past number) e) (lane (history o past number)) ≡ Some job
-  pub link : job.number ≡ n
+  pub link : job.job.number ≡ n
   pub count : count_by (starts_on n) e.actions ≡ 1
 
 -- it does, or starts nothing there
@@ -206,27 +174,27 @@ starts-entry o past e n counts acted = by_subject (subject o past e) refl
     test = starts-on-transfers n
 
     by_link :
-        (s : ℕ) (v : Session) (j : Job) →
-        subject o past e ≡ Some s → session o past s ≡ Some v →
+        (s : ℕ) (v : Session) (j : Running) →
+        subject o past e ≡ One s → session o past s ≡ Some v →
         starting e.event.kind e.decision (running_job o past s) v ≡ Some j →
         count_by (starts_on n) e.actions ≡ count_by (starts_on n) (start_acts (Some j)) →
-        (b : Bool) → (j.number == n) ≡ b →
+        (b : Bool) → (j.job.number == n) ≡ b →
         StartsOrNot o past e n
     by_link s v j about known st total false x = inl (total ∙ rw x refl)
     by_link s v j about known st total true x =
-        inr (record { number = s; about = about; job = j; started = sym (starting-told o past e s v known) ∙ st; link = eqb-true j.number n x; count = total ∙ rw x refl })
+        inr (record { number = s; about = about; job = j; started = sym (starting-told o past e s v known) ∙ st; link = eqb-true j.job.number n x; count = total ∙ rw x refl })
 
     by_job :
-        (s : ℕ) (v : Session) (j : Option Job) →
-        subject o past e ≡ Some s → session o past s ≡ Some v →
+        (s : ℕ) (v : Session) (j : Option Running) →
+        subject o past e ≡ One s → session o past s ≡ Some v →
         starting e.event.kind e.decision (running_job o past s) v ≡ j →
         count_by (starts_on n) e.actions ≡ count_by (starts_on n) (start_acts j) →
         StartsOrNot o past e n
     by_job s v None about known st total = inl total
-    by_job s v (Some j) about known st total = by_link s v j about known st total (j.number == n) refl
+    by_job s v (Some j) about known st total = by_link s v j about known st total (j.job.number == n) refl
 
     by_session :
-        (s : ℕ) (v : Option Session) → subject o past e ≡ Some s →
+        (s : ℕ) (v : Option Session) → subject o past e ≡ One s →
         session o past s ≡ v →
         count_by (starts_on n) e.actions ≡ count_by (starts_on n) (start_acts (option_and_then (starting e.event.kind e.decision (running_job o past s)) v)) →
         StartsOrNot o past e n
@@ -234,12 +202,13 @@ starts-entry o past e n counts acted = by_subject (subject o past e) refl
     by_session s (Some v) about known total = by_job s v (starting e.event.kind e.decision (running_job o past s) v) about known refl total
 
     by_subject :
-        (s : Option ℕ) → subject o past e ≡ s →
+        (s : Subject) → subject o past e ≡ s →
         StartsOrNot o past e n
-    by_subject None about = inl (count-nobody (starts_on n) o past e test acted about)
-    by_subject (Some s) about =
+    by_subject All about = absurd (not-all o past e (no-stop e.decision) about)
+    by_subject Nobody about = inl (count-nobody (starts_on n) o past e test acted about)
+    by_subject (One s) about =
         by_session s (session o past s) about refl
-        (omega (arith, count-about (starts_on n) o past e s test counts acted about, starts-completions n e.event.kind e.decision (stays e.decision (session o past s)), starts-drop_acts n s (stays e.decision (session o past s)) e.decision (slot_of (session o past s)) (pending_in (session o past s))))
+        (omega (arith, count-about (starts_on n) o past e s test counts acted about, starts-completions n e.event.kind e.decision (stays e.decision (session o past s)), count-drop_acts (starts_on n) s (stays e.decision (session o past s)) e.decision (slot_of (session o past s)) (pending_in (session o past s)) test (λ t. refl)))
 
 -- the link that the slot of session s has
 abbrev pub link_of : Options → List Entry → ℕ → Option ℕ
@@ -255,51 +224,33 @@ pub link-after :
     (o : Options) (past : List Entry) (e : Entry) (s n : ℕ) →
     link_of o (e ∷ past) s ≡ Some n →
     WasOrComes o past e s n
-link-after o past e s n h = by_opening (opens e s) refl
+link-after o past e s n h =
+    by_part o past e s
+    (λ x.
+    let start : link_of o (e ∷ past) s ≡ None = rw (x, opened-is e.event.kind e.decision s x) refl in
+    let z : None ≡ Some n = sym start ∙ h in
+    cc)
+    (λ x c.
+    by_link c (link-brings (slot_move e.decision) (new_number e.event.kind e.decision) (queued_in (history o past s) e) (lane (history o past s)) n
+    (subst (λ (l : List Entry). link_in (lane l).slot ≡ Some n) (history-own o past e s x c) h)))
+    (λ x c. inl (subst (λ (l : List Entry). link_in (lane l).slot ≡ Some n) (history-other o past e s x c) h))
   where
-    by_concern :
-        opens e s ≡ false → (b : Bool) →
-        concerns o past e s ≡ b →
+    by_link :
+        concerns o past e s ≡ true →
+        Brings (slot_move e.decision) (new_number e.event.kind e.decision) (lane (history o past s)).slot n →
         WasOrComes o past e s n
-    by_concern x false c = inl (subst (λ (l : List Entry). link_in (lane l).slot ≡ Some n) (history-other o past e s x c) h)
-    by_concern x true c =
-        by_link (link-brings e.event.kind e.decision (queued_in (history o past s) e) (lane (history o past s)) n (subst (λ (l : List Entry). link_in (lane l).slot ≡ Some n) (history-own o past e s x c) h))
-      where
-        by_link :
-            Brings e.event.kind e.decision (lane (history o past s)).slot n →
-            WasOrComes o past e s n
-        by_link (inl y) = inl y
-        by_link (inr y) = inr (c, y)
-
-    by_opening :
-        (b : Bool) → opens e s ≡ b →
-        WasOrComes o past e s n
-    by_opening false x = by_concern x (concerns o past e s) refl
-    by_opening true x =
-        let start : history o (e ∷ past) s ≡ e ∷ [] = rw x refl in
-        let none : link_in (lane (e ∷ [])).slot ≡ None = rw (opened-is e.event.kind e.decision s x) refl in
-        let z : None ≡ Some n = sym none ∙ subst (λ (l : List Entry). link_in (lane l).slot ≡ Some n) start h in
-        cc
+    by_link c (inl y) = inl y
+    by_link c (inr y) = inr (c, y)
 
 -- where a job starts no link is left in its session's slot
 pub starts-leave :
     (o : Options) (past : List Entry) (e : Entry) (n : ℕ) (st : StartsOn o past e n) →
     link_of o (e ∷ past) st.number ≡ None
-starts-leave o past e n st = by_opening (opens e s) refl
-  where
-    s : ℕ
-    s = st.number
-
-    about : concerns o past e s ≡ true
-    about = rw st.about (eq-eqb s s refl)
-
-    by_opening : (b : Bool) → opens e s ≡ b → link_of o (e ∷ past) s ≡ None
-    by_opening false x =
-        subst (λ (l : List Entry). link_in (lane l).slot ≡ None) (sym (history-own o past e s x about))
-        (started-leaves e.event.kind e.decision (queued_in (history o past s) e) (lane (history o past s)) st.job st.started)
-    by_opening true x =
-        let start : history o (e ∷ past) s ≡ e ∷ [] = rw x refl in
-        subst (λ (l : List Entry). link_in (lane l).slot ≡ None) (sym start) (rw (opened-is e.event.kind e.decision s x) refl)
+starts-leave o past e n st =
+    by_test (opens e st.number) (λ x. rw (x, opened-is e.event.kind e.decision st.number x) refl)
+    (λ x.
+    subst (λ (l : List Entry). link_in (lane l).slot ≡ None) (sym (history-own o past e st.number x (one-own o past e st.number st.about)))
+    (started-leaves (slot_move e.decision) (new_number e.event.kind e.decision) (queued_in (history o past st.number) e) (lane (history o past st.number)) st.job st.started))
 
 -- what the past says of link n, on which so many jobs were started
 pub record IsTakenOnce (o : Options) (past : List Entry) (n count : ℕ) : Type 0 where
@@ -330,14 +281,14 @@ taken-step o past e n count fit counts acted h =
     new : new_number e.event.kind e.decision ≡ Some n → is_used (e ∷ past) n ≡ true
     new x = rw (x, eq-eqb n n refl) refl
 
-    brings : (st : StartsOn o past e n) → Brings e.event.kind e.decision (lane (history o past st.number)).slot n
+    brings : (st : StartsOn o past e n) → Brings (slot_move e.decision) (new_number e.event.kind e.decision) (lane (history o past st.number)).slot n
     brings st =
-        subst (λ (m : ℕ). Brings e.event.kind e.decision (lane (history o past st.number)).slot m) st.link
-        (started-brings e.event.kind e.decision (queued_in (history o past st.number) e) (lane (history o past st.number)) st.job st.started)
+        subst (λ (m : ℕ). Brings (slot_move e.decision) (new_number e.event.kind e.decision) (lane (history o past st.number)).slot m) st.link
+        (started-brings (slot_move e.decision) (new_number e.event.kind e.decision) (queued_in (history o past st.number) e) (lane (history o past st.number)) st.job st.started)
 
     before :
         (slot : ℕ) →
-        Brings e.event.kind e.decision (lane (history o past slot)).slot n →
+        Brings (slot_move e.decision) (new_number e.event.kind e.decision) (lane (history o past slot)).slot n →
         count ≡ 0
     before s (inl x) = (h.linked s x).1
     before s (inr x) = h.fresh (unused x)
@@ -363,7 +314,7 @@ taken-step o past e n count fit counts acted h =
     still_fresh (inr st) y = absurd (true≢false (sym (by_link (brings st)) ∙ y))
       where
         by_link :
-            Brings e.event.kind e.decision (lane (history o past st.number)).slot n →
+            Brings (slot_move e.decision) (new_number e.event.kind e.decision) (lane (history o past st.number)).slot n →
             is_used (e ∷ past) n ≡ true
         by_link (inl x) = still_used st.number (inl x)
         by_link (inr x) = new x.1
@@ -376,7 +327,7 @@ taken-step o past e n count fit counts acted h =
     still_one s t (inl x) (inl y) = h.one s t x y
     still_one s t (inl x) (inr y) = absurd (true≢false (sym (h.linked s x).0 ∙ unused y.1))
     still_one s t (inr x) (inl y) = absurd (true≢false (sym (h.linked t y).0 ∙ unused x.1))
-    still_one s t (inr x) (inr y) = same_Some _ _ (sym (number-is _ s x.0) ∙ number-is _ t y.0)
+    still_one s t (inr x) (inr y) = one-same o past e s t (concerned o past e s (no-stop e.decision) x.0) (concerned o past e t (no-stop e.decision) y.0)
 
     still_none :
         (s : ℕ) → link_of o (e ∷ past) s ≡ Some n →
@@ -392,30 +343,21 @@ taken-step o past e n count fit counts acted h =
       where
         by_link :
             WasOrComes o past e s n →
-            Brings e.event.kind e.decision (lane (history o past st.number)).slot n →
+            Brings (slot_move e.decision) (new_number e.event.kind e.decision) (lane (history o past st.number)).slot n →
             s ≡ st.number
         by_link (inl i) (inl j) = h.one s st.number i j
         by_link (inl i) (inr j) = absurd (true≢false (sym (h.linked s i).0 ∙ unused j))
-        by_link (inr i) j = same_Some _ _ (sym (number-is _ s i.0) ∙ st.about)
+        by_link (inr i) j = one-same o past e s st.number (concerned o past e s (no-stop e.decision) i.0) st.about
 
 -- in every right and acted log a link takes one job at most
 pub taken-once :
     (o : Options) (log : List Entry) (n : ℕ) →
     IsRight o log → IsActed o log →
     IsTakenOnce o (past_of log) n (start_count n log)
-unfolding decide acts
-taken-once o [] n r a = record { once = omega arith; fresh = λ x. refl; linked = λ s x. let z : None ≡ Some n = x in cc; one = λ s t x y. let z : None ≡ Some n = x in cc }
-taken-once o (e ∷ log) n r a = go (is_refusal e.decision) refl (taken-once o log n r.0 a.0)
-  where
-    go :
-        (b : Bool) → is_refusal e.decision ≡ b →
-        IsTakenOnce o (past_of log) n (start_count n log) →
-        IsTakenOnce o (past_of (e ∷ log)) n (start_count n log + count_by (starts_on n) e.actions)
-    go true x h =
-        let none : e.actions ≡ [] = a.1 ∙ rw x refl in
-        let same : start_count n log + count_by (starts_on n) e.actions ≡ start_count n log = ap (λ (xs : List Action). start_count n log + count_by (starts_on n) xs) none ∙ omega arith in
-        subst (λ (l : List Entry). IsTakenOnce o l n (start_count n log + count_by (starts_on n) e.actions)) (sym (counting-refused e log x))
-        (subst (λ (c : ℕ). IsTakenOnce o (past_of log) n c) (sym same) h)
-    go false x h =
-        subst (λ (l : List Entry). IsTakenOnce o l n (start_count n log + count_by (starts_on n) e.actions)) (sym (counting-counts e log x))
-        (taken-step o (past_of log) e n (start_count n log) r.1 x a.1 h)
+taken-once o log n r a =
+    acted-past o (λ log past. IsTakenOnce o past n (start_count n log))
+    (record { once = omega arith; fresh = λ x. refl; linked = λ s x. let z : None ≡ Some n = x in cc; one = λ s t x y. let z : None ≡ Some n = x in cc })
+    (λ log e none refused h.
+    let same : start_count n log ≡ start_count n (e ∷ log) = omega (arith, ap (count_by (starts_on n)) none) in
+    subst (IsTakenOnce o (past_of log) n) same h)
+    (λ log e comes a acted h. taken-step o (past_of log) e n (start_count n log) comes.fit comes.counts acted h) log r a

@@ -1,25 +1,19 @@
 -- Logs that show why the laws have their premises.
 use Rattle.std.proofs.Common.{◌≡◌, refl, ℕ, List, [], ◌∷◌, map, reverse, Option, Some, None, lit≤}
 use Rattle.std.specs.Prelude.{codes}
-use Rattle.ftp_base.specs.declared.net.IpAddr.{IpAddr}
 use Rattle.ftp_base.specs.declared.notice.Notice.TheVariants.{Presence}
 use Rattle.ftp_base.specs.declared.notice.PresenceEvent.TheVariants as presence
 use Rattle.ftp_base.specs.Storage.{root}
-use Rattle.ftp_options.specs.declared.options.Options.{Options}
 use Rattle.ftp_options.specs.declared.options.ListenerMode.TheVariants.{Legacy}
 use Rattle.ftp_options.specs.declared.options.PassiveHost.TheVariants.{FromConnection}
 use Rattle.ftp_options.specs.declared.options.ActivePassiveMode.TheVariants.{PassiveOnly}
 use Rattle.ftp_events.specs.declared.action.Action.TheVariants.{Notify}
 use Rattle.ftp_events.specs.declared.decision.Decision.TheVariants as decision
-use Rattle.ftp_events.specs.declared.entry.Entry.{Entry}
 use Rattle.ftp_events.specs.declared.session.Login.TheVariants.{LoggedIn}
-use Rattle.ftp_events.specs.declared.session.Session.{Session}
 use Rattle.ftp_events.specs.declared.session.Slot.TheVariants.{Waits}
-use Rattle.ftp_events.specs.Board.{holder}
-use Rattle.ftp_events.specs.Log.{past_of}
-use Rattle.ftp_events.specs.Right.{IsRight, log_of}
-use Rattle.ftp_events.specs.Isolation.{client_log}
+use Rattle.ftp_events.specs.Right.{log_of}
 use Rattle.ftp_events.proofs.Script.{everything, ip, addr, two_ports, opened, login, pasv, a1, a2}
+use Rattle.ftp_laws.proofs.Common.{IpAddr, Options, Entry, Session, holder, past_of, IsRight, client_log}
 use Rattle.ftp_laws.specs.Holds.{WaitsOn}
 use Rattle.ftp_laws.specs.Notices.{notices}
 

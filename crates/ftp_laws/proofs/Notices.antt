@@ -8,28 +8,16 @@ use Rattle.ftp_base.specs.declared.message.ControlChanMsg.{ControlChanMsg}
 use Rattle.ftp_base.specs.declared.notice.Notice.{Notice}
 use Rattle.ftp_base.specs.declared.reply.Reply.{Reply}
 use Rattle.ftp_base.specs.declared.reply.Reply.TheVariants as reply
-use Rattle.ftp_options.specs.declared.options.Options.{Options}
-use Rattle.ftp_transfer.specs.declared.job.Job.{Job}
-use Rattle.ftp_events.specs.declared.action.Action.{Action}
 use Rattle.ftp_events.specs.declared.action.Action.TheVariants as action
-use Rattle.ftp_events.specs.declared.decision.Decision.{Decision}
 use Rattle.ftp_events.specs.declared.decision.Decision.TheVariants as decision
-use Rattle.ftp_events.specs.declared.entry.Entry.{Entry}
-use Rattle.ftp_events.specs.declared.event.EventKind.{EventKind}
 use Rattle.ftp_events.specs.declared.event.EventKind.TheVariants.{End}
-use Rattle.ftp_events.specs.declared.event.Answer.{Answer}
-use Rattle.ftp_events.specs.declared.session.Pending.{Pending}
-use Rattle.ftp_events.specs.declared.session.Session.{Session}
-use Rattle.ftp_events.specs.declared.session.Slot.{Slot}
-use Rattle.ftp_events.specs.Words.{is_number}
-use Rattle.ftp_events.specs.Log.{is_refusal, is_ending, new_number}
-use Rattle.ftp_events.specs.History.{subject, concerns}
 use Rattle.ftp_events.specs.Login.{login_by, logged_user}
 use Rattle.ftp_events.specs.Notices.{is_notice_to}
-use Rattle.ftp_events.specs.Slot.{drops}
-use Rattle.ftp_events.specs.Session.{session, running_job}
 use Rattle.ftp_events.specs.Reply.{message_for, reply_for, delay_of}
-use Rattle.ftp_events.specs.Acts.{acts_of, acts_for, session_acts, completions, cancellations, stays, drop_acts, pending_in, start_acts, starting, link_in, closings, refused_link, notice_and_reply, notifications, reply_acts, notice_for, presence_for, farewells, slot_of}
+use Rattle.ftp_events.specs.Acts.{session_acts, notice_and_reply, notifications, reply_acts, notice_for, presence_for, farewells}
+use Rattle.ftp_events.specs.History.{Nobody, One, All}
+use Rattle.ftp_laws.proofs.Common.{Subject, subject_acts, is_ending, Options, Running, Action, Decision, Entry, EventKind, Answer, Pending, Session, Slot, is_refusal, new_number, subject, concerns, drops, session, running_job, acts_of, completions, cancellations, stays, drop_acts, pending_in, start_acts, starting, link_in, closings, refused_link, slot_of}
+use Rattle.ftp_laws.proofs.Subjects.{no-stop, nobody-concerns, one-concerns, not-all}
 use Rattle.ftp_laws.specs.Notices.{notice_to}
 use Rattle.ftp_laws.proofs.Tables.{same-both}
 
@@ -80,7 +68,7 @@ notices-drop_acts s t staying d slot pending = go (drops d slot) staying pending
     go false stays pending link = refl
 
 -- nor a job that starts
-pub notices-start_acts : (s : ℕ) (job : Option Job) → filter_map (notice_to s) (start_acts job) ≡ []
+pub notices-start_acts : (s : ℕ) (job : Option Running) → filter_map (notice_to s) (start_acts job) ≡ []
 notices-start_acts s None = refl
 notices-start_acts s (Some job) = refl
 
@@ -112,16 +100,19 @@ pub notices-reply_acts :
 notices-reply_acts s t delay reply.None = refl
 notices-reply_acts s t delay (reply.CodeAndMsg c msg) = refl
 
+-- a notification under the number after n, where there is one
+abbrev pub under : ℕ → Option Notice → List (ℕ × Notice)
+under n what = option_map_or (λ what. (n + 1, what) ∷ []) what []
+
 -- what is told of a session by an event and its decision, from the job that ran and the session before it
-abbrev pub told_by : EventKind → Answer → Decision → Option Job → Option Session → List (ℕ × Notice)
+abbrev pub told_by : EventKind → Answer → Decision → Option Running → Option Session → List (ℕ × Notice)
 told_by k answer d job None = []
-told_by k answer d job (Some v) =
-    option_map_or (λ what. (v.notices + 1, what) ∷ []) (notice_for (message_for v job k answer d) (presence_for d)) []
+told_by k answer d job (Some v) = under v.notices (notice_for (message_for v job k answer d) (presence_for d))
 
 -- a session's notification is its own
 pub notices-notifications :
     (s t : ℕ) (v : Session) (user : List ℕ) (what : Option Notice) →
-    filter_map (notice_to s) (notifications t v user what) ≡ cond (t == s) (option_map_or (λ what. (v.notices + 1, what) ∷ []) what []) []
+    filter_map (notice_to s) (notifications t v user what) ≡ cond (t == s) (under v.notices what) []
 notices-notifications s t v user None = sym (same-both (t == s) [])
 notices-notifications s t v user (Some what) = go (t == s) refl
   where
@@ -133,7 +124,7 @@ notices-notifications s t v user (Some what) = go (t == s) refl
 
 -- what an event does for session t tells of session t
 pub notices-session_acts :
-    (o : Options) (s t : ℕ) (k : EventKind) (answer : Answer) (d : Decision) (job : Option Job) (v : Option Session) →
+    (o : Options) (s t : ℕ) (k : EventKind) (answer : Answer) (d : Decision) (job : Option Running) (v : Option Session) →
     filter_map (notice_to s) (session_acts o t k answer d job v) ≡ cond (t == s) (told_by k answer d job v) []
 notices-session_acts o s t k answer d job v =
     rw (split, notices-completions s k d (stays d v), notices-drop_acts s t (stays d v) d (slot_of v) (pending_in v), notices-refused_link s k d, notices-start_acts s (option_and_then (starting k d job) v), notices-farewells s t d) (append-nil (filter_map (notice_to s) (option_map_or (notice_and_reply o t k answer d job) v []) ++ []) ∙ (append-nil (filter_map (notice_to s) (option_map_or (notice_and_reply o t k answer d job) v [])) ∙ told v))
@@ -155,7 +146,7 @@ notices-session_acts o s t k answer d job v =
 
 -- so many notifications of session s are among what an event does for session t
 pub count-session_acts :
-    (o : Options) (s t : ℕ) (k : EventKind) (answer : Answer) (d : Decision) (job : Option Job) (v : Option Session) →
+    (o : Options) (s t : ℕ) (k : EventKind) (answer : Answer) (d : Decision) (job : Option Running) (v : Option Session) →
     count_by (is_notice_to s) (session_acts o t k answer d job v) ≡ cond (t == s) (length (told_by k answer d job v)) 0
 count-session_acts o s t k answer d job v =
     sym (length-notices s (session_acts o t k answer d job v)) ∙ (ap length (notices-session_acts o s t k answer d job v) ∙ go (t == s))
@@ -176,9 +167,9 @@ pub notices-entry :
     is_refusal e.decision ≡ false →
     e.actions ≡ acts_of o past e →
     filter_map (notice_to s) e.actions ≡ cond (concerns o past e s) (told_in o past e s) []
-notices-entry o past e s counts acted = ap (filter_map (notice_to s)) done ∙ go (subject o past e)
+notices-entry o past e s counts acted = ap (filter_map (notice_to s)) done ∙ go (subject o past e) refl
   where
-    done : e.actions ≡ option_map_or (acts_for o past e) (subject o past e) (refused_link e.event.kind e.decision)
+    done : e.actions ≡ subject_acts o past e (subject o past e)
     done = acted ∙ rw counts refl
 
     by_number :
@@ -188,7 +179,10 @@ notices-entry o past e s counts acted = ap (filter_map (notice_to s)) done ∙ g
     by_number t false x = refl
 
     go :
-        (t : Option ℕ) →
-        filter_map (notice_to s) (option_map_or (acts_for o past e) t (refused_link e.event.kind e.decision)) ≡ cond (is_number t s) (told_in o past e s) []
-    go None = notices-refused_link s e.event.kind e.decision
-    go (Some t) = notices-session_acts o s t e.event.kind e.answer e.decision (running_job o past t) (session o past t) ∙ by_number t (t == s) refl
+        (x : Subject) → subject o past e ≡ x →
+        filter_map (notice_to s) (subject_acts o past e x) ≡ cond (concerns o past e s) (told_in o past e s) []
+    go All h = absurd (not-all o past e (no-stop e.decision) h)
+    go Nobody h = notices-refused_link s e.event.kind e.decision ∙ ap (λ b. cond b (told_in o past e s) []) (sym (nobody-concerns o past e s h))
+    go (One t) h =
+        notices-session_acts o s t e.event.kind e.answer e.decision (running_job o past t) (session o past t) ∙
+        (by_number t (t == s) refl ∙ ap (λ b. cond b (told_in o past e s) []) (sym (one-concerns o past e t s h)))

@@ -1,26 +1,16 @@
 -- What an entry leaves of the restart offset.
-use Rattle.std.proofs.Common.{◌≡◌, refl, sym, ◌∙◌, ap, ℕ, Bool, true, false, cond, List, ◌∷◌, Some, None, eq-eqb, inl, inr}
+use Rattle.std.proofs.Common.{◌≡◌, refl, sym, ◌∙◌, ap, ℕ, Bool, true, false, cond, List, ◌∷◌, Some, None, inl, inr}
 use Rattle.std.specs.Prelude.{◌⊎◌, unwrap_or}
 use Rattle.std.specs.Bool.{then_some}
 use Rattle.std.proofs.lemmas.Option.{same_Some}
-use Rattle.ftp_options.specs.declared.options.Options.{Options}
 use Rattle.ftp_transfer.specs.declared.job.Outcome.{Outcome}
-use Rattle.ftp_transfer.specs.declared.job.Ticket.{Ticket}
-use Rattle.ftp_events.specs.declared.decision.Decision.{Decision}
 use Rattle.ftp_events.specs.declared.decision.Decision.TheVariants.{Finished, RestOk}
-use Rattle.ftp_events.specs.declared.entry.Entry.{Entry}
-use Rattle.ftp_events.specs.declared.event.Answer.{Answer}
 use Rattle.ftp_events.specs.declared.event.Answer.TheVariants.{Done}
-use Rattle.ftp_events.specs.declared.event.EventKind.{EventKind}
 use Rattle.ftp_events.specs.declared.event.EventKind.TheVariants.{Rest, End}
-use Rattle.ftp_events.specs.declared.session.Session.{Session}
-use Rattle.ftp_events.specs.Log.{past_of, is_refusal, named_session}
-use Rattle.ftp_events.specs.Decide.{decide}
-use Rattle.ftp_events.specs.History.{concerns, opens}
 use Rattle.ftp_events.specs.Place.{offset_by}
-use Rattle.ftp_events.specs.Right.{IsRight}
-use Rattle.ftp_events.specs.Session.{lives_on, session, running_job}
 use Rattle.ftp_events.specs.Transfer.{moves_file}
+use Rattle.ftp_laws.proofs.Common.{Options, Ticket, Decision, Entry, Answer, EventKind, Session, past_of, is_refusal, named_session, decide, concerns, opens, IsRight, lives_on, session, running_job}
+use Rattle.ftp_laws.proofs.Subjects.{named-concerns}
 use Rattle.ftp_laws.specs.Offsets.{TakesRest, EndsWell}
 use Rattle.ftp_laws.proofs.Laws.{counting-refused, counting-counts, session-own, session-other, session_by}
 use Rattle.ftp_laws.proofs.Holds.{live-unopened}
@@ -54,7 +44,7 @@ ends-offset o log e ticket outcome v k a d known = (after, stands, rw (k, a, d) 
     unopened = rw d refl
 
     about : concerns o (past_of log) e s ≡ true
-    about = rw k (eq-eqb s s refl)
+    about = named-concerns o (past_of log) e s (ap named_session k)
 
     lives : lives_on e.decision ≡ true
     lives = rw d refl

@@ -2,32 +2,20 @@
 use Rattle.std.proofs.Common.{◌≡◌, refl, sym, ◌∙◌, ℕ, Bool, true, false, List, [], ◌∷◌, Option, Some, None}
 use Rattle.std.specs.Option.{option_or}
 use Rattle.std.proofs.lemmas.Bool.{or_right}
-use Rattle.ftp_options.specs.declared.options.Options.{Options}
-use Rattle.ftp_transfer.specs.declared.job.Job.{Job}
-use Rattle.ftp_events.specs.declared.decision.Decision.{Decision}
 use Rattle.ftp_events.specs.declared.decision.Decision.TheVariants as decision
-use Rattle.ftp_events.specs.declared.entry.Entry.{Entry}
-use Rattle.ftp_events.specs.declared.event.EventKind.{EventKind}
+use Rattle.ftp_events.specs.declared.decision.SlotMove.TheVariants.{Links, Queues, Finishes}
 use Rattle.ftp_events.specs.declared.event.EventKind.TheVariants as kind
-use Rattle.ftp_events.specs.declared.session.Pending.{Pending}
-use Rattle.ftp_events.specs.declared.session.Session.{Session}
-use Rattle.ftp_events.specs.declared.session.Slot.{Slot}
 use Rattle.ftp_events.specs.declared.session.Slot.TheVariants.{Empty, Waits, Linked}
-use Rattle.ftp_events.specs.Words.{is_number}
-use Rattle.ftp_events.specs.Log.{is_used, new_number, past_of}
-use Rattle.ftp_events.specs.History.{history}
-use Rattle.ftp_events.specs.Slot.{Lane, with_link, startable, lane_of, lane_after, started_by, queued_in, lane}
-use Rattle.ftp_events.specs.Session.{session, running_job}
-use Rattle.ftp_events.specs.Acts.{completions}
-use Rattle.ftp_events.specs.Right.{IsRight}
+use Rattle.ftp_events.specs.Slot.{startable}
+use Rattle.ftp_laws.proofs.Common.{SlotMove, slot_move, moved, starts_by, Options, Running, Decision, Entry, EventKind, Pending, Session, Slot, is_number, is_used, new_number, past_of, history, Lane, with_link, lane_of, queued_in, lane, session, running_job, completions, IsRight}
 use Rattle.ftp_laws.proofs.Entries.{past-more, history-more}
 use Rattle.ftp_laws.proofs.Holds.{live-used, opened-new}
 use Rattle.ftp_laws.proofs.Lanes.{ended-empty}
-use Rattle.ftp_laws.proofs.Tickets.{is_finished}
+use Rattle.ftp_laws.proofs.Tickets.{finishes, is_finished}
 
 -- the job of a slot from which one can start is the one that starts, or that ran
 pub runs-started :
-    (slot : Slot) (pending : Option Pending) (job : Option Job) →
+    (slot : Slot) (pending : Option Pending) (job : Option Running) →
     (lane_of slot pending job).running ≡ option_or (startable slot pending job) job
 runs-started Empty pending job = refl
 runs-started (Waits port) pending job = refl
@@ -35,15 +23,15 @@ runs-started (Linked number) None job = refl
 runs-started (Linked number) (Some p) None = refl
 runs-started (Linked number) (Some p) (Some job) = refl
 
--- the job after a decision with which no job ends is the one that starts, or that ran
+-- the job after a move with which no job ends is the one that starts, or that ran
 pub running-after :
-    (k : EventKind) (d : Decision) (queued : Option Pending) (l : Lane) →
-    is_finished d ≡ false →
-    (lane_after k d queued l).running ≡ option_or (started_by k d queued l) l.running
-running-after k (decision.Attached s) queued l u = runs-started (with_link l.slot (new_number k (decision.Attached s))) l.pending l.running
-running-after k (decision.Queued t) queued l u = runs-started l.slot queued l.running
-running-after k decision.Finished queued l u = cc
-running-after k d queued l u = refl
+    (m : SlotMove) (number : Option ℕ) (queued : Option Pending) (l : Lane) →
+    finishes m ≡ false →
+    (moved m number queued l).running ≡ option_or (starts_by m number queued l) l.running
+running-after Links number queued l u = runs-started (with_link l.slot number) l.pending l.running
+running-after (Queues t) number queued l u = runs-started l.slot queued l.running
+running-after Finishes number queued l u = cc
+running-after m number queued l u = refl
 
 -- and it completes no job
 pub no-completion : (d : Decision) (k : EventKind) (b : Bool) → is_finished d ≡ false → completions k d b ≡ []
@@ -53,20 +41,20 @@ no-completion d k b u = refl
 
 -- a job that runs over an empty slot ran before
 runs-before :
-    (k : EventKind) (d : Decision) (queued : Option Pending) (l : Lane) (job : Job) →
+    (m : SlotMove) (number : Option ℕ) (queued : Option Pending) (l : Lane) (job : Running) →
     l.slot ≡ Empty →
-    (lane_after k d queued l).running ≡ Some job →
+    (moved m number queued l).running ≡ Some job →
     l.running ≡ Some job
-runs-before k (decision.Attached s) queued l job bare h = rw bare at h
-runs-before k (decision.Queued t) queued l job bare h = rw bare at h
-runs-before k decision.Finished queued l job bare h =
+runs-before Links number queued l job bare h = rw bare at h
+runs-before (Queues t) number queued l job bare h = rw bare at h
+runs-before Finishes number queued l job bare h =
     let clash : None ≡ Some job = rw bare at h in
     cc
-runs-before k d queued l job bare h = h
+runs-before m number queued l job bare h = h
 
 -- a session for which a job runs was opened once
 job-used :
-    (o : Options) (log : List Entry) (s : ℕ) (job : Job) → IsRight o log →
+    (o : Options) (log : List Entry) (s : ℕ) (job : Running) → IsRight o log →
     running_job o (past_of log) s ≡ Some job →
     is_used (past_of log) s ≡ true
 job-used o [] s job r h = cc
@@ -91,7 +79,7 @@ job-used o (e ∷ log) s job r h =
         is_used (e ∷ past) s ≡ true
     own (Some v) known ih x = stays_used (live-used o past s v known)
     own None known ih x =
-        stays_used (ih (runs-before e.event.kind e.decision (queued_in (history o past s) e) (lane (history o past s)) job (ended-empty o log s r.0 known).0 x))
+        stays_used (ih (runs-before (slot_move e.decision) (new_number e.event.kind e.decision) (queued_in (history o past s) e) (lane (history o past s)) job (ended-empty o log s r.0 known).0 x))
 
 -- so no job runs for a number that was not used
 pub unused-idle :
@@ -100,7 +88,7 @@ pub unused-idle :
     running_job o (past_of log) s ≡ None
 unused-idle o log s r unused = go (running_job o (past_of log) s) refl
   where
-    go : (job : Option Job) → running_job o (past_of log) s ≡ job → job ≡ None
+    go : (job : Option Running) → running_job o (past_of log) s ≡ job → job ≡ None
     go None x = refl
     go (Some job) x =
         let clash : true ≡ false = sym (job-used o log s job r x) ∙ unused in

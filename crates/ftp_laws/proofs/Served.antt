@@ -6,38 +6,25 @@ use Rattle.std.specs.Option.{option_map_or, option_and_then}
 use Rattle.std.proofs.lemmas.Bool.{and_parts, or_parts}
 use Rattle.std.proofs.lemmas.Option.{same_Some}
 use Rattle.std.proofs.lemmas.List.Elements.{Contains-append_left, Contains-append_right, Contains-push}
-use Rattle.ftp_base.specs.declared.net.IpAddr.{IpAddr}
 use Rattle.ftp_base.specs.declared.net.SocketAddr.{SocketAddr}
-use Rattle.ftp_base.specs.Net.{same_ip, is_v6}
-use Rattle.ftp_options.specs.declared.options.Options.{Options}
-use Rattle.ftp_options.specs.Modes.{is_legacy, is_pooled}
-use Rattle.ftp_transfer.specs.declared.job.Job.{Job}
-use Rattle.ftp_events.specs.declared.action.Action.{Action}
+use Rattle.ftp_base.specs.Net.{is_v6}
+use Rattle.ftp_options.specs.Modes.{is_pooled}
 use Rattle.ftp_events.specs.declared.action.Action.TheVariants.{Close}
-use Rattle.ftp_events.specs.declared.decision.Decision.{Decision}
 use Rattle.ftp_events.specs.declared.decision.Decision.TheVariants as decision
-use Rattle.ftp_events.specs.declared.entry.Entry.{Entry}
-use Rattle.ftp_events.specs.declared.event.EventKind.{EventKind}
 use Rattle.ftp_events.specs.declared.event.EventKind.TheVariants as kind
-use Rattle.ftp_events.specs.declared.event.Answer.{Answer}
-use Rattle.ftp_events.specs.declared.session.Opening.{Opening}
-use Rattle.ftp_events.specs.declared.session.Session.{Session}
-use Rattle.ftp_events.specs.Words.{is_number}
 use Rattle.ftp_events.specs.Modes.{in_range}
-use Rattle.ftp_events.specs.Log.{past_of, is_refusal, is_used, new_number, named_session}
-use Rattle.ftp_events.specs.Opening.{opened_number, opening_by, opener}
-use Rattle.ftp_events.specs.Board.{Target, target, granted_port, is_client, gives_hold, comes_to, ends_hold, holder, first_free_port}
-use Rattle.ftp_events.specs.History.{subject}
-use Rattle.ftp_events.specs.Session.{session, running_job}
+use Rattle.ftp_events.specs.Board.{first_free_port}
 use Rattle.ftp_events.specs.ConnectionRows.{arrival_row, holder_row}
 use Rattle.ftp_events.specs.CommandRows.{is_logged_in}
-use Rattle.ftp_events.specs.Decide.{due, decide}
-use Rattle.ftp_events.specs.Acts.{acts, acts_of, acts_for, completions, stays, drop_acts, slot_of, pending_in, refused_link, notice_and_reply, start_acts, starting, farewells}
-use Rattle.ftp_events.specs.Right.{IsRight, IsActed}
+use Rattle.ftp_events.specs.Acts.{notice_and_reply, farewells}
 use Rattle.ftp_events.specs.Headline.{is_barred, is_admitted, IsClosed, AttachedOrClosed, GrantedOrFull, AllServed}
-use Rattle.ftp_laws.proofs.Laws.{counting-refused, counting-counts, session-told}
+use Rattle.ftp_events.specs.History.{Nobody, One, All}
+use Rattle.ftp_laws.proofs.Common.{Subject, subject_acts, IpAddr, same_ip, Options, is_legacy, Running, Action, Decision, Entry, EventKind, Answer, Opening, Session, is_number, past_of, is_refusal, is_used, new_number, named_session, opened_number, opening_by, opener, Target, target, granted_port, is_client, gives_hold, comes_to, ends_hold, holder, subject, session, running_job, due, decide, acts, acts_of, acts_for, completions, stays, drop_acts, slot_of, pending_in, refused_link, start_acts, starting, IsRight, IsActed}
+use Rattle.ftp_laws.proofs.Subjects.{no-stop, not-all}
+use Rattle.ftp_laws.proofs.Laws.{session-told}
 use Rattle.ftp_laws.proofs.Grants.{granted-is, granted-free}
 use Rattle.ftp_laws.proofs.Holds.{WaitsFor, holder-waits}
+use Rattle.ftp_laws.proofs.Entries.{right-past}
 
 -- a new connection that is turned away is closed
 pub closes-link :
@@ -62,7 +49,7 @@ acts-close o past e s n h =
     let k = e.event.kind in
     let d = e.decision in
     let v : Option Session = session o past s in
-    let job : Option Job = running_job o past s in
+    let job : Option Running = running_job o past s in
     in-third (completions k d (stays d v)) (drop_acts s (stays d v) d (slot_of v) (pending_in v)) (refused_link k d) (option_map_or (notice_and_reply o s k e.answer d job) v []) (start_acts (option_and_then (starting k d job) v)) (farewells s d) (Close n) h
 
 -- and where it is not
@@ -71,16 +58,17 @@ pub turned-closes :
     e.decision ≡ decision.Turned →
     new_number e.event.kind decision.Turned ≡ Some n →
     Contains (acts_of o past e) (Close n)
-turned-closes o past e n d w = subst (λ (x : Decision). Contains (cond (is_refusal x) [] (option_map_or (acts_for o past e) (subject o past e) (refused_link e.event.kind x))) (Close n)) (sym d) (go (subject o past e))
+turned-closes o past e n d w = subst (λ (xs : List Action). Contains xs (Close n)) (sym (rw d refl)) (go (subject o past e) refl)
   where
     closed : Contains (refused_link e.event.kind decision.Turned) (Close n)
     closed = closes-link e.event.kind n w
 
     go :
-        (s : Option ℕ) →
-        Contains (option_map_or (acts_for o past e) s (refused_link e.event.kind decision.Turned)) (Close n)
-    go None = closed
-    go (Some s) = acts-close o past e s n (subst (λ (x : Decision). Contains (refused_link e.event.kind x) (Close n)) (sym d) closed)
+        (s : Subject) → subject o past e ≡ s →
+        Contains (subject_acts o past e s) (Close n)
+    go All h = absurd (not-all o past e (no-stop e.decision) h)
+    go Nobody h = subst (λ (x : Decision). Contains (refused_link e.event.kind x) (Close n)) (sym d) closed
+    go (One s) h = acts-close o past e s n (subst (λ (x : Decision). Contains (refused_link e.event.kind x) (Close n)) (sym d) closed)
 
 -- what is decided on a connection for a key: it is attached to the holder, or turned away
 abbrev pub Goes : Options → List Entry → Decision → IpAddr → ℕ → Type 0
@@ -188,38 +176,29 @@ pub holder-ranged :
     (a : IpAddr) (p s : ℕ) →
     holder o (past_of log) a p ≡ Some s →
     in_range o p ≡ true
-unfolding decide
-holder-ranged o [] r a p s held = cc
-holder-ranged o (e ∷ log) r a p s held = go (is_refusal e.decision) refl (λ h. holder-ranged o log r.0 a p s h)
+holder-ranged o log r =
+    right-past o (λ past. (a : IpAddr) (p s : ℕ) → holder o past a p ≡ Some s → in_range o p ≡ true) (λ a p s held. cc)
+    (λ log e comes ih a p s held. by_grant (past_of log) e comes.fit a p s (gives_hold o (past_of log) e a p) refl held (ih a p s))
+    log r
   where
-    past : List Entry
-    past = past_of log
-
-    stayed : (b c : Bool) (h : Option ℕ) → cond b None (cond c None h) ≡ Some s → h ≡ Some s
-    stayed false false h x = x
-    stayed false true h x = cc
-    stayed true c h x = cc
+    stayed : (b c : Bool) (h : Option ℕ) (s : ℕ) → cond b None (cond c None h) ≡ Some s → h ≡ Some s
+    stayed false false h s x = x
+    stayed false true h s x = cc
+    stayed true c h s x = cc
 
     by_grant :
-        (b : Bool) → gives_hold o past e a p ≡ b →
+        (past : List Entry) (e : Entry) → e.decision ≡ due o past e.event.at e.event.kind e.answer →
+        (a : IpAddr) (p s : ℕ) (b : Bool) → gives_hold o past e a p ≡ b →
         cond b (named_session e.event.kind)
         (cond (comes_to o e a p) None (cond (option_map_or (ends_hold e) (holder o past a p) false) None (holder o past a p))) ≡ Some s →
         (holder o past a p ≡ Some s → in_range o p ≡ true) →
         in_range o p ≡ true
-    by_grant true g h ih =
+    by_grant past e fit a p s true g h ih =
         let grants : Bool = is_number (granted_port e.decision) p in
         let comes_from : Bool = is_client past (named_session e.event.kind) a in
         let parts = and_parts grants comes_from (and_parts (not (is_legacy o.mode)) (grants && comes_from) g).1 in
-        (granted-free o past e.event.at e.event.kind e.answer p (sym r.1 ∙ granted-is e.decision p parts.0)).ranged
-    by_grant false g h ih = ih (stayed (comes_to o e a p) (option_map_or (ends_hold e) (holder o past a p) false) (holder o past a p) h)
-
-    go :
-        (b : Bool) → is_refusal e.decision ≡ b →
-        (holder o past a p ≡ Some s → in_range o p ≡ true) →
-        in_range o p ≡ true
-    go true x ih = ih (subst (λ (l : List Entry). holder o l a p ≡ Some s) (counting-refused e log x) held)
-    go false x ih =
-        by_grant (gives_hold o past e a p) refl (subst (λ (l : List Entry). holder o l a p ≡ Some s) (counting-counts e log x) held) ih
+        (granted-free o past e.event.at e.event.kind e.answer p (sym fit ∙ granted-is e.decision p parts.0)).ranged
+    by_grant past e fit a p s false g h ih = ih (stayed (comes_to o e a p) (option_map_or (ends_hold e) (holder o past a p) false) (holder o past a p) s h)
 
 -- a data connection to a key that is held goes to its holder
 pub arrival_row-held :

@@ -3,24 +3,16 @@ use Rattle.std.proofs.Common.{◌≡◌, refl, sym, ◌∙◌, ap, subst, ℕ, B
 use Rattle.std.specs.Prelude.{◌==◌}
 use Rattle.std.specs.Option.{option_map_or}
 use Rattle.std.proofs.Math.Bool.{and_comm}
-use Rattle.ftp_base.specs.declared.net.IpAddr.{IpAddr}
-use Rattle.ftp_base.specs.Net.{same_ip}
-use Rattle.ftp_options.specs.declared.options.Options.{Options}
-use Rattle.ftp_options.specs.Modes.{is_legacy}
 use Rattle.ftp_events.specs.declared.decision.Decision.TheVariants.{Granted}
-use Rattle.ftp_events.specs.declared.entry.Entry.{Entry}
-use Rattle.ftp_events.specs.declared.session.Session.{Session}
-use Rattle.ftp_events.specs.Words.{is_number}
-use Rattle.ftp_events.specs.Log.{named_session}
-use Rattle.ftp_events.specs.Opening.{opened_number}
-use Rattle.ftp_events.specs.Board.{Target, target, granted_port, gives_hold, ends_hold, gives_up_hold, holder}
-use Rattle.ftp_events.specs.History.{subject, concerns, opens}
-use Rattle.ftp_events.specs.Session.{lives_on, session, running_job, next_lane}
+use Rattle.ftp_events.specs.Session.{next_lane}
+use Rattle.ftp_events.specs.History.{One, one_or_nobody}
+use Rattle.ftp_laws.proofs.Common.{IpAddr, same_ip, Options, is_legacy, Entry, Session, is_number, named_session, opened_number, Target, target, granted_port, gives_hold, ends_hold, gives_up_hold, holder, subject, concerns, opens, lives_on, session, running_job}
+use Rattle.ftp_laws.proofs.Subjects.{one-concerns, no-stop, ends-plain, subject-plain}
 use Rattle.ftp_laws.proofs.Laws.{session-own, session-other, session_by, session-told, running-own, running-other}
 
 -- an entry about session s, which opens no session
 pub record IsAbout (o : Options) (past : List Entry) (e : Entry) (s : ℕ) : Type 0 where
-  pub subject_is : subject o past e ≡ Some s
+  pub subject_is : subject o past e ≡ One s
   pub unopened : opened_number e.event.kind e.decision ≡ None
 
 -- such an entry opens no number
@@ -33,7 +25,7 @@ about-opens o past e s q n = rw n.unopened refl
 pub about-concerns :
     (o : Options) (past : List Entry) (e : Entry) (s q : ℕ) →
     IsAbout o past e s → concerns o past e q ≡ (s == q)
-about-concerns o past e s q n = rw n.subject_is refl
+about-concerns o past e s q n = one-concerns o past e s q n.subject_is
 
 -- the sessions after it
 pub session-about :
@@ -106,7 +98,7 @@ pub given-up :
     cond (option_map_or (ends_hold e) before false) None before ≡ cond (gives_up_hold e.decision && is_number before s) None before
 given-up o e s n None = sym (same-both (gives_up_hold e.decision && false) None)
 given-up o e s n (Some h) =
-    let ends : ends_hold e h ≡ (gives_up_hold e.decision && (h == s)) = rw (n.named, eq-comm s h) (and_comm (h == s) (gives_up_hold e.decision)) in
+    let ends : ends_hold e h ≡ (gives_up_hold e.decision && (h == s)) = ends-plain e h (no-stop e.decision) ∙ rw (n.named, eq-comm s h) (and_comm (h == s) (gives_up_hold e.decision)) in
     ap (λ b. cond b None (Some h)) ends
 
 -- the holders after an entry that names session s and grants nothing
@@ -140,7 +132,7 @@ pub arrival-about :
     opened_number e.event.kind e.decision ≡ None →
     holder o past t.client t.port ≡ Some s →
     IsAbout o past e s
-arrival-about o past e t s n u h = record { subject_is = rw (n.unnamed, n.to) h; unopened = u }
+arrival-about o past e t s n u h = record { subject_is = subject-plain o past e (no-stop e.decision) ∙ rw (n.unnamed, n.to) (ap one_or_nobody h); unopened = u }
 
 -- an entry that names nobody ends no hold by itself
 pub unnamed-ends :
@@ -148,7 +140,9 @@ pub unnamed-ends :
     named_session e.event.kind ≡ None →
     cond (option_map_or (ends_hold e) before false) None before ≡ before
 unnamed-ends e None n = same-both (option_map_or (ends_hold e) None false) None
-unnamed-ends e (Some h) n = rw n refl
+unnamed-ends e (Some h) n =
+    let ends : ends_hold e h ≡ false = ends-plain e h (no-stop e.decision) ∙ rw n refl in
+    ap (λ b. cond b None (Some h)) ends
 
 -- the holders after a data connection: its key is free, whatever was decided
 pub holder-arrived :

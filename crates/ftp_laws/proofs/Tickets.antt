@@ -1,30 +1,18 @@
 -- What an entry makes of a transfer that waits or runs.
-use Rattle.std.proofs.Common.{◌≡◌, refl, ap, ap₂, ℕ, ◌+◌, Bool, true, false, cond, List, [], ◌∷◌, ◌++◌, Option, Some, None, arith, eqb-true}
+use Rattle.std.proofs.Common.{◌≡◌, refl, sym, ◌∙◌, ap, ap₂, ℕ, ◌+◌, Bool, true, false, cond, List, [], ◌∷◌, ◌++◌, Option, Some, None, arith, eqb-true}
 use Rattle.std.specs.Prelude.{◌==◌, count_by}
 use Rattle.std.proofs.lemmas.Bool.{and_parts}
-use Rattle.ftp_options.specs.declared.options.Options.{Options}
-use Rattle.ftp_transfer.specs.declared.job.Job.{Job}
-use Rattle.ftp_transfer.specs.declared.job.Ticket.{Ticket}
-use Rattle.ftp_events.specs.declared.action.Action.{Action}
 use Rattle.ftp_events.specs.declared.action.Action.TheVariants as action
-use Rattle.ftp_events.specs.declared.decision.Decision.{Decision}
 use Rattle.ftp_events.specs.declared.decision.Decision.TheVariants as decision
-use Rattle.ftp_events.specs.declared.entry.Entry.{Entry}
-use Rattle.ftp_events.specs.declared.event.EventKind.{EventKind}
+use Rattle.ftp_events.specs.declared.decision.SlotMove.TheVariants.{Awaits, Links, Queues, Finishes}
 use Rattle.ftp_events.specs.declared.event.EventKind.TheVariants as kind
-use Rattle.ftp_events.specs.declared.event.Answer.{Answer}
-use Rattle.ftp_events.specs.declared.session.Pending.{Pending}
-use Rattle.ftp_events.specs.declared.session.Slot.{Slot}
 use Rattle.ftp_events.specs.declared.session.Slot.TheVariants.{Empty, Waits, Linked}
-use Rattle.ftp_events.specs.Log.{new_number}
-use Rattle.ftp_events.specs.Slot.{Lane, with_link, drops, lane_of, lane_after}
-use Rattle.ftp_events.specs.Session.{running_job}
 use Rattle.ftp_events.specs.Transfer.{same_ticket}
 use Rattle.ftp_events.specs.EndRows.{outcome_row, end_row}
-use Rattle.ftp_events.specs.Decide.{due}
-use Rattle.ftp_events.specs.Acts.{completions, cancellations, closings, link_in, drop_acts, start_acts}
-use Rattle.ftp_events.specs.Fate.{is_running, is_pending}
-use Rattle.ftp_laws.specs.Fates.{queues, settles}
+use Rattle.ftp_events.specs.Fate.{is_running}
+use Rattle.ftp_laws.proofs.Common.{SlotMove, slot_move, empties, moved, Options, Running, Ticket, Action, Decision, Entry, EventKind, Answer, Pending, Slot, new_number, Lane, with_link, drops, lane_of, lane_after, running_job, due, completions, cancellations, closings, link_in, drop_acts, start_acts, is_pending}
+use Rattle.ftp_laws.specs.Fates.{queues, queues_it, settles}
+use Rattle.ftp_laws.proofs.Classes.{finishes-is}
 use Rattle.ftp_laws.proofs.Counts.{IsOnTransfers, count-append, count-closings}
 
 -- tickets that are the same are equal
@@ -47,7 +35,7 @@ carried t l = one (is_running t l.running) + one (is_pending t l.pending)
 
 -- a job that starts is carried as before
 pub lane_of-carried :
-    (t : Ticket) (slot : Slot) (pending : Option Pending) (running : Option Job) →
+    (t : Ticket) (slot : Slot) (pending : Option Pending) (running : Option Running) →
     carried t (lane_of slot pending running) ≡ one (is_running t running) + one (is_pending t pending)
 lane_of-carried t (Linked n) (Some p) None = omega arith
 lane_of-carried t (Linked n) (Some p) (Some j) = refl
@@ -71,10 +59,10 @@ settles-on-cancelled t = record { plain = settles-on-transfers t; cancelled = λ
 
 -- a job that starts does not count
 pub count-start_acts :
-    (t : Ticket) (p : Action → Bool) (job : Option Job) → IsOnCancelled t p →
+    (t : Ticket) (p : Action → Bool) (job : Option Running) → IsOnCancelled t p →
     count_by p (start_acts job) ≡ 0
 count-start_acts t p None c = refl
-count-start_acts t p (Some j) c = rw (c.started j.ticket j.number) refl
+count-start_acts t p (Some j) c = rw (c.started j.job.ticket j.job.number) refl
 
 -- a transfer that is dropped counts
 pub count-cancellations :
@@ -117,10 +105,14 @@ pub settles-other :
 settles-other t (kind.End ticket) decision.Finished delivered h = rw (h ticket refl) refl
 settles-other t k d delivered h = refl
 
+-- the move that ends a job
+abbrev pub finishes : SlotMove → Bool
+finishes Finishes = true
+finishes _ = false
+
 -- a job has ended
 abbrev pub is_finished : Decision → Bool
-is_finished decision.Finished = true
-is_finished _ = false
+is_finished d = finishes (slot_move d)
 
 -- no other decision completes a transfer
 pub settles-unfinished :
@@ -134,9 +126,9 @@ settles-unfinished t k d delivered f = refl
 pub record IsEnd (o : Options) (past : List Entry) (k : EventKind) : Type 0 where
   pub ticket : Ticket
   pub kind_is : k ≡ kind.End ticket
-  pub job : Job
+  pub job : Running
   pub ran : running_job o past ticket.session ≡ Some job
-  pub same : job.ticket ≡ ticket
+  pub same : job.job.ticket ≡ ticket
 
 -- only the end of a job that ran is decided as one
 pub finished-known :
@@ -146,27 +138,27 @@ pub finished-known :
 finished-known o past at (kind.End ticket) answer e = by_job (running_job o past ticket.session) refl e
   where
     by_ticket :
-        (j : Job) (b : Bool) →
+        (j : Running) (b : Bool) →
         running_job o past ticket.session ≡ Some j →
-        same_ticket j.ticket ticket ≡ b →
-        cond b (outcome_row j answer) decision.UnknownNumber ≡ decision.Finished →
+        same_ticket j.job.ticket ticket ≡ b →
+        cond b (outcome_row j.job answer) decision.UnknownNumber ≡ decision.Finished →
         IsEnd o past (kind.End ticket)
-    by_ticket j true x y h = record { ticket = ticket; kind_is = refl; job = j; ran = x; same = same_ticket-equal j.ticket ticket y }
+    by_ticket j true x y h = record { ticket = ticket; kind_is = refl; job = j; ran = x; same = same_ticket-equal j.job.ticket ticket y }
     by_ticket j false x y h = cc
 
     by_job :
-        (j : Option Job) →
+        (j : Option Running) →
         running_job o past ticket.session ≡ j →
         end_row ticket answer j ≡ decision.Finished →
         IsEnd o past (kind.End ticket)
     by_job None x h = cc
-    by_job (Some j) x h = by_ticket j (same_ticket j.ticket ticket) x refl h
+    by_job (Some j) x h = by_ticket j (same_ticket j.job.ticket ticket) x refl h
 finished-known o past at k answer e = grind arith
 
 -- what an entry needs, so that no transfer is lost or doubled: one that queues finds a free slot, one that ends a job names it
-pub record IsFit (k : EventKind) (d : Decision) (queued : Option Pending) (l : Lane) : Type 0 where
-  pub queue : (ticket : Ticket) → d ≡ decision.Queued ticket → (l.pending ≡ None) × ((p : Pending) × (queued ≡ Some p) × (p.ticket ≡ ticket))
-  pub end : d ≡ decision.Finished → (ticket : Ticket) × (k ≡ kind.End ticket) × ((j : Job) × (l.running ≡ Some j) × (j.ticket ≡ ticket))
+pub record IsFit (k : EventKind) (m : SlotMove) (queued : Option Pending) (l : Lane) : Type 0 where
+  pub queue : (ticket : Ticket) → m ≡ Queues ticket → (l.pending ≡ None) × ((p : Pending) × (queued ≡ Some p) × (p.ticket ≡ ticket))
+  pub end : m ≡ Finishes → (ticket : Ticket) × (k ≡ kind.End ticket) × ((j : Running) × (l.running ≡ Some j) × (j.job.ticket ≡ ticket))
 
 -- how often a transfer is settled with a slot and a job
 abbrev pub lost : Ticket → ℕ → Bool → EventKind → Decision → Lane → ℕ
@@ -180,21 +172,28 @@ pub drop-balance :
 drop-balance t true l = omega arith
 drop-balance t false l = omega arith
 
--- what was carried or is queued is carried or settled
-pub lane-balance :
-    (t : Ticket) (s : ℕ) (staying : Bool) (k : EventKind) (d : Decision) (queued : Option Pending) (l : Lane) →
-    IsFit k d queued l →
-    carried t (lane_after k d queued l) + lost t s staying k d l ≡ carried t l + one (queues t d)
-lane-balance t s staying k (decision.Queued ticket) queued l fit =
+-- what was carried or is queued is carried, dropped or ended
+pub move-balance :
+    (t : Ticket) (k : EventKind) (m : SlotMove) (number : Option ℕ) (queued : Option Pending) (l : Lane) →
+    IsFit k m queued l →
+    carried t (moved m number queued l) + cond (empties m l.slot) (one (is_pending t l.pending)) 0 + cond (finishes m) (one (is_running t l.running)) 0
+    ≡ carried t l + one (queues_it t m)
+move-balance t k (Queues ticket) number queued l fit =
     let q = fit.queue ticket refl in
     let before : is_pending t l.pending ≡ false = rw q.0 refl in
     let after : is_pending t queued ≡ same_ticket ticket t = rw (q.1.1, q.1.2) refl in
-    omega (arith, lane_of-carried t l.slot queued l.running, ap one before, ap one after, settles-drop_acts t s staying (decision.Queued ticket) l.slot l.pending, settles-unfinished t k (decision.Queued ticket) staying refl)
-lane-balance t s staying k decision.Finished queued l fit =
-    let e = fit.end refl in
-    let ran : is_running t l.running ≡ same_ticket e.0 t = rw (e.2.1, e.2.2) refl in
-    let told : count_by (settles t) (completions k decision.Finished staying) ≡ one (same_ticket e.0 t) = rw e.1 (told-one e.0) in
-    omega (arith, lane_of-carried t l.slot l.pending None, ap one ran, told, settles-drop_acts t s staying decision.Finished l.slot l.pending)
+    omega (arith, lane_of-carried t l.slot queued l.running, ap one before, ap one after)
+move-balance t k Finishes number queued l fit = omega (arith, lane_of-carried t l.slot l.pending None)
+move-balance t k Links number queued l fit = omega (arith, lane_of-carried t (with_link l.slot number) l.pending l.running)
+move-balance t k (Awaits port) number queued l fit = omega arith
+move-balance t k m number queued l fit = omega (arith, drop-balance t (empties m l.slot) l)
+
+-- an end settles the transfer that ran
+pub settles-completions :
+    (t : Ticket) (k : EventKind) (d : Decision) (staying : Bool) (queued : Option Pending) (l : Lane) →
+    IsFit k (slot_move d) queued l →
+    count_by (settles t) (completions k d staying) ≡ cond (finishes (slot_move d)) (one (is_running t l.running)) 0
+settles-completions t k d staying queued l fit = go (slot_move d) refl
   where
     told-one :
         (ticket : Ticket) →
@@ -206,10 +205,26 @@ lane-balance t s staying k decision.Finished queued l fit =
             count_by (settles t) (action.Completed ticket staying ∷ []) ≡ one b
         go true x = rw x refl
         go false x = rw x refl
-lane-balance t s staying k (decision.Attached h) queued l fit =
-    omega (arith, lane_of-carried t (with_link l.slot (new_number k (decision.Attached h))) l.pending l.running, settles-drop_acts t s staying (decision.Attached h) l.slot l.pending, settles-unfinished t k (decision.Attached h) staying refl)
-lane-balance t s staying k (decision.Granted port) queued l fit = omega (arith, settles-drop_acts t s staying (decision.Granted port) l.slot l.pending, settles-unfinished t k (decision.Granted port) staying refl)
+
+    go :
+        (m : SlotMove) → slot_move d ≡ m →
+        count_by (settles t) (completions k d staying) ≡ cond (finishes m) (one (is_running t l.running)) 0
+    go Finishes x =
+        let e = fit.end x in
+        let ran : is_running t l.running ≡ same_ticket e.0 t = rw (e.2.1, e.2.2) refl in
+        let told : count_by (settles t) (completions k d staying) ≡ one (same_ticket e.0 t) = rw (finishes-is d x, e.1) (told-one e.0) in
+        told ∙ sym (ap one ran)
+    go m x = settles-unfinished t k d staying (ap finishes x)
+
+-- so it is carried or settled
+pub lane-balance :
+    (t : Ticket) (s : ℕ) (staying : Bool) (k : EventKind) (d : Decision) (queued : Option Pending) (l : Lane) →
+    IsFit k (slot_move d) queued l →
+    carried t (lane_after k d queued l) + lost t s staying k d l ≡ carried t l + one (queues t d)
 lane-balance t s staying k d queued l fit =
-    let after : carried t (lane_after k d queued l) ≡ carried t (record { slot = cond (drops d l.slot) Empty l.slot; pending = cond (drops d l.slot) None l.pending; running = l.running }) = refl in
-    let told : count_by (settles t) (completions k d staying) ≡ 0 = settles-unfinished t k d staying refl in
-    omega (arith, after, told, settles-drop_acts t s staying d l.slot l.pending, drop-balance t (drops d l.slot) l)
+    omega (
+      arith,
+      move-balance t k (slot_move d) (new_number k d) queued l fit,
+      settles-completions t k d staying queued l fit,
+      settles-drop_acts t s staying d l.slot l.pending,
+    )

@@ -1,8 +1,7 @@
 -- How the notifications of a session grow.
 use Rattle.std.proofs.Common.{◌≡◌, refl, sym, ◌∙◌, ap, ap₂, subst, ℕ, zero, suc, ◌+◌, Bool, true, false, true≢false, cond, List, [], ◌∷◌, ◌++◌, map, length, Option, Some, None, arith, append-nil, length-append, inl, inr}
-use Rattle.std.specs.Prelude.{◌⊎◌, count_by, filter_map}
+use Rattle.std.specs.Prelude.{◌⊎◌, count_by, filter_map, unwrap_or}
 use Rattle.std.specs.List.{range_with_len}
-use Rattle.std.specs.Option.{option_map_or}
 use Rattle.std.proofs.lemmas.Option.{same_Some}
 use Rattle.std.proofs.lemmas.List.{map-append}
 use Rattle.std.proofs.lemmas.List.Folds.{list_any-append}
@@ -10,36 +9,28 @@ use Rattle.ftp_base.specs.declared.notice.Notice.{Notice}
 use Rattle.ftp_base.specs.declared.notice.Notice.TheVariants.{Presence, Data}
 use Rattle.ftp_base.specs.declared.notice.DataEvent.TheVariants.{Got, Put}
 use Rattle.ftp_base.specs.declared.notice.PresenceEvent.TheVariants as presence
-use Rattle.ftp_options.specs.declared.options.Options.{Options}
-use Rattle.ftp_transfer.specs.declared.job.Job.{Job}
 use Rattle.ftp_transfer.specs.declared.job.Completion.{Completion}
 use Rattle.ftp_transfer.specs.declared.job.Completion.TheVariants as result
 use Rattle.ftp_transfer.specs.declared.job.Outcome.{Outcome}
-use Rattle.ftp_events.specs.declared.decision.Decision.{Decision}
 use Rattle.ftp_events.specs.declared.decision.Decision.TheVariants as decision
-use Rattle.ftp_events.specs.declared.entry.Entry.{Entry}
-use Rattle.ftp_events.specs.declared.event.EventKind.{EventKind}
-use Rattle.ftp_events.specs.declared.event.Answer.{Answer}
+use Rattle.ftp_events.specs.declared.decision.Life.TheVariants.{Ends}
 use Rattle.ftp_events.specs.declared.event.Answer.TheVariants as answer
-use Rattle.ftp_events.specs.declared.session.Opening.{Opening}
-use Rattle.ftp_events.specs.declared.session.Session.{Session}
-use Rattle.ftp_events.specs.Words.{is_number}
-use Rattle.ftp_events.specs.Log.{past_of, is_refusal, is_used}
-use Rattle.ftp_events.specs.Opening.{opened_number, opener}
-use Rattle.ftp_events.specs.History.{subject, concerns, opens, history}
 use Rattle.ftp_events.specs.Notices.{is_notice_to}
-use Rattle.ftp_events.specs.Session.{lives_on, session, session_by_history, running_job}
+use Rattle.ftp_events.specs.Session.{session_by_history, told_of_life}
 use Rattle.ftp_events.specs.Message.{message_of_outcome}
-use Rattle.ftp_events.specs.Reply.{path_of_job}
-use Rattle.ftp_events.specs.Decide.{due, decide}
-use Rattle.ftp_events.specs.Acts.{acts, acts_of, notice_for}
-use Rattle.ftp_events.specs.Right.{IsRight, IsActed}
+use Rattle.ftp_events.specs.Reply.{path_of_job, message_for}
+use Rattle.ftp_events.specs.Acts.{notice_for, presence_of}
+use Rattle.ftp_events.specs.History.{Nobody}
+use Rattle.ftp_laws.proofs.Common.{Life, life, Options, Running, Decision, Entry, EventKind, Answer, Opening, Session, is_number, past_of, is_refusal, is_used, opened_number, opener, subject, concerns, opens, history, lives_on, session, running_job, due, acts_of, IsRight, IsActed}
+use Rattle.ftp_laws.proofs.Subjects.{nobody-concerns}
 use Rattle.ftp_laws.specs.Notices.{notice_to, notices, is_logged_out, NoneLoggedOut, LastLoggedOut, HasEnded}
 use Rattle.ftp_laws.proofs.Facts.{opened-unused}
 use Rattle.ftp_laws.proofs.Laws.{session-own, session-other, session_by, session-told, opener-other}
 use Rattle.ftp_laws.proofs.Holds.{number-is, opener-used}
 use Rattle.ftp_laws.proofs.Waits.{IsAfter, session-before, opened-subject}
-use Rattle.ftp_laws.proofs.Notices.{length-notices, told_by, told_in, notices-entry}
+use Rattle.ftp_laws.proofs.Notices.{length-notices, under, told_by, told_in, notices-entry}
+use Rattle.ftp_laws.proofs.Entries.{acted-past}
+use Rattle.ftp_laws.proofs.Cases.{by_option, by_part}
 
 -- one number more
 pub range_with_len-more : (a n : ℕ) → range_with_len a (suc n) ≡ range_with_len a n ++ (a + n) ∷ []
@@ -163,7 +154,7 @@ TellsOn n told =
 -- what is told of the end of a job
 pub told_by-finished :
     (path : List ℕ) (outcome : Outcome) (n : ℕ) (c : Completion) →
-    TellsOn n (option_map_or (λ what. (n + 1, what) ∷ []) (notice_for (Some (message_of_outcome path outcome c)) None) [])
+    TellsOn n (under n (notice_for (Some (message_of_outcome path outcome c)) None))
 told_by-finished path outcome n result.Sent = inr (Data (Got path outcome.bytes), refl, refl)
 told_by-finished path outcome n result.Written = inr (Data (Put path outcome.bytes), refl, refl)
 told_by-finished path outcome n result.Listed = inl refl
@@ -173,21 +164,32 @@ told_by-finished path outcome n result.OutOfMemory = inl refl
 
 -- what is told of a session that goes on living
 pub told_by-lives :
-    (k : EventKind) (a : Answer) (d : Decision) (job : Option Job) (v : Session) →
+    (k : EventKind) (a : Answer) (d : Decision) (job : Option Running) (v : Session) →
     lives_on d ≡ true →
     TellsOn v.notices (told_by k a d job (Some v))
-told_by-lives k a decision.LoggedIn job v l = inr (Presence presence.LoggedIn, refl, refl)
-told_by-lives k a decision.Closed job v l = cc
-told_by-lives k (answer.Done outcome) decision.Finished job v l = told_by-finished (path_of_job job) outcome v.notices outcome.result
-told_by-lives k a d job v l = inl refl
+told_by-lives k a d job v l = go (life d) k a d l
+  where
+    go :
+        (x : Life) (k : EventKind) (a : Answer) (d : Decision) →
+        unwrap_or (told_of_life x) true ≡ true →
+        TellsOn v.notices (under v.notices (notice_for (message_for v job k a d) (presence_of x d)))
+    go Ends k a d l = cc
+    go x k a decision.LoggedIn l = inr (Presence presence.LoggedIn, refl, refl)
+    go x k (answer.Done outcome) decision.Finished l = told_by-finished (path_of_job job) outcome v.notices outcome.result
+    go x k a d l = inl refl
 
 -- and of one that ends
 pub told_by-ends :
-    (k : EventKind) (a : Answer) (d : Decision) (job : Option Job) (v : Session) →
+    (k : EventKind) (a : Answer) (d : Decision) (job : Option Running) (v : Session) →
     lives_on d ≡ false →
     told_by k a d job (Some v) ≡ (v.notices + 1, Presence presence.LoggedOut) ∷ []
-told_by-ends k a decision.Closed job v l = refl
-told_by-ends k a d job v l = cc
+told_by-ends k a d job v l = go (life d) l
+  where
+    go :
+        (x : Life) → unwrap_or (told_of_life x) true ≡ false →
+        under v.notices (notice_for (message_for v job k a d) (presence_of x d)) ≡ (v.notices + 1, Presence presence.LoggedOut) ∷ []
+    go Ends l = refl
+    go x l = cc
 
 -- so what is told goes on with the next number, and says nothing of a logout
 pub told-lives :
@@ -250,7 +252,13 @@ pub told-step :
     is_refusal e.decision ≡ false →
     e.actions ≡ acts_of o past e → IsToldOf o past s told →
     IsToldOf o (e ∷ past) s (told ++ filter_map (notice_to s) e.actions)
-told-step o past e s told fit counts acted h = by_opening (opens e s) refl
+told-step o past e s told fit counts acted h =
+    by_part o past e s opened
+    (λ n c.
+    by_option (session o past s)
+    (λ x. subst (IsToldOf o (e ∷ past) s) (nothing (entry ∙ rw (c, x) refl)) (told-ended o past e s told fit n c x h))
+    (λ v x. told-own o past e s v told n c x (entry ∙ rw (c, x) refl) h))
+    (λ n c. subst (IsToldOf o (e ∷ past) s) (nothing (entry ∙ rw c refl)) (told-other o past e s told n c h))
   where
     entry : filter_map (notice_to s) e.actions ≡ cond (concerns o past e s) (told_in o past e s) []
     entry = notices-entry o past e s counts acted
@@ -260,29 +268,13 @@ told-step o past e s told fit counts acted h = by_opening (opens e s) refl
         told ≡ told ++ filter_map (notice_to s) e.actions
     nothing x = sym (append-nil told) ∙ ap (λ m. told ++ m) (sym x)
 
-    by_session :
-        (v : Option Session) → session o past s ≡ v →
-        opens e s ≡ false → concerns o past e s ≡ true →
+    opened :
+        opens e s ≡ true →
         IsToldOf o (e ∷ past) s (told ++ filter_map (notice_to s) e.actions)
-    by_session None x n c =
-        subst (IsToldOf o (e ∷ past) s) (nothing (entry ∙ rw (c, x) refl)) (told-ended o past e s told fit n c x h)
-    by_session (Some v) x n c = told-own o past e s v told n c x (entry ∙ rw (c, x) refl) h
-
-    by_concern :
-        (b : Bool) → concerns o past e s ≡ b →
-        opens e s ≡ false →
-        IsToldOf o (e ∷ past) s (told ++ filter_map (notice_to s) e.actions)
-    by_concern false c n = subst (IsToldOf o (e ∷ past) s) (nothing (entry ∙ rw c refl)) (told-other o past e s told n c h)
-    by_concern true c n = by_session (session o past s) refl n c
-
-    by_opening :
-        (b : Bool) → opens e s ≡ b →
-        IsToldOf o (e ∷ past) s (told ++ filter_map (notice_to s) e.actions)
-    by_opening false n = by_concern (concerns o past e s) refl n
-    by_opening true n =
+    opened n =
         let d : e.decision ≡ decision.Opened = opened-is e.event.kind e.decision s n in
-        let about : subject o past e ≡ None = opened-subject o past e.event.at e.event.kind e.answer (sym fit ∙ d) in
-        let silent : filter_map (notice_to s) e.actions ≡ [] = entry ∙ ap (λ (m : Option ℕ). cond (is_number m s) (told_in o past e s) []) about in
+        let about : subject o past e ≡ Nobody = opened-subject o past e d (sym fit ∙ d) in
+        let silent : filter_map (notice_to s) e.actions ≡ [] = entry ∙ ap (λ b. cond b (told_in o past e s) []) (nobody-concerns o past e s about) in
         let first : opened_number e.event.kind (due o past e.event.at e.event.kind e.answer) ≡ Some s = subst (λ (x : Decision). opened_number e.event.kind x ≡ Some s) fit (number-is _ s n) in
         let before : told ≡ [] = h.fresh (unused-opener past s (opened-unused o past e.event.at e.event.kind e.answer s first)) in
         subst (IsToldOf o (e ∷ past) s) (sym before ∙ nothing silent) (told-opened o past e s d n silent)
@@ -292,13 +284,7 @@ pub told-log :
     (o : Options) (log : List Entry) (s : ℕ) →
     IsRight o log → IsActed o log →
     IsToldOf o (past_of log) s (notices log s)
-unfolding decide acts
-told-log o [] s r a = told-empty o s
-told-log o (e ∷ log) s r a = go (is_refusal e.decision) refl (told-log o log s r.0 a.0)
-  where
-    go :
-        (b : Bool) → is_refusal e.decision ≡ b →
-        IsToldOf o (past_of log) s (notices log s) →
-        IsToldOf o (past_of (e ∷ log)) s (notices log s ++ filter_map (notice_to s) e.actions)
-    go true x h = rw (x, a.1, x) (subst (IsToldOf o (past_of log) s) (sym (append-nil (notices log s))) h)
-    go false x h = rw x (told-step o (past_of log) e s (notices log s) r.1 x a.1 h)
+told-log o log s r a =
+    acted-past o (λ log past. IsToldOf o past s (notices log s)) (told-empty o s)
+    (λ log e none refused h. subst (IsToldOf o (past_of log) s) (sym (ap (λ xs. notices log s ++ filter_map (notice_to s) xs) none ∙ append-nil (notices log s))) h)
+    (λ log e comes a acted h. told-step o (past_of log) e s (notices log s) comes.fit comes.counts acted h) log r a

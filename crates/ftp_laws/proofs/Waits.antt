@@ -1,46 +1,45 @@
 -- Whoever waits for a port holds it, and when a hold ends.
 use Rattle.std.proofs.Common.{◌≡◌, refl, sym, ◌∙◌, ap, subst, ℕ, Bool, true, false, true≢false, not, ◌&&◌, cond, List, [], ◌∷◌, Option, Some, None, arith, eqb-true, eq-eqb, inl, inr}
 use Rattle.std.specs.Prelude.{◌≢◌, ◌==◌, unwrap_or}
-use Rattle.std.specs.Option.{option_map_or}
+use Rattle.std.specs.Option.{option_map_or, option_or}
 use Rattle.std.proofs.lemmas.Option.{same_Some}
-use Rattle.std.proofs.lemmas.Bool.{and_parts}
-use Rattle.ftp_base.specs.declared.net.IpAddr.{IpAddr}
-use Rattle.ftp_base.specs.Net.{same_ip}
-use Rattle.ftp_options.specs.declared.options.Options.{Options}
-use Rattle.ftp_options.specs.Modes.{is_legacy}
-use Rattle.ftp_transfer.specs.declared.job.Job.{Job}
-use Rattle.ftp_events.specs.declared.entry.Entry.{Entry}
-use Rattle.ftp_events.specs.declared.event.EventKind.{EventKind}
+use Rattle.std.proofs.lemmas.Bool.{and_parts, or_parts}
 use Rattle.ftp_events.specs.declared.event.EventKind.TheVariants as kind
-use Rattle.ftp_events.specs.declared.event.Answer.{Answer}
-use Rattle.ftp_events.specs.declared.decision.Decision.{Decision}
 use Rattle.ftp_events.specs.declared.decision.Decision.TheVariants as decision
-use Rattle.ftp_events.specs.declared.session.Pending.{Pending}
-use Rattle.ftp_events.specs.declared.session.Session.{Session}
-use Rattle.ftp_events.specs.declared.session.Slot.{Slot}
+use Rattle.ftp_events.specs.declared.decision.Life.TheVariants.{Opens, Ends}
+use Rattle.ftp_events.specs.declared.decision.SlotMove.TheVariants.{Awaits}
 use Rattle.ftp_events.specs.declared.session.Slot.TheVariants.{Empty, Waits, Linked}
-use Rattle.ftp_events.specs.Words.{is_number}
-use Rattle.ftp_events.specs.Log.{named_session, is_refusal, past_of}
-use Rattle.ftp_events.specs.Opening.{opened_number, opener}
-use Rattle.ftp_events.specs.Board.{Target, target, granted_port, is_client, gives_hold, comes_to, ends_hold, gives_up_hold, holder}
-use Rattle.ftp_events.specs.History.{subject, concerns, opens, history}
-use Rattle.ftp_events.specs.Slot.{Lane, with_link, waiting_port, lane_after, queued_in}
-use Rattle.ftp_events.specs.Session.{lives_on, life_by, session, session_by_history, is_live, running_job, next_lane, queued_for, lane_in}
-use Rattle.ftp_events.specs.Decide.{due, decide}
-use Rattle.ftp_events.specs.Right.{IsRight}
+use Rattle.ftp_events.specs.Slot.{waiting_port}
+use Rattle.ftp_events.specs.Session.{life_by, told_of_life, session_by_history, is_live, next_lane, queued_for, lane_in}
+use Rattle.ftp_events.specs.History.{Nobody, one_or_nobody}
+use Rattle.ftp_events.specs.Classes.{is_stop}
+use Rattle.ftp_laws.proofs.Common.{meant, holder_of_target, Life, SlotMove, life, slot_move, gives_up, moved, new_number, IpAddr, same_ip, Options, is_legacy, Running, Entry, EventKind, Answer, Decision, Pending, Session, Slot, is_number, named_session, is_refusal, past_of, opened_number, opener, Target, target, granted_port, is_client, gives_hold, comes_to, ends_hold, gives_up_hold, holder, subject, concerns, opens, history, Lane, with_link, lane_after, queued_in, lives_on, session, running_job, due, IsRight}
+use Rattle.ftp_laws.proofs.Subjects.{nobody-concerns, no-stop, subject-plain, concerns-plain, ends-plain, named-concerns, meant-concerns}
+use Rattle.ftp_laws.proofs.Classes.{awaits-is, opens-is}
 use Rattle.ftp_laws.proofs.Facts.{is_connection, named-no_connection}
 use Rattle.ftp_laws.proofs.Grants.{IsGrant, granted-free, granted-is}
-use Rattle.ftp_laws.proofs.Laws.{session-own, session-other, session_by, IsTold, session-told, counting-refused, counting-counts}
+use Rattle.ftp_laws.proofs.Laws.{session-own, session-other, session_by, IsTold, session-told}
 use Rattle.ftp_laws.proofs.Holds.{port-lane, port-kept, touch-free, number-is, or-number, same_ip-equal, WaitsFor, comes-for}
 use Rattle.ftp_laws.proofs.Served.{connection-goes, Goes}
+use Rattle.ftp_laws.proofs.Entries.{right-past}
+use Rattle.ftp_laws.proofs.Cases.{by_part}
 
--- an entry that opens a session is about nobody
-pub opened-subject :
+-- an event that opens a session is meant for nobody
+opened-meant :
     (o : Options) (past : List Entry) (at : ℕ) (k : EventKind) (answer : Answer) →
     due o past at k answer ≡ decision.Opened →
-    subject o past (record { event = record { at = at; kind = k }; answer = answer; decision = decision.Opened; actions = [] }) ≡ None
-opened-subject o past at (kind.Connect s raw local trace) answer e = refl
-opened-subject o past at k answer e = grind arith
+    option_or (named_session k) (holder_of_target o past k answer) ≡ None
+opened-meant o past at (kind.Connect s raw local trace) answer e = refl
+opened-meant o past at k answer e = grind arith
+
+-- so its entry is about nobody
+pub opened-subject :
+    (o : Options) (past : List Entry) (e : Entry) →
+    e.decision ≡ decision.Opened →
+    due o past e.event.at e.event.kind e.answer ≡ decision.Opened →
+    subject o past e ≡ Nobody
+opened-subject o past e d h =
+    subject-plain o past e (ap is_stop d) ∙ ap one_or_nobody (opened-meant o past e.event.at e.event.kind e.answer h)
 
 -- no event that names a session is a data connection
 pub target-unnamed :
@@ -105,9 +104,12 @@ pub record IsAfter (o : Options) (past : List Entry) (e : Entry) (s : ℕ) (v : 
 pub life-given :
     (d : Decision) (b : Bool) → d ≢ decision.Opened →
     unwrap_or (life_by d) b ≡ true → b ≡ true
-life-given decision.Opened b n h = absurd (n refl)
-life-given decision.Closed b n h = cc
-life-given _ b n h = h
+life-given d b n h = go (life d) refl h
+  where
+    go : (l : Life) → life d ≡ l → unwrap_or (told_of_life l) b ≡ true → b ≡ true
+    go Opens x y = absurd (n (opens-is d x))
+    go Ends x y = cc
+    go _ x y = y
 
 -- a session that is live after an entry about it was live before
 pub session-before :
@@ -132,9 +134,8 @@ session-before o past e s v fit n c known =
 
     unopened : e.decision ≢ decision.Opened
     unopened x =
-        let none : subject o past e ≡ None = opened-subject o past e.event.at e.event.kind e.answer (sym fit ∙ x) in
-        let z : is_number None s ≡ true = subst (λ (m : Option ℕ). is_number m s ≡ true) none c in
-        cc
+        let none : subject o past e ≡ Nobody = opened-subject o past e x (sym fit ∙ x) in
+        true≢false (sym c ∙ nobody-concerns o past e s none)
 
     go :
         (w : Session) → session o past s ≡ Some w →
@@ -152,7 +153,7 @@ port-linked (Linked m) n = refl
 
 -- nor does one whose connection was turned away
 pub port-turned :
-    (k : EventKind) (queued : Option Pending) (slot : Slot) (pending : Option Pending) (job : Option Job) →
+    (k : EventKind) (queued : Option Pending) (slot : Slot) (pending : Option Pending) (job : Option Running) →
     waiting_port (lane_after k decision.Turned queued (record { slot = slot; pending = pending; running = job })).slot ≡ None
 port-turned k queued Empty pending job = refl
 port-turned k queued (Waits port) pending job = refl
@@ -175,21 +176,20 @@ port-arrived o past at k answer d t queued l fit c w = cc
 
 -- an opening leaves an empty slot
 pub port-opened :
-    (k : EventKind) (d : Decision) (queued pending : Option Pending) (job : Option Job) (s : ℕ) →
+    (k : EventKind) (d : Decision) (queued pending : Option Pending) (job : Option Running) (s : ℕ) →
     is_number (opened_number k d) s ≡ true →
     waiting_port (lane_after k d queued (record { slot = Empty; pending = pending; running = job })).slot ≡ None
 port-opened k decision.Opened queued pending job s h = refl
 port-opened k _ queued pending job s h = cc
 
--- a waiting slot after an entry that gives up holds is that of a grant
+-- a waiting slot after a move that gives up holds waits for another port
 pub port-given-up :
-    (k : EventKind) (d : Decision) (queued : Option Pending) (l : Lane) (p : ℕ) →
-    gives_up_hold d ≡ true →
-    waiting_port (lane_after k d queued l).slot ≡ Some p →
-    d ≡ decision.Granted p
-port-given-up k (decision.Granted port) queued l p g h = ap decision.Granted (same_Some _ _ h)
-port-given-up k decision.Closed queued l p g h = cc
-port-given-up k _ queued l p g h = cc
+    (m : SlotMove) (number : Option ℕ) (queued : Option Pending) (l : Lane) (p : ℕ) →
+    gives_up m ≡ true →
+    waiting_port (moved m number queued l).slot ≡ Some p →
+    m ≡ Awaits p
+port-given-up (Awaits port) number queued l p g h = ap Awaits (same_Some _ _ h)
+port-given-up m number queued l p g h = cc
 
 -- after an entry that is decided as it has to be, whoever waits for a port holds it
 pub waits-holds-step :
@@ -200,7 +200,7 @@ pub waits-holds-step :
     ((b : IpAddr) (q s : ℕ) → WaitsFor o past s b q → holder o past b q ≡ Some s) →
     (a : IpAddr) (p s : ℕ) → WaitsFor o (e ∷ past) s a p →
     holder o (e ∷ past) a p ≡ Some s
-waits-holds-step o past e m fit counts ih a p s w = by_opening (opens e s) refl
+waits-holds-step o past e m fit counts ih a p s w = by_part o past e s opened own other
   where
     k : EventKind
     k = e.event.kind
@@ -212,8 +212,9 @@ waits-holds-step o past e m fit counts ih a p s w = by_opening (opens e s) refl
         ends_hold e s ≡ c → holder o (e ∷ past) a p ≡ Some s
     unmoved c held false x false y = holder-stays-held o past e a p s held (held-ungranted o past e a p s fit held) x y
     unmoved c held false x true y =
-        let named = number-is _ s (and_parts (is_number (named_session e.event.kind) s) (gives_up_hold e.decision) y).0 in
-        let about : concerns o past e s ≡ true = rw (named, eq-eqb s s refl) refl in
+        let plain : is_stop e.decision ≡ false = (or_parts (is_stop e.decision) (is_number (meant o past e) s) c).0 in
+        let named = number-is _ s (and_parts (is_number (named_session e.event.kind) s) (gives_up_hold e.decision) (sym (ends-plain e s plain) ∙ y)).0 in
+        let about : concerns o past e s ≡ true = named-concerns o past e s named in
         absurd (true≢false (sym about ∙ c))
     unmoved c held true x y z = by_target (target o e.event.kind e.answer) refl x
       where
@@ -227,7 +228,7 @@ waits-holds-step o past e m fit counts ih a p s w = by_opening (opens e s) refl
             let parts = and_parts (same_ip t.client a) (t.port == p) j in
             let client : t.client ≡ a = same_ip-equal _ _ parts.0 in
             let port : t.port ≡ p = eqb-true _ _ parts.1 in
-            let about : concerns o past e s ≡ true = rw (target-unnamed o e.event.kind e.answer t i, i, client, port, held, eq-eqb s s refl) refl in
+            let about : concerns o past e s ≡ true = meant-concerns o past e s (rw (target-unnamed o e.event.kind e.answer t i, i, client, port) held) in
             absurd (true≢false (sym about ∙ c))
 
     by_change :
@@ -238,13 +239,13 @@ waits-holds-step o past e m fit counts ih a p s w = by_opening (opens e s) refl
         (b : Bool) → gives_up_hold e.decision ≡ b →
         holder o (e ∷ past) a p ≡ Some s
     by_change v known n client port true g =
-        let grant : e.decision ≡ decision.Granted p = port-given-up e.event.kind e.decision (queued_for e.decision e.event.kind v) (lane_in v (running_job o past s)) p g port in
+        let grant : e.decision ≡ decision.Granted p = awaits-is e.decision p (port-given-up (slot_move e.decision) (new_number e.event.kind e.decision) (queued_for e.decision e.event.kind v) (lane_in v (running_job o past s)) p g port) in
         rw (m, grant, n, (session-told o past s v known).opening, client, eq-eqb p p refl) refl
     by_change v known n client port false g =
         let plain : is_connection e.decision ≡ false = subst (λ (d : Decision). is_connection d ≡ false) (sym fit) (named-no_connection o past e.event.at e.event.kind e.answer s m n) in
-        let kept : waiting_port (next_lane e.event.kind e.decision (running_job o past s) v).slot ≡ waiting_port v.slot = port-kept e.event.kind e.decision (queued_for e.decision e.event.kind v) (lane_in v (running_job o past s)) (touch-free e.decision v.slot g plain) in
+        let kept : waiting_port (next_lane e.event.kind e.decision (running_job o past s) v).slot ≡ waiting_port v.slot = port-kept (slot_move e.decision) (new_number e.event.kind e.decision) (queued_for e.decision e.event.kind v) (lane_in v (running_job o past s)) (touch-free (slot_move e.decision) v.slot g plain) in
         let held : holder o past a p ≡ Some s = ih a p s (record { view = v; known = known; client = client; port = sym kept ∙ port }) in
-        holder-stays-held o past e a p s held (held-ungranted o past e a p s fit held) (rw (named-target o e.event.kind e.answer s n) refl) (rw (n, g, eq-eqb s s refl) refl)
+        holder-stays-held o past e a p s held (held-ungranted o past e a p s fit held) (rw (named-target o e.event.kind e.answer s n) refl) (ends-plain e s (no-stop e.decision) ∙ rw (n, g, eq-eqb s s refl) refl)
 
     by_name :
         (v : Session) → session o past s ≡ Some v →
@@ -256,27 +257,25 @@ waits-holds-step o past e m fit counts ih a p s w = by_opening (opens e s) refl
         holder o (e ∷ past) a p ≡ Some s
     by_name v known c client port true n = by_change v known (number-is _ s n) client port (gives_up_hold e.decision) refl
     by_name v known c client port false n =
-        let comes = comes-for o past e.event.kind e.answer s (target o e.event.kind e.answer) refl (or-number _ _ s c n) in
+        let comes = comes-for o past e.event.kind e.answer s (target o e.event.kind e.answer) refl (or-number _ _ s (sym (concerns-plain o past e s (no-stop e.decision)) ∙ c) n) in
         let none = port-arrived o past e.event.at e.event.kind e.answer e.decision comes.to (queued_for e.decision e.event.kind v) (lane_in v (running_job o past s)) fit counts comes.target_is in
         let z : None ≡ Some p = sym none ∙ port in
         cc
 
-    by_concern :
-        opens e s ≡ false → (b : Bool) →
-        concerns o past e s ≡ b →
-        holder o (e ∷ past) a p ≡ Some s
-    by_concern n false c =
+    other : opens e s ≡ false → concerns o past e s ≡ false → holder o (e ∷ past) a p ≡ Some s
+    other n c =
         let before : WaitsFor o past s a p = record { view = w.view; known = sym (session-other o past e s n c) ∙ w.known; client = w.client; port = w.port } in
         unmoved c (ih a p s before) (comes_to o e a p) refl (ends_hold e s) refl
-    by_concern n true c =
+
+    own : opens e s ≡ false → concerns o past e s ≡ true → holder o (e ∷ past) a p ≡ Some s
+    own n c =
         let x : IsAfter o past e s w.view = session-before o past e s w.view fit n c w.known in
         let client : same_ip x.before.opening.client a ≡ true = subst (λ (v : Session). same_ip v.opening.client a ≡ true) (sym x.after) w.client in
         let port : waiting_port (next_lane e.event.kind e.decision (running_job o past s) x.before).slot ≡ Some p = subst (λ (v : Session). waiting_port v.slot ≡ Some p) (sym x.after) w.port in
         by_name x.before x.known c client port (is_number (named_session e.event.kind) s) refl
 
-    by_opening : (b : Bool) → opens e s ≡ b → holder o (e ∷ past) a p ≡ Some s
-    by_opening false n = by_concern n (concerns o past e s) refl
-    by_opening true n =
+    opened : opens e s ≡ true → holder o (e ∷ past) a p ≡ Some s
+    opened n =
         let t : IsTold s (history o (e ∷ past) s) (opener (e ∷ past) s) w.view = session-told o (e ∷ past) s w.view w.known in
         let start : history o (e ∷ past) s ≡ e ∷ [] = rw n refl in
         let told : session_by_history s (e ∷ []) w.view.opening ≡ w.view = subst (λ (h : List Entry). session_by_history s h w.view.opening ≡ w.view) start t.told in
@@ -290,13 +289,7 @@ pub waits-holds :
     (a : IpAddr) (p s : ℕ) →
     WaitsFor o (past_of log) s a p →
     holder o (past_of log) a p ≡ Some s
-unfolding decide
-waits-holds o [] m r a p s w = let z : None ≡ Some w.view = w.known in cc
-waits-holds o (e ∷ log) m r a p s w = go (is_refusal e.decision) refl (λ b q t h. waits-holds o log m r.0 b q t h)
-  where
-    go :
-        (b : Bool) → is_refusal e.decision ≡ b →
-        ((b : IpAddr) (q t : ℕ) → WaitsFor o (past_of log) t b q → holder o (past_of log) b q ≡ Some t) →
-        holder o (past_of (e ∷ log)) a p ≡ Some s
-    go true x ih = subst (λ (l : List Entry). holder o l a p ≡ Some s) (sym (counting-refused e log x)) (ih a p s (subst (λ (l : List Entry). WaitsFor o l s a p) (counting-refused e log x) w))
-    go false x ih = subst (λ (l : List Entry). holder o l a p ≡ Some s) (sym (counting-counts e log x)) (waits-holds-step o (past_of log) e m r.1 x ih a p s (subst (λ (l : List Entry). WaitsFor o l s a p) (counting-counts e log x) w))
+waits-holds o log m r =
+    right-past o (λ past. (a : IpAddr) (p s : ℕ) → WaitsFor o past s a p → holder o past a p ≡ Some s)
+    (λ a p s w. let z : None ≡ Some w.view = w.known in cc)
+    (λ log e comes ih a p s w. waits-holds-step o (past_of log) e m comes.fit comes.counts ih a p s w) log r

@@ -5,19 +5,25 @@ use Rattle.ftp_options.specs.declared.options.Options.{Options}
 use Rattle.ftp_transfer.specs.declared.job.Ticket.{Ticket}
 use Rattle.ftp_events.specs.declared.action.Action.{Action}
 use Rattle.ftp_events.specs.declared.decision.Decision.{Decision}
-use Rattle.ftp_events.specs.declared.decision.Decision.TheVariants.{Turned, Granted, Queued, Closed}
+use Rattle.ftp_events.specs.declared.decision.SlotMove.{SlotMove}
+use Rattle.ftp_events.specs.declared.decision.SlotMove.TheVariants.{Empties, EmptiesWaiting, Awaits, Queues}
 use Rattle.ftp_events.specs.declared.entry.Entry.{Entry}
 use Rattle.ftp_events.specs.Words.{total}
+use Rattle.ftp_events.specs.Classes.{slot_move}
 use Rattle.ftp_events.specs.History.{concerns}
 use Rattle.ftp_events.specs.Slot.{drops}
 use Rattle.ftp_events.specs.Session.{session}
 use Rattle.ftp_events.specs.Transfer.{same_ticket}
 use Rattle.ftp_events.specs.Fate.{completes, cancels, is_pending}
 
+-- a move queues the transfer
+abbrev pub queues_it : Ticket → SlotMove → Bool
+queues_it t (Queues ticket) = same_ticket ticket t
+queues_it t _ = false
+
 -- the transfer is queued
 abbrev pub queues : Ticket → Decision → Bool
-queues t (Queued ticket) = same_ticket ticket t
-queues t _ = false
+queues t d = queues_it t (slot_move d)
 
 -- some entry queued it
 abbrev pub was_queued : Ticket → List Entry → Bool
@@ -31,12 +37,16 @@ settles t action = completes t action || cancels t action
 abbrev pub settle_count : Ticket → List Entry → ℕ
 settle_count t log = total (λ e. count_by (settles t) e.actions) log
 
--- the decisions that can cancel a transfer: another grant, a connection that is turned away, and the end of the session
+-- the moves that can cancel a transfer: another grant, a connection that is turned away, and the end of the session
+abbrev pub may_cancel : SlotMove → Bool
+may_cancel (Awaits port) = true
+may_cancel EmptiesWaiting = true
+may_cancel Empties = true
+may_cancel _ = false
+
+-- the decisions that can
 abbrev pub can_cancel : Decision → Bool
-can_cancel (Granted port) = true
-can_cancel Turned = true
-can_cancel Closed = true
-can_cancel _ = false
+can_cancel d = may_cancel (slot_move d)
 
 -- the entry takes from the transfer's live session the slot in which it waits
 abbrev pub LosesSlot : Options → List Entry → Entry → Ticket → Type 0

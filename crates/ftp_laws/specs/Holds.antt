@@ -1,14 +1,14 @@
 -- Who waits for a port, and what ends a hold.
-use Rattle.std.specs.Prelude.{ℕ, ◌≡◌, ◌≢◌, ◌⊎◌, List, Some}
+use Rattle.std.specs.Prelude.{ℕ, ◌≡◌, ◌≢◌, ◌⊎◌, true, List, Some}
 use Rattle.ftp_base.specs.declared.net.IpAddr.{IpAddr}
 use Rattle.ftp_base.specs.declared.net.SocketAddr.{SocketAddr}
 use Rattle.ftp_options.specs.declared.options.Options.{Options}
 use Rattle.ftp_events.specs.declared.decision.Decision.TheVariants.{Granted}
-use Rattle.ftp_events.specs.declared.decision.Decision.TheVariants as decision
 use Rattle.ftp_events.specs.declared.entry.Entry.{Entry}
-use Rattle.ftp_events.specs.declared.event.EventKind.TheVariants.{DataIn, Closed}
+use Rattle.ftp_events.specs.declared.event.EventKind.TheVariants.{DataIn}
 use Rattle.ftp_events.specs.declared.session.Session.{Session}
 use Rattle.ftp_events.specs.declared.session.Slot.TheVariants.{Waits}
+use Rattle.ftp_events.specs.Classes.{is_ending}
 use Rattle.ftp_events.specs.Log.{named_session}
 use Rattle.ftp_events.specs.Session.{session}
 
@@ -25,9 +25,9 @@ ComesTo e a p = (number : ℕ) × (raw : SocketAddr) × (e.event.kind ≡ DataIn
 abbrev pub GrantsAnother : Entry → ℕ → ℕ → Type 0
 GrantsAnother e s p = (q : ℕ) × (q ≢ p) × (e.decision ≡ Granted q) × (named_session e.event.kind ≡ Some s)
 
--- session s ends with its control connection
+-- session s ends by its own event
 abbrev pub EndsSession : Entry → ℕ → Type 0
-EndsSession e s = (e.event.kind ≡ Closed s) × (e.decision ≡ decision.Closed)
+EndsSession e s = (named_session e.event.kind ≡ Some s) × (is_ending e.decision ≡ true)
 
 -- what ends the hold of port p that session s has for client a
 abbrev pub EndsHold : Entry → ℕ → IpAddr → ℕ → Type 0

@@ -5,3 +5,4 @@ pub mod LeadsLemmas
 pub mod RunLemmas
 pub mod SetUpLemmas
 pub mod OutcomeLemmas
+pub mod CleanLemmas

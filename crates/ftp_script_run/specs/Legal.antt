@@ -3,7 +3,7 @@ use Rattle.std.specs.Prelude.{ℕ, ◌≡◌, ◌≤◌, List, [], map as map_li
 use Rattle.std.specs.FinMap as map
 use Rattle.ftp_base.specs.LinkTable.{Numbered}
 use Rattle.ftp_base.specs.Memory.{LinkState, fault_limit, link_fault_limit}
-use Rattle.ftp_base.specs.MemoryStorage.{MemoryState, memory_meaning}
+use Rattle.ftp_base.specs.MemoryStorage.{MemoryState, memory_rule}
 use Rattle.ftp_options.specs.declared.options.Options.{Options}
 use Rattle.ftp_options.specs.Settings.{Settings}
 use Rattle.ftp_options.specs.Builder.{settings_of}
@@ -19,7 +19,7 @@ abbrev pub memory_views : Views MemoryState LinkState
 memory_views =
     record {
       files = λ s. Some s.files;
-      meaning = λ s. memory_meaning s.files s.max_file;
+      rule = λ s. memory_rule s.max_file;
       storage_faults = λ s. s.calls.faults;
       storage_limit = λ s. fault_limit s.calls;
       left = λ l. Some l.left;

@@ -4,3 +4,4 @@ pub mod Legal
 pub mod Statuses
 pub mod Outcome
 pub mod Runs
+pub mod Clean

@@ -4,10 +4,12 @@
 //! Begin with `run_script`.
 #![tactic(auto)]
 
+mod laws;
 mod printing;
 mod run;
 mod script;
 mod status;
 
+pub use laws::taken_transfers_are_done;
 pub use script::run_script;
 pub use status::Status;

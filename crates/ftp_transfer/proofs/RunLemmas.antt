@@ -60,7 +60,7 @@ pub Caused_later : (failure : Completion) (l l' s s' : Type 0) (r r' : ErrorKind
     (before last : Option LinkFault) (m : ℕ) (c : Completion) (f : Option LinkFault) →
     (l → l') → (s → s') → ((x : ErrorKind) → r x → r' x) →
     Caused failure l before last s r m c f → Caused failure l' before last s' r' m c f
-Caused_later failure l l' s s' r r' before last m c f rose rose' refuses (inl (is, h, e)) = inl (is, rose h, e)
+Caused_later failure l l' s s' r r' before last m c f rose rose' refuses (inl (is, h, e, met)) = inl (is, rose h, e, met)
 Caused_later failure l l' s s' r r' before last m c f rose rose' refuses (inr (held, h)) =
     inr (
       held,

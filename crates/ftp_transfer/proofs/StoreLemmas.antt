@@ -9,11 +9,11 @@ use Rattle.ftp_base.specs.declared.error_kind.ErrorKind.TheVariants as kind
 use Rattle.ftp_base.specs.declared.storage.Meta.{Meta}
 use Rattle.ftp_base.specs.declared.storage.StoreError.{StoreError}
 use Rattle.ftp_base.specs.declared.storage.StoreError.TheVariants.{Kind, Failed, OutOfMemory}
-use Rattle.ftp_base.specs.Storage.{Item, Directory, File, Files, Meaning, Metadata, Begin, item, bytes_of, contents, with_file, old_bytes, cut, meta_of, Begins, Refuses}
+use Rattle.ftp_base.specs.Storage.{Item, Directory, File, Files, Meaning, Rule, meaning_of, Metadata, Begin, item, bytes_of, contents, with_file, old_bytes, cut, meta_of, Begins, Refuses}
 use Rattle.ftp_base.proofs.Files.{with_file-with_file, contents-with_file}
 use Rattle.ftp_transfer.specs.declared.job.Outcome.{Outcome}
 use Rattle.ftp_transfer.specs.declared.job.Completion.{Completion}
-use Rattle.ftp_transfer.specs.Run.{RefusedLast, GrowsFront, TakesFront, Stores, append_place, append_refusal}
+use Rattle.ftp_transfer.specs.Run.{RefusedLast, RefusesAppend, RefusesStore, GrowsFront, TakesFront, Stores, append_place, append_refusal}
 use Rattle.ftp_transfer.specs.Turn.{start_after}
 use Rattle.ftp_transfer.proofs.Pieces.{take-plus}
 use Rattle.ftp_transfer.proofs.RunLemmas.{EndsRefused_later}
@@ -97,6 +97,17 @@ Stores-begun (Some f) fs fn path place None o begun within grown = tt
 Stores-begun (Some f) fs fn path place (Some l) o begun within grown =
     (within, inl (put_begun f fn path (cut (old_bytes f path) place) l o.bytes (rw begun at grown)))
 
+-- an append that is refused once the file was begun is refused to the file as it then is
+pub Stores-refused : (f fs fn : Option Files) (rule : Rule) (user path : List ℕ) (place : ℕ) (l later : Option (List ℕ)) (m : ℕ) (k : ErrorKind) →
+    Begins f fs path place →
+    IfSome fs (λ g. IfSome l (λ l. GrowsFront g fn path l m)) →
+    (IsSome fs → RefusesAppend (meaning_of rule fn) user path (option_map (drop m) l) later k) →
+    IfSome f (λ f. RefusesStore rule user f fn path place l later m k)
+Stores-refused None fs fn rule user path place l later m k begun grown refused = tt
+Stores-refused (Some f) fs fn rule user path place None later m k begun grown refused = inr (tt, refused (rw begun refl))
+Stores-refused (Some f) fs fn rule user path place (Some l) later m k begun grown refused =
+    inr (put_begun f fn path (cut (old_bytes f path) place) l m (rw begun at grown), refused (rw begun refl))
+
 length_of : (o : Option Item) (meta : Meta) → IsSomeAnd o (λ i. meta ≡ meta_of i) → meta.len ≡ length (unwrap_or (option_and_then bytes_of o) [])
 length_of None meta h = absurd h
 length_of (Some Directory) meta h = ap (λ (m : Meta). m.len) h
@@ -118,14 +129,14 @@ append_place-start f path refusal (Err Failed) n answer found e = cc
 append_place-start f path refusal (Err OutOfMemory) n answer found e = cc
 
 -- the first call of an APPE after metadata is refused as it would be alone
-pub append_refusal-begin : (told : Option Files) (meaning : Meaning) (user path : List ℕ) (n : ℕ) (P Q : Files → ErrorKind → Type 0) →
+pub append_refusal-begin : (told : Option Files) (rule : Rule) (user path : List ℕ) (n : ℕ) (P Q : Files → ErrorKind → Type 0) →
     ((f : Files) (k : ErrorKind) → P f k → Q f k) →
-    ((f : Files) → told ≡ Some f → append_place (meaning (Metadata user path)) (length (old_bytes f path)) ≡ Some n) →
-    IfSome told (λ f. IfSome (meaning (Begin user path n)) (P f)) →
-    IfSome told (λ f. IfSome (append_refusal meaning user path (length (old_bytes f path))) (Q f))
-append_refusal-begin None meaning user path n P Q turn place h = tt
-append_refusal-begin (Some f) meaning user path n P Q turn place h =
-    rw (place f refl) (IfSome_then (meaning (Begin user path n)) h (turn f))
+    ((f : Files) → told ≡ Some f → append_place (rule f (Metadata user path)) (length (old_bytes f path)) ≡ Some n) →
+    IfSome told (λ f. IfSome (rule f (Begin user path n)) (P f)) →
+    IfSome told (λ f. IfSome (append_refusal (rule f) user path (length (old_bytes f path))) (Q f))
+append_refusal-begin None rule user path n P Q turn place h = tt
+append_refusal-begin (Some f) rule user path n P Q turn place h =
+    rw (place f refl) (IfSome_then (rule f (Begin user path n)) h (turn f))
 
 -- a list has no more elements than itself
 not_longer : (piece left : List ℕ) → 0 < length piece → piece ++ left ≡ left → ⊥

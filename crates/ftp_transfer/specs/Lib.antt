@@ -5,3 +5,4 @@ pub mod Path
 pub mod Listing
 pub mod Duration
 pub mod Ran
+pub mod Uploads

@@ -1,32 +1,32 @@
 -- What a run of a job leaves, by what the storage and the link told before and after it.
-use Rattle.std.specs.Prelude.{◌≡◌, ◌⊎◌, ℕ, ◌+◌, ◌-◌, ◌^◌, ◌<◌, ◌≤◌, true, false, List, [], length, take, drop, Option, Some, None, IsSome, IfSome}
+use Rattle.std.specs.Prelude.{◌≡◌, ◌⊎◌, ℕ, ◌+◌, ◌-◌, ◌^◌, ◌<◌, ◌≤◌, true, false, List, [], length, take, drop, Option, Some, None, IsSome, IfSome, IsSomeAnd}
 use Rattle.std.specs.Option.{option_map}
 use Rattle.ftp_base.specs.declared.command.DataChanCmd.{DataChanCmd}
 use Rattle.ftp_base.specs.declared.command.DataChanCmd.TheVariants as command
 use Rattle.ftp_base.specs.declared.error_kind.ErrorKind.{ErrorKind}
 use Rattle.ftp_base.specs.declared.error_kind.ErrorKind.TheVariants as kind
 use Rattle.ftp_base.specs.Outside.{HasRisen, Writes, Sending}
-use Rattle.ftp_base.specs.Storage.{Files, Meaning, Call, Listing, ReadAt, Begin, get, old_bytes, listing}
+use Rattle.ftp_base.specs.Storage.{Files, Meaning, Rule, meaning_of, Listing, ReadAt, Begin, get, old_bytes, listing}
 use Rattle.ftp_transfer.specs.declared.job.Job.{Job}
 use Rattle.ftp_transfer.specs.declared.job.Outcome.{Outcome}
 use Rattle.ftp_transfer.specs.declared.job.Completion.{Completion}
 use Rattle.ftp_transfer.specs.declared.job.Completion.TheVariants as result
 use Rattle.ftp_transfer.specs.Listing.{listing_text}
-use Rattle.ftp_transfer.specs.Run.{link_failure, Caused, RefusedFirst, RefusedLast, Stores, RefusesStore, Appends, RefusesAppe, append_refusal}
+use Rattle.ftp_transfer.specs.Run.{link_failure, Caused, RefusedFirst, RefusedLast, Stores, RefusesStore, Appends, RefusesAppe, TakesStore, TakesAppe, append_refusal}
 use Rattle.ftp_transfer.specs.Transfer.{is_store}
 
 -- what a storage and a link tell, and their counts of faults
 pub record Told : Type 0 where
   pub files : Option Files
-  pub meaning : Meaning
+  pub rule : Rule
   pub storage_faults : ℕ
   pub left : Option (List ℕ)
   pub sending : Sending
   pub link_faults : ℕ
 
-abbrev pub told : Option Files → Meaning → ℕ → Option (List ℕ) → Sending → ℕ → Told
-told files meaning storage_faults left sending link_faults =
-    record { files = files; meaning = meaning; storage_faults = storage_faults; left = left; sending = sending; link_faults = link_faults }
+abbrev pub told : Option Files → Rule → ℕ → Option (List ℕ) → Sending → ℕ → Told
+told files rule storage_faults left sending link_faults =
+    record { files = files; rule = rule; storage_faults = storage_faults; left = left; sending = sending; link_faults = link_faults }
 
 -- what a command sends whole: a RETR the file from the offset on, a listing its text, and a STOR and an APPE nothing
 abbrev pub due_of : DataChanCmd → Files → List ℕ → ℕ → List ℕ
@@ -57,14 +57,14 @@ abbrev pub RefusesListing : DataChanCmd → Meaning → List ℕ → List ℕ �
 RefusesListing c meaning user path k =
     (refusal : ErrorKind) × (meaning (Listing user path) ≡ Some refusal) × (k ≡ shown_refusal c refusal)
 
--- the storage's meaning refuses a call of the command that counts, before the run or where it ended after m bytes
-abbrev pub Refuses : DataChanCmd → Job → Files → Meaning → Meaning → Option (List ℕ) → Option (List ℕ) → ℕ → ErrorKind → Type 0
-Refuses (command.Retr _) job files old new rest later m k = old (ReadAt job.user job.path (job.offset + m)) ≡ Some k
-Refuses (command.Stor _) job files old new rest later m k =
-    RefusesStore old new job.user job.path job.offset rest later m k
-Refuses (command.Appe _) job files old new rest later m k =
-    RefusesAppe old new job.user job.path (length (old_bytes files job.path)) rest later m k
-Refuses c job files old new rest later m k = RefusesListing c old job.user job.path k
+-- the storage's rule refuses a call of the command that counts, at the files as they were when it was made: those before
+-- the run, or those where it ended after m bytes
+abbrev pub Refuses : DataChanCmd → Job → Rule → Files → Option Files → Option (List ℕ) → Option (List ℕ) → ℕ → ErrorKind → Type 0
+Refuses (command.Retr _) job rule files new input later m k = rule files (ReadAt job.user job.path (job.offset + m)) ≡ Some k
+Refuses (command.Stor _) job rule files new input later m k =
+    RefusesStore rule job.user files new job.path job.offset input later m k
+Refuses (command.Appe _) job rule files new input later m k = RefusesAppe rule job.user files new job.path input later m k
+Refuses c job rule files new input later m k = RefusesListing c (rule files) job.user job.path k
 
 -- how the meaning refuses the first call of the command that counts
 abbrev pub first_refusal : DataChanCmd → Job → Files → Meaning → Option ErrorKind
@@ -81,6 +81,8 @@ IsSentWhole _ = ⊥
 
 -- what a run moved, what it left, and why it ended
 pub record Moves (job : Job) (old new : Told) (outcome : Outcome) : Type 0 where
+  -- which calls the storage refuses by what stands there stays
+  pub rule : new.rule ≡ old.rule
   -- what was sent is the front of what is due, and all of it where the result says so
   pub sent : IfSome old.files (λ f. Writes old.sending.sent new.sending.sent (take outcome.bytes (due job f)))
   pub within : is_store job.command ≡ false → IfSome old.files (λ f. outcome.bytes ≤ length (due job f))
@@ -89,33 +91,46 @@ pub record Moves (job : Job) (old new : Told) (outcome : Outcome) : Type 0 where
   pub silent : is_store job.command ≡ true → new.sending.sent ≡ old.sending.sent
   pub kept : is_store job.command ≡ false → (new.files ≡ old.files) × (new.left ≡ old.left)
   -- what was stored is the front of the input, and all of it where the result says so
-  pub stored : IfSome old.files (λ f. IfSome old.left (λ l. StoresAs job.command job f old.meaning new.files l outcome))
+  pub stored : IfSome old.files (λ f. IfSome old.left (λ l. StoresAs job.command job f (old.rule f) new.files l outcome))
   pub written : outcome.result ≡ result.Written → IfSome old.left (λ l. (outcome.bytes ≡ length l) × (new.left ≡ Some []))
   -- why it ended
   pub cause : Caused (link_failure job.command)
       (HasRisen old.link_faults new.link_faults) old.sending.last_fault new.sending.last_fault
       (HasRisen old.storage_faults new.storage_faults)
-      (λ k. IfSome old.files (λ f. Refuses job.command job f old.meaning new.meaning
-      (option_map (drop outcome.bytes) old.left) new.left outcome.bytes k))
+      (λ k. IfSome old.files (λ f. Refuses job.command job old.rule f new.files old.left new.left outcome.bytes k))
       outcome.bytes outcome.result outcome.fault
   -- a refusal of the first call is the result, and then nothing is stored
-  pub refused : IfSome old.files (λ f. IfSome (first_refusal job.command job f old.meaning) (λ k.
+  pub refused : IfSome old.files (λ f. IfSome (first_refusal job.command job f (old.rule f)) (λ k.
       RefusedFirst (HasRisen old.storage_faults new.storage_faults) k outcome.bytes outcome.result × (new.files ≡ Some f)))
   -- a file was sent to its end only where no read there is refused
-  pub unrefused : outcome.result ≡ result.Sent → IsSome old.files → old.meaning (ReadAt job.user job.path (job.offset + outcome.bytes)) ≡ None
+  pub unrefused : outcome.result ≡ result.Sent → IfSome old.files (λ f. old.rule f (ReadAt job.user job.path (job.offset + outcome.bytes)) ≡ None)
   -- a refusal of the piece that a store took last is the result
   pub refused_last : is_store job.command ≡ true → IsSome old.files →
-      RefusedLast (HasRisen old.storage_faults new.storage_faults) new.meaning job.user job.path
+      RefusedLast (HasRisen old.storage_faults new.storage_faults) (meaning_of old.rule new.files) job.user job.path
       (option_map (drop outcome.bytes) old.left) new.left outcome.result
 
--- a run of a job, after which the link is closed or failed
+-- a run of a job: bytes moved, and then the link was closed or its close failed; what that close met changes nothing
 pub record Ran (job : Job) (old new : Told) (outcome : Outcome) : Type 0 where
-  pub moves : Moves job old new outcome
-  pub closed : (new.sending.closed ≡ true) ⊎ HasRisen old.link_faults new.link_faults
+  -- how many faults the link had counted before its close
+  pub faults : ℕ
+  pub not_before : old.link_faults ≤ faults
+  pub not_after : faults ≤ new.link_faults
+  pub moves : Moves job old (record new { link_faults = faults }) outcome
+  pub closed : (new.sending.closed ≡ true) ⊎ HasRisen faults new.link_faults
 
--- the storage's meaning refuses nothing
-abbrev pub RefusesNothing : Meaning → Type 0
-RefusesNothing meaning = (call : Call) → meaning call ≡ None
+-- the rule refuses none of the calls that a whole transfer of the job makes: the reads at the places that it reaches; to
+-- begin, and the appends of what the link gives, before them the metadata of an APPE; the listing
+abbrev pub Takes : DataChanCmd → Job → Rule → Files → Option (List ℕ) → Type 0
+Takes (command.Retr _) job rule files input =
+    (m : ℕ) → m ≤ length (get (old_bytes files job.path) job.offset) → rule files (ReadAt job.user job.path (job.offset + m)) ≡ None
+Takes (command.Stor _) job rule files input = IsSomeAnd input (TakesStore rule job.user job.path files job.offset)
+Takes (command.Appe _) job rule files input = IsSomeAnd input (TakesAppe rule job.user job.path files)
+Takes c job rule files input = rule files (Listing job.user job.path) ≡ None
+
+-- the rule refuses no call where a run ended
+abbrev pub EndsUnrefused : Job → Files → Told → Told → ℕ → Type 0
+EndsUnrefused job files old new m =
+    (k : ErrorKind) → Refuses job.command job old.rule files new.files old.left new.left m k → ⊥
 
 -- the command did what it was asked for
 abbrev pub IsDone : Completion → Type 0
@@ -124,12 +139,12 @@ IsDone result.Written = Unit {0}
 IsDone result.Listed = Unit {0}
 IsDone _ = ⊥
 
--- nothing was refused, no call failed, memory was found, and the byte count is below its end
-pub record IsClean (old new : Told) (outcome : Outcome) : Type 0 where
-  pub tells : IsSome old.files
-  pub before : RefusesNothing old.meaning
-  pub after : RefusesNothing new.meaning
+-- nothing was refused, no call but the link's close failed, memory was found, and the byte count is below its end
+pub record IsClean (job : Job) (old new : Told) (outcome : Outcome) : Type 0 where
+  -- none of the calls that a whole transfer makes, or none where this one ended
+  pub unrefused : IsSomeAnd old.files (λ f. Takes job.command job old.rule f old.left ⊎ EndsUnrefused job f old new outcome.bytes)
   pub storage : HasRisen old.storage_faults new.storage_faults → ⊥
-  pub link : HasRisen old.link_faults new.link_faults → ⊥
+  -- no read or write of the link failed: that would have left a last fault
+  pub link : HasRisen old.link_faults new.link_faults → IsSome new.sending.last_fault → ⊥
   pub memory : outcome.result ≡ result.OutOfMemory → ⊥
   pub count : outcome.bytes < 2 ^ 64 - 1

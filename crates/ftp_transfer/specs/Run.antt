@@ -1,14 +1,14 @@
 -- What a run of a job sends and stores, and why it ends.
 --   m              how many bytes moved
 --   before, last   what the link's last fault was before the run, and is after it
-use Rattle.std.specs.Prelude.{◌≡◌, ◌⊎◌, ℕ, ◌-◌, ◌^◌, ◌<◌, ◌≤◌, List, ◌++◌, length, take, drop, Option, Some, None, IfSome, IsSomeAnd, MatchOption, if◌then◌else◌}
-use Rattle.std.specs.Option.{option_map_or}
+use Rattle.std.specs.Prelude.{◌≡◌, ◌⊎◌, ℕ, ◌+◌, ◌-◌, ◌^◌, ◌<◌, ◌≤◌, List, ◌++◌, length, take, drop, Option, Some, None, IsSome, IfSome, IsSomeAnd, MatchOption, if◌then◌else◌}
+use Rattle.std.specs.Option.{option_map, option_map_or}
 use Rattle.ftp_base.specs.declared.command.DataChanCmd.{DataChanCmd}
 use Rattle.ftp_base.specs.declared.error_kind.ErrorKind.{ErrorKind}
 use Rattle.ftp_base.specs.declared.error_kind.ErrorKind.TheVariants as kind
 use Rattle.ftp_base.specs.declared.fault.LinkFault.{LinkFault}
 use Rattle.ftp_base.specs.Outside.{Writes}
-use Rattle.ftp_base.specs.Storage.{Files, Meaning, Metadata, Begin, Append, contents, with_file, old_bytes, put}
+use Rattle.ftp_base.specs.Storage.{Files, Meaning, Rule, meaning_of, Metadata, Begin, Append, contents, with_file, old_bytes, put}
 use Rattle.ftp_transfer.specs.declared.job.Outcome.{Outcome}
 use Rattle.ftp_transfer.specs.declared.job.Completion.{Completion}
 use Rattle.ftp_transfer.specs.declared.job.Completion.TheVariants as result
@@ -29,7 +29,7 @@ link_failure c = if is_listing c then result.WriteFailed else result.Refused kin
 
 -- a read or write of the link failed: the result says so, and the fault is what the link met
 abbrev pub LinkFailed : Completion → Type 0 → Option LinkFault → Completion → Option LinkFault → Type 0
-LinkFailed failure link_rose last r fault = (r ≡ failure) × link_rose × (fault ≡ last)
+LinkFailed failure link_rose last r fault = (r ≡ failure) × link_rose × (fault ≡ last) × IsSome fault
 
 -- no read or write of the link failed: there is no fault, and the link met none
 abbrev pub LinkHeld : Option LinkFault → Option LinkFault → Option LinkFault → Type 0
@@ -83,10 +83,16 @@ RefusedLast storage_rose meaning user path rest later r =
     (piece left : List ℕ) (k : ErrorKind) →
     0 < length piece → rest ≡ Some (piece ++ left) → later ≡ Some left → meaning (Append user path piece) ≡ Some k → EndsRefused storage_rose k r
 
--- the storage refuses to begin, or to append what was taken last
-abbrev pub RefusesStore : Meaning → Meaning → List ℕ → List ℕ → ℕ → Option (List ℕ) → Option (List ℕ) → ℕ → ErrorKind → Type 0
-RefusesStore old new user path place rest later m k =
-    ((m ≡ 0) × (old (Begin user path place) ≡ Some k)) ⊎ RefusesAppend new user path rest later k
+-- the files are the old ones, with the first m bytes of the input put at a place of the file at a path
+abbrev pub IsStored : Files → Option Files → List ℕ → ℕ → List ℕ → ℕ → Type 0
+IsStored files new path place input m = new ≡ Some (with_file files path (put (old_bytes files path) place (take m input)))
+
+-- the storage refuses to begin, or to append what was taken last to the file as it then was
+abbrev pub RefusesStore : Rule → List ℕ → Files → Option Files → List ℕ → ℕ → Option (List ℕ) → Option (List ℕ) → ℕ → ErrorKind → Type 0
+RefusesStore rule user files new path place input later m k =
+    ((m ≡ 0) × (rule files (Begin user path place) ≡ Some k))
+    ⊎ (IfSome input (λ l. IsStored files new path place l m)
+    × RefusesAppend (meaning_of rule new) user path (option_map (drop m) input) later k)
 
 -- the storage stopped a job, or memory ran out
 abbrev pub IsStopped : Completion → Type 0
@@ -102,7 +108,7 @@ NotBegun outcome = (outcome.bytes ≡ 0) × (outcome.fault ≡ None) × IsStoppe
 abbrev pub Stores : Files → Option Files → List ℕ → ℕ → List ℕ → Outcome → Type 0
 Stores files new path place input outcome =
     (outcome.bytes ≤ length input)
-    × ((new ≡ Some (with_file files path (put (old_bytes files path) place (take outcome.bytes input))))
+    × (IsStored files new path place input outcome.bytes
     ⊎ ((new ≡ Some files) × NotBegun outcome))
 
 -- where an APPE begins: behind the file, at 0 where there is said to be none, and nowhere after another refusal
@@ -112,10 +118,24 @@ append_place (Some kind.PermanentFileNotAvailable) len = Some 0
 append_place (Some _) len = None
 
 -- the storage refuses metadata, to begin, or to append what was taken last
-abbrev pub RefusesAppe : Meaning → Meaning → List ℕ → List ℕ → ℕ → Option (List ℕ) → Option (List ℕ) → ℕ → ErrorKind → Type 0
-RefusesAppe old new user path len rest later m k =
-    MatchOption (append_place (old (Metadata user path)) len) ((m ≡ 0) × (old (Metadata user path) ≡ Some k))
-    (λ place. RefusesStore old new user path place rest later m k)
+abbrev pub RefusesAppe : Rule → List ℕ → Files → Option Files → List ℕ → Option (List ℕ) → Option (List ℕ) → ℕ → ErrorKind → Type 0
+RefusesAppe rule user files new path input later m k =
+    MatchOption (append_place (rule files (Metadata user path)) (length (old_bytes files path))) ((m ≡ 0) × (rule files (Metadata user path) ≡ Some k))
+    (λ place. RefusesStore rule user files new path place input later m k)
+
+-- the rule refuses no call of a store of the whole input at a place: to begin, and to append the next 1 to 8,192 bytes
+-- to the file as it then is
+pub record TakesStore (rule : Rule) (user path : List ℕ) (files : Files) (place : ℕ) (input : List ℕ) : Type 0 where
+  pub begin : rule files (Begin user path place) ≡ None
+  pub appends :
+      (m n : ℕ) → 0 < n → n ≤ 8192 → m + n ≤ length input →
+      rule (with_file files path (put (old_bytes files path) place (take m input))) (Append user path (take n (drop m input))) ≡ None
+
+-- the same of an APPE, which asks for metadata first
+abbrev pub TakesAppe : Rule → List ℕ → List ℕ → Files → List ℕ → Type 0
+TakesAppe rule user path files input =
+    MatchOption (append_place (rule files (Metadata user path)) (length (old_bytes files path))) ⊥
+    (λ place. TakesStore rule user path files place input)
 
 -- the file is the old one with the first bytes of the input put behind it, or nothing was begun
 abbrev pub Appends : Meaning → List ℕ → Files → Option Files → List ℕ → List ℕ → Outcome → Type 0

@@ -6,6 +6,7 @@
 
 mod duration;
 mod job;
+mod laws;
 mod list;
 mod listing;
 mod path;
@@ -17,6 +18,7 @@ mod turn;
 
 pub use duration::HumanDuration;
 pub use job::{Completion, Job, Outcome, Ticket};
+pub use laws::uploads_are_written;
 pub use listing::format_facts;
 pub use path::join_path;
 pub use transfer::execute;

@@ -2,7 +2,7 @@
 
 ghost use Rattle.std.specs.Prelude.{◌≡◌, ◌≤◌, true, length, Some, IsSome, IfSome};
 ghost use Rattle.ftp_base.specs.Outside.{HasRisen};
-ghost use Rattle.ftp_base.specs.Storage.{Listing, listing};
+ghost use Rattle.ftp_base.specs.Storage.{Listing, meaning_of, listing};
 ghost use Rattle.ftp_transfer.specs.declared.job.Completion.TheVariants as done;
 ghost use Rattle.ftp_transfer.specs.Listing.{listing_text as text_of};
 ghost use Rattle.ftp_transfer.specs.Ran.{RefusesListing, shown_refusal};
@@ -30,13 +30,13 @@ pub fn list<S: Storage, L: Link>(alloc: Global, job: &Job, storage: &mut S, link
     ensures cause { Caused done.WriteFailed
         (HasRisen (L.faults link.old) (L.faults link.new)) (L.sending link.old).last_fault (L.sending link.new).last_fault
         (HasRisen (S.faults storage.old) (S.faults storage.new))
-        (λ k. IsSome (S.files storage.old) → RefusesListing job.now.command (S.meaning storage.old) job.now.user job.now.path k)
+        (λ k. IsSome (S.files storage.old) → RefusesListing job.now.command (meaning_of (S.rule storage.old) (S.files storage.old)) job.now.user job.now.path k)
         result.bytes result.result result.fault }
-    ensures refused { IsSome (S.files storage.old) → IfSome (S.meaning storage.old (Listing job.now.user job.now.path))
+    ensures refused { IsSome (S.files storage.old) → IfSome (meaning_of (S.rule storage.old) (S.files storage.old) (Listing job.now.user job.now.path))
         (λ k. RefusedFirst (HasRisen (S.faults storage.old) (S.faults storage.new)) (shown_refusal job.now.command k) result.bytes result.result) }
 
     ensures files { S.files storage.new ≡ S.files storage.old }
-    ensures meaning { S.meaning storage.new ≡ S.meaning storage.old }
+    ensures rule { S.rule storage.new ≡ S.rule storage.old }
     ensures left { L.left link.new ≡ L.left link.old }
     ensures closed { (L.sending link.new).closed ≡ (L.sending link.old).closed }
     ensures storage_count { S.faults storage.old ≤ S.faults storage.new }

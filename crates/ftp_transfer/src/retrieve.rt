@@ -3,7 +3,7 @@
 ghost use Rattle.std.specs.Prelude.{◌≡◌, ◌+◌, ◌-◌, ◌^◌, ◌<◌, ◌≤◌, true, false, [], length, Some, None, IsSome, IsNone, IfSome};
 ghost use Rattle.ftp_base.specs.declared.error_kind.ErrorKind.TheVariants as kind;
 ghost use Rattle.ftp_base.specs.Outside.{HasRisen};
-ghost use Rattle.ftp_base.specs.Storage.{ReadAt, get, old_bytes};
+ghost use Rattle.ftp_base.specs.Storage.{ReadAt, meaning_of, get, old_bytes};
 ghost use Rattle.ftp_transfer.specs.declared.job.Completion.TheVariants as done;
 ghost use Rattle.ftp_transfer.specs.Turn.{StopsSending};
 ghost use Rattle.ftp_transfer.specs.Run.{SendsFront, Caused, RefusedFirst};
@@ -28,16 +28,16 @@ pub fn retrieve<S: Storage, L: Link>(job: &Job, storage: &mut S, link: &mut L) -
         (HasRisen (L.faults link.old) (L.faults link.new)) (L.sending link.old).last_fault (L.sending link.new).last_fault
         (HasRisen (S.faults storage.old) (S.faults storage.new))
         (λ k. IsSome (S.files storage.old) →
-        S.meaning storage.old (ReadAt job.now.user job.now.path (job.now.offset + result.bytes)) ≡ Some k)
+        meaning_of (S.rule storage.old) (S.files storage.old) (ReadAt job.now.user job.now.path (job.now.offset + result.bytes)) ≡ Some k)
         result.bytes result.result result.fault }
-    ensures refused { IsSome (S.files storage.old) → IfSome (S.meaning storage.old (ReadAt job.now.user job.now.path job.now.offset))
+    ensures refused { IsSome (S.files storage.old) → IfSome (meaning_of (S.rule storage.old) (S.files storage.old) (ReadAt job.now.user job.now.path job.now.offset))
         (λ k. RefusedFirst (HasRisen (S.faults storage.old) (S.faults storage.new)) k result.bytes result.result) }
     ensures unrefused { result.result ≡ done.Sent → IsSome (S.files storage.old) →
-        S.meaning storage.old (ReadAt job.now.user job.now.path (job.now.offset + result.bytes)) ≡ None }
+        meaning_of (S.rule storage.old) (S.files storage.old) (ReadAt job.now.user job.now.path (job.now.offset + result.bytes)) ≡ None }
     ensures no_memory { S.reads_take_memory ≡ false → L.takes_memory ≡ false → result.result ≡ done.OutOfMemory → ⊥ }
 
     ensures files { S.files storage.new ≡ S.files storage.old }
-    ensures meaning { S.meaning storage.new ≡ S.meaning storage.old }
+    ensures rule { S.rule storage.new ≡ S.rule storage.old }
     ensures left { L.left link.new ≡ L.left link.old }
     ensures closed { (L.sending link.new).closed ≡ (L.sending link.old).closed }
     ensures storage_count { S.faults storage.old ≤ S.faults storage.new }
@@ -81,19 +81,19 @@ pub fn send_piece<S: Storage, L: Link>(
         (HasRisen (L.faults link.old) (L.faults link.new)) (L.sending link.old).last_fault (L.sending link.new).last_fault
         (HasRisen (S.faults storage.old) (S.faults storage.new))
         (λ k. IsSome (S.files storage.old) →
-        S.meaning storage.old (ReadAt job.now.user job.now.path (job.now.offset + moved + result.bytes)) ≡ Some k)
+        meaning_of (S.rule storage.old) (S.files storage.old) (ReadAt job.now.user job.now.path (job.now.offset + moved + result.bytes)) ≡ Some k)
         (moved + result.bytes) e.result e.fault) }
     ensures last_fault { IsNone result.end → (L.sending link.new).last_fault ≡ (L.sending link.old).last_fault }
-    ensures goes_on { IsSome (S.files storage.old) → IsNone result.end → S.meaning storage.old (ReadAt job.now.user job.now.path (job.now.offset + moved)) ≡ None }
+    ensures goes_on { IsSome (S.files storage.old) → IsNone result.end → meaning_of (S.rule storage.old) (S.files storage.old) (ReadAt job.now.user job.now.path (job.now.offset + moved)) ≡ None }
     ensures refused { IsSome (S.files storage.old) → moved < 2 ^ 64 - 1 →
-        IfSome (S.meaning storage.old (ReadAt job.now.user job.now.path (job.now.offset + moved)))
+        IfSome (meaning_of (S.rule storage.old) (S.files storage.old) (ReadAt job.now.user job.now.path (job.now.offset + moved)))
         (λ k. IfSome result.end (λ e. RefusedFirst (HasRisen (S.faults storage.old) (S.faults storage.new)) k result.bytes e.result)) }
     ensures unrefused { IfSome result.end (λ e. e.result ≡ done.Sent → IsSome (S.files storage.old) →
-        S.meaning storage.old (ReadAt job.now.user job.now.path (job.now.offset + moved)) ≡ None) }
+        meaning_of (S.rule storage.old) (S.files storage.old) (ReadAt job.now.user job.now.path (job.now.offset + moved)) ≡ None) }
     ensures no_memory { S.reads_take_memory ≡ false → L.takes_memory ≡ false → IfSome result.end (λ e. e.result ≡ done.OutOfMemory → ⊥) }
 
     ensures files { S.files storage.new ≡ S.files storage.old }
-    ensures meaning { S.meaning storage.new ≡ S.meaning storage.old }
+    ensures rule { S.rule storage.new ≡ S.rule storage.old }
     ensures left { L.left link.new ≡ L.left link.old }
     ensures closed { (L.sending link.new).closed ≡ (L.sending link.old).closed }
     ensures storage_count { S.faults storage.old ≤ S.faults storage.new }

@@ -1,6 +1,6 @@
 //! Bytes that are sent whole.
 
-ghost use Rattle.std.specs.Prelude.{◌≡◌, ◌≢◌, ◌≤◌, false, length, take, Some, None};
+ghost use Rattle.std.specs.Prelude.{◌≡◌, ◌≢◌, ◌≤◌, false, length, take, Some, None, IsSome};
 ghost use Rattle.ftp_base.specs.declared.fault.Failed.TheVariants.{Fault, Memory};
 ghost use Rattle.ftp_base.specs.Outside.{HasRisen, Writes};
 
@@ -21,6 +21,7 @@ pub fn send<L: Link>(link: &mut L, bytes: &[u8]) -> SendResult
     ensures left { L.left link.new ≡ L.left link.old }
     ensures closed { (L.sending link.new).closed ≡ (L.sending link.old).closed }
     ensures last_fault { result.stopped ≢ Some Fault → (L.sending link.new).last_fault ≡ (L.sending link.old).last_fault }
+    ensures met { result.stopped ≡ Some Fault → IsSome (L.sending link.new).last_fault }
     ensures fault_rose { result.stopped ≡ Some Fault → HasRisen (L.faults link.old) (L.faults link.new) }
     ensures no_memory { L.takes_memory ≡ false → result.stopped ≡ Some Memory → ⊥ }
     ensures count { L.faults link.old ≤ L.faults link.new }

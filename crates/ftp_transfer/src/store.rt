@@ -4,7 +4,7 @@ ghost use Rattle.std.specs.Prelude.{◌≡◌, ◌≢◌, ◌+◌, ◌-◌, ◌^
 ghost use Rattle.std.specs.Option.{option_map};
 ghost use Rattle.ftp_base.specs.declared.error_kind.ErrorKind.TheVariants as kind;
 ghost use Rattle.ftp_base.specs.Outside.{HasRisen};
-ghost use Rattle.ftp_base.specs.Storage.{Begin, Append, Grows, old_bytes};
+ghost use Rattle.ftp_base.specs.Storage.{Begin, Append, meaning_of, Grows, old_bytes};
 ghost use Rattle.ftp_transfer.specs.declared.job.Completion.TheVariants as done;
 ghost use Rattle.ftp_transfer.specs.Run.{Caused, EndsRefused, RefusedFirst, RefusedLast, GrowsFront, RefusesAppend, TakesFront, Stores, RefusesStore, Appends, RefusesAppe, append_refusal};
 ghost use Rattle.ftp_transfer.specs.Transfer.{is_store, suits};
@@ -28,15 +28,16 @@ pub fn store<S: Storage, L: Link>(job: &Job, start: u64, storage: &mut S, link: 
     ensures cause { Caused (done.Refused kind.ConnectionClosed)
         (HasRisen (L.faults link.old) (L.faults link.new)) (L.sending link.old).last_fault (L.sending link.new).last_fault
         (HasRisen (S.faults storage.old) (S.faults storage.new))
-        (λ k. IfSome (S.files storage.old) (λ f. RefusesStore (S.meaning storage.old) (S.meaning storage.new) job.now.user job.now.path start
-        (option_map (drop result.bytes) (L.left link.old)) (L.left link.new) result.bytes k))
+        (λ k. IfSome (S.files storage.old) (λ f. RefusesStore (S.rule storage.old) job.now.user f (S.files storage.new) job.now.path start
+        (L.left link.old) (L.left link.new) result.bytes k))
         result.bytes result.result result.fault }
-    ensures refused { IfSome (S.files storage.old) (λ f. IfSome (S.meaning storage.old (Begin job.now.user job.now.path start))
+    ensures refused { IfSome (S.files storage.old) (λ f. IfSome (S.rule storage.old f (Begin job.now.user job.now.path start))
         (λ k. RefusedFirst (HasRisen (S.faults storage.old) (S.faults storage.new)) k result.bytes result.result × (S.files storage.new ≡ Some f))) }
     ensures refused_last { IsSome (S.files storage.old) →
-        RefusedLast (HasRisen (S.faults storage.old) (S.faults storage.new)) (S.meaning storage.new) job.now.user job.now.path
+        RefusedLast (HasRisen (S.faults storage.old) (S.faults storage.new)) (meaning_of (S.rule storage.old) (S.files storage.new)) job.now.user job.now.path
         (option_map (drop result.bytes) (L.left link.old)) (L.left link.new) result.result }
 
+    ensures rule { S.rule storage.new ≡ S.rule storage.old }
     ensures sent { (L.sending link.new).sent ≡ (L.sending link.old).sent }
     ensures closed { (L.sending link.new).closed ≡ (L.sending link.old).closed }
     ensures storage_count { S.faults storage.old ≤ S.faults storage.new }
@@ -55,7 +56,7 @@ pub fn append<S: Storage, L: Link>(job: &Job, storage: &mut S, link: &mut L) -> 
     requires command { is_store job.now.command ≡ true }
 
     ensures stored { IfSome (S.files storage.old) (λ f. IfSome (L.left link.old) (λ l.
-        Appends (S.meaning storage.old) job.now.user f (S.files storage.new) job.now.path l result)) }
+        Appends (S.rule storage.old f) job.now.user f (S.files storage.new) job.now.path l result)) }
     ensures within { IfSome (L.left link.old) (λ l. result.bytes ≤ length l) }
     ensures whole { result.result ≡ done.Written →
         IfSome (L.left link.old) (λ l. (result.bytes ≡ length l) × (L.left link.new ≡ Some [])) }
@@ -64,15 +65,16 @@ pub fn append<S: Storage, L: Link>(job: &Job, storage: &mut S, link: &mut L) -> 
     ensures cause { Caused (done.Refused kind.ConnectionClosed)
         (HasRisen (L.faults link.old) (L.faults link.new)) (L.sending link.old).last_fault (L.sending link.new).last_fault
         (HasRisen (S.faults storage.old) (S.faults storage.new))
-        (λ k. IfSome (S.files storage.old) (λ f. RefusesAppe (S.meaning storage.old) (S.meaning storage.new) job.now.user job.now.path (length (old_bytes f job.now.path))
-        (option_map (drop result.bytes) (L.left link.old)) (L.left link.new) result.bytes k))
+        (λ k. IfSome (S.files storage.old) (λ f. RefusesAppe (S.rule storage.old) job.now.user f (S.files storage.new) job.now.path
+        (L.left link.old) (L.left link.new) result.bytes k))
         result.bytes result.result result.fault }
-    ensures refused { IfSome (S.files storage.old) (λ f. IfSome (append_refusal (S.meaning storage.old) job.now.user job.now.path (length (old_bytes f job.now.path)))
+    ensures refused { IfSome (S.files storage.old) (λ f. IfSome (append_refusal (S.rule storage.old f) job.now.user job.now.path (length (old_bytes f job.now.path)))
         (λ k. RefusedFirst (HasRisen (S.faults storage.old) (S.faults storage.new)) k result.bytes result.result × (S.files storage.new ≡ Some f))) }
     ensures refused_last { IsSome (S.files storage.old) →
-        RefusedLast (HasRisen (S.faults storage.old) (S.faults storage.new)) (S.meaning storage.new) job.now.user job.now.path
+        RefusedLast (HasRisen (S.faults storage.old) (S.faults storage.new)) (meaning_of (S.rule storage.old) (S.files storage.new)) job.now.user job.now.path
         (option_map (drop result.bytes) (L.left link.old)) (L.left link.new) result.result }
 
+    ensures rule { S.rule storage.new ≡ S.rule storage.old }
     ensures sent { (L.sending link.new).sent ≡ (L.sending link.old).sent }
     ensures closed { (L.sending link.new).closed ≡ (L.sending link.old).closed }
     ensures storage_count { S.faults storage.old ≤ S.faults storage.new }
@@ -111,13 +113,14 @@ pub fn fill<S: Storage, L: Link>(job: &Job, storage: &mut S, link: &mut L) -> Ou
     ensures cause { Caused (done.Refused kind.ConnectionClosed)
         (HasRisen (L.faults link.old) (L.faults link.new)) (L.sending link.old).last_fault (L.sending link.new).last_fault
         (HasRisen (S.faults storage.old) (S.faults storage.new))
-        (λ k. IsSome (S.files storage.old) → RefusesAppend (S.meaning storage.new) job.now.user job.now.path
+        (λ k. IsSome (S.files storage.old) → RefusesAppend (meaning_of (S.rule storage.old) (S.files storage.new)) job.now.user job.now.path
         (option_map (drop result.bytes) (L.left link.old)) (L.left link.new) k)
         result.bytes result.result result.fault }
     ensures refused_last { IsSome (S.files storage.old) →
-        RefusedLast (HasRisen (S.faults storage.old) (S.faults storage.new)) (S.meaning storage.new) job.now.user job.now.path
+        RefusedLast (HasRisen (S.faults storage.old) (S.faults storage.new)) (meaning_of (S.rule storage.old) (S.files storage.new)) job.now.user job.now.path
         (option_map (drop result.bytes) (L.left link.old)) (L.left link.new) result.result }
 
+    ensures rule { S.rule storage.new ≡ S.rule storage.old }
     ensures sent { (L.sending link.new).sent ≡ (L.sending link.old).sent }
     ensures closed { (L.sending link.new).closed ≡ (L.sending link.old).closed }
     ensures storage_count { S.faults storage.old ≤ S.faults storage.new }
@@ -156,7 +159,6 @@ pub fn store_piece<S: Storage, L: Link>(
     ensures taken { IsNone result.end → IfSome (L.left link.old) (λ l. TakesFront l (L.left link.new) result.bytes) }
     ensures last { IsSome result.end → result.bytes ≡ 0 }
     ensures unchanged { IsSome result.end → S.files storage.new ≡ S.files storage.old }
-    ensures same_meaning { IsSome result.end → S.meaning storage.new ≡ S.meaning storage.old }
     ensures whole { IfSome result.end (λ e. e.result ≡ done.Written →
         IfSome (L.left link.old) (λ l. (l ≡ []) × (L.left link.new ≡ Some []))) }
 
@@ -164,14 +166,15 @@ pub fn store_piece<S: Storage, L: Link>(
     ensures cause { IfSome result.end (λ e. Caused (done.Refused kind.ConnectionClosed)
         (HasRisen (L.faults link.old) (L.faults link.new)) (L.sending link.old).last_fault (L.sending link.new).last_fault
         (HasRisen (S.faults storage.old) (S.faults storage.new))
-        (λ k. IsSome (S.files storage.old) → RefusesAppend (S.meaning storage.new) job.now.user job.now.path
+        (λ k. IsSome (S.files storage.old) → RefusesAppend (meaning_of (S.rule storage.old) (S.files storage.new)) job.now.user job.now.path
         (L.left link.old) (L.left link.new) k)
         (moved + result.bytes) e.result e.fault) }
     ensures last_fault { IsNone result.end → (L.sending link.new).last_fault ≡ (L.sending link.old).last_fault }
     ensures refused_last { IfSome result.end (λ e. IsSome (S.files storage.old) →
-        RefusedLast (HasRisen (S.faults storage.old) (S.faults storage.new)) (S.meaning storage.new) job.now.user job.now.path
+        RefusedLast (HasRisen (S.faults storage.old) (S.faults storage.new)) (meaning_of (S.rule storage.old) (S.files storage.new)) job.now.user job.now.path
         (L.left link.old) (L.left link.new) e.result) }
 
+    ensures rule { S.rule storage.new ≡ S.rule storage.old }
     ensures sent { (L.sending link.new).sent ≡ (L.sending link.old).sent }
     ensures closed { (L.sending link.new).closed ≡ (L.sending link.old).closed }
     ensures storage_count { S.faults storage.old ≤ S.faults storage.new }
@@ -203,12 +206,12 @@ fn append_read<S: Storage>(job: &Job, bytes: &[u8], storage: &mut S) -> Turn
     ensures grown { IsNone result.end → Grows (S.files storage.old) (S.files storage.new) job.now.path bytes.now }
     ensures last { IsSome result.end → result.bytes ≡ 0 }
     ensures unchanged { IsSome result.end → S.files storage.new ≡ S.files storage.old }
-    ensures same_meaning { IsSome result.end → S.meaning storage.new ≡ S.meaning storage.old }
+    ensures rule { S.rule storage.new ≡ S.rule storage.old }
     ensures refused { IfSome result.end (λ e. (e.fault ≡ None) ×
         StopsStoring (HasRisen (S.faults storage.old) (S.faults storage.new))
-        (λ k. IsSome (S.files storage.old) → S.meaning storage.old (Append job.now.user job.now.path bytes.now) ≡ Some k) e.result) }
+        (λ k. IsSome (S.files storage.old) → meaning_of (S.rule storage.old) (S.files storage.old) (Append job.now.user job.now.path bytes.now) ≡ Some k) e.result) }
     ensures refused_last { IfSome result.end (λ e. IsSome (S.files storage.old) →
-        IfSome (S.meaning storage.old (Append job.now.user job.now.path bytes.now))
+        IfSome (meaning_of (S.rule storage.old) (S.files storage.old) (Append job.now.user job.now.path bytes.now))
         (λ k. EndsRefused (HasRisen (S.faults storage.old) (S.faults storage.new)) k e.result)) }
     ensures storage_count { S.faults storage.old ≤ S.faults storage.new }
     ensures storage_limit { S.fault_limit storage.new ≤ S.fault_limit storage.old }

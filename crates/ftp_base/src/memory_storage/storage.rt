@@ -12,7 +12,7 @@ use crate::storage::{FEATURE_RESTART, FileInfo, Meta, Storage, StoreError};
 impl Storage for MemoryStorage {
     ghost use Rattle.std.specs.Prelude.{◌≡◌, ◌+◌, ◌^◌, ◌<◌, ◌≤◌, length, Some, IsSomeAnd, false, IfOk, OnOk, OnErr, IsErrOf};
     ghost use Rattle.ftp_base.specs.Memory.{fault_limit};
-    ghost use Rattle.ftp_base.specs.MemoryStorage.{Counts, memory_meaning};
+    ghost use Rattle.ftp_base.specs.MemoryStorage.{Counts, memory_meaning, memory_rule};
     ghost use Rattle.ftp_base.specs.Outside.{HasRisen};
     ghost use Rattle.ftp_base.specs.Storage.{Metadata, Listing, ReadAt, Begin, Append, Answers, item, meta_of, listing, with_file, old_bytes, cut, ReadsFile, Grows};
 
@@ -20,7 +20,7 @@ impl Storage for MemoryStorage {
 
     ghost files = { λ s. Some s.files };
 
-    ghost meaning = { λ s. memory_meaning s.files s.max_file };
+    ghost rule = { λ s. memory_rule s.max_file };
 
     ghost faults = { λ s. s.calls.faults };
 
@@ -37,7 +37,7 @@ impl Storage for MemoryStorage {
         ensures refused { Answers (Some self.old.files) (memory_meaning self.old.files self.old.max_file (Metadata user.now path.now)) result }
         ensures fault_rose { IsErrOf result StoreError.Failed → HasRisen self.old.calls.faults self.new.calls.faults }
         ensures unchanged { self.new.files ≡ self.old.files }
-        ensures same_meaning { memory_meaning self.new.files self.new.max_file ≡ memory_meaning self.old.files self.old.max_file }
+        ensures same_rule { memory_rule self.new.max_file ≡ memory_rule self.old.max_file }
         ensures count { self.old.calls.faults ≤ self.new.calls.faults }
         ensures limit { fault_limit self.new.calls ≤ fault_limit self.old.calls }
         ensures counted { Counts self.old self.new result }
@@ -55,7 +55,7 @@ impl Storage for MemoryStorage {
         ensures refused { Answers (Some self.old.files) (memory_meaning self.old.files self.old.max_file (Listing user.now path.now)) result }
         ensures fault_rose { IsErrOf result StoreError.Failed → HasRisen self.old.calls.faults self.new.calls.faults }
         ensures unchanged { self.new.files ≡ self.old.files }
-        ensures same_meaning { memory_meaning self.new.files self.new.max_file ≡ memory_meaning self.old.files self.old.max_file }
+        ensures same_rule { memory_rule self.new.max_file ≡ memory_rule self.old.max_file }
         ensures count { self.old.calls.faults ≤ self.new.calls.faults }
         ensures limit { fault_limit self.new.calls ≤ fault_limit self.old.calls }
         ensures counted { Counts self.old self.new result }
@@ -82,7 +82,7 @@ impl Storage for MemoryStorage {
         ensures refused { Answers (Some self.old.files) (memory_meaning self.old.files self.old.max_file (ReadAt user.now path.now at)) result }
         ensures fault_rose { IsErrOf result StoreError.Failed → HasRisen self.old.calls.faults self.new.calls.faults }
         ensures unchanged { self.new.files ≡ self.old.files }
-        ensures same_meaning { memory_meaning self.new.files self.new.max_file ≡ memory_meaning self.old.files self.old.max_file }
+        ensures same_rule { memory_rule self.new.max_file ≡ memory_rule self.old.max_file }
         ensures count { self.old.calls.faults ≤ self.new.calls.faults }
         ensures limit { fault_limit self.new.calls ≤ fault_limit self.old.calls }
         ensures counted { Counts self.old self.new result }
@@ -100,7 +100,7 @@ impl Storage for MemoryStorage {
         ensures refused { Answers (Some self.old.files) (memory_meaning self.old.files self.old.max_file (Begin user.now path.now start)) result }
         ensures fault_rose { IsErrOf result StoreError.Failed → HasRisen self.old.calls.faults self.new.calls.faults }
         ensures unchanged { OnErr result (self.new.files ≡ self.old.files) }
-        ensures same_meaning { OnErr result (memory_meaning self.new.files self.new.max_file ≡ memory_meaning self.old.files self.old.max_file) }
+        ensures same_rule { memory_rule self.new.max_file ≡ memory_rule self.old.max_file }
         ensures count { self.old.calls.faults ≤ self.new.calls.faults }
         ensures limit { fault_limit self.new.calls ≤ fault_limit self.old.calls }
         ensures counted { Counts self.old self.new result }
@@ -119,7 +119,7 @@ impl Storage for MemoryStorage {
         ensures refused { Answers (Some self.old.files) (memory_meaning self.old.files self.old.max_file (Append user.now path.now bytes.now)) result }
         ensures fault_rose { IsErrOf result StoreError.Failed → HasRisen self.old.calls.faults self.new.calls.faults }
         ensures unchanged { OnErr result (self.new.files ≡ self.old.files) }
-        ensures same_meaning { OnErr result (memory_meaning self.new.files self.new.max_file ≡ memory_meaning self.old.files self.old.max_file) }
+        ensures same_rule { memory_rule self.new.max_file ≡ memory_rule self.old.max_file }
         ensures count { self.old.calls.faults ≤ self.new.calls.faults }
         ensures limit { fault_limit self.new.calls ≤ fault_limit self.old.calls }
         ensures counted { Counts self.old self.new result }

@@ -1,7 +1,7 @@
 //! What follows on a password that was checked.
 
 ghost use Rattle.std.specs.Prelude.{◌≡◌, ◌+◌, ◌<◌, ◌^◌, IsTrue, Option, Some};
-ghost use Rattle.ftp_transfer.specs.declared.job.Job.{Job};
+ghost use Rattle.ftp_events.specs.declared.session.Running.{Running};
 ghost use Rattle.ftp_events.specs.declared.event.Answer.{Answer};
 ghost use Rattle.ftp_events.specs.Session.{session_after};
 ghost use Rattle.ftp_events.specs.Acts.{session_acts};
@@ -27,8 +27,8 @@ pub(crate) fn handle(
     requires room { IsReady room.old }
     requires kept { kept_in room.old ≡ kept_by args.now session.old }
     ensures decision { result ≡ answered_row args.now session.old.login }
-    ensures session { session.old.notices + 1 < 2 ^ 64 → (answer : Answer) (job : Option Job) → session.new ≡ session_after args.now answer result (notices_of result answer) job session.old }
-    ensures actions { session.old.notices + 1 < 2 ^ 64 → (answer : Answer) (job : Option Job) → actions_in room.new ≡ session_acts options.now (number_of args.now) args.now answer result job (Some session.old) }
+    ensures session { session.old.notices + 1 < 2 ^ 64 → (answer : Answer) (job : Option Running) → session.new ≡ session_after args.now answer result (notices_of result answer) job session.old }
+    ensures actions { session.old.notices + 1 < 2 ^ 64 → (answer : Answer) (job : Option Running) → actions_in room.new ≡ session_acts options.now (number_of args.now) args.now answer result job (Some session.old) }
     ensures board { board.new ≡ board.old }
 {
     let EventKind::AuthDone {

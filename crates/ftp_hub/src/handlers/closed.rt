@@ -3,7 +3,7 @@
 ghost use Rattle.std.specs.Prelude.{◌≡◌, ◌+◌, ◌<◌, ◌^◌, ℕ, IsTrue, Option, Some};
 ghost use Rattle.ftp_base.specs.Net.{ipv4};
 ghost use Rattle.ftp_switchboard.specs.Board.{SameRange, holder_at};
-ghost use Rattle.ftp_transfer.specs.declared.job.Job.{Job};
+ghost use Rattle.ftp_events.specs.declared.session.Running.{Running};
 ghost use Rattle.ftp_events.specs.declared.event.Answer.{Answer};
 ghost use Rattle.ftp_events.specs.declared.decision.Decision.TheVariants as decision;
 ghost use Rattle.ftp_events.specs.Slot.{waiting_port};
@@ -32,7 +32,7 @@ pub(crate) fn handle(
     requires room { IsReady room.old }
     requires kept { kept_in room.old ≡ kept_by args.now session.old }
     ensures decision { result ≡ decision.Closed }
-    ensures actions { session.old.notices + 1 < 2 ^ 64 → (answer : Answer) (job : Option Job) → actions_in room.new ≡ session_acts options.now (number_of args.now) args.now answer result job (Some session.old) }
+    ensures actions { session.old.notices + 1 < 2 ^ 64 → (answer : Answer) (job : Option Running) → actions_in room.new ≡ session_acts options.now (number_of args.now) args.now answer result job (Some session.old) }
     ensures holders { (a p : ℕ) → holder_at board.new a p ≡ held_after result (number_of args.now) (ipv4 session.old.opening.client) (waiting_port session.old.slot) a p (holder_at board.old a p) }
     ensures range { SameRange board.old board.new }
 {

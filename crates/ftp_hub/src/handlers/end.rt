@@ -16,26 +16,27 @@ ghost use Rattle.ftp_hub.specs.Handlers.{with_end};
 
 use crate::room::Room;
 use ftp_base::{DataEvent, Notice, ReplyCode};
-use ftp_events::{Session, refusal, wording};
+use ftp_events::{Running, Session, refusal, wording};
 use ftp_options::Options;
-use ftp_transfer::{Completion, Job, Outcome};
+use ftp_transfer::{Completion, Outcome};
 
 /// Tells a live session how its transfer ended, and listeners what it moved.
 pub(crate) fn deliver(
     session: &mut Session,
-    job: Job,
+    job: Running,
     outcome: Outcome,
     room: &mut Room,
     options: &Options,
 )
     requires room { IsReady room.old }
     requires kept { kept_in room.old ≡ logged_user session.old.login session.old.name }
-    ensures session { session.old.notices + 1 < 2 ^ 64 → session.new ≡ with_end (End job.ticket) (Done outcome) session.old }
-    ensures actions { session.old.notices + 1 < 2 ^ 64 → actions_in room.new ≡ action.Completed job.ticket true ∷ notice_and_reply options.now job.ticket.session (End job.ticket) (Done outcome) Finished (Some job) session.old }
+    ensures session { session.old.notices + 1 < 2 ^ 64 → session.new ≡ with_end (End job.job.ticket) (Done outcome) session.old }
+    ensures actions { session.old.notices + 1 < 2 ^ 64 → actions_in room.new ≡ action.Completed job.job.ticket true ∷ notice_and_reply options.now job.job.ticket.session (End job.job.ticket) (Done outcome) Finished (Some job) session.old }
     ensures slot { session.new.slot ≡ session.old.slot }
     ensures pending { session.new.pending ≡ session.old.pending }
     ensures place { HasPlace room.new }
 {
+    let job = job.job;
     let number = job.ticket.session;
     room.complete(job.ticket, true);
     match outcome.result {

@@ -1,7 +1,7 @@
 //! PASS (RFC 959, section 4.1.1).
 
 ghost use Rattle.std.specs.Prelude.{◌≡◌, IsTrue, Option, Some};
-ghost use Rattle.ftp_transfer.specs.declared.job.Job.{Job};
+ghost use Rattle.ftp_events.specs.declared.session.Running.{Running};
 ghost use Rattle.ftp_events.specs.declared.event.Answer.{Answer};
 ghost use Rattle.ftp_events.specs.LoginRows.{pass_row};
 ghost use Rattle.ftp_events.specs.Session.{session_after};
@@ -27,8 +27,8 @@ pub fn handle(
     requires of_this_event { IsTrue (is_pass args.now) }
     requires room { IsReady room.old }
     ensures decision { result ≡ pass_row session.old.login }
-    ensures session { (answer : Answer) (job : Option Job) → session.new ≡ session_after args.now answer result 0 job session.old }
-    ensures actions { (answer : Answer) (job : Option Job) → actions_in room.new ≡ session_acts options.now (number_of args.now) args.now answer result job (Some session.old) }
+    ensures session { (answer : Answer) (job : Option Running) → session.new ≡ session_after args.now answer result 0 job session.old }
+    ensures actions { (answer : Answer) (job : Option Running) → actions_in room.new ≡ session_acts options.now (number_of args.now) args.now answer result job (Some session.old) }
     ensures board { board.new ≡ board.old }
 {
     let EventKind::Pass { session: number } = args else {

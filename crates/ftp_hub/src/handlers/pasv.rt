@@ -3,7 +3,7 @@
 ghost use Rattle.std.specs.Prelude.{◌≡◌, ℕ, IsTrue, Option, Some};
 ghost use Rattle.ftp_base.specs.Net.{ipv4};
 ghost use Rattle.ftp_switchboard.specs.Board.{HasRoom, SameRange, holder_at};
-ghost use Rattle.ftp_transfer.specs.declared.job.Job.{Job};
+ghost use Rattle.ftp_events.specs.declared.session.Running.{Running};
 ghost use Rattle.ftp_events.specs.declared.event.Answer.{Answer};
 ghost use Rattle.ftp_events.specs.CommandRows.{if_logged_in, pasv_row};
 ghost use Rattle.ftp_events.specs.Slot.{waiting_port};
@@ -34,8 +34,8 @@ pub fn handle(
     requires range { HasRange board.old options.now }
     requires board_room { HasRoom board.old (ipv4 session.old.opening.client) }
     ensures decision { result ≡ if_logged_in session.old (pasv_row options.now (held_for board.old session.old) (word_of args.now)) }
-    ensures session { (answer : Answer) (job : Option Job) → session.new ≡ session_after args.now answer result 0 job session.old }
-    ensures actions { (answer : Answer) (job : Option Job) → actions_in room.new ≡ session_acts options.now (number_of args.now) args.now answer result job (Some session.old) }
+    ensures session { (answer : Answer) (job : Option Running) → session.new ≡ session_after args.now answer result 0 job session.old }
+    ensures actions { (answer : Answer) (job : Option Running) → actions_in room.new ≡ session_acts options.now (number_of args.now) args.now answer result job (Some session.old) }
     ensures holders { (a p : ℕ) → holder_at board.new a p ≡ held_after result (number_of args.now) (ipv4 session.old.opening.client) (waiting_port session.old.slot) a p (holder_at board.old a p) }
     ensures range { SameRange board.old board.new }
 {

@@ -1,7 +1,7 @@
 //! REST (RFC 3659, section 5).
 
 ghost use Rattle.std.specs.Prelude.{◌≡◌, IsTrue, Option, Some};
-ghost use Rattle.ftp_transfer.specs.declared.job.Job.{Job};
+ghost use Rattle.ftp_events.specs.declared.session.Running.{Running};
 ghost use Rattle.ftp_events.specs.declared.event.Answer.{Answer};
 ghost use Rattle.ftp_events.specs.CommandRows.{if_logged_in, rest_row};
 ghost use Rattle.ftp_events.specs.Session.{session_after};
@@ -28,8 +28,8 @@ pub fn handle(
     requires of_this_event { IsTrue (is_rest args.now) }
     requires room { IsReady room.old }
     ensures decision { result ≡ if_logged_in session.old (rest_row options.now) }
-    ensures session { (answer : Answer) (job : Option Job) → session.new ≡ session_after args.now answer result 0 job session.old }
-    ensures actions { (answer : Answer) (job : Option Job) → actions_in room.new ≡ session_acts options.now (number_of args.now) args.now answer result job (Some session.old) }
+    ensures session { (answer : Answer) (job : Option Running) → session.new ≡ session_after args.now answer result 0 job session.old }
+    ensures actions { (answer : Answer) (job : Option Running) → actions_in room.new ≡ session_acts options.now (number_of args.now) args.now answer result job (Some session.old) }
     ensures board { board.new ≡ board.old }
 {
     let EventKind::Rest {

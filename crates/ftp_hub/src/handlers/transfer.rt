@@ -1,7 +1,7 @@
 //! RETR, STOR, APPE, LIST, NLST, STOU (RFC 959, section 4.1.3) and MLSD (RFC 3659, section 7).
 
 ghost use Rattle.std.specs.Prelude.{◌≡◌, ◌≤◌, ℕ, IsTrue, Option, length};
-ghost use Rattle.ftp_transfer.specs.declared.job.Job.{Job};
+ghost use Rattle.ftp_events.specs.declared.session.Running.{Running};
 ghost use Rattle.ftp_events.specs.declared.event.Answer.{Answer};
 ghost use Rattle.ftp_events.specs.declared.event.EventKind.TheVariants.{Transfer};
 ghost use Rattle.ftp_events.specs.Acts.{notice_and_reply};
@@ -32,7 +32,7 @@ pub fn handle(
     requires pending { room.old.pending ≡ asked_for args.now session.old }
     ensures decision { IsFew session.old → result ≡ if_logged_in session.old (transfer_row (number_of args.now) session.old) }
     ensures session { IsFew session.old → session.new ≡ with_queued args.now result session.old }
-    ensures actions { (answer : Answer) (job : Option Job) → actions_in room.new ≡ notice_and_reply options.now (number_of args.now) args.now answer result job session.old }
+    ensures actions { (answer : Answer) (job : Option Running) → actions_in room.new ≡ notice_and_reply options.now (number_of args.now) args.now answer result job session.old }
     ensures place { HasPlace room.new }
     ensures board { board.new ≡ board.old }
 {

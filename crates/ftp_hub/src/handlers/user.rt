@@ -1,7 +1,7 @@
 //! USER (RFC 959, section 4.1.1).
 
 ghost use Rattle.std.specs.Prelude.{◌≡◌, IsTrue, Option, Some};
-ghost use Rattle.ftp_transfer.specs.declared.job.Job.{Job};
+ghost use Rattle.ftp_events.specs.declared.session.Running.{Running};
 ghost use Rattle.ftp_events.specs.declared.event.Answer.{Answer};
 ghost use Rattle.ftp_events.specs.LoginRows.{user_row};
 ghost use Rattle.ftp_events.specs.Session.{session_after};
@@ -28,8 +28,8 @@ pub(crate) fn handle(
     requires room { IsReady room.old }
     requires kept { kept_in room.old ≡ kept_by args.now session.old }
     ensures decision { result ≡ user_row session.old.login }
-    ensures session { (answer : Answer) (job : Option Job) → session.new ≡ session_after args.now answer result 0 job session.old }
-    ensures actions { (answer : Answer) (job : Option Job) → actions_in room.new ≡ session_acts options.now (number_of args.now) args.now answer result job (Some session.old) }
+    ensures session { (answer : Answer) (job : Option Running) → session.new ≡ session_after args.now answer result 0 job session.old }
+    ensures actions { (answer : Answer) (job : Option Running) → actions_in room.new ≡ session_acts options.now (number_of args.now) args.now answer result job (Some session.old) }
     ensures board { board.new ≡ board.old }
 {
     let EventKind::User {

@@ -2,7 +2,7 @@ use Rattle.std.proofs.Common.{◌≡◌, refl, sym, ap, ◌∙◌, subst, ℕ, �
 use Rattle.std.specs.Prelude.{nat_eq, unwrap_or}
 use Rattle.std.specs.HashMap as map
 use Rattle.ftp_options.specs.declared.options.Options.{Options}
-use Rattle.ftp_transfer.specs.declared.job.Job.{Job}
+use Rattle.ftp_events.specs.declared.session.Running.{Running}
 use Rattle.ftp_transfer.specs.declared.job.Ticket.{Ticket}
 use Rattle.ftp_events.specs.declared.decision.Decision.{Decision}
 use Rattle.ftp_events.specs.declared.decision.Decision.TheVariants as decision
@@ -19,9 +19,9 @@ use Rattle.ftp_hub.proofs.jobs.queue.Goals as goal
 
 -- nothing is queued: the session is told, and otherwise it is as it was
 record Refuses (d : Decision) : Type 0 where
-  session : (k : EventKind) (answer : Answer) (job : Option Job) (v : Session) → with_queued k d v ≡ session_after k answer d 0 job v
-  acts : (o : Options) (s : ℕ) (k : EventKind) (answer : Answer) (job : Option Job) (v : Session) → notice_and_reply o s k answer d job v ≡ session_acts o s k answer d job (Some v)
-  starts : (k : EventKind) (job : Option Job) (v : Session) → starting k d job v ≡ None
+  session : (k : EventKind) (answer : Answer) (job : Option Running) (v : Session) → with_queued k d v ≡ session_after k answer d 0 job v
+  acts : (o : Options) (s : ℕ) (k : EventKind) (answer : Answer) (job : Option Running) (v : Session) → notice_and_reply o s k answer d job v ≡ session_acts o s k answer d job (Some v)
+  starts : (k : EventKind) (job : Option Running) (v : Session) → starting k d job v ≡ None
 
 -- the notices that are sent to it are none
 no-notice : (k : EventKind) (d : Decision) (v : Session) → with_queued k d v ≡ record (with_queued k d v) { notices = v.notices + 0 }
@@ -48,7 +48,7 @@ returns-in_default c =
     let number : number_of k ≡ c.args.number = ap (λ (n : Option ℕ). unwrap_or n 0) c.requires.named in
     let row : IsFew v → d ≡ if_logged_in v (transfer_row c.args.number v) = λ few. c.handle-decision.ensures.decision few ∙ ap (λ n. if_logged_in v (transfer_row n v)) number in
     let refuses : IsFew v → Refuses d = λ few. refuses-by (is_logged_in v.login) (can_queue v.slot v.pending) _ d (row few) c.in_default.not-Queued in
-    let job : Option Job = map.get nat_eq c.args.jobs.now c.args.number in
+    let job : Option Running = map.get nat_eq c.args.jobs.now c.args.number in
     record {
       decision = row;
       session = λ few answer. c.handle-decision.ensures.session few ∙ (refuses few).session k answer job v;

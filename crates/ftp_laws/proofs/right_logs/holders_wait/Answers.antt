@@ -1,4 +1,4 @@
-use Rattle.ftp_events.specs.Log.{past_of}
+use Rattle.ftp_laws.proofs.Common.{past_of}
 use Rattle.ftp_laws.proofs.Ends.{holds-one, waits-on, on-waits}
 use Rattle.ftp_laws.proofs.Holds.{holder-waits}
 use Rattle.ftp_laws.proofs.Waits.{waits-holds}

@@ -7,7 +7,7 @@ use Rattle.ftp_base.specs.declared.error_kind.ErrorKind.TheVariants as kind
 use Rattle.ftp_transfer.specs.declared.job.Completion.TheVariants as result
 use Rattle.ftp_base.specs.declared.storage.StoreError.{StoreError}
 use Rattle.ftp_base.specs.declared.storage.StoreError.TheVariants.{Kind, Failed, OutOfMemory}
-use Rattle.ftp_base.specs.Storage.{Listing, Refuses}
+use Rattle.ftp_base.specs.Storage.{Listing, meaning_of, Refuses}
 use Rattle.ftp_transfer.specs.Ran.{shown_refusal}
 use Rattle.ftp_transfer.specs.Run.{RefusedFirst}
 use Rattle.ftp_transfer.specs.Turn.{listing_end}
@@ -46,6 +46,6 @@ refused_so c refusal OutOfMemory rose so failed = any_first refusal _ (λ k. (re
 pub returns-in-Err-clause-refused : goal.returns-in-Err-clause-refused
 returns-in-Err-clause-refused g c told =
     rw (c.nothing_moved.ensures, c.listing_end.ensures)
-    (refused_so c.args.job.now.command (g.S.Storage.meaning c.args.storage.now (Listing c.args.job.now.user c.args.job.now.path)) c.in-Err.error _
+    (refused_so c.args.job.now.command (meaning_of (g.S.Storage.rule c.args.storage.now) (g.S.Storage.files c.args.storage.now) (Listing c.args.job.now.user c.args.job.now.path)) c.in-Err.error _
     (c.in-Err.ensures.refused told)
     (λ e. c.in-Err.ensures.fault_rose (ap Err e)))

@@ -1,6 +1,6 @@
 use Rattle.std.proofs.Common.{◌≡◌, ◌+◌, ◌∙◌, inl, inr, arith, rules}
 use Rattle.std.proofs.lemmas.Bool.{cases_lt}
-use Rattle.ftp_base.specs.Storage.{ReadAt}
+use Rattle.ftp_base.specs.Storage.{ReadAt, meaning_of}
 use Rattle.ftp_transfer.proofs.RunLemmas.{HasRisen_later, SendsFront-file, Caused_later, RefusedFirst_later}
 use Rattle.ftp_transfer.proofs.retrieve.retrieve.Goals as goal
 
@@ -14,7 +14,7 @@ returns-in-Some-clause-cause g c =
     let cause = rw (
       c.in-Some.is,
       c.pieces.invariant.files,
-      c.pieces.invariant.meaning,
+      c.pieces.invariant.rule,
       c.pieces.invariant.last_fault,
     ) at c.send_piece-turn.ensures.cause in
     let place : c.args.job.now.offset + c.pieces.moved + c.send_piece-turn.result.bytes ≡ c.args.job.now.offset + (c.pieces.moved + c.send_piece-turn.result.bytes) = omega arith in
@@ -32,9 +32,9 @@ returns-in-Some-clause-refused g c told =
       | inr ge ↦
           let none : c.pieces.moved ≡ 0 = omega arith in
           let place : c.args.job.now.offset + c.pieces.moved ≡ c.args.job.now.offset = omega arith in
-          let refused = rw (c.in-Some.is, c.pieces.invariant.files, c.pieces.invariant.meaning, place) at c.send_piece-turn.ensures.refused in
+          let refused = rw (c.in-Some.is, c.pieces.invariant.files, c.pieces.invariant.rule, place) at c.send_piece-turn.ensures.refused in
           rw c.outcome.ensures
-          (RefusedFirst_later (g.S.Storage.meaning c.args.storage.now (ReadAt c.args.job.now.user c.args.job.now.path c.args.job.now.offset)) _ _ c.send_piece-turn.result.bytes _ c.in-Some.end.result
+          (RefusedFirst_later (meaning_of (g.S.Storage.rule c.args.storage.now) (g.S.Storage.files c.args.storage.now) (ReadAt c.args.job.now.user c.args.job.now.path c.args.job.now.offset)) _ _ c.send_piece-turn.result.bytes _ c.in-Some.end.result
           (HasRisen_later _ _ _ c.pieces.invariant.storage_count c.send_piece-turn.ensures.storage_count)
           (omega arith)
           (refused told (omega arith)))
@@ -51,11 +51,11 @@ pieces-preserved g c =
             | inl begun ↦ c.pieces.invariant.begun begun told
             | inr ge ↦
                 let place : c.args.job.now.offset + c.pieces.moved ≡ c.args.job.now.offset = omega arith in
-                let goes_on = rw (c.pieces.invariant.files, c.pieces.invariant.meaning, place) at c.send_piece-turn.ensures.goes_on in
+                let goes_on = rw (c.pieces.invariant.files, c.pieces.invariant.rule, place) at c.send_piece-turn.ensures.goes_on in
                 goes_on told (search rules)
           ];
       files = c.send_piece-turn.ensures.files ∙ c.pieces.invariant.files;
-      meaning = c.send_piece-turn.ensures.meaning ∙ c.pieces.invariant.meaning;
+      rule = c.send_piece-turn.ensures.rule ∙ c.pieces.invariant.rule;
       left = c.send_piece-turn.ensures.left ∙ c.pieces.invariant.left;
       closed = c.send_piece-turn.ensures.closed ∙ c.pieces.invariant.closed;
       last_fault = c.send_piece-turn.ensures.last_fault (search rules) ∙ c.pieces.invariant.last_fault;

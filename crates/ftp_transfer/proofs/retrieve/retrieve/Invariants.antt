@@ -1,6 +1,6 @@
 use Rattle.std.proofs.Common.{◌≡◌, ◌<◌, ◌≤◌, ◌+◌, ◌-◌, ◌^◌, None}
 use Rattle.std.specs.Prelude.{IsSome, IfSome}
-use Rattle.ftp_base.specs.Storage.{ReadAt, get, old_bytes}
+use Rattle.ftp_base.specs.Storage.{ReadAt, meaning_of, get, old_bytes}
 use Rattle.ftp_transfer.specs.Run.{SendsFront}
 use Rattle.ftp_transfer.proofs.retrieve.retrieve.Given as goal
 
@@ -9,9 +9,9 @@ abbrev pub invariant-pieces : goal.invariant-pieces
 invariant-pieces g l = record {
   in_range : l.job.offset + l.moved < 2 ^ 64;
   sent : IfSome (g.S.Storage.files l.fn.storage) (λ f. SendsFront (get (old_bytes f l.job.path) l.job.offset) l.moved (g.L.Source.sending l.fn.link).sent (g.L.Source.sending l.link).sent);
-  begun : 0 < l.moved → IsSome (g.S.Storage.files l.fn.storage) → g.S.Storage.meaning l.fn.storage (ReadAt l.job.user l.job.path l.job.offset) ≡ None;
+  begun : 0 < l.moved → IsSome (g.S.Storage.files l.fn.storage) → meaning_of (g.S.Storage.rule l.fn.storage) (g.S.Storage.files l.fn.storage) (ReadAt l.job.user l.job.path l.job.offset) ≡ None;
   files : g.S.Storage.files l.storage ≡ g.S.Storage.files l.fn.storage;
-  meaning : g.S.Storage.meaning l.storage ≡ g.S.Storage.meaning l.fn.storage;
+  rule : g.S.Storage.rule l.storage ≡ g.S.Storage.rule l.fn.storage;
   left : g.L.Source.left l.link ≡ g.L.Source.left l.fn.link;
   closed : (g.L.Source.sending l.link).closed ≡ (g.L.Source.sending l.fn.link).closed;
   last_fault : (g.L.Source.sending l.link).last_fault ≡ (g.L.Source.sending l.fn.link).last_fault;

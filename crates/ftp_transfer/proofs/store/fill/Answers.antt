@@ -1,4 +1,5 @@
 use Rattle.std.proofs.Common.{◌≡◌, ◌+◌, ◌∙◌, arith, rules}
+use Rattle.ftp_base.specs.Storage.{meaning_of}
 use Rattle.ftp_transfer.proofs.RunLemmas.{HasRisen_later}
 use Rattle.ftp_transfer.proofs.StoreLemmas.{GrowsFront-told, TakesFront-told, TakesFront-whole, RefusedLast-told}
 use Rattle.ftp_transfer.proofs.store.fill.Goals as goal
@@ -17,10 +18,10 @@ pub returns-in-Some-clause-refused_last : goal.returns-in-Some-clause-refused_la
 returns-in-Some-clause-refused_last g c told =
     let none : c.store_piece-turn.result.bytes ≡ 0 = c.store_piece-turn.ensures.last (search rules) in
     let sum : c.pieces.moved + c.store_piece-turn.result.bytes ≡ c.pieces.moved = omega arith in
-    let last = rw c.in-Some.is at c.store_piece-turn.ensures.refused_last in
+    let last = rw (c.in-Some.is, c.pieces.invariant.rule) at c.store_piece-turn.ensures.refused_last in
     rw c.outcome.ensures
     (rw sum
-    (RefusedLast-told _ _ (g.S.Storage.meaning c.store_piece-turn.new.storage) c.args.job.now.user c.args.job.now.path (g.L.Source.left c.args.link.now) (g.L.Source.left c.pieces.link) _ c.pieces.moved _
+    (RefusedLast-told _ _ (meaning_of (g.S.Storage.rule c.args.storage.now) (g.S.Storage.files c.store_piece-turn.new.storage)) c.args.job.now.user c.args.job.now.path (g.L.Source.left c.args.link.now) (g.L.Source.left c.pieces.link) _ c.pieces.moved _
     (HasRisen_later _ _ _ c.pieces.invariant.storage_count c.store_piece-turn.ensures.storage_count)
     c.pieces.invariant.taken
     (last (c.pieces.invariant.told told))))
@@ -31,6 +32,7 @@ pieces-preserved g c =
       grown = GrowsFront-told (g.S.Storage.files c.args.storage.now) (g.S.Storage.files c.pieces.storage) (g.S.Storage.files c.store_piece-turn.new.storage) c.args.job.now.path (g.L.Source.left c.args.link.now) (g.L.Source.left c.pieces.link) c.pieces.moved c.store_piece-turn.result.bytes c.pieces.invariant.grown c.pieces.invariant.taken c.store_piece-turn.ensures.grown;
       taken = TakesFront-told (g.L.Source.left c.args.link.now) (g.L.Source.left c.pieces.link) (g.L.Source.left c.store_piece-turn.new.link) c.pieces.moved c.store_piece-turn.result.bytes c.pieces.invariant.taken (c.store_piece-turn.ensures.taken (search rules));
       told = λ told. c.store_piece-turn.ensures.told (c.pieces.invariant.told told);
+      rule = c.store_piece-turn.ensures.rule ∙ c.pieces.invariant.rule;
       sent = c.store_piece-turn.ensures.sent ∙ c.pieces.invariant.sent;
       closed = c.store_piece-turn.ensures.closed ∙ c.pieces.invariant.closed;
       last_fault = c.store_piece-turn.ensures.last_fault (search rules) ∙ c.pieces.invariant.last_fault;

@@ -9,6 +9,7 @@ invariant-pieces g l = record {
   grown : IfSome (g.S.Storage.files l.fn.storage) (λ f. IfSome (g.L.Source.left l.fn.link) (λ input. GrowsFront f (g.S.Storage.files l.storage) l.job.path input l.moved));
   taken : IfSome (g.L.Source.left l.fn.link) (λ input. TakesFront input (g.L.Source.left l.link) l.moved);
   told : IsSome (g.S.Storage.files l.fn.storage) → IsSome (g.S.Storage.files l.storage);
+  rule : g.S.Storage.rule l.storage ≡ g.S.Storage.rule l.fn.storage;
   sent : (g.L.Source.sending l.link).sent ≡ (g.L.Source.sending l.fn.link).sent;
   closed : (g.L.Source.sending l.link).closed ≡ (g.L.Source.sending l.fn.link).closed;
   last_fault : (g.L.Source.sending l.link).last_fault ≡ (g.L.Source.sending l.fn.link).last_fault;

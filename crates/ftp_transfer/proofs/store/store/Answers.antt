@@ -1,5 +1,6 @@
-use Rattle.ftp_transfer.proofs.RunLemmas.{HasRisen_later}
-use Rattle.ftp_transfer.proofs.StoreLemmas.{Stores-begun, Begins-told, RefusedLast-none, RefusedLast_later, drop-nothing}
+use Rattle.ftp_base.specs.Storage.{meaning_of}
+use Rattle.ftp_transfer.proofs.RunLemmas.{HasRisen_later, Caused_later}
+use Rattle.ftp_transfer.proofs.StoreLemmas.{Stores-begun, Begins-told, Stores-refused, RefusedLast-none, RefusedLast_later, drop-nothing}
 use Rattle.ftp_transfer.proofs.store.store.Goals as goal
 
 pub returns-in-Ok-clause-stored : goal.returns-in-Ok-clause-stored
@@ -9,12 +10,24 @@ returns-in-Ok-clause-stored g c =
     c.fill.ensures.within
     c.fill.ensures.grown
 
+pub returns-in-Ok-clause-cause : goal.returns-in-Ok-clause-cause
+returns-in-Ok-clause-cause g c =
+    Caused_later _ _ _ _ _ _ _ _ _ _ c.fill.result.result c.fill.result.fault
+    (λ h. h)
+    (HasRisen_later _ _ _ c.begin.ensures.count c.fill.ensures.storage_count)
+    (λ k refused.
+    Stores-refused (g.S.Storage.files c.args.storage.now) (g.S.Storage.files c.begin.new.self) (g.S.Storage.files c.fill.new.storage) (g.S.Storage.rule c.args.storage.now) c.args.job.now.user c.args.job.now.path c.args.start (g.L.Source.left c.args.link.now) (g.L.Source.left c.fill.new.link) c.fill.result.bytes k
+    c.in-Ok.ensures.begun
+    c.fill.ensures.grown
+    (rw c.begin.ensures.same_rule at refused))
+    c.fill.ensures.cause
+
 pub returns-in-Ok-clause-refused_last : goal.returns-in-Ok-clause-refused_last
 returns-in-Ok-clause-refused_last g c told =
-    RefusedLast_later _ _ (g.S.Storage.meaning c.fill.new.storage) c.args.job.now.user c.args.job.now.path _ _ _
+    RefusedLast_later _ _ (meaning_of (g.S.Storage.rule c.args.storage.now) (g.S.Storage.files c.fill.new.storage)) c.args.job.now.user c.args.job.now.path _ _ _
     (HasRisen_later _ _ _ c.begin.ensures.count c.fill.ensures.storage_count)
-    (c.fill.ensures.refused_last (Begins-told (g.S.Storage.files c.args.storage.now) _ _ _ c.in-Ok.ensures.begun told))
+    ((rw c.begin.ensures.same_rule at c.fill.ensures.refused_last) (Begins-told (g.S.Storage.files c.args.storage.now) _ _ _ c.in-Ok.ensures.begun told))
 
 pub returns-in-Err-clause-refused_last : goal.returns-in-Err-clause-refused_last
 returns-in-Err-clause-refused_last g c told =
-    rw c.nothing_moved.ensures (RefusedLast-none _ (g.S.Storage.meaning c.begin.new.self) c.args.job.now.user c.args.job.now.path _ _ _ (drop-nothing (g.L.Source.left c.args.link.now)))
+    rw c.nothing_moved.ensures (RefusedLast-none _ (meaning_of (g.S.Storage.rule c.args.storage.now) (g.S.Storage.files c.begin.new.self)) c.args.job.now.user c.args.job.now.path _ _ _ (drop-nothing (g.L.Source.left c.args.link.now)))

@@ -1,12 +1,17 @@
 use Rattle.std.proofs.Common.{◌∙◌, rules}
-use Rattle.ftp_transfer.proofs.RunLemmas.{HasRisen-more, Caused_later}
+use Rattle.ftp_transfer.specs.Ran.{told}
+use Rattle.ftp_transfer.proofs.CleanLemmas.{clean-done}
 use Rattle.ftp_transfer.proofs.transfer.execute.Goals as goal
 
 pub returns-clause-ran : goal.returns-clause-ran
 returns-clause-ran g c =
     let moves = c.run-outcome.ensures.moves in
     record {
+      faults = g.L.Source.faults c.run-outcome.new.link;
+      not_before = c.run-outcome.ensures.link_count;
+      not_after = c.close.ensures.count;
       moves = record {
+        rule = moves.rule;
         sent = rw c.close.ensures.sent moves.sent;
         within = moves.within;
         whole = moves.whole;
@@ -14,15 +19,19 @@ returns-clause-ran g c =
         kept = λ other. ((moves.kept other).0, c.close.ensures.left ∙ (moves.kept other).1);
         stored = moves.stored;
         written = λ done. rw c.close.ensures.left (moves.written done);
-        cause = rw (c.close.ensures.last_fault, c.close.ensures.left)
-            (Caused_later _ _ _ _ _ _ _ _ _ _ c.run-outcome.result.result c.run-outcome.result.fault
-            (HasRisen-more _ _ _ c.close.ensures.count)
-            (λ h. h)
-            (λ k h. h)
-            moves.cause);
+        cause = rw (c.close.ensures.last_fault, c.close.ensures.left) moves.cause;
         refused = moves.refused;
         unrefused = moves.unrefused;
         refused_last = λ store told. rw c.close.ensures.left (moves.refused_last store told);
       };
       closed = search rules;
     }
+
+pub returns-clause-complete : goal.returns-clause-complete
+returns-clause-complete g c clean =
+    clean-done c.args.job
+    (told (g.S.Storage.files c.args.storage.now) (g.S.Storage.rule c.args.storage.now) (g.S.Storage.faults c.args.storage.now) (g.L.Source.left c.args.link.now) (g.L.Source.sending c.args.link.now) (g.L.Source.faults c.args.link.now))
+    (told (g.S.Storage.files c.run-outcome.new.storage) (g.S.Storage.rule c.run-outcome.new.storage) (g.S.Storage.faults c.run-outcome.new.storage) (g.L.Source.left c.close.new.self) (g.L.Source.sending c.close.new.self) (g.L.Source.faults c.close.new.self))
+    c.run-outcome.result
+    (returns-clause-ran g c)
+    clean

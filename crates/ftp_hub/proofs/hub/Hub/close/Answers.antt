@@ -13,7 +13,7 @@ use Rattle.ftp_hub.proofs.Decisions.{closed-idle, jobs-idle, put-back}
 use Rattle.ftp_hub.proofs.Commands.{serves-unknown, serves-command, closed-row, closed-plain}
 use Rattle.ftp_hub.proofs.Running.{IsIdle, running-idle}
 use Rattle.ftp_events.specs.Running.{running_after}
-use Rattle.ftp_transfer.specs.declared.job.Job.{Job}
+use Rattle.ftp_events.specs.declared.session.Running.{Running}
 use Rattle.ftp_hub.proofs.hub.Hub.close.Goals as goal
 
 -- a session that is not live
@@ -45,7 +45,7 @@ returns-clause-serves c log st =
     let there : map.get nat_eq c.args.self.now.sessions c.args.number ≡ Some v = sym c.take.ensures.value ∙ c.in-Some.is in
     let closed : d ≡ decision.Closed = c.handle.ensures.decision in
     let idle : IsIdle d = subst IsIdle (sym closed) closed-idle in
-    let job : Option Job = map.get nat_eq c.args.self.now.jobs c.args.number in
+    let job : Option Running = map.get nat_eq c.args.self.now.jobs c.args.number in
     let after : Session = session_after k c.args.answer d (notices_of d c.args.answer) job v in
     let len : map.hash_map_len c.take.new.table ≡ map.hash_map_len c.args.self.now.sessions - 1 = omega (arith, rw c.in-Some.is at c.take.ensures.len) in
     serves-command c.args.self.now _ log c.args.event.now c.args.answer d _ c.args.number v after st c.requires.fits.below (closed-plain _ c.requires.of_this_event) c.requires.named there

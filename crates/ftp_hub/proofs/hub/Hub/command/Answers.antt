@@ -9,7 +9,7 @@ use Rattle.ftp_hub.proofs.Commands.{serves-unknown, serves-command, command-plai
 use Rattle.ftp_hub.proofs.Rows.{command-goes_on}
 use Rattle.ftp_hub.proofs.Running.{running-idle}
 use Rattle.ftp_events.specs.Running.{running_after}
-use Rattle.ftp_transfer.specs.declared.job.Job.{Job}
+use Rattle.ftp_events.specs.declared.session.Running.{Running}
 use Rattle.ftp_hub.proofs.hub.Hub.command.Goals as goal
 
 -- a session that is not live
@@ -30,7 +30,7 @@ pub returns-in-Some-clause-serves : goal.returns-in-Some-clause-serves
 returns-in-Some-clause-serves c log st =
     let v : Session = c.in-Some.session.now in
     let there : map.get nat_eq c.args.self.now.sessions c.args.number ≡ Some v = sym c.in-Some.ensures.value in
-    let job : Option Job = map.get nat_eq c.args.self.now.jobs c.args.number in
+    let job : Option Running = map.get nat_eq c.args.self.now.jobs c.args.number in
     let lent = c.get_mut.follows.holds c.command.new.session in
     let goes_on = command-goes_on c.args.self.now.options _ c.args.event.now.kind v c.command.result c.requires.of_this_event c.command.ensures.decision in
     serves-command c.args.self.now _ log c.args.event.now c.args.answer c.command.result _ c.args.number v c.command.new.session st c.requires.fits.below (command-plain _ c.requires.of_this_event) c.requires.named there

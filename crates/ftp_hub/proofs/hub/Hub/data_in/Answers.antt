@@ -12,7 +12,7 @@ use Rattle.ftp_events.specs.declared.decision.Decision.{Decision}
 use Rattle.ftp_events.specs.declared.event.EventKind.TheVariants.{DataIn}
 use Rattle.ftp_events.specs.Modes.{in_range}
 use Rattle.ftp_events.specs.Session.{session_after}
-use Rattle.ftp_transfer.specs.declared.job.Job.{Job}
+use Rattle.ftp_events.specs.declared.session.Running.{Running}
 use Rattle.ftp_events.specs.Acts.{session_acts, starting}
 use Rattle.ftp_hub.specs.Handlers.{Starts}
 use Rattle.ftp_hub.specs.Arrivals.{arrival_of}
@@ -54,7 +54,7 @@ returns-in-Some-get_mut-clause-serves c log st =
     let lent = c.get_mut.follows.holds c.come.new.session in
     let o = c.args.self.now.options in
     let k = DataIn c.in-DataIn.number c.in-DataIn.raw c.in-DataIn.port in
-    let job : Option Job = map.get nat_eq c.args.self.now.jobs c.in-Some.holder in
+    let job : Option Running = map.get nat_eq c.args.self.now.jobs c.in-Some.holder in
     let ranged : Bool → Decision = λ b. arrival_of b (same_ip v.opening.raw.ip c.in-DataIn.raw.ip) c.in-Some.holder in
     let decided : c.come.result ≡ ranged (in_range o c.in-DataIn.port) = c.come.ensures.decision ∙ ap ranged c.in_range-in_range.ensures in
     rw decided (serves-held c.args.self.now _ log c.args.event.now c.args.answer _ c.in-DataIn.number c.in-V4.source c.in-DataIn.port c.in-Some.holder c.in-DataIn.raw v c.come.new.session st

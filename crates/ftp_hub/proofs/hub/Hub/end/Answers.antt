@@ -3,6 +3,7 @@ use Rattle.std.specs.Prelude.{nat_eq}
 use Rattle.std.specs.Option.{option_copied}
 use Rattle.std.specs.HashMap as map
 use Rattle.ftp_transfer.specs.declared.job.Job.{Job}
+use Rattle.ftp_events.specs.declared.session.Running.{Running}
 use Rattle.ftp_transfer.specs.declared.job.Outcome.{Outcome}
 use Rattle.ftp_transfer.specs.Transfer.{suits}
 use Rattle.ftp_events.specs.declared.decision.Decision.TheVariants as decision
@@ -34,9 +35,9 @@ returns-in_default-clause-serves c log st =
 -- another job runs
 pub returns-then-ne-clause-serves : goal.returns-then-ne-clause-serves
 returns-then-ne-clause-serves c log st =
-    let job : Job = c.in-Some.job.now in
+    let job : Running = c.in-Some.job.now in
     let there : map.get nat_eq c.args.self.now.jobs c.args.ticket.session ≡ Some job = sym c.get.ensures.value ∙ ap option_copied c.in-Some.is in
-    let other : same_ticket job.ticket c.args.ticket ≡ false = denied (same_ticket job.ticket c.args.ticket) c.if-ne.ensures in
+    let other : same_ticket job.job.ticket c.args.ticket ≡ false = denied (same_ticket job.job.ticket c.args.ticket) c.if-ne.ensures in
     serves-refused c.args.self.now log c.args.event.now c.args.answer decision.UnknownNumber _ st
     (sym (end-due c.args.self.now log c.args.event.now c.args.answer c.args.ticket (Some job) st c.requires.of_this_event there ∙ rw other refl)) refl c.requires.fits.ready.actions
 
@@ -48,18 +49,18 @@ unrun job (Done outcome) never = absurd (never outcome refl)
 -- it was not run
 pub returns-in_default-answer-clause-serves : goal.returns-in_default-answer-clause-serves
 returns-in_default-answer-clause-serves c log st =
-    let job : Job = c.in-Some.job.now in
+    let job : Running = c.in-Some.job.now in
     let there : map.get nat_eq c.args.self.now.jobs c.args.ticket.session ≡ Some job = sym c.get.ensures.value ∙ ap option_copied c.in-Some.is in
-    let same : same_ticket job.ticket c.args.ticket ≡ true = kept (same_ticket job.ticket c.args.ticket) c.if-ne.ensures in
+    let same : same_ticket job.job.ticket c.args.ticket ≡ true = kept (same_ticket job.job.ticket c.args.ticket) c.if-ne.ensures in
     serves-refused c.args.self.now log c.args.event.now c.args.answer decision.NotExpected _ st
-    (sym (end-due c.args.self.now log c.args.event.now c.args.answer c.args.ticket (Some job) st c.requires.of_this_event there ∙ rw same (unrun job c.args.answer c.in_default-answer.not-Done))) refl c.requires.fits.ready.actions
+    (sym (end-due c.args.self.now log c.args.event.now c.args.answer c.args.ticket (Some job) st c.requires.of_this_event there ∙ rw same (unrun job.job c.args.answer c.in_default-answer.not-Done))) refl c.requires.fits.ready.actions
 
 -- it cannot end so
 pub returns-then-not-suits-clause-serves : goal.returns-then-not-suits-clause-serves
 returns-then-not-suits-clause-serves c log st =
-    let job : Job = c.in-Some.job.now in
+    let job : Running = c.in-Some.job.now in
     let there : map.get nat_eq c.args.self.now.jobs c.args.ticket.session ≡ Some job = sym c.get.ensures.value ∙ ap option_copied c.in-Some.is in
-    let same : same_ticket job.ticket c.args.ticket ≡ true = kept (same_ticket job.ticket c.args.ticket) c.if-ne.ensures in
-    let unfit : suits c.in-Done.outcome.result job.command ≡ false = sym c.if-not-suits.ensures in
+    let same : same_ticket job.job.ticket c.args.ticket ≡ true = kept (same_ticket job.job.ticket c.args.ticket) c.if-ne.ensures in
+    let unfit : suits c.in-Done.outcome.result job.job.command ≡ false = sym c.if-not-suits.ensures in
     serves-refused c.args.self.now log c.args.event.now c.args.answer decision.NotExpected _ st
     (sym (end-due c.args.self.now log c.args.event.now c.args.answer c.args.ticket (Some job) st c.requires.of_this_event there ∙ ap (λ (x : Answer). end_row c.args.ticket x (Some job)) c.in-Done.is ∙ rw (same, unfit) refl)) refl c.requires.fits.ready.actions

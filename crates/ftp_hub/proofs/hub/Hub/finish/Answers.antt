@@ -1,7 +1,7 @@
 use Rattle.std.proofs.Common.{◌≡◌, refl, sym, ap, ◌∙◌, subst, ℕ, ◌+◌, ◌-◌, ◌++◌, true, false, Option, Some, [], ◌∷◌, cond, arith}
 use Rattle.std.specs.Prelude.{nat_eq, ◌==◌, IsSomeAnd}
 use Rattle.std.specs.HashMap as map
-use Rattle.ftp_transfer.specs.declared.job.Job.{Job}
+use Rattle.ftp_events.specs.declared.session.Running.{Running}
 use Rattle.ftp_transfer.specs.declared.job.Ticket.{Ticket}
 use Rattle.ftp_transfer.specs.Transfer.{suits}
 use Rattle.ftp_events.specs.declared.action.Action.TheVariants as action
@@ -21,16 +21,16 @@ use Rattle.ftp_hub.proofs.Ends.{finish-due, jobs-finished, running-finished, ser
 use Rattle.ftp_hub.proofs.hub.Hub.finish.Goals as goal
 
 -- what is known of a job that is there
-runs-so : (P : Job → Type 0) (x : Option Job) (job : Job) → x ≡ Some job → IsSomeAnd x P → P job
-runs-so P x job e h = subst (λ (y : Option Job). IsSomeAnd y P) e h
+runs-so : (P : Running → Type 0) (x : Option Running) (job : Running) → x ≡ Some job → IsSomeAnd x P → P job
+runs-so P x job e h = subst (λ (y : Option Running). IsSomeAnd y P) e h
 
 -- a session that has ended
 pub returns-in-None-clause-serves : goal.returns-in-None-clause-serves
 returns-in-None-clause-serves c log st =
     let t = c.args.ticket in
-    let job : Job = c.in-Some.job in
+    let job : Running = c.in-Some.job in
     let there : map.get nat_eq c.args.self.now.jobs t.session ≡ Some job = sym c.take.ensures.value ∙ c.in-Some.is in
-    let known = runs-so (λ job. (job.ticket ≡ t) × (suits c.args.outcome.result job.command ≡ true)) (map.get nat_eq c.args.self.now.jobs t.session) job there c.requires.runs in
+    let known = runs-so (λ job. (job.job.ticket ≡ t) × (suits c.args.outcome.result job.job.command ≡ true)) (map.get nat_eq c.args.self.now.jobs t.session) job there c.requires.runs in
     let fewer : map.hash_map_len c.take.new.table ≡ map.hash_map_len c.args.self.now.jobs - 1 = omega (arith, rw c.in-Some.is at c.take.ensures.len) in
     serves-lost c.args.self.now _ log c.args.event.now c.args.outcome _ t job st c.requires.of_this_event there known.0 known.1
     (sym c.in-None.ensures.value) (c.complete.ensures.actions ∙ ap (λ xs. xs ++ action.Completed t false ∷ []) c.requires.fits.ready.actions) refl
@@ -45,27 +45,27 @@ returns-in-Some-get_mut-clause-serves c log st =
     let o = c.args.self.now.options in
     let k : EventKind = c.args.event.now.kind in
     let a : Answer = Done c.args.outcome in
-    let job : Job = c.in-Some.job in
+    let job : Running = c.in-Some.job in
     let v : Session = c.in-Some-get_mut.session.now in
     let jobs : Jobs = c.args.self.now.jobs in
     let there_job : map.get nat_eq jobs s ≡ Some job = sym c.take.ensures.value ∙ c.in-Some.is in
-    let known = runs-so (λ job. (job.ticket ≡ t) × (suits c.args.outcome.result job.command ≡ true)) (map.get nat_eq jobs s) job there_job c.requires.runs in
+    let known = runs-so (λ job. (job.job.ticket ≡ t) × (suits c.args.outcome.result job.job.command ≡ true)) (map.get nat_eq jobs s) job there_job c.requires.runs in
     let there : map.get nat_eq c.args.self.now.sessions s ≡ Some v = sym c.in-Some-get_mut.ensures.value in
     let few : IsFew v = few-counts c.args.self.now log s v st c.requires.fits.below (sym (st.tables.sessions s) ∙ there) in
     let lent = c.get_mut.follows.holds c.finish.new.session in
-    let kind_is : kind.End job.ticket ≡ k = ap kind.End known.0 ∙ sym c.requires.of_this_event in
+    let kind_is : kind.End job.job.ticket ≡ k = ap kind.End known.0 ∙ sym c.requires.of_this_event in
     let named : named_session k ≡ Some s = rw c.requires.of_this_event refl in
-    let acts = c.finish.ensures.actions few.notices ∙ ap (λ (x : Ticket). session_acts o x.session (kind.End job.ticket) a decision.Finished (Some job) (Some v)) known.0 in
+    let acts = c.finish.ensures.actions few.notices ∙ ap (λ (x : Ticket). session_acts o x.session (kind.End job.job.ticket) a decision.Finished (Some job) (Some v)) known.0 in
     let fewer : map.hash_map_len c.take.new.table + 1 ≡ map.hash_map_len jobs = omega (arith, rw c.in-Some.is at c.take.ensures.len) in
-    let begins : Starts c.take.new.table c.finish.new.jobs s (starting (kind.End job.ticket) decision.Finished (Some job) v) = subst (λ (x : Ticket). Starts c.take.new.table c.finish.new.jobs x.session (starting (kind.End job.ticket) decision.Finished (Some job) v)) known.0 c.finish.ensures.starts in
+    let begins : Starts c.take.new.table c.finish.new.jobs s (starting (kind.End job.job.ticket) decision.Finished (Some job) v) = subst (λ (x : Ticket). Starts c.take.new.table c.finish.new.jobs x.session (starting (kind.End job.job.ticket) decision.Finished (Some job) v)) known.0 c.finish.ensures.starts in
     serves-named c.args.self.now _ log c.args.event.now a decision.Finished _ s v c.finish.new.session st named refl
     (sym (st.tables.sessions s) ∙ there) (finish-due c.args.self.now log c.args.event.now c.args.outcome t job st c.requires.of_this_event there_job known.0 known.1)
-    (acts ∙ ap (λ (x : EventKind). session_acts o s x a decision.Finished (Some job) (Some v)) kind_is ∙ ap (λ (x : Option Job). session_acts o s k a decision.Finished x (Some v)) (sym there_job))
+    (acts ∙ ap (λ (x : EventKind). session_acts o s x a decision.Finished (Some job) (Some v)) kind_is ∙ ap (λ (x : Option Running). session_acts o s k a decision.Finished x (Some v)) (sym there_job))
     refl
-    (c.finish.ensures.session few.notices ∙ ap (λ (x : EventKind). session_after x a decision.Finished (notices_of decision.Finished a) (Some job) v) kind_is ∙ ap (λ (x : Option Job). session_after k a decision.Finished (notices_of decision.Finished a) x v) (sym there_job))
+    (c.finish.ensures.session few.notices ∙ ap (λ (x : EventKind). session_after x a decision.Finished (notices_of decision.Finished a) (Some job) v) kind_is ∙ ap (λ (x : Option Running). session_after k a decision.Finished (notices_of decision.Finished a) x v) (sym there_job))
     (lent.3 (rw there refl)).0 lent.2
-    (λ q. jobs-finished jobs c.take.new.table c.finish.new.jobs s q (kind.End job.ticket) job v c.take.ensures.updates begins
+    (λ q. jobs-finished jobs c.take.new.table c.finish.new.jobs s q (kind.End job.job.ticket) job v c.take.ensures.updates begins
     ∙ ap (λ (x : EventKind). cond (s == q) (next_lane x decision.Finished (Some job) v).running (map.get nat_eq jobs q)) kind_is
-    ∙ ap (λ (x : Option Job). cond (s == q) (next_lane k decision.Finished x v).running (map.get nat_eq jobs q)) (sym there_job))
-    (running-finished o s job.ticket a job v jobs c.take.new.table c.finish.new.jobs fewer begins ∙ ap (λ xs. running_after xs (map.hash_map_len jobs)) (sym acts))
+    ∙ ap (λ (x : Option Running). cond (s == q) (next_lane k decision.Finished x v).running (map.get nat_eq jobs q)) (sym there_job))
+    (running-finished o s job.job.ticket a job v jobs c.take.new.table c.finish.new.jobs fewer begins ∙ ap (λ xs. running_after xs (map.hash_map_len jobs)) (sym acts))
     (λ q. refl) (λ a p. refl)

@@ -3,7 +3,7 @@ use Rattle.std.specs.Prelude.{nat_eq, ◌==◌, unwrap_or}
 use Rattle.std.specs.HashMap as map
 use Rattle.ftp_base.specs.Net.{ipv4}
 use Rattle.ftp_switchboard.specs.Board.{Board, holder_at}
-use Rattle.ftp_transfer.specs.declared.job.Job.{Job}
+use Rattle.ftp_events.specs.declared.session.Running.{Running}
 use Rattle.ftp_events.specs.Log.{past_of}
 use Rattle.ftp_events.specs.Running.{running_after}
 use Rattle.ftp_events.specs.Session.{session_after}
@@ -41,7 +41,7 @@ returns-in-Some-clause-serves c log st =
     let o = c.args.self.now.options in
     let d : Decision = c.queue.result in
     let jobs = c.args.self.now.jobs in
-    let job : Option Job = map.get nat_eq jobs s in
+    let job : Option Running = map.get nat_eq jobs s in
     let there : map.get nat_eq c.args.self.now.sessions s ≡ Some v = sym c.in-Some.ensures.value in
     let few : IsFew v = few-counts c.args.self.now log s v st c.requires.fits.below (sym (st.tables.sessions s) ∙ there) in
     let comes : Comes d = transfer-comes s v d (c.queue.ensures.decision few) in

@@ -1,0 +1,47 @@
+-- Transfers of which nothing is refused and nothing fails, in the legal logs of scripts.
+use Rattle.std.specs.Prelude.{◌≡◌, ◌⊎◌, ℕ, ◌-◌, ◌^◌, ◌<◌, List, [], ◌∷◌, ◌++◌, Some}
+use Rattle.std.specs.FinMap as map
+use Rattle.ftp_base.specs.Memory.{LinkState, fault_limit, link_fault_limit}
+use Rattle.ftp_base.specs.MemoryStorage.{MemoryState, memory_rule}
+use Rattle.ftp_options.specs.declared.options.Options.{Options}
+use Rattle.ftp_transfer.specs.declared.job.Completion.{Completion}
+use Rattle.ftp_transfer.specs.declared.job.Completion.TheVariants as result
+use Rattle.ftp_transfer.specs.declared.job.Job.{Job}
+use Rattle.ftp_transfer.specs.declared.job.Outcome.{Outcome}
+use Rattle.ftp_transfer.specs.Ran.{Takes, IsDone}
+use Rattle.ftp_events.specs.declared.entry.Entry.{Entry}
+use Rattle.ftp_events.specs.declared.event.Answer.TheVariants as answer
+use Rattle.ftp_events.specs.Leads.{Outside, job_to_run, LeadsOne, Leads}
+use Rattle.ftp_events.specs.Log.{past_of}
+use Rattle.ftp_event_text.specs.declared.setup.Item.{Item}
+use Rattle.ftp_script_text.specs.SetUp.{storage_in}
+use Rattle.ftp_script_run.specs.Items.{links_in}
+use Rattle.ftp_script_run.specs.Legal.{memory_views, start_of}
+
+-- the items list no call that fails
+pub record ListsNoFault (items : List Item) : Type 0 where
+  pub storage : fault_limit (storage_in items).calls ≡ 0
+  pub links : (n : ℕ) (link : LinkState) → map.get (links_in items) n ≡ Some link → link_fault_limit link.calls ≡ 0
+
+-- an entry that ran a job from old on, of which the storage's rule refuses no call, says that it was done, or that memory
+-- ran out
+abbrev pub IsDoneWhereTaken : Options → List Entry → Entry → ℕ → Outside MemoryState LinkState → Type 0
+IsDoneWhereTaken o past e max old =
+    (job : Job) (link : LinkState) (outcome : Outcome) →
+    job_to_run o past e.event.kind ≡ Some job →
+    map.get old.links job.number ≡ Some link →
+    Takes job.command job (memory_rule max) old.storage.files (Some link.left) →
+    e.answer ≡ answer.Done outcome →
+    outcome.bytes < 2 ^ 64 - 1 →
+    IsDone outcome.result ⊎ (outcome.result ≡ result.OutOfMemory)
+
+-- so does each entry of a legal log of a script that lists no call that fails
+abbrev pub TakenTransfersAreDone : Type 0
+TakenTransfersAreDone =
+    (o : Options) (items : List Item) (older newer : List Entry) (e : Entry) (end : Outside MemoryState LinkState) →
+    ListsNoFault items →
+    Leads memory_views o [] (newer ++ e ∷ older) (start_of items) end →
+    (old new : Outside MemoryState LinkState)
+    × Leads memory_views o [] older (start_of items) old
+    × LeadsOne memory_views o (past_of older) e old new
+    × IsDoneWhereTaken o (past_of older) e (storage_in items).max_file old

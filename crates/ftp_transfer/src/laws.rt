@@ -1,0 +1,9 @@
+//! What holds of every run of a job. The function does nothing: its clause is the law.
+
+ghost use Rattle.ftp_transfer.specs.Uploads.{UploadsAreWritten};
+
+/// A STOR to a storage in memory that has room for it, and of which no call failed but the link's close, is
+/// written, or memory ran out.
+pub fn uploads_are_written()
+    ensures { UploadsAreWritten }
+{}
