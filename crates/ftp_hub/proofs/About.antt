@@ -23,9 +23,10 @@ use Rattle.ftp_events.specs.Acts.{session_acts, acts_of, acts}
 use Rattle.ftp_laws.proofs.Laws.{counting-counts, session_by}
 use Rattle.ftp_laws.proofs.Tables.{IsAbout, session-about, running-about}
 use Rattle.ftp_hub.specs.declared.hub.Hub.{Hub}
-use Rattle.ftp_hub.specs.Handlers.{notices_of}
+use Rattle.ftp_handlers.specs.Handlers.{notices_of}
 use Rattle.ftp_hub.specs.Stands.{Tables, Stands, Serves, entry}
 use Rattle.ftp_hub.proofs.Counts.{count-session_acts}
+use Rattle.ftp_hub.proofs.Moved.{Moved}
 
 -- the tables after an entry about session s, where the numbers and the holds are those after it
 pub serves-about :
@@ -35,37 +36,32 @@ pub serves-about :
     session old.options (past_of log) s ≡ Some v →
     d ≡ decide old.options log event answer →
     done ≡ session_acts old.options s event.kind answer d (map.get nat_eq old.jobs s) (Some v) →
-    new.options ≡ old.options →
-    after ≡ session_after event.kind answer d (notices_of d answer) (map.get nat_eq old.jobs s) v →
-    ((q : ℕ) → map.get nat_eq new.sessions q ≡ cond (s == q) (cond (lives_on d) (Some after) None) (map.get nat_eq old.sessions q)) →
-    (map.hash_map_len new.sessions ≡ live_after d (map.hash_map_len old.sessions)) →
-    ((q : ℕ) → map.get nat_eq new.jobs q ≡ cond (s == q) (next_lane event.kind d (map.get nat_eq old.jobs s) v).running (map.get nat_eq old.jobs q)) →
-    (map.hash_map_len new.jobs ≡ running_after done (map.hash_map_len old.jobs)) →
+    Moved old new event.kind answer d done s v after →
     ((q : ℕ) → has new.numbers q ≡ is_used (entry event answer d done ∷ past_of log) q) →
     ((a p : ℕ) → holder_at new.board a p ≡ holder old.options (entry event answer d done ∷ past_of log) (V4 a) p) →
     Serves old new log event answer d done
 unfolding acts
-serves-about old new log event answer d done s v after st counts about known right acted same after_is table len jobs running numbers board =
+serves-about old new log event answer d done s v after st counts about known right acted moved numbers board =
     record {
       decision = right;
       done = done_are ∙ sym due_acts;
       tables = subst (Tables new) (sym (counting-counts e log counts)) (record {
         sessions = λ q.
-            table q
-            ∙ ap (λ (x : Session). cond (s == q) (cond (lives_on d) (Some x) None) (map.get nat_eq old.sessions q)) (after_is ∙ counted)
+            moved.sessions.table q
+            ∙ ap (λ (x : Session). cond (s == q) (cond (lives_on d) (Some x) None) (map.get nat_eq old.sessions q)) (moved.session ∙ counted)
             ∙ ap (λ (x : Option Session). cond (s == q) (cond (lives_on d) (Some (session_by s e job v)) None) x) (st.tables.sessions q)
             ∙ sym (session-about o past e s v q about known)
-            ∙ ap (λ (o : Options). session o (e ∷ past) q) (sym same);
-        live = len ∙ ap (live_after d) st.tables.live;
+            ∙ ap (λ (o : Options). session o (e ∷ past) q) (sym moved.options);
+        live = moved.sessions.live ∙ ap (live_after d) st.tables.live;
         jobs = λ q.
-            jobs q
+            moved.jobs.table q
             ∙ ap (λ (x : Option Running). cond (s == q) (next_lane event.kind d x v).running (map.get nat_eq old.jobs q)) (st.tables.jobs s)
             ∙ ap (λ (x : Option Running). cond (s == q) (next_lane event.kind d job v).running x) (st.tables.jobs q)
             ∙ sym (running-about o past e s v q about known)
-            ∙ ap (λ (o : Options). running_job o (e ∷ past) q) (sym same);
-        running = running ∙ ap (running_after done) st.tables.running;
+            ∙ ap (λ (o : Options). running_job o (e ∷ past) q) (sym moved.options);
+        running = moved.jobs.running ∙ ap (running_after done) st.tables.running;
         numbers = numbers;
-        holders = λ a p. board a p ∙ ap (λ (o : Options). holder o (e ∷ past) (V4 a) p) (sym same);
+        holders = λ a p. board a p ∙ ap (λ (o : Options). holder o (e ∷ past) (V4 a) p) (sym moved.options);
       });
     }
   where

@@ -28,12 +28,13 @@ use Rattle.ftp_events.specs.Session.{session, running_job, lives_on, session_aft
 use Rattle.ftp_events.specs.Decide.{if_live, due, decide}
 use Rattle.ftp_events.specs.Acts.{session_acts}
 use Rattle.ftp_hub.specs.declared.hub.Hub.{Hub}
-use Rattle.ftp_hub.specs.Handlers.{IsFew, held_after, notices_of, number_of, held_for, is_command, is_closed}
+use Rattle.ftp_handlers.specs.Handlers.{IsFew, held_for, is_closed, is_command}
 use Rattle.ftp_hub.specs.Stands.{Tables, Stands, Serves}
 use Rattle.ftp_hub.proofs.Clients.{client-v4}
 use Rattle.ftp_hub.proofs.Refusals.{serves-refusal}
 use Rattle.ftp_hub.proofs.Named.{few-counts, serves-named}
 use Rattle.ftp_hub.proofs.Decisions.{put-back, refusal-leaves}
+use Rattle.ftp_hub.proofs.Moved.{Moved, MovedAlone}
 use Rattle.ftp_hub.proofs.Running.{running-none}
 
 -- the end of a transfer
@@ -81,23 +82,20 @@ held-same hub log s v st known =
     let client = client-v4 hub.options log s v hub.pooled st.right known in
     λ i p. (st.tables.holders (ipv4 v.opening.client) p ∙ ap (λ (x : IpAddr). holder hub.options (past_of log) x p) (sym client)) i
 
+-- what was decided and done on a live session is what its row wants, and the tables moved so
+pub record Handled (old new : Hub) (event : HubEvent) (answer : Answer) (d : Decision) (done : List Action) (s : ℕ) (v after : Session) : Type 0 where
+  pub row : d ≡ command_row old.options (held_for old.board v) event.kind v
+  pub acts : done ≡ session_acts old.options s event.kind answer d (map.get nat_eq old.jobs s) (Some v)
+  pub tables : MovedAlone old new event.kind answer d done s v after
+
 -- the tables after a command of a live session
 pub serves-command :
     (old new : Hub) (log : List Entry) (event : HubEvent) (answer : Answer) (d : Decision) (done : List Action) (s : ℕ) (v after : Session) →
     Stands old log → old.count < 2 ^ 64 - 1 → is_end event.kind ≡ false → named_session event.kind ≡ Some s → map.get nat_eq old.sessions s ≡ Some v →
-    (IsFew v → d ≡ command_row old.options (held_for old.board v) event.kind v) →
-    (IsFew v → after ≡ session_after event.kind answer d (notices_of d answer) (map.get nat_eq old.jobs s) v) →
-    (IsFew v → done ≡ session_acts old.options (number_of event.kind) event.kind answer d (map.get nat_eq old.jobs s) (Some v)) →
-    new.options ≡ old.options →
-    ((q : ℕ) → map.get nat_eq new.sessions q ≡ cond (s == q) (cond (lives_on d) (Some after) None) (map.get nat_eq old.sessions q)) →
-    (map.hash_map_len new.sessions ≡ live_after d (map.hash_map_len old.sessions)) →
-    (IsFew v → (q : ℕ) → map.get nat_eq new.jobs q ≡ cond (s == q) (next_lane event.kind d (map.get nat_eq old.jobs s) v).running (map.get nat_eq old.jobs q)) →
-    (IsFew v → map.hash_map_len new.jobs ≡ running_after done (map.hash_map_len old.jobs)) →
-    ((q : ℕ) → has new.numbers q ≡ has old.numbers q) →
-    ((a p : ℕ) → holder_at new.board a p ≡ held_after d (number_of event.kind) (ipv4 v.opening.client) (waiting_port v.slot) a p (holder_at old.board a p)) →
+    (IsFew v → Handled old new event answer d done s v after) →
     Serves old new log event answer d done
 unfolding decide
-serves-command old new log event answer d done s v after st below plain named there row after_is acted same table len jobs running numbers board = by_refusal (is_refusal d) refl
+serves-command old new log event answer d done s v after st below plain named there handled = by_refusal (is_refusal d) refl
   where
     o : Options
     o = old.options
@@ -105,48 +103,41 @@ serves-command old new log event answer d done s v after st below plain named th
     known : session o (past_of log) s ≡ Some v
     known = sym (st.tables.sessions s) ∙ there
 
-    few : IsFew v
-    few = few-counts old log s v st below known
-
-    number : number_of event.kind ≡ s
-    number = ap (λ (n : Option ℕ). unwrap_or n 0) named
+    h : Handled old new event answer d done s v after
+    h = handled (few-counts old log s v st below known)
 
     right : d ≡ decide o log event answer
-    right = row few ∙ ap (λ (holders : ℕ → Option ℕ). command_row o holders event.kind v) (held-same old log s v st known) ∙ sym (due-named o (past_of log) event.at event.kind answer s (Some v) plain named known)
+    right = h.row ∙ ap (λ (holders : ℕ → Option ℕ). command_row o holders event.kind v) (held-same old log s v st known) ∙ sym (due-named o (past_of log) event.at event.kind answer s (Some v) plain named known)
 
-    acts_are : done ≡ session_acts o s event.kind answer d (map.get nat_eq old.jobs s) (Some v)
-    acts_are = acted few ∙ ap (λ n. session_acts o n event.kind answer d (map.get nat_eq old.jobs s) (Some v)) number
-
-    holders_are : (a p : ℕ) → holder_at new.board a p ≡ held_after d s (ipv4 v.opening.client) (waiting_port v.slot) a p (holder_at old.board a p)
-    holders_are a p = board a p ∙ ap (λ n. held_after d n (ipv4 v.opening.client) (waiting_port v.slot) a p (holder_at old.board a p)) number
+    m : Moved old new event.kind answer d done s v after
+    m = h.tables.moved
 
     by_refusal : (b : Bool) → is_refusal d ≡ b → Serves old new log event answer d done
-    by_refusal false counts =
-        serves-named old new log event answer d done s v after st named counts known right acts_are same (after_is few) table len (jobs few) (running few) numbers holders_are
+    by_refusal false counts = serves-named old new log event answer d done s v after st named counts known right h.acts h.tables
     by_refusal true refused =
         let leaves = refusal-leaves d refused in
-        let nothing : done ≡ [] = acts_are ∙ leaves.acts o s event.kind answer (map.get nat_eq old.jobs s) v in
+        let nothing : done ≡ [] = h.acts ∙ leaves.acts o s event.kind answer (map.get nat_eq old.jobs s) v in
         serves-refusal old new log event answer d done st right refused nothing
         (record {
           sessions = λ q.
-              table q
+              m.sessions.table q
               ∙ ap (λ b. cond (s == q) (cond b (Some after) None) (map.get nat_eq old.sessions q)) leaves.lives
-              ∙ ap (λ (x : Option Session). cond (s == q) x (map.get nat_eq old.sessions q)) (ap Some (after_is few ∙ leaves.session event.kind answer (map.get nat_eq old.jobs s) v) ∙ sym there)
+              ∙ ap (λ (x : Option Session). cond (s == q) x (map.get nat_eq old.sessions q)) (ap Some (m.session ∙ leaves.session event.kind answer (map.get nat_eq old.jobs s) v) ∙ sym there)
               ∙ put-back (map.get nat_eq old.sessions) s q
               ∙ st.tables.sessions q
-              ∙ ap (λ (o : Options). session o (past_of log) q) (sym same);
-          live = len ∙ unchanged d refused ∙ st.tables.live;
+              ∙ ap (λ (o : Options). session o (past_of log) q) (sym m.options);
+          live = m.sessions.live ∙ unchanged d refused ∙ st.tables.live;
           jobs = λ q.
-              jobs few q
+              m.jobs.table q
               ∙ ap (λ (x : Option Running). cond (s == q) x (map.get nat_eq old.jobs q)) (leaves.runs event.kind (map.get nat_eq old.jobs s) v)
               ∙ put-back (map.get nat_eq old.jobs) s q
               ∙ st.tables.jobs q
-              ∙ ap (λ (o : Options). running_job o (past_of log) q) (sym same);
-          running = running few ∙ running-none done (map.hash_map_len old.jobs) nothing ∙ st.tables.running;
-          numbers = λ q. numbers q ∙ st.tables.numbers q;
+              ∙ ap (λ (o : Options). running_job o (past_of log) q) (sym m.options);
+          running = m.jobs.running ∙ running-none done (map.hash_map_len old.jobs) nothing ∙ st.tables.running;
+          numbers = λ q. h.tables.numbers q ∙ st.tables.numbers q;
           holders = λ a p.
-              holders_are a p ∙ leaves.held s (ipv4 v.opening.client) (waiting_port v.slot) a p (holder_at old.board a p) ∙ st.tables.holders a p
-              ∙ ap (λ (o : Options). holder o (past_of log) (V4 a) p) (sym same);
+              h.tables.holders a p ∙ leaves.held s (ipv4 v.opening.client) (waiting_port v.slot) a p (holder_at old.board a p) ∙ st.tables.holders a p
+              ∙ ap (λ (o : Options). holder o (past_of log) (V4 a) p) (sym m.options);
         })
       where
         unchanged : (d : Decision) → is_refusal d ≡ true → live_after d (map.hash_map_len old.sessions) ≡ map.hash_map_len old.sessions

@@ -26,7 +26,7 @@ use Rattle.ftp_events.specs.Transfer.{moves_file}
 use Rattle.ftp_events.specs.Acts.{notice_for, session_acts, acts_of, acts}
 use Rattle.ftp_events.specs.Right.{IsActed}
 use Rattle.ftp_laws.proofs.Notices as law
-use Rattle.ftp_hub.specs.Handlers.{notices_of}
+use Rattle.ftp_handlers.specs.Handlers.{notices_of}
 use Rattle.ftp_laws.proofs.Entries.{past-more, history-more}
 
 -- the message of an outcome notifies where a file was moved

@@ -1,5 +1,5 @@
 -- The tables after a data connection.
-use Rattle.std.proofs.Common.{◌≡◌, refl, sym, ap, ◌∙◌, ℕ, Bool, true, false, not, cond, ◌&&◌, ◌||◌, List, [], ◌∷◌, Option, Some, None, arith}
+use Rattle.std.proofs.Common.{subst, ◌≡◌, refl, sym, ap, ◌∙◌, ℕ, Bool, true, false, not, cond, ◌&&◌, ◌||◌, List, [], ◌∷◌, Option, Some, None, arith}
 use Rattle.std.specs.Prelude.{◌==◌, nat_eq}
 use Rattle.std.specs.HashMap as map
 use Rattle.ftp_base.specs.declared.net.IpAddr.{IpAddr}
@@ -33,11 +33,12 @@ use Rattle.ftp_laws.proofs.Holds.{WaitsFor, holder-waits}
 use Rattle.ftp_laws.proofs.Tables.{IsAbout, holder-arrived, arrival-about, eq-comm, same-both}
 use Rattle.ftp_hub.specs.declared.hub.Hub.{Hub}
 use Rattle.ftp_hub.specs.Arrivals.{arrival_of}
-use Rattle.ftp_hub.specs.Handlers.{Jobs, Starts, notices_of}
+use Rattle.ftp_handlers.specs.Handlers.{Jobs, Starts, notices_of}
 use Rattle.ftp_hub.specs.Stands.{Stands, Serves, entry}
 use Rattle.ftp_hub.proofs.About.{serves-about}
+use Rattle.ftp_hub.proofs.Moved.{JobsMoved, jobs-start, sessions-stay}
 use Rattle.ftp_hub.proofs.Clients.{pooled-shared}
-use Rattle.ftp_hub.proofs.Decisions.{Comes, jobs-started, running-started}
+use Rattle.ftp_hub.proofs.Decisions.{Comes}
 
 -- a data connection, from an address of version 4, with a number that was not used
 pub record Arrives (o : Options) (log : List Entry) (event : HubEvent) (n source port : ℕ) (raw : SocketAddr) : Type 0 where
@@ -132,16 +133,16 @@ pub serves-held :
     Serves old new log event answer (arrival_of (in_range old.options port) (same_ip v.opening.raw.ip raw.ip) s) done
 serves-held old new log event answer done n source port s raw v after st arr held there after_is acted same table len begins numbers board =
     serves-about old new log event answer d done s v after st comes.counts about known (sym (arrival-due old log event answer n source port raw st arr ∙ rw (holds, known) refl))
-    (acted ∙ ap (λ (x : EventKind). session_acts o s x answer d job (Some v)) (sym arr.kind_is)) same
-    (after_is
-    ∙ ap (λ c. session_after k answer d c job v) (sym (comes.silent answer))
-    ∙ ap (λ (x : EventKind). session_after x answer d (notices_of d answer) job v) (sym arr.kind_is))
-    (λ q. table q ∙ ap (λ b. cond (s == q) (cond b (Some after) None) (map.get nat_eq old.sessions q)) (sym comes.lives))
-    (len ∙ sym (comes.as_many (map.hash_map_len old.sessions)))
-    (λ q.
-    jobs-started old.jobs new.jobs s q k d v comes.unfinished begins
-    ∙ ap (λ (x : EventKind). cond (s == q) (next_lane x d job v).running (map.get nat_eq old.jobs q)) (sym arr.kind_is))
-    (running-started o s k answer d v old.jobs new.jobs comes.unfinished begins ∙ ap (λ xs. running_after xs (map.hash_map_len old.jobs)) (sym acted))
+    (acted ∙ ap (λ (x : EventKind). session_acts o s x answer d job (Some v)) (sym arr.kind_is))
+    (record {
+      options = same;
+      session =
+          after_is
+          ∙ ap (λ c. session_after k answer d c job v) (sym (comes.silent answer))
+          ∙ ap (λ (x : EventKind). session_after x answer d (notices_of d answer) job v) (sym arr.kind_is);
+      sessions = sessions-stay old.sessions new.sessions d s after comes.lives comes.as_many table len;
+      jobs = subst (λ (x : EventKind). JobsMoved old.jobs new.jobs x d done s v) (sym arr.kind_is) (jobs-start old.jobs new.jobs o k answer d done s v comes.unfinished begins acted);
+    })
     (λ q. rw arr.kind_is (numbers q ∙ ap (λ b. (n == q) || b) (st.tables.numbers q)))
     (λ a p. board a p ∙ sym (holders-arrived old log event answer d done n source port raw a p st arr comes))
   where

@@ -18,7 +18,7 @@ use Rattle.ftp_events.specs.Board.{granted_port}
 use Rattle.ftp_events.specs.Running.{ended, running_after}
 use Rattle.ftp_events.specs.Session.{lives_on, session_after, queued_for, lane_in, next_lane, live_after}
 use Rattle.ftp_events.specs.Acts.{session_acts, starting, stays}
-use Rattle.ftp_hub.specs.Handlers.{Jobs, Starts, held_after, notices_of}
+use Rattle.ftp_handlers.specs.Handlers.{Jobs, Starts, held_after, notices_of}
 use Rattle.ftp_laws.proofs.Tables.{same-both}
 use Rattle.ftp_laws.proofs.Tickets.{is_finished}
 use Rattle.ftp_laws.proofs.Running.{no-completion, running-after}

@@ -40,7 +40,7 @@ use Rattle.ftp_laws.proofs.Laws.{counting-counts, history-own, running-other, se
 use Rattle.ftp_laws.proofs.Lanes.{ended-empty}
 use Rattle.ftp_laws.proofs.Tables.{holder-named}
 use Rattle.ftp_hub.specs.declared.hub.Hub.{Hub}
-use Rattle.ftp_hub.specs.Handlers.{Jobs, Starts, is_transfer}
+use Rattle.ftp_handlers.specs.Handlers.{Jobs, Starts, is_transfer}
 use Rattle.ftp_hub.specs.Stands.{Tables, Stands, Serves, entry}
 use Rattle.ftp_laws.proofs.Running.{runs-started}
 use Rattle.ftp_hub.proofs.Running.{count-start, running-acts}

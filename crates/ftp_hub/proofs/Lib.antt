@@ -1,4 +1,5 @@
 pub mod Counts
+pub mod Moved
 pub mod About
 pub mod Clients
 pub mod Running
@@ -12,3 +13,4 @@ pub mod Rows
 pub mod Ends
 pub mod Links
 pub mod Runs
+pub mod Twins

@@ -36,11 +36,12 @@ use Rattle.ftp_laws.proofs.Holds.{WaitsFor, holder-waits, same_ip-equal}
 use Rattle.ftp_laws.proofs.Waits.{named-target}
 use Rattle.ftp_laws.proofs.Tables.{IsNamed, holder-named, holder-granted, and-zero, eq-comm, same-both}
 use Rattle.ftp_hub.specs.declared.hub.Hub.{Hub}
-use Rattle.ftp_hub.specs.Handlers.{IsFew, held_after, notices_of}
+use Rattle.ftp_handlers.specs.Handlers.{IsFew, held_after, notices_of}
 use Rattle.ftp_hub.specs.Stands.{Stands, Serves, entry}
 use Rattle.ftp_hub.proofs.Counts.{notices-few, tickets-few}
 use Rattle.ftp_hub.proofs.About.{serves-about}
 use Rattle.ftp_hub.proofs.Clients.{pooled-shared, client-v4}
+use Rattle.ftp_hub.proofs.Moved.{MovedAlone}
 
 -- an event that names a session brings no number
 no-number : (k : EventKind) (d : Decision) (s : ℕ) → named_session k ≡ Some s → new_number k d ≡ None
@@ -139,19 +140,12 @@ pub serves-named :
     Stands old log → named_session event.kind ≡ Some s → is_refusal d ≡ false → session old.options (past_of log) s ≡ Some v →
     d ≡ decide old.options log event answer →
     done ≡ session_acts old.options s event.kind answer d (map.get nat_eq old.jobs s) (Some v) →
-    new.options ≡ old.options →
-    after ≡ session_after event.kind answer d (notices_of d answer) (map.get nat_eq old.jobs s) v →
-    ((q : ℕ) → map.get nat_eq new.sessions q ≡ cond (s == q) (cond (lives_on d) (Some after) None) (map.get nat_eq old.sessions q)) →
-    (map.hash_map_len new.sessions ≡ live_after d (map.hash_map_len old.sessions)) →
-    ((q : ℕ) → map.get nat_eq new.jobs q ≡ cond (s == q) (next_lane event.kind d (map.get nat_eq old.jobs s) v).running (map.get nat_eq old.jobs q)) →
-    (map.hash_map_len new.jobs ≡ running_after done (map.hash_map_len old.jobs)) →
-    ((q : ℕ) → has new.numbers q ≡ has old.numbers q) →
-    ((a p : ℕ) → holder_at new.board a p ≡ held_after d s (ipv4 v.opening.client) (waiting_port v.slot) a p (holder_at old.board a p)) →
+    MovedAlone old new event.kind answer d done s v after →
     Serves old new log event answer d done
-serves-named old new log event answer d done s v after st named counts known right acted same after_is table len jobs running numbers board =
-    serves-about old new log event answer d done s v after st counts (record { subject_is = rw named refl; unopened = no-opening event.kind d s named }) known right acted same after_is
-    table len jobs running (λ q. rw (no-number event.kind d s named) (numbers q ∙ st.tables.numbers q))
+serves-named old new log event answer d done s v after st named counts known right acted m =
+    serves-about old new log event answer d done s v after st counts (record { subject_is = rw named refl; unopened = no-opening event.kind d s named }) known right acted m.moved
+    (λ q. rw (no-number event.kind d s named) (m.numbers q ∙ st.tables.numbers q))
     (λ a p.
-    board a p
+    m.holders a p
     ∙ ap (held_after d s (ipv4 v.opening.client) (waiting_port v.slot) a p) (st.tables.holders a p)
     ∙ sym (holders-named old log event answer d done s v a p st named known))

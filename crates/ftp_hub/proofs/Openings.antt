@@ -27,7 +27,7 @@ use Rattle.ftp_laws.proofs.Laws.{counting-counts, running-other, session-other, 
 use Rattle.ftp_laws.proofs.Tables.{holder-other, same-both}
 use Rattle.ftp_laws.proofs.Told.{unused-opener}
 use Rattle.ftp_hub.specs.declared.hub.Hub.{Hub}
-use Rattle.ftp_hub.specs.Handlers.{Jobs}
+use Rattle.ftp_handlers.specs.Handlers.{Jobs}
 use Rattle.ftp_hub.specs.Stands.{Tables, Stands, Serves, entry}
 use Rattle.ftp_laws.proofs.Running.{unused-idle}
 use Rattle.ftp_hub.proofs.Running.{running-none}

@@ -1,5 +1,5 @@
 -- What becomes of a data connection that has a holder.
-use Rattle.std.specs.Prelude.{ℕ, Bool, true, false, not}
+use Rattle.std.specs.Prelude.{ℕ, Bool, true, false, not, ◌||◌}
 use Rattle.ftp_events.specs.declared.decision.Decision.{Decision}
 use Rattle.ftp_events.specs.declared.decision.Decision.TheVariants.{Attached, Turned}
 use Rattle.ftp_events.specs.declared.event.EventKind.{EventKind}
@@ -14,6 +14,17 @@ is_connect _ = false
 abbrev pub is_data : EventKind → Bool
 is_data (kind.DataIn number raw port) = true
 is_data _ = false
+
+-- the kinds that bring a number
+abbrev pub brings_number : EventKind → Bool
+brings_number k = is_connect k || is_data k
+
+-- the kinds with which a transfer may start
+abbrev pub may_start : EventKind → Bool
+may_start (kind.Transfer s c) = true
+may_start (kind.Stou s word) = true
+may_start (kind.End ticket) = true
+may_start k = is_data k
 
 -- to session s, where the port is in the range and the peers have one address
 abbrev pub arrival_of : Bool → Bool → ℕ → Decision

@@ -1,6 +1,5 @@
 pub mod Arrivals
-pub mod Handlers
-pub mod Rooms
 pub mod Stands
 pub mod Runs
 pub mod Headline
+pub mod Twin

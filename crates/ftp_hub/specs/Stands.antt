@@ -1,5 +1,5 @@
 -- When a hub stands for a log.
-use Rattle.std.specs.Prelude.{◌≡◌, ℕ, ◌+◌, ◌-◌, ◌^◌, ◌<◌, ◌∷◌, List, length, Option, Some, None, nat_eq}
+use Rattle.std.specs.Prelude.{◌≡◌, ℕ, ◌+◌, ◌-◌, ◌^◌, ◌<◌, [], ◌∷◌, List, length, Option, Some, None, IsTrue, nat_eq}
 use Rattle.std.specs.Option.{option_and_then, option_map_or}
 use Rattle.std.specs.HashMap as map
 use Rattle.ftp_base.specs.declared.net.IpAddr.TheVariants.{V4}
@@ -26,11 +26,9 @@ use Rattle.ftp_events.specs.Decide.{decide}
 use Rattle.ftp_events.specs.Acts.{acts}
 use Rattle.ftp_events.specs.Right.{IsRight, IsActed}
 use Rattle.ftp_hub.specs.declared.hub.Hub.{Hub}
-use Rattle.ftp_hub.specs.declared.room.Need.{Need}
-use Rattle.ftp_hub.specs.declared.room.Need.TheVariants.{Nothing, Run}
-use Rattle.ftp_hub.specs.declared.room.Room.{Room}
-use Rattle.ftp_hub.specs.Rooms.{IsReady, kept_in, need_in}
-use Rattle.ftp_hub.specs.Handlers.{kept_alone, kept_by, asked_for}
+use Rattle.ftp_handlers.specs.Rooms.{CanReply, CanTellDropped, HasCopy, IsReady, RoomState, kept_in, need_for, need_in}
+use Rattle.ftp_handlers.specs.Handlers.{asked_for, can_drop, can_reply, is_pasv, kept_alone, kept_by}
+use Rattle.ftp_hub.specs.Arrivals.{brings_number, is_connect, may_start}
 
 -- the options that a hub was made from
 abbrev pub options_of : Hub → Options
@@ -103,24 +101,27 @@ abbrev pub job_for : Hub → EventKind → Option Job
 job_for hub (kind.End ticket) = job_of_ticket (map.get nat_eq hub.jobs ticket.session) ticket
 job_for hub _ = None
 
--- what has to be done outside before the step
-abbrev pub need_for : Option Job → Need
-need_for None = Nothing
-need_for (Some job) = Run job.ticket
+-- the path of the job whose end it may be
+abbrev pub path_for : Hub → EventKind → List ℕ
+path_for hub (kind.End ticket) = option_map_or (λ r. r.job.path) (map.get nat_eq hub.jobs ticket.session) []
+path_for hub _ = []
 
 -- the client of the session that an event names
 abbrev pub client_for : Hub → EventKind → ℕ
 client_for hub k = option_map_or (λ v. ipv4 v.opening.client) (named_in hub k) 0
 
--- the room is of this event and this count, and fits this hub
-pub record Fits (room : Room) (hub : Hub) (event : HubEvent) : Type 0 where
+-- the room is of this event and this count, holds what the event needs, and fits this hub
+pub record Fits (room : RoomState) (hub : Hub) (event : HubEvent) : Type 0 where
   pub below : hub.count < 2 ^ 64 - 1
   pub counted : room.count ≡ hub.count
   pub ready : IsReady room
+  pub letters : IsTrue (can_reply event.kind) → CanReply room
+  pub dropped : IsTrue (can_drop event.kind) → CanTellDropped room
   pub kept : kept_in room ≡ kept_for hub event.kind
+  pub path : HasCopy room (path_for hub event.kind)
   pub pending : room.pending ≡ pending_for hub event.kind
   pub need : need_in room ≡ need_for (job_for hub event.kind)
-  pub sessions : 0 < map.spare hub.sessions
-  pub jobs : 0 < map.spare hub.jobs
-  pub numbers : HasSpare hub.numbers
-  pub board : HasRoom hub.board (client_for hub event.kind)
+  pub sessions : IsTrue (is_connect event.kind) → 0 < map.spare hub.sessions
+  pub jobs : IsTrue (may_start event.kind) → 0 < map.spare hub.jobs
+  pub numbers : IsTrue (brings_number event.kind) → HasSpare hub.numbers
+  pub board : IsTrue (is_pasv event.kind) → HasRoom hub.board (client_for hub event.kind)

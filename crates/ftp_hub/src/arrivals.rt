@@ -16,16 +16,16 @@ ghost use Rattle.ftp_events.specs.Slot.{with_link};
 ghost use Rattle.ftp_events.specs.Acts.{session_acts, starting};
 ghost use Rattle.ftp_events.specs.Session.{new_session};
 ghost use Rattle.ftp_hub.specs.Arrivals.{is_connect, is_data, arrival_of};
-ghost use Rattle.ftp_hub.specs.Handlers.{Starts};
-ghost use Rattle.ftp_hub.specs.Rooms.{IsReady, actions_in, kept_in};
+ghost use Rattle.ftp_handlers.specs.Handlers.{Starts};
+ghost use Rattle.ftp_handlers.specs.Rooms.{CanTellDropped, IsReady, actions_in, kept_in, twice_in};
 ghost use Rattle.ftp_hub.specs.Stands.{Stands, Serves, SameHead, kept_for};
 
 use crate::hub::Hub;
 use crate::jobs::start;
-use crate::room::Room;
 use crate::tables::put;
 use ftp_base::{Bytes, IpAddr, SocketAddr};
 use ftp_events::{Answer, Decision, EventKind, HubEvent, Login, Opening, Running, Session, Slot};
+use ftp_handlers::Room;
 use ftp_options::Options;
 use ftp_switchboard::SwitchboardKey;
 use std::collections::HashMap;
@@ -41,6 +41,7 @@ impl Hub {
         requires numbers { HasSpare self.old.numbers }
         ensures serves { (log : List Entry) → Stands self.old log → Serves self.old self.new log event.now answer result (actions_in room.new) }
         ensures head { SameHead self.old self.new }
+        ensures twice { twice_in room.new ≡ twice_in room.old }
     {
         let EventKind::Connect {
             session,
@@ -70,10 +71,12 @@ impl Hub {
     pub(crate) fn data_in(&mut self, room: &mut Room, event: &HubEvent, answer: Answer) -> Decision
         requires of_this_event { IsTrue (is_data event.now.kind) }
         requires ready { IsReady room.old }
+        requires dropped { CanTellDropped room.old }
         requires numbers { HasSpare self.old.numbers }
         requires jobs { 0 < map.spare self.old.jobs }
         ensures serves { (log : List Entry) → Stands self.old log → Serves self.old self.new log event.now answer result (actions_in room.new) }
         ensures head { SameHead self.old self.new }
+        ensures twice { twice_in room.new ≡ twice_in room.old }
     {
         let EventKind::DataIn { number, raw, port } = &event.kind else {
             unreachable!()
@@ -166,11 +169,13 @@ impl Arrival {
         room: &mut Room,
     ) -> Decision
         requires ready { IsReady room.old }
+        requires dropped { CanTellDropped room.old }
         requires spare { 0 < map.spare jobs.old }
         ensures decision { result ≡ arrival_of self.in_range (same_ip session.old.opening.raw.ip self.raw.ip) holder }
         ensures session { (port : ℕ) (answer : Answer) → session.new ≡ session_after (DataIn self.number self.raw port) answer result 0 (map.get nat_eq jobs.old holder) session.old }
         ensures actions { (o : Options) (port : ℕ) (answer : Answer) → actions_in room.new ≡ session_acts o holder (DataIn self.number self.raw port) answer result (map.get nat_eq jobs.old holder) (Some session.old) }
         ensures starts { (port : ℕ) → Starts jobs.old jobs.new holder (starting (DataIn self.number self.raw port) result (map.get nat_eq jobs.old holder) session.old) }
+        ensures twice { twice_in room.new ≡ twice_in room.old }
     {
         if self.in_range && session.opening.raw.ip.is_same(self.raw.ip) {
             session.slot = with_link(session.slot, self.number);

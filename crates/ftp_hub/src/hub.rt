@@ -29,7 +29,7 @@ pub struct Hub {
 }
 
 impl Hub {
-    ghost use Rattle.std.specs.Prelude.{◌≡◌, [], List, is_some, IsTrue};
+    ghost use Rattle.std.specs.Prelude.{◌≡◌, ◌==◌, ◌&&◌, [], List, is_some, IsTrue};
     ghost use Rattle.ftp_options.specs.declared.options.Options.{Options};
     ghost use Rattle.ftp_options.specs.Modes.{is_pooled};
     ghost use Rattle.ftp_events.specs.declared.entry.Entry.{Entry};
@@ -94,6 +94,13 @@ impl Hub {
         ensures { (log : List Entry) → Stands self.now log → result ≡ running_count (past_of log) }
     {
         self.jobs.len() as u64
+    }
+
+    /// Says whether no job runs and no session is live.
+    pub fn drained(&self) -> bool
+        ensures { (log : List Entry) → Stands self.now log → result ≡ ((running_count (past_of log) == 0) && (live_count (past_of log) == 0)) }
+    {
+        self.running() == 0 && self.sessions() == 0
     }
 
     /// Says whether the session is live.

@@ -12,13 +12,12 @@ ghost use Rattle.ftp_events.specs.Log.{named_session};
 ghost use Rattle.ftp_events.specs.Login.{logged_user};
 ghost use Rattle.ftp_events.specs.Session.{session_after};
 ghost use Rattle.ftp_events.specs.Slot.{lane_of, startable};
-ghost use Rattle.ftp_hub.specs.Rooms.{IsReady, HasPlace, actions_in, kept_in};
-ghost use Rattle.ftp_hub.specs.Handlers.{is_transfer, IsFew, asked_for, kept_by, notices_of, with_lane, Starts};
+ghost use Rattle.ftp_handlers.specs.Rooms.{CanReply, IsReady, HasCopy, HasPlace, actions_in, kept_in, twice_in};
+ghost use Rattle.ftp_handlers.specs.Handlers.{is_transfer, IsFew, asked_for, kept_by, notices_of, with_lane, Starts};
 
-use crate::handlers::{end, transfer};
-use crate::room::Room;
 use crate::tables::put;
 use ftp_events::{Decision, HubEvent, Running, Session, Slot};
+use ftp_handlers::{Room, end, transfer};
 use ftp_options::Options;
 use ftp_switchboard::Switchboard;
 use ftp_transfer::Outcome;
@@ -37,6 +36,7 @@ pub(crate) fn start(
     ensures session { session.new ≡ with_lane session.old (lane_of session.old.slot session.old.pending (map.get nat_eq jobs.old number)) }
     ensures starts { Starts jobs.old jobs.new number (startable session.old.slot session.old.pending (map.get nat_eq jobs.old number)) }
     ensures actions { actions_in room.new ≡ actions_in room.old ++ start_acts (startable session.old.slot session.old.pending (map.get nat_eq jobs.old number)) }
+    ensures twice { twice_in room.new ≡ twice_in room.old }
 {
     let Slot::Linked { number: link } = session.slot else {
         return;
@@ -65,6 +65,7 @@ pub(crate) fn queue(
     requires of_this_event { IsTrue (is_transfer event.now.kind) }
     requires named { named_session event.now.kind ≡ Some number }
     requires room { IsReady room.old }
+    requires letters { CanReply room.old }
     requires kept { kept_in room.old ≡ kept_by event.now.kind session.old }
     requires pending { room.old.pending ≡ asked_for event.now.kind session.old }
     requires spare { 0 < map.spare jobs.old }
@@ -73,6 +74,7 @@ pub(crate) fn queue(
     ensures actions { IsFew session.old → (answer : Answer) → actions_in room.new ≡ session_acts options.now number event.now.kind answer result (map.get nat_eq jobs.old number) (Some session.old) }
     ensures starts { IsFew session.old → Starts jobs.old jobs.new number (starting event.now.kind result (map.get nat_eq jobs.old number) session.old) }
     ensures board { board.new ≡ board.old }
+    ensures twice { twice_in room.new ≡ twice_in room.old }
 {
     let decision = transfer::handle(session, &event.kind, board, room, event.at, options);
     if let Decision::Queued { ticket: _ } = decision {
@@ -91,12 +93,15 @@ pub(crate) fn finish(
     options: &Options,
 )
     requires room { IsReady room.old }
+    requires letters { CanReply room.old }
     requires kept { kept_in room.old ≡ logged_user session.old.login session.old.name }
+    requires path { HasCopy room.old job.job.path }
     requires spare { 0 < map.spare jobs.old }
     requires ended { map.get nat_eq jobs.old job.job.ticket.session ≡ None }
     ensures session { session.old.notices + 1 < 2 ^ 64 → session.new ≡ session_after (End job.job.ticket) (Done outcome) Finished (notices_of Finished (Done outcome)) (Some job) session.old }
     ensures actions { session.old.notices + 1 < 2 ^ 64 → actions_in room.new ≡ session_acts options.now job.job.ticket.session (End job.job.ticket) (Done outcome) Finished (Some job) (Some session.old) }
     ensures starts { Starts jobs.old jobs.new job.job.ticket.session (starting (End job.job.ticket) Finished (Some job) session.old) }
+    ensures twice { twice_in room.new ≡ twice_in room.old }
 {
     let number = job.job.ticket.session;
     end::deliver(session, job, outcome, room, options);

@@ -5,17 +5,18 @@
 #![tactic(auto)]
 
 mod arrivals;
-mod handlers;
 mod hub;
 mod jobs;
 mod prepare;
-mod room;
 mod run;
 mod step;
 mod tables;
+mod twin;
 
-pub use handlers::{appe, cwd, list, mlsd, nlst, pass, pasv, rest, retr, stor, stou};
+pub use ftp_handlers::{
+    Need, Room, appe, cwd, list, mlsd, nlst, pass, pasv, rest, retr, stor, stou,
+};
 pub use hub::Hub;
 pub use prepare::PrepareError;
-pub use room::{Need, Room};
 pub use run::{RunError, covers, run_event, run_events};
+pub use twin::{Twin, TwinRoom};

@@ -1,28 +1,24 @@
 //! All memory that a step can need, taken before it.
 
-ghost use Rattle.std.specs.Prelude.{◌≡◌, ◌-◌, ◌^◌, ◌<◌, ◌≤◌, ◌↔◌, [], Option, nat_eq, IfOk, OnOk, IsErrOf, unwrap_or, codes};
-ghost use Rattle.std.specs.Option.{option_copied, option_map_or};
+ghost use Rattle.std.specs.Prelude.{◌≡◌, ◌-◌, ◌^◌, ◌<◌, ◌↔◌, nat_eq, IfErr, IfOk, OnOk, IsErrOf, IsTrue};
+ghost use Rattle.std.specs.Option.{option_copied};
 ghost use Rattle.std.specs.HashMap as map;
 ghost use Rattle.ftp_base.specs.Net.{ipv4};
 ghost use Rattle.ftp_numbers.specs.Used.{HasSpare};
 ghost use Rattle.ftp_switchboard.specs.Board.{HasRoom};
 ghost use Rattle.ftp_events.specs.Leads.{job_of_ticket};
-ghost use Rattle.ftp_events.specs.Login.{logged_user};
-ghost use Rattle.ftp_events.specs.Transfer.{command_offset, command_path, listed_path, pending_of};
-ghost use Rattle.ftp_hub.specs.Handlers.{asked_for, kept_alone, kept_by, next_ticket};
-ghost use Rattle.ftp_hub.specs.Rooms.{IsReady, job_in, kept_in, need_in};
-ghost use Rattle.ftp_hub.specs.Stands.{Fits, SameAnswers, count_of, named_in, kept_for, pending_for, job_for, need_for, client_for};
+ghost use Rattle.ftp_handlers.specs.Handlers.{can_drop, can_reply, is_pasv};
+ghost use Rattle.ftp_handlers.specs.Rooms.{CanReply, CanTellDropped, HasCopy, IsReady, job_in, kept_in, need_for, need_in, twice_in};
+ghost use Rattle.ftp_hub.specs.Arrivals.{brings_number, is_connect, may_start};
+ghost use Rattle.ftp_hub.specs.Stands.{Fits, SameAnswers, count_of, named_in, kept_for, pending_for, job_for, client_for, path_for};
 
 use crate::hub::Hub;
-use crate::room::{LONGEST_TEXT, MOST_ACTIONS, Need, Room};
-use ftp_base::{Bytes, DataChanCmd};
-use ftp_events::{EventKind, HubEvent, Login, Pending, Running, Session, unique_name};
-use ftp_transfer::{Job, Ticket, join_path};
+use ftp_base::Bytes;
+use ftp_events::{EventKind, HubEvent, Pending, Running, Session};
+use ftp_handlers::{Extent, Prepared, Room, copy_alone, copy_kept, fix_transfer};
+use ftp_transfer::{Job, Ticket};
 use std::alloc::{AllocError, Global};
 use thiserror::Error;
-
-// Who is told of where nobody has said a name.
-const UNKNOWN: &[u8] = b"unknown";
 
 /// Why a step cannot be prepared.
 #[derive(Clone, Copy, Debug, PartialEq, Eq, Error)]
@@ -34,6 +30,17 @@ pub enum PrepareError {
     OutOfMemory,
 }
 
+impl From<AllocError> for PrepareError {
+    ghost use Rattle.std.specs.Prelude.{◌≡◌};
+    ghost use Rattle.ftp_hub.specs.declared.prepare.PrepareError.TheVariants.{OutOfMemory};
+
+    ghost from_gives = { λ _ e. e ≡ OutOfMemory };
+
+    fn from(_error: AllocError) -> PrepareError {
+        PrepareError::OutOfMemory
+    }
+}
+
 impl Hub {
     /// Takes all memory that the step on the event can need.
     pub fn prepare(&mut self, event: &HubEvent) -> Result<Room, PrepareError>
@@ -42,48 +49,68 @@ impl Hub {
         ensures same { SameAnswers self.old self.new }
         ensures exhausted { IsErrOf result PrepareError.Exhausted ↔ (count_of self.old ≡ 2 ^ 64 - 1) }
     {
+        self.prepare_room(event, false)
+    }
+
+    /// Takes all memory that the step on the event can need, for one entry or for two.
+    pub(crate) fn prepare_room(
+        &mut self,
+        event: &HubEvent,
+        twice: bool,
+    ) -> Result<Room, PrepareError>
+        ensures fits { IfOk result (λ room. Fits room self.new event.now) }
+        ensures job { IfOk result (λ room. job_in room ≡ job_for self.new event.now.kind) }
+        ensures same { SameAnswers self.old self.new }
+        ensures exhausted { IsErrOf result PrepareError.Exhausted ↔ (count_of self.old ≡ 2 ^ 64 - 1) }
+        ensures twice { IfOk result (λ room. twice_in room ≡ twice) }
+    {
         if self.count == u64::MAX {
             return Err(PrepareError::Exhausted);
         }
         if self.make_places(&event.kind).is_err() {
             return Err(PrepareError::OutOfMemory);
         }
-        match self.take_room(&event.kind) {
-            Ok(room) => Ok(room),
-            Err(_) => Err(PrepareError::OutOfMemory),
-        }
+        self.take_room(&event.kind, twice)
     }
 
     /// Lets the room of a step go that is not taken.
     pub fn give_back(&mut self, room: Room)
         ensures { self.new ≡ self.old }
     {
-        let Room {
-            alloc: _,
-            count: _,
-            need: _,
-            job: _,
-            kept: _,
-            pending: _,
-            text: _,
-            dropped: _,
-            actions: _,
-        } = room;
+        room.let_go();
     }
 
-    // Makes a place in each table.
+    // Makes the places in the tables that an event of this kind can take.
     fn make_places(&mut self, kind: &EventKind) -> Result<(), AllocError>
-        ensures sessions { OnOk result (0 < map.spare self.new.sessions) }
-        ensures jobs { OnOk result (0 < map.spare self.new.jobs) }
-        ensures numbers { OnOk result (HasSpare self.new.numbers) }
-        ensures board { OnOk result (HasRoom self.new.board (client_for self.old kind.now)) }
+        ensures sessions { OnOk result (IsTrue (is_connect kind.now) → 0 < map.spare self.new.sessions) }
+        ensures jobs { OnOk result (IsTrue (may_start kind.now) → 0 < map.spare self.new.jobs) }
+        ensures numbers { OnOk result (IsTrue (brings_number kind.now) → HasSpare self.new.numbers) }
+        ensures board { OnOk result (IsTrue (is_pasv kind.now) → HasRoom self.new.board (client_for self.old kind.now)) }
         ensures same { SameAnswers self.old self.new }
     {
-        let client = self.client_of(kind);
-        self.sessions.reserve(1)?;
-        self.jobs.reserve(1)?;
-        self.numbers.make_room()?;
-        self.board.reserve_room(client)
+        match kind {
+            EventKind::Connect { .. } => {
+                self.sessions.reserve(1)?;
+                self.numbers.make_room()
+            }
+            EventKind::DataIn { .. } => {
+                self.jobs.reserve(1)?;
+                self.numbers.make_room()
+            }
+            EventKind::Transfer { .. } | EventKind::Stou { .. } | EventKind::End { .. } => {
+                self.jobs.reserve(1)
+            }
+            EventKind::Pasv { .. } => {
+                let client = self.client_of(kind);
+                self.board.reserve_room(client)
+            }
+            EventKind::User { .. }
+            | EventKind::Pass { .. }
+            | EventKind::AuthDone { .. }
+            | EventKind::Rest { .. }
+            | EventKind::Cwd { .. }
+            | EventKind::Closed { .. } => Ok(()),
+        }
     }
 
     // The session that an event names, where it is live.
@@ -104,55 +131,78 @@ impl Hub {
     }
 
     // Memory for the texts and the actions of an event, and what it keeps, asks for or runs.
-    fn take_room(&self, kind: &EventKind) -> Result<Room, AllocError>
+    fn take_room(&self, kind: &EventKind, twice: bool) -> Result<Room, PrepareError>
         ensures ready { IfOk result IsReady }
+        ensures letters { IfOk result (λ room. IsTrue (can_reply kind.now) → CanReply room) }
+        ensures dropped { IfOk result (λ room. IsTrue (can_drop kind.now) → CanTellDropped room) }
         ensures kept { IfOk result (λ room. kept_in room ≡ kept_for self.now kind.now) }
         ensures pending { IfOk result (λ room. room.pending ≡ pending_for self.now kind.now) }
         ensures job { IfOk result (λ room. job_in room ≡ job_for self.now kind.now) }
         ensures need { IfOk result (λ room. need_in room ≡ need_for (job_for self.now kind.now)) }
         ensures counted { IfOk result (λ room. room.count ≡ self.now.count) }
+        ensures full { IfErr result (λ error. error ≡ PrepareError.OutOfMemory) }
+        ensures path { IfOk result (λ room. HasCopy room (path_for self.now kind.now)) }
+        ensures twice { IfOk result (λ room. twice_in room ≡ twice) }
     {
-        let text = Vec::with_capacity(self.alloc, LONGEST_TEXT)?;
-        let dropped = Vec::with_capacity(self.alloc, LONGEST_TEXT)?;
-        let actions = Vec::with_capacity(self.alloc, MOST_ACTIONS)?;
-        let kept = self.copy_kept(kind)?;
-        let pending = self.fix_transfer(kind, &kept)?;
-        let job = self.copy_job(kind)?;
-        Ok(Room {
-            alloc: self.alloc,
-            count: self.count,
-            need: need_for(&job),
-            job,
+        let named = self.named(kind);
+        let kept = self.copy_kept(kind, named)?;
+        let pending = self.fix_transfer(kind, named, &kept)?;
+        let prepared = Prepared {
             kept,
+            path: self.copy_path(kind, twice)?,
             pending,
-            text,
-            dropped,
-            actions,
-        })
+            job: self.copy_job(kind)?,
+        };
+        Ok(Room::new(self.alloc, self.count, prepared, Extent::of(kind, twice))?)
     }
 
     // The name or the path that an event keeps or tells.
-    fn copy_kept(&self, kind: &EventKind) -> Result<Bytes, AllocError>
+    fn copy_kept(&self, kind: &EventKind, named: Option<&Session>) -> Result<Bytes, AllocError>
+        requires { option_copied named ≡ named_in self.now kind.now }
         ensures { IfOk result (λ kept. kept ≡ kept_for self.now kind.now) }
     {
-        match self.named(kind) {
+        match named {
             Some(session) => copy_kept(self.alloc, kind, session),
             None => copy_alone(self.alloc, kind),
         }
     }
 
     // The transfer that an event asks for, with what the event keeps.
-    fn fix_transfer(&self, kind: &EventKind, kept: &Bytes) -> Result<Option<Pending>, AllocError>
-        requires { kept.now ≡ kept_for self.now kind.now }
+    #[inline(always)]
+    fn fix_transfer(
+        &self,
+        kind: &EventKind,
+        named: Option<&Session>,
+        kept: &Bytes,
+    ) -> Result<Option<Pending>, AllocError>
+        requires session { option_copied named ≡ named_in self.now kind.now }
+        requires kept { kept.now ≡ kept_for self.now kind.now }
         ensures { IfOk result (λ pending. pending ≡ pending_for self.now kind.now) }
     {
-        match self.named(kind) {
+        match named {
             Some(session) => fix_transfer(self.alloc, kind, kept, session),
             None => Ok(None),
         }
     }
 
+    // The path of the job whose end the event may be, where it is asked for.
+    fn copy_path(&self, kind: &EventKind, asked: bool) -> Result<Bytes, AllocError>
+        ensures { IfOk result (λ path. IsTrue asked → path ≡ path_for self.now kind.now) }
+    {
+        if !asked {
+            return Ok(Bytes::from_vec(Vec::new(self.alloc)));
+        }
+        match kind {
+            EventKind::End { ticket } => match self.jobs.get(&ticket.session) {
+                Some(running) => running.job.path.copy(self.alloc),
+                None => Ok(Bytes::from_vec(Vec::new(self.alloc))),
+            },
+            _ => Ok(Bytes::from_vec(Vec::new(self.alloc))),
+        }
+    }
+
     // The job whose end the event is, where it runs.
+    #[inline(always)]
     fn copy_job(&self, kind: &EventKind) -> Result<Option<Job>, AllocError>
         ensures { IfOk result (λ job. job ≡ job_for self.now kind.now) }
     {
@@ -178,152 +228,5 @@ fn copy_job(
     match running {
         Some(running) if running.job.ticket == ticket => Ok(Some(running.job.copy(alloc)?)),
         _ => Ok(None),
-    }
-}
-
-// What has to be done outside before the step.
-fn need_for(job: &Option<Job>) -> Need
-    ensures { result ≡ need_for job.now }
-{
-    match job {
-        Some(job) => Need::Run(job.ticket),
-        None => Need::Nothing,
-    }
-}
-
-// The name or the path that an event keeps or tells of a session.
-fn copy_kept(alloc: Global, kind: &EventKind, session: &Session) -> Result<Bytes, AllocError>
-    ensures { IfOk result (λ kept. kept ≡ kept_by kind.now session.now) }
-{
-    match kind {
-        EventKind::User { name, .. } => name.copy(alloc),
-        EventKind::AuthDone { .. } => known_name(alloc, session),
-        EventKind::Closed { .. } | EventKind::End { .. } => copy_user(alloc, session),
-        EventKind::Cwd { path, .. } => join_path(alloc, &session.cwd, path),
-        EventKind::Connect { .. }
-        | EventKind::DataIn { .. }
-        | EventKind::Pass { .. }
-        | EventKind::Pasv { .. }
-        | EventKind::Transfer { .. }
-        | EventKind::Stou { .. }
-        | EventKind::Rest { .. } => copy_alone(alloc, kind),
-    }
-}
-
-// What an event keeps whatever its session is: a new session is in the root, and STOU has a unique name.
-fn copy_alone(alloc: Global, kind: &EventKind) -> Result<Bytes, AllocError>
-    ensures { IfOk result (λ kept. kept ≡ kept_alone kind.now) }
-{
-    match kind {
-        EventKind::Connect { .. } => Bytes::from_slice(alloc, b"/"),
-        EventKind::Stou { word, .. } => unique_name(alloc, *word),
-        _ => Ok(Bytes::from_vec(Vec::new(alloc))),
-    }
-}
-
-// Who is logged in, or `unknown`.
-fn copy_user(alloc: Global, session: &Session) -> Result<Bytes, AllocError>
-    ensures { IfOk result (λ user. user ≡ logged_user session.now.login session.now.name) }
-{
-    match session.login {
-        Login::LoggedIn => known_name(alloc, session),
-        Login::New | Login::Named | Login::Checking => Bytes::from_slice(alloc, UNKNOWN),
-    }
-}
-
-// The transfer that an event asks for, as it is fixed now: STOU stores under the name that is kept.
-fn fix_transfer(
-    alloc: Global,
-    kind: &EventKind,
-    kept: &Bytes,
-    session: &Session,
-) -> Result<Option<Pending>, AllocError>
-    requires { kept.now ≡ kept_by kind.now session.now }
-    ensures { IfOk result (λ pending. pending ≡ asked_for kind.now session.now) }
-{
-    match kind {
-        EventKind::Transfer {
-            session: number,
-            command,
-        } => {
-            let command = command.copy(alloc)?;
-            Ok(Some(pending_of(alloc, *number, command, session)?))
-        }
-        EventKind::Stou {
-            session: number,
-            ..
-        } => {
-            let path = kept.copy(alloc)?;
-            let command = DataChanCmd::Stor { path };
-            Ok(Some(pending_of(alloc, *number, command, session)?))
-        }
-        _ => Ok(None),
-    }
-}
-
-// A transfer under the next ticket of the session, with the session's user, directory and offset.
-fn pending_of(
-    alloc: Global,
-    number: u64,
-    command: DataChanCmd,
-    session: &Session,
-) -> Result<Pending, AllocError>
-    ensures { IfOk result (λ pending. pending ≡ pending_of (next_ticket number session.now) (logged_user session.now.login session.now.name) session.now.cwd session.now.offset command) }
-{
-    let user = copy_user(alloc, session)?;
-    let path = command_path(alloc, &session.cwd, &command)?;
-    let offset = command_offset(session.offset, &command);
-    Ok(Pending {
-        ticket: Ticket {
-            session: number,
-            nr: session.tickets.saturating_add(1),
-        },
-        user,
-        command,
-        path,
-        offset,
-    })
-}
-
-// The path of a command in a directory; the listings take the directory itself for no path or `.`.
-fn command_path(alloc: Global, cwd: &Bytes, command: &DataChanCmd) -> Result<Bytes, AllocError>
-    ensures { IfOk result (λ path. path ≡ command_path cwd.now command.now) }
-{
-    match command {
-        DataChanCmd::Retr { path } | DataChanCmd::Stor { path } | DataChanCmd::Appe { path } => {
-            join_path(alloc, cwd, path)
-        }
-        DataChanCmd::List { path, .. } | DataChanCmd::Nlst { path } | DataChanCmd::Mlsd { path } =>
-            listed_path(alloc, cwd, path),
-    }
-}
-
-// The path of a listing.
-fn listed_path(alloc: Global, cwd: &Bytes, path: &Option<Bytes>) -> Result<Bytes, AllocError>
-    ensures { IfOk result (λ listed. listed ≡ listed_path cwd.now path.now) }
-{
-    match path {
-        Some(path) if path.as_slice() != b".".as_slice() => join_path(alloc, cwd, path),
-        _ => cwd.copy(alloc),
-    }
-}
-
-// The offset of a command: RETR and STOR begin at the session's.
-fn command_offset(offset: u64, command: &DataChanCmd) -> u64
-    ensures { result ≡ command_offset offset command.now }
-{
-    match command {
-        DataChanCmd::Retr { .. } | DataChanCmd::Stor { .. } => offset,
-        _ => 0,
-    }
-}
-
-// The name that was given last, or `unknown`.
-fn known_name(alloc: Global, session: &Session) -> Result<Bytes, AllocError>
-    ensures { IfOk result (λ name. name ≡ unwrap_or session.now.name (codes "unknown")) }
-{
-    match &session.name {
-        Some(name) => name.copy(alloc),
-        None => Bytes::from_slice(alloc, UNKNOWN),
     }
 }

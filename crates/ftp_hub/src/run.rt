@@ -8,15 +8,15 @@ ghost use Rattle.ftp_hub.specs.Headline.{IsFresh, Headline};
 ghost use Rattle.ftp_events.specs.Covers.{is_covered};
 ghost use Rattle.ftp_events.specs.Leads.{HasLinks, LeadsOne, LeavesAll, RunsJob, beside, job_to_run, views};
 ghost use Rattle.ftp_events.specs.Log.{past_of};
-ghost use Rattle.ftp_hub.specs.Rooms.{job_in};
+ghost use Rattle.ftp_handlers.specs.Rooms.{job_in};
 ghost use Rattle.ftp_hub.specs.Runs.{GoesOn, LeadsOn, has_link_of, is_linked, done_of, IsExhausted};
 ghost use Rattle.ftp_hub.specs.Stands.{Stands, SameAnswers, Fits, job_for, options_of, count_of};
 
 use crate::hub::Hub;
 use crate::prepare::PrepareError;
-use crate::room::Room;
 use ftp_base::{Link, LinkTable, Storage};
 use ftp_events::{Answer, Entry, HubEvent, Log};
+use ftp_handlers::Room;
 use ftp_transfer::{Job, execute};
 use std::alloc::Global;
 use thiserror::Error;

@@ -9,16 +9,15 @@ ghost use Rattle.ftp_switchboard.specs.Board.{HasRoom};
 ghost use Rattle.ftp_events.specs.declared.entry.Entry.{Entry};
 ghost use Rattle.ftp_events.specs.Log.{is_refusal, named_session};
 ghost use Rattle.ftp_events.specs.Right.{next_entry};
-ghost use Rattle.ftp_hub.specs.Handlers.{is_command, is_closed, is_transfer};
-ghost use Rattle.ftp_hub.specs.Rooms.{IsReady, actions_in, kept_in};
-ghost use Rattle.ftp_hub.specs.Stands.{Stands, Serves, SameHead, SameTables, Fits, options_of, count_of, kept_for, client_for};
+ghost use Rattle.ftp_handlers.specs.Handlers.{is_command, is_closed, is_transfer};
+ghost use Rattle.ftp_handlers.specs.Rooms.{IsReady, actions_in, kept_in, twice_in};
+ghost use Rattle.ftp_hub.specs.Stands.{Stands, Serves, SameHead, SameTables, Fits, entry, options_of, count_of, kept_for, client_for};
 
-use crate::handlers;
 use crate::hub::Hub;
 use crate::jobs::{finish, queue};
-use crate::room::Room;
 use crate::tables::take;
 use ftp_events::{Answer, Decision, Entry, EventKind, HubEvent};
+use ftp_handlers::{Room, closed, command};
 use ftp_transfer::{Outcome, Ticket};
 
 impl Hub {
@@ -34,8 +33,7 @@ impl Hub {
         ensures refused { (log : List Entry) → Stands self.old log → IsTrue (is_refusal result.decision) → SameTables self.old self.new }
     {
         let mut room = room;
-        let decision = self.serve(&mut room, &event, answer);
-        self.count += 1;
+        let decision = self.enter(&mut room, &event, answer);
         Entry {
             event,
             answer,
@@ -44,11 +42,27 @@ impl Hub {
         }
     }
 
+    // Decides the event, changes the tables, and puts into the room what is done.
+    pub(crate) fn enter(&mut self, room: &mut Room, event: &HubEvent, answer: Answer) -> Decision
+        requires { Fits room.old self.old event.now }
+        ensures due { (log : List Entry) → Stands self.old log → entry event.now answer result (actions_in room.new) ≡ next_entry (options_of self.old) log event.now answer }
+        ensures stands { (log : List Entry) → Stands self.old log → Stands self.new (entry event.now answer result (actions_in room.new) ∷ log) }
+        ensures options { options_of self.new ≡ options_of self.old }
+        ensures count { count_of self.new ≡ count_of self.old + 1 }
+        ensures refused { (log : List Entry) → Stands self.old log → IsTrue (is_refusal result) → SameTables self.old self.new }
+        ensures twice { twice_in room.new ≡ twice_in room.old }
+    {
+        let decision = self.serve(room, event, answer);
+        self.count += 1;
+        decision
+    }
+
     // Hands the event to what decides on its kind.
     fn serve(&mut self, room: &mut Room, event: &HubEvent, answer: Answer) -> Decision
         requires { Fits room.old self.old event.now }
         ensures serves { (log : List Entry) → Stands self.old log → Serves self.old self.new log event.now answer result (actions_in room.new) }
         ensures head { SameHead self.old self.new }
+        ensures twice { twice_in room.new ≡ twice_in room.old }
     {
         match &event.kind {
             EventKind::Connect { .. } => self.connect(room, event, answer),
@@ -80,10 +94,11 @@ impl Hub {
         requires named { named_session event.now.kind ≡ Some number }
         ensures serves { (log : List Entry) → Stands self.old log → Serves self.old self.new log event.now answer result (actions_in room.new) }
         ensures head { SameHead self.old self.new }
+        ensures twice { twice_in room.new ≡ twice_in room.old }
     {
         match self.sessions.get_mut(&number) {
             None => Decision::UnknownNumber,
-            Some(session) => handlers::command(
+            Some(session) => command(
                 session,
                 &event.kind,
                 &mut self.board,
@@ -101,12 +116,13 @@ impl Hub {
         requires named { named_session event.now.kind ≡ Some number }
         ensures serves { (log : List Entry) → Stands self.old log → Serves self.old self.new log event.now answer result (actions_in room.new) }
         ensures head { SameHead self.old self.new }
+        ensures twice { twice_in room.new ≡ twice_in room.old }
     {
         let Some(session) = take(&mut self.sessions, number) else {
             return Decision::UnknownNumber;
         };
         let mut session = session;
-        handlers::closed::handle(
+        closed::handle(
             &mut session,
             &event.kind,
             &mut self.board,
@@ -129,6 +145,7 @@ impl Hub {
         requires named { named_session event.now.kind ≡ Some number }
         ensures serves { (log : List Entry) → Stands self.old log → Serves self.old self.new log event.now answer result (actions_in room.new) }
         ensures head { SameHead self.old self.new }
+        ensures twice { twice_in room.new ≡ twice_in room.old }
     {
         match self.sessions.get_mut(&number) {
             None => Decision::UnknownNumber,
@@ -150,6 +167,7 @@ impl Hub {
         requires of_this_event { event.now.kind ≡ End ticket }
         ensures serves { (log : List Entry) → Stands self.old log → Serves self.old self.new log event.now answer result (actions_in room.new) }
         ensures head { SameHead self.old self.new }
+        ensures twice { twice_in room.new ≡ twice_in room.old }
     {
         let Some(job) = self.jobs.get(&ticket.session) else {
             return Decision::UnknownNumber;
@@ -179,6 +197,7 @@ impl Hub {
         requires runs { IsSomeAnd (map.get nat_eq self.old.jobs ticket.session) (λ job. (job.job.ticket ≡ ticket) × (suits outcome.result job.job.command ≡ true)) }
         ensures serves { (log : List Entry) → Stands self.old log → Serves self.old self.new log event.now (Done outcome) result (actions_in room.new) }
         ensures head { SameHead self.old self.new }
+        ensures twice { twice_in room.new ≡ twice_in room.old }
     {
         let Some(job) = take(&mut self.jobs, ticket.session) else {
             unreachable!()

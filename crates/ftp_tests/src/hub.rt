@@ -6,10 +6,10 @@ ghost use Rattle.ftp_options.specs.Modes.{is_pooled};
 use crate::headline::run_all;
 use crate::values::{CLIENT, CONNECT, PASV};
 use ftp_base::{
-    AuthAnswer, Bytes, DataChanCmd, IpAddr, LinkTable, MemoryLink, MemoryStorage, SocketAddr,
+    AuthAnswer, Bytes, DataChanCmd, IpAddr, LinkTable, MemoryLink, MemoryStorage, Reply, SocketAddr,
 };
-use ftp_events::{Decision, EventKind, HubEvent, Log};
-use ftp_hub::{Hub, RunError, covers, run_events};
+use ftp_events::{Action, Answer, Decision, EventKind, HubEvent, Log};
+use ftp_hub::{Hub, RunError, Twin, covers, run_events};
 use ftp_options::{Options, ServerBuilder};
 use ftp_transfer::Ticket;
 use std::alloc::{AllocError, Global};
@@ -116,6 +116,41 @@ fn a_client_takes_a_file_and_another_is_turned_away(rt: HostRuntime) -> Result<(
     }
     let sent = links.get(12).ok_or("no link")?.sent();
     assert_eq!(rt; sent, b"Hello".as_slice());
+    Ok(())
+}
+
+#[test]
+fn each_entry_is_given_twice_and_the_job_with_its_start(rt: HostRuntime) -> Result<(), Fail> {
+    let alloc = rt.alloc();
+    let mut hub = Hub::new(alloc, options()?);
+    let mut links = Vec::new(alloc);
+    for event in events(alloc)? {
+        let room = hub.prepare_twin(&event).ok().ok_or("not prepared")?;
+        let Twin { kept, told, job } = hub.step_twin(room, event, Answer::None);
+        assert_eq!(rt; told.decision, kept.decision);
+        let told = told.actions.as_slice();
+        let kept = kept.actions.as_slice();
+        assert_eq!(rt; told.len(), kept.len());
+        for pair in told.iter().zip(kept) {
+            if let (
+                Action::Reply {
+                    reply: Reply::CodeAndMsg { msg: told, .. },
+                    ..
+                },
+                Action::Reply {
+                    reply: Reply::CodeAndMsg { msg: kept, .. },
+                    ..
+                },
+            ) = pair
+            {
+                assert_eq!(rt; told.as_slice(), kept.as_slice());
+            }
+        }
+        if let Some(job) = job {
+            links.push(job.number)?;
+        }
+    }
+    assert_eq!(rt; links.as_slice(), [12].as_slice());
     Ok(())
 }
 

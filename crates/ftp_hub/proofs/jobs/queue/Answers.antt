@@ -12,7 +12,7 @@ use Rattle.ftp_events.specs.declared.session.Session.{Session}
 use Rattle.ftp_events.specs.Acts.{notice_and_reply, session_acts, starting}
 use Rattle.ftp_events.specs.CommandRows.{can_queue, if_logged_in, is_logged_in, transfer_row}
 use Rattle.ftp_events.specs.Session.{session_after}
-use Rattle.ftp_hub.specs.Handlers.{IsFew, Starts, number_of, with_queued}
+use Rattle.ftp_handlers.specs.Handlers.{IsFew, Starts, number_of, with_queued}
 use Rattle.ftp_laws.proofs.Running.{no-completion}
 use Rattle.ftp_hub.proofs.Decisions.{starts-none}
 use Rattle.ftp_hub.proofs.jobs.queue.Goals as goal
@@ -58,4 +58,5 @@ returns-in_default c =
           ∙ (refuses few).acts c.args.options.now c.args.number k answer job v;
       starts = λ few. subst (Starts c.args.jobs.now c.args.jobs.now c.args.number) (sym ((refuses few).starts k job v)) (starts-none c.args.jobs.now c.args.number);
       board = c.handle-decision.ensures.board;
+      twice = c.handle-decision.ensures.twice;
     }

@@ -1,18 +1,22 @@
-use Rattle.std.proofs.Common.{◌≡◌, refl, sym, ap, subst, ◌∙◌, Option, Some, None, cond}
-use Rattle.std.specs.Prelude.{nat_eq, ◌==◌}
+use Rattle.std.proofs.Common.{◌≡◌, refl, sym, ap, subst, ◌∙◌, ℕ, Option, Some, None, cond}
+use Rattle.std.specs.Prelude.{nat_eq, ◌==◌, unwrap_or}
 use Rattle.std.specs.HashMap as map
 use Rattle.std.proofs.Common.{arith, ◌-◌}
 use Rattle.ftp_events.specs.Log.{past_of}
 use Rattle.ftp_events.specs.Session.{session_after, lives_on, live_after}
-use Rattle.ftp_hub.specs.Handlers.{notices_of, held_for}
+use Rattle.ftp_handlers.specs.Handlers.{held_after, held_for, notices_of, number_of}
 use Rattle.ftp_events.specs.declared.decision.Decision.TheVariants as decision
 use Rattle.ftp_events.specs.declared.decision.Decision.{Decision}
 use Rattle.ftp_events.specs.declared.session.Session.{Session}
 use Rattle.ftp_hub.proofs.Refusals.{tables-same}
-use Rattle.ftp_hub.proofs.Decisions.{closed-idle, jobs-idle, put-back}
+use Rattle.ftp_hub.proofs.Decisions.{closed-idle, put-back}
 use Rattle.ftp_hub.proofs.Commands.{serves-unknown, serves-command, closed-row, closed-plain}
-use Rattle.ftp_hub.proofs.Running.{IsIdle, running-idle}
-use Rattle.ftp_events.specs.Running.{running_after}
+use Rattle.ftp_hub.proofs.Running.{IsIdle}
+use Rattle.ftp_hub.proofs.Moved.{jobs-stay}
+use Rattle.ftp_base.specs.Net.{ipv4}
+use Rattle.ftp_switchboard.specs.Board.{holder_at}
+use Rattle.ftp_events.specs.Acts.{session_acts}
+use Rattle.ftp_events.specs.Slot.{waiting_port}
 use Rattle.ftp_events.specs.declared.session.Running.{Running}
 use Rattle.ftp_hub.proofs.hub.Hub.close.Goals as goal
 
@@ -48,10 +52,24 @@ returns-clause-serves c log st =
     let job : Option Running = map.get nat_eq c.args.self.now.jobs c.args.number in
     let after : Session = session_after k c.args.answer d (notices_of d c.args.answer) job v in
     let len : map.hash_map_len c.take.new.table ≡ map.hash_map_len c.args.self.now.sessions - 1 = omega (arith, rw c.in-Some.is at c.take.ensures.len) in
+    let number : number_of k ≡ c.args.number = ap (λ (n : Option ℕ). unwrap_or n 0) c.requires.named in
     serves-command c.args.self.now _ log c.args.event.now c.args.answer d _ c.args.number v after st c.requires.fits.below (closed-plain _ c.requires.of_this_event) c.requires.named there
-    (λ few. closed ∙ sym (closed-row o (held_for c.args.self.now.board v) k v c.requires.of_this_event)) (λ few. refl) (λ few. c.handle.ensures.actions few.notices c.args.answer job) refl
-    (λ q. c.take.ensures.updates q ∙ sym (ap (λ (x : Decision). cond (c.args.number == q) (cond (lives_on x) (Some after) None) (map.get nat_eq c.args.self.now.sessions q)) closed))
-    (len ∙ sym (ap (λ (x : Decision). live_after x (map.hash_map_len c.args.self.now.sessions)) closed))
-    (λ few q. jobs-idle c.args.self.now.jobs c.args.number q k d v idle)
-    (λ few. sym (ap (λ xs. running_after xs (map.hash_map_len c.args.self.now.jobs)) (c.handle.ensures.actions few.notices c.args.answer job) ∙ running-idle o _ k c.args.answer d job v (map.hash_map_len c.args.self.now.jobs) idle))
-    (λ q. refl) c.handle.ensures.holders
+    (λ few.
+    let acts = c.handle.ensures.actions few.notices c.args.answer job ∙ ap (λ n. session_acts o n k c.args.answer d job (Some v)) number in
+    record {
+      row = closed ∙ sym (closed-row o (held_for c.args.self.now.board v) k v c.requires.of_this_event);
+      acts = acts;
+      tables = record {
+        moved = record {
+          options = refl;
+          session = refl;
+          sessions = record {
+            table = λ q. c.take.ensures.updates q ∙ sym (ap (λ (x : Decision). cond (c.args.number == q) (cond (lives_on x) (Some after) None) (map.get nat_eq c.args.self.now.sessions q)) closed);
+            live = len ∙ sym (ap (λ (x : Decision). live_after x (map.hash_map_len c.args.self.now.sessions)) closed);
+          };
+          jobs = jobs-stay c.args.self.now.jobs o c.args.number k c.args.answer d _ c.args.number v idle acts;
+        };
+        numbers = λ q. refl;
+        holders = λ a p. c.handle.ensures.holders a p ∙ ap (λ n. held_after d n (ipv4 v.opening.client) (waiting_port v.slot) a p (holder_at c.args.self.now.board a p)) number;
+      };
+    })

@@ -1,14 +1,17 @@
-use Rattle.std.proofs.Common.{◌≡◌, refl, sym, ap, ◌∙◌, ℕ, Bool, Option, Some, None, cond}
-use Rattle.std.specs.Prelude.{nat_eq, ◌==◌}
+use Rattle.std.proofs.Common.{◌≡◌, refl, sym, ap, ◌∙◌, ℕ, Option, Some}
+use Rattle.std.specs.Prelude.{nat_eq, unwrap_or}
 use Rattle.std.specs.HashMap as map
 use Rattle.ftp_events.specs.Log.{past_of}
 use Rattle.ftp_events.specs.declared.session.Session.{Session}
 use Rattle.ftp_hub.proofs.Refusals.{tables-same}
-use Rattle.ftp_hub.proofs.Decisions.{jobs-idle}
+use Rattle.ftp_base.specs.Net.{ipv4}
+use Rattle.ftp_switchboard.specs.Board.{holder_at}
+use Rattle.ftp_events.specs.Acts.{session_acts}
+use Rattle.ftp_events.specs.Slot.{waiting_port}
+use Rattle.ftp_handlers.specs.Handlers.{held_after, number_of}
 use Rattle.ftp_hub.proofs.Commands.{serves-unknown, serves-command, command-plain}
-use Rattle.ftp_hub.proofs.Rows.{command-goes_on}
-use Rattle.ftp_hub.proofs.Running.{running-idle}
-use Rattle.ftp_events.specs.Running.{running_after}
+use Rattle.ftp_hub.proofs.Moved.{jobs-stay, sessions-stay}
+use Rattle.ftp_hub.proofs.Rows.{goes_on-lives}
 use Rattle.ftp_events.specs.declared.session.Running.{Running}
 use Rattle.ftp_hub.proofs.hub.Hub.command.Goals as goal
 
@@ -32,11 +35,24 @@ returns-in-Some-clause-serves c log st =
     let there : map.get nat_eq c.args.self.now.sessions c.args.number ≡ Some v = sym c.in-Some.ensures.value in
     let job : Option Running = map.get nat_eq c.args.self.now.jobs c.args.number in
     let lent = c.get_mut.follows.holds c.command.new.session in
-    let goes_on = command-goes_on c.args.self.now.options _ c.args.event.now.kind v c.command.result c.requires.of_this_event c.command.ensures.decision in
+    let lives = goes_on-lives c.command.result c.command.ensures.goes_on in
+    let number : number_of c.args.event.now.kind ≡ c.args.number = ap (λ (n : Option ℕ). unwrap_or n 0) c.requires.named in
+    let o = c.args.self.now.options in
+    let k = c.args.event.now.kind in
     serves-command c.args.self.now _ log c.args.event.now c.args.answer c.command.result _ c.args.number v c.command.new.session st c.requires.fits.below (command-plain _ c.requires.of_this_event) c.requires.named there
-    (λ few. c.command.ensures.decision) (λ few. c.command.ensures.session few.notices c.args.answer job) (λ few. c.command.ensures.actions few.notices c.args.answer job) refl
-    (λ q. (lent.3 (rw there refl)).0 q ∙ sym (ap (λ (b : Bool). cond (c.args.number == q) (cond b (Some c.command.new.session) None) (map.get nat_eq c.args.self.now.sessions q)) goes_on.lives))
-    (lent.2 ∙ sym (goes_on.as_many (map.hash_map_len c.args.self.now.sessions)))
-    (λ few q. jobs-idle c.args.self.now.jobs c.args.number q c.args.event.now.kind c.command.result v goes_on.idle)
-    (λ few. sym (ap (λ xs. running_after xs (map.hash_map_len c.args.self.now.jobs)) (c.command.ensures.actions few.notices c.args.answer job) ∙ running-idle c.args.self.now.options _ c.args.event.now.kind c.args.answer c.command.result job v (map.hash_map_len c.args.self.now.jobs) goes_on.idle))
-    (λ q. refl) c.command.ensures.holders
+    (λ few.
+    let acts = c.command.ensures.actions few.notices c.args.answer job ∙ ap (λ n. session_acts o n k c.args.answer c.command.result job (Some v)) number in
+    record {
+      row = c.command.ensures.decision;
+      acts = acts;
+      tables = record {
+        moved = record {
+          options = refl;
+          session = c.command.ensures.session few.notices c.args.answer job;
+          sessions = sessions-stay c.args.self.now.sessions _ c.command.result c.args.number c.command.new.session lives.lives lives.as_many (lent.3 (rw there refl)).0 lent.2;
+          jobs = jobs-stay c.args.self.now.jobs o c.args.number k c.args.answer c.command.result _ c.args.number v lives.idle acts;
+        };
+        numbers = λ q. refl;
+        holders = λ a p. c.command.ensures.holders a p ∙ ap (λ n. held_after c.command.result n (ipv4 v.opening.client) (waiting_port v.slot) a p (holder_at c.args.self.now.board a p)) number;
+      };
+    })

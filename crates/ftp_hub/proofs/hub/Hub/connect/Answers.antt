@@ -4,7 +4,7 @@ use Rattle.std.specs.HashMap as map
 use Rattle.ftp_events.specs.Decide.{decide}
 use Rattle.ftp_events.specs.Log.{past_of, is_used}
 use Rattle.ftp_events.specs.declared.decision.Decision.TheVariants as decision
-use Rattle.ftp_hub.specs.Rooms.{actions_in}
+use Rattle.ftp_handlers.specs.Rooms.{actions_in}
 use Rattle.ftp_hub.proofs.Refusals.{serves-refused}
 use Rattle.ftp_hub.proofs.Openings.{serves-opened, unused-none}
 use Rattle.ftp_hub.proofs.hub.Hub.connect.Goals as goal

@@ -14,7 +14,7 @@ use Rattle.ftp_events.specs.Modes.{in_range}
 use Rattle.ftp_events.specs.Session.{session_after}
 use Rattle.ftp_events.specs.declared.session.Running.{Running}
 use Rattle.ftp_events.specs.Acts.{session_acts, starting}
-use Rattle.ftp_hub.specs.Handlers.{Starts}
+use Rattle.ftp_handlers.specs.Handlers.{Starts}
 use Rattle.ftp_hub.specs.Arrivals.{arrival_of}
 use Rattle.ftp_events.specs.declared.session.Session.{Session}
 use Rattle.ftp_switchboard.specs.Board.{Held, key}

@@ -15,7 +15,7 @@ use Rattle.ftp_events.specs.Log.{named_session}
 use Rattle.ftp_events.specs.Running.{running_after}
 use Rattle.ftp_events.specs.Session.{next_lane, session_after}
 use Rattle.ftp_events.specs.Acts.{session_acts, starting}
-use Rattle.ftp_hub.specs.Handlers.{IsFew, Jobs, Starts, notices_of}
+use Rattle.ftp_handlers.specs.Handlers.{IsFew, Jobs, Starts, notices_of}
 use Rattle.ftp_hub.proofs.Named.{few-counts, serves-named}
 use Rattle.ftp_hub.proofs.Ends.{finish-due, jobs-finished, running-finished, serves-lost}
 use Rattle.ftp_hub.proofs.hub.Hub.finish.Goals as goal
@@ -61,11 +61,21 @@ returns-in-Some-get_mut-clause-serves c log st =
     serves-named c.args.self.now _ log c.args.event.now a decision.Finished _ s v c.finish.new.session st named refl
     (sym (st.tables.sessions s) ∙ there) (finish-due c.args.self.now log c.args.event.now c.args.outcome t job st c.requires.of_this_event there_job known.0 known.1)
     (acts ∙ ap (λ (x : EventKind). session_acts o s x a decision.Finished (Some job) (Some v)) kind_is ∙ ap (λ (x : Option Running). session_acts o s k a decision.Finished x (Some v)) (sym there_job))
-    refl
-    (c.finish.ensures.session few.notices ∙ ap (λ (x : EventKind). session_after x a decision.Finished (notices_of decision.Finished a) (Some job) v) kind_is ∙ ap (λ (x : Option Running). session_after k a decision.Finished (notices_of decision.Finished a) x v) (sym there_job))
-    (lent.3 (rw there refl)).0 lent.2
-    (λ q. jobs-finished jobs c.take.new.table c.finish.new.jobs s q (kind.End job.job.ticket) job v c.take.ensures.updates begins
-    ∙ ap (λ (x : EventKind). cond (s == q) (next_lane x decision.Finished (Some job) v).running (map.get nat_eq jobs q)) kind_is
-    ∙ ap (λ (x : Option Running). cond (s == q) (next_lane k decision.Finished x v).running (map.get nat_eq jobs q)) (sym there_job))
-    (running-finished o s job.job.ticket a job v jobs c.take.new.table c.finish.new.jobs fewer begins ∙ ap (λ xs. running_after xs (map.hash_map_len jobs)) (sym acts))
-    (λ q. refl) (λ a p. refl)
+    (record {
+      moved = record {
+        options = refl;
+        session =
+            c.finish.ensures.session few.notices ∙ ap (λ (x : EventKind). session_after x a decision.Finished (notices_of decision.Finished a) (Some job) v) kind_is
+            ∙ ap (λ (x : Option Running). session_after k a decision.Finished (notices_of decision.Finished a) x v) (sym there_job);
+        sessions = record { table = (lent.3 (rw there refl)).0; live = lent.2 };
+        jobs = record {
+          table = λ q.
+              jobs-finished jobs c.take.new.table c.finish.new.jobs s q (kind.End job.job.ticket) job v c.take.ensures.updates begins
+              ∙ ap (λ (x : EventKind). cond (s == q) (next_lane x decision.Finished (Some job) v).running (map.get nat_eq jobs q)) kind_is
+              ∙ ap (λ (x : Option Running). cond (s == q) (next_lane k decision.Finished x v).running (map.get nat_eq jobs q)) (sym there_job);
+          running = running-finished o s job.job.ticket a job v jobs c.take.new.table c.finish.new.jobs fewer begins ∙ ap (λ xs. running_after xs (map.hash_map_len jobs)) (sym acts);
+        };
+      };
+      numbers = λ q. refl;
+      holders = λ a p. refl;
+    })

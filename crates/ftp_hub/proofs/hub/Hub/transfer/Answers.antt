@@ -1,21 +1,20 @@
-use Rattle.std.proofs.Common.{◌≡◌, refl, sym, ap, ◌∙◌, ℕ, Bool, Option, Some, None, cond}
-use Rattle.std.specs.Prelude.{nat_eq, ◌==◌, unwrap_or}
+use Rattle.std.proofs.Common.{◌≡◌, refl, sym, ap, ◌∙◌, ℕ, Option, Some}
+use Rattle.std.specs.Prelude.{nat_eq}
 use Rattle.std.specs.HashMap as map
 use Rattle.ftp_base.specs.Net.{ipv4}
 use Rattle.ftp_switchboard.specs.Board.{Board, holder_at}
 use Rattle.ftp_events.specs.declared.session.Running.{Running}
 use Rattle.ftp_events.specs.Log.{past_of}
-use Rattle.ftp_events.specs.Running.{running_after}
 use Rattle.ftp_events.specs.Session.{session_after}
 use Rattle.ftp_events.specs.Slot.{waiting_port}
-use Rattle.ftp_events.specs.Acts.{session_acts}
 use Rattle.ftp_events.specs.declared.decision.Decision.{Decision}
 use Rattle.ftp_events.specs.declared.session.Session.{Session}
-use Rattle.ftp_hub.specs.Handlers.{IsFew, held_for, number_of}
+use Rattle.ftp_handlers.specs.Handlers.{IsFew, held_for}
 use Rattle.ftp_hub.proofs.Refusals.{tables-same}
 use Rattle.ftp_hub.proofs.Named.{few-counts}
-use Rattle.ftp_hub.proofs.Decisions.{Comes, comes-held, jobs-started, running-started}
+use Rattle.ftp_hub.proofs.Decisions.{Comes, comes-held}
 use Rattle.ftp_hub.proofs.Commands.{serves-command, serves-unknown}
+use Rattle.ftp_hub.proofs.Moved.{jobs-start, sessions-stay}
 use Rattle.ftp_hub.proofs.Ends.{transfer-comes, transfer-plain, transfer-row}
 use Rattle.ftp_hub.proofs.hub.Hub.transfer.Goals as goal
 
@@ -46,15 +45,19 @@ returns-in-Some-clause-serves c log st =
     let few : IsFew v = few-counts c.args.self.now log s v st c.requires.fits.below (sym (st.tables.sessions s) ∙ there) in
     let comes : Comes d = transfer-comes s v d (c.queue.ensures.decision few) in
     let lent = c.get_mut.follows.holds c.queue.new.session in
-    let number : number_of k ≡ s = ap (λ (n : Option ℕ). unwrap_or n 0) c.requires.named in
-    let acts = c.queue.ensures.actions few c.args.answer in
     serves-command c.args.self.now _ log c.args.event.now c.args.answer d _ s v c.queue.new.session st c.requires.fits.below (transfer-plain k c.requires.of_this_event) c.requires.named there
-    (λ few. c.queue.ensures.decision few ∙ transfer-row o (held_for c.args.self.now.board v) k s v c.requires.of_this_event c.requires.named)
-    (λ few. c.queue.ensures.session few c.args.answer ∙ ap (λ n. session_after k c.args.answer d n job v) (sym (comes.silent c.args.answer)))
-    (λ few. acts ∙ ap (λ n. session_acts o n k c.args.answer d job (Some v)) (sym number)) refl
-    (λ q. (lent.3 (rw there refl)).0 q ∙ sym (ap (λ (b : Bool). cond (s == q) (cond b (Some c.queue.new.session) None) (map.get nat_eq c.args.self.now.sessions q)) comes.lives))
-    (lent.2 ∙ sym (comes.as_many (map.hash_map_len c.args.self.now.sessions)))
-    (λ few q. jobs-started jobs c.queue.new.jobs s q k d v comes.unfinished (c.queue.ensures.starts few))
-    (λ few. running-started o s k c.args.answer d v jobs c.queue.new.jobs comes.unfinished (c.queue.ensures.starts few) ∙ ap (λ xs. running_after xs (map.hash_map_len jobs)) (sym acts))
-    (λ q. refl)
-    (λ a p. ap (λ (board : Board). holder_at board a p) c.queue.ensures.board ∙ sym (comes-held d (number_of k) (ipv4 v.opening.client) (waiting_port v.slot) a p (holder_at c.args.self.now.board a p) comes))
+    (λ few.
+    record {
+      row = c.queue.ensures.decision few ∙ transfer-row o (held_for c.args.self.now.board v) k s v c.requires.of_this_event c.requires.named;
+      acts = c.queue.ensures.actions few c.args.answer;
+      tables = record {
+        moved = record {
+          options = refl;
+          session = c.queue.ensures.session few c.args.answer ∙ ap (λ n. session_after k c.args.answer d n job v) (sym (comes.silent c.args.answer));
+          sessions = sessions-stay c.args.self.now.sessions _ d s c.queue.new.session comes.lives comes.as_many (lent.3 (rw there refl)).0 lent.2;
+          jobs = jobs-start jobs c.queue.new.jobs o k c.args.answer d _ s v comes.unfinished (c.queue.ensures.starts few) (c.queue.ensures.actions few c.args.answer);
+        };
+        numbers = λ q. refl;
+        holders = λ a p. ap (λ (board : Board). holder_at board a p) c.queue.ensures.board ∙ sym (comes-held d s (ipv4 v.opening.client) (waiting_port v.slot) a p (holder_at c.args.self.now.board a p) comes);
+      };
+    })

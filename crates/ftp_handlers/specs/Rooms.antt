@@ -1,0 +1,97 @@
+-- What a room holds.
+use Rattle.std.specs.Prelude.{◌≡◌, ℕ, ◌+◌, ◌<◌, ◌≤◌, List, [], length, Bool, IsTrue, true, false, Option, Some, None}
+use Rattle.ftp_base.specs.declared.notice.DataEvent.{DataEvent}
+use Rattle.ftp_base.specs.declared.notice.DataEvent.TheVariants.{Got, Put}
+use Rattle.ftp_transfer.specs.declared.job.Job.{Job}
+use Rattle.ftp_events.specs.declared.action.Action.{Action}
+use Rattle.ftp_events.specs.declared.action.Action.TheVariants as action
+use Rattle.ftp_events.specs.declared.session.Pending.{Pending}
+use Rattle.ftp_handlers.specs.declared.room.Need.{Need}
+use Rattle.ftp_handlers.specs.declared.room.Need.TheVariants.{Nothing, Run}
+use Rattle.ftp_handlers.specs.Copies.{IsWide, TextState}
+
+-- what contracts see of a room
+pub record RoomState : Type 0 where
+  pub count : ℕ
+  pub job : Option Job
+  pub need : Need
+  pub kept : TextState
+  pub path : List ℕ
+  pub pending : Option Pending
+  pub text : TextState
+  pub dropped : TextState
+  pub actions : List Action
+  pub places : ℕ
+  pub twice : Bool
+
+-- the actions that were put in, in order
+abbrev pub actions_in : RoomState → List Action
+actions_in room = room.actions
+
+-- how many they are
+abbrev pub len_in : RoomState → ℕ
+len_in room = length room.actions
+
+-- each action is put in twice
+abbrev pub twice_in : RoomState → Bool
+twice_in room = room.twice
+
+-- what has to be done outside
+abbrev pub need_in : RoomState → Need
+need_in room = room.need
+
+-- the job that is to be run
+abbrev pub job_in : RoomState → Option Job
+job_in room = room.job
+
+-- what has to be done outside for a job that is to be run
+abbrev pub need_for : Option Job → Need
+need_for None = Nothing
+need_for (Some job) = Run job.ticket
+
+-- the name or the path that the event keeps or tells
+abbrev pub kept_in : RoomState → List ℕ
+kept_in room = room.kept.items
+
+-- one more action has a place
+abbrev pub HasPlace : RoomState → Type 0
+HasPlace room = len_in room < room.places
+
+-- n more actions have places
+abbrev pub HasPlaces : ℕ → RoomState → Type 0
+HasPlaces n room = len_in room + n ≤ room.places
+
+-- no event has more actions for one session
+abbrev pub most_actions : ℕ
+most_actions = 4
+
+-- where all is put in twice, there is a copy of this path
+abbrev pub HasCopy : RoomState → List ℕ → Type 0
+HasCopy room path = IsTrue (twice_in room) → room.path ≡ path
+
+-- an action has no text
+abbrev pub is_plain : Action → Bool
+is_plain (action.Notify session meta what) = false
+is_plain (action.Reply session delay reply) = false
+is_plain _ = true
+
+-- the path of a notice
+abbrev pub path_of : DataEvent → List ℕ
+path_of (Got path bytes) = path
+path_of (Put path bytes) = path
+
+-- nothing was put in, and the actions of one session have places
+pub record IsReady (room : RoomState) : Type 0 where
+  pub actions : room.actions ≡ []
+  pub none : len_in room ≡ 0
+  pub places : most_actions ≤ room.places
+  pub text : room.text.items ≡ []
+  pub dropped : room.dropped.items ≡ []
+
+-- a reply has room for its text
+abbrev pub CanReply : RoomState → Type 0
+CanReply room = IsWide room.text
+
+-- so has the reply on a transfer that is dropped
+abbrev pub CanTellDropped : RoomState → Type 0
+CanTellDropped room = IsWide room.dropped

@@ -1,0 +1,54 @@
+//! The handlers: each decides on one kind of event for a live session that it is lent, and puts what is done into a
+//! room, whose memory was taken before.
+//!
+//! A handler promises the decision of its row, the session and the actions that follow. Begin with `command`.
+#![tactic(auto)]
+
+mod auth_done;
+pub mod closed;
+mod commands;
+mod copies;
+pub mod cwd;
+pub mod end;
+mod fixed;
+mod login;
+pub mod pass;
+pub mod pasv;
+mod putting;
+pub mod rest;
+mod room;
+pub mod transfer;
+mod user;
+
+// The commands that queue a transfer have one handler.
+pub mod appe {
+    pub use crate::transfer::handle;
+}
+
+pub mod list {
+    pub use crate::transfer::handle;
+}
+
+pub mod mlsd {
+    pub use crate::transfer::handle;
+}
+
+pub mod nlst {
+    pub use crate::transfer::handle;
+}
+
+pub mod retr {
+    pub use crate::transfer::handle;
+}
+
+pub mod stor {
+    pub use crate::transfer::handle;
+}
+
+pub mod stou {
+    pub use crate::transfer::handle;
+}
+
+pub use commands::command;
+pub use fixed::{copy_alone, copy_kept, fix_transfer};
+pub use room::{Extent, Need, Prepared, Room};

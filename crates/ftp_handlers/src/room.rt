@@ -1,0 +1,272 @@
+//! Memory that is taken ahead of a step, and what the event needs in it.
+
+ghost use Rattle.std.specs.Prelude.{◌≡◌, ◌≤◌, true, [], IfOk, IsTrue};
+ghost use Rattle.ftp_handlers.specs.Handlers.{can_drop, can_reply};
+ghost use Rattle.ftp_handlers.specs.Rooms.{IsReady, CanReply, CanTellDropped, HasCopy, actions_in, job_in, kept_in, most_actions, need_for, need_in, twice_in};
+
+use crate::copies::{ActionList, Text};
+use ftp_base::Bytes;
+use ftp_events::{Actions, EventKind, Pending};
+use ftp_transfer::{Job, Ticket};
+use std::alloc::{AllocError, Global};
+use std::marker::Model;
+use std::mem;
+
+/// No event has more actions for one session.
+const MOST_ACTIONS: usize = 4;
+
+/// What has to be done outside before the step.
+#[derive(Clone, Copy, Debug, PartialEq, Eq)]
+pub enum Need {
+    Nothing,
+    /// The transfer is run; its job is in the room.
+    Run(Ticket),
+}
+
+/// Memory for one event at one count of events. It is spent by the step, or let go.
+pub struct Room {
+    pub(crate) alloc: Global,
+    pub(crate) count: u64,
+    pub(crate) need: Need,
+    /// The job that is to be run.
+    pub(crate) job: Option<Job>,
+    /// The name or the path that the event keeps or tells.
+    pub(crate) kept: Text,
+    /// Where all is written twice, a copy of the path of the job that ends.
+    pub(crate) path: Bytes,
+    /// The transfer that the event asks for.
+    pub(crate) pending: Option<Pending>,
+    /// The text of the reply.
+    pub(crate) text: Text,
+    /// The text of the reply on a transfer that is dropped.
+    pub(crate) dropped: Text,
+    pub(crate) actions: ActionList,
+}
+
+impl Model for Room {
+    ghost use Rattle.std.specs.Prelude.{◌≡◌};
+    ghost use Rattle.ftp_handlers.specs.Rooms.{RoomState};
+
+    ghost Value = { RoomState };
+
+    ghost view = { λ r. record { count = r.count; job = r.job; need = r.need; kept = r.kept; path = r.path; pending = r.pending; text = r.text; dropped = r.dropped; actions = r.actions.items; places = r.actions.places; twice = r.actions.twice } };
+
+    ghost invariant = { λ r. (r.kept.twice ≡ r.actions.twice) × (r.text.twice ≡ r.actions.twice) × (r.dropped.twice ≡ r.actions.twice) };
+}
+
+/// What is looked up for an event before its step.
+#[derive(Drop)]
+pub struct Prepared {
+    /// The name or the path that the event keeps or tells.
+    pub kept: Bytes,
+    /// Where all is written twice, the path of the job that ends.
+    pub path: Bytes,
+    /// The transfer that the event asks for.
+    pub pending: Option<Pending>,
+    /// The job that is to be run.
+    pub job: Option<Job>,
+}
+
+/// What a room has memory for.
+#[derive(Clone, Copy)]
+pub struct Extent {
+    /// How many actions have places.
+    pub places: usize,
+    /// A reply has room for its text.
+    pub replies: bool,
+    /// So has the reply on a transfer that is dropped.
+    pub drops: bool,
+    /// All is written twice.
+    pub twice: bool,
+}
+
+impl Extent {
+    /// What an event of this kind can need, for one entry or for two.
+    pub fn of(kind: &EventKind, twice: bool) -> Extent
+        ensures places { result.places ≡ most_actions }
+        ensures replies { result.replies ≡ can_reply kind.now }
+        ensures drops { result.drops ≡ can_drop kind.now }
+        ensures twice { result.twice ≡ twice }
+    {
+        let (replies, drops) = match kind {
+            EventKind::Connect { .. } | EventKind::Closed { .. } => (false, false),
+            EventKind::DataIn { .. } => (false, true),
+            EventKind::Pasv { .. } => (true, true),
+            EventKind::User { .. }
+            | EventKind::Pass { .. }
+            | EventKind::AuthDone { .. }
+            | EventKind::Transfer { .. }
+            | EventKind::Stou { .. }
+            | EventKind::Rest { .. }
+            | EventKind::Cwd { .. }
+            | EventKind::End { .. } => (true, false),
+        };
+        Extent {
+            places: MOST_ACTIONS,
+            replies,
+            drops,
+            twice,
+        }
+    }
+}
+
+impl Room {
+    /// Takes memory for the step on an event at a count of events.
+    pub fn new(
+        alloc: Global,
+        count: u64,
+        prepared: Prepared,
+        extent: Extent,
+    ) -> Result<Room, AllocError>
+        requires { most_actions ≤ extent.places }
+        ensures ready { IfOk result IsReady }
+        ensures places { IfOk result (λ room. extent.places ≤ room.places) }
+        ensures letters { IfOk result (λ room. IsTrue extent.replies → CanReply room) }
+        ensures dropped { IfOk result (λ room. IsTrue extent.drops → CanTellDropped room) }
+        ensures twice { IfOk result (λ room. twice_in room ≡ extent.twice) }
+        ensures counted { IfOk result (λ room. room.count ≡ count) }
+        ensures kept { IfOk result (λ room. kept_in room ≡ prepared.kept) }
+        ensures path { IfOk result (λ room. room.path ≡ prepared.path) }
+        ensures pending { IfOk result (λ room. room.pending ≡ prepared.pending) }
+        ensures job { IfOk result (λ room. job_in room ≡ prepared.job) }
+        ensures need { IfOk result (λ room. need_in room ≡ need_for prepared.job) }
+    {
+        let text = Text::with_room(alloc, extent.replies, extent.twice)?;
+        let dropped = Text::with_room(alloc, extent.drops, extent.twice)?;
+        let actions = ActionList::with_places(alloc, extent.places, extent.twice)?;
+        let Prepared {
+            kept,
+            path,
+            pending,
+            job,
+        } = prepared;
+        let kept = Text::of(alloc, kept, extent.twice)?;
+        Ok(Room {
+            alloc,
+            count,
+            need: need_for(&job),
+            job,
+            kept,
+            path,
+            pending,
+            text,
+            dropped,
+            actions,
+        })
+    }
+
+    /// Lets the room go.
+    pub fn let_go(self) {
+        let Room {
+            alloc: _,
+            count: _,
+            need: _,
+            job: _,
+            kept: _,
+            path: _,
+            pending: _,
+            text: _,
+            dropped: _,
+            actions: _,
+        } = self;
+    }
+
+    /// The transfer that the event asks for.
+    pub fn pending(&self) -> &Option<Pending>
+        ensures { result.now ≡ self.now.pending }
+    {
+        &self.pending
+    }
+
+    /// What has to be done outside before the step.
+    pub fn need(&self) -> Need
+        ensures { result ≡ need_in self.now }
+    {
+        self.need
+    }
+
+    /// The job of the transfer that is to be run. It is given once.
+    pub fn take_job(&mut self) -> Option<Job>
+        ensures job { result ≡ job_in self.old }
+        ensures once { self.new ≡ record self.old { job = None } }
+    {
+        mem::replace(&mut self.job, None)
+    }
+
+    /// The actions that were put in, in order.
+    pub fn into_actions(self) -> Actions
+        ensures { result ≡ actions_in self }
+    {
+        let Room {
+            alloc: _,
+            count: _,
+            need: _,
+            job: _,
+            kept: _,
+            path: _,
+            pending: _,
+            text: _,
+            dropped: _,
+            actions,
+        } = self;
+        actions.into_actions()
+    }
+
+    /// The actions that were put in, in order, twice.
+    pub fn into_twin(self) -> (Actions, Actions)
+        requires { IsTrue (twice_in self) }
+        ensures first { result.0 ≡ actions_in self }
+        ensures second { result.1 ≡ actions_in self }
+    {
+        let Room {
+            alloc: _,
+            count: _,
+            need: _,
+            job: _,
+            kept: _,
+            path: _,
+            pending: _,
+            text: _,
+            dropped: _,
+            actions,
+        } = self;
+        actions.into_both()
+    }
+
+    /// Takes out the name or the path that the event keeps or tells.
+    pub fn take_kept(&mut self) -> Bytes
+        ensures kept { result ≡ kept_in self.old }
+        ensures same { self.new ≡ record self.old { kept = self.new.kept } }
+    {
+        let (kept, _copy) = self.take_both();
+        kept
+    }
+
+    // Takes out the name or the path that the event keeps or tells, and its copy.
+    pub(crate) fn take_both(&mut self) -> (Bytes, Bytes)
+        ensures kept { result.0 ≡ kept_in self.old }
+        ensures copy { IsTrue (twice_in self.old) → result.1 ≡ kept_in self.old }
+        ensures same { self.new ≡ record self.old { kept = self.new.kept } }
+    {
+        let none = Text::blank(self.alloc, self.actions.is_twice());
+        mem::replace(&mut self.kept, none).into_both()
+    }
+
+    /// Takes out the transfer that the event asks for.
+    pub fn take_pending(&mut self) -> Option<Pending>
+        ensures pending { result ≡ self.old.pending }
+        ensures same { self.new ≡ record self.old { pending = self.new.pending } }
+    {
+        mem::replace(&mut self.pending, None)
+    }
+}
+
+// What has to be done outside before the step.
+fn need_for(job: &Option<Job>) -> Need
+    ensures { result ≡ need_for job.now }
+{
+    match job {
+        Some(job) => Need::Run(job.ticket),
+        None => Need::Nothing,
+    }
+}

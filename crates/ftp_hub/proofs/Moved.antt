@@ -1,0 +1,86 @@
+-- What an entry about one live session makes of the tables: a record a table, each with a form for what stays.
+use Rattle.std.proofs.Common.{BuildHasherDefault, FoldHasher, ◌≡◌, refl, sym, ap, ◌∙◌, ℕ, cond, Bool, List, Option, Some, None}
+use Rattle.std.specs.Prelude.{◌==◌, nat_eq, true, false}
+use Rattle.std.specs.HashMap as map
+use Rattle.ftp_base.specs.Net.{ipv4}
+use Rattle.ftp_options.specs.declared.options.Options.{Options}
+use Rattle.ftp_switchboard.specs.Board.{holder_at}
+use Rattle.ftp_numbers.specs.Used.{has}
+use Rattle.ftp_events.specs.declared.action.Action.{Action}
+use Rattle.ftp_events.specs.declared.decision.Decision.{Decision}
+use Rattle.ftp_events.specs.declared.event.Answer.{Answer}
+use Rattle.ftp_events.specs.declared.event.EventKind.{EventKind}
+use Rattle.ftp_events.specs.declared.session.Running.{Running}
+use Rattle.ftp_events.specs.declared.session.Session.{Session}
+use Rattle.ftp_events.specs.Acts.{session_acts, starting}
+use Rattle.ftp_events.specs.Running.{running_after}
+use Rattle.ftp_events.specs.Session.{lives_on, live_after, next_lane, session_after}
+use Rattle.ftp_events.specs.Slot.{waiting_port}
+use Rattle.ftp_laws.proofs.Tickets.{is_finished}
+use Rattle.ftp_handlers.specs.Handlers.{Jobs, Starts, held_after, notices_of}
+use Rattle.ftp_hub.specs.declared.hub.Hub.{Hub}
+use Rattle.ftp_hub.proofs.Decisions.{jobs-idle, jobs-started, running-started}
+use Rattle.ftp_hub.proofs.Running.{IsIdle, running-idle}
+
+-- the live sessions, by number
+abbrev pub Sessions : Type 0
+Sessions = map.HashMap ℕ Session (BuildHasherDefault FoldHasher)
+
+-- session s became what it is after, or it ended
+pub record SessionsMoved (old new : Sessions) (d : Decision) (s : ℕ) (after : Session) : Type 0 where
+  pub table : (q : ℕ) → map.get nat_eq new q ≡ cond (s == q) (cond (lives_on d) (Some after) None) (map.get nat_eq old q)
+  pub live : map.hash_map_len new ≡ live_after d (map.hash_map_len old)
+
+-- the job of session s, which was v, ended or started, or neither
+pub record JobsMoved (old new : Jobs) (k : EventKind) (d : Decision) (done : List Action) (s : ℕ) (v : Session) : Type 0 where
+  pub table : (q : ℕ) → map.get nat_eq new q ≡ cond (s == q) (next_lane k d (map.get nat_eq old s) v).running (map.get nat_eq old q)
+  pub running : map.hash_map_len new ≡ running_after done (map.hash_map_len old)
+
+-- the tables of sessions and jobs moved, with session s as it is due
+pub record Moved (old new : Hub) (k : EventKind) (answer : Answer) (d : Decision) (done : List Action) (s : ℕ) (v after : Session) : Type 0 where
+  pub options : new.options ≡ old.options
+  pub session : after ≡ session_after k answer d (notices_of d answer) (map.get nat_eq old.jobs s) v
+  pub sessions : SessionsMoved old.sessions new.sessions d s after
+  pub jobs : JobsMoved old.jobs new.jobs k d done s v
+
+-- so did that of holds, and no number came
+pub record MovedAlone (old new : Hub) (k : EventKind) (answer : Answer) (d : Decision) (done : List Action) (s : ℕ) (v after : Session) : Type 0 where
+  pub moved : Moved old new k answer d done s v after
+  pub numbers : (q : ℕ) → has new.numbers q ≡ has old.numbers q
+  pub holders : (a p : ℕ) → holder_at new.board a p ≡ held_after d s (ipv4 v.opening.client) (waiting_port v.slot) a p (holder_at old.board a p)
+
+-- the session goes on
+pub sessions-stay :
+    (old new : Sessions) (d : Decision) (s : ℕ) (after : Session) →
+    lives_on d ≡ true → ((n : ℕ) → live_after d n ≡ n) →
+    ((q : ℕ) → map.get nat_eq new q ≡ cond (s == q) (Some after) (map.get nat_eq old q)) →
+    map.hash_map_len new ≡ map.hash_map_len old →
+    SessionsMoved old new d s after
+sessions-stay old new d s after lives as_many table len =
+    record {
+      table = λ q. table q ∙ sym (ap (λ (b : Bool). cond (s == q) (cond b (Some after) None) (map.get nat_eq old q)) lives);
+      live = len ∙ sym (as_many (map.hash_map_len old));
+    }
+
+-- no job starts or ends
+pub jobs-stay :
+    (jobs : Jobs) (o : Options) (n : ℕ) (k : EventKind) (answer : Answer) (d : Decision) (done : List Action) (s : ℕ) (v : Session) →
+    IsIdle d → done ≡ session_acts o n k answer d (map.get nat_eq jobs s) (Some v) →
+    JobsMoved jobs jobs k d done s v
+jobs-stay jobs o n k answer d done s v idle acts =
+    record {
+      table = λ q. jobs-idle jobs s q k d v idle;
+      running = sym (ap (λ xs. running_after xs (map.hash_map_len jobs)) acts ∙ running-idle o n k answer d (map.get nat_eq jobs s) v (map.hash_map_len jobs) idle);
+    }
+
+-- no job ends, and one may start
+pub jobs-start :
+    (old new : Jobs) (o : Options) (k : EventKind) (answer : Answer) (d : Decision) (done : List Action) (s : ℕ) (v : Session) →
+    is_finished d ≡ false → Starts old new s (starting k d (map.get nat_eq old s) v) →
+    done ≡ session_acts o s k answer d (map.get nat_eq old s) (Some v) →
+    JobsMoved old new k d done s v
+jobs-start old new o k answer d done s v unfinished begins acts =
+    record {
+      table = λ q. jobs-started old new s q k d v unfinished begins;
+      running = running-started o s k answer d v old new unfinished begins ∙ ap (λ xs. running_after xs (map.hash_map_len old)) (sym acts);
+    }

@@ -1,0 +1,268 @@
+-- The job that starts with an entry is that of the transfer which was copied before it.
+use Rattle.std.proofs.Common.{◌≡◌, refl, sym, ap, ◌∙◌, ℕ, Bool, true, false, cond, List, [], ◌∷◌, ◌++◌, Option, Some, None}
+use Rattle.std.specs.Prelude.{nat_eq, unwrap_or}
+use Rattle.std.specs.Option.{option_and_then, option_map, option_map_or, option_or}
+use Rattle.std.specs.HashMap as map
+use Rattle.ftp_base.specs.declared.command.DataChanCmd.{DataChanCmd}
+use Rattle.ftp_base.specs.declared.net.IpAddr.{IpAddr}
+use Rattle.ftp_base.specs.declared.net.IpAddr.TheVariants.{V4, V6}
+use Rattle.ftp_base.specs.declared.notice.Notice.{Notice}
+use Rattle.ftp_base.specs.declared.reply.Reply.{Reply}
+use Rattle.ftp_base.specs.declared.reply.Reply.TheVariants as reply
+use Rattle.ftp_options.specs.declared.options.Options.{Options}
+use Rattle.ftp_transfer.specs.declared.job.Job.{Job}
+use Rattle.ftp_transfer.specs.declared.job.Ticket.{Ticket}
+use Rattle.ftp_events.specs.declared.action.Action.{Action}
+use Rattle.ftp_events.specs.declared.action.Action.TheVariants as action
+use Rattle.ftp_events.specs.declared.decision.Decision.{Decision}
+use Rattle.ftp_events.specs.declared.decision.Decision.TheVariants as decision
+use Rattle.ftp_events.specs.declared.entry.Entry.{Entry}
+use Rattle.ftp_events.specs.declared.event.Answer.{Answer}
+use Rattle.ftp_events.specs.declared.event.EventKind.{EventKind}
+use Rattle.ftp_events.specs.declared.event.EventKind.TheVariants as kind
+use Rattle.ftp_events.specs.declared.session.Pending.{Pending}
+use Rattle.ftp_events.specs.declared.session.Running.{Running}
+use Rattle.ftp_events.specs.declared.session.Session.{Session}
+use Rattle.ftp_events.specs.declared.session.Slot.{Slot}
+use Rattle.ftp_events.specs.declared.session.Slot.TheVariants.{Empty, Waits, Linked}
+use Rattle.ftp_events.specs.Acts.{acts, cancellations, closings, completions, drop_acts, farewells, link_in, notice_and_reply, notice_for, notifications, presence_for, refused_link, reply_acts, session_acts, start_acts, starting, stays}
+use Rattle.ftp_events.specs.Decide.{decide}
+use Rattle.ftp_events.specs.Classes.{is_ending}
+use Rattle.ftp_events.specs.History.{Subject, Nobody, One, All, subject, meant}
+use Rattle.ftp_events.specs.Log.{is_refusal, new_number, past_of}
+use Rattle.ftp_events.specs.Login.{logged_user, login_by}
+use Rattle.ftp_events.specs.Reply.{delay_of, message_for, reply_for}
+use Rattle.ftp_events.specs.Session.{session, running_job}
+use Rattle.ftp_events.specs.Slot.{asked_command, drops, startable, with_link}
+use Rattle.ftp_events.specs.Transfer.{pending_of}
+use Rattle.ftp_laws.proofs.Subjects.{no-stop, one-meant, by_subject}
+use Rattle.ftp_hub.specs.declared.hub.Hub.{Hub}
+use Rattle.ftp_handlers.specs.Handlers.{asked_for}
+use Rattle.ftp_hub.specs.Stands.{Stands, pending_for}
+use Rattle.ftp_hub.specs.Twin.{can_start, concerned_in, first_start, job_at, started_for, started_job, subject_in, waiting_in}
+
+-- where no value comes of any, none comes
+none-after : {A B : Type 0} (f : A → Option B) → ((y : A) → f y ≡ None) → (x : Option A) → option_and_then f x ≡ None
+none-after f none None = refl
+none-after f none (Some y) = none y
+
+-- the first start is among the first actions, or else among the others
+first-append : (xs ys : List Action) → first_start (xs ++ ys) ≡ option_or (first_start xs) (first_start ys)
+first-append [] ys = refl
+first-append (action.Start t n ∷ xs) ys = refl
+first-append (a ∷ xs) ys = first-append xs ys
+
+first-completions : (k : EventKind) (d : Decision) (b : Bool) → first_start (completions k d b) ≡ None
+first-completions (kind.End t) decision.Finished b = refl
+first-completions k d b = refl
+
+first-cancellations : (s : ℕ) (b : Bool) (p : Option Pending) → first_start (cancellations s b p) ≡ None
+first-cancellations s b None = refl
+first-cancellations s true (Some p) = refl
+first-cancellations s false (Some p) = refl
+
+first-closings : (n : Option ℕ) → first_start (closings n) ≡ None
+first-closings None = refl
+first-closings (Some n) = refl
+
+first-drop_acts : (s : ℕ) (b : Bool) (d : Decision) (slot : Slot) (p : Option Pending) → first_start (drop_acts s b d slot p) ≡ None
+first-drop_acts s b d slot p = go (drops d slot)
+  where
+    go : (c : Bool) → first_start (cond c (cancellations s b p ++ closings (link_in slot)) []) ≡ None
+    go true = first-append (cancellations s b p) (closings (link_in slot)) ∙ rw (first-cancellations s b p, first-closings (link_in slot)) refl
+    go false = refl
+
+first-refused : (k : EventKind) (d : Decision) → first_start (refused_link k d) ≡ None
+first-refused k decision.Turned = go (new_number k decision.Turned)
+  where
+    go : (n : Option ℕ) → first_start (option_map_or (λ n. action.Close n ∷ []) n []) ≡ None
+    go None = refl
+    go (Some n) = refl
+first-refused k d = refl
+
+first-notifications : (s : ℕ) (v : Session) (user : List ℕ) (what : Option Notice) → first_start (notifications s v user what) ≡ None
+first-notifications s v user None = refl
+first-notifications s v user (Some what) = refl
+
+first-reply_acts : (s delay : ℕ) (r : Reply) → first_start (reply_acts s delay r) ≡ None
+first-reply_acts s delay reply.None = refl
+first-reply_acts s delay (reply.CodeAndMsg c msg) = refl
+
+first-told : (o : Options) (s : ℕ) (k : EventKind) (answer : Answer) (d : Decision) (job : Option Running) (v : Session) → first_start (notice_and_reply o s k answer d job v) ≡ None
+first-told o s k answer d job v =
+    let m = message_for v job k answer d in
+    let user = logged_user (unwrap_or (login_by d) v.login) v.name in
+    let what = notice_for m (presence_for d) in
+    let r = reply_for o v m k d in
+    first-append (notifications s v user what) (reply_acts s (delay_of d) r)
+    ∙ ap (λ x. option_or x (first_start (reply_acts s (delay_of d) r))) (first-notifications s v user what)
+    ∙ first-reply_acts s (delay_of d) r
+
+first-farewells : (s : ℕ) (d : Decision) → first_start (farewells s d) ≡ None
+first-farewells s d = go (is_ending d)
+  where
+    go : (c : Bool) → first_start (cond c (action.Close s ∷ []) []) ≡ None
+    go true = refl
+    go false = refl
+
+-- the ticket and the link of a job
+abbrev at_of : Running → Ticket × ℕ
+at_of r = (r.job.ticket, r.job.number)
+
+-- the job of what runs
+abbrev job_in : Option Running → Option Job
+job_in r = option_map (λ r. r.job) r
+
+first-start_acts : (j : Option Running) → first_start (start_acts j) ≡ option_map at_of j
+first-start_acts None = refl
+first-start_acts (Some j) = refl
+
+or-none : {A : Type 0} → (x : Option A) → option_or x None ≡ x
+or-none None = refl
+or-none (Some x) = refl
+
+-- what starts among the actions of a live session
+first-live : (o : Options) (s : ℕ) (k : EventKind) (answer : Answer) (d : Decision) (job : Option Running) (v : Session) → first_start (session_acts o s k answer d job (Some v)) ≡ option_map at_of (starting k d job v)
+first-live o s k answer d job v =
+    let c = completions k d (stays d (Some v)) in
+    let l = drop_acts s (stays d (Some v)) d v.slot v.pending in
+    let r = refused_link k d in
+    let n = notice_and_reply o s k answer d job v in
+    let b = start_acts (starting k d job v) in
+    first-append (c ++ l ++ r ++ n ++ b) (farewells s d)
+    ∙ ap (option_or (first_start (c ++ l ++ r ++ n ++ b))) (first-farewells s d)
+    ∙ or-none (first_start (c ++ l ++ r ++ n ++ b))
+    ∙ first-append (c ++ l ++ r ++ n) b
+    ∙ ap (λ x. option_or x (first_start b)) (first-append (c ++ l ++ r) n ∙ ap (option_or (first_start (c ++ l ++ r))) (first-told o s k answer d job v) ∙ or-none (first_start (c ++ l ++ r))
+    ∙ first-append (c ++ l) r ∙ ap (option_or (first_start (c ++ l))) (first-refused k d) ∙ or-none (first_start (c ++ l))
+    ∙ first-append c l ∙ ap (option_or (first_start c)) (first-drop_acts s (stays d (Some v)) d v.slot v.pending) ∙ or-none (first_start c)
+    ∙ first-completions k d (stays d (Some v)))
+    ∙ first-start_acts (starting k d job v)
+
+-- nothing starts for a session that is not live
+first-gone : (o : Options) (s : ℕ) (k : EventKind) (answer : Answer) (d : Decision) (job : Option Running) → first_start (session_acts o s k answer d job None) ≡ None
+first-gone o s k answer d job =
+    let c = completions k d (stays d None) in
+    let l = drop_acts s (stays d None) d Empty None in
+    let r = refused_link k d in
+    first-append (c ++ l ++ r ++ [] ++ []) (farewells s d)
+    ∙ ap (option_or (first_start (c ++ l ++ r ++ [] ++ []))) (first-farewells s d)
+    ∙ or-none (first_start (c ++ l ++ r ++ [] ++ []))
+    ∙ first-append (c ++ l ++ r ++ []) [] ∙ or-none (first_start (c ++ l ++ r ++ []))
+    ∙ first-append (c ++ l ++ r) [] ∙ or-none (first_start (c ++ l ++ r))
+    ∙ first-append (c ++ l) r ∙ ap (option_or (first_start (c ++ l))) (first-refused k d) ∙ or-none (first_start (c ++ l))
+    ∙ first-append c l ∙ ap (option_or (first_start c)) (first-drop_acts s (stays d None) d Empty None) ∙ or-none (first_start c)
+    ∙ first-completions k d (stays d None)
+
+-- the job of a copy of the transfer, at what starts
+abbrev job_from : Option Pending → Option (Ticket × ℕ) → Option Job
+job_from p at = option_and_then (λ p. option_map (job_at p) at) p
+
+-- a job that can start is that of the transfer in the slot
+startable-is : (slot : Slot) (p : Option Pending) (job : Option Running) → job_from p (option_map at_of (startable slot p job)) ≡ job_in (startable slot p job)
+startable-is (Linked n) (Some p) None = refl
+startable-is (Linked n) (Some p) (Some j) = refl
+startable-is (Linked n) None job = refl
+startable-is Empty None job = refl
+startable-is Empty (Some p) job = refl
+startable-is (Waits port) None job = refl
+startable-is (Waits port) (Some p) job = refl
+
+-- or that of the transfer that is queued, whatever ticket the copy has
+queued-is : (slot : Slot) (t u : Ticket) (user dir : List ℕ) (n : ℕ) (c : Option DataChanCmd) (job : Option Running) → job_from (option_map (pending_of u user dir n) c) (option_map at_of (startable slot (option_map (pending_of t user dir n) c) job)) ≡ job_in (startable slot (option_map (pending_of t user dir n) c) job)
+queued-is (Linked m) t u user dir n (Some c) None = refl
+queued-is (Linked m) t u user dir n (Some c) (Some j) = refl
+queued-is (Linked m) t u user dir n None job = refl
+queued-is Empty t u user dir n None job = refl
+queued-is Empty t u user dir n (Some c) job = refl
+queued-is (Waits port) t u user dir n None job = refl
+queued-is (Waits port) t u user dir n (Some c) job = refl
+
+starting-is : (k : EventKind) (d : Decision) (v : Session) (job : Option Running) → job_from (can_start d (asked_for k v) v.pending) (option_map at_of (starting k d job v)) ≡ job_in (starting k d job v)
+starting-is k (decision.Attached s) v job = startable-is (with_link v.slot (new_number k (decision.Attached s))) v.pending job
+starting-is k (decision.Queued t) v job = queued-is v.slot t _ _ v.cwd v.offset (asked_command k) job
+starting-is k decision.Finished v job = startable-is v.slot v.pending None
+starting-is k d v job = none-after (λ (p : Pending). option_map (job_at p) None) (λ p. refl) v.pending
+
+-- the transfer that an event asks for, by the session that it is about
+asked-none : (k : EventKind) (v : Option Session) → asked_command k ≡ None → option_and_then (asked_for k) v ≡ None
+asked-none k None e = refl
+asked-none k (Some v) e = rw e refl
+
+asked-subject : (hub : Hub) (k : EventKind) (answer : Answer) → pending_for hub k ≡ option_and_then (asked_for k) (subject_in hub k answer)
+asked-subject hub (kind.DataIn n raw port) answer = sym (asked-none (kind.DataIn n raw port) (subject_in hub (kind.DataIn n raw port) answer) refl)
+asked-subject hub k answer = refl
+
+-- the session that an event is about, by the tables
+concerned-is : (hub : Hub) (log : List Entry) (e : Entry) → Stands hub log → e.decision ≡ decide hub.options log e.event e.answer → is_refusal e.decision ≡ false → concerned_in hub e.event.kind e.answer ≡ meant hub.options (past_of log) e
+unfolding decide
+concerned-is hub log e st due counts = go e.event.kind refl
+  where
+    arrived : (n port : ℕ) (raw : _) → e.event.kind ≡ kind.DataIn n raw port → (ip : IpAddr) → raw.ip ≡ ip → concerned_in hub (kind.DataIn n raw port) e.answer ≡ meant hub.options (past_of log) e
+    arrived n port raw is (V4 a) from = rw (is, from) (st.tables.holders a port)
+    arrived n port raw is (V6 a) from =
+        let refused : e.decision ≡ decision.Misplaced = due ∙ rw (is, from, hub.pooled) refl in
+        let clash : true ≡ false = sym (ap is_refusal refused) ∙ counts in
+        cc
+
+    go : (k : EventKind) → e.event.kind ≡ k → concerned_in hub e.event.kind e.answer ≡ meant hub.options (past_of log) e
+    go (kind.DataIn n raw port) is = ap (λ k. concerned_in hub k e.answer) is ∙ arrived n port raw is raw.ip refl
+    go k is = rw is refl
+
+-- the job of the copy is the job that starts
+pub job-is :
+    (hub : Hub) (log : List Entry) (e : Entry) → Stands hub log →
+    e.decision ≡ decide hub.options log e.event e.answer →
+    e.actions ≡ acts hub.options log e →
+    option_and_then (λ p. option_map (job_at p) (first_start e.actions)) (can_start e.decision (pending_for hub e.event.kind) (waiting_in hub e.event.kind e.answer))
+    ≡ started_job hub.options (past_of log) e
+unfolding acts
+job-is hub log e st due acted = go (is_refusal e.decision) refl
+  where
+    o : Options
+    o = hub.options
+
+    past : List Entry
+    past = past_of log
+
+    k : EventKind
+    k = e.event.kind
+
+    copied : Option Pending
+    copied = can_start e.decision (pending_for hub k) (waiting_in hub k e.answer)
+
+    live : (s : ℕ) → is_refusal e.decision ≡ false → subject o past e ≡ One s → (v : Option Session) → session o past s ≡ v → job_from copied (first_start e.actions) ≡ job_in (option_and_then (starting k e.decision (running_job o past s)) v)
+    live s counts about None known =
+        let done : e.actions ≡ session_acts o s k e.answer e.decision (running_job o past s) None = acted ∙ rw (counts, about, known) refl in
+        ap (λ x. job_from copied (first_start x)) done
+        ∙ ap (job_from copied) (first-gone o s k e.answer e.decision (running_job o past s))
+        ∙ none-after (λ (p : Pending). option_map (job_at p) None) (λ p. refl) copied
+    live s counts about (Some v) known =
+        let done : e.actions ≡ session_acts o s k e.answer e.decision (running_job o past s) (Some v) = acted ∙ rw (counts, about, known) refl in
+        let found : subject_in hub k e.answer ≡ Some v =
+        ap (option_and_then (map.get nat_eq hub.sessions)) (concerned-is hub log e st due counts ∙ one-meant o past e s about) ∙ st.tables.sessions s ∙ known
+        in
+        let asked : pending_for hub k ≡ asked_for k v = asked-subject hub k e.answer ∙ ap (option_and_then (asked_for k)) found in
+        let waits : waiting_in hub k e.answer ≡ v.pending = ap (option_and_then (λ (x : Session). x.pending)) found in
+        ap (λ x. job_from copied (first_start x)) done
+        ∙ ap (job_from copied) (first-live o s k e.answer e.decision (running_job o past s) v)
+        ∙ ap (λ x. job_from (can_start e.decision x (waiting_in hub k e.answer)) (option_map at_of (starting k e.decision (running_job o past s) v))) asked
+        ∙ ap (λ x. job_from (can_start e.decision (asked_for k v) x) (option_map at_of (starting k e.decision (running_job o past s) v))) waits
+        ∙ starting-is k e.decision v (running_job o past s)
+
+    nobody : is_refusal e.decision ≡ false → subject o past e ≡ Nobody → job_from copied (first_start e.actions) ≡ None
+    nobody counts about =
+        let done : e.actions ≡ refused_link k e.decision = acted ∙ rw (counts, about) refl in
+        ap (λ x. job_from copied (first_start x)) done ∙ ap (job_from copied) (first-refused k e.decision) ∙ none-after (λ (p : Pending). option_map (job_at p) None) (λ p. refl) copied
+
+    counting : is_refusal e.decision ≡ false → job_from copied (first_start e.actions) ≡ started_for o past e (subject o past e)
+    counting counts =
+        by_subject o past e (no-stop e.decision)
+        (λ about. nobody counts about ∙ sym (ap (started_for o past e) about))
+        (λ s about. live s counts about (session o past s) refl ∙ sym (ap (started_for o past e) about))
+
+    go : (b : Bool) → is_refusal e.decision ≡ b → job_from copied (first_start e.actions) ≡ started_job o past e
+    go true refused =
+        let done : e.actions ≡ [] = acted ∙ rw refused refl in
+        ap (λ x. job_from copied (first_start x)) done ∙ none-after (λ (p : Pending). option_map (job_at p) None) (λ p. refl) copied ∙ rw refused refl
+    go false counts = counting counts ∙ rw counts refl

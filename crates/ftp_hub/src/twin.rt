@@ -1,0 +1,257 @@
+//! A step whose entry is given twice: once to be kept, once to be told. All memory is taken before it.
+
+ghost use Rattle.std.specs.Prelude.{◌≡◌, ◌+◌, ◌-◌, ◌^◌, ◌↔◌, List, ◌∷◌, IfOk, IsErrOf, IsTrue, None};
+ghost use Rattle.std.specs.Option.{option_and_then, option_map};
+ghost use Rattle.ftp_events.specs.declared.entry.Entry.{Entry};
+ghost use Rattle.ftp_events.specs.Log.{is_refusal, past_of};
+ghost use Rattle.ftp_events.specs.Right.{next_entry};
+ghost use Rattle.ftp_handlers.specs.Rooms.{job_in, need_in};
+ghost use Rattle.ftp_hub.specs.Stands.{SameAnswers, SameTables, Stands, count_of, job_for, options_of};
+ghost use Rattle.ftp_hub.specs.Twin.{FitsTwin, can_start, concerned_in, first_start, job_at, started_job, waiting_in};
+
+use crate::hub::Hub;
+use crate::prepare::PrepareError;
+use ftp_base::IpAddr;
+use ftp_events::{Action, Answer, Decision, Entry, EventKind, HubEvent, Pending};
+use ftp_handlers::{Need, Room};
+use ftp_transfer::{Job, Ticket};
+use std::alloc::{AllocError, Global};
+
+/// An entry twice, and the job that starts with it.
+#[derive(Drop)]
+pub struct Twin {
+    pub kept: Entry,
+    pub told: Entry,
+    pub job: Option<Job>,
+}
+
+/// Memory for one event and both its entries, with copies of the event and of the transfers that it can start.
+pub struct TwinRoom {
+    pub(crate) room: Room,
+    pub(crate) event: HubEvent,
+    // The transfer that the event asks for, and the one that waits.
+    pub(crate) asked: Option<Pending>,
+    pub(crate) waiting: Option<Pending>,
+}
+
+impl TwinRoom {
+    /// What has to be done outside before the step.
+    pub fn need(&self) -> Need
+        ensures { result ≡ need_in self.now.room }
+    {
+        self.room.need()
+    }
+
+    /// The job of the transfer that is to be run. It is given once.
+    pub fn take_job(&mut self) -> Option<Job>
+        ensures job { result ≡ job_in self.old.room }
+        ensures once { self.new ≡ record self.old { room = record self.old.room { job = None } } }
+    {
+        self.room.take_job()
+    }
+}
+
+impl Hub {
+    /// Takes all memory that the step on the event with its answer can need, and that for a second copy of its entry
+    /// and for its job.
+    pub fn prepare_twin(
+        &mut self,
+        event: &HubEvent,
+        answer: &Answer,
+    ) -> Result<TwinRoom, PrepareError>
+        ensures fits { IfOk result (λ room. FitsTwin room self.new event.now answer.now) }
+        ensures job { IfOk result (λ room. job_in room.room ≡ job_for self.new event.now.kind) }
+        ensures same { SameAnswers self.old self.new }
+        ensures stands { (log : List Entry) → Stands self.old log → Stands self.new log }
+        ensures exhausted { IsErrOf result PrepareError.Exhausted ↔ (count_of self.old ≡ 2 ^ 64 - 1) }
+    {
+        let room = match self.prepare_room(event, true) {
+            Ok(room) => room,
+            Err(error) => return Err(error),
+        };
+        match self.copy_for(event, answer, room.pending()) {
+            Ok(copies) => {
+                let Copies {
+                    event,
+                    asked,
+                    waiting,
+                } = copies;
+                Ok(TwinRoom {
+                    room,
+                    event,
+                    asked,
+                    waiting,
+                })
+            }
+            Err(_) => {
+                self.give_back(room);
+                Err(PrepareError::OutOfMemory)
+            }
+        }
+    }
+
+    /// Lets the room of a step go that is not taken.
+    pub fn give_back_twin(&mut self, room: TwinRoom)
+        ensures { self.new ≡ self.old }
+    {
+        let TwinRoom {
+            room,
+            event: _,
+            asked: _,
+            waiting: _,
+        } = room;
+        self.give_back(room);
+    }
+
+    // Copies of the event and of the transfers that it can start.
+    fn copy_for(
+        &self,
+        event: &HubEvent,
+        answer: &Answer,
+        asked: &Option<Pending>,
+    ) -> Result<Copies, AllocError>
+        ensures event { IfOk result (λ copies. copies.event ≡ event.now) }
+        ensures asked { IfOk result (λ copies. copies.asked ≡ asked.now) }
+        ensures waiting { IfOk result (λ copies. copies.waiting ≡ waiting_in self.now event.now.kind answer.now) }
+    {
+        Ok(Copies {
+            event: event.copy(self.alloc)?,
+            asked: copy_pending(self.alloc, asked)?,
+            waiting: self.copy_waiting(&event.kind, answer)?,
+        })
+    }
+
+    /// Decides the event and changes the tables, and gives the entry twice. It takes no memory.
+    pub fn step_twin(&mut self, room: TwinRoom, event: HubEvent, answer: Answer) -> Twin
+        requires { FitsTwin room self.old event answer }
+        ensures event { result.kept.event ≡ event }
+        ensures answer { result.kept.answer ≡ answer }
+        ensures due { (log : List Entry) → Stands self.old log → result.kept ≡ next_entry (options_of self.old) log event answer }
+        ensures told { result.told ≡ result.kept }
+        ensures job { (log : List Entry) → Stands self.old log → result.job ≡ started_job (options_of self.old) (past_of log) result.kept }
+        ensures stands { (log : List Entry) → Stands self.old log → Stands self.new (result.kept ∷ log) }
+        ensures options { options_of self.new ≡ options_of self.old }
+        ensures count { count_of self.new ≡ count_of self.old + 1 }
+        ensures refused { (log : List Entry) → Stands self.old log → IsTrue (is_refusal result.kept.decision) → SameTables self.old self.new }
+    {
+        let TwinRoom {
+            room,
+            event: copy,
+            asked,
+            waiting,
+        } = room;
+        let mut room = room;
+        let decision = self.enter(&mut room, &event, answer);
+        let (actions, told) = room.into_twin();
+        let pending = can_start(decision, asked, waiting);
+        let job = start(first_start(actions.as_slice()), pending);
+        Twin {
+            kept: Entry {
+                event,
+                answer,
+                decision,
+                actions,
+            },
+            told: Entry {
+                event: copy,
+                answer,
+                decision,
+                actions: told,
+            },
+            job,
+        }
+    }
+}
+
+// What is copied for the second entry and for the job.
+struct Copies {
+    event: HubEvent,
+    asked: Option<Pending>,
+    waiting: Option<Pending>,
+}
+
+impl Hub {
+    // The session that an event names, or that holds what it comes for.
+    fn concerned(&self, kind: &EventKind, _answer: &Answer) -> Option<u64>
+        ensures { result ≡ concerned_in self.now kind.now _answer.now }
+    {
+        match kind {
+            EventKind::DataIn { raw, port, .. } => match raw.ip {
+                IpAddr::V4(source) => self.board.holder(source, *port),
+                IpAddr::V6(_) => None,
+            },
+            _ => kind.named_session(),
+        }
+    }
+
+    // A copy of the transfer that waits in the slot of the session that an event is about.
+    fn copy_waiting(&self, kind: &EventKind, answer: &Answer) -> Result<Option<Pending>, AllocError>
+        ensures { IfOk result (λ copy. copy ≡ waiting_in self.now kind.now answer.now) }
+    {
+        let Some(number) = self.concerned(kind, answer) else {
+            return Ok(None);
+        };
+        match self.sessions.get(&number) {
+            Some(session) => copy_pending(self.alloc, &session.pending),
+            None => Ok(None),
+        }
+    }
+}
+
+// A copy of the transfer, where there is one.
+fn copy_pending(alloc: Global, pending: &Option<Pending>) -> Result<Option<Pending>, AllocError>
+    ensures { IfOk result (λ copy. copy ≡ pending.now) }
+{
+    match pending {
+        None => Ok(None),
+        Some(pending) => Ok(Some(Pending {
+            ticket: pending.ticket,
+            user: pending.user.copy(alloc)?,
+            command: pending.command.copy(alloc)?,
+            path: pending.path.copy(alloc)?,
+            offset: pending.offset,
+        })),
+    }
+}
+
+// The transfer that an entry can start: the one that it queues, or the one that waits.
+fn can_start(
+    decision: Decision,
+    asked: Option<Pending>,
+    waiting: Option<Pending>,
+) -> Option<Pending>
+    ensures { result ≡ can_start decision asked waiting }
+{
+    match decision {
+        Decision::Queued { ticket: _ } => asked,
+        _ => waiting,
+    }
+}
+
+// The ticket and the link of the first job that starts.
+fn first_start(actions: &[Action]) -> Option<(Ticket, u64)>
+    ensures { result ≡ first_start actions.now }
+{
+    for action in actions {
+        if let Action::Start { ticket, number } = action {
+            return Some((*ticket, *number));
+        }
+    }
+    None
+}
+
+// The job of the transfer, where one starts.
+fn start(at: Option<(Ticket, u64)>, pending: Option<Pending>) -> Option<Job>
+    ensures { result ≡ option_and_then (λ p. option_map (job_at p) at) pending }
+{
+    let pending = pending?;
+    let (ticket, number) = at?;
+    Some(Job {
+        ticket,
+        user: pending.user,
+        command: pending.command,
+        path: pending.path,
+        offset: pending.offset,
+        number,
+    })
+}
