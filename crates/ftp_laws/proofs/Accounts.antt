@@ -1,5 +1,5 @@
 -- Each transfer that was queued waits, runs, or was settled, and no other.
-use Rattle.std.proofs.Common.{◌≡◌, refl, sym, ◌∙◌, ap, ap₂, subst, ℕ, ◌+◌, Bool, true, false, cond, List, Option, Some, None, arith}
+use Rattle.std.proofs.Common.{◌≡◌, refl, sym, ◌∙◌, ap, ap₂, subst, ℕ, ◌+◌, ◌||◌, Bool, true, false, cond, List, Option, Some, None, arith}
 use Rattle.std.specs.Prelude.{◌==◌, count_by}
 use Rattle.std.specs.Option.{option_and_then}
 use Rattle.ftp_events.specs.declared.decision.Decision.TheVariants as decision
@@ -17,9 +17,9 @@ use Rattle.ftp_laws.proofs.Classes.{queues-is, finishes-is}
 use Rattle.ftp_laws.proofs.Laws.{session-told}
 use Rattle.ftp_laws.proofs.Holds.{live-used}
 use Rattle.ftp_laws.proofs.Lanes.{IsQueue, queued-live, named-concern, IsBare}
-use Rattle.ftp_laws.proofs.Sound.{Sound, queue-made}
-use Rattle.ftp_laws.proofs.Counts.{count-about, count-nobody}
-use Rattle.ftp_laws.proofs.Tickets.{same_ticket-equal, same_ticket-other, one, settles-on-transfers, settles-on-cancelled, count-start_acts, settles-drop_acts, settles-other, IsEnd, finished-known, IsFit, lost}
+use Rattle.ftp_laws.proofs.Sound.{IsSound, queue-made}
+use Rattle.ftp_laws.proofs.Counts.{count-about, count-nobody, count-completions}
+use Rattle.ftp_laws.proofs.Tickets.{same_ticket-equal, same_ticket-other, one, settles-on-transfers, settles-on-cancelled, count-start_acts, settles-drop_acts, IsEnd, finished-known, IsFit, lost}
 
 -- the slot and the transfer of a session, as its history tells them, also where it is not live
 pub slot-told :
@@ -113,13 +113,13 @@ pub settles-elsewhere :
     is_refusal e.decision ≡ false →
     e.actions ≡ acts_of o past e →
     concerns o past e t.session ≡ false →
-    ((s : ℕ) → Sound s (lane (history o past s))) →
+    ((s : ℕ) → IsSound s (history o past s)) →
     count_by (settles t) e.actions ≡ 0
 settles-elsewhere o past e t counts acted c own = by_subject (subject o past e) refl
   where
-    by_end : (ticket : Ticket) → e.event.kind ≡ kind.End ticket → same_ticket ticket t ≡ false
+    by_end : (ticket : Ticket) → e.event.kind ≡ kind.End ticket → (same_ticket ticket t || false) ≡ false
     by_end ticket k =
-        same_ticket-other ticket t (sym (one-concerns o past e ticket.session t.session (named-one o past e ticket.session (no-stop e.decision) (ap named_session k))) ∙ c)
+        ap (λ b. b || false) (same_ticket-other ticket t (sym (one-concerns o past e ticket.session t.session (named-one o past e ticket.session (no-stop e.decision) (ap named_session k))) ∙ c))
 
     by_pending :
         (s : ℕ) → (s == t.session) ≡ false →
@@ -130,19 +130,19 @@ settles-elsewhere o past e t counts acted c own = by_subject (subject o past e) 
     by_pending s n None x (Some p) y = cc
     by_pending s n (Some v) x (Some p) y =
         let same : (lane (history o past s)).pending ≡ Some p = ap (λ (w : Session). w.pending) (session-told o past s v x).told ∙ y in
-        same_ticket-other p.ticket t (ap (λ r. r == t.session) ((own s).waits p same) ∙ n)
+        same_ticket-other p.ticket t (ap (λ r. r == t.session) ((own s).counted.waits p same).0 ∙ n)
 
     by_subject : (x : Subject) → subject o past e ≡ x → count_by (settles t) e.actions ≡ 0
     by_subject All x = absurd (not-all o past e (no-stop e.decision) x)
-    by_subject Nobody x = count-nobody (settles t) o past e (settles-on-transfers t) acted x
+    by_subject Nobody x = count-nobody (settles t) o past e (λ m. refl) acted x
     by_subject (One s) x =
         let other : (s == t.session) ≡ false = sym (one-concerns o past e s t.session x) ∙ c in
         let v : Option Session = session o past s in
         let kept : is_pending t (pending_in v) ≡ false = by_pending s other v refl (pending_in v) refl in
         omega (
           arith,
-          count-about (settles t) o past e s (settles-on-transfers t) counts acted x,
-          settles-other t e.event.kind e.decision (stays e.decision v) by_end,
+          count-about (settles t) o past e s (settles-on-transfers t s) counts acted x,
+          count-completions (settles t) e.event.kind e.decision (stays e.decision v) by_end,
           settles-drop_acts t s (stays e.decision v) e.decision (slot_of v) (pending_in v),
           count-start_acts t (settles t) (option_and_then (starting e.event.kind e.decision (running_job o past s)) v) (settles-on-cancelled t),
           none-lost (drops e.decision (slot_of v)) (is_pending t (pending_in v)) kept,
@@ -164,7 +164,7 @@ settles-here o past e t counts acted c bare =
     let same : count_by (settles t) (drop_acts s (stays e.decision v) e.decision (slot_of v) (pending_in v)) ≡ count_by (settles t) (drop_acts s (stays e.decision v) e.decision l.slot l.pending) = ap₂ (λ (slot : Slot) (pending : Option Pending). count_by (settles t) (drop_acts s (stays e.decision v) e.decision slot pending)) told.0 told.1 in
     omega (
       arith,
-      count-about (settles t) o past e s (settles-on-transfers t) counts acted (concerned o past e s (no-stop e.decision) c),
+      count-about (settles t) o past e s (settles-on-transfers t s) counts acted (concerned o past e s (no-stop e.decision) c),
       same,
       count-start_acts t (settles t) (option_and_then (starting e.event.kind e.decision (running_job o past s)) v) (settles-on-cancelled t),
     )

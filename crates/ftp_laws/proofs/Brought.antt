@@ -10,28 +10,22 @@ use Rattle.ftp_events.specs.declared.decision.Decision.TheVariants as decision
 use Rattle.ftp_events.specs.declared.event.EventKind.TheVariants as kind
 use Rattle.ftp_events.specs.History.{Nobody, One, All}
 use Rattle.ftp_events.specs.Classes.{is_stop}
-use Rattle.ftp_laws.proofs.Common.{Subject, slot_move, Options, Running, Action, Decision, Entry, Answer, EventKind, is_number, is_refusal, past_of, named_session, new_number, holder, holder_of_target, subject, concerns, history, queued_in, lane, session, due, decide, acts, completions, stays, slot_of, pending_in, start_acts, IsRight, IsActed}
+use Rattle.ftp_laws.proofs.Common.{Subject, slot_move, Options, Running, Action, Decision, Entry, Answer, EventKind, is_number, is_refusal, past_of, named_session, new_number, holder, holder_of_target, subject, concerns, history, queued_in, lane, due, decide, acts, start_acts, IsRight, IsActed}
 use Rattle.ftp_laws.proofs.Subjects.{no-stop, one-own, not-all, concerns-plain}
 use Rattle.ftp_laws.specs.Jobs.{starts_there, attaches_to, brings_link, has_brought}
 use Rattle.ftp_laws.proofs.Entries.{past-more}
 use Rattle.ftp_laws.proofs.Served.{Goes, connection-goes}
 use Rattle.ftp_laws.proofs.Lanes.{ended-empty}
-use Rattle.ftp_laws.proofs.Counts.{IsOnTransfers, count-drop_acts, count-about, count-nobody}
+use Rattle.ftp_laws.proofs.Counts.{IsOnStarts, started_in, count-starts, count-nobody}
 use Rattle.ftp_laws.proofs.Links.{is_attached, Brings, started-brings, link_of, WasOrComes, link-after}
 use Rattle.ftp_laws.proofs.Tickets.{one}
 use Rattle.ftp_laws.proofs.Cancelled.{any-counted}
-use Rattle.ftp_laws.proofs.Jobs.{starting-history, started_in, started_in-owned}
+use Rattle.ftp_laws.proofs.Jobs.{starting-history, started_in-owned}
 
--- the test on starts of a session on a link is one on transfers
-starts_there-on-transfers : (s n : ℕ) → IsOnTransfers (starts_there s n)
-starts_there-on-transfers s n = record { closes = λ m. refl; notifies = λ q meta what. refl; replies = λ q delay r. refl }
-
--- a completion starts nothing there
-starts_there-completions :
-    (s n : ℕ) (k : EventKind) (d : Decision) (b : Bool) →
-    count_by (starts_there s n) (completions k d b) ≡ 0
-starts_there-completions s n (kind.End ticket) decision.Finished b = refl
-starts_there-completions s n k d b = refl
+-- the test on starts of a session on a link is one on starts
+starts_there-on-starts : (s n : ℕ) → IsOnStarts (starts_there s n)
+starts_there-on-starts s n =
+    record { plain = λ q. record { closes = λ m. refl; notifies = λ meta what. refl; replies = λ delay r. refl }; completed = λ t b. refl; cancelled = λ t. refl }
 
 -- the session that a connection is attached to
 abbrev attached_session : Decision → Option ℕ
@@ -154,17 +148,10 @@ starts-on-own o log e s n r a h = by_refusal (is_refusal e.decision) refl
         subject o past e ≡ q →
         has_brought s n (e ∷ log) ≡ true
     by_subject counts All about = absurd (not-all o past e (no-stop e.decision) about)
-    by_subject counts Nobody about = absurd (omega (arith, counted, count-nobody (starts_there s n) o past e (starts_there-on-transfers s n) a.1 about))
+    by_subject counts Nobody about = absurd (omega (arith, counted, count-nobody (starts_there s n) o past e (λ m. refl) a.1 about))
     by_subject counts (One q) about =
         by_job q (one-own o past e q about) (started_in o past e q) refl
-        (omega (
-          arith,
-          counted,
-          count-about (starts_there s n) o past e q (starts_there-on-transfers s n) counts a.1 about,
-          starts_there-completions s n e.event.kind e.decision (stays e.decision (session o past q)),
-          count-drop_acts (starts_there s n) q (stays e.decision (session o past q)) e.decision (slot_of (session o past q)) (pending_in (session o past q))
-              (starts_there-on-transfers s n) (λ t. refl),
-        ))
+        (omega (arith, counted, count-starts (starts_there s n) o past e q (starts_there-on-starts s n) counts a.1 about))
 
     by_refusal : (b : Bool) → is_refusal e.decision ≡ b → has_brought s n (e ∷ log) ≡ true
     by_refusal false x = by_subject x (subject o past e) refl

@@ -5,14 +5,13 @@ use Rattle.std.specs.List.{list_any}
 use Rattle.std.specs.Option.{option_and_then}
 use Rattle.ftp_events.specs.declared.decision.Decision.TheVariants as decision
 use Rattle.ftp_events.specs.declared.decision.SlotMove.TheVariants.{Empties, EmptiesWaiting, Awaits}
-use Rattle.ftp_events.specs.declared.event.EventKind.TheVariants.{End}
 use Rattle.ftp_events.specs.Fate.{cancels}
 use Rattle.ftp_events.specs.History.{Nobody, One, All}
-use Rattle.ftp_laws.proofs.Common.{Subject, Options, Ticket, Action, Decision, Entry, EventKind, Pending, Session, Slot, is_refusal, past_of, subject, concerns, history, slot_move, SlotMove, empties, drops, lane, session, running_job, acts, acts_of, completions, stays, slot_of, pending_in, starting, IsRight, IsActed, is_pending}
+use Rattle.ftp_laws.proofs.Common.{Subject, Options, Ticket, Action, Decision, Entry, Pending, Session, Slot, is_refusal, past_of, subject, concerns, history, slot_move, SlotMove, empties, drops, lane, session, running_job, acts, acts_of, stays, slot_of, pending_in, starting, IsRight, IsActed, is_pending}
 use Rattle.ftp_laws.proofs.Subjects.{no-stop, concerned, one-concerns, not-all}
 use Rattle.ftp_laws.specs.Fates.{may_cancel, can_cancel, LosesSlot}
 use Rattle.ftp_laws.proofs.Laws.{session-told}
-use Rattle.ftp_laws.proofs.Counts.{IsOnTransfers, count-about, count-nobody, CountsTest, counts-any}
+use Rattle.ftp_laws.proofs.Counts.{IsOnTransfers, count-about, count-nobody, count-completions, CountsTest, counts-any}
 use Rattle.ftp_laws.proofs.Tickets.{same_ticket-equal, one, IsOnCancelled, count-start_acts, count-drop_acts-own}
 use Rattle.ftp_laws.proofs.Sound.{sound}
 
@@ -33,17 +32,10 @@ counted-any p xs h = go (counts-any p xs)
     go (inr x) = x.1
 
 -- the test on cancellations is one on transfers
-pub cancels-on-transfers : (t : Ticket) → IsOnTransfers (cancels t)
-cancels-on-transfers t = record { closes = λ m. refl; notifies = λ s meta what. refl; replies = λ s delay r. refl }
+pub cancels-on-transfers : (t : Ticket) (s : ℕ) → IsOnTransfers s (cancels t)
+cancels-on-transfers t s = record { closes = λ m. refl; notifies = λ meta what. refl; replies = λ delay r. refl }
 
--- an end cancels nothing
-pub cancels-completions :
-    (t : Ticket) (k : EventKind) (d : Decision) (delivered : Bool) →
-    count_by (cancels t) (completions k d delivered) ≡ 0
-cancels-completions t (End ticket) decision.Finished delivered = refl
-cancels-completions t k d delivered = refl
-
--- nor does a start, while the transfer in a slot that is dropped is cancelled
+-- a start cancels nothing, while the transfer in a slot that is dropped is cancelled
 pub cancels-on-cancelled : (t : Ticket) → IsOnCancelled t (cancels t)
 cancels-on-cancelled t = record { plain = cancels-on-transfers t; cancelled = λ u. refl; started = λ u n. refl }
 
@@ -58,8 +50,8 @@ cancels-about o past e t s counts acted about =
     let v : Option Session = session o past s in
     omega (
       arith,
-      count-about (cancels t) o past e s (cancels-on-transfers t) counts acted about,
-      cancels-completions t e.event.kind e.decision (stays e.decision v),
+      count-about (cancels t) o past e s (cancels-on-transfers t s) counts acted about,
+      count-completions (cancels t) e.event.kind e.decision (stays e.decision v) (λ ticket k. refl),
       count-drop_acts-own t (cancels t) s (stays e.decision v) e.decision (slot_of v) (pending_in v) (cancels-on-cancelled t),
       count-start_acts t (cancels t) (option_and_then (starting e.event.kind e.decision (running_job o past s)) v) (cancels-on-cancelled t),
     )
@@ -96,7 +88,7 @@ pending-owned o log s v t r known waits = go v.pending refl waits
     go None y w = cc
     go (Some p) y w =
         let same : (lane (history o (past_of log) s)).pending ≡ Some p = ap (λ (u : Session). u.pending) (session-told o (past_of log) s v known).told ∙ y in
-        sym ((sound o log s r).waits p same) ∙ ap (λ (u : Ticket). u.session) (same_ticket-equal p.ticket t w)
+        sym ((sound o log s r).counted.waits p same).0 ∙ ap (λ (u : Ticket). u.session) (same_ticket-equal p.ticket t w)
 
 -- the session loses the slot in which the transfer waits
 abbrev pub IsLost : Entry → Ticket → Option Session → Type 0
@@ -135,7 +127,7 @@ cancelled-loses o log e t r a h = by_refusal (is_refusal e.decision) refl
         subject o (past_of log) e ≡ s →
         LosesSlot o (past_of log) e t
     by_subject counts All x = absurd (not-all o past e (no-stop e.decision) x)
-    by_subject counts Nobody x = absurd (omega (arith, counted, count-nobody (cancels t) o past e (cancels-on-transfers t) a.1 x))
+    by_subject counts Nobody x = absurd (omega (arith, counted, count-nobody (cancels t) o past e (λ m. refl) a.1 x))
     by_subject counts (One s) x =
         let v : Option Session = session o past s in
         by_session s x v refl (lost-both (drops e.decision (slot_of v)) (is_pending t (pending_in v)) (omega (arith, counted, cancels-about o past e t s counts a.1 x)))

@@ -7,13 +7,12 @@ use Rattle.std.specs.Option.{option_map_or}
 use Rattle.std.proofs.lemmas.Bool.{or_parts}
 use Rattle.ftp_events.specs.declared.decision.Decision.TheVariants as decision
 use Rattle.ftp_events.specs.declared.session.Slot.TheVariants.{Empty, Waits, Linked}
-use Rattle.ftp_events.specs.Words.{total}
 use Rattle.ftp_events.specs.Place.{is_queued, ticket_count}
 use Rattle.ftp_events.specs.Fate.{Fate, CompletedAt, CancelledAt, AwaitsConnection, AwaitsItsEnd, AwaitsEarlierEnd, completes, cancels, settlement, is_running, in_slot, wait, fate}
 use Rattle.ftp_events.specs.Acts.{slot_of}
 use Rattle.ftp_events.specs.History.{Nobody}
-use Rattle.ftp_laws.proofs.Common.{Options, Ticket, Action, Decision, Entry, Pending, Session, Slot, is_number, is_refusal, past_of, is_used, new_number, opened_number, subject, concerns, opens, history, Lane, queued_in, lane, session, running_job, due, acts_of, stays, pending_in, IsRight, IsActed, is_pending}
-use Rattle.ftp_laws.specs.Fates.{queues, was_queued, settles, settle_count}
+use Rattle.ftp_laws.proofs.Common.{Options, Ticket, Action, Decision, Entry, Pending, Session, Slot, is_number, is_refusal, past_of, is_used, new_number, opened_number, subject, concerns, opens, history, Lane, queued_in, lane, session, running_job, due, acts_of, stays, pending_in, IsRight, IsActed, is_pending, Running}
+use Rattle.ftp_laws.specs.Fates.{queues, was_queued, queue_count, settles, settle_count}
 use Rattle.ftp_laws.proofs.Facts.{opened-unused}
 use Rattle.ftp_laws.proofs.Laws.{history-other, history-own}
 use Rattle.ftp_laws.proofs.Holds.{number-is}
@@ -21,15 +20,11 @@ use Rattle.ftp_laws.proofs.Waits.{opened-subject}
 use Rattle.ftp_laws.proofs.Told.{opened-is}
 use Rattle.ftp_laws.proofs.Lanes.{IsBare, ended-empty}
 use Rattle.ftp_laws.proofs.Counts.{count-nobody, CountsTest, counts-one, counts-or, counts-same, counts-any}
-use Rattle.ftp_laws.proofs.Tickets.{one, carried, settles-on-transfers, lane-balance}
-use Rattle.ftp_laws.proofs.Sound.{Sound, sound}
+use Rattle.ftp_laws.proofs.Tickets.{one, same_ticket-refl, carried, lane-balance}
+use Rattle.ftp_laws.proofs.Sound.{IsSound, sound}
 use Rattle.ftp_laws.proofs.Accounts.{slot-told, IsNext, queues-next, entry-fit, settles-elsewhere, settles-here}
 use Rattle.ftp_laws.proofs.Entries.{acted-past}
 use Rattle.ftp_laws.proofs.Cases.{by_part}
-
--- how often a transfer was queued
-abbrev pub queue_count : Ticket → List Entry → ℕ
-queue_count t log = total (λ e. one (queues t e.decision)) log
 
 -- a transfer that was queued once waits, runs or was settled once
 pub record IsAccounted (o : Options) (past : List Entry) (t : Ticket) (settled queued : ℕ) : Type 0 where
@@ -57,7 +52,7 @@ accounted-opened o past e t settled queued fit acted n h =
     let none : queued ≡ 0 = h.fresh (opened-unused o past e.event.at e.event.kind e.answer s first) in
     let unqueued : one (queues t e.decision) ≡ 0 = ap one (opened-unqueued t e.decision d) in
     let about : subject o past e ≡ Nobody = opened-subject o past e d (sym fit ∙ d) in
-    let silent : count_by (settles t) e.actions ≡ 0 = count-nobody (settles t) o past e (settles-on-transfers t) acted about in
+    let silent : count_by (settles t) e.actions ≡ 0 = count-nobody (settles t) o past e (λ m. refl) acted about in
     let start : history o (e ∷ past) s ≡ e ∷ [] = rw n refl in
     let bare : carried t (lane (e ∷ [])) ≡ 0 = rw d refl in
     let empty : carried t (lane (history o (e ∷ past) s)) ≡ 0 = ap (λ (x : List Entry). carried t (lane x)) start ∙ bare in
@@ -77,7 +72,7 @@ pub accounted-other :
     e.actions ≡ acts_of o past e →
     opens e t.session ≡ false →
     concerns o past e t.session ≡ false →
-    ((s : ℕ) → Sound s (lane (history o past s))) →
+    ((s : ℕ) → IsSound s (history o past s)) →
     IsAccounted o past t settled queued →
     IsAccounted o (e ∷ past) t (settled + count_by (settles t) e.actions) (queued + one (queues t e.decision))
 accounted-other o past e t settled queued fit counts acted n c own h =
@@ -303,3 +298,40 @@ running-unslotted o log t r a runs =
     go true x =
         let known = accounted o log t r a in
         absurd (omega (arith, known.balance, known.once, ap one runs, ap one x))
+
+-- no transfer is queued twice
+pub queued-once : (o : Options) (log : List Entry) (t : Ticket) → IsRight o log → IsActed o log → queue_count t log ≤ 1
+queued-once o log t r a = (accounted o log t r a).once
+
+-- a transfer that runs is one of its session, and is carried there
+pub running-carried :
+    (o : Options) (log : List Entry) (s : ℕ) (run : Running) → IsRight o log →
+    running_job o (past_of log) s ≡ Some run →
+    1 ≤ carried run.job.ticket (lane (history o (past_of log) run.job.ticket.session))
+running-carried o log s run r known =
+    let t : Ticket = run.job.ticket in
+    let own : t.session ≡ s = ((sound o log s r).counted.runs run known).0 in
+    let here : running_job o (past_of log) t.session ≡ Some run = subst (λ (n : ℕ). running_job o (past_of log) n ≡ Some run) (sym own) known in
+    omega (arith, ap (λ (j : Option Running). one (is_running t j)) here, ap one (same_ticket-refl t))
+
+-- it was queued, and is not settled
+pub running-unsettled :
+    (o : Options) (log : List Entry) (s : ℕ) (run : Running) → IsRight o log → IsActed o log →
+    running_job o (past_of log) s ≡ Some run →
+    (was_queued run.job.ticket log ≡ true) × (settlement log run.job.ticket ≡ None)
+running-unsettled o log s run r a known =
+    let t : Ticket = run.job.ticket in
+    let h : IsAccounted o (past_of log) t (settle_count t log) (queue_count t log) = accounted o log t r a in
+    let runs = running-carried o log s run r known in (
+      queued (queued-counts t log) (omega (arith, h.balance, runs)),
+      unsettled (settlement log t) (settled-counts t log) (omega (arith, h.balance, h.once, runs)),
+    )
+  where
+    queued : {n : ℕ} {b : Bool} → CountsTest n b → 1 ≤ n → b ≡ true
+    queued (inl x) le = absurd (omega (arith, x.0, le))
+    queued (inr x) le = x.1
+
+    unsettled : {n : ℕ} (f : Option Fate) → CountsTest n (is_some f) → n ≡ 0 → f ≡ None
+    unsettled None x zero = refl
+    unsettled (Some f) (inl x) zero = absurd (true≢false x.1)
+    unsettled (Some f) (inr x) zero = absurd (omega (arith, x.0, zero))

@@ -18,22 +18,23 @@ use Rattle.ftp_laws.proofs.Holds.{number-is}
 use Rattle.ftp_laws.proofs.Waits.{opened-subject}
 use Rattle.ftp_laws.proofs.Told.{opened-is}
 use Rattle.ftp_laws.proofs.Lanes.{IsBare, ended-empty, named-concern}
-use Rattle.ftp_laws.proofs.Running.{runs-started, running-after, no-completion, unused-idle}
-use Rattle.ftp_laws.proofs.Counts.{IsOnTransfers, count-drop_acts, count-about, count-nobody}
+use Rattle.ftp_laws.proofs.Running.{runs-started, running-after, unused-idle}
+use Rattle.ftp_laws.proofs.Counts.{IsOnTransfers, IsOnStarts, started_in, count-completions, count-drop_acts, count-about, count-starts, count-nobody}
 use Rattle.ftp_laws.proofs.Links.{starting-told}
-use Rattle.ftp_laws.proofs.Tickets.{one, finishes, IsFit}
+use Rattle.ftp_laws.proofs.Tickets.{one, finishes, no-completion, IsFit}
 use Rattle.ftp_laws.proofs.Accounts.{entry-fit}
 use Rattle.ftp_laws.proofs.Sound.{sound, entry-sound}
 use Rattle.ftp_laws.proofs.Entries.{acted-past}
 use Rattle.ftp_laws.proofs.Cases.{by_part}
 
--- the test on the starts of a session is one on transfers
-starts_for-on-transfers : (s : ℕ) → IsOnTransfers (starts_for s)
-starts_for-on-transfers s = record { closes = λ m. refl; notifies = λ q meta what. refl; replies = λ q delay r. refl }
+-- the test on the starts of a session is one on starts
+pub starts_for-on-starts : (s : ℕ) → IsOnStarts (starts_for s)
+starts_for-on-starts s =
+    record { plain = λ q. record { closes = λ m. refl; notifies = λ meta what. refl; replies = λ delay r. refl }; completed = λ t b. refl; cancelled = λ t. refl }
 
--- and so is that on its completions
-completes_for-on-transfers : (s : ℕ) → IsOnTransfers (completes_for s)
-completes_for-on-transfers s = record { closes = λ m. refl; notifies = λ q meta what. refl; replies = λ q delay r. refl }
+-- that on its completions is one on transfers
+pub completes_for-on-transfers : (s q : ℕ) → IsOnTransfers q (completes_for s)
+completes_for-on-transfers s q = record { closes = λ m. refl; notifies = λ meta what. refl; replies = λ delay r. refl }
 
 -- a job that can start is the only one
 startable-idle :
@@ -46,7 +47,7 @@ startable-idle Empty pending running j e = cc
 startable-idle (Waits port) pending running j e = cc
 
 -- a job that starts and does not follow another is the only one
-started-idle :
+pub started-idle :
     (m : SlotMove) (number : Option ℕ) (queued : Option Pending) (l : Lane) (j : Running) →
     finishes m ≡ false →
     starts_by m number queued l ≡ Some j → l.running ≡ None
@@ -55,7 +56,7 @@ started-idle (Queues t) number queued l j f e = startable-idle l.slot queued l.r
 started-idle m number queued l j f e = cc
 
 -- a job that starts runs then
-started-runs :
+pub started-runs :
     (m : SlotMove) (number : Option ℕ) (queued : Option Pending) (l : Lane) (j : Running) →
     starts_by m number queued l ≡ Some j → (moved m number queued l).running ≡ Some j
 started-runs Links number queued l j e = runs-started (with_link l.slot number) l.pending l.running ∙ ap (λ (x : Option Running). option_or x l.running) e
@@ -87,11 +88,7 @@ starting-history o past e s bare = go (session o past s) refl
     go None x = sym (started-bare (slot_move e.decision) (new_number e.event.kind e.decision) (queued_in (history o past s) e) (lane (history o past s)) (bare x))
     go (Some v) x = starting-told o past e s v x
 
--- the job that an entry starts for session s
-abbrev pub started_in : Options → List Entry → Entry → ℕ → Option Running
-started_in o past e s = option_and_then (starting e.event.kind e.decision (running_job o past s)) (session o past s)
-
--- it is of session s
+-- a job that starts is one of the session for which it starts
 pub started_in-owned :
     (o : Options) (log : List Entry) (e : Entry) (s : ℕ) (j : Running) → IsRight o log →
     e.decision ≡ due o (past_of log) e.event.at e.event.kind e.answer →
@@ -99,7 +96,7 @@ pub started_in-owned :
     started_in o (past_of log) e s ≡ Some j →
     j.job.ticket.session ≡ s
 started_in-owned o log e s j r fit c h =
-    (entry-sound o (past_of log) e s fit c (sound o log s r)).runs j (started-runs (slot_move e.decision) (new_number e.event.kind e.decision) (queued_in (history o (past_of log) s) e) (lane (history o (past_of log) s)) j (sym (starting-history o (past_of log) e s (ended-empty o log s r)) ∙ h))
+    ((entry-sound o (past_of log) e s fit c (sound o log s r)).counted.runs j (started-runs (slot_move e.decision) (new_number e.event.kind e.decision) (queued_in (history o (past_of log) s) e) (lane (history o (past_of log) s)) j (sym (starting-history o (past_of log) e s (ended-empty o log s r)) ∙ h))).0
 
 -- a job of session s that starts counts
 count-own_start :
@@ -117,25 +114,10 @@ count-other_start :
 count-other_start s q None other own = refl
 count-other_start s q (Some j) other own = rw (own j refl, other) refl
 
--- a completion starts nothing
-starts_for-completions :
-    (s : ℕ) (k : EventKind) (d : Decision) (b : Bool) →
-    count_by (starts_for s) (completions k d b) ≡ 0
-starts_for-completions s (kind.End ticket) decision.Finished b = refl
-starts_for-completions s k d b = refl
-
--- and a start completes nothing
-completes_for-start_acts : (s : ℕ) (job : Option Running) → count_by (completes_for s) (start_acts job) ≡ 0
+-- a start completes nothing
+pub completes_for-start_acts : (s : ℕ) (job : Option Running) → count_by (completes_for s) (start_acts job) ≡ 0
 completes_for-start_acts s None = refl
 completes_for-start_acts s (Some j) = refl
-
--- the end of a job of another session completes none of session s
-completes_for-other :
-    (s : ℕ) (k : EventKind) (d : Decision) (b : Bool) →
-    ((ticket : Ticket) → k ≡ kind.End ticket → (ticket.session == s) ≡ false) →
-    count_by (completes_for s) (completions k d b) ≡ 0
-completes_for-other s (kind.End ticket) decision.Finished b other = rw (other ticket refl) refl
-completes_for-other s k d b other = refl
 
 -- of two jobs of which the second is there only without the first, as many are there as of both
 one-either :
@@ -199,14 +181,7 @@ jobs-balance o log e s r fit counts acted = by_part o (past_of log) e s opened o
     past = past_of log
 
     starts : (q : ℕ) → subject o past e ≡ One q → count_by (starts_for s) e.actions ≡ count_by (starts_for s) (start_acts (started_in o past e q))
-    starts q about =
-        omega (
-          arith,
-          count-about (starts_for s) o past e q (starts_for-on-transfers s) counts acted about,
-          starts_for-completions s e.event.kind e.decision (stays e.decision (session o past q)),
-          count-drop_acts (starts_for s) q (stays e.decision (session o past q)) e.decision (slot_of (session o past q)) (pending_in (session o past q))
-              (starts_for-on-transfers s) (λ t. refl),
-        )
+    starts q about = count-starts (starts_for s) o past e q (starts_for-on-starts s) counts acted about
 
     completes :
         (q : ℕ) → subject o past e ≡ One q →
@@ -214,18 +189,18 @@ jobs-balance o log e s r fit counts acted = by_part o (past_of log) e s opened o
     completes q about =
         omega (
           arith,
-          count-about (completes_for s) o past e q (completes_for-on-transfers s) counts acted about,
+          count-about (completes_for s) o past e q (completes_for-on-transfers s q) counts acted about,
           completes_for-start_acts s (started_in o past e q),
           count-drop_acts (completes_for s) q (stays e.decision (session o past q)) e.decision (slot_of (session o past q)) (pending_in (session o past q))
-              (completes_for-on-transfers s) (λ t. refl),
+              (completes_for-on-transfers s q) (λ t. refl),
         )
 
     silent :
         subject o past e ≡ Nobody →
         (count_by (starts_for s) e.actions ≡ 0) × (count_by (completes_for s) e.actions ≡ 0)
     silent about = (
-      count-nobody (starts_for s) o past e (starts_for-on-transfers s) acted about,
-      count-nobody (completes_for s) o past e (completes_for-on-transfers s) acted about,
+      count-nobody (starts_for s) o past e (λ m. refl) acted about,
+      count-nobody (completes_for s) o past e (λ m. refl) acted about,
     )
 
     ends-other : concerns o past e s ≡ false → (ticket : Ticket) → e.event.kind ≡ kind.End ticket → (ticket.session == s) ≡ false
@@ -243,7 +218,7 @@ jobs-balance o log e s r fit counts acted = by_part o (past_of log) e s opened o
           starts q about,
           count-other_start s q (started_in o past e q) others (λ j h. started_in-owned o log e q j r fit about_q h),
           completes q about,
-          completes_for-other s e.event.kind e.decision (stays e.decision (session o past q)) (ends-other c),
+          count-completions (completes_for s) e.event.kind e.decision (stays e.decision (session o past q)) (ends-other c),
           kept,
         ))
 

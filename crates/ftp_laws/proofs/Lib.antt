@@ -28,4 +28,8 @@ pub mod Fates
 pub mod Cancelled
 pub mod Jobs
 pub mod Brought
+pub mod WaitLemmas
+pub mod TransferLemmas
+pub mod CensusLemmas
+pub mod ReplyLemmas
 mod Needed

@@ -4,19 +4,18 @@ use Rattle.std.specs.Prelude.{◌⊎◌, ◌==◌, count_by}
 use Rattle.std.specs.Option.{option_map_or, option_and_then}
 use Rattle.std.proofs.lemmas.Option.{same_Some}
 use Rattle.std.proofs.lemmas.Bool.{or_right, or_parts}
-use Rattle.ftp_events.specs.declared.decision.Decision.TheVariants as decision
 use Rattle.ftp_events.specs.declared.decision.SlotMove.TheVariants.{Awaits, Links, Queues, Finishes}
 use Rattle.ftp_events.specs.declared.event.EventKind.TheVariants as kind
 use Rattle.ftp_events.specs.declared.event.EventKind.TheVariants.{End}
 use Rattle.ftp_events.specs.declared.session.Slot.TheVariants.{Empty, Waits, Linked}
 use Rattle.ftp_events.specs.Slot.{startable, started_by}
 use Rattle.ftp_events.specs.History.{Nobody, One, All}
-use Rattle.ftp_laws.proofs.Common.{Subject, SlotMove, slot_move, empties, moved, starts_by, Options, Running, Decision, Entry, EventKind, Answer, Pending, Session, Slot, is_number, is_refusal, past_of, is_used, new_number, subject, concerns, opens, history, Lane, with_link, lane_of, queued_in, lane, session, running_job, due, acts_of, completions, link_in, stays, slot_of, pending_in, start_acts, starting, IsRight, IsActed}
+use Rattle.ftp_laws.proofs.Common.{Subject, SlotMove, slot_move, empties, moved, starts_by, Options, Running, Decision, Entry, EventKind, Answer, Pending, Session, Slot, is_number, is_refusal, past_of, is_used, new_number, subject, concerns, opens, history, Lane, with_link, lane_of, queued_in, lane, session, running_job, due, acts_of, link_in, start_acts, starting, IsRight, IsActed}
 use Rattle.ftp_laws.proofs.Subjects.{no-stop, concerned, one-own, one-same, not-all}
 use Rattle.ftp_laws.specs.Links.{starts_on, start_count}
 use Rattle.ftp_laws.proofs.Laws.{history-other, history-own, session-told}
 use Rattle.ftp_laws.proofs.Told.{opened-is}
-use Rattle.ftp_laws.proofs.Counts.{IsOnTransfers, count-drop_acts, count-about, count-nobody}
+use Rattle.ftp_laws.proofs.Counts.{IsOnStarts, count-starts, count-nobody}
 use Rattle.ftp_laws.proofs.Entries.{acted-past}
 use Rattle.ftp_laws.proofs.Cases.{by_test, by_part}
 
@@ -138,16 +137,10 @@ pub starting-told :
 starting-told o past e s v known =
     subst (λ (w : Session). starting e.event.kind e.decision (running_job o past s) w ≡ started_by e.event.kind e.decision (queued_in (history o past s) e) (lane (history o past s))) (session-told o past s v known).told refl
 
--- the test on starts is one on transfers
-pub starts-on-transfers : (n : ℕ) → IsOnTransfers (starts_on n)
-starts-on-transfers n = record { closes = λ m. refl; notifies = λ s meta what. refl; replies = λ s delay r. refl }
-
--- an end starts nothing
-pub starts-completions :
-    (n : ℕ) (k : EventKind) (d : Decision) (delivered : Bool) →
-    count_by (starts_on n) (completions k d delivered) ≡ 0
-starts-completions n (End ticket) decision.Finished delivered = refl
-starts-completions n k d delivered = refl
+-- the test on starts on link n is one on starts
+starts-on-starts : (n : ℕ) → IsOnStarts (starts_on n)
+starts-on-starts n =
+    record { plain = λ s. record { closes = λ m. refl; notifies = λ meta what. refl; replies = λ delay r. refl }; completed = λ t b. refl; cancelled = λ t. refl }
 
 -- an entry starts a job on link n
 pub record StartsOn (o : Options) (past : List Entry) (e : Entry) (n : ℕ) : Type 0 where
@@ -170,9 +163,6 @@ pub starts-entry :
     StartsOrNot o past e n
 starts-entry o past e n counts acted = by_subject (subject o past e) refl
   where
-    test : IsOnTransfers (starts_on n)
-    test = starts-on-transfers n
-
     by_link :
         (s : ℕ) (v : Session) (j : Running) →
         subject o past e ≡ One s → session o past s ≡ Some v →
@@ -205,10 +195,10 @@ starts-entry o past e n counts acted = by_subject (subject o past e) refl
         (s : Subject) → subject o past e ≡ s →
         StartsOrNot o past e n
     by_subject All about = absurd (not-all o past e (no-stop e.decision) about)
-    by_subject Nobody about = inl (count-nobody (starts_on n) o past e test acted about)
+    by_subject Nobody about = inl (count-nobody (starts_on n) o past e (λ m. refl) acted about)
     by_subject (One s) about =
         by_session s (session o past s) about refl
-        (omega (arith, count-about (starts_on n) o past e s test counts acted about, starts-completions n e.event.kind e.decision (stays e.decision (session o past s)), count-drop_acts (starts_on n) s (stays e.decision (session o past s)) e.decision (slot_of (session o past s)) (pending_in (session o past s)) test (λ t. refl)))
+        (count-starts (starts_on n) o past e s (starts-on-starts n) counts acted about)
 
 -- the link that the slot of session s has
 abbrev pub link_of : Options → List Entry → ℕ → Option ℕ

@@ -1,17 +1,15 @@
 -- Which job of a session runs.
-use Rattle.std.proofs.Common.{◌≡◌, refl, sym, ◌∙◌, ℕ, Bool, true, false, List, [], ◌∷◌, Option, Some, None}
+use Rattle.std.proofs.Common.{◌≡◌, refl, sym, ◌∙◌, ℕ, true, false, List, [], ◌∷◌, Option, Some, None}
 use Rattle.std.specs.Option.{option_or}
 use Rattle.std.proofs.lemmas.Bool.{or_right}
-use Rattle.ftp_events.specs.declared.decision.Decision.TheVariants as decision
 use Rattle.ftp_events.specs.declared.decision.SlotMove.TheVariants.{Links, Queues, Finishes}
-use Rattle.ftp_events.specs.declared.event.EventKind.TheVariants as kind
 use Rattle.ftp_events.specs.declared.session.Slot.TheVariants.{Empty, Waits, Linked}
 use Rattle.ftp_events.specs.Slot.{startable}
-use Rattle.ftp_laws.proofs.Common.{SlotMove, slot_move, moved, starts_by, Options, Running, Decision, Entry, EventKind, Pending, Session, Slot, is_number, is_used, new_number, past_of, history, Lane, with_link, lane_of, queued_in, lane, session, running_job, completions, IsRight}
+use Rattle.ftp_laws.proofs.Common.{SlotMove, slot_move, moved, starts_by, Options, Running, Entry, Pending, Session, Slot, is_number, is_used, new_number, past_of, history, Lane, with_link, lane_of, queued_in, lane, session, running_job, IsRight}
 use Rattle.ftp_laws.proofs.Entries.{past-more, history-more}
 use Rattle.ftp_laws.proofs.Holds.{live-used, opened-new}
 use Rattle.ftp_laws.proofs.Lanes.{ended-empty}
-use Rattle.ftp_laws.proofs.Tickets.{finishes, is_finished}
+use Rattle.ftp_laws.proofs.Tickets.{finishes}
 
 -- the job of a slot from which one can start is the one that starts, or that ran
 pub runs-started :
@@ -32,12 +30,6 @@ running-after Links number queued l u = runs-started (with_link l.slot number) l
 running-after (Queues t) number queued l u = runs-started l.slot queued l.running
 running-after Finishes number queued l u = cc
 running-after m number queued l u = refl
-
--- and it completes no job
-pub no-completion : (d : Decision) (k : EventKind) (b : Bool) → is_finished d ≡ false → completions k d b ≡ []
-no-completion decision.Finished k b u = cc
-no-completion d (kind.End t) b u = refl
-no-completion d k b u = refl
 
 -- a job that runs over an empty slot ran before
 runs-before :

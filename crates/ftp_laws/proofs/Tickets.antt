@@ -1,5 +1,5 @@
 -- What an entry makes of a transfer that waits or runs.
-use Rattle.std.proofs.Common.{◌≡◌, refl, sym, ◌∙◌, ap, ap₂, ℕ, ◌+◌, Bool, true, false, cond, List, [], ◌∷◌, ◌++◌, Option, Some, None, arith, eqb-true}
+use Rattle.std.proofs.Common.{◌≡◌, refl, sym, ◌∙◌, ap, ap₂, ℕ, ◌+◌, Bool, true, false, cond, List, [], ◌∷◌, ◌++◌, Option, Some, None, arith, eqb-true, eq-eqb}
 use Rattle.std.specs.Prelude.{◌==◌, count_by}
 use Rattle.std.proofs.lemmas.Bool.{and_parts}
 use Rattle.ftp_events.specs.declared.action.Action.TheVariants as action
@@ -20,6 +20,10 @@ pub same_ticket-equal : (a b : Ticket) → same_ticket a b ≡ true → a ≡ b
 same_ticket-equal a b h =
     let parts = and_parts (a.session == b.session) (a.nr == b.nr) h in
     ap₂ (λ (s n : ℕ). record { session = s; nr = n }) (eqb-true a.session b.session parts.0) (eqb-true a.nr b.nr parts.1)
+
+-- a ticket is the same as itself
+pub same_ticket-refl : (t : Ticket) → same_ticket t t ≡ true
+same_ticket-refl t = rw (eq-eqb t.session t.session refl, eq-eqb t.nr t.nr refl) refl
 
 -- tickets of two sessions are not the same
 pub same_ticket-other : (a b : Ticket) → (a.session == b.session) ≡ false → same_ticket a b ≡ false
@@ -44,12 +48,12 @@ lane_of-carried t Empty pending running = refl
 lane_of-carried t (Waits port) pending running = refl
 
 -- the test on what settles a transfer is one on transfers
-pub settles-on-transfers : (t : Ticket) → IsOnTransfers (settles t)
-settles-on-transfers t = record { closes = λ m. refl; notifies = λ s meta what. refl; replies = λ s delay r. refl }
+pub settles-on-transfers : (t : Ticket) (s : ℕ) → IsOnTransfers s (settles t)
+settles-on-transfers t s = record { closes = λ m. refl; notifies = λ meta what. refl; replies = λ delay r. refl }
 
 -- the test passes that the transfer is cancelled, and no start
 pub record IsOnCancelled (t : Ticket) (p : Action → Bool) : Type 0 where
-  pub plain : IsOnTransfers p
+  pub plain : (s : ℕ) → IsOnTransfers s p
   pub cancelled : (u : Ticket) → p (action.Cancelled u) ≡ same_ticket u t
   pub started : (u : Ticket) (n : ℕ) → p (action.Start u n) ≡ false
 
@@ -69,7 +73,7 @@ pub count-cancellations :
     (t : Ticket) (p : Action → Bool) (s : ℕ) (staying : Bool) (pending : Option Pending) → IsOnCancelled t p →
     count_by p (cancellations s staying pending) ≡ one (is_pending t pending)
 count-cancellations t p s staying None c = refl
-count-cancellations t p s true (Some q) c = rw (c.cancelled q.ticket, c.plain.replies s 0 _) (omega arith)
+count-cancellations t p s true (Some q) c = rw (c.cancelled q.ticket, (c.plain s).replies 0 _) (omega arith)
 count-cancellations t p s false (Some q) c = rw (c.cancelled q.ticket) (omega arith)
 
 -- so the transfer in a slot that is dropped counts, and no other
@@ -88,7 +92,7 @@ count-drop_acts-own t p s staying d slot pending c = go (drops d slot)
           arith,
           count-append p (cancellations s staying pending) (closings (link_in slot)),
           count-cancellations t p s staying pending c,
-          count-closings p (link_in slot) c.plain,
+          count-closings p (link_in slot) (c.plain s).closes,
         )
 
 -- what is lost with a slot is settled
@@ -96,14 +100,6 @@ pub settles-drop_acts :
     (t : Ticket) (s : ℕ) (staying : Bool) (d : Decision) (slot : Slot) (pending : Option Pending) →
     count_by (settles t) (drop_acts s staying d slot pending) ≡ cond (drops d slot) (one (is_pending t pending)) 0
 settles-drop_acts t s staying d slot pending = count-drop_acts-own t (settles t) s staying d slot pending (settles-on-cancelled t)
-
--- an end settles its own transfer alone
-pub settles-other :
-    (t : Ticket) (k : EventKind) (d : Decision) (delivered : Bool) →
-    ((ticket : Ticket) → k ≡ kind.End ticket → same_ticket ticket t ≡ false) →
-    count_by (settles t) (completions k d delivered) ≡ 0
-settles-other t (kind.End ticket) decision.Finished delivered h = rw (h ticket refl) refl
-settles-other t k d delivered h = refl
 
 -- the move that ends a job
 abbrev pub finishes : SlotMove → Bool
@@ -115,12 +111,10 @@ abbrev pub is_finished : Decision → Bool
 is_finished d = finishes (slot_move d)
 
 -- no other decision completes a transfer
-pub settles-unfinished :
-    (t : Ticket) (k : EventKind) (d : Decision) (delivered : Bool) →
-    is_finished d ≡ false →
-    count_by (settles t) (completions k d delivered) ≡ 0
-settles-unfinished t (kind.End ticket) decision.Finished delivered f = cc
-settles-unfinished t k d delivered f = refl
+pub no-completion : (d : Decision) (k : EventKind) (b : Bool) → is_finished d ≡ false → completions k d b ≡ []
+no-completion decision.Finished k b u = cc
+no-completion d (kind.End t) b u = refl
+no-completion d k b u = refl
 
 -- what is known of the end of a job: it ran
 pub record IsEnd (o : Options) (past : List Entry) (k : EventKind) : Type 0 where
@@ -214,7 +208,7 @@ settles-completions t k d staying queued l fit = go (slot_move d) refl
         let ran : is_running t l.running ≡ same_ticket e.0 t = rw (e.2.1, e.2.2) refl in
         let told : count_by (settles t) (completions k d staying) ≡ one (same_ticket e.0 t) = rw (finishes-is d x, e.1) (told-one e.0) in
         told ∙ sym (ap one ran)
-    go m x = settles-unfinished t k d staying (ap finishes x)
+    go m x = ap (count_by (settles t)) (no-completion d k staying (ap finishes x))
 
 -- so it is carried or settled
 pub lane-balance :
