@@ -10,16 +10,17 @@ use Rattle.ftp_events.specs.Place.{is_queued, ticket_count}
 use Rattle.ftp_events.specs.CommandRows.{can_queue}
 use Rattle.ftp_events.specs.Transfer.{same_ticket}
 use Rattle.ftp_events.specs.History.{Nobody, One, All}
-use Rattle.ftp_laws.proofs.Common.{Subject, slot_move, Options, Running, Ticket, Decision, Entry, Pending, Session, Slot, named_session, is_refusal, is_used, subject, concerns, history, Lane, drops, queued_in, lane, session, running_job, due, acts_of, drop_acts, stays, slot_of, pending_in, starting, is_pending}
+use Rattle.ftp_laws.proofs.Common.{Subject, slot_move, Options, Running, Ticket, Entry, Pending, Session, Slot, named_session, is_refusal, is_used, subject, concerns, history, Lane, drops, queued_in, lane, session, running_job, due, acts_of, drop_acts, stays, slot_of, pending_in, starting, is_pending}
 use Rattle.ftp_laws.proofs.Subjects.{no-stop, concerned, one-concerns, named-one, not-all, named-concerns}
 use Rattle.ftp_laws.specs.Fates.{queues, settles}
-use Rattle.ftp_laws.proofs.Classes.{queues-is, finishes-is}
+use Rattle.ftp_laws.proofs.TicketLemmas.{same_ticket-other}
+use Rattle.ftp_laws.proofs.Classes.{queues-is, finishes-is, queued-as}
 use Rattle.ftp_laws.proofs.Laws.{session-told}
 use Rattle.ftp_laws.proofs.Holds.{live-used}
 use Rattle.ftp_laws.proofs.Lanes.{IsQueue, queued-live, named-concern, IsBare}
 use Rattle.ftp_laws.proofs.Sound.{IsSound, queue-made}
 use Rattle.ftp_laws.proofs.Counts.{count-about, count-nobody, count-completions}
-use Rattle.ftp_laws.proofs.Tickets.{same_ticket-equal, same_ticket-other, one, settles-on-transfers, settles-on-cancelled, count-start_acts, settles-drop_acts, IsEnd, finished-known, IsFit, lost}
+use Rattle.ftp_laws.proofs.Tickets.{one, settles-on-transfers, settles-on-cancelled, count-start_acts, settles-drop_acts, IsEnd, finished-known, IsFit, lost}
 
 -- the slot and the transfer of a session, as its history tells them, also where it is not live
 pub slot-told :
@@ -33,11 +34,6 @@ slot-told o past s bare = go (session o past s) refl
         (slot_of v ≡ (lane (history o past s)).slot) × (pending_in v ≡ (lane (history o past s)).pending)
     go None x = (sym (bare x).0, sym (bare x).1)
     go (Some v) x = (ap (λ (w : Session). w.slot) (sym (session-told o past s v x).told), ap (λ (w : Session). w.pending) (sym (session-told o past s v x).told))
-
--- a transfer that is queued is decided so
-pub queued-as : (t : Ticket) (d : Decision) → queues t d ≡ true → d ≡ decision.Queued t
-queued-as t (decision.Queued ticket) h = ap decision.Queued (same_ticket-equal ticket t h)
-queued-as t d h = cc
 
 -- a slot that takes a transfer has none
 pub queue-free : (slot : Slot) (pending : Option Pending) → can_queue slot pending ≡ true → pending ≡ None

@@ -14,7 +14,7 @@ use Rattle.ftp_laws.proofs.Common.{Subject, slot_move, Options, Running, Action,
 use Rattle.ftp_laws.proofs.Subjects.{no-stop, one-own, not-all, concerns-plain}
 use Rattle.ftp_laws.specs.Jobs.{starts_there, attaches_to, brings_link, has_brought}
 use Rattle.ftp_laws.proofs.Entries.{past-more}
-use Rattle.ftp_laws.proofs.Served.{Goes, connection-goes}
+use Rattle.ftp_laws.proofs.Served.{AttachedOrTurned, connection-goes}
 use Rattle.ftp_laws.proofs.Lanes.{ended-empty}
 use Rattle.ftp_laws.proofs.Counts.{IsOnStarts, started_in, count-starts, count-nobody}
 use Rattle.ftp_laws.proofs.Links.{is_attached, Brings, started-brings, link_of, WasOrComes, link-after}
@@ -43,7 +43,7 @@ attached-subject o past at (kind.DataIn number raw port) answer q h =
     (record { client = raw.ip; port = port }) refl (ap is_refusal h) refl)
   where
     go :
-        Goes o past (due o past at (kind.DataIn number raw port) answer) raw.ip port →
+        AttachedOrTurned o past (due o past at (kind.DataIn number raw port) answer) raw.ip port →
         holder o past raw.ip port ≡ Some q
     go (inl x) = x.2 ∙ ap attached_session (sym x.1 ∙ h)
     go (inr x) = let z : decision.Turned ≡ decision.Attached q = sym x ∙ h in cc

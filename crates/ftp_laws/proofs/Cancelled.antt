@@ -10,9 +10,10 @@ use Rattle.ftp_events.specs.History.{Nobody, One, All}
 use Rattle.ftp_laws.proofs.Common.{Subject, Options, Ticket, Action, Decision, Entry, Pending, Session, Slot, is_refusal, past_of, subject, concerns, history, slot_move, SlotMove, empties, drops, lane, session, running_job, acts, acts_of, stays, slot_of, pending_in, starting, IsRight, IsActed, is_pending}
 use Rattle.ftp_laws.proofs.Subjects.{no-stop, concerned, one-concerns, not-all}
 use Rattle.ftp_laws.specs.Fates.{may_cancel, can_cancel, LosesSlot}
+use Rattle.ftp_laws.proofs.TicketLemmas.{same_ticket-equal}
 use Rattle.ftp_laws.proofs.Laws.{session-told}
 use Rattle.ftp_laws.proofs.Counts.{IsOnTransfers, count-about, count-nobody, count-completions, CountsTest, counts-any}
-use Rattle.ftp_laws.proofs.Tickets.{same_ticket-equal, one, IsOnCancelled, count-start_acts, count-drop_acts-own}
+use Rattle.ftp_laws.proofs.Tickets.{one, IsOnCancelled, count-start_acts, count-drop_acts-own}
 use Rattle.ftp_laws.proofs.Sound.{sound}
 
 -- what some item passes is counted

@@ -28,12 +28,11 @@ use Rattle.ftp_laws.proofs.Common.{Life, SlotMove, life, ends, slot_move, Option
 use Rattle.ftp_laws.specs.Census.{IsCensus}
 use Rattle.ftp_laws.specs.Jobs.{starts_for, completes_for}
 use Rattle.ftp_laws.proofs.Subjects.{by_subject, no-stop, named-one, one-concerns, one-own, nobody-concerns}
-use Rattle.ftp_laws.proofs.Classes.{opens-is, finishes-is}
+use Rattle.ftp_laws.proofs.Classes.{opens-is, finishes-is, opened-is}
 use Rattle.ftp_laws.proofs.Facts.{IsLive}
 use Rattle.ftp_laws.proofs.Laws.{session-other, session-own, session_by, running-other}
 use Rattle.ftp_laws.proofs.Holds.{live-unopened}
 use Rattle.ftp_laws.proofs.Waits.{opened-subject, session-before}
-use Rattle.ftp_laws.proofs.Told.{opened-is}
 use Rattle.ftp_laws.proofs.Lanes.{named-concern}
 use Rattle.ftp_laws.proofs.Tables.{same-both}
 use Rattle.ftp_laws.proofs.Counts.{IsOnTransfers, IsOnStarts, started_in, count-about, count-starts, count-drop_acts, count-nobody}
@@ -41,7 +40,7 @@ use Rattle.ftp_laws.proofs.Tickets.{one, IsFit, no-completion}
 use Rattle.ftp_laws.proofs.Accounts.{entry-fit}
 use Rattle.ftp_laws.proofs.Jobs.{IsBalanced, jobs-balance, started_in-owned, starts_for-on-starts, completes_for-on-transfers, completes_for-start_acts}
 use Rattle.ftp_laws.proofs.Entries.{Comes, right-past, acted-past}
-use Rattle.ftp_laws.proofs.Cases.{by_test, by_option, by_part}
+use Rattle.ftp_laws.proofs.Cases.{by_test, by_option, by_part, by_completion}
 
 -- of a list without q, how often a number stands in it
 count-without :
@@ -316,8 +315,7 @@ completions-alike :
     (p q : Action → Bool) (k : EventKind) (d : Decision) (b : Bool) →
     ((t : Ticket) → k ≡ kind.End t → p (action.Completed t b) ≡ q (action.Completed t b)) →
     count_by p (completions k d b) ≡ count_by q (completions k d b)
-completions-alike p q (kind.End t) decision.Finished b h = rw (h t refl) refl
-completions-alike p q k d b h = refl
+completions-alike p q k d b h = by_completion (λ xs. count_by p xs ≡ count_by q xs) k d b refl (λ t x y. rw (h t x) refl)
 
 -- a job that starts for session s counts, whether for s or for any
 starts-alike :

@@ -17,6 +17,7 @@ use Rattle.ftp_events.specs.Reply.{message_for, reply_for, delay_of}
 use Rattle.ftp_events.specs.Acts.{session_acts, notice_and_reply, notifications, notice_for, presence_for, reply_acts, farewells}
 use Rattle.ftp_events.specs.History.{Nobody, One}
 use Rattle.ftp_laws.proofs.Common.{subject_acts, is_ending, Options, Running, Ticket, Action, Decision, Entry, EventKind, Answer, Pending, Session, Slot, is_refusal, new_number, subject, drops, session, running_job, acts_of, acts_for, completions, cancellations, closings, link_in, stays, drop_acts, slot_of, pending_in, refused_link, start_acts, starting}
+use Rattle.ftp_laws.proofs.Cases.{by_completion}
 
 -- of what is done for session s, the test passes nothing but what becomes of transfers
 pub record IsOnTransfers (s : ℕ) (p : Action → Bool) : Type 0 where
@@ -42,8 +43,7 @@ pub count-completions :
     (p : Action → Bool) (k : EventKind) (d : Decision) (delivered : Bool) →
     ((t : Ticket) → k ≡ kind.End t → p (action.Completed t delivered) ≡ false) →
     count_by p (completions k d delivered) ≡ 0
-count-completions p (kind.End t) decision.Finished delivered h = rw (h t refl) refl
-count-completions p k d delivered h = refl
+count-completions p k d delivered h = by_completion (λ xs. count_by p xs ≡ 0) k d delivered refl (λ t x y. rw (h t x) refl)
 
 -- nor does what a session loses with its slot, where no cancelled transfer counts
 pub count-drop_acts :

@@ -1,5 +1,5 @@
 -- What is known of a grant.
-use Rattle.std.proofs.Common.{◌≡◌, refl, ◌∙◌, ap, subst, ℕ, ◌+◌, ◌-◌, ◌%◌, ◌<◌, Bool, true, false, cond, List, [], ◌∷◌, map, Option, Some, None, arith, eqb-true}
+use Rattle.std.proofs.Common.{◌≡◌, refl, ◌∙◌, ap, subst, ℕ, ◌+◌, ◌-◌, ◌%◌, ◌<◌, Bool, true, false, cond, List, [], ◌∷◌, map, Option, Some, None, arith}
 use Rattle.std.specs.Prelude.{find, is_none}
 use Rattle.std.specs.List.{range_with_len}
 use Rattle.std.specs.Option.{option_map_or}
@@ -13,7 +13,7 @@ use Rattle.ftp_events.specs.Modes.{in_range}
 use Rattle.ftp_events.specs.Board.{first_free_port}
 use Rattle.ftp_events.specs.CommandRows.{is_logged_in, if_logged_in, pasv_row}
 use Rattle.ftp_events.specs.Decide.{if_live}
-use Rattle.ftp_laws.proofs.Common.{IpAddr, Options, Entry, EventKind, Answer, Decision, Session, is_number, granted_port, holder, session, due}
+use Rattle.ftp_laws.proofs.Common.{IpAddr, Options, Entry, EventKind, Answer, Session, granted_port, holder, session, due}
 use Rattle.ftp_laws.proofs.Facts.{IsLive}
 
 -- what is found passes the test
@@ -75,14 +75,6 @@ pub record IsGrant (o : Options) (past : List Entry) (k : EventKind) (p : ℕ) :
   pub alive : IsLive o past k
   pub free : holder o past alive.session_then.opening.client p ≡ None
   pub ranged : in_range o p ≡ true
-
--- a port that was granted is that of a grant
-pub granted-is :
-    (d : Decision) (p : ℕ) →
-    is_number (granted_port d) p ≡ true →
-    d ≡ decision.Granted p
-granted-is (decision.Granted port) p h = ap decision.Granted (eqb-true port p h)
-granted-is _ p h = cc
 
 -- only a PASV is granted a port, of a live session
 pub granted-free :

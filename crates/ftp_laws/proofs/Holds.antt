@@ -16,8 +16,8 @@ use Rattle.ftp_events.specs.Classes.{is_stop}
 use Rattle.ftp_laws.proofs.Common.{Life, SlotMove, life, slot_move, gives_up, empties, moved, IpAddr, same_ip, Options, is_legacy, Running, Entry, EventKind, Answer, Decision, Opening, Pending, Session, Slot, is_number, named_session, new_number, is_used, past_of, opened_number, opening_by, opener, Target, target, granted_port, is_client, gives_hold, comes_to, ends_hold, gives_up_hold, holder, concerns, opens, Lane, lane_of, lane_after, lives_on, session, running_job, due, IsRight}
 use Rattle.ftp_laws.proofs.Subjects.{concerns-plain, ends-plain, named-concerns}
 use Rattle.ftp_laws.proofs.Facts.{by_connection, is_connection, named-no_connection, opened-unused, IsLive}
-use Rattle.ftp_laws.proofs.Grants.{granted-is, granted-free}
-use Rattle.ftp_laws.proofs.Classes.{ending-empties}
+use Rattle.ftp_laws.proofs.Grants.{granted-free}
+use Rattle.ftp_laws.proofs.Classes.{ending-empties, granted-is}
 use Rattle.ftp_laws.proofs.Laws.{session-own, session-other, session_by, session-told}
 use Rattle.ftp_laws.proofs.Entries.{right-past}
 use Rattle.ftp_laws.proofs.Cases.{by_test}

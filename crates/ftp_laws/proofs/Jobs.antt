@@ -11,12 +11,11 @@ use Rattle.ftp_events.specs.History.{Nobody, One}
 use Rattle.ftp_laws.proofs.Common.{SlotMove, slot_move, moved, starts_by, Options, Running, Ticket, Decision, Entry, EventKind, Pending, Session, Slot, is_refusal, past_of, named_session, new_number, opened_number, subject, concerns, opens, history, Lane, with_link, lane_after, queued_in, lane, session, running_job, due, acts_of, completions, stays, slot_of, pending_in, start_acts, starting, IsRight, IsActed}
 use Rattle.ftp_laws.proofs.Subjects.{by_subject, concerned, one-concerns, one-own, named-one, no-stop}
 use Rattle.ftp_laws.specs.Jobs.{starts_for, completes_for, started_count, completed_count}
-use Rattle.ftp_laws.proofs.Classes.{finishes-is}
+use Rattle.ftp_laws.proofs.Classes.{finishes-is, opened-is}
 use Rattle.ftp_laws.proofs.Facts.{opened-unused}
 use Rattle.ftp_laws.proofs.Laws.{history-own, running-other}
 use Rattle.ftp_laws.proofs.Holds.{number-is}
 use Rattle.ftp_laws.proofs.Waits.{opened-subject}
-use Rattle.ftp_laws.proofs.Told.{opened-is}
 use Rattle.ftp_laws.proofs.Lanes.{IsBare, ended-empty, named-concern}
 use Rattle.ftp_laws.proofs.Running.{runs-started, running-after, unused-idle}
 use Rattle.ftp_laws.proofs.Counts.{IsOnTransfers, IsOnStarts, started_in, count-completions, count-drop_acts, count-about, count-starts, count-nobody}

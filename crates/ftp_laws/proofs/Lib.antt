@@ -1,4 +1,5 @@
 pub mod Common
+pub mod TicketLemmas
 pub mod Classes
 pub mod Subjects
 pub mod Laws

@@ -10,7 +10,6 @@ use Rattle.ftp_base.specs.declared.reply.Reply.{Reply}
 use Rattle.ftp_base.specs.declared.reply.Reply.TheVariants as reply
 use Rattle.ftp_events.specs.declared.action.Action.TheVariants as action
 use Rattle.ftp_events.specs.declared.decision.Decision.TheVariants as decision
-use Rattle.ftp_events.specs.declared.event.EventKind.TheVariants.{End}
 use Rattle.ftp_events.specs.Login.{login_by, logged_user}
 use Rattle.ftp_events.specs.Notices.{is_notice_to}
 use Rattle.ftp_events.specs.Reply.{message_for, reply_for, delay_of}
@@ -20,6 +19,7 @@ use Rattle.ftp_laws.proofs.Common.{Subject, subject_acts, is_ending, Options, Ru
 use Rattle.ftp_laws.proofs.Subjects.{no-stop, nobody-concerns, one-concerns, not-all}
 use Rattle.ftp_laws.specs.Notices.{notice_to}
 use Rattle.ftp_laws.proofs.Tables.{same-both}
+use Rattle.ftp_laws.proofs.Cases.{by_completion}
 
 -- as many notifications are counted as are listed
 pub length-notices :
@@ -47,8 +47,7 @@ length-notices s xs = is_count_by (λ ys. length (filter_map (notice_to s) ys)) 
 pub notices-completions :
     (s : ℕ) (k : EventKind) (d : Decision) (delivered : Bool) →
     filter_map (notice_to s) (completions k d delivered) ≡ []
-notices-completions s (End ticket) decision.Finished delivered = refl
-notices-completions s k d delivered = refl
+notices-completions s k d delivered = by_completion (λ xs. filter_map (notice_to s) xs ≡ []) k d delivered refl (λ t x y. refl)
 
 -- nor does what a session loses with its slot
 pub notices-drop_acts :
@@ -145,10 +144,10 @@ notices-session_acts o s t k answer d job v =
         notices-notifications s t v user what)
 
 -- so many notifications of session s are among what an event does for session t
-pub count-session_acts :
+pub count-notices :
     (o : Options) (s t : ℕ) (k : EventKind) (answer : Answer) (d : Decision) (job : Option Running) (v : Option Session) →
     count_by (is_notice_to s) (session_acts o t k answer d job v) ≡ cond (t == s) (length (told_by k answer d job v)) 0
-count-session_acts o s t k answer d job v =
+count-notices o s t k answer d job v =
     sym (length-notices s (session_acts o t k answer d job v)) ∙ (ap length (notices-session_acts o s t k answer d job v) ∙ go (t == s))
   where
     go :

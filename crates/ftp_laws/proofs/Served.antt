@@ -20,9 +20,10 @@ use Rattle.ftp_events.specs.Acts.{notice_and_reply, farewells}
 use Rattle.ftp_events.specs.Headline.{is_barred, is_admitted, IsClosed, AttachedOrClosed, GrantedOrFull, AllServed}
 use Rattle.ftp_events.specs.History.{Nobody, One, All}
 use Rattle.ftp_laws.proofs.Common.{Subject, subject_acts, IpAddr, same_ip, Options, is_legacy, Running, Action, Decision, Entry, EventKind, Answer, Opening, Session, is_number, past_of, is_refusal, is_used, new_number, named_session, opened_number, opening_by, opener, Target, target, granted_port, is_client, gives_hold, comes_to, ends_hold, holder, subject, session, running_job, due, decide, acts, acts_of, acts_for, completions, stays, drop_acts, slot_of, pending_in, refused_link, start_acts, starting, IsRight, IsActed}
+use Rattle.ftp_laws.proofs.Classes.{granted-is}
 use Rattle.ftp_laws.proofs.Subjects.{no-stop, not-all}
 use Rattle.ftp_laws.proofs.Laws.{session-told}
-use Rattle.ftp_laws.proofs.Grants.{granted-is, granted-free}
+use Rattle.ftp_laws.proofs.Grants.{granted-free}
 use Rattle.ftp_laws.proofs.Holds.{WaitsFor, holder-waits}
 use Rattle.ftp_laws.proofs.Entries.{right-past}
 
@@ -71,28 +72,28 @@ turned-closes o past e n d w = subst (λ (xs : List Action). Contains xs (Close 
     go (One s) h = acts-close o past e s n (subst (λ (x : Decision). Contains (refused_link e.event.kind x) (Close n)) (sym d) closed)
 
 -- what is decided on a connection for a key: it is attached to the holder, or turned away
-abbrev pub Goes : Options → List Entry → Decision → IpAddr → ℕ → Type 0
-Goes o past d a p = ((s : ℕ) × (d ≡ decision.Attached s) × (holder o past a p ≡ Some s)) ⊎ (d ≡ decision.Turned)
+abbrev pub AttachedOrTurned : Options → List Entry → Decision → IpAddr → ℕ → Type 0
+AttachedOrTurned o past d a p = ((s : ℕ) × (d ≡ decision.Attached s) × (holder o past a p ≡ Some s)) ⊎ (d ≡ decision.Turned)
 
 -- where a connection to a port goes
 pub arrival-goes :
     (o : Options) (past : List Entry) (raw : SocketAddr) (a : IpAddr) (p : ℕ) →
-    Goes o past (arrival_row o past raw a p) a p
+    AttachedOrTurned o past (arrival_row o past raw a p) a p
 arrival-goes o past raw a p = by_range (in_range o p)
   where
     by_peer :
         (s : ℕ) (b : Bool) → holder o past a p ≡ Some s →
-        Goes o past (cond b (decision.Attached s) decision.Turned) a p
+        AttachedOrTurned o past (cond b (decision.Attached s) decision.Turned) a p
     by_peer s true h = inl (s, refl, h)
     by_peer s false h = inr refl
 
-    by_holder : (h : Option ℕ) → holder o past a p ≡ h → Goes o past (holder_row o past raw h) a p
+    by_holder : (h : Option ℕ) → holder o past a p ≡ h → AttachedOrTurned o past (holder_row o past raw h) a p
     by_holder None h = inr refl
     by_holder (Some s) h = by_peer s (option_map_or (λ v. same_ip v.opening.raw.ip raw.ip) (session o past s) false) h
 
     by_range :
         (b : Bool) →
-        Goes o past (cond (not b) decision.Turned (holder_row o past raw (holder o past a p))) a p
+        AttachedOrTurned o past (cond (not b) decision.Turned (holder_row o past raw (holder o past a p))) a p
     by_range true = by_holder (holder o past a p) refl
     by_range false = inr refl
 
@@ -137,15 +138,15 @@ pub connection-goes :
     (o : Options) (past : List Entry) (at : ℕ) (k : EventKind) (a : Answer) (d : Decision) (t : Target) →
     d ≡ due o past at k a → is_refusal d ≡ false →
     target o k a ≡ Some t →
-    Goes o past d t.client t.port
+    AttachedOrTurned o past d t.client t.port
 connection-goes o past at k a d t fit c w = go (is_barred o past k) refl
   where
-    go : (b : Bool) → is_barred o past k ≡ b → Goes o past d t.client t.port
+    go : (b : Bool) → is_barred o past k ≡ b → AttachedOrTurned o past d t.client t.port
     go true b = absurd (true≢false (sym (barred-refused o past at k a b) ∙ (ap is_refusal (sym fit) ∙ c)))
     go false b =
         let x : Arrives o past k (due o past at k a) t = unbarred-arrives o past at k a t w b in
-        subst (λ (i : IpAddr). Goes o past d i t.port) x.client
-        (subst (λ (y : Decision). Goes o past y x.raw.ip t.port) (sym (fit ∙ x.row)) (arrival-goes o past x.raw x.raw.ip t.port))
+        subst (λ (i : IpAddr). AttachedOrTurned o past d i t.port) x.client
+        (subst (λ (y : Decision). AttachedOrTurned o past y x.raw.ip t.port) (sym (fit ∙ x.row)) (arrival-goes o past x.raw x.raw.ip t.port))
 
 -- the client of a session is its raw peer
 pub opener-raw :

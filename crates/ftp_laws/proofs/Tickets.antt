@@ -1,7 +1,6 @@
 -- What an entry makes of a transfer that waits or runs.
-use Rattle.std.proofs.Common.{◌≡◌, refl, sym, ◌∙◌, ap, ap₂, ℕ, ◌+◌, Bool, true, false, cond, List, [], ◌∷◌, ◌++◌, Option, Some, None, arith, eqb-true, eq-eqb}
-use Rattle.std.specs.Prelude.{◌==◌, count_by}
-use Rattle.std.proofs.lemmas.Bool.{and_parts}
+use Rattle.std.proofs.Common.{◌≡◌, refl, sym, ◌∙◌, ap, ℕ, ◌+◌, Bool, true, false, true≢false, cond, List, [], ◌∷◌, ◌++◌, Option, Some, None, arith}
+use Rattle.std.specs.Prelude.{count_by}
 use Rattle.ftp_events.specs.declared.action.Action.TheVariants as action
 use Rattle.ftp_events.specs.declared.decision.Decision.TheVariants as decision
 use Rattle.ftp_events.specs.declared.decision.SlotMove.TheVariants.{Awaits, Links, Queues, Finishes}
@@ -11,23 +10,11 @@ use Rattle.ftp_events.specs.Transfer.{same_ticket}
 use Rattle.ftp_events.specs.EndRows.{outcome_row, end_row}
 use Rattle.ftp_events.specs.Fate.{is_running}
 use Rattle.ftp_laws.proofs.Common.{SlotMove, slot_move, empties, moved, Options, Running, Ticket, Action, Decision, Entry, EventKind, Answer, Pending, Slot, new_number, Lane, with_link, drops, lane_of, lane_after, running_job, due, completions, cancellations, closings, link_in, drop_acts, start_acts, is_pending}
+use Rattle.ftp_laws.proofs.TicketLemmas.{same_ticket-equal}
 use Rattle.ftp_laws.specs.Fates.{queues, queues_it, settles}
 use Rattle.ftp_laws.proofs.Classes.{finishes-is}
 use Rattle.ftp_laws.proofs.Counts.{IsOnTransfers, count-append, count-closings}
-
--- tickets that are the same are equal
-pub same_ticket-equal : (a b : Ticket) → same_ticket a b ≡ true → a ≡ b
-same_ticket-equal a b h =
-    let parts = and_parts (a.session == b.session) (a.nr == b.nr) h in
-    ap₂ (λ (s n : ℕ). record { session = s; nr = n }) (eqb-true a.session b.session parts.0) (eqb-true a.nr b.nr parts.1)
-
--- a ticket is the same as itself
-pub same_ticket-refl : (t : Ticket) → same_ticket t t ≡ true
-same_ticket-refl t = rw (eq-eqb t.session t.session refl, eq-eqb t.nr t.nr refl) refl
-
--- tickets of two sessions are not the same
-pub same_ticket-other : (a b : Ticket) → (a.session == b.session) ≡ false → same_ticket a b ≡ false
-same_ticket-other a b h = rw h refl
+use Rattle.ftp_laws.proofs.Cases.{by_completion}
 
 -- one for what holds
 abbrev pub one : Bool → ℕ
@@ -112,9 +99,7 @@ is_finished d = finishes (slot_move d)
 
 -- no other decision completes a transfer
 pub no-completion : (d : Decision) (k : EventKind) (b : Bool) → is_finished d ≡ false → completions k d b ≡ []
-no-completion decision.Finished k b u = cc
-no-completion d (kind.End t) b u = refl
-no-completion d k b u = refl
+no-completion d k b u = by_completion (λ xs. xs ≡ []) k d b refl (λ t x y. absurd (true≢false (sym (ap is_finished y) ∙ u)))
 
 -- what is known of the end of a job: it ran
 pub record IsEnd (o : Options) (past : List Entry) (k : EventKind) : Type 0 where

@@ -21,7 +21,8 @@ use Rattle.ftp_events.specs.Message.{message_of_outcome}
 use Rattle.ftp_events.specs.Reply.{path_of_job, message_for}
 use Rattle.ftp_events.specs.Acts.{notice_for, presence_of}
 use Rattle.ftp_events.specs.History.{Nobody}
-use Rattle.ftp_laws.proofs.Common.{Life, life, Options, Running, Decision, Entry, EventKind, Answer, Opening, Session, is_number, past_of, is_refusal, is_used, opened_number, opener, subject, concerns, opens, history, lives_on, session, running_job, due, acts_of, IsRight, IsActed}
+use Rattle.ftp_laws.proofs.Common.{Life, life, Options, Running, Decision, Entry, EventKind, Answer, Opening, Session, past_of, is_refusal, is_used, opened_number, opener, subject, concerns, opens, history, lives_on, session, running_job, due, acts_of, IsRight, IsActed}
+use Rattle.ftp_laws.proofs.Classes.{opened-is}
 use Rattle.ftp_laws.proofs.Subjects.{nobody-concerns}
 use Rattle.ftp_laws.specs.Notices.{notice_to, notices, is_logged_out, NoneLoggedOut, LastLoggedOut, HasEnded}
 use Rattle.ftp_laws.proofs.Facts.{opened-unused}
@@ -70,14 +71,6 @@ pub record IsToldOf (o : Options) (past : List Entry) (s : ℕ) (told : List (�
 -- at first nothing is told
 pub told-empty : (o : Options) (s : ℕ) → IsToldOf o [] s []
 told-empty o s = record { numbered = refl; fresh = λ n. refl; live = λ v n. let c : None ≡ Some v = n in cc; ended = λ h. let c : None ≡ Some h.0 = h.1 in cc }
-
--- an entry that opens session s is decided as an opening
-pub opened-is :
-    (k : EventKind) (d : Decision) (s : ℕ) →
-    is_number (opened_number k d) s ≡ true →
-    d ≡ decision.Opened
-opened-is k decision.Opened s h = refl
-opened-is k _ s h = cc
 
 -- a number that is not used opened nothing
 pub unused-opener : (past : List Entry) (s : ℕ) → is_used past s ≡ false → opener past s ≡ None

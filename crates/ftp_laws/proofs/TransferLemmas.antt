@@ -18,17 +18,17 @@ use Rattle.ftp_events.specs.Transfer.{command_path, command_offset}
 use Rattle.ftp_laws.proofs.Common.{SlotMove, slot_move, moved, starts_by, Options, Ticket, Running, Action, Decision, Entry, Pending, Session, past_of, is_refusal, opened_number, new_number, subject, concerns, opens, history, Lane, lane_after, with_link, queued_in, lane, session, running_job, due, acts_of, pending_in, start_acts, stays, IsRight, IsActed}
 use Rattle.ftp_laws.specs.Fates.{settles, settle_count, queue_count}
 use Rattle.ftp_laws.specs.Transfers.{transfer_of, WasQueuedSo, starts_it, was_started}
+use Rattle.ftp_laws.proofs.TicketLemmas.{same_ticket-equal, same_ticket-refl}
 use Rattle.ftp_laws.proofs.Subjects.{by_subject, concerned, no-stop, one-own}
-use Rattle.ftp_laws.proofs.Classes.{queues-is}
+use Rattle.ftp_laws.proofs.Classes.{queues-is, opened-is}
 use Rattle.ftp_laws.proofs.Facts.{opened-unused}
 use Rattle.ftp_laws.proofs.Laws.{history-other, history-own, running-other, session-told}
 use Rattle.ftp_laws.proofs.Holds.{number-is}
 use Rattle.ftp_laws.proofs.Waits.{opened-subject}
-use Rattle.ftp_laws.proofs.Told.{opened-is}
 use Rattle.ftp_laws.proofs.Lanes.{IsQueue, queued-live, named-concern, ended-empty}
 use Rattle.ftp_laws.proofs.Running.{runs-started, running-after, unused-idle}
 use Rattle.ftp_laws.proofs.Counts.{IsOnStarts, started_in, count-starts, count-nobody}
-use Rattle.ftp_laws.proofs.Tickets.{one, finishes, same_ticket-equal, same_ticket-refl, settles-completions}
+use Rattle.ftp_laws.proofs.Tickets.{one, finishes, settles-completions}
 use Rattle.ftp_laws.proofs.Sound.{AllOf, all-wider, all-moved, queue-as, sound}
 use Rattle.ftp_laws.proofs.Accounts.{slot-told, entry-fit, settles-here}
 use Rattle.ftp_laws.proofs.Fates.{IsAccounted, accounted, running-carried}

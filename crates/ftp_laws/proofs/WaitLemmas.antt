@@ -8,8 +8,8 @@ use Rattle.ftp_events.specs.declared.session.Slot.TheVariants.{Empty, Waits, Lin
 use Rattle.ftp_events.specs.Fate.{Fate, CompletedAt, CancelledAt, AwaitsConnection, AwaitsItsEnd, AwaitsEarlierEnd, completes, cancels, settlement, is_running, in_slot, wait, fate}
 use Rattle.ftp_laws.proofs.Common.{Options, Ticket, Entry, Pending, Running, Session, Slot, IpAddr, is_legacy, past_of, history, holder, lane, session, running_job, is_pending, IsRight}
 use Rattle.ftp_laws.specs.Holds.{WaitsOn}
+use Rattle.ftp_laws.proofs.TicketLemmas.{same_ticket-equal}
 use Rattle.ftp_laws.proofs.Laws.{session-told}
-use Rattle.ftp_laws.proofs.Tickets.{same_ticket-equal}
 use Rattle.ftp_laws.proofs.Sound.{sound}
 use Rattle.ftp_laws.proofs.Ends.{on-waits}
 use Rattle.ftp_laws.proofs.Waits.{waits-holds}
