@@ -32,7 +32,7 @@ use Rattle.ftp_laws.proofs.Classes.{opens-is, finishes-is, opened-is}
 use Rattle.ftp_laws.proofs.Facts.{IsLive}
 use Rattle.ftp_laws.proofs.Laws.{session-other, session-own, session_by, running-other}
 use Rattle.ftp_laws.proofs.Holds.{live-unopened}
-use Rattle.ftp_laws.proofs.Waits.{opened-subject, session-before}
+use Rattle.ftp_laws.proofs.Waits.{opened-subject, session-before, opened-nobody}
 use Rattle.ftp_laws.proofs.Lanes.{named-concern}
 use Rattle.ftp_laws.proofs.Tables.{same-both}
 use Rattle.ftp_laws.proofs.Counts.{IsOnTransfers, IsOnStarts, started_in, count-about, count-starts, count-drop_acts, count-nobody}
@@ -421,8 +421,7 @@ running-step o log e comes acted h = by_subject o past e (no-stop e.decision) no
             running-other o past e s
             (by_test (opens e s)
             (λ n.
-            let d : e.decision ≡ decision.Opened = opened-is e.event.kind e.decision s n in
-            let z : Nobody ≡ One q = sym (opened-subject o past e d (sym comes.fit ∙ d)) ∙ x in
+            let z : Nobody ≡ One q = sym (opened-nobody o past e s comes.fit n) ∙ x in
             cc)
             (λ n. n))
             (one-concerns o past e q s x ∙ k)

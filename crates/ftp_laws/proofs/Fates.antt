@@ -11,14 +11,13 @@ use Rattle.ftp_events.specs.Place.{is_queued, ticket_count}
 use Rattle.ftp_events.specs.Fate.{Fate, CompletedAt, CancelledAt, AwaitsConnection, AwaitsItsEnd, AwaitsEarlierEnd, completes, cancels, settlement, is_running, in_slot, wait, fate}
 use Rattle.ftp_events.specs.Acts.{slot_of}
 use Rattle.ftp_events.specs.History.{Nobody}
-use Rattle.ftp_laws.proofs.Common.{Options, Ticket, Action, Decision, Entry, Pending, Session, Slot, is_number, is_refusal, past_of, is_used, new_number, opened_number, subject, concerns, opens, history, Lane, queued_in, lane, session, running_job, due, acts_of, stays, pending_in, IsRight, IsActed, is_pending, Running}
+use Rattle.ftp_laws.proofs.Common.{Options, Ticket, Action, Decision, Entry, Pending, Session, Slot, is_number, is_refusal, past_of, is_used, new_number, subject, concerns, opens, history, Lane, queued_in, lane, session, running_job, due, acts_of, stays, pending_in, IsRight, IsActed, is_pending, Running}
 use Rattle.ftp_laws.specs.Fates.{queues, was_queued, queue_count, settles, settle_count}
 use Rattle.ftp_laws.proofs.TicketLemmas.{same_ticket-refl}
 use Rattle.ftp_laws.proofs.Classes.{opened-is}
-use Rattle.ftp_laws.proofs.Facts.{opened-unused}
-use Rattle.ftp_laws.proofs.Laws.{history-other, history-own}
-use Rattle.ftp_laws.proofs.Holds.{number-is}
-use Rattle.ftp_laws.proofs.Waits.{opened-subject}
+use Rattle.ftp_laws.proofs.Laws.{history-other, history-own, lane-opened}
+use Rattle.ftp_laws.proofs.Holds.{opened-fresh}
+use Rattle.ftp_laws.proofs.Waits.{opened-nobody}
 use Rattle.ftp_laws.proofs.Lanes.{IsBare, ended-empty}
 use Rattle.ftp_laws.proofs.Counts.{count-nobody, CountsTest, counts-one, counts-or, counts-same, counts-any}
 use Rattle.ftp_laws.proofs.Tickets.{one, carried, lane-balance}
@@ -49,14 +48,11 @@ pub accounted-opened :
 accounted-opened o past e t settled queued fit acted n h =
     let s : ℕ = t.session in
     let d : e.decision ≡ decision.Opened = opened-is e.event.kind e.decision s n in
-    let first : opened_number e.event.kind (due o past e.event.at e.event.kind e.answer) ≡ Some s = subst (λ (x : Decision). opened_number e.event.kind x ≡ Some s) fit (number-is _ s n) in
-    let none : queued ≡ 0 = h.fresh (opened-unused o past e.event.at e.event.kind e.answer s first) in
+    let none : queued ≡ 0 = h.fresh (opened-fresh o past e s fit n) in
     let unqueued : one (queues t e.decision) ≡ 0 = ap one (opened-unqueued t e.decision d) in
-    let about : subject o past e ≡ Nobody = opened-subject o past e d (sym fit ∙ d) in
+    let about : subject o past e ≡ Nobody = opened-nobody o past e s fit n in
     let silent : count_by (settles t) e.actions ≡ 0 = count-nobody (settles t) o past e (λ m. refl) acted about in
-    let start : history o (e ∷ past) s ≡ e ∷ [] = rw n refl in
-    let bare : carried t (lane (e ∷ [])) ≡ 0 = rw d refl in
-    let empty : carried t (lane (history o (e ∷ past) s)) ≡ 0 = ap (λ (x : List Entry). carried t (lane x)) start ∙ bare in
+    let empty : carried t (lane (history o (e ∷ past) s)) ≡ 0 = ap (carried t) (lane-opened o past e s n) in
     let sum : queued + one (queues t e.decision) ≡ 0 = omega (arith, none, unqueued) in
     record {
       balance = omega (arith, empty, h.balance, none, unqueued, silent);

@@ -157,6 +157,14 @@ pub and-false : (a b : Bool) → (a && b) ≡ false → a ≡ true → b ≡ fal
 and-false true b h t = h
 and-false false b h t = absurd (true≢false (sym t))
 
+-- an entry opens only a number that was not used
+pub opened-fresh :
+    (o : Options) (past : List Entry) (e : Entry) (s : ℕ) →
+    e.decision ≡ due o past e.event.at e.event.kind e.answer → opens e s ≡ true →
+    is_used past s ≡ false
+opened-fresh o past e s fit n =
+    opened-unused o past e.event.at e.event.kind e.answer s (subst (λ (d : Decision). opened_number e.event.kind d ≡ Some s) fit (number-is _ s n))
+
 -- a session that is live is not opened again
 pub live-unopened :
     (o : Options) (past : List Entry) (e : Entry) (s : ℕ) (v : Session) →

@@ -1,21 +1,19 @@
 -- A session runs one job at a time, on a link of its own.
-use Rattle.std.proofs.Common.{◌≡◌, refl, sym, ◌∙◌, ap, subst, ℕ, ◌+◌, Bool, true, false, List, [], ◌∷◌, Option, Some, None, arith, eq-eqb}
+use Rattle.std.proofs.Common.{◌≡◌, refl, sym, ◌∙◌, ap, ℕ, ◌+◌, Bool, true, false, List, ◌∷◌, Option, Some, None, arith, eq-eqb}
 use Rattle.std.specs.Prelude.{◌==◌, count_by, is_some}
 use Rattle.std.specs.Option.{option_and_then, option_or}
-use Rattle.ftp_events.specs.declared.decision.Decision.TheVariants as decision
 use Rattle.ftp_events.specs.declared.decision.SlotMove.TheVariants.{Links, Queues, Finishes}
 use Rattle.ftp_events.specs.declared.event.EventKind.TheVariants as kind
 use Rattle.ftp_events.specs.declared.session.Slot.TheVariants.{Empty, Waits, Linked}
 use Rattle.ftp_events.specs.Slot.{startable, started_by}
 use Rattle.ftp_events.specs.History.{Nobody, One}
-use Rattle.ftp_laws.proofs.Common.{SlotMove, slot_move, moved, starts_by, Options, Running, Ticket, Decision, Entry, EventKind, Pending, Session, Slot, is_refusal, past_of, named_session, new_number, opened_number, subject, concerns, opens, history, Lane, with_link, lane_after, queued_in, lane, session, running_job, due, acts_of, completions, stays, slot_of, pending_in, start_acts, starting, IsRight, IsActed}
+use Rattle.ftp_laws.proofs.Common.{SlotMove, slot_move, moved, starts_by, Options, Running, Ticket, Decision, Entry, EventKind, Pending, Session, Slot, is_refusal, past_of, named_session, new_number, subject, concerns, opens, history, Lane, with_link, lane_after, queued_in, lane, session, running_job, due, acts_of, completions, stays, slot_of, pending_in, start_acts, starting, IsRight, IsActed}
 use Rattle.ftp_laws.proofs.Subjects.{by_subject, concerned, one-concerns, one-own, named-one, no-stop}
 use Rattle.ftp_laws.specs.Jobs.{starts_for, completes_for, started_count, completed_count}
-use Rattle.ftp_laws.proofs.Classes.{finishes-is, opened-is}
-use Rattle.ftp_laws.proofs.Facts.{opened-unused}
-use Rattle.ftp_laws.proofs.Laws.{history-own, running-other}
-use Rattle.ftp_laws.proofs.Holds.{number-is}
-use Rattle.ftp_laws.proofs.Waits.{opened-subject}
+use Rattle.ftp_laws.proofs.Classes.{finishes-is}
+use Rattle.ftp_laws.proofs.Laws.{history-own, running-other, lane-opened}
+use Rattle.ftp_laws.proofs.Holds.{opened-fresh}
+use Rattle.ftp_laws.proofs.Waits.{opened-nobody}
 use Rattle.ftp_laws.proofs.Lanes.{IsBare, ended-empty, named-concern}
 use Rattle.ftp_laws.proofs.Running.{runs-started, running-after, unused-idle}
 use Rattle.ftp_laws.proofs.Counts.{IsOnTransfers, IsOnStarts, started_in, count-completions, count-drop_acts, count-about, count-starts, count-nobody}
@@ -238,15 +236,15 @@ jobs-balance o log e s r fit counts acted = by_part o (past_of log) e s opened o
 
     opened : opens e s ≡ true → IsBalanced o past e s
     opened n =
-        let d : e.decision ≡ decision.Opened = opened-is e.event.kind e.decision s n in
-        let first : opened_number e.event.kind (due o past e.event.at e.event.kind e.answer) ≡ Some s =
-        subst (λ (x : Decision). opened_number e.event.kind x ≡ Some s) fit (number-is _ s n) in
-        let about : subject o past e ≡ Nobody = opened-subject o past e d (sym fit ∙ d) in
-        let before : running_job o past s ≡ None = unused-idle o log s r (opened-unused o past e.event.at e.event.kind e.answer s first) in
-        let start : history o (e ∷ past) s ≡ e ∷ [] = rw n refl in
-        let bare : one (is_some (lane (e ∷ [])).running) ≡ 0 = rw d refl in
-        let after = ap (λ (h : List Entry). one (is_some (lane h).running)) start ∙ bare in
-        omega (arith, (silent about).0, (silent about).1, ap (λ (j : Option Running). one (is_some j)) before, after)
+        let about : subject o past e ≡ Nobody = opened-nobody o past e s fit n in
+        let before : running_job o past s ≡ None = unused-idle o log s r (opened-fresh o past e s fit n) in
+        omega (
+          arith,
+          (silent about).0,
+          (silent about).1,
+          ap (λ (j : Option Running). one (is_some j)) before,
+          ap (λ (l : Lane). one (is_some l.running)) (lane-opened o past e s n),
+        )
 
 -- in every right and acted log, the transfers that were started are those that were completed, and the one that runs
 pub runs-one :

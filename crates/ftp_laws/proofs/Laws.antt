@@ -4,9 +4,11 @@ use Rattle.std.specs.Prelude.{count_by}
 use Rattle.std.proofs.lemmas.Option.{same_Some}
 use Rattle.std.specs.Option.{option_map}
 use Rattle.ftp_events.specs.declared.decision.Decision.TheVariants.{Opened}
+use Rattle.ftp_events.specs.declared.session.Slot.TheVariants.{Empty}
 use Rattle.ftp_events.specs.Notices.{is_notice_to}
 use Rattle.ftp_events.specs.Session.{session_after, is_live, session_by_history, next_lane, new_session}
-use Rattle.ftp_laws.proofs.Common.{Options, Running, Entry, Session, Opening, is_refusal, past_of, opened_number, opening_by, opener, concerns, opens, history, lane, lives_on, session, running_job}
+use Rattle.ftp_laws.proofs.Common.{Options, Running, Entry, Session, Opening, is_refusal, past_of, opened_number, opening_by, opener, concerns, opens, history, lane, lives_on, session, running_job, Lane}
+use Rattle.ftp_laws.proofs.Classes.{opened-is}
 
 -- a refused entry is not in the past
 pub counting-refused :
@@ -35,6 +37,19 @@ pub history-own :
     opens e s ≡ false → concerns o past e s ≡ true →
     history o (e ∷ past) s ≡ e ∷ history o past s
 history-own o past e s n c = rw (n, c) refl
+
+-- the lane of a session in which nothing waits or runs
+abbrev pub empty_lane : Lane
+empty_lane = record { slot = Empty; pending = None; running = None }
+
+-- a session that is opened has it
+pub lane-opened :
+    (o : Options) (past : List Entry) (e : Entry) (s : ℕ) → opens e s ≡ true →
+    lane (history o (e ∷ past) s) ≡ empty_lane
+lane-opened o past e s n =
+    let start : history o (e ∷ past) s ≡ e ∷ [] = rw n refl in
+    let bare : lane (e ∷ []) ≡ empty_lane = rw (opened-is e.event.kind e.decision s n) refl in
+    ap lane start ∙ bare
 
 -- an entry that does not open a session leaves how it came
 pub opener-other :

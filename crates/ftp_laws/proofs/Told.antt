@@ -21,14 +21,13 @@ use Rattle.ftp_events.specs.Message.{message_of_outcome}
 use Rattle.ftp_events.specs.Reply.{path_of_job, message_for}
 use Rattle.ftp_events.specs.Acts.{notice_for, presence_of}
 use Rattle.ftp_events.specs.History.{Nobody}
-use Rattle.ftp_laws.proofs.Common.{Life, life, Options, Running, Decision, Entry, EventKind, Answer, Opening, Session, past_of, is_refusal, is_used, opened_number, opener, subject, concerns, opens, history, lives_on, session, running_job, due, acts_of, IsRight, IsActed}
+use Rattle.ftp_laws.proofs.Common.{Life, life, Options, Running, Decision, Entry, EventKind, Answer, Opening, Session, past_of, is_refusal, is_used, opener, subject, concerns, opens, history, lives_on, session, running_job, due, acts_of, IsRight, IsActed}
 use Rattle.ftp_laws.proofs.Classes.{opened-is}
 use Rattle.ftp_laws.proofs.Subjects.{nobody-concerns}
 use Rattle.ftp_laws.specs.Notices.{notice_to, notices, is_logged_out, NoneLoggedOut, LastLoggedOut, HasEnded}
-use Rattle.ftp_laws.proofs.Facts.{opened-unused}
 use Rattle.ftp_laws.proofs.Laws.{session-own, session-other, session_by, session-told, opener-other}
-use Rattle.ftp_laws.proofs.Holds.{number-is, opener-used}
-use Rattle.ftp_laws.proofs.Waits.{IsAfter, session-before, opened-subject}
+use Rattle.ftp_laws.proofs.Holds.{opener-used, opened-fresh}
+use Rattle.ftp_laws.proofs.Waits.{IsAfter, session-before, opened-nobody}
 use Rattle.ftp_laws.proofs.Notices.{length-notices, under, told_by, told_in, notices-entry}
 use Rattle.ftp_laws.proofs.Entries.{acted-past}
 use Rattle.ftp_laws.proofs.Cases.{by_option, by_part}
@@ -266,10 +265,9 @@ told-step o past e s told fit counts acted h =
         IsToldOf o (e ∷ past) s (told ++ filter_map (notice_to s) e.actions)
     opened n =
         let d : e.decision ≡ decision.Opened = opened-is e.event.kind e.decision s n in
-        let about : subject o past e ≡ Nobody = opened-subject o past e d (sym fit ∙ d) in
+        let about : subject o past e ≡ Nobody = opened-nobody o past e s fit n in
         let silent : filter_map (notice_to s) e.actions ≡ [] = entry ∙ ap (λ b. cond b (told_in o past e s) []) (nobody-concerns o past e s about) in
-        let first : opened_number e.event.kind (due o past e.event.at e.event.kind e.answer) ≡ Some s = subst (λ (x : Decision). opened_number e.event.kind x ≡ Some s) fit (number-is _ s n) in
-        let before : told ≡ [] = h.fresh (unused-opener past s (opened-unused o past e.event.at e.event.kind e.answer s first)) in
+        let before : told ≡ [] = h.fresh (unused-opener past s (opened-fresh o past e s fit n)) in
         subst (IsToldOf o (e ∷ past) s) (sym before ∙ nothing silent) (told-opened o past e s d n silent)
 
 -- in every right and acted log what is told of a session is in step with the past

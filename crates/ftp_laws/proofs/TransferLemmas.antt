@@ -9,22 +9,20 @@ use Rattle.std.proofs.lemmas.Option.{same_Some}
 use Rattle.ftp_events.specs.declared.action.Action.TheVariants as action
 use Rattle.ftp_events.specs.declared.decision.Decision.TheVariants as decision
 use Rattle.ftp_events.specs.declared.decision.SlotMove.TheVariants.{Links, Queues, Finishes}
-use Rattle.ftp_events.specs.declared.session.Slot.TheVariants.{Empty}
 use Rattle.ftp_events.specs.Fate.{is_running}
 use Rattle.ftp_events.specs.History.{Nobody, One}
 use Rattle.ftp_events.specs.Login.{logged_user}
 use Rattle.ftp_events.specs.Slot.{startable}
 use Rattle.ftp_events.specs.Transfer.{command_path, command_offset}
-use Rattle.ftp_laws.proofs.Common.{SlotMove, slot_move, moved, starts_by, Options, Ticket, Running, Action, Decision, Entry, Pending, Session, past_of, is_refusal, opened_number, new_number, subject, concerns, opens, history, Lane, lane_after, with_link, queued_in, lane, session, running_job, due, acts_of, pending_in, start_acts, stays, IsRight, IsActed}
+use Rattle.ftp_laws.proofs.Common.{SlotMove, slot_move, moved, starts_by, Options, Ticket, Running, Action, Entry, Pending, Session, past_of, is_refusal, new_number, subject, concerns, opens, history, Lane, with_link, queued_in, lane, session, running_job, due, acts_of, pending_in, start_acts, stays, IsRight, IsActed}
 use Rattle.ftp_laws.specs.Fates.{settles, settle_count, queue_count}
 use Rattle.ftp_laws.specs.Transfers.{transfer_of, WasQueuedSo, starts_it, was_started}
 use Rattle.ftp_laws.proofs.TicketLemmas.{same_ticket-equal, same_ticket-refl}
 use Rattle.ftp_laws.proofs.Subjects.{by_subject, concerned, no-stop, one-own}
-use Rattle.ftp_laws.proofs.Classes.{queues-is, opened-is}
-use Rattle.ftp_laws.proofs.Facts.{opened-unused}
-use Rattle.ftp_laws.proofs.Laws.{history-other, history-own, running-other, session-told}
-use Rattle.ftp_laws.proofs.Holds.{number-is}
-use Rattle.ftp_laws.proofs.Waits.{opened-subject}
+use Rattle.ftp_laws.proofs.Classes.{queues-is}
+use Rattle.ftp_laws.proofs.Laws.{history-other, history-own, running-other, session-told, lane-opened, empty_lane}
+use Rattle.ftp_laws.proofs.Holds.{opened-fresh}
+use Rattle.ftp_laws.proofs.Waits.{opened-nobody}
 use Rattle.ftp_laws.proofs.Lanes.{IsQueue, queued-live, named-concern, ended-empty}
 use Rattle.ftp_laws.proofs.Running.{runs-started, running-after, unused-idle}
 use Rattle.ftp_laws.proofs.Counts.{IsOnStarts, started_in, count-starts, count-nobody}
@@ -73,7 +71,7 @@ queued-here o past e s t p fit c m made =
     )
 
 -- nothing waits or runs in an empty lane
-all-empty : (Q : Pending → Type 0) → AllOf Q (record { slot = Empty; pending = None; running = None })
+all-empty : (Q : Pending → Type 0) → AllOf Q empty_lane
 all-empty Q = record { waits = λ p x. let z : None ≡ Some p = x in cc; runs = λ j x. let z : None ≡ Some j = x in cc }
 
 -- in every right log, what waits or runs was queued for its session
@@ -91,10 +89,7 @@ lane-queued o log s r = right-past o (λ past. AllOf (IsQueuedFor o past s) (lan
         let more : AllOf (IsQueuedFor o (e ∷ past) s) (lane (history o past s)) =
         all-wider (IsQueuedFor o past s) (IsQueuedFor o (e ∷ past) s) (lane (history o past s)) (λ p x. (x.0, inr x.1)) before in
         by_part o past e s
-        (λ n.
-        let start : history o (e ∷ past) s ≡ e ∷ [] = rw n refl in
-        subst (λ (h : List Entry). AllOf (IsQueuedFor o (e ∷ past) s) (lane h)) (sym start)
-        (subst (λ (d : Decision). AllOf (IsQueuedFor o (e ∷ past) s) (lane_after e.event.kind d (queued_in [] e) (lane []))) (sym (opened-is e.event.kind e.decision s n)) (all-empty (IsQueuedFor o (e ∷ past) s))))
+        (λ n. subst (AllOf (IsQueuedFor o (e ∷ past) s)) (sym (lane-opened o past e s n)) (all-empty (IsQueuedFor o (e ∷ past) s)))
         (λ n c.
         subst (λ (h : List Entry). AllOf (IsQueuedFor o (e ∷ past) s) (lane h)) (sym (history-own o past e s n c))
         (all-moved (IsQueuedFor o (e ∷ past) s) (slot_move e.decision) (new_number e.event.kind e.decision) (queued_in (history o past s) e) (lane (history o past s))
@@ -161,8 +156,7 @@ about-unopened o log e q a about = by_test (opens e q) opened (λ x. x)
   where
     opened : opens e q ≡ true → opens e q ≡ false
     opened n =
-        let d : e.decision ≡ decision.Opened = opened-is e.event.kind e.decision q n in
-        let z : Nobody ≡ One q = sym (opened-subject o (past_of log) e d (sym a.comes.fit ∙ d)) ∙ about in
+        let z : Nobody ≡ One q = sym (opened-nobody o (past_of log) e q a.comes.fit n) ∙ about in
         cc
 
 -- a job that an entry starts for a session runs then
@@ -237,9 +231,7 @@ runs-on o log e t n a x = by_part o past e s opened own (λ m c. inl (x.0, runni
 
     opened : opens e s ≡ true → RunsOn o (e ∷ past) t n ⊎ (1 ≤ count_by (settles t) e.actions)
     opened m =
-        let first : opened_number e.event.kind (due o past e.event.at e.event.kind e.answer) ≡ Some s =
-        subst (λ (d : Decision). opened_number e.event.kind d ≡ Some s) a.comes.fit (number-is _ s m) in
-        let idle : running_job o past s ≡ None = unused-idle o log s a.comes.right (opened-unused o past e.event.at e.event.kind e.answer s first) in
+        let idle : running_job o past s ≡ None = unused-idle o log s a.comes.right (opened-fresh o past e s a.comes.fit m) in
         let z : None ≡ Some x.0 = sym idle ∙ x.1 in
         cc
 
@@ -282,9 +274,7 @@ run-started o log e s r a h = by_part o past e s opened own (λ m c. inr (sym (r
 
     opened : opens e s ≡ true → (list_any test e.actions ≡ true) ⊎ (running_job o past s ≡ Some r)
     opened m =
-        let start : history o (e ∷ past) s ≡ e ∷ [] = rw m refl in
-        let bare : (lane (e ∷ [])).running ≡ None = rw (opened-is e.event.kind e.decision s m) refl in
-        let idle : running_job o (e ∷ past) s ≡ None = ap (λ (x : List Entry). (lane x).running) start ∙ bare in
+        let idle : running_job o (e ∷ past) s ≡ None = ap (λ (l : Lane). l.running) (lane-opened o past e s m) in
         let z : None ≡ Some r = sym idle ∙ h in
         cc
 

@@ -15,7 +15,7 @@ use Rattle.ftp_events.specs.History.{Nobody, one_or_nobody}
 use Rattle.ftp_events.specs.Classes.{is_stop}
 use Rattle.ftp_laws.proofs.Common.{meant, holder_of_target, Life, SlotMove, life, slot_move, gives_up, moved, new_number, IpAddr, same_ip, Options, is_legacy, Running, Entry, EventKind, Answer, Decision, Pending, Session, Slot, is_number, named_session, is_refusal, past_of, opened_number, opener, Target, target, granted_port, is_client, gives_hold, comes_to, ends_hold, gives_up_hold, holder, subject, concerns, opens, history, Lane, with_link, lane_after, queued_in, lives_on, session, running_job, due, IsRight}
 use Rattle.ftp_laws.proofs.Subjects.{nobody-concerns, no-stop, subject-plain, concerns-plain, ends-plain, named-concerns, meant-concerns}
-use Rattle.ftp_laws.proofs.Classes.{awaits-is, opens-is, granted-is}
+use Rattle.ftp_laws.proofs.Classes.{awaits-is, opens-is, granted-is, opened-is}
 use Rattle.ftp_laws.proofs.Facts.{is_connection, named-no_connection}
 use Rattle.ftp_laws.proofs.Grants.{IsGrant, granted-free}
 use Rattle.ftp_laws.proofs.Laws.{session-own, session-other, session_by, IsTold, session-told}
@@ -40,6 +40,15 @@ pub opened-subject :
     subject o past e ≡ Nobody
 opened-subject o past e d h =
     subject-plain o past e (ap is_stop d) ∙ ap one_or_nobody (opened-meant o past e.event.at e.event.kind e.answer h)
+
+-- so is the entry that opens session s
+pub opened-nobody :
+    (o : Options) (past : List Entry) (e : Entry) (s : ℕ) →
+    e.decision ≡ due o past e.event.at e.event.kind e.answer → opens e s ≡ true →
+    subject o past e ≡ Nobody
+opened-nobody o past e s fit n =
+    let d : e.decision ≡ decision.Opened = opened-is e.event.kind e.decision s n in
+    opened-subject o past e d (sym fit ∙ d)
 
 -- no event that names a session is a data connection
 pub target-unnamed :
