@@ -24,52 +24,15 @@ pub counting-counts :
     past_of (e ∷ log) ≡ e ∷ past_of log
 counting-counts e log r = rw r refl
 
--- an entry that neither opens nor concerns a session is not in its history
-pub history-other :
-    (o : Options) (past : List Entry) (e : Entry) (s : ℕ) →
-    opens e s ≡ false → concerns o past e s ≡ false →
-    history o (e ∷ past) s ≡ history o past s
-history-other o past e s n c = rw (n, c) refl
-
--- one that concerns it is
-pub history-own :
-    (o : Options) (past : List Entry) (e : Entry) (s : ℕ) →
-    opens e s ≡ false → concerns o past e s ≡ true →
-    history o (e ∷ past) s ≡ e ∷ history o past s
-history-own o past e s n c = rw (n, c) refl
-
 -- the lane of a session in which nothing waits or runs
 abbrev pub empty_lane : Lane
 empty_lane = record { slot = Empty; pending = None; running = None }
-
--- a session that is opened has it
-pub lane-opened :
-    (o : Options) (past : List Entry) (e : Entry) (s : ℕ) → opens e s ≡ true →
-    lane (history o (e ∷ past) s) ≡ empty_lane
-lane-opened o past e s n =
-    let start : history o (e ∷ past) s ≡ e ∷ [] = rw n refl in
-    let bare : lane (e ∷ []) ≡ empty_lane = rw (opened-is e.event.kind e.decision s n) refl in
-    ap lane start ∙ bare
 
 -- an entry that does not open a session leaves how it came
 pub opener-other :
     (past : List Entry) (e : Entry) (s : ℕ) →
     opens e s ≡ false → opener (e ∷ past) s ≡ opener past s
 opener-other past e s n = rw n refl
-
--- what an entry neither opens nor concerns stays
-pub session-other :
-    (o : Options) (past : List Entry) (e : Entry) (s : ℕ) →
-    opens e s ≡ false → concerns o past e s ≡ false →
-    session o (e ∷ past) s ≡ session o past s
-session-other o past e s n c = rw (n, c) refl
-
--- nor does the job that runs change
-pub running-other :
-    (o : Options) (past : List Entry) (e : Entry) (s : ℕ) →
-    opens e s ≡ false → concerns o past e s ≡ false →
-    running_job o (e ∷ past) s ≡ running_job o past s
-running-other o past e s n c = ap (λ h. (lane h).running) (history-other o past e s n c)
 
 -- what an entry makes of a live session, with the job that ran before it
 abbrev pub session_by : ℕ → Entry → Option Running → Session → Session
@@ -100,36 +63,73 @@ pub session-told :
     IsTold s (history o past s) (opener past s) v
 session-told o past s v known = told-by s (history o past s) (is_live (history o past s)) (opener past s) v refl known
 
--- the session after an entry is said from the entry and the session before it
-pub session-own :
-    (o : Options) (past : List Entry) (e : Entry) (s : ℕ) (v : Session) →
-    session o past s ≡ Some v → opens e s ≡ false →
-    concerns o past e s ≡ true →
-    session o (e ∷ past) s ≡ cond (lives_on e.decision) (Some (session_by s e (running_job o past s) v)) None
-session-own o past e s v known n c =
-    let h = history o past s in
-    let t : IsTold s h (opener past s) v = session-told o past s v known in
-    rw (n, c, t.opening, t.alive)
-    (subst (λ (w : Session). cond (lives_on e.decision) (Some (session_by_history s (e ∷ h) w.opening)) None ≡ cond (lives_on e.decision) (Some (session_by s e (running_job o past s) w)) None) t.told refl)
+-- of an entry after a past
+module _ (o : Options) (past : List Entry) (e : Entry) where
+  -- an entry that neither opens nor concerns a session is not in its history
+  pub history-other :
+      (s : ℕ) →
+      opens e s ≡ false → concerns o past e s ≡ false →
+      history o (e ∷ past) s ≡ history o past s
+  history-other s n c = rw (n, c) refl
 
--- so is the job that runs then
-pub running-own :
-    (o : Options) (past : List Entry) (e : Entry) (s : ℕ) (v : Session) →
-    session o past s ≡ Some v → opens e s ≡ false →
-    concerns o past e s ≡ true →
-    running_job o (e ∷ past) s ≡ (next_lane e.event.kind e.decision (running_job o past s) v).running
-running-own o past e s v known n c =
-    let h = history o past s in
-    let t : IsTold s h (opener past s) v = session-told o past s v known in
-    ap (λ l. (lane l).running) (history-own o past e s n c) ∙
-    subst (λ (w : Session). (lane (e ∷ h)).running ≡ (next_lane e.event.kind e.decision (running_job o past s) w).running) t.told refl
+  -- one that concerns it is
+  pub history-own :
+      (s : ℕ) →
+      opens e s ≡ false → concerns o past e s ≡ true →
+      history o (e ∷ past) s ≡ e ∷ history o past s
+  history-own s n c = rw (n, c) refl
 
--- the session after it was opened
-pub session-opened :
-    (o : Options) (past : List Entry) (e : Entry) (s : ℕ) (opening : Opening) →
-    opened_number e.event.kind e.decision ≡ Some s →
-    e.decision ≡ Opened →
-    opening_by e.event.kind e.answer ≡ Some opening →
-    e.actions ≡ [] →
-    session o (e ∷ past) s ≡ Some (new_session opening)
-session-opened o past e s opening n d b a = rw (n, eq-eqb s s refl, d, b, a) refl
+  -- a session that is opened has the empty lane
+  pub lane-opened : (s : ℕ) → opens e s ≡ true → lane (history o (e ∷ past) s) ≡ empty_lane
+  lane-opened s n =
+      let start : history o (e ∷ past) s ≡ e ∷ [] = rw n refl in
+      let bare : lane (e ∷ []) ≡ empty_lane = rw (opened-is e.event.kind e.decision s n) refl in
+      ap lane start ∙ bare
+
+  -- what an entry neither opens nor concerns stays
+  pub session-other :
+      (s : ℕ) →
+      opens e s ≡ false → concerns o past e s ≡ false →
+      session o (e ∷ past) s ≡ session o past s
+  session-other s n c = rw (n, c) refl
+
+  -- nor does the job that runs change
+  pub running-other :
+      (s : ℕ) →
+      opens e s ≡ false → concerns o past e s ≡ false →
+      running_job o (e ∷ past) s ≡ running_job o past s
+  running-other s n c = ap (λ h. (lane h).running) (history-other s n c)
+
+  -- the session after an entry is said from the entry and the session before it
+  pub session-own :
+      (s : ℕ) (v : Session) →
+      session o past s ≡ Some v → opens e s ≡ false →
+      concerns o past e s ≡ true →
+      session o (e ∷ past) s ≡ cond (lives_on e.decision) (Some (session_by s e (running_job o past s) v)) None
+  session-own s v known n c =
+      let h = history o past s in
+      let t : IsTold s h (opener past s) v = session-told o past s v known in
+      rw (n, c, t.opening, t.alive)
+      (subst (λ (w : Session). cond (lives_on e.decision) (Some (session_by_history s (e ∷ h) w.opening)) None ≡ cond (lives_on e.decision) (Some (session_by s e (running_job o past s) w)) None) t.told refl)
+
+  -- so is the job that runs then
+  pub running-own :
+      (s : ℕ) (v : Session) →
+      session o past s ≡ Some v → opens e s ≡ false →
+      concerns o past e s ≡ true →
+      running_job o (e ∷ past) s ≡ (next_lane e.event.kind e.decision (running_job o past s) v).running
+  running-own s v known n c =
+      let h = history o past s in
+      let t : IsTold s h (opener past s) v = session-told o past s v known in
+      ap (λ l. (lane l).running) (history-own s n c) ∙
+      subst (λ (w : Session). (lane (e ∷ h)).running ≡ (next_lane e.event.kind e.decision (running_job o past s) w).running) t.told refl
+
+  -- the session after it was opened
+  pub session-opened :
+      (s : ℕ) (opening : Opening) →
+      opened_number e.event.kind e.decision ≡ Some s →
+      e.decision ≡ Opened →
+      opening_by e.event.kind e.answer ≡ Some opening →
+      e.actions ≡ [] →
+      session o (e ∷ past) s ≡ Some (new_session opening)
+  session-opened s opening n d b a = rw (n, eq-eqb s s refl, d, b, a) refl

@@ -10,118 +10,100 @@ use Rattle.ftp_laws.proofs.Common.{Subject, Options, Decision, Entry, is_number,
 pub no-stop : (d : Decision) → is_stop d ≡ false
 no-stop d = refl
 
--- what is no stop is about the session that it is meant for, or nobody
-pub subject-plain :
-    (o : Options) (past : List Entry) (e : Entry) → is_stop e.decision ≡ false →
-    subject o past e ≡ one_or_nobody (meant o past e)
-subject-plain o past e n = ap (λ b. cond b All (one_or_nobody (meant o past e))) n
+-- of an entry after a past
+module _ (o : Options) (past : List Entry) (e : Entry) where
+  -- what is no stop is about the session that it is meant for, or nobody
+  pub subject-plain : is_stop e.decision ≡ false → subject o past e ≡ one_or_nobody (meant o past e)
+  subject-plain n = ap (λ b. cond b All (one_or_nobody (meant o past e))) n
 
--- it concerns that session alone
-pub concerns-plain :
-    (o : Options) (past : List Entry) (e : Entry) (s : ℕ) → is_stop e.decision ≡ false →
-    concerns o past e s ≡ is_number (meant o past e) s
-concerns-plain o past e s n = ap (λ b. b || is_number (meant o past e) s) n
+  -- it concerns that session alone
+  pub concerns-plain :
+      (s : ℕ) → is_stop e.decision ≡ false →
+      concerns o past e s ≡ is_number (meant o past e) s
+  concerns-plain s n = ap (λ b. b || is_number (meant o past e) s) n
+
+  -- it is not about all sessions
+  pub not-all : is_stop e.decision ≡ false → subject o past e ≢ All
+  not-all n h = go (meant o past e) (sym (subject-plain n) ∙ h)
+    where
+      go : (m : Option ℕ) → one_or_nobody m ≢ All
+      go None x = cc
+      go (Some m) x = cc
+
+  -- what is about one session is no stop
+  one-plain : (s : ℕ) → subject o past e ≡ One s → is_stop e.decision ≡ false
+  one-plain s h = go (is_stop e.decision) h
+    where
+      go : (b : Bool) → cond b All (one_or_nobody (meant o past e)) ≡ One s → b ≡ false
+      go true x = cc
+      go false x = refl
+
+  -- nor is what is about nobody
+  nobody-plain : subject o past e ≡ Nobody → is_stop e.decision ≡ false
+  nobody-plain h = go (is_stop e.decision) h
+    where
+      go : (b : Bool) → cond b All (one_or_nobody (meant o past e)) ≡ Nobody → b ≡ false
+      go true x = cc
+      go false x = refl
+
+  -- what is no stop and concerns a session is about it alone
+  pub concerned : (s : ℕ) → is_stop e.decision ≡ false → concerns o past e s ≡ true → subject o past e ≡ One s
+  concerned s n c = subject-plain n ∙ go (meant o past e) (sym (concerns-plain s n) ∙ c)
+    where
+      go : (m : Option ℕ) → is_number m s ≡ true → one_or_nobody m ≡ One s
+      go None x = cc
+      go (Some m) x = ap One (eqb-true m s x)
+
+  -- what is about one session is meant for it
+  pub one-meant : (s : ℕ) → subject o past e ≡ One s → meant o past e ≡ Some s
+  one-meant s h = go (meant o past e) (sym (subject-plain (one-plain s h)) ∙ h)
+    where
+      go : (m : Option ℕ) → one_or_nobody m ≡ One s → m ≡ Some s
+      go None x = cc
+      go (Some m) x = cc
+
+  -- it concerns no other
+  pub one-concerns : (s q : ℕ) → subject o past e ≡ One s → concerns o past e q ≡ (s == q)
+  one-concerns s q h = concerns-plain q (one-plain s h) ∙ ap (λ m. is_number m q) (one-meant s h)
+
+  -- and it concerns that one
+  pub one-own : (s : ℕ) → subject o past e ≡ One s → concerns o past e s ≡ true
+  one-own s h = one-concerns s s h ∙ eq-eqb s s refl
+
+  -- and there is one such session
+  pub one-same : (s q : ℕ) → subject o past e ≡ One s → subject o past e ≡ One q → s ≡ q
+  one-same s q x y = eqb-true s q (sym (one-concerns s q x) ∙ one-own q y)
+
+  -- what is about nobody concerns none
+  pub nobody-concerns : (s : ℕ) → subject o past e ≡ Nobody → concerns o past e s ≡ false
+  nobody-concerns s h = concerns-plain s plain ∙ go (meant o past e) (sym (subject-plain plain) ∙ h)
+    where
+      plain : is_stop e.decision ≡ false
+      plain = nobody-plain h
+
+      go : (m : Option ℕ) → one_or_nobody m ≡ Nobody → is_number m s ≡ false
+      go None x = refl
+      go (Some m) x = cc
+
+  -- what is no stop and names a session is about it
+  pub named-one :
+      (s : ℕ) → is_stop e.decision ≡ false →
+      named_session e.event.kind ≡ Some s → subject o past e ≡ One s
+  named-one s n named = subject-plain n ∙ rw named refl
+
+  -- what is meant for a session concerns it
+  pub meant-concerns : (s : ℕ) → meant o past e ≡ Some s → concerns o past e s ≡ true
+  meant-concerns s m = or_right (is_stop e.decision) (is_number (meant o past e) s) (ap (λ n. is_number n s) m ∙ eq-eqb s s refl)
+
+  -- so does what names it
+  pub named-concerns : (s : ℕ) → named_session e.event.kind ≡ Some s → concerns o past e s ≡ true
+  named-concerns s named = meant-concerns s (rw named refl)
 
 -- and ends only holds of the session that it names
 pub ends-plain :
     (e : Entry) (s : ℕ) → is_stop e.decision ≡ false →
     ends_hold e s ≡ (is_number (named_session e.event.kind) s && gives_up_hold e.decision)
 ends-plain e s n = ap (λ b. b || (is_number (named_session e.event.kind) s && gives_up_hold e.decision)) n
-
--- it is not about all sessions
-pub not-all : (o : Options) (past : List Entry) (e : Entry) → is_stop e.decision ≡ false → subject o past e ≢ All
-not-all o past e n h = go (meant o past e) (sym (subject-plain o past e n) ∙ h)
-  where
-    go : (m : Option ℕ) → one_or_nobody m ≢ All
-    go None x = cc
-    go (Some m) x = cc
-
--- what is about one session is no stop
-one-plain :
-    (o : Options) (past : List Entry) (e : Entry) (s : ℕ) →
-    subject o past e ≡ One s → is_stop e.decision ≡ false
-one-plain o past e s h = go (is_stop e.decision) h
-  where
-    go : (b : Bool) → cond b All (one_or_nobody (meant o past e)) ≡ One s → b ≡ false
-    go true x = cc
-    go false x = refl
-
--- nor is what is about nobody
-nobody-plain : (o : Options) (past : List Entry) (e : Entry) → subject o past e ≡ Nobody → is_stop e.decision ≡ false
-nobody-plain o past e h = go (is_stop e.decision) h
-  where
-    go : (b : Bool) → cond b All (one_or_nobody (meant o past e)) ≡ Nobody → b ≡ false
-    go true x = cc
-    go false x = refl
-
--- what is no stop and concerns a session is about it alone
-pub concerned :
-    (o : Options) (past : List Entry) (e : Entry) (s : ℕ) → is_stop e.decision ≡ false →
-    concerns o past e s ≡ true → subject o past e ≡ One s
-concerned o past e s n c = subject-plain o past e n ∙ go (meant o past e) (sym (concerns-plain o past e s n) ∙ c)
-  where
-    go : (m : Option ℕ) → is_number m s ≡ true → one_or_nobody m ≡ One s
-    go None x = cc
-    go (Some m) x = ap One (eqb-true m s x)
-
--- what is about one session is meant for it
-pub one-meant :
-    (o : Options) (past : List Entry) (e : Entry) (s : ℕ) →
-    subject o past e ≡ One s → meant o past e ≡ Some s
-one-meant o past e s h = go (meant o past e) (sym (subject-plain o past e (one-plain o past e s h)) ∙ h)
-  where
-    go : (m : Option ℕ) → one_or_nobody m ≡ One s → m ≡ Some s
-    go None x = cc
-    go (Some m) x = cc
-
--- it concerns no other
-pub one-concerns :
-    (o : Options) (past : List Entry) (e : Entry) (s q : ℕ) →
-    subject o past e ≡ One s → concerns o past e q ≡ (s == q)
-one-concerns o past e s q h = concerns-plain o past e q (one-plain o past e s h) ∙ ap (λ m. is_number m q) (one-meant o past e s h)
-
--- and it concerns that one
-pub one-own :
-    (o : Options) (past : List Entry) (e : Entry) (s : ℕ) →
-    subject o past e ≡ One s → concerns o past e s ≡ true
-one-own o past e s h = one-concerns o past e s s h ∙ eq-eqb s s refl
-
--- and there is one such session
-pub one-same :
-    (o : Options) (past : List Entry) (e : Entry) (s q : ℕ) →
-    subject o past e ≡ One s → subject o past e ≡ One q → s ≡ q
-one-same o past e s q x y = eqb-true s q (sym (one-concerns o past e s q x) ∙ one-own o past e q y)
-
--- what is about nobody concerns none
-pub nobody-concerns :
-    (o : Options) (past : List Entry) (e : Entry) (s : ℕ) →
-    subject o past e ≡ Nobody → concerns o past e s ≡ false
-nobody-concerns o past e s h = concerns-plain o past e s plain ∙ go (meant o past e) (sym (subject-plain o past e plain) ∙ h)
-  where
-    plain : is_stop e.decision ≡ false
-    plain = nobody-plain o past e h
-
-    go : (m : Option ℕ) → one_or_nobody m ≡ Nobody → is_number m s ≡ false
-    go None x = refl
-    go (Some m) x = cc
-
--- what is no stop and names a session is about it
-pub named-one :
-    (o : Options) (past : List Entry) (e : Entry) (s : ℕ) → is_stop e.decision ≡ false →
-    named_session e.event.kind ≡ Some s → subject o past e ≡ One s
-named-one o past e s n named = subject-plain o past e n ∙ rw named refl
-
--- what is meant for a session concerns it
-pub meant-concerns :
-    (o : Options) (past : List Entry) (e : Entry) (s : ℕ) →
-    meant o past e ≡ Some s → concerns o past e s ≡ true
-meant-concerns o past e s m = or_right (is_stop e.decision) (is_number (meant o past e) s) (ap (λ n. is_number n s) m ∙ eq-eqb s s refl)
-
--- so does what names it
-pub named-concerns :
-    (o : Options) (past : List Entry) (e : Entry) (s : ℕ) →
-    named_session e.event.kind ≡ Some s → concerns o past e s ≡ true
-named-concerns o past e s named = meant-concerns o past e s (rw named refl)
 
 -- what gives up the slot of the session that it names ends that session's hold
 pub named-ends :
