@@ -27,19 +27,19 @@ use Rattle.ftp_events.specs.Session.{live_count, live_by_life}
 use Rattle.ftp_laws.proofs.Common.{Life, SlotMove, life, ends, slot_move, Options, Ticket, Action, Running, Answer, Decision, Entry, EventKind, Pending, Session, Opening, past_of, is_used, named_session, opened_number, opening_by, subject, concerns, opens, history, Lane, queued_in, lane, lives_on, session, running_job, due, holder, acts_of, completions, stays, start_acts, slot_of, pending_in, IsRight, IsActed}
 use Rattle.ftp_laws.specs.Census.{IsCensus}
 use Rattle.ftp_laws.specs.Jobs.{starts_for, completes_for}
-use Rattle.ftp_laws.proofs.Subjects.{by_subject, no-stop, named-one, one-concerns, one-own, nobody-concerns}
-use Rattle.ftp_laws.proofs.Classes.{opens-is, finishes-is, opened-is}
-use Rattle.ftp_laws.proofs.Facts.{IsLive}
-use Rattle.ftp_laws.proofs.Laws.{session-other, session-own, session_by, running-other}
-use Rattle.ftp_laws.proofs.Holds.{live-unopened}
-use Rattle.ftp_laws.proofs.Waits.{opened-subject, session-before, opened-nobody}
-use Rattle.ftp_laws.proofs.Lanes.{named-concern}
-use Rattle.ftp_laws.proofs.Tables.{same-both}
-use Rattle.ftp_laws.proofs.Counts.{IsOnTransfers, IsOnStarts, started_in, count-about, count-starts, count-drop_acts, count-nobody}
-use Rattle.ftp_laws.proofs.Tickets.{one, IsFit, no-completion}
-use Rattle.ftp_laws.proofs.Accounts.{entry-fit}
-use Rattle.ftp_laws.proofs.Jobs.{IsBalanced, jobs-balance, started_in-owned, starts_for-on-starts, completes_for-on-transfers, completes_for-start_acts}
-use Rattle.ftp_laws.proofs.Entries.{Comes, right-past, acted-past}
+use Rattle.ftp_laws.proofs.SubjectLemmas.{by_subject, no-stop, named-one, one-concerns, one-own, nobody-concerns}
+use Rattle.ftp_laws.proofs.ClassLemmas.{opens-is, finishes-is, opened-is}
+use Rattle.ftp_laws.proofs.DecisionLemmas.{IsLive}
+use Rattle.ftp_laws.proofs.QuestionLemmas.{session-other, session-own, session_by, running-other}
+use Rattle.ftp_laws.proofs.HoldLemmas.{live-unopened}
+use Rattle.ftp_laws.proofs.PortLemmas.{opened-subject, session-before, opened-nobody}
+use Rattle.ftp_laws.proofs.LaneLemmas.{named-concern}
+use Rattle.ftp_laws.proofs.TableLemmas.{same-both}
+use Rattle.ftp_laws.proofs.CountLemmas.{IsOnTransfers, IsOnStarts, started_in, count-about, count-starts, count-drop_acts, count-nobody}
+use Rattle.ftp_laws.proofs.BalanceLemmas.{one, IsFit, no-completion}
+use Rattle.ftp_laws.proofs.AccountLemmas.{entry-fit}
+use Rattle.ftp_laws.proofs.JobLemmas.{IsBalanced, jobs-balance, started_in-owned, starts_for-on-starts, completes_for-on-transfers, completes_for-start_acts}
+use Rattle.ftp_laws.proofs.EntryLemmas.{Comes, right-past, acted-past}
 use Rattle.ftp_laws.proofs.Cases.{by_test, by_option, by_part, by_completion}
 
 -- of a list without q, how often a number stands in it

@@ -10,12 +10,12 @@ use Rattle.ftp_events.specs.Right.{reply_to, replies}
 use Rattle.ftp_laws.proofs.Common.{Options, Ticket, Action, Running, Answer, Decision, Entry, EventKind, Session, is_refusal, is_ending, past_of, subject, concerns, opens, session, running_job, drops, acts_for, acts_of, completions, refused_link, drop_acts, start_acts, stays, slot_of, pending_in, IsRight, IsActed}
 use Rattle.ftp_events.specs.declared.session.Slot.TheVariants.{Empty}
 use Rattle.ftp_laws.specs.Replies.{was_opened}
-use Rattle.ftp_laws.proofs.Subjects.{by_subject, no-stop}
-use Rattle.ftp_laws.proofs.Laws.{session-other}
-use Rattle.ftp_laws.proofs.Waits.{session-before}
-use Rattle.ftp_laws.proofs.Counts.{IsOnTransfers, started_in, count-append, count-about, count-completions, count-drop_acts, count-refused_link, count-nobody}
-use Rattle.ftp_laws.proofs.Tickets.{one}
-use Rattle.ftp_laws.proofs.Entries.{Comes, acted-past}
+use Rattle.ftp_laws.proofs.SubjectLemmas.{by_subject, no-stop}
+use Rattle.ftp_laws.proofs.QuestionLemmas.{session-other}
+use Rattle.ftp_laws.proofs.PortLemmas.{session-before}
+use Rattle.ftp_laws.proofs.CountLemmas.{IsOnTransfers, started_in, count-append, count-about, count-completions, count-drop_acts, count-refused_link, count-nobody}
+use Rattle.ftp_laws.proofs.BalanceLemmas.{one}
+use Rattle.ftp_laws.proofs.EntryLemmas.{Comes, acted-past}
 use Rattle.ftp_laws.proofs.Cases.{by_test, by_option}
 
 -- the action is a reply to session s

@@ -18,21 +18,21 @@ use Rattle.ftp_laws.proofs.Common.{SlotMove, slot_move, moved, starts_by, Option
 use Rattle.ftp_laws.specs.Fates.{settles, settle_count, queue_count}
 use Rattle.ftp_laws.specs.Transfers.{transfer_of, WasQueuedSo, starts_it, was_started}
 use Rattle.ftp_laws.proofs.TicketLemmas.{same_ticket-equal, same_ticket-refl}
-use Rattle.ftp_laws.proofs.Subjects.{by_subject, concerned, no-stop, one-own}
-use Rattle.ftp_laws.proofs.Classes.{queues-is}
-use Rattle.ftp_laws.proofs.Laws.{history-other, history-own, running-other, session-told, lane-opened, empty_lane}
-use Rattle.ftp_laws.proofs.Holds.{opened-fresh}
-use Rattle.ftp_laws.proofs.Waits.{opened-nobody}
-use Rattle.ftp_laws.proofs.Lanes.{IsQueue, queued-live, named-concern, ended-empty}
-use Rattle.ftp_laws.proofs.Running.{runs-started, running-after, unused-idle}
-use Rattle.ftp_laws.proofs.Counts.{IsOnStarts, started_in, count-starts, count-nobody}
-use Rattle.ftp_laws.proofs.Tickets.{one, finishes, settles-completions}
-use Rattle.ftp_laws.proofs.Sound.{AllOf, all-wider, all-moved, queue-as, sound}
-use Rattle.ftp_laws.proofs.Accounts.{slot-told, entry-fit, settles-here}
-use Rattle.ftp_laws.proofs.Fates.{IsAccounted, accounted, running-carried}
-use Rattle.ftp_laws.proofs.Cancelled.{any-counted, counted-any}
-use Rattle.ftp_laws.proofs.Jobs.{started-idle, started-runs, starting-history, started_in-owned}
-use Rattle.ftp_laws.proofs.Entries.{Comes, right-past, acted-past}
+use Rattle.ftp_laws.proofs.SubjectLemmas.{by_subject, concerned, no-stop, one-own}
+use Rattle.ftp_laws.proofs.ClassLemmas.{queues-is}
+use Rattle.ftp_laws.proofs.QuestionLemmas.{history-other, history-own, running-other, session-told, lane-opened, empty_lane}
+use Rattle.ftp_laws.proofs.HoldLemmas.{opened-fresh}
+use Rattle.ftp_laws.proofs.PortLemmas.{opened-nobody}
+use Rattle.ftp_laws.proofs.LaneLemmas.{IsQueue, queued-live, named-concern, ended-empty}
+use Rattle.ftp_laws.proofs.RunningLemmas.{runs-started, running-after, unused-idle}
+use Rattle.ftp_laws.proofs.CountLemmas.{IsOnStarts, started_in, count-starts, count-nobody}
+use Rattle.ftp_laws.proofs.BalanceLemmas.{one, finishes, settles-completions}
+use Rattle.ftp_laws.proofs.SoundLemmas.{AllOf, all-wider, all-moved, queue-as, sound}
+use Rattle.ftp_laws.proofs.AccountLemmas.{slot-told, entry-fit, settles-here}
+use Rattle.ftp_laws.proofs.FateLemmas.{IsAccounted, accounted, running-carried}
+use Rattle.ftp_laws.proofs.CancellationLemmas.{any-counted, counted-any}
+use Rattle.ftp_laws.proofs.JobLemmas.{started-idle, started-runs, starting-history, started_in-owned}
+use Rattle.ftp_laws.proofs.EntryLemmas.{Comes, right-past, acted-past}
 use Rattle.ftp_laws.proofs.Cases.{by_test, by_option, by_part}
 
 -- a transfer is of session s, and was queued by an entry

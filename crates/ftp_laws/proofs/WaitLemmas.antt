@@ -9,10 +9,10 @@ use Rattle.ftp_events.specs.Fate.{Fate, CompletedAt, CancelledAt, AwaitsConnecti
 use Rattle.ftp_laws.proofs.Common.{Options, Ticket, Entry, Pending, Running, Session, Slot, IpAddr, is_legacy, past_of, history, holder, lane, session, running_job, is_pending, IsRight}
 use Rattle.ftp_laws.specs.Holds.{WaitsOn}
 use Rattle.ftp_laws.proofs.TicketLemmas.{same_ticket-equal}
-use Rattle.ftp_laws.proofs.Laws.{session-told}
-use Rattle.ftp_laws.proofs.Sound.{sound}
-use Rattle.ftp_laws.proofs.Ends.{on-waits}
-use Rattle.ftp_laws.proofs.Waits.{waits-holds}
+use Rattle.ftp_laws.proofs.QuestionLemmas.{session-told}
+use Rattle.ftp_laws.proofs.SoundLemmas.{sound}
+use Rattle.ftp_laws.proofs.HoldEndLemmas.{on-waits}
+use Rattle.ftp_laws.proofs.PortLemmas.{waits-holds}
 use Rattle.ftp_laws.proofs.Cases.{by_option}
 
 -- the fates of a transfer that is not settled

@@ -1,4 +1,4 @@
-use Rattle.ftp_laws.proofs.Fates.{fate-had, queued-once, settled-once, running-unslotted, running-unsettled}
+use Rattle.ftp_laws.proofs.FateLemmas.{fate-had, queued-once, settled-once, running-unslotted, running-unsettled}
 use Rattle.ftp_laws.proofs.right_logs.transfers_have_one_fate.Goals as goal
 
 pub returns : goal.returns

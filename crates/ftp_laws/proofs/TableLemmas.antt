@@ -7,8 +7,8 @@ use Rattle.ftp_events.specs.declared.decision.Decision.TheVariants.{Granted}
 use Rattle.ftp_events.specs.Session.{next_lane}
 use Rattle.ftp_events.specs.History.{One, one_or_nobody}
 use Rattle.ftp_laws.proofs.Common.{IpAddr, same_ip, Options, is_legacy, Entry, Session, is_number, named_session, opened_number, Target, target, granted_port, gives_hold, ends_hold, gives_up_hold, holder, subject, concerns, opens, lives_on, session, running_job}
-use Rattle.ftp_laws.proofs.Subjects.{one-concerns, no-stop, ends-plain, subject-plain}
-use Rattle.ftp_laws.proofs.Laws.{session-own, session-other, session_by, session-told, running-own, running-other}
+use Rattle.ftp_laws.proofs.SubjectLemmas.{one-concerns, no-stop, ends-plain, subject-plain}
+use Rattle.ftp_laws.proofs.QuestionLemmas.{session-own, session-other, session_by, session-told, running-own, running-other}
 
 -- an entry about session s, which opens no session
 pub record IsAbout (o : Options) (past : List Entry) (e : Entry) (s : ℕ) : Type 0 where

@@ -16,9 +16,9 @@ use Rattle.ftp_events.specs.Reply.{message_for, reply_for, delay_of}
 use Rattle.ftp_events.specs.Acts.{session_acts, notice_and_reply, notifications, reply_acts, notice_for, presence_for, farewells}
 use Rattle.ftp_events.specs.History.{Nobody, One, All}
 use Rattle.ftp_laws.proofs.Common.{Subject, subject_acts, is_ending, Options, Running, Action, Decision, Entry, EventKind, Answer, Pending, Session, Slot, is_refusal, new_number, subject, concerns, drops, session, running_job, acts_of, completions, cancellations, stays, drop_acts, pending_in, start_acts, starting, link_in, closings, refused_link, slot_of}
-use Rattle.ftp_laws.proofs.Subjects.{no-stop, nobody-concerns, one-concerns, not-all}
+use Rattle.ftp_laws.proofs.SubjectLemmas.{no-stop, nobody-concerns, one-concerns, not-all}
 use Rattle.ftp_laws.specs.Notices.{notice_to}
-use Rattle.ftp_laws.proofs.Tables.{same-both}
+use Rattle.ftp_laws.proofs.TableLemmas.{same-both}
 use Rattle.ftp_laws.proofs.Cases.{by_completion}
 
 -- as many notifications are counted as are listed

@@ -8,13 +8,13 @@ use Rattle.ftp_events.specs.declared.decision.SlotMove.TheVariants.{Empties, Emp
 use Rattle.ftp_events.specs.Fate.{cancels}
 use Rattle.ftp_events.specs.History.{Nobody, One, All}
 use Rattle.ftp_laws.proofs.Common.{Subject, Options, Ticket, Action, Decision, Entry, Pending, Session, Slot, is_refusal, past_of, subject, concerns, history, slot_move, SlotMove, empties, drops, lane, session, running_job, acts, acts_of, stays, slot_of, pending_in, starting, IsRight, IsActed, is_pending}
-use Rattle.ftp_laws.proofs.Subjects.{no-stop, concerned, one-concerns, not-all}
+use Rattle.ftp_laws.proofs.SubjectLemmas.{no-stop, concerned, one-concerns, not-all}
 use Rattle.ftp_laws.specs.Fates.{may_cancel, can_cancel, LosesSlot}
 use Rattle.ftp_laws.proofs.TicketLemmas.{same_ticket-equal}
-use Rattle.ftp_laws.proofs.Laws.{session-told}
-use Rattle.ftp_laws.proofs.Counts.{IsOnTransfers, count-about, count-nobody, count-completions, CountsTest, counts-any}
-use Rattle.ftp_laws.proofs.Tickets.{one, IsOnCancelled, count-start_acts, count-drop_acts-own}
-use Rattle.ftp_laws.proofs.Sound.{sound}
+use Rattle.ftp_laws.proofs.QuestionLemmas.{session-told}
+use Rattle.ftp_laws.proofs.CountLemmas.{IsOnTransfers, count-about, count-nobody, count-completions, CountsTest, counts-any}
+use Rattle.ftp_laws.proofs.BalanceLemmas.{one, IsOnCancelled, count-start_acts, count-drop_acts-own}
+use Rattle.ftp_laws.proofs.SoundLemmas.{sound}
 
 -- what some item passes is counted
 pub any-counted : (p : Action → Bool) (xs : List Action) → list_any p xs ≡ true → 1 ≤ count_by p xs

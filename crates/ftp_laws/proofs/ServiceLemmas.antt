@@ -20,12 +20,12 @@ use Rattle.ftp_events.specs.Acts.{notice_and_reply, farewells}
 use Rattle.ftp_events.specs.Headline.{is_barred, is_admitted, IsClosed, AttachedOrClosed, GrantedOrFull, AllServed}
 use Rattle.ftp_events.specs.History.{Nobody, One, All}
 use Rattle.ftp_laws.proofs.Common.{Subject, subject_acts, IpAddr, same_ip, Options, is_legacy, Running, Action, Decision, Entry, EventKind, Answer, Opening, Session, is_number, past_of, is_refusal, is_used, new_number, named_session, opened_number, opening_by, opener, Target, target, granted_port, is_client, gives_hold, comes_to, ends_hold, holder, subject, session, running_job, due, decide, acts, acts_of, acts_for, completions, stays, drop_acts, slot_of, pending_in, refused_link, start_acts, starting, IsRight, IsActed}
-use Rattle.ftp_laws.proofs.Classes.{granted-is}
-use Rattle.ftp_laws.proofs.Subjects.{no-stop, not-all}
-use Rattle.ftp_laws.proofs.Laws.{session-told}
-use Rattle.ftp_laws.proofs.Grants.{granted-free}
-use Rattle.ftp_laws.proofs.Holds.{WaitsFor, holder-waits}
-use Rattle.ftp_laws.proofs.Entries.{right-past}
+use Rattle.ftp_laws.proofs.ClassLemmas.{granted-is}
+use Rattle.ftp_laws.proofs.SubjectLemmas.{no-stop, not-all}
+use Rattle.ftp_laws.proofs.QuestionLemmas.{session-told}
+use Rattle.ftp_laws.proofs.GrantLemmas.{granted-free}
+use Rattle.ftp_laws.proofs.HoldLemmas.{WaitsFor, holder-waits}
+use Rattle.ftp_laws.proofs.EntryLemmas.{right-past}
 
 -- a new connection that is turned away is closed
 pub closes-link :

@@ -22,14 +22,14 @@ use Rattle.ftp_events.specs.Reply.{path_of_job, message_for}
 use Rattle.ftp_events.specs.Acts.{notice_for, presence_of}
 use Rattle.ftp_events.specs.History.{Nobody}
 use Rattle.ftp_laws.proofs.Common.{Life, life, Options, Running, Decision, Entry, EventKind, Answer, Opening, Session, past_of, is_refusal, is_used, opener, subject, concerns, opens, history, lives_on, session, running_job, due, acts_of, IsRight, IsActed}
-use Rattle.ftp_laws.proofs.Classes.{opened-is}
-use Rattle.ftp_laws.proofs.Subjects.{nobody-concerns}
+use Rattle.ftp_laws.proofs.ClassLemmas.{opened-is}
+use Rattle.ftp_laws.proofs.SubjectLemmas.{nobody-concerns}
 use Rattle.ftp_laws.specs.Notices.{notice_to, notices, is_logged_out, NoneLoggedOut, LastLoggedOut, HasEnded}
-use Rattle.ftp_laws.proofs.Laws.{session-own, session-other, session_by, session-told, opener-other}
-use Rattle.ftp_laws.proofs.Holds.{opener-used, opened-fresh}
-use Rattle.ftp_laws.proofs.Waits.{IsAfter, session-before, opened-nobody}
-use Rattle.ftp_laws.proofs.Notices.{length-notices, under, told_by, told_in, notices-entry}
-use Rattle.ftp_laws.proofs.Entries.{acted-past}
+use Rattle.ftp_laws.proofs.QuestionLemmas.{session-own, session-other, session_by, session-told, opener-other}
+use Rattle.ftp_laws.proofs.HoldLemmas.{opener-used, opened-fresh}
+use Rattle.ftp_laws.proofs.PortLemmas.{IsAfter, session-before, opened-nobody}
+use Rattle.ftp_laws.proofs.NoticeLemmas.{length-notices, under, told_by, told_in, notices-entry}
+use Rattle.ftp_laws.proofs.EntryLemmas.{acted-past}
 use Rattle.ftp_laws.proofs.Cases.{by_option, by_part}
 
 -- one number more

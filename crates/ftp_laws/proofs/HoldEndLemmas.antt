@@ -9,12 +9,12 @@ use Rattle.ftp_events.specs.declared.event.EventKind.TheVariants as kind
 use Rattle.ftp_events.specs.declared.session.Slot.TheVariants.{Empty, Waits, Linked}
 use Rattle.ftp_events.specs.Slot.{waiting_port}
 use Rattle.ftp_laws.proofs.Common.{SlotMove, slot_move, gives_up, IpAddr, same_ip, Options, is_legacy, Entry, EventKind, Session, Slot, is_number, named_session, is_refusal, past_of, target, is_client, gives_hold, comes_to, ends_hold, gives_up_hold, holder, due, decide, IsRight}
-use Rattle.ftp_laws.proofs.Subjects.{no-stop, ends-plain, named-ends}
+use Rattle.ftp_laws.proofs.SubjectLemmas.{no-stop, ends-plain, named-ends}
 use Rattle.ftp_laws.specs.Holds.{WaitsOn, ComesTo, GrantsAnother, EndsSession, EndsHold}
-use Rattle.ftp_laws.proofs.Classes.{awaits-is, empties-ends, ending-gives_up}
-use Rattle.ftp_laws.proofs.Laws.{counting-counts}
-use Rattle.ftp_laws.proofs.Holds.{WaitsFor, holder-waits, same_ip-equal, same_ip-refl, number-is}
-use Rattle.ftp_laws.proofs.Waits.{named-target, held-ungranted, client-known}
+use Rattle.ftp_laws.proofs.ClassLemmas.{awaits-is, empties-ends, ending-gives_up}
+use Rattle.ftp_laws.proofs.QuestionLemmas.{counting-counts}
+use Rattle.ftp_laws.proofs.HoldLemmas.{WaitsFor, holder-waits, same_ip-equal, same_ip-refl, number-is}
+use Rattle.ftp_laws.proofs.PortLemmas.{named-target, held-ungranted, client-known}
 
 -- the slot that waits for a port
 pub slot-waits : (slot : Slot) (p : ℕ) → waiting_port slot ≡ Some p → slot ≡ Waits p

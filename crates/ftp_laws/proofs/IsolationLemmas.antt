@@ -8,10 +8,10 @@ use Rattle.std.proofs.lemmas.List.Elements.{Contains-push, Contains-append_left,
 use Rattle.ftp_events.specs.declared.event.EventKind.TheVariants as kind
 use Rattle.ftp_events.specs.Isolation.{owner, is_own, foreign_numbers}
 use Rattle.ftp_laws.proofs.Common.{IpAddr, same_ip, Options, is_legacy, Entry, EventKind, Answer, Opening, is_number, past_of, is_refusal, named_session, is_used, new_number, opening_by, opener, Target, target, is_client, gives_hold, granted_port, comes_to, ends_hold, holder, holder_of_target, concerns, opens, history, lane, session, running_job, IsRight, client_log}
-use Rattle.ftp_laws.proofs.Subjects.{concerns-plain, no-stop, ends-plain}
-use Rattle.ftp_laws.proofs.Laws.{opener-other, session-told, history-other}
-use Rattle.ftp_laws.proofs.Holds.{WaitsFor, holder-waits, same_ip-equal, same_ip-refl, number-is}
-use Rattle.ftp_laws.proofs.Tables.{and-zero, same-both}
+use Rattle.ftp_laws.proofs.SubjectLemmas.{concerns-plain, no-stop, ends-plain}
+use Rattle.ftp_laws.proofs.QuestionLemmas.{opener-other, session-told, history-other}
+use Rattle.ftp_laws.proofs.HoldLemmas.{WaitsFor, holder-waits, same_ip-equal, same_ip-refl, number-is}
+use Rattle.ftp_laws.proofs.TableLemmas.{and-zero, same-both}
 
 -- the session is one of client a
 abbrev pub is_of : List Entry → ℕ → IpAddr → Bool

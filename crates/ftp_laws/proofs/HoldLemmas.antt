@@ -14,12 +14,12 @@ use Rattle.ftp_events.specs.Slot.{waiting_port}
 use Rattle.ftp_events.specs.Session.{told_of_life, queued_for, lane_in}
 use Rattle.ftp_events.specs.Classes.{is_stop}
 use Rattle.ftp_laws.proofs.Common.{Life, SlotMove, life, slot_move, gives_up, empties, moved, IpAddr, same_ip, Options, is_legacy, Running, Entry, EventKind, Answer, Decision, Opening, Pending, Session, Slot, is_number, named_session, new_number, is_used, past_of, opened_number, opening_by, opener, Target, target, granted_port, is_client, gives_hold, comes_to, ends_hold, gives_up_hold, holder, concerns, opens, Lane, lane_of, lane_after, lives_on, session, running_job, due, IsRight}
-use Rattle.ftp_laws.proofs.Subjects.{concerns-plain, ends-plain, named-concerns}
-use Rattle.ftp_laws.proofs.Facts.{by_connection, is_connection, named-no_connection, opened-unused, IsLive}
-use Rattle.ftp_laws.proofs.Grants.{granted-free}
-use Rattle.ftp_laws.proofs.Classes.{ending-empties, granted-is}
-use Rattle.ftp_laws.proofs.Laws.{session-own, session-other, session_by, session-told}
-use Rattle.ftp_laws.proofs.Entries.{right-past}
+use Rattle.ftp_laws.proofs.SubjectLemmas.{concerns-plain, ends-plain, named-concerns}
+use Rattle.ftp_laws.proofs.DecisionLemmas.{by_connection, is_connection, named-no_connection, opened-unused, IsLive}
+use Rattle.ftp_laws.proofs.GrantLemmas.{granted-free}
+use Rattle.ftp_laws.proofs.ClassLemmas.{ending-empties, granted-is}
+use Rattle.ftp_laws.proofs.QuestionLemmas.{session-own, session-other, session_by, session-told}
+use Rattle.ftp_laws.proofs.EntryLemmas.{right-past}
 use Rattle.ftp_laws.proofs.Cases.{by_test}
 
 -- the number that opens a session is new

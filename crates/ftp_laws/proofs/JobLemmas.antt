@@ -8,20 +8,20 @@ use Rattle.ftp_events.specs.declared.session.Slot.TheVariants.{Empty, Waits, Lin
 use Rattle.ftp_events.specs.Slot.{startable, started_by}
 use Rattle.ftp_events.specs.History.{Nobody, One}
 use Rattle.ftp_laws.proofs.Common.{SlotMove, slot_move, moved, starts_by, Options, Running, Ticket, Decision, Entry, EventKind, Pending, Session, Slot, is_refusal, past_of, named_session, new_number, subject, concerns, opens, history, Lane, with_link, lane_after, queued_in, lane, session, running_job, due, acts_of, completions, stays, slot_of, pending_in, start_acts, starting, IsRight, IsActed}
-use Rattle.ftp_laws.proofs.Subjects.{by_subject, concerned, one-concerns, one-own, named-one, no-stop}
+use Rattle.ftp_laws.proofs.SubjectLemmas.{by_subject, concerned, one-concerns, one-own, named-one, no-stop}
 use Rattle.ftp_laws.specs.Jobs.{starts_for, completes_for, started_count, completed_count}
-use Rattle.ftp_laws.proofs.Classes.{finishes-is}
-use Rattle.ftp_laws.proofs.Laws.{history-own, running-other, lane-opened}
-use Rattle.ftp_laws.proofs.Holds.{opened-fresh}
-use Rattle.ftp_laws.proofs.Waits.{opened-nobody}
-use Rattle.ftp_laws.proofs.Lanes.{IsBare, ended-empty, named-concern}
-use Rattle.ftp_laws.proofs.Running.{runs-started, running-after, unused-idle}
-use Rattle.ftp_laws.proofs.Counts.{IsOnTransfers, IsOnStarts, started_in, count-completions, count-drop_acts, count-about, count-starts, count-nobody}
-use Rattle.ftp_laws.proofs.Links.{starting-told}
-use Rattle.ftp_laws.proofs.Tickets.{one, finishes, no-completion, IsFit}
-use Rattle.ftp_laws.proofs.Accounts.{entry-fit}
-use Rattle.ftp_laws.proofs.Sound.{sound, entry-sound}
-use Rattle.ftp_laws.proofs.Entries.{acted-past}
+use Rattle.ftp_laws.proofs.ClassLemmas.{finishes-is}
+use Rattle.ftp_laws.proofs.QuestionLemmas.{history-own, running-other, lane-opened}
+use Rattle.ftp_laws.proofs.HoldLemmas.{opened-fresh}
+use Rattle.ftp_laws.proofs.PortLemmas.{opened-nobody}
+use Rattle.ftp_laws.proofs.LaneLemmas.{IsBare, ended-empty, named-concern}
+use Rattle.ftp_laws.proofs.RunningLemmas.{runs-started, running-after, unused-idle}
+use Rattle.ftp_laws.proofs.CountLemmas.{IsOnTransfers, IsOnStarts, started_in, count-completions, count-drop_acts, count-about, count-starts, count-nobody}
+use Rattle.ftp_laws.proofs.LinkLemmas.{starting-told}
+use Rattle.ftp_laws.proofs.BalanceLemmas.{one, finishes, no-completion, IsFit}
+use Rattle.ftp_laws.proofs.AccountLemmas.{entry-fit}
+use Rattle.ftp_laws.proofs.SoundLemmas.{sound, entry-sound}
+use Rattle.ftp_laws.proofs.EntryLemmas.{acted-past}
 use Rattle.ftp_laws.proofs.Cases.{by_part}
 
 -- the test on the starts of a session is one on starts

@@ -12,8 +12,8 @@ use Rattle.ftp_events.specs.Fate.{is_running}
 use Rattle.ftp_laws.proofs.Common.{SlotMove, slot_move, empties, moved, Options, Running, Ticket, Action, Decision, Entry, EventKind, Answer, Pending, Slot, new_number, Lane, with_link, drops, lane_of, lane_after, running_job, due, completions, cancellations, closings, link_in, drop_acts, start_acts, is_pending}
 use Rattle.ftp_laws.proofs.TicketLemmas.{same_ticket-equal}
 use Rattle.ftp_laws.specs.Fates.{queues, queues_it, settles}
-use Rattle.ftp_laws.proofs.Classes.{finishes-is}
-use Rattle.ftp_laws.proofs.Counts.{IsOnTransfers, count-append, count-closings}
+use Rattle.ftp_laws.proofs.ClassLemmas.{finishes-is}
+use Rattle.ftp_laws.proofs.CountLemmas.{IsOnTransfers, count-append, count-closings}
 use Rattle.ftp_laws.proofs.Cases.{by_completion}
 
 -- one for what holds

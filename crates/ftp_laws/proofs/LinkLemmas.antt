@@ -11,12 +11,12 @@ use Rattle.ftp_events.specs.declared.session.Slot.TheVariants.{Empty, Waits, Lin
 use Rattle.ftp_events.specs.Slot.{startable, started_by}
 use Rattle.ftp_events.specs.History.{Nobody, One, All}
 use Rattle.ftp_laws.proofs.Common.{Subject, SlotMove, slot_move, empties, moved, starts_by, Options, Running, Decision, Entry, EventKind, Answer, Pending, Session, Slot, is_number, is_refusal, past_of, is_used, new_number, subject, concerns, opens, history, Lane, with_link, lane_of, queued_in, lane, session, running_job, due, acts_of, link_in, start_acts, starting, IsRight, IsActed}
-use Rattle.ftp_laws.proofs.Subjects.{no-stop, concerned, one-own, one-same, not-all}
+use Rattle.ftp_laws.proofs.SubjectLemmas.{no-stop, concerned, one-own, one-same, not-all}
 use Rattle.ftp_laws.specs.Links.{starts_on, start_count}
-use Rattle.ftp_laws.proofs.Classes.{opened-is}
-use Rattle.ftp_laws.proofs.Laws.{history-other, history-own, session-told}
-use Rattle.ftp_laws.proofs.Counts.{IsOnStarts, count-starts, count-nobody}
-use Rattle.ftp_laws.proofs.Entries.{acted-past}
+use Rattle.ftp_laws.proofs.ClassLemmas.{opened-is}
+use Rattle.ftp_laws.proofs.QuestionLemmas.{history-other, history-own, session-told}
+use Rattle.ftp_laws.proofs.CountLemmas.{IsOnStarts, count-starts, count-nobody}
+use Rattle.ftp_laws.proofs.EntryLemmas.{acted-past}
 use Rattle.ftp_laws.proofs.Cases.{by_test, by_part}
 
 -- the move by a connection that is attached

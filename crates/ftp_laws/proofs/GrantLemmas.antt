@@ -14,7 +14,7 @@ use Rattle.ftp_events.specs.Board.{first_free_port}
 use Rattle.ftp_events.specs.CommandRows.{is_logged_in, if_logged_in, pasv_row}
 use Rattle.ftp_events.specs.Decide.{if_live}
 use Rattle.ftp_laws.proofs.Common.{IpAddr, Options, Entry, EventKind, Answer, Session, granted_port, holder, session, due}
-use Rattle.ftp_laws.proofs.Facts.{IsLive}
+use Rattle.ftp_laws.proofs.DecisionLemmas.{IsLive}
 
 -- what is found passes the test
 find-holds : {X : Type 0} (p : X → Bool) (xs : List X) (x : X) → find p xs ≡ Some x → p x ≡ true

@@ -11,16 +11,16 @@ use Rattle.ftp_events.specs.declared.event.EventKind.TheVariants as kind
 use Rattle.ftp_events.specs.History.{Nobody, One, All}
 use Rattle.ftp_events.specs.Classes.{is_stop}
 use Rattle.ftp_laws.proofs.Common.{Subject, slot_move, Options, Running, Action, Decision, Entry, Answer, EventKind, is_number, is_refusal, past_of, named_session, new_number, holder, holder_of_target, subject, concerns, history, queued_in, lane, due, decide, acts, start_acts, IsRight, IsActed}
-use Rattle.ftp_laws.proofs.Subjects.{no-stop, one-own, not-all, concerns-plain}
+use Rattle.ftp_laws.proofs.SubjectLemmas.{no-stop, one-own, not-all, concerns-plain}
 use Rattle.ftp_laws.specs.Jobs.{starts_there, attaches_to, brings_link, has_brought}
-use Rattle.ftp_laws.proofs.Entries.{past-more}
-use Rattle.ftp_laws.proofs.Served.{AttachedOrTurned, connection-goes}
-use Rattle.ftp_laws.proofs.Lanes.{ended-empty}
-use Rattle.ftp_laws.proofs.Counts.{IsOnStarts, started_in, count-starts, count-nobody}
-use Rattle.ftp_laws.proofs.Links.{is_attached, Brings, started-brings, link_of, WasOrComes, link-after}
-use Rattle.ftp_laws.proofs.Tickets.{one}
-use Rattle.ftp_laws.proofs.Cancelled.{any-counted}
-use Rattle.ftp_laws.proofs.Jobs.{starting-history, started_in-owned}
+use Rattle.ftp_laws.proofs.EntryLemmas.{past-more}
+use Rattle.ftp_laws.proofs.ServiceLemmas.{AttachedOrTurned, connection-goes}
+use Rattle.ftp_laws.proofs.LaneLemmas.{ended-empty}
+use Rattle.ftp_laws.proofs.CountLemmas.{IsOnStarts, started_in, count-starts, count-nobody}
+use Rattle.ftp_laws.proofs.LinkLemmas.{is_attached, Brings, started-brings, link_of, WasOrComes, link-after}
+use Rattle.ftp_laws.proofs.BalanceLemmas.{one}
+use Rattle.ftp_laws.proofs.CancellationLemmas.{any-counted}
+use Rattle.ftp_laws.proofs.JobLemmas.{starting-history, started_in-owned}
 
 -- the test on starts of a session on a link is one on starts
 starts_there-on-starts : (s n : ℕ) → IsOnStarts (starts_there s n)

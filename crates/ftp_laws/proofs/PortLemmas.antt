@@ -14,14 +14,14 @@ use Rattle.ftp_events.specs.Session.{life_by, told_of_life, session_by_history, 
 use Rattle.ftp_events.specs.History.{Nobody, one_or_nobody}
 use Rattle.ftp_events.specs.Classes.{is_stop}
 use Rattle.ftp_laws.proofs.Common.{meant, holder_of_target, Life, SlotMove, life, slot_move, gives_up, moved, new_number, IpAddr, same_ip, Options, is_legacy, Running, Entry, EventKind, Answer, Decision, Pending, Session, Slot, is_number, named_session, is_refusal, past_of, opened_number, opener, Target, target, granted_port, is_client, gives_hold, comes_to, ends_hold, gives_up_hold, holder, subject, concerns, opens, history, Lane, with_link, lane_after, queued_in, lives_on, session, running_job, due, IsRight}
-use Rattle.ftp_laws.proofs.Subjects.{nobody-concerns, no-stop, subject-plain, concerns-plain, ends-plain, named-concerns, meant-concerns}
-use Rattle.ftp_laws.proofs.Classes.{awaits-is, opens-is, granted-is, opened-is}
-use Rattle.ftp_laws.proofs.Facts.{is_connection, named-no_connection}
-use Rattle.ftp_laws.proofs.Grants.{IsGrant, granted-free}
-use Rattle.ftp_laws.proofs.Laws.{session-own, session-other, session_by, IsTold, session-told}
-use Rattle.ftp_laws.proofs.Holds.{port-lane, port-kept, touch-free, number-is, or-number, same_ip-equal, WaitsFor, comes-for}
-use Rattle.ftp_laws.proofs.Served.{connection-goes, AttachedOrTurned}
-use Rattle.ftp_laws.proofs.Entries.{right-past}
+use Rattle.ftp_laws.proofs.SubjectLemmas.{nobody-concerns, no-stop, subject-plain, concerns-plain, ends-plain, named-concerns, meant-concerns}
+use Rattle.ftp_laws.proofs.ClassLemmas.{awaits-is, opens-is, granted-is, opened-is}
+use Rattle.ftp_laws.proofs.DecisionLemmas.{is_connection, named-no_connection}
+use Rattle.ftp_laws.proofs.GrantLemmas.{IsGrant, granted-free}
+use Rattle.ftp_laws.proofs.QuestionLemmas.{session-own, session-other, session_by, IsTold, session-told}
+use Rattle.ftp_laws.proofs.HoldLemmas.{port-lane, port-kept, touch-free, number-is, or-number, same_ip-equal, WaitsFor, comes-for}
+use Rattle.ftp_laws.proofs.ServiceLemmas.{connection-goes, AttachedOrTurned}
+use Rattle.ftp_laws.proofs.EntryLemmas.{right-past}
 use Rattle.ftp_laws.proofs.Cases.{by_part}
 
 -- an event that opens a session is meant for nobody

@@ -15,12 +15,12 @@ use Rattle.ftp_events.specs.Session.{told_of_life}
 use Rattle.ftp_events.specs.CommandRows.{is_logged_in, if_logged_in, can_queue, transfer_row}
 use Rattle.ftp_events.specs.Decide.{if_live}
 use Rattle.ftp_laws.proofs.Common.{Life, SlotMove, life, slot_move, empties, moved, new_number, Options, Ticket, Decision, Entry, EventKind, Answer, Pending, Session, Slot, named_session, past_of, concerns, history, Lane, lane_after, queued_in, lane, lives_on, session, running_job, due, IsRight}
-use Rattle.ftp_laws.proofs.Subjects.{no-stop, named-one, one-concerns}
-use Rattle.ftp_laws.proofs.Classes.{awaits-is, queues-is, ending-empties, opened-is}
-use Rattle.ftp_laws.proofs.Facts.{IsLive}
-use Rattle.ftp_laws.proofs.Grants.{granted-free}
-use Rattle.ftp_laws.proofs.Laws.{history-other, history-own, session-other, session-own, session_by}
-use Rattle.ftp_laws.proofs.Entries.{right-past}
+use Rattle.ftp_laws.proofs.SubjectLemmas.{no-stop, named-one, one-concerns}
+use Rattle.ftp_laws.proofs.ClassLemmas.{awaits-is, queues-is, ending-empties, opened-is}
+use Rattle.ftp_laws.proofs.DecisionLemmas.{IsLive}
+use Rattle.ftp_laws.proofs.GrantLemmas.{granted-free}
+use Rattle.ftp_laws.proofs.QuestionLemmas.{history-other, history-own, session-other, session-own, session_by}
+use Rattle.ftp_laws.proofs.EntryLemmas.{right-past}
 use Rattle.ftp_laws.proofs.Cases.{by_test, by_option, by_part}
 
 -- the ticket of a transfer that was queued

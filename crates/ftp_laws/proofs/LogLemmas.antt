@@ -4,7 +4,7 @@ use Rattle.ftp_events.specs.declared.event.HubEvent.{HubEvent}
 use Rattle.ftp_events.specs.Right.{with_decision, next_entry, log_of, events_of}
 use Rattle.ftp_events.specs.Isolation.{IsApart}
 use Rattle.ftp_laws.proofs.Common.{IpAddr, Options, is_legacy, Action, Entry, Answer, decide, acts, IsRight, IsActed, client_log}
-use Rattle.ftp_laws.proofs.Decided.{client-right}
+use Rattle.ftp_laws.proofs.ClientLemmas.{client-right}
 
 -- the actions of an entry do not hang on the actions that it has
 pub acts-bare :

@@ -10,12 +10,12 @@ use Rattle.ftp_events.specs.declared.event.EventKind.TheVariants.{Rest, End}
 use Rattle.ftp_events.specs.Place.{offset_by}
 use Rattle.ftp_events.specs.Transfer.{moves_file}
 use Rattle.ftp_laws.proofs.Common.{Options, Ticket, Decision, Entry, Answer, EventKind, Session, past_of, is_refusal, named_session, decide, concerns, opens, IsRight, lives_on, session, running_job}
-use Rattle.ftp_laws.proofs.Subjects.{named-concerns}
+use Rattle.ftp_laws.proofs.SubjectLemmas.{named-concerns}
 use Rattle.ftp_laws.specs.Offsets.{TakesRest, EndsWell}
-use Rattle.ftp_laws.proofs.Laws.{counting-refused, counting-counts, session-own, session-other, session_by}
-use Rattle.ftp_laws.proofs.Holds.{live-unopened}
-use Rattle.ftp_laws.proofs.Lanes.{named-concern}
-use Rattle.ftp_laws.proofs.Tickets.{IsEnd, finished-known}
+use Rattle.ftp_laws.proofs.QuestionLemmas.{counting-refused, counting-counts, session-own, session-other, session_by}
+use Rattle.ftp_laws.proofs.HoldLemmas.{live-unopened}
+use Rattle.ftp_laws.proofs.LaneLemmas.{named-concern}
+use Rattle.ftp_laws.proofs.BalanceLemmas.{IsEnd, finished-known}
 
 -- a value that is there in one case
 pub or-some : (b : Bool) (x y : ℕ) → unwrap_or (then_some b x) y ≡ cond b x y

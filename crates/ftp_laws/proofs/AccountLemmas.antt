@@ -11,16 +11,16 @@ use Rattle.ftp_events.specs.CommandRows.{can_queue}
 use Rattle.ftp_events.specs.Transfer.{same_ticket}
 use Rattle.ftp_events.specs.History.{Nobody, One, All}
 use Rattle.ftp_laws.proofs.Common.{Subject, slot_move, Options, Running, Ticket, Entry, Pending, Session, Slot, named_session, is_refusal, is_used, subject, concerns, history, Lane, drops, queued_in, lane, session, running_job, due, acts_of, drop_acts, stays, slot_of, pending_in, starting, is_pending}
-use Rattle.ftp_laws.proofs.Subjects.{no-stop, concerned, one-concerns, named-one, not-all, named-concerns}
+use Rattle.ftp_laws.proofs.SubjectLemmas.{no-stop, concerned, one-concerns, named-one, not-all, named-concerns}
 use Rattle.ftp_laws.specs.Fates.{queues, settles}
 use Rattle.ftp_laws.proofs.TicketLemmas.{same_ticket-other}
-use Rattle.ftp_laws.proofs.Classes.{queues-is, finishes-is, queued-as}
-use Rattle.ftp_laws.proofs.Laws.{session-told}
-use Rattle.ftp_laws.proofs.Holds.{live-used}
-use Rattle.ftp_laws.proofs.Lanes.{IsQueue, queued-live, named-concern, IsBare}
-use Rattle.ftp_laws.proofs.Sound.{IsSound, queue-made}
-use Rattle.ftp_laws.proofs.Counts.{count-about, count-nobody, count-completions}
-use Rattle.ftp_laws.proofs.Tickets.{one, settles-on-transfers, settles-on-cancelled, count-start_acts, settles-drop_acts, IsEnd, finished-known, IsFit, lost}
+use Rattle.ftp_laws.proofs.ClassLemmas.{queues-is, finishes-is, queued-as}
+use Rattle.ftp_laws.proofs.QuestionLemmas.{session-told}
+use Rattle.ftp_laws.proofs.HoldLemmas.{live-used}
+use Rattle.ftp_laws.proofs.LaneLemmas.{IsQueue, queued-live, named-concern, IsBare}
+use Rattle.ftp_laws.proofs.SoundLemmas.{IsSound, queue-made}
+use Rattle.ftp_laws.proofs.CountLemmas.{count-about, count-nobody, count-completions}
+use Rattle.ftp_laws.proofs.BalanceLemmas.{one, settles-on-transfers, settles-on-cancelled, count-start_acts, settles-drop_acts, IsEnd, finished-known, IsFit, lost}
 
 -- the slot and the transfer of a session, as its history tells them, also where it is not live
 pub slot-told :

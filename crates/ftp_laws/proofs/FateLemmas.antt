@@ -14,16 +14,16 @@ use Rattle.ftp_events.specs.History.{Nobody}
 use Rattle.ftp_laws.proofs.Common.{Options, Ticket, Action, Decision, Entry, Pending, Session, Slot, is_number, is_refusal, past_of, is_used, new_number, subject, concerns, opens, history, Lane, queued_in, lane, session, running_job, due, acts_of, stays, pending_in, IsRight, IsActed, is_pending, Running}
 use Rattle.ftp_laws.specs.Fates.{queues, was_queued, queue_count, settles, settle_count}
 use Rattle.ftp_laws.proofs.TicketLemmas.{same_ticket-refl}
-use Rattle.ftp_laws.proofs.Classes.{opened-is}
-use Rattle.ftp_laws.proofs.Laws.{history-other, history-own, lane-opened}
-use Rattle.ftp_laws.proofs.Holds.{opened-fresh}
-use Rattle.ftp_laws.proofs.Waits.{opened-nobody}
-use Rattle.ftp_laws.proofs.Lanes.{IsBare, ended-empty}
-use Rattle.ftp_laws.proofs.Counts.{count-nobody, CountsTest, counts-one, counts-or, counts-same, counts-any}
-use Rattle.ftp_laws.proofs.Tickets.{one, carried, lane-balance}
-use Rattle.ftp_laws.proofs.Sound.{IsSound, sound}
-use Rattle.ftp_laws.proofs.Accounts.{slot-told, IsNext, queues-next, entry-fit, settles-elsewhere, settles-here}
-use Rattle.ftp_laws.proofs.Entries.{acted-past}
+use Rattle.ftp_laws.proofs.ClassLemmas.{opened-is}
+use Rattle.ftp_laws.proofs.QuestionLemmas.{history-other, history-own, lane-opened}
+use Rattle.ftp_laws.proofs.HoldLemmas.{opened-fresh}
+use Rattle.ftp_laws.proofs.PortLemmas.{opened-nobody}
+use Rattle.ftp_laws.proofs.LaneLemmas.{IsBare, ended-empty}
+use Rattle.ftp_laws.proofs.CountLemmas.{count-nobody, CountsTest, counts-one, counts-or, counts-same, counts-any}
+use Rattle.ftp_laws.proofs.BalanceLemmas.{one, carried, lane-balance}
+use Rattle.ftp_laws.proofs.SoundLemmas.{IsSound, sound}
+use Rattle.ftp_laws.proofs.AccountLemmas.{slot-told, IsNext, queues-next, entry-fit, settles-elsewhere, settles-here}
+use Rattle.ftp_laws.proofs.EntryLemmas.{acted-past}
 use Rattle.ftp_laws.proofs.Cases.{by_part}
 
 -- a transfer that was queued once waits, runs or was settled once

@@ -18,10 +18,10 @@ use Rattle.ftp_events.specs.Isolation.{owner, is_own, numbers_in, own_numbers, I
 use Rattle.ftp_events.specs.History.{Nobody, One, All, one_or_nobody}
 use Rattle.ftp_events.specs.Classes.{is_stop}
 use Rattle.ftp_laws.proofs.Common.{Subject, subject_acts, IpAddr, same_ip, Options, is_legacy, Decision, Entry, EventKind, Opening, Session, past_of, is_refusal, is_used, named_session, target, holder, holder_of_target, subject, session, due, decide, acts, acts_of, IsRight, IsActed, client_log}
-use Rattle.ftp_laws.proofs.Subjects.{no-stop, one-meant, not-all}
-use Rattle.ftp_laws.proofs.Laws.{session-told}
-use Rattle.ftp_laws.proofs.Holds.{same_ip-equal, ComesFor, comes-for, names-itself}
-use Rattle.ftp_laws.proofs.Isolated.{Alike, alike, is_of, is_kept, kept-name, kept-target, kept-comes, sessions-alike, jobs-alike, holder-of, used-alike, foreign-stays}
+use Rattle.ftp_laws.proofs.SubjectLemmas.{no-stop, one-meant, not-all}
+use Rattle.ftp_laws.proofs.QuestionLemmas.{session-told}
+use Rattle.ftp_laws.proofs.HoldLemmas.{same_ip-equal, ComesFor, comes-for, names-itself}
+use Rattle.ftp_laws.proofs.IsolationLemmas.{Alike, alike, is_of, is_kept, kept-name, kept-target, kept-comes, sessions-alike, jobs-alike, holder-of, used-alike, foreign-stays}
 
 -- what an event of client a reads is the same in both pasts
 pub record ReadsAlike (o : Options) (P K : List Entry) (a : IpAddr) (k : EventKind) : Type 0 where

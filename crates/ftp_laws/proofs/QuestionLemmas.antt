@@ -8,7 +8,7 @@ use Rattle.ftp_events.specs.declared.session.Slot.TheVariants.{Empty}
 use Rattle.ftp_events.specs.Notices.{is_notice_to}
 use Rattle.ftp_events.specs.Session.{session_after, is_live, session_by_history, next_lane, new_session}
 use Rattle.ftp_laws.proofs.Common.{Options, Running, Entry, Session, Opening, is_refusal, past_of, opened_number, opening_by, opener, concerns, opens, history, lane, lives_on, session, running_job, Lane}
-use Rattle.ftp_laws.proofs.Classes.{opened-is}
+use Rattle.ftp_laws.proofs.ClassLemmas.{opened-is}
 
 -- a refused entry is not in the past
 pub counting-refused :

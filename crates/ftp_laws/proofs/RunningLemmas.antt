@@ -6,10 +6,10 @@ use Rattle.ftp_events.specs.declared.decision.SlotMove.TheVariants.{Links, Queue
 use Rattle.ftp_events.specs.declared.session.Slot.TheVariants.{Empty, Waits, Linked}
 use Rattle.ftp_events.specs.Slot.{startable}
 use Rattle.ftp_laws.proofs.Common.{SlotMove, slot_move, moved, starts_by, Options, Running, Entry, Pending, Session, Slot, is_number, is_used, new_number, past_of, history, Lane, with_link, lane_of, queued_in, lane, session, running_job, IsRight}
-use Rattle.ftp_laws.proofs.Entries.{past-more, history-more}
-use Rattle.ftp_laws.proofs.Holds.{live-used, opened-new}
-use Rattle.ftp_laws.proofs.Lanes.{ended-empty}
-use Rattle.ftp_laws.proofs.Tickets.{finishes}
+use Rattle.ftp_laws.proofs.EntryLemmas.{past-more, history-more}
+use Rattle.ftp_laws.proofs.HoldLemmas.{live-used, opened-new}
+use Rattle.ftp_laws.proofs.LaneLemmas.{ended-empty}
+use Rattle.ftp_laws.proofs.BalanceLemmas.{finishes}
 
 -- the job of a slot from which one can start is the one that starts, or that ran
 pub runs-started :

@@ -13,10 +13,10 @@ use Rattle.ftp_events.specs.Slot.{asked_command}
 use Rattle.ftp_events.specs.Transfer.{pending_of}
 use Rattle.ftp_laws.proofs.Common.{SlotMove, slot_move, empties, moved, Options, Running, Ticket, Decision, Entry, Pending, Session, Slot, new_number, past_of, concerns, history, Lane, with_link, lane_of, lane_after, queued_in, lane, session, due, IsRight}
 use Rattle.ftp_laws.specs.Transfers.{transfer_of}
-use Rattle.ftp_laws.proofs.Classes.{queues-is, opened-is}
-use Rattle.ftp_laws.proofs.Laws.{session-told}
-use Rattle.ftp_laws.proofs.Lanes.{IsQueue, queued-live, named-concern, queue-placed}
-use Rattle.ftp_laws.proofs.Entries.{right-history}
+use Rattle.ftp_laws.proofs.ClassLemmas.{queues-is, opened-is}
+use Rattle.ftp_laws.proofs.QuestionLemmas.{session-told}
+use Rattle.ftp_laws.proofs.LaneLemmas.{IsQueue, queued-live, named-concern, queue-placed}
+use Rattle.ftp_laws.proofs.EntryLemmas.{right-history}
 
 -- the transfer that waits in a slot, and the one that runs, are of one kind
 pub record AllOf (Q : Pending → Type 0) (l : Lane) : Type 0 where
