@@ -31,6 +31,7 @@ pub mod JobLemmas
 pub mod LinkOriginLemmas
 pub mod WaitLemmas
 pub mod TransferLemmas
+pub mod EndingLemmas
 pub mod CensusLemmas
 pub mod ReplyLemmas
 mod Premises
