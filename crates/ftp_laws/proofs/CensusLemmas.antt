@@ -146,7 +146,7 @@ live-step o past e fit h = go (life e.decision) refl
 
     ending : life e.decision ≡ Ends → HasCensus (live_in o (e ∷ past)) (live_count (e ∷ past))
     ending x =
-        let alive : IsLive o past e.event.kind = ending-live o past e.event.at e.event.kind e.answer (ap (λ d. ends (life d)) (sym fit) ∙ ap ends x) in
+        let alive : IsLive o past e.event.kind = ending-live o past e.event.at e.event.kind e.answer (no-stop (due o past e.event.at e.event.kind e.answer)) (ap (λ d. ends (life d)) (sym fit) ∙ ap ends x) in
         let s : ℕ = alive.number in
         let about : subject o past e ≡ One s = named-one o past e s (no-stop e.decision) alive.named in
         let here : opens e s ≡ false = unopened s (λ y. let z : Ends ≡ Opens = sym x ∙ y in cc) in

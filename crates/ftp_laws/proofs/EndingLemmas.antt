@@ -1,10 +1,11 @@
--- Only a live session ends.
+-- Only a live session ends, but for a stop.
 use Rattle.std.proofs.Common.{◌≡◌, refl, sym, ◌∙◌, ℕ, Bool, true, false, true≢false, not, ◌&&◌, ◌||◌, cond, List, Option, Some, None}
 use Rattle.std.specs.Option.{option_and_then, option_map_or}
 use Rattle.ftp_base.specs.declared.net.SocketAddr.{SocketAddr}
 use Rattle.ftp_base.specs.Net.{same_ip, is_v6}
 use Rattle.ftp_transfer.specs.Transfer.{suits}
 use Rattle.ftp_options.specs.Modes.{is_pooled}
+use Rattle.ftp_events.specs.Classes.{is_stop}
 use Rattle.ftp_events.specs.Transfer.{same_ticket}
 use Rattle.ftp_events.specs.Modes.{in_range}
 use Rattle.ftp_events.specs.declared.decision.Decision.TheVariants as decision
@@ -66,11 +67,11 @@ row-live o past k (Some s) row named h = go (session o past s) refl h
     go None x y = cc
     go (Some v) x y = record { number = s; session_then = v; named = named; known = x }
 
--- only a live session ends
+-- what is no stop ends only a live session
 pub ending-live :
     (o : Options) (past : List Entry) (at : ℕ) (k : EventKind) (answer : Answer) →
-    ends (life (due o past at k answer)) ≡ true → IsLive o past k
-ending-live o past at (kind.Connect s raw local trace) answer h = absurd (true≢false (sym h ∙ (connect-none o past s raw local).none))
-ending-live o past at (kind.DataIn number raw port) answer h = absurd (true≢false (sym h ∙ (arrival-none o past number raw port).none))
-ending-live o past at (kind.End t) answer h = absurd (true≢false (sym h ∙ (end-none t answer (running_job o past t.session)).none))
-ending-live o past at k answer h = row-live o past k (named_session k) (λ v. command_row o (holder o past v.opening.client) k v) refl h
+    is_stop (due o past at k answer) ≡ false → ends (life (due o past at k answer)) ≡ true → IsLive o past k
+ending-live o past at (kind.Connect s raw local trace) answer plain h = absurd (true≢false (sym h ∙ (connect-none o past s raw local).none))
+ending-live o past at (kind.DataIn number raw port) answer plain h = absurd (true≢false (sym h ∙ (arrival-none o past number raw port).none))
+ending-live o past at (kind.End t) answer plain h = absurd (true≢false (sym h ∙ (end-none t answer (running_job o past t.session)).none))
+ending-live o past at k answer plain h = row-live o past k (named_session k) (λ v. command_row o (holder o past v.opening.client) k v) refl h
