@@ -20,8 +20,8 @@ use Rattle.ftp_events.specs.Running.{running_after}
 use Rattle.ftp_events.specs.Session.{session, running_job, lives_on, session_after, next_lane, live_after}
 use Rattle.ftp_events.specs.Decide.{decide}
 use Rattle.ftp_events.specs.Acts.{session_acts, acts_of, acts}
-use Rattle.ftp_laws.proofs.Laws.{counting-counts, session_by}
-use Rattle.ftp_laws.proofs.Tables.{IsAbout, session-about, running-about}
+use Rattle.ftp_laws.proofs.QuestionLemmas.{counting-counts, session_by}
+use Rattle.ftp_laws.proofs.TableLemmas.{IsAbout, session-about, running-about}
 use Rattle.ftp_hub.specs.declared.hub.Hub.{Hub}
 use Rattle.ftp_handlers.specs.Handlers.{notices_of}
 use Rattle.ftp_hub.specs.Stands.{Tables, Stands, Serves, entry}

@@ -25,9 +25,9 @@ use Rattle.ftp_events.specs.Session.{session}
 use Rattle.ftp_events.specs.ConnectionRows.{connect_row}
 use Rattle.ftp_events.specs.Decide.{due, decide}
 use Rattle.ftp_events.specs.Right.{IsRight}
-use Rattle.ftp_laws.proofs.Laws.{session-told}
-use Rattle.ftp_laws.proofs.Told.{opened-is}
-use Rattle.ftp_laws.proofs.Entries.{past-more}
+use Rattle.ftp_laws.proofs.QuestionLemmas.{session-told}
+use Rattle.ftp_laws.proofs.ClassLemmas.{opened-is}
+use Rattle.ftp_laws.proofs.EntryLemmas.{past-more}
 
 -- where sessions share the ports, none has a listener of its own
 pub pooled-shared : (m : ListenerMode) → is_pooled m ≡ true → is_legacy m ≡ false

@@ -25,9 +25,9 @@ use Rattle.ftp_events.specs.Reply.{path_of_job}
 use Rattle.ftp_events.specs.Transfer.{moves_file}
 use Rattle.ftp_events.specs.Acts.{notice_for, session_acts, acts_of, acts}
 use Rattle.ftp_events.specs.Right.{IsActed}
-use Rattle.ftp_laws.proofs.Notices as law
+use Rattle.ftp_laws.proofs.NoticeLemmas as law
 use Rattle.ftp_handlers.specs.Handlers.{notices_of}
-use Rattle.ftp_laws.proofs.Entries.{past-more, history-more}
+use Rattle.ftp_laws.proofs.EntryLemmas.{past-more, history-more}
 
 -- the message of an outcome notifies where a file was moved
 told-outcome : (path : List ℕ) (outcome : Outcome) (n : ℕ) (c : Completion) → length {A = ℕ × Notice} (option_map_or (λ what. (n + 1, what) ∷ []) (notice_for (Some (message_of_outcome path outcome c)) None) []) ≡ cond (moves_file c) 1 0
@@ -44,7 +44,7 @@ told-live k answer _ job v = refl
 
 -- an entry about a live session sends it the notice of its decision
 pub count-session_acts : (o : Options) (s : ℕ) (k : EventKind) (answer : Answer) (d : Decision) (job : Option Running) (v : Session) → count_by (is_notice_to s) (session_acts o s k answer d job (Some v)) ≡ notices_of d answer
-count-session_acts o s k answer d job v = law.count-session_acts o s s k answer d job (Some v) ∙ rw (eq-eqb s s refl) (told-live k answer d job v)
+count-session_acts o s k answer d job v = law.count-notices o s s k answer d job (Some v) ∙ rw (eq-eqb s s refl) (told-live k answer d job v)
 
 -- what is there or not is one at most
 one-most : (b : Bool) → cond b 1 0 ≤ 1

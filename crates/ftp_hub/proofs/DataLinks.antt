@@ -28,9 +28,9 @@ use Rattle.ftp_events.specs.Session.{session, running_job, session_after, next_l
 use Rattle.ftp_events.specs.ConnectionRows.{arrival_row, holder_row}
 use Rattle.ftp_events.specs.Decide.{decide}
 use Rattle.ftp_events.specs.Acts.{session_acts, starting, acts}
-use Rattle.ftp_laws.proofs.Laws.{running-other, session-other}
-use Rattle.ftp_laws.proofs.Holds.{WaitsFor, holder-waits}
-use Rattle.ftp_laws.proofs.Tables.{IsAbout, holder-arrived, arrival-about, eq-comm, same-both}
+use Rattle.ftp_laws.proofs.QuestionLemmas.{running-other, session-other}
+use Rattle.ftp_laws.proofs.HoldLemmas.{WaitsFor, holder-waits}
+use Rattle.ftp_laws.proofs.TableLemmas.{IsAbout, holder-arrived, arrival-about, eq-comm, same-both}
 use Rattle.ftp_hub.specs.declared.hub.Hub.{Hub}
 use Rattle.ftp_hub.specs.Arrivals.{arrival_of}
 use Rattle.ftp_handlers.specs.Handlers.{Jobs, Starts, notices_of}

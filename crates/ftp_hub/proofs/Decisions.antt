@@ -19,9 +19,9 @@ use Rattle.ftp_events.specs.Running.{ended, running_after}
 use Rattle.ftp_events.specs.Session.{lives_on, session_after, queued_for, lane_in, next_lane, live_after}
 use Rattle.ftp_events.specs.Acts.{session_acts, starting, stays}
 use Rattle.ftp_handlers.specs.Handlers.{Jobs, Starts, held_after, notices_of}
-use Rattle.ftp_laws.proofs.Tables.{same-both}
-use Rattle.ftp_laws.proofs.Tickets.{is_finished}
-use Rattle.ftp_laws.proofs.Running.{no-completion, running-after}
+use Rattle.ftp_laws.proofs.TableLemmas.{same-both}
+use Rattle.ftp_laws.proofs.BalanceLemmas.{is_finished, no-completion}
+use Rattle.ftp_laws.proofs.RunningLemmas.{running-after}
 use Rattle.ftp_hub.proofs.Running.{IsIdle, count-start, running-acts}
 
 -- a decision that neither opens a session nor ends one, grants no port, is no refusal and no end of a transfer, and sends its session no notice

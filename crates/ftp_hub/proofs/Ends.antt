@@ -36,13 +36,13 @@ use Rattle.ftp_events.specs.EndRows.{end_row}
 use Rattle.ftp_events.specs.Transfer.{same_ticket}
 use Rattle.ftp_events.specs.Decide.{decide}
 use Rattle.ftp_events.specs.Acts.{session_acts, starting, acts}
-use Rattle.ftp_laws.proofs.Laws.{counting-counts, history-own, running-other, session-other}
-use Rattle.ftp_laws.proofs.Lanes.{ended-empty}
-use Rattle.ftp_laws.proofs.Tables.{holder-named}
+use Rattle.ftp_laws.proofs.QuestionLemmas.{counting-counts, history-own, running-other, session-other}
+use Rattle.ftp_laws.proofs.LaneLemmas.{ended-empty}
+use Rattle.ftp_laws.proofs.TableLemmas.{holder-named}
 use Rattle.ftp_hub.specs.declared.hub.Hub.{Hub}
 use Rattle.ftp_handlers.specs.Handlers.{Jobs, Starts, is_transfer}
 use Rattle.ftp_hub.specs.Stands.{Tables, Stands, Serves, entry}
-use Rattle.ftp_laws.proofs.Running.{runs-started}
+use Rattle.ftp_laws.proofs.RunningLemmas.{runs-started}
 use Rattle.ftp_hub.proofs.Running.{count-start, running-acts}
 use Rattle.ftp_hub.proofs.Decisions.{Comes}
 use Rattle.ftp_hub.proofs.Commands.{is_end}

@@ -31,9 +31,9 @@ use Rattle.ftp_events.specs.Slot.{Lane, drops, lane, lane_of, lane_after, queued
 use Rattle.ftp_events.specs.Session.{session, running_job}
 use Rattle.ftp_events.specs.Decide.{due, decide}
 use Rattle.ftp_events.specs.Right.{IsRight}
-use Rattle.ftp_laws.proofs.Entries.{past-more, history-more}
-use Rattle.ftp_laws.proofs.Lanes.{ended-empty}
-use Rattle.ftp_laws.proofs.Laws.{session-told}
+use Rattle.ftp_laws.proofs.EntryLemmas.{past-more, history-more}
+use Rattle.ftp_laws.proofs.LaneLemmas.{ended-empty}
+use Rattle.ftp_laws.proofs.QuestionLemmas.{session-told}
 use Rattle.ftp_hub.specs.declared.hub.Hub.{Hub}
 use Rattle.ftp_hub.specs.Runs.{has_link_of, is_linked}
 use Rattle.ftp_hub.specs.Stands.{Stands, job_for}

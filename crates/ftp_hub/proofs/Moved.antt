@@ -16,7 +16,7 @@ use Rattle.ftp_events.specs.Acts.{session_acts, starting}
 use Rattle.ftp_events.specs.Running.{running_after}
 use Rattle.ftp_events.specs.Session.{lives_on, live_after, next_lane, session_after}
 use Rattle.ftp_events.specs.Slot.{waiting_port}
-use Rattle.ftp_laws.proofs.Tickets.{is_finished}
+use Rattle.ftp_laws.proofs.BalanceLemmas.{is_finished}
 use Rattle.ftp_handlers.specs.Handlers.{Jobs, Starts, held_after, notices_of}
 use Rattle.ftp_hub.specs.declared.hub.Hub.{Hub}
 use Rattle.ftp_hub.proofs.Decisions.{jobs-idle, jobs-started, running-started}

@@ -31,10 +31,10 @@ use Rattle.ftp_events.specs.Slot.{waiting_port}
 use Rattle.ftp_events.specs.Session.{session, lives_on, session_after, next_lane, live_after}
 use Rattle.ftp_events.specs.Decide.{decide}
 use Rattle.ftp_events.specs.Acts.{session_acts}
-use Rattle.ftp_laws.proofs.Laws.{session-told}
-use Rattle.ftp_laws.proofs.Holds.{WaitsFor, holder-waits, same_ip-equal}
-use Rattle.ftp_laws.proofs.Waits.{named-target}
-use Rattle.ftp_laws.proofs.Tables.{IsNamed, holder-named, holder-granted, and-zero, eq-comm, same-both}
+use Rattle.ftp_laws.proofs.QuestionLemmas.{session-told}
+use Rattle.ftp_laws.proofs.HoldLemmas.{WaitsFor, holder-waits, same_ip-equal}
+use Rattle.ftp_laws.proofs.PortLemmas.{named-target}
+use Rattle.ftp_laws.proofs.TableLemmas.{IsNamed, holder-named, holder-granted, and-zero, eq-comm, same-both}
 use Rattle.ftp_hub.specs.declared.hub.Hub.{Hub}
 use Rattle.ftp_handlers.specs.Handlers.{IsFew, held_after, notices_of}
 use Rattle.ftp_hub.specs.Stands.{Stands, Serves, entry}

@@ -23,13 +23,13 @@ use Rattle.ftp_events.specs.Slot.{lane}
 use Rattle.ftp_events.specs.Session.{session, running_job, is_live, new_session}
 use Rattle.ftp_events.specs.Decide.{decide}
 use Rattle.ftp_events.specs.Acts.{acts}
-use Rattle.ftp_laws.proofs.Laws.{counting-counts, running-other, session-other, session-opened}
-use Rattle.ftp_laws.proofs.Tables.{holder-other, same-both}
-use Rattle.ftp_laws.proofs.Told.{unused-opener}
+use Rattle.ftp_laws.proofs.QuestionLemmas.{counting-counts, running-other, session-other, session-opened}
+use Rattle.ftp_laws.proofs.TableLemmas.{holder-other, same-both}
+use Rattle.ftp_laws.proofs.NotificationLemmas.{unused-opener}
 use Rattle.ftp_hub.specs.declared.hub.Hub.{Hub}
 use Rattle.ftp_handlers.specs.Handlers.{Jobs}
 use Rattle.ftp_hub.specs.Stands.{Tables, Stands, Serves, entry}
-use Rattle.ftp_laws.proofs.Running.{unused-idle}
+use Rattle.ftp_laws.proofs.RunningLemmas.{unused-idle}
 use Rattle.ftp_hub.proofs.Running.{running-none}
 
 -- an unused number is that of no session

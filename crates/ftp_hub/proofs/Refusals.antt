@@ -13,7 +13,7 @@ use Rattle.ftp_events.specs.Session.{session, running_job}
 use Rattle.ftp_events.specs.Decide.{decide}
 use Rattle.ftp_events.specs.Acts.{acts}
 use Rattle.ftp_events.specs.Right.{IsRight, IsActed}
-use Rattle.ftp_laws.proofs.Laws.{counting-refused}
+use Rattle.ftp_laws.proofs.QuestionLemmas.{counting-refused}
 use Rattle.ftp_hub.specs.declared.hub.Hub.{Hub}
 use Rattle.ftp_hub.specs.Stands.{Tables, Stands, Serves, SameTables, SameAnswers, entry}
 

@@ -11,8 +11,8 @@ use Rattle.ftp_events.specs.Classes.{life, slot_move}
 use Rattle.ftp_events.specs.Log.{new_number}
 use Rattle.ftp_events.specs.Session.{lives_on, live_after, live_by_life, told_of_life}
 use Rattle.ftp_events.specs.Slot.{Lane, starts_by}
-use Rattle.ftp_laws.proofs.Subjects.{no-stop}
-use Rattle.ftp_laws.proofs.Tickets.{finishes}
+use Rattle.ftp_laws.proofs.SubjectLemmas.{no-stop}
+use Rattle.ftp_laws.proofs.BalanceLemmas.{finishes}
 use Rattle.ftp_handlers.specs.Handlers.{goes_on, is_quiet}
 use Rattle.ftp_hub.proofs.Running.{IsIdle}
 

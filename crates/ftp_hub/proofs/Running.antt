@@ -16,16 +16,15 @@ use Rattle.ftp_events.specs.declared.session.Pending.{Pending}
 use Rattle.ftp_events.specs.declared.session.Session.{Session}
 use Rattle.ftp_events.specs.Words.{total}
 use Rattle.ftp_events.specs.Slot.{Lane, started_by}
-use Rattle.ftp_laws.proofs.Counts.{IsOnTransfers, count-drop_acts, count-session_acts}
-use Rattle.ftp_laws.proofs.Tickets.{is_finished}
-use Rattle.ftp_laws.proofs.Running.{no-completion}
+use Rattle.ftp_laws.proofs.CountLemmas.{IsOnTransfers, count-drop_acts, count-session_acts}
+use Rattle.ftp_laws.proofs.BalanceLemmas.{is_finished, no-completion}
 use Rattle.ftp_events.specs.Acts.{completions, session_acts, start_acts, starting, stays}
 use Rattle.ftp_events.specs.Running.{ended, started, running_after}
 
 -- a count in which an action is one or nothing, and only what becomes of transfers is one, but no cancellation
 record TellsJobs (f : Action → ℕ) : Type 0 where
   once : (x : Action) → cond (f x == 1) 1 0 ≡ f x
-  transfers : IsOnTransfers (λ x. f x == 1)
+  transfers : (s : ℕ) → IsOnTransfers s (λ x. f x == 1)
   drops : (t : Ticket) → (f (action.Cancelled t) == 1) ≡ false
 
 -- the ends of jobs are counted so
@@ -33,7 +32,7 @@ ended-tells : TellsJobs ended
 ended-tells =
     record {
       once = ended-once;
-      transfers = record { closes = λ n. refl; notifies = λ s meta what. refl; replies = λ s delay r. refl };
+      transfers = λ s. record { closes = λ n. refl; notifies = λ meta what. refl; replies = λ delay r. refl };
       drops = λ t. refl;
     }
   where
@@ -46,7 +45,7 @@ started-tells : TellsJobs started
 started-tells =
     record {
       once = started-once;
-      transfers = record { closes = λ n. refl; notifies = λ s meta what. refl; replies = λ s delay r. refl };
+      transfers = λ s. record { closes = λ n. refl; notifies = λ meta what. refl; replies = λ delay r. refl };
       drops = λ t. refl;
     }
   where
@@ -69,8 +68,8 @@ total-acts f o s k answer d job v t =
       total-counted f t (session_acts o s k answer d job (Some v)),
       total-counted f t (completions k d (stays d (Some v))),
       total-counted f t (start_acts (starting k d job v)),
-      count-session_acts (λ x. f x == 1) o s k answer d job (Some v) t.transfers,
-      count-drop_acts (λ x. f x == 1) s (stays d (Some v)) d v.slot v.pending t.transfers t.drops,
+      count-session_acts (λ x. f x == 1) o s k answer d job (Some v) (t.transfers s),
+      count-drop_acts (λ x. f x == 1) s (stays d (Some v)) d v.slot v.pending (t.transfers s) t.drops,
     )
 
 -- a session's actions end the job that completes, and start the one that starts

@@ -8,7 +8,7 @@ use Rattle.ftp_events.specs.Leads.{Views, Outside, LeadsOne, Leads}
 use Rattle.ftp_events.specs.Log.{past_of}
 use Rattle.ftp_events.specs.Right.{IsRight, IsActed}
 use Rattle.ftp_events.specs.Headline.{IsServed, AllServed}
-use Rattle.ftp_laws.proofs.Served.{all-served}
+use Rattle.ftp_laws.proofs.ServiceLemmas.{all-served}
 use Rattle.ftp_hub.specs.declared.hub.Hub.{Hub}
 use Rattle.ftp_hub.specs.Headline.{IsFresh, Headline}
 use Rattle.ftp_hub.specs.Runs.{GoesOn, LeadsOn}

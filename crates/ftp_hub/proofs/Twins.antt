@@ -35,7 +35,7 @@ use Rattle.ftp_events.specs.Reply.{delay_of, message_for, reply_for}
 use Rattle.ftp_events.specs.Session.{session, running_job}
 use Rattle.ftp_events.specs.Slot.{asked_command, drops, startable, with_link}
 use Rattle.ftp_events.specs.Transfer.{pending_of}
-use Rattle.ftp_laws.proofs.Subjects.{no-stop, one-meant, by_subject}
+use Rattle.ftp_laws.proofs.SubjectLemmas.{no-stop, one-meant, by_subject}
 use Rattle.ftp_hub.specs.declared.hub.Hub.{Hub}
 use Rattle.ftp_handlers.specs.Handlers.{asked_for}
 use Rattle.ftp_hub.specs.Stands.{Stands, pending_for}

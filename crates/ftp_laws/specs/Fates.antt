@@ -1,5 +1,5 @@
 -- Which transfers there are, and what settles them.
-use Rattle.std.specs.Prelude.{ℕ, ◌≡◌, ◌||◌, Bool, true, false, List, count_by, IsSomeAnd}
+use Rattle.std.specs.Prelude.{ℕ, ◌≡◌, ◌||◌, Bool, true, false, List, count_by, IsSomeAnd, if◌then◌else◌}
 use Rattle.std.specs.List.{list_any}
 use Rattle.ftp_options.specs.declared.options.Options.{Options}
 use Rattle.ftp_transfer.specs.declared.job.Ticket.{Ticket}
@@ -28,6 +28,10 @@ queues t d = queues_it t (slot_move d)
 -- some entry queued it
 abbrev pub was_queued : Ticket → List Entry → Bool
 was_queued t log = list_any (λ e. queues t e.decision) log
+
+-- how often it was queued
+abbrev pub queue_count : Ticket → List Entry → ℕ
+queue_count t log = total (λ e. if queues t e.decision then 1 else 0) log
 
 -- the action completes or cancels the transfer
 abbrev pub settles : Ticket → Action → Bool

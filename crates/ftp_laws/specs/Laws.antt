@@ -1,5 +1,5 @@
 -- What holds of every right log, in plain words.
-use Rattle.std.specs.Prelude.{ℕ, ◌+◌, ◌≡◌, ◌≤◌, ◌↔◌, ◌⊎◌, List, ◌∷◌, map, length, true, false, Some, None, is_some, if◌then◌else◌}
+use Rattle.std.specs.Prelude.{ℕ, ◌+◌, ◌≡◌, ◌≤◌, ◌<◌, ◌↔◌, ◌⊎◌, List, [], ◌∷◌, map, length, true, false, Some, None, is_some, if◌then◌else◌}
 use Rattle.std.specs.List.{list_any, range_with_len}
 use Rattle.ftp_base.specs.declared.net.IpAddr.{IpAddr}
 use Rattle.ftp_options.specs.declared.options.Options.{Options}
@@ -12,23 +12,29 @@ use Rattle.ftp_events.specs.declared.event.Answer.{Answer}
 use Rattle.ftp_events.specs.declared.event.Answer.TheVariants.{Done}
 use Rattle.ftp_events.specs.declared.event.EventKind.TheVariants.{End}
 use Rattle.ftp_events.specs.declared.event.HubEvent.{HubEvent}
+use Rattle.ftp_events.specs.declared.session.Pending.{Pending}
+use Rattle.ftp_events.specs.declared.session.Running.{Running}
 use Rattle.ftp_events.specs.declared.session.Session.{Session}
 use Rattle.ftp_events.specs.Acts.{pending_in}
 use Rattle.ftp_events.specs.Board.{holder}
-use Rattle.ftp_events.specs.Fate.{cancels, settlement, is_running, is_pending, wait, fate}
+use Rattle.ftp_events.specs.Fate.{AwaitsConnection, AwaitsEarlierEnd, cancels, settlement, is_running, is_pending, wait, fate}
 use Rattle.ftp_events.specs.Headline.{AllServed}
 use Rattle.ftp_events.specs.History.{concerns}
 use Rattle.ftp_events.specs.Isolation.{client_log, IsApart}
 use Rattle.ftp_events.specs.Log.{past_of, is_refusal}
-use Rattle.ftp_events.specs.Right.{IsRight, IsActed, log_of, events_of}
-use Rattle.ftp_events.specs.Session.{session, running_job}
+use Rattle.ftp_events.specs.Right.{IsRight, IsActed, log_of, events_of, replies}
+use Rattle.ftp_events.specs.Running.{running_count}
+use Rattle.ftp_events.specs.Session.{session, running_job, live_count}
 use Rattle.ftp_events.specs.Transfer.{moves_file}
+use Rattle.ftp_laws.specs.Census.{IsCensus}
 use Rattle.ftp_laws.specs.Holds.{WaitsOn, EndsHold}
-use Rattle.ftp_laws.specs.Fates.{was_queued, settle_count, can_cancel, LosesSlot}
+use Rattle.ftp_laws.specs.Fates.{was_queued, queue_count, settle_count, can_cancel, LosesSlot}
 use Rattle.ftp_laws.specs.Jobs.{started_count, completed_count, starts_there, has_brought}
 use Rattle.ftp_laws.specs.Links.{start_count}
 use Rattle.ftp_laws.specs.Notices.{notices, NoneLoggedOut, LastLoggedOut, HasEnded}
 use Rattle.ftp_laws.specs.Offsets.{TakesRest, EndsWell}
+use Rattle.ftp_laws.specs.Replies.{was_opened}
+use Rattle.ftp_laws.specs.Transfers.{transfer_of, WasQueuedSo, was_started}
 
 -- whatever happens and is answered, there is a right and acted log of it
 abbrev pub RightLogsExist : Type 0
@@ -186,3 +192,70 @@ RunningAreInNoSlot =
     (o : Options) (log : List Entry) (t : Ticket) → IsRight o log → IsActed o log →
     is_running t (running_job o (past_of log) t.session) ≡ true →
     is_pending t (pending_in (session o (past_of log) t.session)) ≡ false
+
+-- a transfer is queued once at most
+abbrev pub QueuedOnce : Type 0
+QueuedOnce =
+    (o : Options) (log : List Entry) (t : Ticket) → IsRight o log → IsActed o log →
+    queue_count t log ≤ 1
+
+-- a transfer that runs was queued, and was neither completed nor cancelled
+abbrev pub RunningAreUnsettled : Type 0
+RunningAreUnsettled =
+    (o : Options) (log : List Entry) (s : ℕ) (r : Running) → IsRight o log → IsActed o log →
+    running_job o (past_of log) s ≡ Some r →
+    (was_queued r.job.ticket log ≡ true) × (settlement log r.job.ticket ≡ None)
+
+-- while a transfer waits for an earlier end, a transfer of its session with a smaller number runs
+abbrev pub EarlierEndsAreOfRunning : Type 0
+EarlierEndsAreOfRunning =
+    (o : Options) (log : List Entry) (t : Ticket) → IsRight o log →
+    fate o log t ≡ Some AwaitsEarlierEnd →
+    (r : Running) × (running_job o (past_of log) t.session ≡ Some r) × (r.job.ticket.session ≡ t.session) × (r.job.ticket.nr < t.nr)
+
+-- while a transfer waits for a connection, its session holds the port for which its slot waits
+abbrev pub AwaitedPortsAreHeld : Type 0
+AwaitedPortsAreHeld =
+    (o : Options) (log : List Entry) (t : Ticket) → is_legacy o.mode ≡ false → IsRight o log →
+    fate o log t ≡ Some AwaitsConnection →
+    (a : IpAddr) × (p : ℕ) × WaitsOn o (past_of log) t.session a p × (holder o (past_of log) a p ≡ Some t.session)
+
+-- a transfer that waits is as its entry queued it, for the session that it waits in
+abbrev pub WaitingAreAsQueued : Type 0
+WaitingAreAsQueued =
+    (o : Options) (log : List Entry) (s : ℕ) (p : Pending) → IsRight o log →
+    pending_in (session o (past_of log) s) ≡ Some p →
+    (p.ticket.session ≡ s) × WasQueuedSo o (past_of log) p
+
+-- so is one that runs
+abbrev pub RunningAreAsQueued : Type 0
+RunningAreAsQueued =
+    (o : Options) (log : List Entry) (s : ℕ) (r : Running) → IsRight o log →
+    running_job o (past_of log) s ≡ Some r →
+    (r.job.ticket.session ≡ s) × WasQueuedSo o (past_of log) (transfer_of r.job)
+
+-- a transfer that runs was started on the link of its job, and on no other
+abbrev pub RunningAreAsStarted : Type 0
+RunningAreAsStarted =
+    (o : Options) (log : List Entry) (s n : ℕ) (r : Running) → IsRight o log → IsActed o log →
+    running_job o (past_of log) s ≡ Some r →
+    (was_started r.job.ticket n log ≡ true) ↔ (n ≡ r.job.number)
+
+-- the count of live sessions is the length of a list that has each of them once, and nothing else
+abbrev pub LiveAreCounted : Type 0
+LiveAreCounted =
+    (o : Options) (log : List Entry) → IsRight o log →
+    (numbers : List ℕ) × IsCensus (λ s. is_some (session o (past_of log) s)) numbers × (live_count (past_of log) ≡ length numbers)
+
+-- the count of running jobs is that of a list of the sessions for which one runs
+abbrev pub RunningAreCounted : Type 0
+RunningAreCounted =
+    (o : Options) (log : List Entry) → IsRight o log → IsActed o log →
+    (numbers : List ℕ) × IsCensus (λ s. is_some (running_job o (past_of log) s)) numbers × (running_count (past_of log) ≡ length numbers)
+
+-- no reply goes to a number that no entry has opened as a session
+abbrev pub RepliesFollowOpenings : Type 0
+RepliesFollowOpenings =
+    (o : Options) (log : List Entry) (s : ℕ) → IsRight o log → IsActed o log →
+    was_opened s log ≡ false →
+    replies log s ≡ []

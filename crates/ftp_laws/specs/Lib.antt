@@ -4,4 +4,7 @@ pub mod Links
 pub mod Fates
 pub mod Offsets
 pub mod Jobs
+pub mod Transfers
+pub mod Census
+pub mod Replies
 pub mod Laws

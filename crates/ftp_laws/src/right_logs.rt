@@ -2,7 +2,9 @@
 ghost use Rattle.ftp_laws.specs.Laws.{RightLogsExist, RightLogsAreDetermined, RightLogsServe, HoldersWait, HoldsOnePort, HoldsEndOnlySo, EachEndsHold};
 ghost use Rattle.ftp_laws.specs.Laws.{NoticesAreNumbered, NoticesAreCounted, EndedAreLoggedOut, LiveAreNotLoggedOut, ClientsAreIsolated, ClientsAreAsIfAlone};
 ghost use Rattle.ftp_laws.specs.Laws.{LinksTakeOneJob, SessionsRunOneJob, StartsOnOwnLink, EndsSetOffset, OffsetsLast};
-ghost use Rattle.ftp_laws.specs.Laws.{QueuedHaveFates, SettledDoNotWait, SettledOnce, RunningAreInNoSlot, CancelledOnlySo, CancelledWithSlot};
+ghost use Rattle.ftp_laws.specs.Laws.{QueuedHaveFates, SettledDoNotWait, SettledOnce, QueuedOnce, RunningAreInNoSlot, RunningAreUnsettled, CancelledOnlySo, CancelledWithSlot};
+ghost use Rattle.ftp_laws.specs.Laws.{EarlierEndsAreOfRunning, AwaitedPortsAreHeld, WaitingAreAsQueued, RunningAreAsQueued, RunningAreAsStarted};
+ghost use Rattle.ftp_laws.specs.Laws.{LiveAreCounted, RunningAreCounted, RepliesFollowOpenings};
 
 /// There is one right and acted log for given events and answers.
 pub fn right_logs_are_determined()
@@ -52,12 +54,29 @@ pub fn sessions_run_one_job()
     ensures links { StartsOnOwnLink }
 {}
 
-/// Each transfer that was queued has one fate: it waits, it runs, or it was completed or cancelled, once.
+/// Each transfer was queued once and has one fate: it waits, it runs, or it was completed or cancelled, once.
 pub fn transfers_have_one_fate()
     ensures queued { QueuedHaveFates }
+    ensures queued_once { QueuedOnce }
     ensures settled { SettledDoNotWait }
     ensures once { SettledOnce }
     ensures apart { RunningAreInNoSlot }
+    ensures running { RunningAreUnsettled }
+{}
+
+/// A transfer that waits for an earlier end has an earlier transfer of its session running; one that waits for
+/// a connection has its session holding the port, where the sessions share the ports.
+pub fn transfers_wait_for_what_comes()
+    ensures earlier { EarlierEndsAreOfRunning }
+    ensures port { AwaitedPortsAreHeld }
+{}
+
+/// A transfer that waits or runs has the user, the command, the path and the offset that its session gave it when
+/// it was queued, and one that runs does so on the link on which it was started.
+pub fn transfers_are_fixed_when_queued()
+    ensures waiting { WaitingAreAsQueued }
+    ensures running { RunningAreAsQueued }
+    ensures link { RunningAreAsStarted }
 {}
 
 /// A transfer is cancelled exactly where its session loses the slot in which it waits: by another grant,
@@ -72,6 +91,17 @@ pub fn transfers_are_cancelled_with_their_slot()
 pub fn ends_set_offset()
     ensures offset { EndsSetOffset }
     ensures kept { OffsetsLast }
+{}
+
+/// The counts of live sessions and of running jobs are the numbers of those that there are.
+pub fn counts_are_exact()
+    ensures live { LiveAreCounted }
+    ensures running { RunningAreCounted }
+{}
+
+/// No reply goes to a number that no entry has opened as a session.
+pub fn replies_follow_openings()
+    ensures replies { RepliesFollowOpenings }
 {}
 
 /// The entries of one client address are right and acted by themselves, as if nobody else had been

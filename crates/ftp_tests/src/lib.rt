@@ -9,6 +9,8 @@ mod headline;
 #[cfg(test)]
 mod hub;
 #[cfg(test)]
+mod laws;
+#[cfg(test)]
 mod links;
 #[cfg(test)]
 mod logs;

@@ -13,7 +13,7 @@ use Rattle.ftp_events.specs.Acts.{notice_and_reply, session_acts, starting}
 use Rattle.ftp_events.specs.CommandRows.{can_queue, if_logged_in, is_logged_in, transfer_row}
 use Rattle.ftp_events.specs.Session.{session_after}
 use Rattle.ftp_handlers.specs.Handlers.{IsFew, Starts, number_of, with_queued}
-use Rattle.ftp_laws.proofs.Running.{no-completion}
+use Rattle.ftp_laws.proofs.BalanceLemmas.{no-completion}
 use Rattle.ftp_hub.proofs.Decisions.{starts-none}
 use Rattle.ftp_hub.proofs.jobs.queue.Goals as goal
 

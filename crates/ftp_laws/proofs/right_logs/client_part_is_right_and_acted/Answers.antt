@@ -1,5 +1,5 @@
-use Rattle.ftp_laws.proofs.Decided.{client-right}
-use Rattle.ftp_laws.proofs.Determined.{log_of-client_log}
+use Rattle.ftp_laws.proofs.ClientLemmas.{client-right}
+use Rattle.ftp_laws.proofs.LogLemmas.{log_of-client_log}
 use Rattle.ftp_laws.proofs.right_logs.client_part_is_right_and_acted.Goals as goal
 
 pub returns : goal.returns

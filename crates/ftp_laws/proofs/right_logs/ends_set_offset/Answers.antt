@@ -1,4 +1,4 @@
-use Rattle.ftp_laws.proofs.Offsets.{ends-offset, offset-lasts}
+use Rattle.ftp_laws.proofs.OffsetLemmas.{ends-offset, offset-lasts}
 use Rattle.ftp_laws.proofs.right_logs.ends_set_offset.Goals as goal
 
 pub returns : goal.returns

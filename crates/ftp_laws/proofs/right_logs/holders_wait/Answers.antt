@@ -1,7 +1,7 @@
 use Rattle.ftp_laws.proofs.Common.{past_of}
-use Rattle.ftp_laws.proofs.Ends.{holds-one, waits-on, on-waits}
-use Rattle.ftp_laws.proofs.Holds.{holder-waits}
-use Rattle.ftp_laws.proofs.Waits.{waits-holds}
+use Rattle.ftp_laws.proofs.HoldEndLemmas.{holds-one, waits-on, on-waits}
+use Rattle.ftp_laws.proofs.HoldLemmas.{holder-waits}
+use Rattle.ftp_laws.proofs.PortLemmas.{waits-holds}
 use Rattle.ftp_laws.proofs.right_logs.holders_wait.Goals as goal
 
 pub returns : goal.returns

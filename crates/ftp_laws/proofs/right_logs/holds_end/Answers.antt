@@ -1,4 +1,4 @@
-use Rattle.ftp_laws.proofs.Ends.{holds-end, holds-ended}
+use Rattle.ftp_laws.proofs.HoldEndLemmas.{holds-end, holds-ended}
 use Rattle.ftp_laws.proofs.right_logs.holds_end.Goals as goal
 
 pub returns : goal.returns

@@ -1,4 +1,4 @@
-use Rattle.ftp_laws.proofs.Links.{taken-once}
+use Rattle.ftp_laws.proofs.LinkLemmas.{taken-once}
 use Rattle.ftp_laws.proofs.right_logs.links_take_one_job.Goals as goal
 
 pub returns : goal.returns

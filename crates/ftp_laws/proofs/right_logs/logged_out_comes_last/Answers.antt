@@ -1,4 +1,4 @@
-use Rattle.ftp_laws.proofs.Told.{told-log}
+use Rattle.ftp_laws.proofs.NotificationLemmas.{told-log}
 use Rattle.ftp_laws.proofs.right_logs.logged_out_comes_last.Goals as goal
 
 pub returns : goal.returns

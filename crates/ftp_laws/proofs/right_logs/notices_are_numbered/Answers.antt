@@ -1,4 +1,4 @@
-use Rattle.ftp_laws.proofs.Told.{told-log}
+use Rattle.ftp_laws.proofs.NotificationLemmas.{told-log}
 use Rattle.ftp_laws.proofs.right_logs.notices_are_numbered.Goals as goal
 
 pub returns : goal.returns

@@ -1,4 +1,4 @@
-use Rattle.ftp_laws.proofs.Determined.{log_of-events_of, log_of-right}
+use Rattle.ftp_laws.proofs.LogLemmas.{log_of-events_of, log_of-right}
 use Rattle.ftp_laws.proofs.right_logs.right_logs_are_determined.Goals as goal
 
 pub returns : goal.returns

@@ -1,4 +1,4 @@
-use Rattle.ftp_laws.proofs.Cancelled.{cancelled-with-slot, cancelled-so}
+use Rattle.ftp_laws.proofs.CancellationLemmas.{cancelled-with-slot, cancelled-so}
 use Rattle.ftp_laws.proofs.right_logs.transfers_are_cancelled_with_their_slot.Goals as goal
 
 pub returns : goal.returns

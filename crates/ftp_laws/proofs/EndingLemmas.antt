@@ -1,0 +1,77 @@
+-- Only a live session ends, but for a stop.
+use Rattle.std.proofs.Common.{◌≡◌, refl, sym, ◌∙◌, ℕ, Bool, true, false, true≢false, not, ◌&&◌, ◌||◌, cond, List, Option, Some, None}
+use Rattle.std.specs.Option.{option_and_then, option_map_or}
+use Rattle.ftp_base.specs.declared.net.SocketAddr.{SocketAddr}
+use Rattle.ftp_base.specs.Net.{same_ip, is_v6}
+use Rattle.ftp_transfer.specs.Transfer.{suits}
+use Rattle.ftp_options.specs.Modes.{is_pooled}
+use Rattle.ftp_events.specs.Classes.{is_stop}
+use Rattle.ftp_events.specs.Transfer.{same_ticket}
+use Rattle.ftp_events.specs.Modes.{in_range}
+use Rattle.ftp_events.specs.declared.decision.Decision.TheVariants as decision
+use Rattle.ftp_events.specs.declared.event.Answer.TheVariants.{Done}
+use Rattle.ftp_events.specs.declared.event.EventKind.TheVariants as kind
+use Rattle.ftp_events.specs.CommandRows.{command_row}
+use Rattle.ftp_events.specs.ConnectionRows.{connect_row, holder_row, arrival_row, data_row}
+use Rattle.ftp_events.specs.EndRows.{outcome_row, end_row}
+use Rattle.ftp_events.specs.Decide.{if_live}
+use Rattle.ftp_laws.proofs.Common.{life, ends, Options, Ticket, Running, Answer, Decision, Entry, EventKind, Session, is_used, named_session, session, running_job, due, holder}
+use Rattle.ftp_laws.proofs.DecisionLemmas.{IsLive}
+
+-- a decision that ends no session
+record EndsNone (d : Decision) : Type 0 where
+  none : ends (life d) ≡ false
+
+-- so is a choice of two
+none-cond : (b : Bool) (x y : Decision) → EndsNone x → EndsNone y → EndsNone (cond b x y)
+none-cond true x y h j = h
+none-cond false x y h j = j
+
+-- a control connection ends none
+connect-none : (o : Options) (past : List Entry) (s : ℕ) (raw local : SocketAddr) → EndsNone (connect_row o past s raw local)
+connect-none o past s raw local =
+    none-cond (is_pooled o.mode && (is_v6 raw.ip || is_v6 local.ip)) decision.Misplaced _ (record { none = refl })
+    (none-cond (is_used past s) decision.UsedNumber decision.Opened (record { none = refl }) (record { none = refl }))
+
+-- nor does a data connection
+arrival-none : (o : Options) (past : List Entry) (number : ℕ) (raw : SocketAddr) (port : ℕ) → EndsNone (data_row o past number raw port)
+arrival-none o past number raw port =
+    none-cond (not (is_pooled o.mode) || is_v6 raw.ip) decision.Misplaced _ (record { none = refl })
+    (none-cond (is_used past number) decision.UsedNumber (arrival_row o past raw raw.ip port) (record { none = refl })
+    (none-cond (not (in_range o port)) decision.Turned _ (record { none = refl }) (by_holder (holder o past raw.ip port))))
+  where
+    by_holder : (h : Option ℕ) → EndsNone (holder_row o past raw h)
+    by_holder None = record { none = refl }
+    by_holder (Some s) =
+        none-cond (option_map_or (λ (v : Session). same_ip v.opening.raw.ip raw.ip) (session o past s) false) (decision.Attached s) decision.Turned
+        (record { none = refl }) (record { none = refl })
+
+-- nor the end of a job
+end-none : (t : Ticket) (answer : Answer) (run : Option Running) → EndsNone (end_row t answer run)
+end-none t answer None = record { none = refl }
+end-none t answer (Some r) = none-cond (same_ticket r.job.ticket t) (outcome_row r.job answer) decision.UnknownNumber (by_answer answer) (record { none = refl })
+  where
+    by_answer : (a : Answer) → EndsNone (outcome_row r.job a)
+    by_answer (Done outcome) = none-cond (suits outcome.result r.job.command) decision.Finished decision.NotExpected (record { none = refl }) (record { none = refl })
+    by_answer _ = record { none = refl }
+
+-- the rows of a live session end only a live one
+row-live :
+    (o : Options) (past : List Entry) (k : EventKind) (n : Option ℕ) (row : Session → Decision) →
+    named_session k ≡ n → ends (life (if_live (option_and_then (session o past) n) row)) ≡ true →
+    IsLive o past k
+row-live o past k None row named h = cc
+row-live o past k (Some s) row named h = go (session o past s) refl h
+  where
+    go : (v : Option Session) → session o past s ≡ v → ends (life (if_live v row)) ≡ true → IsLive o past k
+    go None x y = cc
+    go (Some v) x y = record { number = s; session_then = v; named = named; known = x }
+
+-- what is no stop ends only a live session
+pub ending-live :
+    (o : Options) (past : List Entry) (at : ℕ) (k : EventKind) (answer : Answer) →
+    is_stop (due o past at k answer) ≡ false → ends (life (due o past at k answer)) ≡ true → IsLive o past k
+ending-live o past at (kind.Connect s raw local trace) answer plain h = absurd (true≢false (sym h ∙ (connect-none o past s raw local).none))
+ending-live o past at (kind.DataIn number raw port) answer plain h = absurd (true≢false (sym h ∙ (arrival-none o past number raw port).none))
+ending-live o past at (kind.End t) answer plain h = absurd (true≢false (sym h ∙ (end-none t answer (running_job o past t.session)).none))
+ending-live o past at k answer plain h = row-live o past k (named_session k) (λ v. command_row o (holder o past v.opening.client) k v) refl h

@@ -1,0 +1,187 @@
+-- What an entry tells of a session.
+use Rattle.std.proofs.Common.{◌≡◌, refl, sym, ◌∙◌, ap, ℕ, ◌+◌, Bool, true, false, cond, List, [], ◌∷◌, ◌++◌, length, Option, Some, None, arith, eqb-true, append-nil}
+use Rattle.std.specs.Prelude.{◌==◌, count_by, filter_map, unwrap_or}
+use Rattle.std.specs.Option.{option_map_or, option_and_then}
+use Rattle.std.proofs.lemmas.List.Elements.{filter_map-append}
+use Rattle.std.proofs.lemmas.List.Recursion.{is_count_by}
+use Rattle.ftp_base.specs.declared.message.ControlChanMsg.{ControlChanMsg}
+use Rattle.ftp_base.specs.declared.notice.Notice.{Notice}
+use Rattle.ftp_base.specs.declared.reply.Reply.{Reply}
+use Rattle.ftp_base.specs.declared.reply.Reply.TheVariants as reply
+use Rattle.ftp_events.specs.declared.action.Action.TheVariants as action
+use Rattle.ftp_events.specs.declared.decision.Decision.TheVariants as decision
+use Rattle.ftp_events.specs.Login.{login_by, logged_user}
+use Rattle.ftp_events.specs.Notices.{is_notice_to}
+use Rattle.ftp_events.specs.Reply.{message_for, reply_for, delay_of}
+use Rattle.ftp_events.specs.Acts.{session_acts, notice_and_reply, notifications, reply_acts, notice_for, presence_for, farewells}
+use Rattle.ftp_events.specs.History.{Nobody, One, All}
+use Rattle.ftp_laws.proofs.Common.{Subject, subject_acts, is_ending, Options, Running, Action, Decision, Entry, EventKind, Answer, Pending, Session, Slot, is_refusal, new_number, subject, concerns, drops, session, running_job, acts_of, completions, cancellations, stays, drop_acts, pending_in, start_acts, starting, link_in, closings, refused_link, slot_of}
+use Rattle.ftp_laws.proofs.SubjectLemmas.{no-stop, nobody-concerns, one-concerns, not-all}
+use Rattle.ftp_laws.specs.Notices.{notice_to}
+use Rattle.ftp_laws.proofs.TableLemmas.{same-both}
+use Rattle.ftp_laws.proofs.Cases.{by_completion}
+
+-- as many notifications are counted as are listed
+pub length-notices :
+    (s : ℕ) (xs : List Action) →
+    length (filter_map (notice_to s) xs) ≡ count_by (is_notice_to s) xs
+length-notices s xs = is_count_by (λ ys. length (filter_map (notice_to s) ys)) (is_notice_to s) refl step xs
+  where
+    step :
+        (x : Action) (ys : List Action) →
+        length (filter_map (notice_to s) (x ∷ ys)) ≡ cond (is_notice_to s x) (1 + length (filter_map (notice_to s) ys)) (length (filter_map (notice_to s) ys))
+    step (action.Notify session meta what) ys = go (session == s) refl
+      where
+        go :
+            (b : Bool) → (session == s) ≡ b →
+            length (filter_map (notice_to s) (action.Notify session meta what ∷ ys)) ≡ cond (session == s) (1 + length (filter_map (notice_to s) ys)) (length (filter_map (notice_to s) ys))
+        go true x = rw x (omega arith)
+        go false x = rw x refl
+    step (action.Completed ticket delivered) ys = refl
+    step (action.Cancelled ticket) ys = refl
+    step (action.Close number) ys = refl
+    step (action.Reply session delay reply) ys = refl
+    step (action.Start ticket number) ys = refl
+
+-- the end of a job tells no listener
+pub notices-completions :
+    (s : ℕ) (k : EventKind) (d : Decision) (delivered : Bool) →
+    filter_map (notice_to s) (completions k d delivered) ≡ []
+notices-completions s k d delivered = by_completion (λ xs. filter_map (notice_to s) xs ≡ []) k d delivered refl (λ t x y. refl)
+
+-- nor does what a session loses with its slot
+pub notices-drop_acts :
+    (s t : ℕ) (staying : Bool) (d : Decision) (slot : Slot) (pending : Option Pending) →
+    filter_map (notice_to s) (drop_acts t staying d slot pending) ≡ []
+notices-drop_acts s t staying d slot pending = go (drops d slot) staying pending (link_in slot)
+  where
+    go :
+        (b stays : Bool) (pending : Option Pending) (link : Option ℕ) →
+        filter_map (notice_to s) (cond b (cancellations t stays pending ++ closings link) []) ≡ []
+    go true stays None None = refl
+    go true stays None (Some n) = refl
+    go true true (Some p) None = refl
+    go true true (Some p) (Some n) = refl
+    go true false (Some p) None = refl
+    go true false (Some p) (Some n) = refl
+    go false stays pending link = refl
+
+-- nor a job that starts
+pub notices-start_acts : (s : ℕ) (job : Option Running) → filter_map (notice_to s) (start_acts job) ≡ []
+notices-start_acts s None = refl
+notices-start_acts s (Some job) = refl
+
+-- nor a connection that is turned away
+pub notices-refused_link :
+    (s : ℕ) (k : EventKind) (d : Decision) →
+    filter_map (notice_to s) (refused_link k d) ≡ []
+notices-refused_link s k decision.Turned = go (new_number k decision.Turned)
+  where
+    go :
+        (n : Option ℕ) →
+        filter_map (notice_to s) (option_map_or (λ n. action.Close n ∷ []) n []) ≡ []
+    go None = refl
+    go (Some n) = refl
+notices-refused_link s k d = refl
+
+-- nor a connection that is closed at the end
+pub notices-farewells : (s t : ℕ) (d : Decision) → filter_map (notice_to s) (farewells t d) ≡ []
+notices-farewells s t d = go (is_ending d)
+  where
+    go : (b : Bool) → filter_map (notice_to s) (cond b (action.Close t ∷ []) []) ≡ []
+    go true = refl
+    go false = refl
+
+-- nor a reply
+pub notices-reply_acts :
+    (s t delay : ℕ) (r : Reply) →
+    filter_map (notice_to s) (reply_acts t delay r) ≡ []
+notices-reply_acts s t delay reply.None = refl
+notices-reply_acts s t delay (reply.CodeAndMsg c msg) = refl
+
+-- a notification under the number after n, where there is one
+abbrev pub under : ℕ → Option Notice → List (ℕ × Notice)
+under n what = option_map_or (λ what. (n + 1, what) ∷ []) what []
+
+-- what is told of a session by an event and its decision, from the job that ran and the session before it
+abbrev pub told_by : EventKind → Answer → Decision → Option Running → Option Session → List (ℕ × Notice)
+told_by k answer d job None = []
+told_by k answer d job (Some v) = under v.notices (notice_for (message_for v job k answer d) (presence_for d))
+
+-- a session's notification is its own
+pub notices-notifications :
+    (s t : ℕ) (v : Session) (user : List ℕ) (what : Option Notice) →
+    filter_map (notice_to s) (notifications t v user what) ≡ cond (t == s) (under v.notices what) []
+notices-notifications s t v user None = sym (same-both (t == s) [])
+notices-notifications s t v user (Some what) = go (t == s) refl
+  where
+    go :
+        (b : Bool) → (t == s) ≡ b →
+        filter_map (notice_to s) (notifications t v user (Some what)) ≡ cond (t == s) ((v.notices + 1, what) ∷ []) []
+    go true x = rw x refl
+    go false x = rw x refl
+
+-- what an event does for session t tells of session t
+pub notices-session_acts :
+    (o : Options) (s t : ℕ) (k : EventKind) (answer : Answer) (d : Decision) (job : Option Running) (v : Option Session) →
+    filter_map (notice_to s) (session_acts o t k answer d job v) ≡ cond (t == s) (told_by k answer d job v) []
+notices-session_acts o s t k answer d job v =
+    rw (split, notices-completions s k d (stays d v), notices-drop_acts s t (stays d v) d (slot_of v) (pending_in v), notices-refused_link s k d, notices-start_acts s (option_and_then (starting k d job) v), notices-farewells s t d) (append-nil (filter_map (notice_to s) (option_map_or (notice_and_reply o t k answer d job) v []) ++ []) ∙ (append-nil (filter_map (notice_to s) (option_map_or (notice_and_reply o t k answer d job) v [])) ∙ told v))
+  where
+    split : filter_map (notice_to s) (session_acts o t k answer d job v) ≡ filter_map (notice_to s) (completions k d (stays d v)) ++ filter_map (notice_to s) (drop_acts t (stays d v) d (slot_of v) (pending_in v)) ++ filter_map (notice_to s) (refused_link k d) ++ filter_map (notice_to s) (option_map_or (notice_and_reply o t k answer d job) v []) ++ filter_map (notice_to s) (start_acts (option_and_then (starting k d job) v)) ++ filter_map (notice_to s) (farewells t d)
+    split = simp filter_map-append
+
+    told :
+        (v : Option Session) →
+        filter_map (notice_to s) (option_map_or (notice_and_reply o t k answer d job) v []) ≡ cond (t == s) (told_by k answer d job v) []
+    told None = sym (same-both (t == s) [])
+    told (Some v) =
+        let m : Option ControlChanMsg = message_for v job k answer d in
+        let user : List ℕ = logged_user (unwrap_or (login_by d) v.login) v.name in
+        let what : Option Notice = notice_for m (presence_for d) in
+        filter_map-append (notice_to s) (notifications t v user what) (reply_acts t (delay_of d) (reply_for o v m k d)) ∙
+        (rw (notices-reply_acts s t (delay_of d) (reply_for o v m k d)) (append-nil (filter_map (notice_to s) (notifications t v user what))) ∙
+        notices-notifications s t v user what)
+
+-- so many notifications of session s are among what an event does for session t
+pub count-notices :
+    (o : Options) (s t : ℕ) (k : EventKind) (answer : Answer) (d : Decision) (job : Option Running) (v : Option Session) →
+    count_by (is_notice_to s) (session_acts o t k answer d job v) ≡ cond (t == s) (length (told_by k answer d job v)) 0
+count-notices o s t k answer d job v =
+    sym (length-notices s (session_acts o t k answer d job v)) ∙ (ap length (notices-session_acts o s t k answer d job v) ∙ go (t == s))
+  where
+    go :
+        (b : Bool) →
+        length (cond b (told_by k answer d job v) []) ≡ cond b (length (told_by k answer d job v)) 0
+    go true = refl
+    go false = refl
+
+-- what an entry tells of session s by itself
+abbrev pub told_in : Options → List Entry → Entry → ℕ → List (ℕ × Notice)
+told_in o past e s = told_by e.event.kind e.answer e.decision (running_job o past s) (session o past s)
+
+-- what an entry tells of a session: what its decision tells, where it concerns the session
+pub notices-entry :
+    (o : Options) (past : List Entry) (e : Entry) (s : ℕ) →
+    is_refusal e.decision ≡ false →
+    e.actions ≡ acts_of o past e →
+    filter_map (notice_to s) e.actions ≡ cond (concerns o past e s) (told_in o past e s) []
+notices-entry o past e s counts acted = ap (filter_map (notice_to s)) done ∙ go (subject o past e) refl
+  where
+    done : e.actions ≡ subject_acts o past e (subject o past e)
+    done = acted ∙ rw counts refl
+
+    by_number :
+        (t : ℕ) (b : Bool) → (t == s) ≡ b →
+        cond b (told_in o past e t) [] ≡ cond b (told_in o past e s) []
+    by_number t true x = ap (told_in o past e) (eqb-true t s x)
+    by_number t false x = refl
+
+    go :
+        (x : Subject) → subject o past e ≡ x →
+        filter_map (notice_to s) (subject_acts o past e x) ≡ cond (concerns o past e s) (told_in o past e s) []
+    go All h = absurd (not-all o past e (no-stop e.decision) h)
+    go Nobody h = notices-refused_link s e.event.kind e.decision ∙ ap (λ b. cond b (told_in o past e s) []) (sym (nobody-concerns o past e s h))
+    go (One t) h =
+        notices-session_acts o s t e.event.kind e.answer e.decision (running_job o past t) (session o past t) ∙
+        (by_number t (t == s) refl ∙ ap (λ b. cond b (told_in o past e s) []) (sym (one-concerns o past e t s h)))
