@@ -211,11 +211,10 @@ def targets(crate, module, use):
 def unfolded(use):
     """The paths that a `pub use` names, each with its own name."""
     head, opened, names = use.partition("{")
-    for name in (names.rstrip("}") if opened else "").split(",") if opened else [""]:
-        path, _, alias = (head + name).strip().partition(" as ")
-        parts = tuple(p.strip() for p in path.split("::") if p.strip())
-        if parts:
-            yield parts, alias.strip() or parts[-1]
+    for name in [head] if not opened else [head + name.strip() for name in names.rstrip("} ").split(",") if name.strip()]:
+        path, _, alias = name.partition(" as ")
+        parts = tuple(part.strip() for part in path.split("::"))
+        yield parts, alias.strip() or parts[-1]
 
 
 def name_public(crate):
