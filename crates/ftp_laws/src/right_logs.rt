@@ -74,8 +74,8 @@ pub fn ends_set_offset()
     ensures kept { OffsetsLast }
 {}
 
-/// The entries of one client address are right and acted by themselves, as if nobody else had been
-/// there: no traffic of others changes what the client is granted, refused, attached or told.
+/// The entries of one client address are right and acted by themselves. With the outcomes of the client's own
+/// transfers given, it is granted, attached and refused what it would be with nobody else there.
 pub fn client_part_is_right_and_acted()
     ensures isolated { ClientsAreIsolated }
     ensures alone { ClientsAreAsIfAlone }
