@@ -10,8 +10,8 @@ pub fn right_logs_are_determined()
     ensures determined { RightLogsAreDetermined }
 {}
 
-/// Every data connection is attached to the session that holds its client address and port, or is
-/// closed. Every admitted PASV is granted the first free port, or is told that there is none.
+/// Every data connection that is not refused is attached to the session that holds its client address and port, or
+/// is turned away with a `Close`. Every admitted PASV is granted the first free port, or is told that there is none.
 pub fn right_logs_serve()
     ensures served { RightLogsServe }
 {}
