@@ -7,7 +7,8 @@ HEAD = """\
 # Claims
 
 Every call that another crate can make, and of a program each `pub` function, with its clauses. `.ci/documents --write` writes
-this page from the crates, and `.ci/run` refuses one that differs. What the clauses say in plain words, and what nothing says, is in [PROVED.md](PROVED.md).
+this page from the crates, and `.ci/run` refuses one that differs. What the clauses say in plain words, and what nothing says,
+is in [PROVED.md](PROVED.md).
 
 - *clauses*: the names of its `ensures`; (unnamed) is one without a name. A method of a trait keeps the clauses of the trait
   besides its own.
