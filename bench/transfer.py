@@ -4,8 +4,9 @@
 Usage: bench/transfer.py [PROGRAM]
 
 PROGRAM is crates/ftp_bench/out/ftp_bench, which `rt ci` builds. Each kind runs in few and in many rounds, so that the
-set-up of a run falls out of the difference; of several such differences the best counts. Ends with status 1 where a
-download is slower than half of the copy, or an upload slower than a third of it.
+set-up of a run falls out of the difference; of several such differences the best counts. It prints the table of
+bench/RESULTS.md, and ends with status 1 where a download is slower than half of the copy, or an upload slower than a third
+of it.
 """
 
 import subprocess
@@ -37,9 +38,10 @@ def main():
     here = Path(__file__).resolve().parent.parent
     program = sys.argv[1] if len(sys.argv) > 1 else str(here / "crates/ftp_bench/out/ftp_bench")
     copy, retr, stor = (speed(program, kind) for kind in ("copy", "retr", "stor"))
-    print(f"copy {copy:8.0f} MB/s")
-    print(f"retr {retr:8.0f} MB/s, {retr / copy:.2f} of the copy")
-    print(f"stor {stor:8.0f} MB/s, {stor / copy:.2f} of the copy")
+    print("| kind | MB/s | of the copy |")
+    print("|---|---|---|")
+    for kind, found in ("copy", copy), ("RETR", retr), ("STOR", stor):
+        print(f"| {kind} | {found:.0f} | {found / copy:.2f} |")
     return 0 if retr * 2 >= copy and stor * 3 >= copy else 1
 
 

@@ -12,8 +12,8 @@ pub fn right_logs_are_determined()
     ensures determined { RightLogsAreDetermined }
 {}
 
-/// Every data connection is attached to the session that holds its client address and port, or is
-/// closed. Every admitted PASV is granted the first free port, or is told that there is none.
+/// Every data connection that is not refused is attached to the session that holds its client address and port, or
+/// is turned away with a `Close`. Every admitted PASV is granted the first free port, or is told that there is none.
 pub fn right_logs_serve()
     ensures served { RightLogsServe }
 {}
@@ -104,8 +104,8 @@ pub fn replies_follow_openings()
     ensures replies { RepliesFollowOpenings }
 {}
 
-/// The entries of one client address are right and acted by themselves, as if nobody else had been
-/// there: no traffic of others changes what the client is granted, refused, attached or told.
+/// The entries of one client address are right and acted by themselves. With the outcomes of the client's own
+/// transfers given, it is granted, attached and refused what it would be with nobody else there.
 pub fn client_part_is_right_and_acted()
     ensures isolated { ClientsAreIsolated }
     ensures alone { ClientsAreAsIfAlone }
