@@ -117,7 +117,7 @@ hub-moves (Some hub) items more log old new same moves h = record {
   stands = h.stands;
   has_links = record {
     slots = λ s n x. moves.linked n (h.has_links.slots s n x);
-    jobs = λ s job x. moves.linked job.number (h.has_links.jobs s job x);
+    jobs = λ s r x. moves.linked r.job.number (h.has_links.jobs s r x);
   };
   led = moves.led (options_of hub) h.led;
 }

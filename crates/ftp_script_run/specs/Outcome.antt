@@ -9,8 +9,8 @@ use Rattle.ftp_stream.specs.Writing.{WritesFront}
 use Rattle.ftp_text.specs.Fields.{number}
 use Rattle.ftp_event_text.specs.declared.setup.Item.{Item}
 use Rattle.ftp_event_text.specs.Printing.{print}
-use Rattle.ftp_script_text.specs.Script.{script_of}
-use Rattle.ftp_script_text.specs.ScriptReader.{AreWhole, StopsBehind}
+use Rattle.ftp_script_text.specs.Script.{IsScriptOf}
+use Rattle.ftp_script_text.specs.ScriptReader.{AreWhole, ReadsAhead, StopsBehind}
 use Rattle.ftp_script_run.specs.declared.status.Status.{Status}
 use Rattle.ftp_script_run.specs.declared.status.Status.TheVariants as status
 use Rattle.ftp_script_run.specs.Left.{end_lines}
@@ -28,24 +28,26 @@ bad_line k = (codes "bad line" ++ number k) ++ 10 ∷ []
 pub record IsDone (bytes : List ℕ) (left old new : Option (List ℕ)) : Type 0 where
   pub items : List Item
   pub log : List Entry
-  pub script : script_of bytes ≡ (items, None)
+  pub script : IsScriptOf bytes items None
   pub end : left ≡ Some []
   pub links : Numbered LinkState
   pub storage : MemoryState
   pub legal : IsLegal items log links storage
   pub written : Writes old new (log_lines log ++ end_lines links storage)
 
--- line k is the first bad one; the legal log of the lines before it was written, and the line that names it
-pub record HasBadLine (k : ℕ) (bytes : List ℕ) (old new : Option (List ℕ)) : Type 0 where
+-- line k is the first bad one; behind the lines before it at most one buffer was taken from the source; the legal log of these
+-- lines was written, and the line that names the bad one
+pub record HasBadLine (k : ℕ) (bytes : List ℕ) (left old new : Option (List ℕ)) : Type 0 where
   pub items : List Item
   pub log : List Entry
-  pub script : script_of bytes ≡ (items, Some k)
+  pub script : IsScriptOf bytes items (Some k)
+  pub reads : ReadsAhead items bytes left
   pub links : Numbered LinkState
   pub storage : MemoryState
   pub legal : IsLegal items log links storage
   pub written : Writes old new (log_lines log ++ bad_line k)
 
--- whole lines were read, and of the line behind them a part; exactly the legal log of the whole lines was written
+-- whole lines were read, and of the line behind them a part, at most one buffer; exactly the legal log of the whole lines was written
 pub record WritesWhole (bytes : List ℕ) (left old new : Option (List ℕ)) : Type 0 where
   pub items : List Item
   pub log : List Entry
@@ -62,8 +64,9 @@ closing links storage (Some k) rest = bad_line k
 closing links storage None [] = end_lines links storage
 closing links storage None (c ∷ rest) = []
 
--- a part from the front of the whole output was written, as a front of whole lines tells it
-pub record WritesPart (bytes : List ℕ) (old new : Option (List ℕ)) : Type 0 where
+-- a part from the front of the whole output was written, as a front of whole lines tells it; behind the lines of its items at
+-- most one buffer was taken from the source
+pub record WritesPart (bytes : List ℕ) (left old new : Option (List ℕ)) : Type 0 where
   pub read : List ℕ
   pub rest : List ℕ
   pub items : List Item
@@ -71,7 +74,8 @@ pub record WritesPart (bytes : List ℕ) (old new : Option (List ℕ)) : Type 0 
   pub log : List Entry
   pub all_is : read ++ rest ≡ bytes
   pub whole : AreWhole read rest
-  pub script : script_of read ≡ (items, bad)
+  pub script : IsScriptOf read items bad
+  pub reads : ReadsAhead items bytes left
   pub links : Numbered LinkState
   pub storage : MemoryState
   pub legal : IsLegal items log links storage
@@ -80,8 +84,8 @@ pub record WritesPart (bytes : List ℕ) (old new : Option (List ℕ)) : Type 0 
 -- what was read of these bytes and what was written, by the status
 abbrev pub Outcome : Status → List ℕ → Option (List ℕ) → Option (List ℕ) → Option (List ℕ) → Type 0
 Outcome status.Done bytes left old new = IsDone bytes left old new
-Outcome (status.BadLine k) bytes left old new = HasBadLine k bytes old new
+Outcome (status.BadLine k) bytes left old new = HasBadLine k bytes left old new
 Outcome status.ReadFault bytes left old new = WritesWhole bytes left old new
-Outcome status.WriteFault bytes left old new = WritesPart bytes old new
-Outcome status.OutOfMemory bytes left old new = WritesPart bytes old new
+Outcome status.WriteFault bytes left old new = WritesPart bytes left old new
+Outcome status.OutOfMemory bytes left old new = WritesPart bytes left old new
 Outcome status.Usage bytes left old new = ⊥

@@ -10,6 +10,6 @@ mod run;
 mod script;
 mod status;
 
-pub use laws::taken_transfers_are_done;
+pub use laws::{settled_runs_are_determined, taken_transfers_are_done};
 pub use script::run_script;
 pub use status::Status;

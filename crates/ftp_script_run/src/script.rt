@@ -5,7 +5,7 @@ ghost use Rattle.std.specs.Option.{OnSome};
 ghost use Rattle.ftp_base.specs.Outside.{HasRisen};
 ghost use Rattle.ftp_events.specs.declared.entry.Entry.{Entry};
 ghost use Rattle.ftp_event_text.specs.declared.setup.Item.{Item};
-ghost use Rattle.ftp_script_text.specs.Script.{may_stand, script_of};
+ghost use Rattle.ftp_script_text.specs.Script.{may_stand, IsScriptOf};
 ghost use Rattle.ftp_script_text.specs.ScriptReader.{IsLawful};
 ghost use Rattle.ftp_script_run.specs.Statuses.{IsScript, IsCutShort, HasNotRisen};
 ghost use Rattle.ftp_script_run.specs.Outcome.{IsDone, HasBadLine, WritesWhole, WritesPart, Outcome};
@@ -34,7 +34,7 @@ pub fn run_script<S: Source, K: Sink>(
 
     // All was read and is a script, and its log was written.
     ensures done { result ≡ Status.Done → IfSome (S.left source.old) (λ bytes. IsDone bytes (S.left source.new) (K.written sink.old) (K.written sink.new)) }
-    ensures bad_line { (k : ℕ) → result ≡ Status.BadLine k → IfSome (S.left source.old) (λ bytes. HasBadLine k bytes (K.written sink.old) (K.written sink.new)) }
+    ensures bad_line { (k : ℕ) → result ≡ Status.BadLine k → IfSome (S.left source.old) (λ bytes. HasBadLine k bytes (S.left source.new) (K.written sink.old) (K.written sink.new)) }
 
     // After a fault of the source the log of the whole lines that were read was written.
     ensures read_fault { result ≡ Status.ReadFault → HasRisen (S.faults source.old) (S.faults source.new) }
@@ -42,13 +42,13 @@ pub fn run_script<S: Source, K: Sink>(
 
     // After a fault of the sink, or where memory ran out, a part from the front was written.
     ensures write_fault { result ≡ Status.WriteFault → HasRisen (K.faults sink.old) (K.faults sink.new) }
-    ensures front { IsCutShort result → IfSome (S.left source.old) (λ bytes. WritesPart bytes (K.written sink.old) (K.written sink.new)) }
+    ensures front { IsCutShort result → IfSome (S.left source.old) (λ bytes. WritesPart bytes (S.left source.new) (K.written sink.old) (K.written sink.new)) }
 
     // Where nothing fails, a script is run to its end, and the first bad line is named.
-    ensures complete { IsScript (map (λ w. w.items) words.now) → IfSome (S.left source.old) (λ bytes. (script_of bytes).1 ≡ None →
+    ensures complete { IsScript (map (λ w. w.items) words.now) → IfSome (S.left source.old) (λ bytes. (items : List Item) → IsScriptOf bytes items None →
         HasNotRisen (S.faults source.old) (S.faults source.new) → HasNotRisen (K.faults sink.old) (K.faults sink.new) →
         (result ≡ Status.Done) ⊎ (result ≡ Status.OutOfMemory)) }
-    ensures first_bad { IsScript (map (λ w. w.items) words.now) → (k : ℕ) → IfSome (S.left source.old) (λ bytes. (script_of bytes).1 ≡ Some k →
+    ensures first_bad { IsScript (map (λ w. w.items) words.now) → (k : ℕ) → IfSome (S.left source.old) (λ bytes. (items : List Item) → IsScriptOf bytes items (Some k) →
         HasNotRisen (S.faults source.old) (S.faults source.new) → HasNotRisen (K.faults sink.old) (K.faults sink.new) →
         (result ≡ Status.BadLine k) ⊎ (result ≡ Status.OutOfMemory)) }
 

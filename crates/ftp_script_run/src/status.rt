@@ -1,9 +1,11 @@
 //! How a run ends.
 
 ghost use Rattle.std.specs.Prelude.{◌≡◌};
+ghost use Rattle.std.specs.Process.{exit_status};
 ghost use Rattle.ftp_script_run.specs.Statuses.{code_of, stopped_by, ended_by};
 
 use ftp_base::Failed;
+use std::process::ExitCode;
 
 #[derive(Clone, Copy, Debug, PartialEq, Eq)]
 pub enum Status {
@@ -21,7 +23,7 @@ pub enum Status {
 }
 
 impl Status {
-    /// The exit status of the program.
+    /// The exit status of the program, as a number.
     pub fn code(self) -> u8
         ensures { result ≡ code_of self }
     {
@@ -33,6 +35,13 @@ impl Status {
             Status::OutOfMemory => 5,
             Status::Usage => 64,
         }
+    }
+
+    /// What the program ends with.
+    pub fn exit_code(self) -> ExitCode
+        ensures { exit_status result ≡ code_of self }
+    {
+        ExitCode::from(self.code())
     }
 
     /// The status of a run whose last write went so.

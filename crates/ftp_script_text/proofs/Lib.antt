@@ -1,3 +1,4 @@
 pub mod AdmissionLemmas
 pub mod ScriptLemmas
+pub mod Reading
 pub mod Examples

@@ -1,5 +1,5 @@
 -- What is kept of the lines of a script, to say which lines may follow.
-use Rattle.std.specs.Prelude.{◌≡◌, ℕ, true, false, List, [], ◌∷◌, ◌++◌, Some, None, Result, Ok, Err}
+use Rattle.std.specs.Prelude.{◌≡◌, ℕ, true, false, List, [], ◌∷◌, ◌++◌, Result, Ok, Err}
 use Rattle.std.specs.List.{list_any}
 use Rattle.std.specs.Ordering.{nat_cmp}
 use Rattle.std.specs.BTreeSet.{contains}
@@ -7,7 +7,7 @@ use Rattle.ftp_text.specs.declared.fault.LineFault.{LineFault}
 use Rattle.ftp_text.specs.declared.fault.LineFault.TheVariants as fault
 use Rattle.ftp_event_text.specs.declared.setup.Item.{Item}
 use Rattle.ftp_script_text.specs.declared.admission.Admission.{Admission}
-use Rattle.ftp_script_text.specs.Script.{says, has_options, has_stored, has_link, may_stand, line_item}
+use Rattle.ftp_script_text.specs.Script.{says, has_options, has_stored, has_link, may_stand, ComesNext}
 use Rattle.ftp_script_text.specs.SetUp.{storage_in, has_event}
 
 -- what is kept of these items: whether one says something, is the options, is an event, or sets up a part of the storage, how
@@ -26,8 +26,8 @@ LetsIn before i (Ok x) later = (may_stand before i ≡ true) × Remembers later 
 LetsIn before i (Err fault.Bad) later = (may_stand before i ≡ false) × Remembers later before
 LetsIn before i (Err fault.Memory) later = Remembers later before
 
--- a line gave its item behind these items, which is then among them
+-- a line gave its item behind these items, which is then among them, or it is no item's there
 abbrev pub GivesItem : List Item → ℕ → List ℕ → Result Item LineFault → Admission → Type 0
-GivesItem before taken line (Ok i) later = (line_item before taken line ≡ Some i) × Remembers later (before ++ i ∷ [])
-GivesItem before taken line (Err fault.Bad) later = (line_item before taken line ≡ None) × Remembers later before
+GivesItem before taken line (Ok i) later = ComesNext before taken line i × Remembers later (before ++ i ∷ [])
+GivesItem before taken line (Err fault.Bad) later = ((i : Item) → ComesNext before taken line i → ⊥) × Remembers later before
 GivesItem before taken line (Err fault.Memory) later = Remembers later before

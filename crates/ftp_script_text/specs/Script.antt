@@ -1,13 +1,12 @@
--- A script, from the bytes of a whole source: the items of its lines, up to the first bad line.
-use Rattle.std.specs.Prelude.{ℕ, zero, suc, ◌+◌, ◌-◌, ◌==◌, ◌&&◌, not, nat_le, Bool, true, false, List, [], ◌∷◌, ◌++◌, length, Option, Some, None, is_none, if◌then◌else◌}
+-- A script, by the bytes of a whole source: the items whose lines these are, up to the first line that is none's there.
+use Rattle.std.specs.Prelude.{◌≡◌, ℕ, ◌+◌, ◌-◌, ◌<◌, ◌≤◌, ◌==◌, ◌&&◌, not, nat_le, Bool, true, false, List, [], ◌∷◌, ◌++◌, length, Option, Some, None, is_none}
 use Rattle.std.specs.List.{list_any}
 use Rattle.ftp_base.specs.MemoryStorage.{directory_refusal}
 use Rattle.ftp_events.specs.Covers.{is_covered}
 use Rattle.ftp_stream.specs.Lines.{first_line, behind_line}
-use Rattle.ftp_text.specs.Reading.{◌>>=◌}
 use Rattle.ftp_event_text.specs.declared.setup.Item.{Item}
 use Rattle.ftp_event_text.specs.declared.setup.Item.TheVariants as item
-use Rattle.ftp_event_text.specs.SetupReading.{item_of}
+use Rattle.ftp_event_text.specs.Setup.{IsItemOf}
 use Rattle.ftp_script_text.specs.SetUp.{storage_in, has_event}
 
 -- whether the item is the options
@@ -61,33 +60,28 @@ may_stand before (item.File bytes path) =
 may_stand before (item.Link n chunk fails bytes) = not (has_link n before)
 may_stand before (item.Event e) = has_options before && is_covered (λ n. has_link n before) e.kind
 
--- the item of a line behind these items, where the source has given so many bytes up to the line's end
-abbrev pub line_item : List Item → ℕ → List ℕ → Option Item
-line_item before taken line =
-    if nat_le (length line) 65536 && nat_le taken 16777216 then (item_of line >>= λ i. if may_stand before i then Some i else None)
-    else None
+-- the line is that of the item and may stand behind the lines of these: it is no longer than any line, and up to its end the
+-- source has given no more bytes than any script has
+pub record ComesNext (before : List Item) (taken : ℕ) (line : List ℕ) (i : Item) : Type 0 where
+  pub spelled : IsItemOf line i
+  pub stands : may_stand before i ≡ true
+  pub short : length line ≤ 65536
+  pub small : taken ≤ 16777216
 
 -- how many bytes the first line and its line feed are
 abbrev pub line_size : List ℕ → ℕ
 line_size bytes = length bytes - length (behind_line bytes)
 
--- these items and what comes of a further one; without it, the number of the bad line, counted from 1
-abbrev pub goes_on : List Item → Option Item → (Item → List Item × Option ℕ) → List Item × Option ℕ
-goes_on before None others = (before, Some (length before + 1))
-goes_on before (Some i) others = others i
+-- behind the lines of some items, which are so many bytes, stand the lines of further items, up to the end, or up to a line
+-- that is no item's there, with its number, counted from 1
+abbrev pub Continues : List Item → ℕ → List ℕ → List Item → Option ℕ → Type 0
+Continues before taken bytes [] None = bytes ≡ []
+Continues before taken bytes [] (Some k) =
+    (0 < length bytes) × ((i : Item) → ComesNext before (taken + line_size bytes) (first_line bytes) i → ⊥) × (k ≡ length before + 1)
+Continues before taken bytes (i ∷ items) bad =
+    (0 < length bytes) × ComesNext before (taken + line_size bytes) (first_line bytes) i
+    × Continues (before ++ i ∷ []) (taken + line_size bytes) (behind_line bytes) items bad
 
--- the script whose lines so far gave these items, in so many bytes, and whose other lines are at most n and in these bytes
-unfoldable pub script_from : ℕ → List Item → ℕ → List ℕ → List Item × Option ℕ
-script_from zero before taken bytes = (before, None)
-script_from (suc n) before taken [] = (before, None)
-script_from (suc n) before taken (c ∷ bytes) =
-    let more = taken + line_size (c ∷ bytes) in
-    goes_on before (line_item before more (first_line (c ∷ bytes))) (λ i. script_from n (before ++ i ∷ []) more (behind_line (c ∷ bytes)))
-
--- the script of which these items were read, and which goes on with these bytes
-abbrev pub script_behind : List Item → ℕ → List ℕ → List Item × Option ℕ
-script_behind before taken bytes = script_from (length bytes) before taken bytes
-
--- the items of the lines before the first bad one, skipped lines included, and its number
-abbrev pub script_of : List ℕ → List Item × Option ℕ
-script_of bytes = script_behind [] 0 bytes
+-- the items are those of the lines of the bytes, skipped lines included, up to the first bad line, where there is one
+pub record IsScriptOf (bytes : List ℕ) (items : List Item) (bad : Option ℕ) : Type 0 where
+  pub lines : Continues [] 0 bytes items bad

@@ -4,12 +4,13 @@ use Rattle.ftp_stream.specs.Lines.{bytes_in, IsWithin, Rest, HasNoFeed, IsNext}
 use Rattle.ftp_stream.specs.declared.lines.Span.{Span}
 use Rattle.ftp_stream.specs.declared.lines.LineError.TheVariants as line_error
 use Rattle.ftp_event_text.specs.declared.setup.Item.{Item}
+use Rattle.ftp_script_text.specs.declared.script.TheConstants.{BUFFER_SIZE}
 use Rattle.ftp_script_text.specs.declared.script.ScriptReader.{ScriptReader}
 use Rattle.ftp_script_text.specs.declared.script.ScriptError.{ScriptError}
 use Rattle.ftp_script_text.specs.declared.script.ScriptError.TheVariants as error
 use Rattle.ftp_script_text.specs.declared.script.Next.{Next}
 use Rattle.ftp_script_text.specs.declared.script.Next.TheVariants as next
-use Rattle.ftp_script_text.specs.Script.{may_stand, script_behind, script_of}
+use Rattle.ftp_script_text.specs.Script.{may_stand, Continues, IsScriptOf}
 use Rattle.ftp_script_text.specs.Admission.{Remembers}
 
 -- the reader and its buffer belong together, and no more than the limit was read
@@ -31,6 +32,10 @@ EndsLine bytes = (bytes ≡ []) ⊎ ((front : List ℕ) × (bytes ≡ front ++ 1
 abbrev pub AreWhole : List ℕ → List ℕ → Type 0
 AreWhole read rest = EndsLine read ⊎ (rest ≡ [])
 
+-- with further items of these bytes, all bytes are a script of these items and the further ones
+abbrev pub GoesOn : List Item → ℕ → List ℕ → List ℕ → Type 0
+GoesOn before taken bytes all = (items : List Item) (bad : Option ℕ) → Continues before taken bytes items bad → IsScriptOf all (before ++ items) bad
+
 -- these items are those of the lines read, and the script goes on with what the buffer holds and what is left
 pub record HasRead (before : List Item) (all : List ℕ) (reader : ScriptReader) (buffer : List ℕ) (left : Option (List ℕ)) : Type 0 where
   pub number : reader.number ≡ length before
@@ -40,26 +45,32 @@ pub record HasRead (before : List Item) (all : List ℕ) (reader : ScriptReader)
   pub all_is : read ++ bytes ≡ all
   pub rest : Rest (bytes_in buffer reader.held) left bytes
   pub whole : AreWhole read bytes
-  pub items : script_of read ≡ (before, None)
-  pub same : script_of all ≡ script_behind before reader.taken bytes
-  pub open_end : ((more : List ℕ) → script_of (read ++ more) ≡ script_behind before reader.taken more) ⊎ (bytes ≡ [])
+  pub items : IsScriptOf read before None
+  pub same : GoesOn before reader.taken bytes all
+  pub open_end : ((more : List ℕ) → GoesOn before reader.taken more (read ++ more)) ⊎ (bytes ≡ [])
+
+-- these items are those of whole lines from the front of the bytes, and of what stands behind these lines at most one buffer
+-- was taken from the source
+pub record ReadsAhead (before : List Item) (all : List ℕ) (left : Option (List ℕ)) : Type 0 where
+  pub read : List ℕ
+  pub ahead : List ℕ
+  pub rest : List ℕ
+  pub all_is : read ++ (ahead ++ rest) ≡ all
+  pub left_is : left ≡ Some rest
+  pub whole : AreWhole read (ahead ++ rest)
+  pub items : IsScriptOf read before None
+  pub buffer : length ahead ≤ BUFFER_SIZE
 
 -- whole lines of the bytes were read, with these items; behind them the begin of a line is held, and the rest is left
 pub record StopsBehind (before : List Item) (all : List ℕ) (left : Option (List ℕ)) : Type 0 where
-  pub read : List ℕ
-  pub held : List ℕ
-  pub rest : List ℕ
-  pub all_is : read ++ (held ++ rest) ≡ all
-  pub left_is : left ≡ Some rest
-  pub whole : AreWhole read (held ++ rest)
-  pub no_feed : HasNoFeed held
-  pub items : script_of read ≡ (before, None)
+  pub reads : ReadsAhead before all left
+  pub no_feed : HasNoFeed reads.ahead
 
 -- what is answered behind these items of the script: its next item, its end, the number of its bad line, or a fault between lines
 abbrev pub Answers : List Item → List ℕ → Result (Option Item) ScriptError → ScriptReader → List ℕ → Option (List ℕ) → Type 0
 Answers before all (Ok (Some i)) reader buffer left = HasRead (before ++ i ∷ []) all reader buffer left
-Answers before all (Ok None) reader buffer left = (script_of all ≡ (before, None)) × (left ≡ Some [])
-Answers before all (Err (error.BadLine k)) reader buffer left = script_of all ≡ (before, Some k)
+Answers before all (Ok None) reader buffer left = IsScriptOf all before None × (left ≡ Some [])
+Answers before all (Err (error.BadLine k)) reader buffer left = IsScriptOf all before (Some k)
 Answers before all (Err error.Fault) reader buffer left = StopsBehind before all left
 Answers before all (Err error.Memory) reader buffer left = Unit {0}
 

@@ -5,7 +5,9 @@
 #![tactic(auto)]
 
 mod admission;
+mod laws;
 mod script;
 
 pub use admission::{LONGEST_LINE, LONGEST_SCRIPT, MAX_FILE};
+pub use laws::{a_line_has_one_item, bytes_are_one_script};
 pub use script::{BUFFER_SIZE, ScriptError, ScriptReader};

@@ -2,11 +2,11 @@
 
 ghost use Rattle.std.specs.Prelude.{◌≡◌, ℕ, ◌<◌, ◌≤◌, ◌+◌, ◌-◌, ◌++◌, List, [], length, Option, Some, None, IfOk, IfSome, OnOk, IsErrOf};
 ghost use Rattle.ftp_base.specs.Outside.{HasRisen};
-ghost use Rattle.ftp_stream.specs.Lines.{bytes_in, behind_line, IsWithin};
+ghost use Rattle.ftp_stream.specs.Lines.{bytes_in, behind_line, IsWithin, TakesAtMost};
 ghost use Rattle.ftp_event_text.specs.declared.setup.Item.{Item};
 ghost use Rattle.ftp_event_text.specs.Setup.{IsItem};
 ghost use Rattle.ftp_script_text.specs.SetUp.{IsSetUp};
-ghost use Rattle.ftp_script_text.specs.ScriptReader.{IsLawful, Follows, HasRead, Answers, IsLetIn, IfLine, IsFault, NextIs, next_of};
+ghost use Rattle.ftp_script_text.specs.ScriptReader.{IsLawful, Follows, HasRead, ReadsAhead, Answers, IsLetIn, IfLine, IsFault, NextIs, next_of};
 
 use crate::admission::{Admission, LONGEST_LINE};
 use ftp_base::{MemoryStorage, Source};
@@ -65,6 +65,9 @@ impl ScriptReader {
         ensures told { (before : List Item) (all : List ℕ) → HasRead before all self.old buffer.old (S.left source.old) → IsSetUp storage.now before →
             Answers before all result self.new buffer.new (S.left source.new) }
 
+        // Whatever is answered, at most one buffer was taken from the source behind the lines before.
+        ensures ahead { (before : List Item) (all : List ℕ) → HasRead before all self.old buffer.old (S.left source.old) → ReadsAhead before all (S.left source.new) }
+
         // Whether or not the source tells its bytes, the item is lawful and may stand there.
         ensures item { IfOk result (λ found. IfSome found IsItem) }
         ensures let_in { (before : List Item) → Follows self.old before → IsSetUp storage.now before → IfOk result (λ found. IfSome found (λ i. IsLetIn before i self.new)) }
@@ -104,6 +107,7 @@ fn advance<S: Source>(buffer: &mut [u8], held: &mut Span, source: &mut S) -> Nex
     requires within { IsWithin buffer.old held.old }
     requires room { length buffer.old ≡ 65537 }
     ensures told { IfSome (S.left source.old) (λ left. NextIs (bytes_in buffer.old held.old ++ left) result buffer.new (bytes_in buffer.new held.new) (S.left source.new)) }
+    ensures ahead { IfSome (S.left source.old) (λ left. TakesAtMost 65537 (bytes_in buffer.old held.old ++ left) (S.left source.new)) }
     ensures line { IfLine result (λ line. IsWithin buffer.new line × (line.start < held.new.start)) }
     ensures taken { IfLine result (λ line. IfSome (S.left source.old)
         (λ left. held.new.start - line.start + length (behind_line (bytes_in buffer.old held.old ++ left)) ≡ length (bytes_in buffer.old held.old ++ left))) }

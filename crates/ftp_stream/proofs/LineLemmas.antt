@@ -1,5 +1,5 @@
 -- Line feeds, spans and reads.
-use Rattle.std.proofs.Common.{◌≡◌, ℕ, ◌+◌, ◌-◌, ◌<◌, ◌≤◌, List, ◌++◌, length, get_or, take, drop, Bool, true, false, eqb, Option, Some, None, refl, sym, ap, subst, ◌∙◌, append_assoc, arith, inl, inr, eq-eqb, not}
+use Rattle.std.proofs.Common.{◌≡◌, ℕ, ◌+◌, ◌-◌, ◌<◌, ◌≤◌, List, ◌++◌, length, get_or, take, drop, Bool, true, false, eqb, [], Option, Some, None, refl, sym, ap, subst, ◌∙◌, append_assoc, arith, inl, inr, eq-eqb, not}
 use Rattle.std.specs.Prelude.{IfSome, slice_range}
 use Rattle.std.specs.List.{position_or_len}
 use Rattle.std.proofs.lemmas.Bool.{cases_lt}
@@ -11,7 +11,7 @@ use borrow.Rule.Slice.PartMut.{put_mid, post_of}
 use Rattle.std.proofs.Math.Seq.{take-append-add}
 use Rattle.memchr.specs.Find.{IsFirstByte, is_byte}
 use Rattle.ftp_base.specs.Outside.{ReadsFront}
-use Rattle.ftp_stream.specs.Lines.{is_line_feed, first_line, behind_line, Rest}
+use Rattle.ftp_stream.specs.Lines.{is_line_feed, first_line, behind_line, Rest, TakesAtMost}
 
 -- the bytes from a place on
 tail_is : (bytes : List ℕ) (from : ℕ) → slice_range bytes from (length bytes) ≡ drop from bytes
@@ -167,3 +167,18 @@ found_taken held start i None all pos lt rest = absurd rest
 found_taken held start i (Some l) all pos lt rest =
     let p : position_or_len is_line_feed all ≡ i = ap (position_or_len is_line_feed) (sym rest) ∙ pos_found held l i pos lt in
     omega (arith, length-drop (position_or_len is_line_feed all + 1) all, p, ap length (sym rest), length-append held l)
+
+-- what is held was taken
+pub held_taken : (held : List ℕ) (size : ℕ) (left : Option (List ℕ)) (all : List ℕ) → length held ≤ size → Rest held left all → TakesAtMost size all left
+held_taken held size None all short rest = absurd rest
+held_taken held size (Some l) all short rest = record { taken = held; rest = l; bytes_are = rest; left_is = refl; at_most = short }
+
+-- and nothing else, at the end of the source
+pub held_taken-end : (held : List ℕ) (size : ℕ) (left later : Option (List ℕ)) (all : List ℕ) →
+    length held ≤ size →
+    Rest held left all →
+    IfSome left (λ l. (l ≡ []) × (later ≡ Some [])) →
+    TakesAtMost size all later
+held_taken-end held size None later all short rest end = absurd rest
+held_taken-end held size (Some l) later all short rest end =
+    record { taken = held; rest = l; bytes_are = rest; left_is = end.1 ∙ ap Some (sym end.0); at_most = short }

@@ -30,6 +30,14 @@ abbrev pub Rest : List ℕ → Option (List ℕ) → List ℕ → Type 0
 Rest held None bytes = ⊥
 Rest held (Some left) bytes = held ++ left ≡ bytes
 
+-- of these bytes at most so many were taken from the source, from the front, and all others are left
+pub record TakesAtMost (size : ℕ) (bytes : List ℕ) (left : Option (List ℕ)) : Type 0 where
+  pub taken : List ℕ
+  pub rest : List ℕ
+  pub bytes_are : taken ++ rest ≡ bytes
+  pub left_is : left ≡ Some rest
+  pub at_most : length taken ≤ size
+
 -- no line feed is among the bytes
 abbrev pub HasNoFeed : List ℕ → Type 0
 HasNoFeed bytes = position_or_len is_line_feed bytes ≡ length bytes

@@ -3,7 +3,7 @@
 ghost use Rattle.std.specs.Prelude.{◌≡◌, ℕ, ◌+◌, ◌-◌, ◌<◌, ◌≤◌, ◌++◌, [], length, Some, IfOk, OnErr, IfSome, MatchOption, IsErrOf};
 ghost use Rattle.std.specs.List.{position_or_len};
 ghost use Rattle.ftp_base.specs.Outside.{HasRisen};
-ghost use Rattle.ftp_stream.specs.Lines.{is_line_feed, behind_line, bytes_in, IsWithin, Rest, IsNext};
+ghost use Rattle.ftp_stream.specs.Lines.{is_line_feed, behind_line, bytes_in, IsWithin, Rest, TakesAtMost, IsNext};
 
 use ftp_base::{Failed, Source};
 use memchr::memchr;
@@ -38,6 +38,9 @@ pub fn next_line<S: Source>(
     // What was held and left gives the line, or is at its end, or begins with a line that is too long.
     ensures told { IfSome (S.left source.old) (λ left. IsNext (length buffer.old - 1) (bytes_in buffer.old held.old ++ left)
         result buffer.new (bytes_in buffer.new held.new) (S.left source.new)) }
+
+    // Of what was held and left no more is taken from the source than the buffer has bytes.
+    ensures ahead { IfSome (S.left source.old) (λ left. TakesAtMost (length buffer.old) (bytes_in buffer.old held.old ++ left) (S.left source.new)) }
 
     // The line and its line feed stand before what is held, and are the bytes that went.
     ensures line { IfOk result (λ found. IfSome found (λ line. IsWithin buffer.new line)) }

@@ -1,10 +1,10 @@
 use Rattle.std.proofs.Common.{◌≡◌, ◌∙◌, Option, Some, None, ap, subst, sym}
-use Rattle.std.specs.Prelude.{Result, Ok, Err, IfOk, IfSome}
+use Rattle.std.specs.Prelude.{Result, Ok, Err, IfOk, OnOk, IfSome}
 use Rattle.ftp_event_text.specs.declared.setup.Item.{Item}
 use Rattle.ftp_event_text.specs.Setup.{IsItem}
 use Rattle.ftp_script_text.specs.declared.script.ScriptError.{ScriptError}
 use Rattle.ftp_script_text.specs.declared.script.ScriptError.TheVariants as error
-use Rattle.ftp_script_text.specs.ScriptReader.{Answers, IsLetIn}
+use Rattle.ftp_script_text.specs.ScriptReader.{IsLawful, Answers, IsLetIn}
 use Rattle.ftp_script_run.specs.declared.status.Status.TheVariants as status
 use Rattle.ftp_script_run.specs.Statuses.{ended_by}
 use Rattle.ftp_script_run.proofs.Written.{if_none-then, if_some-both}
@@ -45,6 +45,8 @@ returns-in-Ok-Some-clause-ended g c =
     if_some-both c.taken.result c.taken.ensures.front c.taken.ensures.cut_short (λ s front short all before r.
     let placed = subst (λ (f : Found). IfOk f (λ o. IfSome o (λ i. IsLetIn r.items i c.next_item.new.self))) found (c.next_item.ensures.let_in r.items r.known (kept-set_up c.args.run.now r.items r.log c.storage.result.now r.kept c.storage.ensures)) in
     out-cut all left later before now new c.args.reader.now c.next_item.new.self c.args.run.now c.taken.new.run c.args.buffer.now c.next_item.new.buffer c.in-Ok-Some.item s r
+    (subst (λ (f : Found). OnOk f (IsLawful c.next_item.new.self c.next_item.new.buffer)) found c.next_item.ensures.lawful)
+    (λ bytes h. c.next_item.ensures.ahead r.items bytes h)
     (λ bytes h. subst (λ (f : Found). Answers r.items bytes f c.next_item.new.self c.next_item.new.buffer later) found (c.next_item.ensures.told r.items bytes h (kept-set_up c.args.run.now r.items r.log c.storage.result.now r.kept c.storage.ensures)))
     (front r.items r.log r.kept placed.0)
     short)
@@ -60,6 +62,7 @@ returns-in-Ok-None-clause-ended g c =
     outcome-of all later before new (ended_by c.end.result status.Done) c.after.result (sym c.after.ensures)
     (out-end all left later before now new c.args.reader.now c.args.run.now c.args.buffer.now c.end.result r
     (λ bytes h. subst (λ (f : Found). Answers r.items bytes f c.next_item.new.self c.next_item.new.buffer later) found (c.next_item.ensures.told r.items bytes h (kept-set_up c.args.run.now r.items r.log c.storage.result.now r.kept c.storage.ensures)))
+    (λ bytes h. c.next_item.ensures.ahead r.items bytes h)
     c.end.ensures.wrote c.end.ensures.front)
 
 pub returns-in-Err-BadLine-clause-ended : goal.returns-in-Err-BadLine-clause-ended
@@ -73,6 +76,7 @@ returns-in-Err-BadLine-clause-ended g c =
     outcome-of all later before new (ended_by c.bad_line.result (status.BadLine c.in-Err-BadLine.k)) c.after-in-Err-BadLine.result (sym c.after-in-Err-BadLine.ensures)
     (out-bad all left later before now new c.args.reader.now c.args.run.now c.args.buffer.now c.in-Err-BadLine.k c.bad_line.result r
     (λ bytes h. subst (λ (f : Found). Answers r.items bytes f c.next_item.new.self c.next_item.new.buffer later) found (c.next_item.ensures.told r.items bytes h (kept-set_up c.args.run.now r.items r.log c.storage.result.now r.kept c.storage.ensures)))
+    (λ bytes h. c.next_item.ensures.ahead r.items bytes h)
     c.bad_line.ensures.wrote c.bad_line.ensures.front)
 
 pub returns-in-Err-Fault-clause-ended : goal.returns-in-Err-Fault-clause-ended
@@ -86,4 +90,5 @@ returns-in-Err-Fault-clause-ended g c =
 
 pub returns-in-Err-Memory-clause-ended : goal.returns-in-Err-Memory-clause-ended
 returns-in-Err-Memory-clause-ended g c = λ all before r.
-    out-memory all (g.S.Source.left c.args.source.now) before (g.K.Sink.written c.args.sink.now) c.args.reader.now c.args.run.now c.args.buffer.now r
+    out-memory all (g.S.Source.left c.args.source.now) (g.S.Source.left c.next_item.new.source) before (g.K.Sink.written c.args.sink.now) c.args.reader.now c.args.run.now c.args.buffer.now r
+    (λ bytes h. c.next_item.ensures.ahead r.items bytes h)

@@ -1,7 +1,7 @@
 use Rattle.std.proofs.Common.{◌+◌, ◌-◌, ◌++◌, ◌∙◌, refl, length, arith}
 use Rattle.std.proofs.lemmas.Option.{IfSome_then}
 use Rattle.ftp_stream.specs.Lines.{bytes_in}
-use Rattle.ftp_stream.proofs.LineLemmas.{length-bytes_in, found_told, long_told, scanned_on, rest_on, found_taken}
+use Rattle.ftp_stream.proofs.LineLemmas.{length-bytes_in, found_told, long_told, scanned_on, rest_on, found_taken, held_taken, held_taken-end}
 use Rattle.ftp_stream.proofs.lines.next_line.Goals as goal
 
 pub returns-in-Some-clause-told : goal.returns-in-Some-clause-told
@@ -40,3 +40,15 @@ returns-in-Some-clause-taken g c =
     IfSome_then (g.S.Source.left c.args.source.now) c.loop-i.invariant.told
     (λ l rest. found_taken (bytes_in c.loop-i.buffer c.loop-i.held) c.loop-i.held.start c.in-Some.i (g.S.Source.left c.loop-i.source) (bytes_in c.args.buffer.now c.args.held.now ++ l)
     c.in-Some.ensures.1 c.in-Some.ensures.0 rest)
+
+pub returns-in-Some-clause-ahead : goal.returns-in-Some-clause-ahead
+returns-in-Some-clause-ahead g c =
+    let len = length-bytes_in c.loop-i.buffer c.loop-i.held.start c.loop-i.held.end c.loop-i.invariant.within.0 c.loop-i.invariant.within.1 in
+    IfSome_then (g.S.Source.left c.args.source.now) c.loop-i.invariant.told
+    (λ l rest. held_taken (bytes_in c.loop-i.buffer c.loop-i.held) (length c.args.buffer.now) (g.S.Source.left c.loop-i.source) (bytes_in c.args.buffer.now c.args.held.now ++ l) (omega (arith, len)) rest)
+
+pub returns-then-scanned-buffer-clause-ahead : goal.returns-then-scanned-buffer-clause-ahead
+returns-then-scanned-buffer-clause-ahead g c =
+    let len = length-bytes_in c.loop-i.buffer c.loop-i.held.start c.loop-i.held.end c.loop-i.invariant.within.0 c.loop-i.invariant.within.1 in
+    IfSome_then (g.S.Source.left c.args.source.now) c.loop-i.invariant.told
+    (λ l rest. held_taken (bytes_in c.loop-i.buffer c.loop-i.held) (length c.args.buffer.now) (g.S.Source.left c.loop-i.source) (bytes_in c.args.buffer.now c.args.held.now ++ l) (omega (arith, len)) rest)

@@ -1,0 +1,310 @@
+-- A run over a storage and a link in memory that nothing stopped has one outcome.
+use Rattle.std.proofs.Common.{◌≡◌, inl, inr, Bool, true, false, cond, ℕ, ◌+◌, ◌-◌, ◌^◌, ◌<◌, ◌≤◌, List, length, take, Option, Some, None, refl, sym, ap, subst, ◌∙◌, arith}
+use Rattle.std.specs.Prelude.{◌⊎◌, IfSome, MatchOption, nat_lt}
+use Rattle.std.specs.Option.{option_map, option_map_or}
+use Rattle.std.specs.Str.{bytes_eq}
+use Rattle.std.proofs.lemmas.List.{take_all}
+use Rattle.std.proofs.lemmas.Option.{same_Some}
+use Rattle.ftp_base.specs.declared.command.DataChanCmd.{DataChanCmd}
+use Rattle.ftp_base.specs.declared.command.DataChanCmd.TheVariants as command
+use Rattle.ftp_base.specs.declared.error_kind.ErrorKind.{ErrorKind}
+use Rattle.ftp_base.specs.declared.error_kind.ErrorKind.TheVariants as kind
+use Rattle.ftp_base.specs.Memory.{LinkState}
+use Rattle.ftp_base.specs.MemoryStorage.{MemoryState, memory_rule, if_within, if_file, if_directory, file_refusal, append_refusal as refused_append}
+use Rattle.ftp_base.specs.Outside.{HasRisen}
+use Rattle.ftp_base.specs.Storage.{Item, Directory, File, Files, Metadata, Listing, Begin, Append, meaning_of, item, contents, root, parent, with_file, old_bytes, put}
+use Rattle.ftp_base.proofs.Files.{get-insert_same}
+use Rattle.ftp_transfer.specs.declared.job.Completion.{Completion}
+use Rattle.ftp_transfer.specs.declared.job.Completion.TheVariants as result
+use Rattle.ftp_transfer.specs.declared.job.Job.{Job}
+use Rattle.ftp_transfer.specs.declared.job.Outcome.{Outcome}
+use Rattle.ftp_transfer.specs.Ran.{StoresAs, Refuses, first_refusal, shown_refusal, IsSentWhole, IsDone, due_of}
+use Rattle.ftp_transfer.specs.Run.{RefusedBy, IfRefused, RefusedFirst, RefusesStore, IsStopped, Stores, append_place}
+use Rattle.ftp_transfer.specs.Transfer.{suits, is_store}
+use Rattle.ftp_transfer.proofs.RunLemmas.{HasRisen-more}
+use Rattle.ftp_script_run.specs.Determined.{told_in_memory, RunsTo, SettledRunsAreDetermined}
+
+-- what is refused is not taken
+not_both : (o : Option ErrorKind) (k : ErrorKind) → o ≡ None → o ≡ Some k → ⊥
+not_both o k none some = cc (sym none ∙ some)
+
+-- ---- what comes of a command
+
+-- the result of a command that is done
+abbrev good : DataChanCmd → Completion
+good (command.Retr x) = result.Sent
+good (command.Stor x) = result.Written
+good (command.Appe x) = result.Written
+good (command.List o x) = result.Listed
+good (command.Nlst x) = result.Listed
+good (command.Mlsd x) = result.Listed
+
+good-sent : (c : DataChanCmd) → suits result.Sent c ≡ true → result.Sent ≡ good c
+good-sent (command.Retr x) s = refl
+good-sent (command.Stor x) s = absurd cc
+good-sent (command.Appe x) s = absurd cc
+good-sent (command.List o x) s = absurd cc
+good-sent (command.Nlst x) s = absurd cc
+good-sent (command.Mlsd x) s = absurd cc
+
+good-written : (c : DataChanCmd) → suits result.Written c ≡ true → result.Written ≡ good c
+good-written (command.Retr x) s = absurd cc
+good-written (command.Stor x) s = refl
+good-written (command.Appe x) s = refl
+good-written (command.List o x) s = absurd cc
+good-written (command.Nlst x) s = absurd cc
+good-written (command.Mlsd x) s = absurd cc
+
+good-listed : (c : DataChanCmd) → suits result.Listed c ≡ true → result.Listed ≡ good c
+good-listed (command.Retr x) s = absurd cc
+good-listed (command.Stor x) s = absurd cc
+good-listed (command.Appe x) s = absurd cc
+good-listed (command.List o x) s = refl
+good-listed (command.Nlst x) s = refl
+good-listed (command.Mlsd x) s = refl
+
+good-of : (c : DataChanCmd) (r : Completion) → IsDone r → suits r c ≡ true → r ≡ good c
+good-of c result.Sent d s = good-sent c s
+good-of c result.Written d s = good-written c s
+good-of c result.Listed d s = good-listed c s
+good-of c result.WriteFailed d s = absurd d
+good-of c (result.Refused k) d s = absurd d
+good-of c result.OutOfMemory d s = absurd d
+
+-- how many bytes a whole transfer moves
+abbrev count_of : DataChanCmd → Job → Files → List ℕ → ℕ
+count_of (command.Stor x) job files input = length input
+count_of (command.Appe x) job files input = length input
+count_of c job files input = length (due_of c files job.path job.offset)
+
+-- where an APPE begins
+abbrev place_of : Job → ℕ → Files → Option ℕ
+place_of job max files = append_place (memory_rule max files (Metadata job.user job.path)) (length (old_bytes files job.path))
+
+-- the files with the input put at a place
+abbrev with_input : Job → Files → ℕ → List ℕ → Files
+with_input job files place input = with_file files job.path (put (old_bytes files job.path) place input)
+
+-- the files that a whole transfer leaves
+abbrev files_after : DataChanCmd → Job → ℕ → Files → List ℕ → Files
+files_after (command.Stor x) job max files input = with_input job files job.offset input
+files_after (command.Appe x) job max files input = option_map_or (λ place. with_input job files place input) (place_of job max files) files
+files_after c job max files input = files
+
+-- what a run tells, from files and an input, of calls that are refused by the files as they stand later
+record Run (c : DataChanCmd) (job : Job) (max : ℕ) (files : Files) (input : List ℕ) (new : Option Files) (later : Option (List ℕ)) (a b : ℕ) (outcome : Outcome) : Type 0 where
+  held : HasRisen a b → ⊥
+  memory : outcome.result ≡ result.OutOfMemory → ⊥
+  exceeded : outcome.result ≡ result.Refused kind.ExceededStorageAllocationError → ⊥
+  count : outcome.bytes < 2 ^ 64 - 1
+  fits : suits outcome.result c ≡ true
+  fault : outcome.fault ≡ None
+  cause : IfRefused (RefusedBy (HasRisen a b) (λ k. Refuses c job (memory_rule max) files new (Some input) later outcome.bytes k) outcome.bytes) outcome.result
+  whole : IsSentWhole outcome.result → outcome.bytes ≡ length (due_of c files job.path job.offset)
+  kept : is_store c ≡ false → new ≡ Some files
+  stored : StoresAs c job files (memory_rule max files) new input outcome
+  written : outcome.result ≡ result.Written → outcome.bytes ≡ length input
+  refused : IfSome (first_refusal c job files (memory_rule max files)) (λ k. RefusedFirst (HasRisen a b) k outcome.bytes outcome.result × (new ≡ Some files))
+
+-- the outcome of such a run and the files that it leaves, by how the first call is refused
+abbrev EndsSo : DataChanCmd → Job → ℕ → Files → List ℕ → Option Files → Outcome → Option ErrorKind → Type 0
+EndsSo c job max files input new outcome None =
+    (outcome ≡ record { result = good c; bytes = count_of c job files input; fault = None }) × (new ≡ Some (files_after c job max files input))
+EndsSo c job max files input new outcome (Some k) = (outcome ≡ record { result = result.Refused k; bytes = 0; fault = None }) × (new ≡ Some files)
+
+outcome-is : (outcome : Outcome) (r : Completion) (n : ℕ) → outcome.result ≡ r → outcome.bytes ≡ n → outcome.fault ≡ None → outcome ≡ record { result = r; bytes = n; fault = None }
+outcome-is outcome r n result bytes fault = λ i. record { result = result i; bytes = bytes i; fault = fault i }
+
+-- ---- a first call that is refused
+
+refused-result : (a b m : ℕ) (k : ErrorKind) (r : Completion) → (HasRisen a b → ⊥) → (r ≡ result.OutOfMemory → ⊥) → RefusedFirst (HasRisen a b) k m r → r ≡ result.Refused k
+refused-result a b m k r held memory (zero, inl e) = e
+refused-result a b m k r held memory (zero, inr (inl e)) = absurd (memory e)
+refused-result a b m k r held memory (zero, inr (inr x)) = absurd (held x.0)
+
+refused-ends : (c : DataChanCmd) (job : Job) (max : ℕ) (files : Files) (input : List ℕ) (new : Option Files) (later : Option (List ℕ)) (a b : ℕ) (outcome : Outcome) (k : ErrorKind) →
+    Run c job max files input new later a b outcome →
+    first_refusal c job files (memory_rule max files) ≡ Some k →
+    EndsSo c job max files input new outcome (Some k)
+refused-ends c job max files input new later a b outcome k r is =
+    let told : RefusedFirst (HasRisen a b) k outcome.bytes outcome.result × (new ≡ Some files) =
+    subst (λ (o : Option ErrorKind). IfSome o (λ j. RefusedFirst (HasRisen a b) j outcome.bytes outcome.result × (new ≡ Some files))) is r.refused in (
+      outcome-is outcome (result.Refused k) 0 (refused-result a b outcome.bytes k outcome.result r.held r.memory told.0) told.0.0 r.fault,
+      told.1,
+    )
+
+-- ---- one that is not refused
+
+-- the only refusal for a size
+within-kind : (len max : ℕ) (k : ErrorKind) → if_within len max ≡ Some k → k ≡ kind.ExceededStorageAllocationError
+within-kind len max k e = by (nat_lt max len) e where
+  by : (b : Bool) → cond b (Some kind.ExceededStorageAllocationError) None ≡ Some k → k ≡ kind.ExceededStorageAllocationError
+  by true h = cc
+  by false h = absurd cc
+
+-- a file that can be begun is not the root
+begun-other : (files : Files) (max : ℕ) (path : List ℕ) (start : ℕ) → file_refusal files max path start ≡ None → bytes_eq path root ≡ false
+begun-other files max path start none = by (bytes_eq path root) refl where
+  by : (b : Bool) → bytes_eq path root ≡ b → bytes_eq path root ≡ false
+  by false e = e
+  by true e = absurd (never (item files (parent path)) (if_within start max) (rw e at none)) where
+    never : (dir : Option Item) (size : Option ErrorKind) → if_directory dir kind.PermanentDirectoryNotAvailable (if_file (Some Directory) size) ≡ None → ⊥
+    never (Some Directory) size h = absurd cc
+    never (Some (File bytes)) size h = absurd cc
+    never None size h = absurd cc
+
+-- a file that was put is found
+put_found : (files : Files) (path bytes : List ℕ) → bytes_eq path root ≡ false → contents (with_file files path bytes) path ≡ Some bytes
+put_found files path bytes other = rw (other, get-insert_same files path (File bytes)) refl
+
+-- what refuses a store that was begun refuses it for its size
+store-cause : (job : Job) (max place m : ℕ) (files : Files) (input : List ℕ) (new : Option Files) (later : Option (List ℕ)) (k : ErrorKind) →
+    file_refusal files max job.path place ≡ None →
+    RefusesStore (memory_rule max) job.user files new job.path place (Some input) later m k →
+    k ≡ kind.ExceededStorageAllocationError
+store-cause job max place m files input new later k none (inl (zero, refused)) = absurd (not_both _ k none refused)
+store-cause job max place m files input new later k none (inr (stored, (piece, some, short, front, refused))) =
+    let bytes : List ℕ = put (old_bytes files job.path) place (take m input) in
+    let there : contents (with_file files job.path bytes) job.path ≡ Some bytes =
+    put_found files job.path bytes (begun-other files max job.path place none) in
+    let here : refused_append (contents (with_file files job.path bytes) job.path) max (length piece) ≡ Some k =
+    subst (λ (o : Option Files). meaning_of (memory_rule max) o (Append job.user job.path piece) ≡ Some k) stored refused in
+    let over : refused_append (Some bytes) max (length piece) ≡ Some k =
+    subst (λ (o : Option (List ℕ)). refused_append o max (length piece) ≡ Some k) there here in
+    within-kind (length bytes + length piece) max k over
+
+-- an APPE of which no first call is refused begins somewhere
+appe-place : (met : Option ErrorKind) (len : ℕ) (begin : ℕ → Option ErrorKind) (found : Option ℕ) →
+    append_place met len ≡ found →
+    option_map_or begin found met ≡ None →
+    (place : ℕ) × (append_place met len ≡ Some place) × (begin place ≡ None)
+appe-place met len begin (Some place) is none = (place, is, none)
+appe-place None len begin None is none = absurd cc
+appe-place (Some k) len begin None is none = absurd cc
+
+listing-cause : (o : Option ErrorKind) (f : ErrorKind → ErrorKind) (k : ErrorKind) → option_map f o ≡ None → o ≡ Some k → ⊥
+listing-cause None f k none some = cc
+listing-cause (Some j) f k none some = cc
+
+-- where the first call is not refused, a refusal is for a size
+cause-is : (c : DataChanCmd) (job : Job) (max m : ℕ) (files : Files) (input : List ℕ) (new : Option Files) (later : Option (List ℕ)) (k : ErrorKind) →
+    first_refusal c job files (memory_rule max files) ≡ None →
+    Refuses c job (memory_rule max) files new (Some input) later m k →
+    k ≡ kind.ExceededStorageAllocationError
+cause-is (command.Retr x) job max m files input new later k none refused = absurd (not_both _ k none refused)
+cause-is (command.Stor x) job max m files input new later k none refused = store-cause job max job.offset m files input new later k none refused
+cause-is (command.Appe x) job max m files input new later k none refused =
+    let met : Option ErrorKind = memory_rule max files (Metadata job.user job.path) in
+    let at = appe-place met (length (old_bytes files job.path)) (λ place. file_refusal files max job.path place) (append_place met (length (old_bytes files job.path))) refl none in
+    let here : RefusesStore (memory_rule max) job.user files new job.path at.0 (Some input) later m k =
+    subst (λ (o : Option ℕ). MatchOption o ((m ≡ 0) × (met ≡ Some k)) (λ place. RefusesStore (memory_rule max) job.user files new job.path place (Some input) later m k)) at.1 refused in
+    store-cause job max at.0 m files input new later k at.2 here
+cause-is (command.List o x) job max m files input new later k none refused = absurd (listing-cause _ _ refused.0 none refused.1)
+cause-is (command.Nlst x) job max m files input new later k none refused = absurd (listing-cause _ _ refused.0 none refused.1)
+cause-is (command.Mlsd x) job max m files input new later k none refused = absurd (listing-cause _ _ refused.0 none refused.1)
+
+-- what nothing refused, and nothing stopped, is done
+settled-done : (rose : Type 0) (refuses : ErrorKind → Type 0) (m : ℕ) (r : Completion) →
+    (rose → ⊥) → m < 2 ^ 64 - 1 → ((k : ErrorKind) → r ≡ result.Refused k → refuses k → ⊥) → (r ≡ result.OutOfMemory → ⊥) →
+    IfRefused (RefusedBy rose refuses m) r → IsDone r
+settled-done rose refuses m (result.Refused k) held below none memory (inl (is, inl h)) = absurd (held h)
+settled-done rose refuses m (result.Refused k) held below none memory (inl (is, inr full)) = absurd (omega (arith, full, below))
+settled-done rose refuses m (result.Refused k) held below none memory (inr h) = absurd (none k refl h)
+settled-done rose refuses m result.WriteFailed held below none memory h = absurd h
+settled-done rose refuses m result.Sent held below none memory h = tt
+settled-done rose refuses m result.Written held below none memory h = tt
+settled-done rose refuses m result.Listed held below none memory h = tt
+settled-done rose refuses m result.OutOfMemory held below none memory h = absurd (memory refl)
+
+-- ---- what a whole transfer moves and leaves
+
+done-count : (c : DataChanCmd) (job : Job) (max : ℕ) (files : Files) (input : List ℕ) (new : Option Files) (later : Option (List ℕ)) (a b : ℕ) (outcome : Outcome) →
+    Run c job max files input new later a b outcome → outcome.result ≡ good c → outcome.bytes ≡ count_of c job files input
+done-count (command.Stor x) job max files input new later a b outcome r is = r.written is
+done-count (command.Appe x) job max files input new later a b outcome r is = r.written is
+done-count (command.Retr x) job max files input new later a b outcome r is = r.whole (subst IsSentWhole (sym is) tt)
+done-count (command.List o x) job max files input new later a b outcome r is = r.whole (subst IsSentWhole (sym is) tt)
+done-count (command.Nlst x) job max files input new later a b outcome r is = r.whole (subst IsSentWhole (sym is) tt)
+done-count (command.Mlsd x) job max files input new later a b outcome r is = r.whole (subst IsSentWhole (sym is) tt)
+
+-- a whole input was stored
+stored-whole : (job : Job) (files : Files) (new : Option Files) (place : ℕ) (input : List ℕ) (outcome : Outcome) →
+    Stores files new job.path place input outcome → outcome.result ≡ result.Written → outcome.bytes ≡ length input → new ≡ Some (with_input job files place input)
+stored-whole job files new place input outcome (within, inl stored) is whole =
+    stored ∙ ap (λ (bytes : List ℕ). Some (with_input job files place bytes)) (take_all outcome.bytes input (omega arith))
+stored-whole job files new place input outcome (within, inr idle) is whole = absurd (subst IsStopped is idle.1.2)
+
+done-files : (c : DataChanCmd) (job : Job) (max : ℕ) (files : Files) (input : List ℕ) (new : Option Files) (later : Option (List ℕ)) (a b : ℕ) (outcome : Outcome) →
+    Run c job max files input new later a b outcome →
+    first_refusal c job files (memory_rule max files) ≡ None →
+    outcome.result ≡ good c →
+    new ≡ Some (files_after c job max files input)
+done-files (command.Stor x) job max files input new later a b outcome r none is = stored-whole job files new job.offset input outcome r.stored is (r.written is)
+done-files (command.Appe x) job max files input new later a b outcome r none is =
+    let met : Option ErrorKind = memory_rule max files (Metadata job.user job.path) in
+    let at = appe-place met (length (old_bytes files job.path)) (λ place. file_refusal files max job.path place) (append_place met (length (old_bytes files job.path))) refl none in
+    let stored : Stores files new job.path at.0 input outcome =
+    subst (λ (o : Option ℕ). MatchOption o ((new ≡ Some files) × ((outcome.bytes ≡ 0) × (outcome.fault ≡ None) × IsStopped outcome.result)) (λ place. Stores files new job.path place input outcome)) at.1 r.stored in
+    stored-whole job files new at.0 input outcome stored is (r.written is)
+    ∙ ap (λ (o : Option ℕ). Some (option_map_or (λ place. with_input job files place input) o files)) (sym at.1)
+done-files (command.Retr x) job max files input new later a b outcome r none is = r.kept refl
+done-files (command.List o x) job max files input new later a b outcome r none is = r.kept refl
+done-files (command.Nlst x) job max files input new later a b outcome r none is = r.kept refl
+done-files (command.Mlsd x) job max files input new later a b outcome r none is = r.kept refl
+
+done-ends : (c : DataChanCmd) (job : Job) (max : ℕ) (files : Files) (input : List ℕ) (new : Option Files) (later : Option (List ℕ)) (a b : ℕ) (outcome : Outcome) →
+    Run c job max files input new later a b outcome →
+    first_refusal c job files (memory_rule max files) ≡ None →
+    EndsSo c job max files input new outcome None
+done-ends c job max files input new later a b outcome r none =
+    let done : IsDone outcome.result =
+    settled-done (HasRisen a b) (λ k. Refuses c job (memory_rule max) files new (Some input) later outcome.bytes k) outcome.bytes outcome.result r.held r.count
+    (λ k is refused. r.exceeded (is ∙ ap result.Refused (cause-is c job max outcome.bytes files input new later k none refused)))
+    r.memory r.cause in
+    let is : outcome.result ≡ good c = good-of c outcome.result done r.fits in (
+      outcome-is outcome (good c) (count_of c job files input) is (done-count c job max files input new later a b outcome r is) r.fault,
+      done-files c job max files input new later a b outcome r none is,
+    )
+
+-- ---- a run over memory
+
+run-of : (job : Job) (storage later : MemoryState) (link after : LinkState) (outcome : Outcome) →
+    RunsTo job storage link later after outcome →
+    Run job.command job storage.max_file storage.files link.left (Some later.files) (Some after.left) storage.calls.faults later.calls.faults outcome
+run-of job storage later link after outcome to =
+    elim to.ran.moves.cause [
+      | inl failed ↦ absurd (to.settled.link (HasRisen-more link.calls.faults to.ran.faults after.calls.faults to.ran.not_after failed.1))
+      | inr held ↦ record {
+        held = to.settled.storage;
+        memory = to.settled.memory;
+        exceeded = to.settled.exceeded;
+        count = to.settled.count;
+        fits = to.fits;
+        fault = held.0.0;
+        cause = held.1;
+        whole = to.ran.moves.whole;
+        kept = λ no. (to.ran.moves.kept no).0;
+        stored = to.ran.moves.stored;
+        written = λ is. (to.ran.moves.written is).0;
+        refused = to.ran.moves.refused;
+      }
+    ]
+
+pub settled-determined : SettledRunsAreDetermined
+settled-determined job storage left right link near far first second one other =
+    by (first_refusal job.command job storage.files (memory_rule storage.max_file storage.files)) refl where
+      x : Run job.command job storage.max_file storage.files link.left (Some left.files) (Some near.left) storage.calls.faults left.calls.faults first
+      x = run-of job storage left link near first one
+
+      y : Run job.command job storage.max_file storage.files link.left (Some right.files) (Some far.left) storage.calls.faults right.calls.faults second
+      y = run-of job storage right link far second other
+
+      by : (found : Option ErrorKind) → first_refusal job.command job storage.files (memory_rule storage.max_file storage.files) ≡ found → (first ≡ second) × (left.files ≡ right.files)
+      by None e =
+          let a = done-ends job.command job storage.max_file storage.files link.left (Some left.files) (Some near.left) storage.calls.faults left.calls.faults first x e in
+          let b = done-ends job.command job storage.max_file storage.files link.left (Some right.files) (Some far.left) storage.calls.faults right.calls.faults second y e in
+          (a.0 ∙ sym b.0, same_Some _ _ (a.1 ∙ sym b.1))
+      by (Some k) e =
+          let a = refused-ends job.command job storage.max_file storage.files link.left (Some left.files) (Some near.left) storage.calls.faults left.calls.faults first k x e in
+          let b = refused-ends job.command job storage.max_file storage.files link.left (Some right.files) (Some far.left) storage.calls.faults right.calls.faults second k y e in
+          (a.0 ∙ sym b.0, same_Some _ _ (a.1 ∙ sym b.1))
