@@ -19,6 +19,8 @@ mod numbers;
 #[cfg(test)]
 mod options;
 #[cfg(test)]
+mod proxy;
+#[cfg(test)]
 mod storage;
 #[cfg(test)]
 mod switchboard;
