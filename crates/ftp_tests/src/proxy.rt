@@ -47,10 +47,7 @@ fn a_header_is_read_whatever_the_pieces(rt: HostRuntime) -> Result<(), Fail> {
             b"PROXY TCP4 01.0.0.1 1.1.1.1 1 1\r\n",
             Err(ProxyError::DecodeError),
         ),
-        (
-            b"PROXY TCP6 ::1 ::2 1 2\r\n",
-            Err(ProxyError::IPv4Required),
-        ),
+        (b"PROXY TCP6 ::1 ::2 1 2\r\n", Err(ProxyError::IPv4Required)),
     ] {
         for chunk in [1, 55, 65536] {
             let mut source = MemorySource::new(bytes.to_vec(alloc)?, chunk, Vec::new(alloc));
@@ -63,8 +60,15 @@ fn a_header_is_read_whatever_the_pieces(rt: HostRuntime) -> Result<(), Fail> {
 #[test]
 fn a_header_leaves_what_stands_behind_it(rt: HostRuntime) -> Result<(), Fail> {
     let alloc = rt.alloc();
-    let mut source = MemorySource::new(b"PROXY UNKNOWN\r\nUSER".to_vec(alloc)?, 65536, Vec::new(alloc));
-    assert_eq!(rt; read_proxy_header(&mut source), Err(ProxyError::UnsupportedVersion));
+    let mut source = MemorySource::new(
+        b"PROXY UNKNOWN\r\nUSER".to_vec(alloc)?,
+        65536,
+        Vec::new(alloc),
+    );
+    assert_eq!(rt;
+        read_proxy_header(&mut source),
+        Err(ProxyError::UnsupportedVersion)
+    );
     let mut rest = [0; 5];
     assert_eq!(rt; source.read(&mut rest), Ok(4));
     assert_eq!(rt; rest.as_slice(), b"USER\0".as_slice());
@@ -76,7 +80,10 @@ fn a_failing_call_is_a_fault(rt: HostRuntime) -> Result<(), Fail> {
     let alloc = rt.alloc();
     let fails = [5].to_vec(alloc)?;
     let mut source = MemorySource::new(b"PROXY UNKNOWN\r\n".to_vec(alloc)?, 3, fails);
-    assert_eq!(rt; read_proxy_header(&mut source), Err(ProxyError::ReadError(ReadError::Fault)));
+    assert_eq!(rt;
+        read_proxy_header(&mut source),
+        Err(ProxyError::ReadError(ReadError::Fault))
+    );
     Ok(())
 }
 
