@@ -11,6 +11,8 @@ mod hub;
 #[cfg(test)]
 mod links;
 #[cfg(test)]
+mod lockout;
+#[cfg(test)]
 mod logs;
 #[cfg(test)]
 mod memory;
