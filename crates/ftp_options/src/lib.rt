@@ -6,8 +6,10 @@
 
 mod builder;
 mod error;
+mod lockout;
 mod options;
 
 pub use builder::{Built, ServerBuilder};
 pub use error::ServerError;
+pub use lockout::{FailedLoginsBlock, FailedLoginsPolicy};
 pub use options::{ActivePassiveMode, ListenerMode, Options, PassiveHost};

@@ -13,6 +13,8 @@ mod laws;
 #[cfg(test)]
 mod links;
 #[cfg(test)]
+mod lockout;
+#[cfg(test)]
 mod logs;
 #[cfg(test)]
 mod memory;
@@ -20,6 +22,8 @@ mod memory;
 mod numbers;
 #[cfg(test)]
 mod options;
+#[cfg(test)]
+mod proxy;
 #[cfg(test)]
 mod storage;
 #[cfg(test)]

@@ -1,0 +1,5 @@
+use Rattle.ftp_lockout.proofs.Records.{none_in_order}
+use Rattle.ftp_lockout.proofs.cache.FailedLoginsCache.new.Goals as goal
+
+pub invariant_of-result : goal.invariant_of-result
+invariant_of-result c = rw c.new.ensures.items none_in_order

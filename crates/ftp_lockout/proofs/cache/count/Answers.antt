@@ -1,0 +1,33 @@
+use Rattle.std.proofs.Common.{◌∙◌, cond, Option, Some, None, sym, ap}
+use Rattle.ftp_lockout.specs.declared.cache.Failures.{Failures}
+use Rattle.ftp_lockout.specs.Keys.{same_key}
+use Rattle.ftp_lockout.specs.Failures.{recorded, one_more}
+use Rattle.ftp_lockout.proofs.Records.{recorded-found, recorded-gap, of_same}
+use Rattle.ftp_lockout.proofs.cache.count.Goals as goal
+
+pub returns-in-Ok-clause-counted : goal.returns-in-Ok-clause-counted
+returns-in-Ok-clause-counted c = λ other.
+    let is_at = rw (c.deref.ensures.value, c.lend.ensures) at c.in-Ok.ensures.found in
+    let found = recorded-found c.args.records.now.items c.in-Ok.place c.index.result.now c.args.key c.requires.order is_at.within c.index.ensures is_at in
+    c.set_at.ensures.recorded c.args.key other is_at
+    ∙ ap (λ (f : Failures). cond (same_key other c.args.key) (Some f) (recorded c.args.records.now.items other)) c.more-failures.ensures
+    ∙ of_same (λ o. Some (one_more c.args.policy c.args.at o)) c.args.records.now.items c.args.key other _ (Some c.index.result.now.1) found
+
+pub returns-in-Ok-clause-count : goal.returns-in-Ok-clause-count
+returns-in-Ok-clause-count c =
+    let is_at = rw (c.deref.ensures.value, c.lend.ensures) at c.in-Ok.ensures.found in
+    let found = recorded-found c.args.records.now.items c.in-Ok.place c.index.result.now c.args.key c.requires.order is_at.within c.index.ensures is_at in
+    ap (λ (f : Failures). f.count) c.more-failures.ensures ∙ ap (λ (o : Option Failures). (one_more c.args.policy c.args.at o).count) (sym found)
+
+pub returns-in_ok-put_at-in-Err-clause-counted : goal.returns-in_ok-put_at-in-Err-clause-counted
+returns-in_ok-put_at-in-Err-clause-counted c = λ other.
+    let gap = rw (c.deref.ensures.value, c.lend.ensures) at c.in-Err.ensures.absent in
+    let none = recorded-gap c.args.records.now.items c.in-Err.place c.args.key gap in
+    c.in_ok-put_at-in-Err.ensures.recorded other
+    ∙ of_same (λ o. Some (one_more c.args.policy c.args.at o)) c.args.records.now.items c.args.key other _ None none
+
+pub returns-in_ok-put_at-in-Err-clause-count : goal.returns-in_ok-put_at-in-Err-clause-count
+returns-in_ok-put_at-in-Err-clause-count c =
+    let gap = rw (c.deref.ensures.value, c.lend.ensures) at c.in-Err.ensures.absent in
+    let none = recorded-gap c.args.records.now.items c.in-Err.place c.args.key gap in
+    ap (λ (o : Option Failures). (one_more c.args.policy c.args.at o).count) (sym none)

@@ -1,0 +1,4 @@
+pub mod Keys
+pub mod Failures
+pub mod Tally
+pub mod Places

@@ -1,0 +1,50 @@
+use Rattle.std.proofs.Common.{◌∙◌, arith, eq-eqb}
+use Rattle.std.proofs.lemmas.Bool.Decides.{nat_tests}
+use Rattle.std.proofs.lemmas.Option.{IfSome_then}
+use Rattle.ftp_proxy.proofs.Scan.{scan_more, scan_found, scan_ended, scan_full, scan_failed}
+use Rattle.ftp_proxy.proofs.reader.read_line.Goals as goal
+
+pub returns-in_err-byte-clause-front : goal.returns-in_err-byte-clause-front
+returns-in_err-byte-clause-front g c = λ _.
+    IfSome_then _ c.loop-i.invariant.scanned
+    (λ all s. scan_failed all c.loop-i.bytes c.loop-i.i _ _ s (omega arith) c.in_err-byte.ensures.unchanged)
+
+pub returns-in_default-clause-end : goal.returns-in_default-clause-end
+returns-in_default-clause-end g c = λ _.
+    IfSome_then _ c.loop-i.invariant.scanned
+    (λ all s. (scan_ended all c.loop-i.bytes c.loop-i.i _ _ _ s (omega arith) c.in_ok-byte.ensures.next c.in_default.is).0)
+
+pub returns-in_default-clause-all : goal.returns-in_default-clause-all
+returns-in_default-clause-all g c = λ _.
+    IfSome_then _ c.loop-i.invariant.scanned
+    (λ all s. (scan_ended all c.loop-i.bytes c.loop-i.i _ _ _ s (omega arith) c.in_ok-byte.ensures.next c.in_default.is).1)
+
+pub returns-then-byte-eq10-clause-found : goal.returns-then-byte-eq10-clause-found
+returns-then-byte-eq10-clause-found g c =
+    IfSome_then _ c.loop-i.invariant.scanned
+    (λ all s. (scan_found all c.loop-i.bytes c.loop-i.i c.in-Some.byte _ _ _ s (omega arith) c.in_ok-byte.ensures.next c.in-Some.is (eq-eqb _ _ c.if-byte-eq10.true)).0)
+
+pub returns-then-byte-eq10-clause-taken : goal.returns-then-byte-eq10-clause-taken
+returns-then-byte-eq10-clause-taken g c =
+    IfSome_then _ c.loop-i.invariant.scanned
+    (λ all s. (scan_found all c.loop-i.bytes c.loop-i.i c.in-Some.byte _ _ _ s (omega arith) c.in_ok-byte.ensures.next c.in-Some.is (eq-eqb _ _ c.if-byte-eq10.true)).1)
+
+pub loop-i-preserved : goal.loop-i-preserved
+loop-i-preserved g c = record {
+  scanned =
+      IfSome_then _ c.loop-i.invariant.scanned
+      (λ all s. scan_more all c.loop-i.bytes c.loop-i.i c.in-Some.byte _ _ _ s (grind arith) c.in_ok-byte.ensures.next c.in-Some.is (grind (arith, nat_tests)));
+  sent = c.read_byte.ensures.sent ∙ c.loop-i.invariant.sent;
+  closed = c.read_byte.ensures.closed ∙ c.loop-i.invariant.closed;
+  last_fault = c.in_ok-byte.ensures.last_fault ∙ c.loop-i.invariant.last_fault;
+  count = omega arith;
+  limit = omega arith;
+}
+
+pub returns-clause-found : goal.returns-clause-found
+returns-clause-found g c =
+    IfSome_then _ c.loop-i.invariant.scanned (λ all s. (scan_full all c.loop-i.bytes c.loop-i.i _ s (omega arith)).0)
+
+pub returns-clause-taken : goal.returns-clause-taken
+returns-clause-taken g c =
+    IfSome_then _ c.loop-i.invariant.scanned (λ all s. (scan_full all c.loop-i.bytes c.loop-i.i _ s (omega arith)).1)
