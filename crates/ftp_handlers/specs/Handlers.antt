@@ -16,12 +16,12 @@ use Rattle.ftp_events.specs.declared.event.EventKind.TheVariants as kind
 use Rattle.ftp_events.specs.declared.event.Answer.{Answer}
 use Rattle.ftp_events.specs.declared.event.Answer.TheVariants.{Done}
 use Rattle.ftp_events.specs.declared.decision.Decision.{Decision}
-use Rattle.ftp_events.specs.declared.decision.Decision.TheVariants.{UnknownNumber, Granted, Queued, Finished, Closed, LoggedIn}
+use Rattle.ftp_events.specs.declared.decision.Decision.TheVariants.{UnknownNumber, Queued, Finished, LoggedIn}
 use Rattle.ftp_events.specs.declared.session.Login.{Login}
 use Rattle.ftp_events.specs.declared.session.Pending.{Pending}
 use Rattle.ftp_events.specs.declared.session.Session.{Session}
 use Rattle.ftp_events.specs.declared.decision.Life.{Life}
-use Rattle.ftp_events.specs.declared.decision.Life.TheVariants.{Goes}
+use Rattle.ftp_events.specs.declared.decision.Life.TheVariants.{Goes, Ends}
 use Rattle.ftp_events.specs.declared.decision.SlotMove.{SlotMove}
 use Rattle.ftp_events.specs.declared.decision.SlotMove.TheVariants.{Keeps, Empties, EmptiesWaiting, Awaits}
 use Rattle.ftp_events.specs.Classes.{life, slot_move}
@@ -33,6 +33,7 @@ use Rattle.ftp_events.specs.Slot.{Lane}
 use Rattle.ftp_events.specs.Text.{unique_name}
 use Rattle.ftp_events.specs.Transfer.{moves_file}
 use Rattle.ftp_events.specs.LoginRows.{auth_row}
+use Rattle.ftp_handlers.specs.Rooms.{most_actions}
 
 -- the kinds of the handlers
 abbrev pub is_user : EventKind → Bool
@@ -55,6 +56,10 @@ abbrev pub is_closed : EventKind → Bool
 is_closed (kind.Closed s) = true
 is_closed _ = false
 
+-- the kinds that end a live session
+abbrev pub ends_session : EventKind → Bool
+ends_session k = is_closed k
+
 abbrev pub is_rest : EventKind → Bool
 is_rest (kind.Rest s offset) = true
 is_rest _ = false
@@ -72,6 +77,10 @@ is_transfer _ = false
 -- the other kinds that a session sends while it goes on
 abbrev pub is_command : EventKind → Bool
 is_command k = is_user k || is_pass k || is_auth k || is_pasv k || is_rest k || is_cwd k
+
+-- how many actions of an event of this kind can need a place
+abbrev pub places_for : EventKind → ℕ
+places_for k = most_actions
 
 -- the kinds that a reply answers
 abbrev pub can_reply : EventKind → Bool
@@ -130,12 +139,16 @@ abbrev pub answered_row : EventKind → Login → Decision
 answered_row (kind.AuthDone s said) login = auth_row said login
 answered_row _ login = UnknownNumber
 
--- how many notices a decision sends to its session, with the answer that it is on
+-- how many notices a decision with this turn of a life sends to its session, with the answer that it is on
+abbrev pub notices_by : Life → Decision → Answer → ℕ
+notices_by Ends d answer = 1
+notices_by _ LoggedIn answer = 1
+notices_by _ Finished (Done outcome) = if moves_file outcome.result then 1 else 0
+notices_by _ d answer = 0
+
+-- how many a decision sends
 abbrev pub notices_of : Decision → Answer → ℕ
-notices_of LoggedIn answer = 1
-notices_of Closed answer = 1
-notices_of Finished (Done outcome) = if moves_file outcome.result then 1 else 0
-notices_of _ _ = 0
+notices_of d answer = notices_by (life d) d answer
 
 -- a session has so few notices and transfers that one more of each can be counted
 pub record IsFew (v : Session) : Type 0 where
@@ -176,11 +189,15 @@ pub record HasRange (board : Board) (o : Options) : Type 0 where
   pub lo : board.lo ≡ o.lo
   pub hi : board.hi ≡ o.hi
 
--- who holds port p for client a after a decision on session s, whose client and waiting port these are
+-- who holds port p for client a after a move of the slot of session s, whose client and waiting port these are
+abbrev pub held_by : SlotMove → ℕ → ℕ → Option ℕ → ℕ → ℕ → Option ℕ → Option ℕ
+held_by (Awaits port) s client waited a p before = if is_key a p client port then Some s else still_holder client waited s a p before
+held_by Empties s client waited a p before = still_holder client waited s a p before
+held_by _ s client waited a p before = before
+
+-- who holds it after a decision on that session
 abbrev pub held_after : Decision → ℕ → ℕ → Option ℕ → ℕ → ℕ → Option ℕ → Option ℕ
-held_after (Granted port) s client waited a p before = if is_key a p client port then Some s else still_holder client waited s a p before
-held_after Closed s client waited a p before = still_holder client waited s a p before
-held_after _ s client waited a p before = before
+held_after d s client waited a p before = held_by (slot_move d) s client waited a p before
 
 -- what the storage said of the directory of a CWD
 abbrev pub refusal_of : EventKind → Option ErrorKind

@@ -10,6 +10,7 @@ mod commands;
 mod copies;
 pub mod cwd;
 pub mod end;
+mod endings;
 mod fixed;
 mod login;
 pub mod pass;
@@ -50,5 +51,6 @@ pub mod stou {
 }
 
 pub use commands::command;
+pub use endings::ending;
 pub use fixed::{copy_alone, copy_kept, fix_transfer};
 pub use room::{Extent, Need, Prepared, Room};

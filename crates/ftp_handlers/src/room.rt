@@ -1,7 +1,7 @@
 //! Memory that is taken ahead of a step, and what the event needs in it.
 
 ghost use Rattle.std.specs.Prelude.{◌≡◌, ◌≤◌, true, [], IfOk, IsTrue};
-ghost use Rattle.ftp_handlers.specs.Handlers.{can_drop, can_reply};
+ghost use Rattle.ftp_handlers.specs.Handlers.{can_drop, can_reply, places_for};
 ghost use Rattle.ftp_handlers.specs.Rooms.{IsReady, CanReply, CanTellDropped, HasCopy, actions_in, job_in, kept_in, most_actions, need_for, need_in, twice_in};
 
 use crate::copies::{ActionList, Text};
@@ -83,7 +83,8 @@ pub struct Extent {
 impl Extent {
     /// What an event of this kind can need, for one entry or for two.
     pub fn of(kind: &EventKind, twice: bool) -> Extent
-        ensures places { result.places ≡ most_actions }
+        ensures places { result.places ≡ places_for kind.now }
+        ensures enough { most_actions ≤ result.places }
         ensures replies { result.replies ≡ can_reply kind.now }
         ensures drops { result.drops ≡ can_drop kind.now }
         ensures twice { result.twice ≡ twice }

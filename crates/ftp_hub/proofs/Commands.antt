@@ -28,7 +28,7 @@ use Rattle.ftp_events.specs.Session.{session, running_job, lives_on, session_aft
 use Rattle.ftp_events.specs.Decide.{if_live, due, decide}
 use Rattle.ftp_events.specs.Acts.{session_acts}
 use Rattle.ftp_hub.specs.declared.hub.Hub.{Hub}
-use Rattle.ftp_handlers.specs.Handlers.{IsFew, held_for, is_closed, is_command}
+use Rattle.ftp_handlers.specs.Handlers.{IsFew, ends_session, held_for, is_command}
 use Rattle.ftp_hub.specs.Stands.{Tables, Stands, Serves}
 use Rattle.ftp_hub.proofs.Clients.{client-v4}
 use Rattle.ftp_hub.proofs.Refusals.{serves-refusal}
@@ -60,14 +60,9 @@ pub command-plain : (k : EventKind) → is_command k ≡ true → is_end k ≡ f
 command-plain (kind.End t) c = cc
 command-plain _ c = refl
 
-pub closed-plain : (k : EventKind) → is_closed k ≡ true → is_end k ≡ false
-closed-plain (kind.End t) c = cc
-closed-plain _ c = refl
-
--- a session that closes is closed
-pub closed-row : (o : Options) (holders : ℕ → Option ℕ) (k : EventKind) (v : Session) → is_closed k ≡ true → command_row o holders k v ≡ decision.Closed
-closed-row o holders (kind.Closed s) v c = refl
-closed-row o holders k v c = cc
+pub ending-plain : (k : EventKind) → ends_session k ≡ true → is_end k ≡ false
+ending-plain (kind.End t) c = cc
+ending-plain _ c = refl
 
 -- an event that names a session which is not live is refused
 pub serves-unknown : (old new : Hub) (log : List Entry) (event : HubEvent) (answer : Answer) (done : List Action) (s : ℕ) → Stands old log → is_end event.kind ≡ false → named_session event.kind ≡ Some s → map.get nat_eq old.sessions s ≡ None → done ≡ [] → Tables new (past_of log) → Serves old new log event answer decision.UnknownNumber done

@@ -38,7 +38,6 @@ told-outcome path outcome n c = refl
 -- what is told of a live session is the notice of the decision
 told-live : (k : EventKind) (answer : Answer) (d : Decision) (job : Option Running) (v : Session) → length (law.told_by k answer d job (Some v)) ≡ notices_of d answer
 told-live k answer decision.LoggedIn job v = refl
-told-live k answer decision.Closed job v = refl
 told-live k (answer.Done outcome) decision.Finished job v = told-outcome (path_of_job job) outcome v.notices outcome.result
 told-live k answer _ job v = refl
 
@@ -54,7 +53,6 @@ one-most false = omega arith
 -- a decision sends one notice at most
 notices-one : (d : Decision) (answer : Answer) → notices_of d answer ≤ 1
 notices-one decision.LoggedIn answer = omega arith
-notices-one decision.Closed answer = omega arith
 notices-one decision.Finished (answer.Done outcome) = one-most (moves_file outcome.result)
 notices-one _ answer = omega arith
 

@@ -37,8 +37,7 @@ pub record Comes (d : Decision) : Type 0 where
 -- with such a decision no hold changes
 pub comes-held : (d : Decision) (s client : ℕ) (waited : Option ℕ) (a p : ℕ) (before : Option ℕ) → Comes d → held_after d s client waited a p before ≡ before
 comes-held (decision.Granted port) s client waited a p before comes = cc
-comes-held decision.Closed s client waited a p before comes = cc
-comes-held d s client waited a p before comes = refl
+comes-held d s client waited a p before comes = cc
 
 -- a value that is put at s is the one of q, where s is q
 at-key : {A : Type 0} (f g : ℕ → A) (s q : ℕ) → cond (s == q) (f s) (g q) ≡ cond (s == q) (f q) (g q)
@@ -87,10 +86,6 @@ refusal-leaves decision.UsedNumber r = record { lives = refl; session = λ k ans
 refusal-leaves decision.Misplaced r = record { lives = refl; session = λ k answer job v. same_by v; acts = λ o s k answer job v. rw (no-completion decision.Misplaced k true refl) refl; runs = λ k job v. refl; held = λ s client waited a p before. refl }
 refusal-leaves decision.NotExpected r = record { lives = refl; session = λ k answer job v. same_by v; acts = λ o s k answer job v. rw (no-completion decision.NotExpected k true refl) refl; runs = λ k job v. refl; held = λ s client waited a p before. refl }
 refusal-leaves _ r = cc
-
--- no job starts or ends where a session ends
-pub closed-idle : IsIdle decision.Closed
-closed-idle = record { unfinished = refl; starts = λ k queued l. refl }
 
 -- a decision with which no job starts or ends leaves the table of jobs
 pub jobs-idle : (jobs : Jobs) (s q : ℕ) (k : EventKind) (d : Decision) (v : Session) → IsIdle d → map.get nat_eq jobs q ≡ cond (s == q) (next_lane k d (map.get nat_eq jobs s) v).running (map.get nat_eq jobs q)

@@ -18,7 +18,10 @@ use Rattle.ftp_events.specs.declared.event.Answer.{Answer}
 use Rattle.ftp_events.specs.declared.event.EventKind.{EventKind}
 use Rattle.ftp_events.specs.declared.event.EventKind.TheVariants as kind
 use Rattle.ftp_events.specs.declared.event.HubEvent.{HubEvent}
+use Rattle.ftp_events.specs.declared.decision.SlotMove.{SlotMove}
+use Rattle.ftp_events.specs.declared.decision.SlotMove.TheVariants.{Awaits, Empties}
 use Rattle.ftp_events.specs.declared.session.Session.{Session}
+use Rattle.ftp_events.specs.Classes.{gives_up, slot_move}
 use Rattle.ftp_events.specs.Words.{is_number}
 use Rattle.ftp_events.specs.Log.{past_of, is_refusal, new_number, named_session}
 use Rattle.ftp_events.specs.Opening.{opened_number}
@@ -35,8 +38,9 @@ use Rattle.ftp_laws.proofs.QuestionLemmas.{session-told}
 use Rattle.ftp_laws.proofs.HoldLemmas.{WaitsFor, holder-waits, same_ip-equal}
 use Rattle.ftp_laws.proofs.PortLemmas.{named-target}
 use Rattle.ftp_laws.proofs.TableLemmas.{IsNamed, holder-named, holder-granted, and-zero, eq-comm, same-both}
+use Rattle.ftp_laws.proofs.ClassLemmas.{awaits-is, granted-is}
 use Rattle.ftp_hub.specs.declared.hub.Hub.{Hub}
-use Rattle.ftp_handlers.specs.Handlers.{IsFew, held_after, notices_of}
+use Rattle.ftp_handlers.specs.Handlers.{IsFew, held_after, held_by}
 use Rattle.ftp_hub.specs.Stands.{Stands, Serves, entry}
 use Rattle.ftp_hub.proofs.Counts.{notices-few, tickets-few}
 use Rattle.ftp_hub.proofs.About.{serves-about}
@@ -86,7 +90,7 @@ still-waiting hub log s v a p st known = go (holder hub.options (past_of log) (V
 
 -- who holds a port after an entry that names session s
 holders-named : (hub : Hub) (log : List Entry) (event : HubEvent) (answer : Answer) (d : Decision) (done : List Action) (s : ℕ) (v : Session) (a p : ℕ) → Stands hub log → named_session event.kind ≡ Some s → session hub.options (past_of log) s ≡ Some v → holder hub.options (entry event answer d done ∷ past_of log) (V4 a) p ≡ held_after d s (ipv4 v.opening.client) (waiting_port v.slot) a p (holder hub.options (past_of log) (V4 a) p)
-holders-named hub log event answer d done s v a p st n known = go d refl
+holders-named hub log event answer d done s v a p st n known = go (granted_port d) refl (slot_move d) refl
   where
     o : Options
     o = hub.options
@@ -113,16 +117,27 @@ holders-named hub log event answer d done s v a p st n known = go d refl
         ∙ ap (λ b. b && (port == p)) (eq-comm (ipv4 v.opening.client) a)
         ∙ ap (λ b. (a == ipv4 v.opening.client) && b) (eq-comm port p)
 
-    plain : (x : Decision) → d ≡ x → granted_port x ≡ None → holder o (e ∷ past) (V4 a) p ≡ cond (gives_up_hold x && is_number (holder o past (V4 a) p) s) None (holder o past (V4 a) p)
-    plain x is g = holder-named o past e s (V4 a) p named (ap granted_port is ∙ g) ∙ ap (λ (y : Decision). cond (gives_up_hold y && is_number (holder o past (V4 a) p) s) None (holder o past (V4 a) p)) is
+    waited : Option ℕ
+    waited = waiting_port v.slot
 
-    go : (x : Decision) → d ≡ x → holder o (e ∷ past) (V4 a) p ≡ held_after x s (ipv4 v.opening.client) (waiting_port v.slot) a p (holder o past (V4 a) p)
-    go (decision.Granted port) is =
-        holder-granted o past e s port v (V4 a) p (pooled-shared _ hub.pooled) named is known
-        ∙ ap (λ b. cond b (Some s) (cond (is_number (holder o past (V4 a) p) s) None (holder o past (V4 a) p))) (key-same port)
+    before : Option ℕ
+    before = holder o past (V4 a) p
+
+    plain : (b : Bool) → granted_port d ≡ None → gives_up_hold d ≡ b → holder o (e ∷ past) (V4 a) p ≡ cond (b && is_number before s) None before
+    plain b g up = holder-named o past e s (V4 a) p named g ∙ ap (λ b. cond (b && is_number before s) None before) up
+
+    go : (g : Option ℕ) → granted_port d ≡ g → (m : SlotMove) → slot_move d ≡ m → holder o (e ∷ past) (V4 a) p ≡ held_by m s (ipv4 v.opening.client) waited a p before
+    go (Some port) g m move =
+        let granted : d ≡ decision.Granted port = granted-is d port (rw g (eq-eqb port port refl)) in
+        holder-granted o past e s port v (V4 a) p (pooled-shared _ hub.pooled) named granted known
+        ∙ ap (λ b. cond b (Some s) (cond (is_number before s) None before)) (key-same port)
         ∙ ap (λ (x : Option ℕ). cond (is_key a p (ipv4 v.opening.client) port) (Some s) x) (sym still)
-    go decision.Closed is = plain decision.Closed is refl ∙ sym still
-    go x is = plain x is refl
+        ∙ ap (λ (x : SlotMove). held_by x s (ipv4 v.opening.client) waited a p before) (sym (ap slot_move granted) ∙ move)
+    go None g (Awaits port) move =
+        let clash : Some port ≡ None = sym (ap granted_port (awaits-is d port move)) ∙ g in
+        cc
+    go None g Empties move = plain true g (ap gives_up move) ∙ sym still
+    go None g m move = plain false g (ap gives_up move)
 
 -- a session has so few notices and transfers that one more of each can be counted
 pub few-counts : (hub : Hub) (log : List Entry) (s : ℕ) (v : Session) → Stands hub log → hub.count < 2 ^ 64 - 1 → session hub.options (past_of log) s ≡ Some v → IsFew v

@@ -1,16 +1,17 @@
--- The decisions with which a session and its job go on.
-use Rattle.std.proofs.Common.{◌≡◌, refl, ap, ◌∙◌, ℕ, true, false, cond, Option, None}
+-- The decisions with which a session and its job go on, and those that end it.
+use Rattle.std.proofs.Common.{◌≡◌, refl, ap, ◌∙◌, ℕ, ◌-◌, true, false, cond, Option, None}
 use Rattle.std.specs.Prelude.{unwrap_or}
 use Rattle.ftp_events.specs.declared.decision.Decision.{Decision}
 use Rattle.ftp_events.specs.declared.decision.Life.{Life}
-use Rattle.ftp_events.specs.declared.decision.Life.TheVariants.{Goes}
+use Rattle.ftp_events.specs.declared.decision.Life.TheVariants.{Goes, Ends}
 use Rattle.ftp_events.specs.declared.decision.SlotMove.{SlotMove}
 use Rattle.ftp_events.specs.declared.session.Pending.{Pending}
 use Rattle.ftp_events.specs.declared.decision.SlotMove.TheVariants.{Keeps, Empties, EmptiesWaiting, Awaits}
-use Rattle.ftp_events.specs.Classes.{life, slot_move}
+use Rattle.ftp_events.specs.Classes.{ends, is_ending, life, slot_move}
 use Rattle.ftp_events.specs.Log.{new_number}
 use Rattle.ftp_events.specs.Session.{lives_on, live_after, live_by_life, told_of_life}
 use Rattle.ftp_events.specs.Slot.{Lane, starts_by}
+use Rattle.ftp_laws.proofs.ClassLemmas.{ending-empties}
 use Rattle.ftp_laws.proofs.SubjectLemmas.{no-stop}
 use Rattle.ftp_laws.proofs.BalanceLemmas.{finishes}
 use Rattle.ftp_handlers.specs.Handlers.{goes_on, is_quiet}
@@ -46,3 +47,26 @@ goes_on-lives d h = go (life d) refl (slot_move d) refl h
     go Goes goes EmptiesWaiting move q = quiet goes EmptiesWaiting move refl (λ n queued l. refl)
     go Goes goes (Awaits port) move q = quiet goes (Awaits port) move refl (λ n queued l. refl)
     go l goes m move q = cc
+
+-- a decision that ends the session, and with which no job starts or ends
+pub record EndsLife (d : Decision) : Type 0 where
+  pub ended : lives_on d ≡ false
+  pub one_less : (n : ℕ) → live_after d n ≡ n - 1
+  pub idle : IsIdle d
+
+-- every ending is one
+pub ending-ends : (d : Decision) → is_ending d ≡ true → EndsLife d
+ending-ends d h = go (life d) refl h
+  where
+    go : (l : Life) → life d ≡ l → ends l ≡ true → EndsLife d
+    go Ends end e =
+        let empties : slot_move d ≡ Empties = ending-empties d end in
+        record {
+          ended = ap (λ (l : Life). unwrap_or (told_of_life l) true) end;
+          one_less = λ n. ap (λ b. cond b 0 (live_by_life (life d) n)) (no-stop d) ∙ ap (λ (l : Life). live_by_life l n) end;
+          idle = record {
+            unfinished = ap finishes empties;
+            starts = λ k queued l. ap (λ (x : SlotMove). starts_by x (new_number k d) queued l) empties;
+          };
+        }
+    go l end e = cc

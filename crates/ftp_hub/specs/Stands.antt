@@ -1,5 +1,5 @@
 -- When a hub stands for a log.
-use Rattle.std.specs.Prelude.{◌≡◌, ℕ, ◌+◌, ◌-◌, ◌^◌, ◌<◌, [], ◌∷◌, List, length, Option, Some, None, IsTrue, nat_eq}
+use Rattle.std.specs.Prelude.{◌≡◌, ℕ, ◌+◌, ◌-◌, ◌^◌, ◌<◌, ◌≤◌, [], ◌∷◌, List, length, Option, Some, None, IsTrue, nat_eq}
 use Rattle.std.specs.Option.{option_and_then, option_map_or}
 use Rattle.std.specs.HashMap as map
 use Rattle.ftp_base.specs.declared.net.IpAddr.TheVariants.{V4}
@@ -27,7 +27,7 @@ use Rattle.ftp_events.specs.Acts.{acts}
 use Rattle.ftp_events.specs.Right.{IsRight, IsActed}
 use Rattle.ftp_hub.specs.declared.hub.Hub.{Hub}
 use Rattle.ftp_handlers.specs.Rooms.{CanReply, CanTellDropped, HasCopy, IsReady, RoomState, kept_in, need_for, need_in}
-use Rattle.ftp_handlers.specs.Handlers.{asked_for, can_drop, can_reply, is_pasv, kept_alone, kept_by}
+use Rattle.ftp_handlers.specs.Handlers.{asked_for, can_drop, can_reply, is_pasv, kept_alone, kept_by, places_for}
 use Rattle.ftp_hub.specs.Arrivals.{brings_number, is_connect, may_start}
 
 -- the options that a hub was made from
@@ -115,6 +115,7 @@ pub record Fits (room : RoomState) (hub : Hub) (event : HubEvent) : Type 0 where
   pub below : hub.count < 2 ^ 64 - 1
   pub counted : room.count ≡ hub.count
   pub ready : IsReady room
+  pub places : places_for event.kind ≤ room.places
   pub letters : IsTrue (can_reply event.kind) → CanReply room
   pub dropped : IsTrue (can_drop event.kind) → CanTellDropped room
   pub kept : kept_in room ≡ kept_for hub event.kind

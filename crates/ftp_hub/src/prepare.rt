@@ -1,13 +1,13 @@
 //! All memory that a step can need, taken before it.
 
-ghost use Rattle.std.specs.Prelude.{◌≡◌, ◌-◌, ◌^◌, ◌<◌, ◌↔◌, nat_eq, IfErr, IfOk, OnOk, IsErrOf, IsTrue};
+ghost use Rattle.std.specs.Prelude.{◌≡◌, ◌-◌, ◌^◌, ◌<◌, ◌≤◌, ◌↔◌, nat_eq, IfErr, IfOk, OnOk, IsErrOf, IsTrue};
 ghost use Rattle.std.specs.Option.{option_copied};
 ghost use Rattle.std.specs.HashMap as map;
 ghost use Rattle.ftp_base.specs.Net.{ipv4};
 ghost use Rattle.ftp_numbers.specs.Used.{HasSpare};
 ghost use Rattle.ftp_switchboard.specs.Board.{HasRoom};
 ghost use Rattle.ftp_events.specs.Leads.{job_of_ticket};
-ghost use Rattle.ftp_handlers.specs.Handlers.{can_drop, can_reply, is_pasv};
+ghost use Rattle.ftp_handlers.specs.Handlers.{can_drop, can_reply, is_pasv, places_for};
 ghost use Rattle.ftp_handlers.specs.Rooms.{CanReply, CanTellDropped, HasCopy, IsReady, job_in, kept_in, need_for, need_in, twice_in};
 ghost use Rattle.ftp_hub.specs.Arrivals.{brings_number, is_connect, may_start};
 ghost use Rattle.ftp_hub.specs.Stands.{Fits, SameAnswers, count_of, named_in, kept_for, pending_for, job_for, client_for, path_for};
@@ -133,6 +133,7 @@ impl Hub {
     // Memory for the texts and the actions of an event, and what it keeps, asks for or runs.
     fn take_room(&self, kind: &EventKind, twice: bool) -> Result<Room, PrepareError>
         ensures ready { IfOk result IsReady }
+        ensures places { IfOk result (λ room. places_for kind.now ≤ room.places) }
         ensures letters { IfOk result (λ room. IsTrue (can_reply kind.now) → CanReply room) }
         ensures dropped { IfOk result (λ room. IsTrue (can_drop kind.now) → CanTellDropped room) }
         ensures kept { IfOk result (λ room. kept_in room ≡ kept_for self.now kind.now) }

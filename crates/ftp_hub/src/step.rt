@@ -9,7 +9,7 @@ ghost use Rattle.ftp_switchboard.specs.Board.{HasRoom};
 ghost use Rattle.ftp_events.specs.declared.entry.Entry.{Entry};
 ghost use Rattle.ftp_events.specs.Log.{is_refusal, named_session};
 ghost use Rattle.ftp_events.specs.Right.{next_entry};
-ghost use Rattle.ftp_handlers.specs.Handlers.{is_command, is_closed, is_transfer};
+ghost use Rattle.ftp_handlers.specs.Handlers.{ends_session, is_command, is_transfer};
 ghost use Rattle.ftp_handlers.specs.Rooms.{IsReady, actions_in, kept_in, twice_in};
 ghost use Rattle.ftp_hub.specs.Stands.{Stands, Serves, SameHead, SameTables, Fits, entry, options_of, count_of, kept_for, client_for};
 
@@ -17,7 +17,7 @@ use crate::hub::Hub;
 use crate::jobs::{finish, queue};
 use crate::tables::take;
 use ftp_events::{Answer, Decision, Entry, EventKind, HubEvent};
-use ftp_handlers::{Room, closed, command};
+use ftp_handlers::{Room, command, ending};
 use ftp_transfer::{Outcome, Ticket};
 
 impl Hub {
@@ -112,7 +112,7 @@ impl Hub {
     // The end of a session.
     fn close(&mut self, room: &mut Room, event: &HubEvent, answer: Answer, number: u64) -> Decision
         requires fits { Fits room.old self.old event.now }
-        requires of_this_event { IsTrue (is_closed event.now.kind) }
+        requires of_this_event { IsTrue (ends_session event.now.kind) }
         requires named { named_session event.now.kind ≡ Some number }
         ensures serves { (log : List Entry) → Stands self.old log → Serves self.old self.new log event.now answer result (actions_in room.new) }
         ensures head { SameHead self.old self.new }
@@ -122,7 +122,7 @@ impl Hub {
             return Decision::UnknownNumber;
         };
         let mut session = session;
-        closed::handle(
+        ending(
             &mut session,
             &event.kind,
             &mut self.board,

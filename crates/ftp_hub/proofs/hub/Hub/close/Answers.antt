@@ -1,17 +1,16 @@
-use Rattle.std.proofs.Common.{◌≡◌, refl, sym, ap, subst, ◌∙◌, ℕ, Option, Some, None, cond}
+use Rattle.std.proofs.Common.{◌≡◌, refl, sym, ap, ◌∙◌, ℕ, Option, Some, None, cond}
 use Rattle.std.specs.Prelude.{nat_eq, ◌==◌, unwrap_or}
 use Rattle.std.specs.HashMap as map
 use Rattle.std.proofs.Common.{arith, ◌-◌}
 use Rattle.ftp_events.specs.Log.{past_of}
-use Rattle.ftp_events.specs.Session.{session_after, lives_on, live_after}
-use Rattle.ftp_handlers.specs.Handlers.{held_after, held_for, notices_of, number_of}
-use Rattle.ftp_events.specs.declared.decision.Decision.TheVariants as decision
+use Rattle.ftp_events.specs.Session.{session_after}
+use Rattle.ftp_handlers.specs.Handlers.{held_after, notices_of, number_of}
 use Rattle.ftp_events.specs.declared.decision.Decision.{Decision}
 use Rattle.ftp_events.specs.declared.session.Session.{Session}
 use Rattle.ftp_hub.proofs.Refusals.{tables-same}
-use Rattle.ftp_hub.proofs.Decisions.{closed-idle, put-back}
-use Rattle.ftp_hub.proofs.Commands.{serves-unknown, serves-command, closed-row, closed-plain}
-use Rattle.ftp_hub.proofs.Running.{IsIdle}
+use Rattle.ftp_hub.proofs.Decisions.{put-back}
+use Rattle.ftp_hub.proofs.Commands.{serves-unknown, serves-command, ending-plain}
+use Rattle.ftp_hub.proofs.Rows.{EndsLife, ending-ends}
 use Rattle.ftp_hub.proofs.Moved.{jobs-stay}
 use Rattle.ftp_base.specs.Net.{ipv4}
 use Rattle.ftp_switchboard.specs.Board.{holder_at}
@@ -25,7 +24,7 @@ pub returns-in_default-clause-serves : goal.returns-in_default-clause-serves
 returns-in_default-clause-serves c log st =
     let none : map.get nat_eq c.args.self.now.sessions c.args.number ≡ None = sym c.take.ensures.value ∙ c.in_default.is in
     let len : map.hash_map_len c.take.new.table ≡ map.hash_map_len c.args.self.now.sessions = omega (arith, rw c.in_default.is at c.take.ensures.len) in
-    serves-unknown c.args.self.now _ log c.args.event.now c.args.answer _ c.args.number st (closed-plain _ c.requires.of_this_event) c.requires.named none c.requires.fits.ready.actions
+    serves-unknown c.args.self.now _ log c.args.event.now c.args.answer _ c.args.number st (ending-plain _ c.requires.of_this_event) c.requires.named none c.requires.fits.ready.actions
     (tables-same c.args.self.now _ (past_of log) refl
     (record {
       sessions = λ q.
@@ -45,31 +44,30 @@ returns-clause-serves c log st =
     let o = c.args.self.now.options in
     let k = c.args.event.now.kind in
     let v : Session = c.in-Some.session in
-    let d : Decision = c.handle.result in
+    let d : Decision = c.ending.result in
     let there : map.get nat_eq c.args.self.now.sessions c.args.number ≡ Some v = sym c.take.ensures.value ∙ c.in-Some.is in
-    let closed : d ≡ decision.Closed = c.handle.ensures.decision in
-    let idle : IsIdle d = subst IsIdle (sym closed) closed-idle in
+    let leaves : EndsLife d = ending-ends d c.ending.ensures.ends in
     let job : Option Running = map.get nat_eq c.args.self.now.jobs c.args.number in
     let after : Session = session_after k c.args.answer d (notices_of d c.args.answer) job v in
     let len : map.hash_map_len c.take.new.table ≡ map.hash_map_len c.args.self.now.sessions - 1 = omega (arith, rw c.in-Some.is at c.take.ensures.len) in
     let number : number_of k ≡ c.args.number = ap (λ (n : Option ℕ). unwrap_or n 0) c.requires.named in
-    serves-command c.args.self.now _ log c.args.event.now c.args.answer d _ c.args.number v after st c.requires.fits.below (closed-plain _ c.requires.of_this_event) c.requires.named there
+    serves-command c.args.self.now _ log c.args.event.now c.args.answer d _ c.args.number v after st c.requires.fits.below (ending-plain _ c.requires.of_this_event) c.requires.named there
     (λ few.
-    let acts = c.handle.ensures.actions few.notices c.args.answer job ∙ ap (λ n. session_acts o n k c.args.answer d job (Some v)) number in
+    let acts = c.ending.ensures.actions few.notices c.args.answer job ∙ ap (λ n. session_acts o n k c.args.answer d job (Some v)) number in
     record {
-      row = closed ∙ sym (closed-row o (held_for c.args.self.now.board v) k v c.requires.of_this_event);
+      row = c.ending.ensures.decision;
       acts = acts;
       tables = record {
         moved = record {
           options = refl;
           session = refl;
           sessions = record {
-            table = λ q. c.take.ensures.updates q ∙ sym (ap (λ (x : Decision). cond (c.args.number == q) (cond (lives_on x) (Some after) None) (map.get nat_eq c.args.self.now.sessions q)) closed);
-            live = len ∙ sym (ap (λ (x : Decision). live_after x (map.hash_map_len c.args.self.now.sessions)) closed);
+            table = λ q. c.take.ensures.updates q ∙ sym (ap (λ b. cond (c.args.number == q) (cond b (Some after) None) (map.get nat_eq c.args.self.now.sessions q)) leaves.ended);
+            live = len ∙ sym (leaves.one_less (map.hash_map_len c.args.self.now.sessions));
           };
-          jobs = jobs-stay c.args.self.now.jobs o c.args.number k c.args.answer d _ c.args.number v idle acts;
+          jobs = jobs-stay c.args.self.now.jobs o c.args.number k c.args.answer d _ c.args.number v leaves.idle acts;
         };
         numbers = λ q. refl;
-        holders = λ a p. c.handle.ensures.holders a p ∙ ap (λ n. held_after d n (ipv4 v.opening.client) (waiting_port v.slot) a p (holder_at c.args.self.now.board a p)) number;
+        holders = λ a p. c.ending.ensures.holders a p ∙ ap (λ n. held_after d n (ipv4 v.opening.client) (waiting_port v.slot) a p (holder_at c.args.self.now.board a p)) number;
       };
     })

@@ -1,0 +1,46 @@
+//! The ends of live sessions.
+
+ghost use Rattle.std.specs.Prelude.{◌≡◌, ◌+◌, ◌<◌, ◌≤◌, ◌^◌, ℕ, IsTrue, Option, Some};
+ghost use Rattle.ftp_base.specs.Net.{ipv4};
+ghost use Rattle.ftp_switchboard.specs.Board.{SameRange, holder_at};
+ghost use Rattle.ftp_events.specs.declared.session.Running.{Running};
+ghost use Rattle.ftp_events.specs.declared.event.Answer.{Answer};
+ghost use Rattle.ftp_events.specs.Acts.{session_acts};
+ghost use Rattle.ftp_events.specs.Classes.{is_ending};
+ghost use Rattle.ftp_events.specs.CommandRows.{command_row};
+ghost use Rattle.ftp_events.specs.Slot.{waiting_port};
+ghost use Rattle.ftp_handlers.specs.Rooms.{CanReply, IsReady, actions_in, kept_in, twice_in};
+ghost use Rattle.ftp_handlers.specs.Handlers.{can_reply, ends_session, held_after, held_for, kept_by, number_of, places_for};
+
+use crate::closed;
+use crate::room::Room;
+use ftp_events::{Decision, EventKind, Session};
+use ftp_options::Options;
+use ftp_switchboard::Switchboard;
+
+/// Hands the end of a live session to its handler.
+pub fn ending(
+    session: &mut Session,
+    args: &EventKind,
+    board: &mut Switchboard,
+    room: &mut Room,
+    at: u64,
+    options: &Options,
+) -> Decision
+    requires of_this_event { IsTrue (ends_session args.now) }
+    requires room { IsReady room.old }
+    requires places { places_for args.now ≤ room.old.places }
+    requires letters { IsTrue (can_reply args.now) → CanReply room.old }
+    requires kept { kept_in room.old ≡ kept_by args.now session.old }
+    ensures ends { IsTrue (is_ending result) }
+    ensures decision { result ≡ command_row options.now (held_for board.old session.old) args.now session.old }
+    ensures actions { session.old.notices + 1 < 2 ^ 64 → (answer : Answer) (job : Option Running) → actions_in room.new ≡ session_acts options.now (number_of args.now) args.now answer result job (Some session.old) }
+    ensures holders { (a p : ℕ) → holder_at board.new a p ≡ held_after result (number_of args.now) (ipv4 session.old.opening.client) (waiting_port session.old.slot) a p (holder_at board.old a p) }
+    ensures range { SameRange board.old board.new }
+    ensures twice { twice_in room.new ≡ twice_in room.old }
+{
+    match args {
+        EventKind::Closed { .. } => closed::handle(session, args, board, room, at, options),
+        _ => unreachable!(),
+    }
+}
