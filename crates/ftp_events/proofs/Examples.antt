@@ -91,6 +91,43 @@ ending_frees : told_after 8 one_port
 unfolding everything
 ending_frees = refl
 
+-- a session that quits is told so, and ends like one whose connection has ended
+quitting_ends : told_after 8 one_port
+    (login 1 a1 ++ login 2 a1 ++ pasv 1 0 ∷ event 2 (kind.Quit 1) ∷ pasv 2 0 ∷ event 2 (kind.Closed 1) ∷ [])
+    ≡ ((decision.Granted 50000, say 1 code.EnteringPassiveMode (codes "Entering Passive Mode (10,0,0,9,195,80)") ∷ [])
+    ∷ (
+      decision.Quit,
+      action.Notify 1 (record { username = codes "ann"; trace_id = record { 0 = 1 }; sequence_number = 2 }) (Presence presence.LoggedOut)
+          ∷ say 1 code.ClosingControlConnection (codes "Bye!") ∷ action.Close 1 ∷ [],
+    )
+    ∷ (decision.Granted 50000, say 2 code.EnteringPassiveMode (codes "Entering Passive Mode (10,0,0,9,195,80)") ∷ [])
+    ∷ (decision.UnknownNumber, []) ∷ [])
+unfolding everything
+quitting_ends = refl
+
+-- one that quits without a login is told so too
+quitting_early : told_after 1 two_ports (opened 1 a1 ∷ event 0 (kind.Quit 1) ∷ [])
+    ≡ ((
+      decision.Quit,
+      action.Notify 1 (record { username = codes "unknown"; trace_id = record { 0 = 1 }; sequence_number = 1 }) (Presence presence.LoggedOut)
+          ∷ say 1 code.ClosingControlConnection (codes "Bye!") ∷ action.Close 1 ∷ [],
+    ) ∷ [])
+unfolding everything
+quitting_early = refl
+
+-- the transfer that waits when a session quits is cancelled, and nothing else is told of it
+quitting_cancels : told_after 6 two_ports
+    (login 1 a1 ++ pasv 1 0 ∷ event 1 (kind.Transfer 1 (Retr (codes "a"))) ∷ event 1 (kind.Quit 1) ∷ data_in 11 (addr a1 4001) 50000 ∷ [])
+    ≡ ((
+      decision.Quit,
+      action.Cancelled (ticket 1 1)
+          ∷ action.Notify 1 (record { username = codes "ann"; trace_id = record { 0 = 1 }; sequence_number = 2 }) (Presence presence.LoggedOut)
+          ∷ say 1 code.ClosingControlConnection (codes "Bye!") ∷ action.Close 1 ∷ [],
+    )
+    ∷ (decision.Turned, action.Close 11 ∷ []) ∷ [])
+unfolding everything
+quitting_cancels = refl
+
 -- a restart offset is told, and a directory changes where the storage does not refuse it
 offset_and_directory : told_after 4 two_ports
     (login 1 a1 ++ event 1 (kind.Rest 1 6) ∷ event 1 (kind.Cwd 1 (codes "uploads") None) ∷ event 1 (kind.Cwd 1 (codes "none") (Some error.PermanentDirectoryNotAvailable)) ∷ [])

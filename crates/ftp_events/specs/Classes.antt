@@ -1,7 +1,7 @@
 -- The classes of decisions: what one makes of a session's life, and what of its slot. All that is said of lives and slots is said of these.
 use Rattle.std.specs.Prelude.{Bool, true, false}
 use Rattle.ftp_events.specs.declared.decision.Decision.{Decision}
-use Rattle.ftp_events.specs.declared.decision.Decision.TheVariants.{Opened, Closed, Granted, Attached, Queued, Finished, Turned}
+use Rattle.ftp_events.specs.declared.decision.Decision.TheVariants.{Opened, Quit, Closed, Granted, Attached, Queued, Finished, Turned}
 use Rattle.ftp_events.specs.declared.decision.Life.{Life}
 use Rattle.ftp_events.specs.declared.decision.Life.TheVariants.{Goes, Opens, Ends}
 use Rattle.ftp_events.specs.declared.decision.SlotMove.{SlotMove}
@@ -10,6 +10,7 @@ use Rattle.ftp_events.specs.declared.decision.SlotMove.TheVariants.{Keeps, Empti
 -- what a decision makes of the life of the session that it is about
 abbrev pub life : Decision → Life
 life Opened = Opens
+life Quit = Ends
 life Closed = Ends
 life _ = Goes
 

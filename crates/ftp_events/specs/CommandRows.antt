@@ -6,7 +6,7 @@ use Rattle.ftp_base.specs.Ports.{first_free}
 use Rattle.ftp_options.specs.declared.options.Options.{Options}
 use Rattle.ftp_options.specs.Features.{has_restart}
 use Rattle.ftp_events.specs.declared.decision.Decision.{Decision}
-use Rattle.ftp_events.specs.declared.decision.Decision.TheVariants.{UnknownNumber, NotLoggedIn, Full, Granted, NoSlot, Queued, NoRestart, RestOk, CwdRefused, CwdOk, Closed}
+use Rattle.ftp_events.specs.declared.decision.Decision.TheVariants.{UnknownNumber, NotLoggedIn, Full, Granted, NoSlot, Queued, NoRestart, RestOk, CwdRefused, CwdOk, Quit, Closed}
 use Rattle.ftp_events.specs.declared.event.EventKind.{EventKind}
 use Rattle.ftp_events.specs.declared.event.EventKind.TheVariants as kind
 use Rattle.ftp_events.specs.declared.session.Login.{Login}
@@ -60,5 +60,6 @@ command_row o holders (kind.Transfer s c) v = if_logged_in v (transfer_row s v)
 command_row o holders (kind.Stou s word) v = if_logged_in v (transfer_row s v)
 command_row o holders (kind.Rest s offset) v = if_logged_in v (rest_row o)
 command_row o holders (kind.Cwd s path refusal) v = if_logged_in v (cwd_row refusal)
+command_row o holders (kind.Quit s) v = Quit
 command_row o holders (kind.Closed s) v = Closed
 command_row o holders _ v = UnknownNumber

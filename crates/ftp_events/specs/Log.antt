@@ -47,6 +47,7 @@ named_session (Stou session word) = Some session
 named_session (Rest session offset) = Some session
 named_session (Cwd session path refusal) = Some session
 named_session (End ticket) = Some ticket.session
+named_session (kind.Quit session) = Some session
 named_session (kind.Closed session) = Some session
 named_session _ = None
 

@@ -17,7 +17,7 @@ use Rattle.ftp_events.specs.declared.event.EventKind.TheVariants as kind
 use Rattle.ftp_events.specs.declared.event.Answer.{Answer}
 use Rattle.ftp_events.specs.declared.event.Answer.TheVariants.{Done}
 use Rattle.ftp_events.specs.declared.decision.Decision.{Decision}
-use Rattle.ftp_events.specs.declared.decision.Decision.TheVariants.{BadSequence, NeedPass, Reauth, LoggedIn, LoginFailed, NotLoggedIn, Full, Granted, NoSlot, Queued, NoRestart, RestOk, CwdRefused, CwdOk, Finished}
+use Rattle.ftp_events.specs.declared.decision.Decision.TheVariants.{BadSequence, NeedPass, Reauth, LoggedIn, LoginFailed, NotLoggedIn, Full, Granted, NoSlot, Queued, NoRestart, RestOk, CwdRefused, CwdOk, Finished, Quit}
 use Rattle.ftp_events.specs.declared.session.Login.{Login}
 use Rattle.ftp_events.specs.declared.session.Login.TheVariants as login
 use Rattle.ftp_events.specs.declared.session.Session.{Session}
@@ -82,6 +82,7 @@ reply_for o v m k NoSlot = reply.CodeAndMsg code.CantOpenDataConnection (codes "
 reply_for o v m k (Queued ticket) = reply.CodeAndMsg code.FileStatusOkay (queued_text k)
 reply_for o v m k RestOk = reply.CodeAndMsg code.FileActionPending (restart_text k)
 reply_for o v m k NoRestart = reply.CodeAndMsg code.CommandNotImplemented (codes "Not supported by the selected storage back-end.")
+reply_for o v m k Quit = reply.CodeAndMsg code.ClosingControlConnection (codes "Bye!")
 reply_for o v (Some m) k _ = reply_of m
 reply_for o v None k _ = reply.None
 

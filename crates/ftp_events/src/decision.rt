@@ -49,6 +49,8 @@ pub enum Decision {
     CwdRefused(ErrorKind),
     /// The working directory has changed.
     CwdOk,
+    /// The session has ended by its own wish.
+    Quit,
     /// The session has ended with its control connection.
     Closed,
 }
@@ -90,7 +92,7 @@ impl Decision {
     {
         match self {
             Decision::Opened => Life::Opens,
-            Decision::Closed => Life::Ends,
+            Decision::Quit | Decision::Closed => Life::Ends,
             _ => Life::Goes,
         }
     }

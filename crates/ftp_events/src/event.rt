@@ -72,6 +72,10 @@ pub enum EventKind {
     End {
         ticket: Ticket,
     },
+    /// QUIT (RFC 959, section 4.1.1).
+    Quit {
+        session: u64,
+    },
     /// The control connection has ended.
     Closed {
         session: u64,
@@ -108,6 +112,7 @@ impl EventKind {
             | EventKind::Pasv { session, .. }
             | EventKind::Rest { session, .. }
             | EventKind::Cwd { session, .. }
+            | EventKind::Quit { session }
             | EventKind::Closed { session } => Some(*session),
             EventKind::End { ticket } => Some(ticket.session),
             EventKind::Connect { .. } | EventKind::DataIn { .. } => None,
@@ -184,6 +189,7 @@ impl EventKind {
             EventKind::Stou { session, word } => EventKind::Stou { session, word },
             EventKind::Rest { session, offset } => EventKind::Rest { session, offset },
             EventKind::End { ticket } => EventKind::End { ticket },
+            EventKind::Quit { session } => EventKind::Quit { session },
             EventKind::Closed { session } => EventKind::Closed { session },
             _ => unreachable!(),
         }

@@ -117,6 +117,7 @@ due-alike o log K e a m r kept reads = go e.event.kind refl
     go (kind.User s name) y = row _ s _ _ y refl (λ v x. refl)
     go (kind.Pass s) y = row _ s _ _ y refl (λ v x. refl)
     go (kind.AuthDone s said) y = row _ s _ _ y refl (λ v x. refl)
+    go (kind.Quit s) y = row _ s _ _ y refl (λ v x. refl)
     go (kind.Closed s) y = row _ s _ _ y refl (λ v x. refl)
     go (kind.Transfer s c) y = row _ s _ _ y refl (λ v x. refl)
     go (kind.Stou s word) y = row _ s _ _ y refl (λ v x. refl)
