@@ -56,9 +56,13 @@ abbrev pub is_closed : EventKind → Bool
 is_closed (kind.Closed s) = true
 is_closed _ = false
 
+abbrev pub is_quit : EventKind → Bool
+is_quit (kind.Quit s) = true
+is_quit _ = false
+
 -- the kinds that end a live session
 abbrev pub ends_session : EventKind → Bool
-ends_session k = is_closed k
+ends_session k = is_closed k || is_quit k
 
 abbrev pub is_rest : EventKind → Bool
 is_rest (kind.Rest s offset) = true
@@ -80,7 +84,7 @@ is_command k = is_user k || is_pass k || is_auth k || is_pasv k || is_rest k || 
 
 -- how many actions of an event of this kind can need a place
 abbrev pub places_for : EventKind → ℕ
-places_for k = most_actions
+places_for k = most_actions + (if is_quit k then 1 else 0)
 
 -- the kinds that a reply answers
 abbrev pub can_reply : EventKind → Bool
@@ -130,6 +134,7 @@ abbrev pub kept_by : EventKind → Session → List ℕ
 kept_by (kind.User s name) v = name
 kept_by (kind.AuthDone s said) v = unwrap_or v.name (codes "unknown")
 kept_by (kind.Closed s) v = logged_user v.login v.name
+kept_by (kind.Quit s) v = logged_user v.login v.name
 kept_by (kind.End ticket) v = logged_user v.login v.name
 kept_by (kind.Cwd s path refusal) v = join_path v.cwd path
 kept_by k v = kept_alone k

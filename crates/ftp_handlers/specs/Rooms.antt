@@ -61,7 +61,7 @@ HasPlace room = len_in room < room.places
 abbrev pub HasPlaces : ℕ → RoomState → Type 0
 HasPlaces n room = len_in room + n ≤ room.places
 
--- no event has more actions for one session
+-- no event has more actions for one session, but for QUIT, which has one more
 abbrev pub most_actions : ℕ
 most_actions = 4
 

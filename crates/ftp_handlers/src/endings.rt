@@ -12,8 +12,8 @@ ghost use Rattle.ftp_events.specs.Slot.{waiting_port};
 ghost use Rattle.ftp_handlers.specs.Rooms.{CanReply, IsReady, actions_in, kept_in, twice_in};
 ghost use Rattle.ftp_handlers.specs.Handlers.{can_reply, ends_session, held_after, held_for, kept_by, number_of, places_for};
 
-use crate::closed;
 use crate::room::Room;
+use crate::{closed, quit};
 use ftp_events::{Decision, EventKind, Session};
 use ftp_options::Options;
 use ftp_switchboard::Switchboard;
@@ -41,6 +41,7 @@ pub fn ending(
 {
     match args {
         EventKind::Closed { .. } => closed::handle(session, args, board, room, at, options),
+        EventKind::Quit { .. } => quit::handle(session, args, board, room, at, options),
         _ => unreachable!(),
     }
 }

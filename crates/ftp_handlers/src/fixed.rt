@@ -20,7 +20,9 @@ pub fn copy_kept(alloc: Global, kind: &EventKind, session: &Session) -> Result<B
     match kind {
         EventKind::User { name, .. } => name.copy(alloc),
         EventKind::AuthDone { .. } => known_name(alloc, session),
-        EventKind::Closed { .. } | EventKind::End { .. } => copy_user(alloc, session),
+        EventKind::Closed { .. } | EventKind::Quit { .. } | EventKind::End { .. } => {
+            copy_user(alloc, session)
+        }
         EventKind::Cwd { path, .. } => join_path(alloc, &session.cwd, path),
         EventKind::Connect { .. }
         | EventKind::DataIn { .. }

@@ -16,6 +16,7 @@ mod login;
 pub mod pass;
 pub mod pasv;
 mod putting;
+pub mod quit;
 pub mod rest;
 mod room;
 pub mod transfer;

@@ -12,7 +12,7 @@ use std::alloc::{AllocError, Global};
 use std::marker::Model;
 use std::mem;
 
-/// No event has more actions for one session.
+/// No event has more actions for one session, but for QUIT, which has one more.
 const MOST_ACTIONS: usize = 4;
 
 /// What has to be done outside before the step.
@@ -89,10 +89,11 @@ impl Extent {
         ensures drops { result.drops ≡ can_drop kind.now }
         ensures twice { result.twice ≡ twice }
     {
-        let (replies, drops) = match kind {
-            EventKind::Connect { .. } | EventKind::Closed { .. } => (false, false),
-            EventKind::DataIn { .. } => (false, true),
-            EventKind::Pasv { .. } => (true, true),
+        let (places, replies, drops) = match kind {
+            EventKind::Connect { .. } | EventKind::Closed { .. } => (MOST_ACTIONS, false, false),
+            EventKind::DataIn { .. } => (MOST_ACTIONS, false, true),
+            EventKind::Pasv { .. } => (MOST_ACTIONS, true, true),
+            EventKind::Quit { .. } => (MOST_ACTIONS + 1, true, false),
             EventKind::User { .. }
             | EventKind::Pass { .. }
             | EventKind::AuthDone { .. }
@@ -100,10 +101,10 @@ impl Extent {
             | EventKind::Stou { .. }
             | EventKind::Rest { .. }
             | EventKind::Cwd { .. }
-            | EventKind::End { .. } => (true, false),
+            | EventKind::End { .. } => (MOST_ACTIONS, true, false),
         };
         Extent {
-            places: MOST_ACTIONS,
+            places,
             replies,
             drops,
             twice,

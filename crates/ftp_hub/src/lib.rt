@@ -14,7 +14,7 @@ mod tables;
 mod twin;
 
 pub use ftp_handlers::{
-    Need, Room, appe, cwd, list, mlsd, nlst, pass, pasv, rest, retr, stor, stou,
+    Need, Room, appe, cwd, list, mlsd, nlst, pass, pasv, quit, rest, retr, stor, stou,
 };
 pub use hub::Hub;
 pub use prepare::PrepareError;

@@ -109,7 +109,8 @@ impl Hub {
             | EventKind::AuthDone { .. }
             | EventKind::Rest { .. }
             | EventKind::Cwd { .. }
-            | EventKind::Closed { .. } => Ok(()),
+            | EventKind::Closed { .. }
+            | EventKind::Quit { .. } => Ok(()),
         }
     }
 
