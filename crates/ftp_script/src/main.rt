@@ -32,7 +32,7 @@ fn main(rt: HostRuntime) -> ExitCode {
         Err(error) if error.kind() == io::ErrorKind::OutOfMemory => Status::OutOfMemory,
         Err(_) => Status::Usage,
     };
-    ExitCode::from(status.code())
+    status.exit_code()
 }
 
 #[cfg(test)]

@@ -6,7 +6,8 @@ mod transfers;
 ghost use Rattle.std.specs.Prelude.{◌≤◌};
 
 use ftp_base::{MemorySink, MemorySource};
-use ftp_script_run::{Status, run_script};
+use ftp_script_run::{Status, run_script, settled_runs_are_determined, taken_transfers_are_done};
+use ftp_script_text::{a_line_has_one_item, bytes_are_one_script};
 use std::alloc::{AllocError, Global};
 use std::process::Abort;
 use std::test::Fail;
@@ -116,6 +117,7 @@ fn a_transfer_is_run_at_its_end(rt: HostRuntime) -> Result<(), Fail> {
         transfers::RESTARTED,
         transfers::LISTING_CUT,
         transfers::NEW_NAME,
+        transfers::RANDOM_NAME,
         transfers::PIPE,
         transfers::RESET,
         transfers::TOO_LONG,
@@ -346,4 +348,12 @@ fn other_words_are_no_command(rt: HostRuntime) -> Result<(), Fail> {
 fn an_empty_script_prints_nothing(rt: HostRuntime) -> Result<(), Fail> {
     compare(&rt, rt.alloc(), "", Status::Done, "")?;
     Ok(())
+}
+
+#[test]
+fn the_laws_of_scripts_can_be_called() {
+    a_line_has_one_item();
+    bytes_are_one_script();
+    taken_transfers_are_done();
+    settled_runs_are_determined();
 }

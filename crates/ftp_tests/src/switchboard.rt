@@ -44,28 +44,26 @@ fn connection(from: IpAddr) -> SocketAddrPair {
 }
 
 #[test]
-fn a_full_range_is_refused(rt: HostRuntime) -> Result<(), Fail> {
+fn a_port_that_is_held_is_refused_and_the_next_is_granted(rt: HostRuntime) -> Result<(), Fail> {
     let mut board = Switchboard::new(rt.alloc(), FIRST, SECOND);
-    for (session, granted) in [
-        (7, Ok(FIRST)),
-        (8, Ok(SECOND)),
-        (9, Err(SwitchboardError::MaxRetriesError)),
-    ] {
+    assert_eq!(rt; reserve(&mut board, 7, 0, None)?, Ok(FIRST));
+    board.reserve_room(CLIENT)?;
+    assert_eq!(rt;
+        board.try_and_claim(KEY, 8),
+        Err(SwitchboardError::EntryNotAvailable)
+    );
+    for (session, granted) in [(8, Ok(SECOND)), (9, Err(SwitchboardError::MaxRetriesError))] {
         assert_eq!(rt; reserve(&mut board, session, 0, None)?, granted);
     }
     Ok(())
 }
 
 #[test]
-fn a_held_key_is_not_claimed(rt: HostRuntime) -> Result<(), Fail> {
+fn a_free_key_is_claimed(rt: HostRuntime) -> Result<(), Fail> {
     let mut board = Switchboard::new(rt.alloc(), FIRST, SECOND);
     board.reserve_room(CLIENT)?;
     assert_eq!(rt; board.try_and_claim(KEY, 7), Ok(()));
-    board.reserve_room(CLIENT)?;
-    assert_eq!(rt;
-        board.try_and_claim(KEY, 8),
-        Err(SwitchboardError::EntryNotAvailable)
-    );
+    assert_eq!(rt; board.holder(CLIENT, FIRST), Some(7));
     Ok(())
 }
 

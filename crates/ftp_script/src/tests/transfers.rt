@@ -251,6 +251,18 @@ pub const NEW_NAME: (&str, &str) = (
 ",
 );
 
+/// The same of the random bytes in appendix A.3 of RFC 9562, which gives them this text.
+pub const RANDOM_NAME: (&str, &str) = (
+    "",
+    "> 1 pasv 1 0 - -
+= granted 50000
+- reply 1 0 227 Entering Passive Mode (10,0,0,9,195,80)
+> 1 stou 1 919108f752d133205bacf847db4148a8
+= queued 1.1
+- reply 1 0 150 919108f7-52d1-4320-9bac-f847db4148a8
+",
+);
+
 /// A link fails before anything is sent.
 pub const PIPE: (&str, &str) = (
     "< file 48656c6c6f /a
