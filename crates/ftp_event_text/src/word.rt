@@ -2,10 +2,9 @@
 
 ghost use Rattle.std.specs.Prelude.{◌≡◌};
 ghost use Rattle.ftp_text.specs.Reading.{Gives, find_word};
-ghost use Rattle.ftp_event_text.specs.Events.{event_word_text, command_word};
+ghost use Rattle.ftp_event_text.specs.Events.{event_word_text};
 ghost use Rattle.ftp_event_text.specs.EventReading.{event_words, event_word_field};
 
-use ftp_base::DataChanCmd;
 use ftp_text::{LineFault, field};
 
 /// The word of a kind of event.
@@ -71,19 +70,6 @@ pub fn event_word_text(word: EventWord) -> &'static [u8]
         EventWord::Cwd => b"cwd",
         EventWord::Closed => b"closed",
         EventWord::End => b"end",
-    }
-}
-
-pub fn command_word(command: &DataChanCmd) -> EventWord
-    ensures { result ≡ command_word command.now }
-{
-    match command {
-        DataChanCmd::Retr { .. } => EventWord::Retr,
-        DataChanCmd::Stor { .. } => EventWord::Stor,
-        DataChanCmd::Appe { .. } => EventWord::Appe,
-        DataChanCmd::List { .. } => EventWord::List,
-        DataChanCmd::Nlst { .. } => EventWord::Nlst,
-        DataChanCmd::Mlsd { .. } => EventWord::Mlsd,
     }
 }
 
