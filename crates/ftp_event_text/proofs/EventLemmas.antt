@@ -1,5 +1,5 @@
 -- Each event is read exactly from its line.
-use Rattle.std.proofs.Common.{◌≡◌, ℕ, cond, eqb, List, [], ◌++◌, length, Option, Some, None, refl, sym, ap, subst, ◌∙◌, rules}
+use Rattle.std.proofs.Common.{◌≡◌, ℕ, cond, eqb, List, [], ◌++◌, length, Option, Some, None, refl, sym, ap, subst, ◌∙◌}
 use Rattle.std.specs.Prelude.{Result, Ok, Err, IfOk, IsErrOf}
 use Rattle.std.specs.Fmt.{decimal}
 use Rattle.std.proofs.lemmas.Bool.{eqb-true}
@@ -18,52 +18,17 @@ use Rattle.ftp_text.specs.Forms.{Values, all_spelled}
 use Rattle.ftp_event_text.specs.Events.{event_word_text, form, told, word_field, told_text, kind_fields, event_line, HasNoOptions, InRange, IsKind, IsEvent}
 use Rattle.ftp_text.specs.Reading.{◌>>=◌, Reader, Gives, number_at, find_word}
 use Rattle.ftp_event_text.specs.EventReading.{event_words, event_word_field, kind_of, read_as, fields_at, event_of}
-use Rattle.ftp_text.proofs.Exact.{Ends, IsNil, IsExact, bind_ok, some_is, made_takes, made_again, Pass, is_word_byte, table_exact, number_exact}
+use Rattle.ftp_text.proofs.Exact.{Ends, IsNil, IsExact, bind_ok, some_is, made_takes, made_again, table_exact, number_exact}
 use Rattle.ftp_text.proofs.FormLemmas.{form_starts, form_exact}
 
 -- ---- words
 
-event_word_passes : (v : EventWord) → Pass is_word_byte (event_word_text v)
-event_word_passes word.Connect = search rules
-event_word_passes word.Data = search rules
-event_word_passes word.User = search rules
-event_word_passes word.Pass = search rules
-event_word_passes word.Auth = search rules
-event_word_passes word.Pasv = search rules
-event_word_passes word.Retr = search rules
-event_word_passes word.Stor = search rules
-event_word_passes word.Appe = search rules
-event_word_passes word.List = search rules
-event_word_passes word.Nlst = search rules
-event_word_passes word.Mlsd = search rules
-event_word_passes word.Stou = search rules
-event_word_passes word.Rest = search rules
-event_word_passes word.Cwd = search rules
-event_word_passes word.Closed = search rules
-event_word_passes word.End = search rules
-
-event_word_found : (v : EventWord) → find_word event_word_text event_words (event_word_text v) ≡ Some v
+event_word_found : (w : EventWord) → find_word event_word_text event_words (event_word_text w) ≡ Some w
 event_word_found word.Connect = refl
-event_word_found word.Data = refl
-event_word_found word.User = refl
-event_word_found word.Pass = refl
-event_word_found word.Auth = refl
-event_word_found word.Pasv = refl
-event_word_found word.Retr = refl
-event_word_found word.Stor = refl
-event_word_found word.Appe = refl
-event_word_found word.List = refl
-event_word_found word.Nlst = refl
-event_word_found word.Mlsd = refl
-event_word_found word.Stou = refl
-event_word_found word.Rest = refl
-event_word_found word.Cwd = refl
-event_word_found word.Closed = refl
-event_word_found word.End = refl
+event_word_found _ = refl
 
-event_word_is : IsExact (λ (v : EventWord). field (event_word_text v)) (λ v. Unit {0}) Ends event_word_field
-unfolding event_word_field
-event_word_is = table_exact event_word_text event_words event_word_passes event_word_found
+event_word_is : IsExact (λ (w : EventWord). field (event_word_text w)) (λ w. Unit {0}) Ends event_word_field
+event_word_is = table_exact event_word_text event_words refl event_word_found
 
 -- ---- kinds, by their words
 

@@ -8,7 +8,7 @@ use Rattle.ftp_event_text.specs.declared.word.EventWord.{EventWord}
 use Rattle.ftp_event_text.specs.declared.word.EventWord.TheVariants as word
 use Rattle.ftp_event_text.specs.Events.{event_word_text, form}
 use Rattle.ftp_text.specs.Forms.{Values, Takes, apply, all_read}
-use Rattle.ftp_text.specs.Reading.{◌>>=◌, Reader, made, number_at, word_as, find_word}
+use Rattle.ftp_text.specs.Reading.{◌>>=◌, Reader, made, number_at, word_value}
 
 -- all words of events
 abbrev pub event_words : List EventWord
@@ -18,8 +18,8 @@ event_words =
     ∷ word.Rest ∷ word.Cwd ∷ word.Closed ∷ word.End ∷ []
 
 -- the word of an event
-unfoldable pub event_word_field : Reader EventWord
-event_word_field bytes = word_as (find_word event_word_text event_words) bytes
+abbrev pub event_word_field : Reader EventWord
+event_word_field = word_value event_word_text event_words
 
 -- the event of each word, as it takes the values behind the word
 abbrev pub maker : (w : EventWord) → Takes (form w) EventKind

@@ -11,7 +11,7 @@ ghost use Rattle.ftp_text.specs.Forms.{Last, Text, MaybeText, ◌▸◌, Number,
 ghost use Rattle.ftp_event_text.specs.declared.word.EventWord.TheVariants as word;
 ghost use Rattle.ftp_event_text.specs.EventReading.{fields_at, event_of};
 
-use crate::word::{EventWord, event_word};
+use crate::word::EventWord;
 use ftp_base::{Bytes, DataChanCmd};
 use ftp_events::{EventKind, HubEvent};
 use ftp_text::{LineFault, field};
@@ -40,7 +40,7 @@ fn event(alloc: Global, line: &[u8]) -> Result<HubEvent, LineFault>
     ensures { Gives (λ e. e) result (event_of line.now) }
 {
     let (at, rest) = field::number_here(line)?;
-    let (word, rest) = event_word(rest)?;
+    let (word, rest) = field::word_value(rest)?;
     let (kind, rest) = fields(alloc, word, rest)?;
     if !rest.is_empty() {
         return Err(LineFault::Bad);
@@ -187,7 +187,7 @@ fn auth(bytes: &[u8]) -> Result<(EventKind, &[u8]), LineFault>
     ensures { Gives (λ x. (x.0, x.1.now)) result (fields_at word.Auth bytes.now) }
 {
     let (session, rest) = field::number(bytes)?;
-    let (answer, rest) = field::answer(rest)?;
+    let (answer, rest) = field::word_value(rest)?;
     Ok((EventKind::AuthDone { session, answer }, rest))
 }
 
@@ -222,7 +222,7 @@ fn cwd(alloc: Global, bytes: &[u8]) -> Result<(EventKind, &[u8]), LineFault>
     ensures { Gives (λ x. (x.0, x.1.now)) result (fields_at word.Cwd bytes.now) }
 {
     let (session, rest) = field::number(bytes)?;
-    let (refusal, rest) = field::refusal(rest)?;
+    let (refusal, rest) = field::word_value(rest)?;
     let (path, rest) = field::text_to_end(alloc, rest)?;
     let kind = EventKind::Cwd {
         session,

@@ -6,9 +6,10 @@ ghost use Rattle.ftp_events.specs.declared.event.EventKind.TheVariants as kind;
 ghost use Rattle.ftp_text.specs.Fields.{number, field, escape, optional_text};
 ghost use Rattle.ftp_event_text.specs.Events.{word_field, kind_fields, event_line};
 
-use crate::word::{EventWord, event_word_text};
+use crate::word::EventWord;
 use ftp_base::{Bytes, DataChanCmd, ErrorKind, SocketAddr};
 use ftp_events::{EventKind, HubEvent};
+use ftp_text::Word;
 use ftp_text::writing::{
     put_address, put_answer, put_decimal, put_field, put_hex_word, put_number, put_optional_dotted,
     put_optional_port, put_optional_text, put_refusal, put_text_field, put_ticket,
@@ -151,7 +152,7 @@ fn put_cwd(
 fn put_end(out: &mut Vec<u8>, ticket: Ticket) -> Result<(), AllocError>
     ensures { OnOk result (out.new.items ≡ out.old.items ++ kind_fields (kind.End ticket)) }
 {
-    put_field(out, event_word_text(EventWord::End))?;
+    put_field(out, EventWord::End.text())?;
     put_ticket(out, ticket.session, ticket.nr)
 }
 
@@ -159,7 +160,7 @@ fn put_end(out: &mut Vec<u8>, ticket: Ticket) -> Result<(), AllocError>
 fn put_numbered(out: &mut Vec<u8>, word: EventWord, n: u64) -> Result<(), AllocError>
     ensures { OnOk result (out.new.items ≡ out.old.items ++ (word_field word ++ number n)) }
 {
-    put_field(out, event_word_text(word))?;
+    put_field(out, word.text())?;
     put_number(out, n)
 }
 

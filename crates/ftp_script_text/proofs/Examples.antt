@@ -8,9 +8,9 @@ use Rattle.std.specs.Cmp.Lexicographic.{slice_cmp, nat_list_cmp_total}
 use Rattle.ftp_base.specs.Storage.{Files}
 use Rattle.ftp_base.specs.Storage as storage
 use Rattle.ftp_events.specs.declared.event.EventKind.TheVariants as kind
-use Rattle.ftp_text.specs.Reading.{number_at, small_at, dotted_at, address_at, ipv4_at, hex_of, hex_from, hex_field, word_at, text_field, text_from, calls_field, call_of, list_of, each_of}
+use Rattle.ftp_text.specs.Reading.{number_at, small_at, dotted_at, address_at, ipv4_at, hex_of, hex_from, hex_field, word_value, word_at, text_field, text_from, calls_field, call_of, list_of, each_of}
 use Rattle.ftp_event_text.specs.declared.setup.Item.TheVariants as item
-use Rattle.ftp_event_text.specs.EventReading.{event_of, event_word_field, read_as}
+use Rattle.ftp_event_text.specs.EventReading.{event_of, read_as}
 use Rattle.ftp_event_text.specs.SetupReading.{restart_at, options_at, storage_at, dir_at, file_at, link_at, item_of}
 use Rattle.ftp_script_text.specs.Script.{script_from, script_of}
 
@@ -20,12 +20,12 @@ options = codes "options pooled 50000 50001 connection passive 600 off restart\n
 -- the last line lacks its line feed
 pub script_of-whole : script_of (options ++ codes "link 11 65536 - .\n0 pass 1")
     ≡ (item.Options 50000 50001 600 true ∷ item.Link 11 65536 [] [] ∷ item.Event (record { at = 0; kind = kind.Pass 1 }) ∷ [], None)
-unfolding script_from item_of options_at restart_at link_at calls_field list_of event_of event_word_field read_as number_at small_at hex_field hex_of word_at digits
+unfolding script_from item_of options_at restart_at link_at calls_field list_of event_of word_value read_as number_at small_at hex_field hex_of word_at digits
 script_of-whole = refl
 
 -- skipped lines are counted, and an event needs the options
 pub script_of-no_options : script_of (codes "# a comment\n\n0 pass 1\n") ≡ (item.Skip ∷ item.Skip ∷ [], Some 3)
-unfolding script_from item_of event_of event_word_field read_as number_at small_at word_at digits
+unfolding script_from item_of event_of word_value read_as number_at small_at word_at digits
 script_of-no_options = refl
 
 -- the options come before the links
@@ -35,7 +35,7 @@ script_of-late_options = refl
 
 -- a data connection needs its link
 pub script_of-no_link : script_of (options ++ codes "0 data 11 10.0.0.1:4001 50000\n") ≡ (item.Options 50000 50001 600 true ∷ [], Some 2)
-unfolding script_from item_of options_at restart_at event_of event_word_field read_as address_at ipv4_at dotted_at number_at small_at word_at digits
+unfolding script_from item_of options_at restart_at event_of word_value read_as address_at ipv4_at dotted_at number_at small_at word_at digits
 script_of-no_link = refl
 
 pub script_of-nil : script_of [] ≡ ([], None)
@@ -99,5 +99,5 @@ script_of-slashes = rw (none (codes "//x")) refl
 
 pub script_of-late_dir : script_of (options ++ codes "0 pass 1\ndir /a\n")
     ≡ (item.Options 50000 50001 600 true ∷ item.Event (record { at = 0; kind = kind.Pass 1 }) ∷ [], Some 3)
-unfolding script_from item_of options_at restart_at dir_at event_of event_word_field read_as number_at small_at word_at text_field text_from digits
+unfolding script_from item_of options_at restart_at dir_at event_of word_value read_as number_at small_at word_at text_field text_from digits
 script_of-late_dir = refl
