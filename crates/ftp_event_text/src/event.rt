@@ -14,7 +14,8 @@ ghost use Rattle.ftp_event_text.specs.EventReading.{fields_at, event_of};
 use crate::word::EventWord;
 use ftp_base::{Bytes, DataChanCmd};
 use ftp_events::{EventKind, HubEvent};
-use ftp_text::{LineFault, field};
+use ftp_text::LineFault;
+use ftp_text::field::{self, number};
 use ftp_transfer::Ticket;
 use std::alloc::Global;
 
@@ -56,70 +57,49 @@ fn fields(alloc: Global, word: EventWord, bytes: &[u8]) -> Result<(EventKind, &[
         EventWord::Connect => connect(bytes),
         EventWord::Data => data_in(bytes),
         EventWord::User => Ok(made(
-            with_text(alloc, bytes)?,
+            on_text(alloc, bytes)?,
             |(session, name)| EventKind::User { session, name },
         )),
-        EventWord::Pass => Ok(made(field::number(bytes)?, |session| EventKind::Pass { session })),
+        EventWord::Pass => Ok(made(number(bytes)?, |session| EventKind::Pass { session })),
         EventWord::Auth => auth(bytes),
         EventWord::Pasv => pasv(bytes),
-        EventWord::Retr => Ok(transfer(
-            with_text(alloc, bytes)?,
-            |path| DataChanCmd::Retr { path },
-        )),
-        EventWord::Stor => Ok(transfer(
-            with_text(alloc, bytes)?,
-            |path| DataChanCmd::Stor { path },
-        )),
-        EventWord::Appe => Ok(transfer(
-            with_text(alloc, bytes)?,
-            |path| DataChanCmd::Appe { path },
-        )),
+        EventWord::Retr => Ok(transfer(on_text(alloc, bytes)?, |path| DataChanCmd::Retr { path })),
+        EventWord::Stor => Ok(transfer(on_text(alloc, bytes)?, |path| DataChanCmd::Stor { path })),
+        EventWord::Appe => Ok(transfer(on_text(alloc, bytes)?, |path| DataChanCmd::Appe { path })),
         EventWord::List => Ok(transfer(
-            with_optional_text(alloc, bytes)?,
+            on_dir(alloc, bytes)?,
             |path| DataChanCmd::List {
                 options: None,
                 path,
             },
         )),
-        EventWord::Nlst => Ok(transfer(
-            with_optional_text(alloc, bytes)?,
-            |path| DataChanCmd::Nlst { path },
-        )),
-        EventWord::Mlsd => Ok(transfer(
-            with_optional_text(alloc, bytes)?,
-            |path| DataChanCmd::Mlsd { path },
-        )),
+        EventWord::Nlst => Ok(transfer(on_dir(alloc, bytes)?, |path| DataChanCmd::Nlst { path })),
+        EventWord::Mlsd => Ok(transfer(on_dir(alloc, bytes)?, |path| DataChanCmd::Mlsd { path })),
         EventWord::Stou => stou(bytes),
         EventWord::Rest => Ok(made(
             numbers(bytes)?,
             |(session, offset)| EventKind::Rest { session, offset },
         )),
         EventWord::Cwd => cwd(alloc, bytes),
-        EventWord::Closed => Ok(made(
-            field::number(bytes)?,
-            |session| EventKind::Closed { session },
-        )),
+        EventWord::Closed => Ok(made(number(bytes)?, |session| EventKind::Closed { session })),
         EventWord::End => end(bytes),
     }
 }
 
 // A session and a text.
-fn with_text(alloc: Global, bytes: &[u8]) -> Result<((u64, Bytes), &[u8]), LineFault>
+fn on_text(alloc: Global, bytes: &[u8]) -> Result<((u64, Bytes), &[u8]), LineFault>
     ensures { Gives (λ x. (x.0, x.1.now)) result (all_read (Number ▸ Text) bytes.now) }
 {
-    let (session, rest) = field::number(bytes)?;
+    let (session, rest) = number(bytes)?;
     let (text, rest) = field::text_to_end(alloc, rest)?;
     Ok(((session, text), rest))
 }
 
 // A session, and a text or none.
-fn with_optional_text(
-    alloc: Global,
-    bytes: &[u8],
-) -> Result<((u64, Option<Bytes>), &[u8]), LineFault>
+fn on_dir(alloc: Global, bytes: &[u8]) -> Result<((u64, Option<Bytes>), &[u8]), LineFault>
     ensures { Gives (λ x. (x.0, x.1.now)) result (all_read (Number ▸ MaybeText) bytes.now) }
 {
-    let (session, rest) = field::number(bytes)?;
+    let (session, rest) = number(bytes)?;
     let (text, rest) = field::optional_text(alloc, rest)?;
     Ok(((session, text), rest))
 }
@@ -128,8 +108,8 @@ fn with_optional_text(
 fn numbers(bytes: &[u8]) -> Result<((u64, u64), &[u8]), LineFault>
     ensures { Gives (λ x. (x.0, x.1.now)) result (all_read (Number ▸ Last Number) bytes.now) }
 {
-    let (first, rest) = field::number(bytes)?;
-    let (second, rest) = field::number(rest)?;
+    let (first, rest) = number(bytes)?;
+    let (second, rest) = number(rest)?;
     Ok(((first, second), rest))
 }
 
@@ -159,10 +139,10 @@ fn transfer<P, F: FnOnce(P) -> DataChanCmd>(
 fn connect(bytes: &[u8]) -> Result<(EventKind, &[u8]), LineFault>
     ensures { Gives (λ x. (x.0, x.1.now)) result (fields_at word.Connect bytes.now) }
 {
-    let (session, rest) = field::number(bytes)?;
+    let (session, rest) = number(bytes)?;
     let (raw, rest) = field::address(rest)?;
     let (local, rest) = field::address(rest)?;
-    let (trace, rest) = field::number(rest)?;
+    let (trace, rest) = number(rest)?;
     let kind = EventKind::Connect {
         session,
         raw,
@@ -176,7 +156,7 @@ fn connect(bytes: &[u8]) -> Result<(EventKind, &[u8]), LineFault>
 fn data_in(bytes: &[u8]) -> Result<(EventKind, &[u8]), LineFault>
     ensures { Gives (λ x. (x.0, x.1.now)) result (fields_at word.Data bytes.now) }
 {
-    let (number, rest) = field::number(bytes)?;
+    let (number, rest) = number(bytes)?;
     let (raw, rest) = field::address(rest)?;
     let (port, rest) = field::port(rest)?;
     Ok((EventKind::DataIn { number, raw, port }, rest))
@@ -186,7 +166,7 @@ fn data_in(bytes: &[u8]) -> Result<(EventKind, &[u8]), LineFault>
 fn auth(bytes: &[u8]) -> Result<(EventKind, &[u8]), LineFault>
     ensures { Gives (λ x. (x.0, x.1.now)) result (fields_at word.Auth bytes.now) }
 {
-    let (session, rest) = field::number(bytes)?;
+    let (session, rest) = number(bytes)?;
     let (answer, rest) = field::word_value(rest)?;
     Ok((EventKind::AuthDone { session, answer }, rest))
 }
@@ -195,7 +175,7 @@ fn auth(bytes: &[u8]) -> Result<(EventKind, &[u8]), LineFault>
 fn pasv(bytes: &[u8]) -> Result<(EventKind, &[u8]), LineFault>
     ensures { Gives (λ x. (x.0, x.1.now)) result (fields_at word.Pasv bytes.now) }
 {
-    let (session, rest) = field::number(bytes)?;
+    let (session, rest) = number(bytes)?;
     let (word, rest) = field::port(rest)?;
     let (lookup, rest) = field::optional_dotted(rest)?;
     let (bound, rest) = field::optional_port(rest)?;
@@ -212,7 +192,7 @@ fn pasv(bytes: &[u8]) -> Result<(EventKind, &[u8]), LineFault>
 fn stou(bytes: &[u8]) -> Result<(EventKind, &[u8]), LineFault>
     ensures { Gives (λ x. (x.0, x.1.now)) result (fields_at word.Stou bytes.now) }
 {
-    let (session, rest) = field::number(bytes)?;
+    let (session, rest) = number(bytes)?;
     let (word, rest) = field::hex_word(rest)?;
     Ok((EventKind::Stou { session, word }, rest))
 }
@@ -221,7 +201,7 @@ fn stou(bytes: &[u8]) -> Result<(EventKind, &[u8]), LineFault>
 fn cwd(alloc: Global, bytes: &[u8]) -> Result<(EventKind, &[u8]), LineFault>
     ensures { Gives (λ x. (x.0, x.1.now)) result (fields_at word.Cwd bytes.now) }
 {
-    let (session, rest) = field::number(bytes)?;
+    let (session, rest) = number(bytes)?;
     let (refusal, rest) = field::word_value(rest)?;
     let (path, rest) = field::text_to_end(alloc, rest)?;
     let kind = EventKind::Cwd {

@@ -1,5 +1,5 @@
 -- What has a form is read exactly, whatever the form.
-use Rattle.std.proofs.Common.{ℕ, List, [], ◌∷◌, ◌++◌, Some, refl, sym, ap, subst, append_assoc}
+use Rattle.std.proofs.Common.{ℕ, List, [], ◌++◌, Some, refl, sym, ap, subst, append_assoc}
 use Rattle.std.specs.Fmt.{decimal}
 use Rattle.ftp_text.specs.Fields.{dotted}
 use Rattle.ftp_text.specs.Forms.{Shape, Number, Port, Address, Ticket, Answer, Refusal, HexWord, MaybeIp, MaybePort, Form, Nothing, Last, Text, MaybeText, ◌▸◌, Value, spelled, Fits, reads, Values, all_spelled, AllFit, all_read}

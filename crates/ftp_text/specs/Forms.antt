@@ -1,7 +1,7 @@
 -- The forms of lines: what stands behind the word of a line, how it is spelled, and how it is read.
 --
 -- A text is ended by nothing but the end of its line, so it stands last.
-use Rattle.std.specs.Prelude.{ℕ, ◌^◌, ◌<◌, List, [], ◌∷◌, ◌++◌, decimal, Option, Some}
+use Rattle.std.specs.Prelude.{ℕ, ◌^◌, ◌<◌, List, [], ◌++◌, decimal, Option, Some}
 use Rattle.ftp_base.specs.declared.net.SocketAddr.{SocketAddr}
 use Rattle.ftp_base.specs.declared.login.AuthAnswer.{AuthAnswer}
 use Rattle.ftp_base.specs.declared.error_kind.ErrorKind.{ErrorKind}
