@@ -19,11 +19,11 @@ use Rattle.ftp_events.specs.declared.event.EventKind.{EventKind}
 use Rattle.ftp_events.specs.declared.event.EventKind.TheVariants as kind
 use Rattle.ftp_events.specs.declared.event.HubEvent.{HubEvent}
 use Rattle.ftp_event_text.specs.declared.setup.Item.TheVariants as item
-use Rattle.ftp_text.specs.Reading.{number_at, small_at, text_from, text_field, hex_from, hex_of, hex_field, word_at, each_of, list_of, calls_field, call_of, link_call_of, refusal_field}
+use Rattle.ftp_text.specs.Reading.{number_at, small_at, text_from, text_field, hex_from, hex_of, hex_field, word_value, word_at, each_of, list_of, calls_field, call_of, link_call_of}
 use Rattle.ftp_event_text.specs.Events.{event_line}
 use Rattle.ftp_event_text.specs.Setup.{item_line, sent_line, file_line}
 use Rattle.ftp_event_text.specs.Printing.{print}
-use Rattle.ftp_event_text.specs.EventReading.{event_of, event_word_field, user_at, pasv_at, rest_at, cwd_at}
+use Rattle.ftp_event_text.specs.EventReading.{event_of, read_as}
 use Rattle.ftp_event_text.specs.SetupReading.{restart_at, options_at, storage_at, dir_at, file_at, link_at, item_of}
 
 abbrev client : SocketAddr
@@ -136,7 +136,7 @@ abbrev bad : List ℕ → Type 0
 bad line = event_of line ≡ None
 
 pub bad-no_text : bad (codes "0 user 1")
-unfolding event_of event_word_field user_at number_at word_at text_field digits
+unfolding event_of word_value read_as number_at word_at text_field digits
 bad-no_text = refl
 
 pub bad-leading_zero : bad (codes "00 pass 1")
@@ -144,28 +144,28 @@ unfolding event_of number_at digits
 bad-leading_zero = refl
 
 pub bad-upper_escape : bad (codes "0 user 1 \\xFF")
-unfolding event_of event_word_field user_at number_at word_at text_field text_from digits
+unfolding event_of word_value read_as number_at word_at text_field text_from digits
 bad-upper_escape = refl
 
 pub bad-plain_escape : bad (codes "0 user 1 \\x41")
-unfolding event_of event_word_field user_at number_at word_at text_field text_from digits
+unfolding event_of word_value read_as number_at word_at text_field text_from digits
 bad-plain_escape = refl
 
 pub bad-port : bad (codes "0 pasv 1 65536 - -")
-unfolding event_of event_word_field pasv_at number_at small_at word_at digits
+unfolding event_of word_value read_as number_at small_at word_at digits
 bad-port = refl
 
 pub bad-offset : bad (codes "0 rest 1 18446744073709551616")
-unfolding event_of event_word_field rest_at number_at word_at digits
+unfolding event_of word_value read_as number_at word_at digits
 bad-offset = refl
 
 -- a word of the authenticator is none of the storage
 pub bad-kind : bad (codes "0 cwd 1 refused pub")
-unfolding event_of event_word_field cwd_at refusal_field number_at word_at digits
+unfolding event_of word_value read_as number_at word_at digits
 bad-kind = refl
 
 pub bad-no_path : bad (codes "0 cwd 1 ok")
-unfolding event_of event_word_field cwd_at refusal_field number_at word_at text_field digits
+unfolding event_of word_value read_as number_at word_at text_field digits
 bad-no_path = refl
 
 pub bad-range : item_of (codes "options pooled 50001 50000 connection passive 600 off restart") ≡ None
@@ -196,12 +196,12 @@ bad-relative_path = refl
 -- ---- lines that are read
 
 pub read-empty_name : event_of (codes "0 user 1 ") ≡ Some (happens (kind.User 1 []))
-unfolding event_of event_word_field user_at number_at word_at text_field text_from digits
+unfolding event_of word_value read_as number_at word_at text_field text_from digits
 read-empty_name = refl
 
 -- a directory that is named as a kind is
 pub read-directory : event_of (codes "0 cwd 1 ok closed") ≡ Some (happens (kind.Cwd 1 (codes "closed") None))
-unfolding event_of event_word_field cwd_at refusal_field number_at word_at text_field text_from digits
+unfolding event_of word_value read_as number_at word_at text_field text_from digits
 read-directory = refl
 
 pub read-options : item_of (codes "options pooled 50000 50001 connection passive 600 off restart") ≡ Some (item.Options 50000 50001 600 true)

@@ -1,5 +1,5 @@
 -- Each line of a script is read exactly.
-use Rattle.std.proofs.Common.{◌≡◌, ℕ, ◌^◌, ◌<◌, ◌≤◌, Bool, true, false, cond, ◌&&◌, eqb, leb, List, [], ◌∷◌, ◌++◌, length, Option, Some, None, refl, sym, ap, subst, ◌∙◌, arith, rules}
+use Rattle.std.proofs.Common.{◌≡◌, ℕ, ◌^◌, ◌<◌, ◌≤◌, Bool, true, false, cond, ◌&&◌, eqb, leb, List, [], ◌∷◌, ◌++◌, length, Option, Some, None, refl, sym, ap, subst, ◌∙◌, arith}
 use Rattle.std.specs.Prelude.{codes, Result, Ok, Err, IfOk, IsErrOf}
 use Rattle.std.specs.Fmt.{decimal}
 use Rattle.std.specs.Char.{is_ascii_digit}
@@ -16,10 +16,10 @@ use Rattle.ftp_base.specs.declared.fault.LinkFault.{LinkFault}
 use Rattle.ftp_text.specs.Fields.{field, number, hex_text, escape, listed, link_call_text, IsText, AreCalls}
 use Rattle.ftp_event_text.specs.Events.{kind_fields, event_line, IsEvent}
 use Rattle.ftp_event_text.specs.Setup.{is_skipped, restart_text, item_line, is_absolute, IsItem, IsItemOf}
-use Rattle.ftp_text.specs.Reading.{◌>>=◌, Reader, Gives, pair, tested, begins, behind_text, number_field, hex_field, text_field, find_word, calls_field, call_of}
+use Rattle.ftp_text.specs.Reading.{◌>>=◌, Reader, Gives, pair, tested, begins, behind_text, number_field, hex_field, text_field, find_word, word_value, calls_field, call_of}
 use Rattle.ftp_event_text.specs.EventReading.{event_of}
 use Rattle.ftp_event_text.specs.SetupReading.{is_range, moves, ports_at, restarts, restart_at, idle_at, link_calls_at, options_at, storage_at, dir_at, is_placed, file_at, link_at, whole, item_of}
-use Rattle.ftp_text.proofs.Exact.{Ends, IsNil, IsExact, Pass, is_word_byte, bind_ok, some_is, table_exact, pair_exact, made_takes, made_again, behind_text_exact, before_text_exact, tested_exact}
+use Rattle.ftp_text.proofs.Exact.{Ends, IsNil, IsExact, bind_ok, some_is, table_exact, pair_exact, made_takes, made_again, behind_text_exact, before_text_exact, tested_exact}
 use Rattle.ftp_text.proofs.Values.{begins_decimal, text_exact}
 use Rattle.ftp_text.proofs.HexTexts.{hex_exact}
 use Rattle.ftp_event_text.proofs.EventLemmas.{event_takes, event_again}
@@ -33,17 +33,13 @@ abbrev IsSpelled : Item → Type 0
 IsSpelled item.Skip = ⊥
 IsSpelled _ = Unit {0}
 
-restart_passes : (v : Bool) → Pass is_word_byte (restart_text v)
-restart_passes true = search rules
-restart_passes false = search rules
-
 restart_found : (v : Bool) → find_word restart_text restarts (restart_text v) ≡ Some v
 restart_found true = refl
 restart_found false = refl
 
 restart_is : IsExact (λ (v : Bool). field (restart_text v)) (λ v. Unit {0}) Ends restart_at
-unfolding restart_at
-restart_is = table_exact restart_text restarts restart_passes restart_found
+unfolding restart_at word_value
+restart_is = table_exact restart_text restarts refl restart_found
 
 -- the options, as three numbers and a word
 options_exact : IsExact (λ (x : (ℕ × ℕ) × (ℕ × Bool)). codes "options pooled" ++ (((number x.0.0 ++ number x.0.1) ++ codes " connection passive") ++ ((number x.1.0 ++ codes " off") ++ field (restart_text x.1.1))))

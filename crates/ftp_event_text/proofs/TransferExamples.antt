@@ -24,10 +24,10 @@ use Rattle.ftp_events.specs.declared.event.EventKind.{EventKind}
 use Rattle.ftp_events.specs.declared.event.EventKind.TheVariants as kind
 use Rattle.ftp_events.specs.declared.event.HubEvent.{HubEvent}
 use Rattle.ftp_text.specs.Fields.{hex_digits}
-use Rattle.ftp_text.specs.Reading.{number_at, text_from, text_field, optional_text_field, hex_word_at, word_at}
+use Rattle.ftp_text.specs.Reading.{number_at, text_from, text_field, optional_text_field, hex_word_at, word_value, word_at}
 use Rattle.ftp_event_text.specs.Events.{event_line}
 use Rattle.ftp_event_text.specs.Printing.{print, answer_line, action_line}
-use Rattle.ftp_event_text.specs.EventReading.{event_of, event_word_field, retr_at, list_at, stou_at, end_at}
+use Rattle.ftp_event_text.specs.EventReading.{event_of, read_as}
 
 abbrev later : EventKind → HubEvent
 later k = record { at = 1; kind = k }
@@ -167,42 +167,42 @@ abbrev bad : List ℕ → Type 0
 bad line = event_of line ≡ None
 
 pub bad-no_file : bad (codes "1 retr 1")
-unfolding event_of event_word_field retr_at number_at word_at text_field digits
+unfolding event_of word_value read_as number_at word_at text_field digits
 bad-no_file = refl
 
 pub bad-no_nr : bad (codes "1 end 1.")
-unfolding event_of event_word_field end_at number_at word_at digits
+unfolding event_of word_value read_as number_at word_at digits
 bad-no_nr = refl
 
 pub bad-nr_alone : bad (codes "1 end 1 1")
-unfolding event_of event_word_field end_at number_at word_at digits
+unfolding event_of word_value read_as number_at word_at digits
 bad-nr_alone = refl
 
 -- a digit too few, and a letter in upper case
 pub bad-short_word : bad (codes "1 stou 1 0000000000000000000000000000001")
-unfolding event_of event_word_field stou_at number_at word_at hex_word_at hex_digits digits
+unfolding event_of word_value read_as number_at word_at hex_word_at hex_digits digits
 bad-short_word = refl
 
 pub bad-upper_word : bad (codes "1 stou 1 0000000000000000000000000000000A")
-unfolding event_of event_word_field stou_at number_at word_at hex_word_at hex_digits digits
+unfolding event_of word_value read_as number_at word_at hex_word_at hex_digits digits
 bad-upper_word = refl
 
 -- ---- lines that are read
 
 -- a path that is there and empty
 pub read-empty_path : event_of (codes "1 list 1 ") ≡ Some (later (kind.Transfer 1 (command.List None (Some []))))
-unfolding event_of event_word_field list_at number_at word_at optional_text_field text_field text_from digits
+unfolding event_of word_value read_as number_at word_at optional_text_field text_field text_from digits
 read-empty_path = refl
 
 pub read-no_path : event_of (codes "1 list 1") ≡ Some (later (kind.Transfer 1 (command.List None None)))
-unfolding event_of event_word_field list_at number_at word_at optional_text_field digits
+unfolding event_of word_value read_as number_at word_at optional_text_field digits
 read-no_path = refl
 
 -- no session has such a transfer, and yet it has a line
 pub read-end : event_of (codes "1 end 1.0") ≡ Some (later (kind.End (record { session = 1; nr = 0 })))
-unfolding event_of event_word_field end_at number_at word_at digits
+unfolding event_of word_value read_as number_at word_at digits
 read-end = refl
 
 pub read-stou : event_of (codes "1 stou 1 f000000000000000000000000000000a") ≡ Some (later (kind.Stou 1 (15 * 2 ^ 124 + 10)))
-unfolding event_of event_word_field stou_at number_at word_at hex_word_at hex_digits digits
+unfolding event_of word_value read_as number_at word_at hex_word_at hex_digits digits
 read-stou = refl

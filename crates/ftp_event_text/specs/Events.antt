@@ -1,14 +1,13 @@
--- How events are spelled: each event has one line, its moment, its word and its fields.
+-- How events are spelled: each event has one line, its moment, its word and the fields of the word's form.
 use Rattle.std.specs.Prelude.{◌≡◌, ℕ, ◌^◌, ◌<◌, List, ◌++◌, codes, decimal, None}
-use Rattle.ftp_base.specs.declared.command.DataChanCmd.{DataChanCmd}
 use Rattle.ftp_base.specs.declared.command.DataChanCmd.TheVariants as command
-use Rattle.ftp_base.specs.Command.{path_of}
 use Rattle.ftp_events.specs.declared.event.EventKind.{EventKind}
 use Rattle.ftp_events.specs.declared.event.EventKind.TheVariants as kind
 use Rattle.ftp_events.specs.declared.event.HubEvent.{HubEvent}
 use Rattle.ftp_event_text.specs.declared.word.EventWord.{EventWord}
 use Rattle.ftp_event_text.specs.declared.word.EventWord.TheVariants as word
-use Rattle.ftp_text.specs.Fields.{field, number, hex_digits, dotted, address_text, escape, optional, optional_text, ticket, answer_text, refusal_text, IsText, IsAddress, Each}
+use Rattle.ftp_text.specs.Fields.{field}
+use Rattle.ftp_text.specs.Forms.{Form, Last, Text, MaybeText, ◌▸◌, Number, Port, Address, Ticket, Answer, Refusal, HexWord, MaybeIp, MaybePort, Values, all_spelled, AllFit, Takes, gather}
 
 -- the word of each kind of event
 abbrev pub event_word_text : EventWord → List ℕ
@@ -30,61 +29,83 @@ event_word_text word.Cwd = codes "cwd"
 event_word_text word.Closed = codes "closed"
 event_word_text word.End = codes "end"
 
--- the word of each command that moves bytes
-abbrev pub command_word : DataChanCmd → EventWord
-command_word (command.Retr path) = word.Retr
-command_word (command.Stor path) = word.Stor
-command_word (command.Appe path) = word.Appe
-command_word (command.List options path) = word.List
-command_word (command.Nlst path) = word.Nlst
-command_word (command.Mlsd path) = word.Mlsd
+-- the form of each line: what stands behind its word
+abbrev pub form : EventWord → Form
+form word.Connect = Number ▸ Address ▸ Address ▸ Last Number
+form word.Data = Number ▸ Address ▸ Last Port
+form word.User = Number ▸ Text
+form word.Pass = Last Number
+form word.Auth = Number ▸ Last Answer
+form word.Pasv = Number ▸ Port ▸ MaybeIp ▸ Last MaybePort
+form word.Retr = Number ▸ Text
+form word.Stor = Number ▸ Text
+form word.Appe = Number ▸ Text
+form word.List = Number ▸ MaybeText
+form word.Nlst = Number ▸ MaybeText
+form word.Mlsd = Number ▸ MaybeText
+form word.Stou = Number ▸ Last HexWord
+form word.Rest = Number ▸ Last Number
+form word.Cwd = Number ▸ Refusal ▸ Text
+form word.Closed = Last Number
+form word.End = Last Ticket
+
+-- what a line says: its word, and the values of its form
+abbrev pub Told : Type 0
+Told = (w : EventWord) × Values (form w)
+
+-- the word, and the values one after the other
+abbrev pub say : (w : EventWord) → Takes (form w) Told
+say w = gather (form w) (λ values. (w, values))
+
+-- what the line of each event says
+abbrev pub told : EventKind → Told
+told (kind.Connect s raw local trace) = say word.Connect s raw local trace
+told (kind.DataIn n raw port) = say word.Data n raw port
+told (kind.User s name) = say word.User s name
+told (kind.Pass s) = say word.Pass s
+told (kind.AuthDone s answer) = say word.Auth s answer
+told (kind.Pasv s random lookup bound) = say word.Pasv s random lookup bound
+told (kind.Transfer s (command.Retr path)) = say word.Retr s path
+told (kind.Transfer s (command.Stor path)) = say word.Stor s path
+told (kind.Transfer s (command.Appe path)) = say word.Appe s path
+told (kind.Transfer s (command.List options path)) = say word.List s path
+told (kind.Transfer s (command.Nlst path)) = say word.Nlst s path
+told (kind.Transfer s (command.Mlsd path)) = say word.Mlsd s path
+told (kind.Stou s random) = say word.Stou s random
+told (kind.Rest s offset) = say word.Rest s offset
+told (kind.Cwd s path refusal) = say word.Cwd s refusal path
+told (kind.Closed s) = say word.Closed s
+told (kind.End t) = say word.End (t.session, t.nr)
 
 -- the word as a field
 abbrev pub word_field : EventWord → List ℕ
 word_field w = field (event_word_text w)
 
--- the word and the fields of an event
+-- the word and the values, as the form spells them
+abbrev pub told_text : Told → List ℕ
+told_text x = word_field x.0 ++ all_spelled (form x.0) x.1
+
+-- the word and the fields of an event, by cases, so that they are computed where the event is known
 abbrev pub kind_fields : EventKind → List ℕ
-kind_fields (kind.Connect s raw local trace) =
-    word_field word.Connect ++ number s ++ field (address_text raw) ++ field (address_text local) ++ number trace
-kind_fields (kind.DataIn n raw port) = word_field word.Data ++ number n ++ field (address_text raw) ++ number port
-kind_fields (kind.User s name) = word_field word.User ++ number s ++ field (escape name)
-kind_fields (kind.Pass s) = word_field word.Pass ++ number s
-kind_fields (kind.AuthDone s answer) = word_field word.Auth ++ number s ++ field (answer_text answer)
-kind_fields (kind.Pasv s random lookup bound) =
-    word_field word.Pasv ++ number s ++ number random ++ optional dotted lookup ++ optional decimal bound
-kind_fields (kind.Transfer s command) = word_field (command_word command) ++ number s ++ optional_text (path_of command)
-kind_fields (kind.Stou s random) = word_field word.Stou ++ number s ++ field (hex_digits 32 random)
-kind_fields (kind.Rest s offset) = word_field word.Rest ++ number s ++ number offset
-kind_fields (kind.Cwd s path refusal) =
-    word_field word.Cwd ++ number s ++ field (refusal_text refusal) ++ field (escape path)
-kind_fields (kind.Closed s) = word_field word.Closed ++ number s
-kind_fields (kind.End t) = word_field word.End ++ ticket t.session t.nr
+kind_fields (kind.Transfer s (command.Retr path)) = told_text (told (kind.Transfer s (command.Retr path)))
+kind_fields k = told_text (told k)
 
 -- the one line of an event
 abbrev pub event_line : HubEvent → List ℕ
 event_line e = decimal e.at ++ kind_fields e.kind
 
 -- LIST has no options: a line has no place for them
-abbrev pub HasNoOptions : DataChanCmd → Type 0
-HasNoOptions (command.List options path) = options ≡ None
+abbrev pub HasNoOptions : EventKind → Type 0
+HasNoOptions (kind.Transfer s (command.List options path)) = options ≡ None
 HasNoOptions _ = Unit {0}
 
--- the fields lie in the ranges of their types
+-- the values lie in the ranges of their types
+abbrev pub InRange : Told → Type 0
+InRange x = AllFit (form x.0) x.1
+
+-- the fields lie in the ranges of their types, and a line has a place for all of them
 abbrev pub IsKind : EventKind → Type 0
-IsKind (kind.Connect s raw local trace) = (s < 2 ^ 64) × IsAddress raw × IsAddress local × (trace < 2 ^ 64)
-IsKind (kind.DataIn n raw port) = (n < 2 ^ 64) × IsAddress raw × (port < 2 ^ 16)
-IsKind (kind.User s name) = (s < 2 ^ 64) × IsText name
-IsKind (kind.Pass s) = s < 2 ^ 64
-IsKind (kind.AuthDone s answer) = s < 2 ^ 64
-IsKind (kind.Pasv s random lookup bound) =
-    (s < 2 ^ 64) × (random < 2 ^ 16) × Each (λ ip. ip < 2 ^ 32) lookup × Each (λ port. port < 2 ^ 16) bound
-IsKind (kind.Transfer s command) = (s < 2 ^ 64) × Each IsText (path_of command) × HasNoOptions command
-IsKind (kind.Stou s random) = (s < 2 ^ 64) × (random < 2 ^ 128)
-IsKind (kind.Rest s offset) = (s < 2 ^ 64) × (offset < 2 ^ 64)
-IsKind (kind.Cwd s path refusal) = (s < 2 ^ 64) × IsText path
-IsKind (kind.Closed s) = s < 2 ^ 64
-IsKind (kind.End t) = (t.session < 2 ^ 64) × (t.nr < 2 ^ 64)
+IsKind k = InRange (told k) × HasNoOptions k
 
 -- the moment and the fields lie in the ranges of their types
 abbrev pub IsEvent : HubEvent → Type 0

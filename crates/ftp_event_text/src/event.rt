@@ -6,13 +6,16 @@ ghost use Rattle.ftp_events.specs.declared.event.EventKind.TheVariants as kind;
 ghost use Rattle.ftp_events.specs.declared.event.HubEvent.{HubEvent};
 ghost use Rattle.ftp_text.specs.declared.fault.LineFault.TheVariants as fault;
 ghost use Rattle.ftp_event_text.specs.Events.{event_line, IsEvent};
-ghost use Rattle.ftp_text.specs.Reading.{Gives, pair, number_field, text_field, optional_text_field};
-ghost use Rattle.ftp_event_text.specs.EventReading.{connect_at, data_at, user_at, pass_at, auth_at, pasv_at, stou_at, rest_at, cwd_at, closed_at, end_at, fields_at, event_of};
+ghost use Rattle.ftp_text.specs.Reading.{Gives};
+ghost use Rattle.ftp_text.specs.Forms.{Last, Text, MaybeText, ◌▸◌, Number, all_read};
+ghost use Rattle.ftp_event_text.specs.declared.word.EventWord.TheVariants as word;
+ghost use Rattle.ftp_event_text.specs.EventReading.{fields_at, event_of};
 
-use crate::word::{EventWord, event_word};
+use crate::word::EventWord;
 use ftp_base::{Bytes, DataChanCmd};
 use ftp_events::{EventKind, HubEvent};
-use ftp_text::{LineFault, field};
+use ftp_text::LineFault;
+use ftp_text::field::{self, number};
 use ftp_transfer::Ticket;
 use std::alloc::Global;
 
@@ -38,7 +41,7 @@ fn event(alloc: Global, line: &[u8]) -> Result<HubEvent, LineFault>
     ensures { Gives (λ e. e) result (event_of line.now) }
 {
     let (at, rest) = field::number_here(line)?;
-    let (word, rest) = event_word(rest)?;
+    let (word, rest) = field::word_value(rest)?;
     let (kind, rest) = fields(alloc, word, rest)?;
     if !rest.is_empty() {
         return Err(LineFault::Bad);
@@ -46,20 +49,23 @@ fn event(alloc: Global, line: &[u8]) -> Result<HubEvent, LineFault>
     Ok(HubEvent { at, kind })
 }
 
-#[tactic(auto, unfolding(crate::specs::EventReading::retr_at, crate::specs::EventReading::stor_at, crate::specs::EventReading::appe_at, crate::specs::EventReading::list_at, crate::specs::EventReading::nlst_at, crate::specs::EventReading::mlsd_at))]
+#[tactic(auto, unfolding(crate::specs::EventReading::read_as))]
 fn fields(alloc: Global, word: EventWord, bytes: &[u8]) -> Result<(EventKind, &[u8]), LineFault>
     ensures { Gives (λ x. (x.0, x.1.now)) result (fields_at word bytes.now) }
 {
     match word {
         EventWord::Connect => connect(bytes),
         EventWord::Data => data_in(bytes),
-        EventWord::User => user(alloc, bytes),
-        EventWord::Pass => pass(bytes),
+        EventWord::User => Ok(made(
+            on_text(alloc, bytes)?,
+            |(session, name)| EventKind::User { session, name },
+        )),
+        EventWord::Pass => Ok(made(number(bytes)?, |session| EventKind::Pass { session })),
         EventWord::Auth => auth(bytes),
         EventWord::Pasv => pasv(bytes),
-        EventWord::Retr => Ok(transfer(on_path(alloc, bytes)?, |path| DataChanCmd::Retr { path })),
-        EventWord::Stor => Ok(transfer(on_path(alloc, bytes)?, |path| DataChanCmd::Stor { path })),
-        EventWord::Appe => Ok(transfer(on_path(alloc, bytes)?, |path| DataChanCmd::Appe { path })),
+        EventWord::Retr => Ok(transfer(on_text(alloc, bytes)?, |path| DataChanCmd::Retr { path })),
+        EventWord::Stor => Ok(transfer(on_text(alloc, bytes)?, |path| DataChanCmd::Stor { path })),
+        EventWord::Appe => Ok(transfer(on_text(alloc, bytes)?, |path| DataChanCmd::Appe { path })),
         EventWord::List => Ok(transfer(
             on_dir(alloc, bytes)?,
             |path| DataChanCmd::List {
@@ -70,32 +76,53 @@ fn fields(alloc: Global, word: EventWord, bytes: &[u8]) -> Result<(EventKind, &[
         EventWord::Nlst => Ok(transfer(on_dir(alloc, bytes)?, |path| DataChanCmd::Nlst { path })),
         EventWord::Mlsd => Ok(transfer(on_dir(alloc, bytes)?, |path| DataChanCmd::Mlsd { path })),
         EventWord::Stou => stou(bytes),
-        EventWord::Rest => restart(bytes),
+        EventWord::Rest => Ok(made(
+            numbers(bytes)?,
+            |(session, offset)| EventKind::Rest { session, offset },
+        )),
         EventWord::Cwd => cwd(alloc, bytes),
-        EventWord::Closed => closed(bytes),
+        EventWord::Closed => Ok(made(number(bytes)?, |session| EventKind::Closed { session })),
         EventWord::End => end(bytes),
     }
 }
 
-/// A session, and a path.
-fn on_path(alloc: Global, bytes: &[u8]) -> Result<((u64, Bytes), &[u8]), LineFault>
-    ensures { Gives (λ x. (x.0, x.1.now)) result (pair number_field text_field bytes.now) }
+// A session and a text.
+fn on_text(alloc: Global, bytes: &[u8]) -> Result<((u64, Bytes), &[u8]), LineFault>
+    ensures { Gives (λ x. (x.0, x.1.now)) result (all_read (Number ▸ Text) bytes.now) }
 {
-    let (session, rest) = field::number(bytes)?;
-    let (path, rest) = field::text_to_end(alloc, rest)?;
-    Ok(((session, path), rest))
+    let (session, rest) = number(bytes)?;
+    let (text, rest) = field::text_to_end(alloc, rest)?;
+    Ok(((session, text), rest))
 }
 
-/// A session, and a path or none.
+// A session, and a text or none.
 fn on_dir(alloc: Global, bytes: &[u8]) -> Result<((u64, Option<Bytes>), &[u8]), LineFault>
-    ensures { Gives (λ x. (x.0, x.1.now)) result (pair number_field optional_text_field bytes.now) }
+    ensures { Gives (λ x. (x.0, x.1.now)) result (all_read (Number ▸ MaybeText) bytes.now) }
 {
-    let (session, rest) = field::number(bytes)?;
-    let (path, rest) = field::optional_text(alloc, rest)?;
-    Ok(((session, path), rest))
+    let (session, rest) = number(bytes)?;
+    let (text, rest) = field::optional_text(alloc, rest)?;
+    Ok(((session, text), rest))
 }
 
-/// The transfer of a session, by the command on its path.
+// Two numbers.
+fn numbers(bytes: &[u8]) -> Result<((u64, u64), &[u8]), LineFault>
+    ensures { Gives (λ x. (x.0, x.1.now)) result (all_read (Number ▸ Last Number) bytes.now) }
+{
+    let (first, rest) = number(bytes)?;
+    let (second, rest) = number(rest)?;
+    Ok(((first, second), rest))
+}
+
+// The kind that is made of what was read.
+fn made<V, F: FnOnce(V) -> EventKind>(read: (V, &[u8]), make: F) -> (EventKind, &[u8])
+    requires { F.IsAlwaysCallable make }
+    ensures { F.post make read.entry.0 result.0 × (result.1.now ≡ read.entry.1.now) }
+{
+    let (values, rest) = read;
+    (make(values), rest)
+}
+
+// The transfer of a session, by the command on what was read.
 fn transfer<P, F: FnOnce(P) -> DataChanCmd>(
     read: ((u64, P), &[u8]),
     command: F,
@@ -108,14 +135,14 @@ fn transfer<P, F: FnOnce(P) -> DataChanCmd>(
     (EventKind::Transfer { session, command }, rest)
 }
 
-#[tactic(auto, unfolding(crate::specs::EventReading::connect_at))]
+#[tactic(auto, unfolding(crate::specs::EventReading::read_as))]
 fn connect(bytes: &[u8]) -> Result<(EventKind, &[u8]), LineFault>
-    ensures { Gives (λ x. (x.0, x.1.now)) result (connect_at bytes.now) }
+    ensures { Gives (λ x. (x.0, x.1.now)) result (fields_at word.Connect bytes.now) }
 {
-    let (session, rest) = field::number(bytes)?;
+    let (session, rest) = number(bytes)?;
     let (raw, rest) = field::address(rest)?;
     let (local, rest) = field::address(rest)?;
-    let (trace, rest) = field::number(rest)?;
+    let (trace, rest) = number(rest)?;
     let kind = EventKind::Connect {
         session,
         raw,
@@ -125,47 +152,30 @@ fn connect(bytes: &[u8]) -> Result<(EventKind, &[u8]), LineFault>
     Ok((kind, rest))
 }
 
-#[tactic(auto, unfolding(crate::specs::EventReading::data_at))]
+#[tactic(auto, unfolding(crate::specs::EventReading::read_as))]
 fn data_in(bytes: &[u8]) -> Result<(EventKind, &[u8]), LineFault>
-    ensures { Gives (λ x. (x.0, x.1.now)) result (data_at bytes.now) }
+    ensures { Gives (λ x. (x.0, x.1.now)) result (fields_at word.Data bytes.now) }
 {
-    let (number, rest) = field::number(bytes)?;
+    let (number, rest) = number(bytes)?;
     let (raw, rest) = field::address(rest)?;
     let (port, rest) = field::port(rest)?;
     Ok((EventKind::DataIn { number, raw, port }, rest))
 }
 
-#[tactic(auto, unfolding(crate::specs::EventReading::user_at))]
-fn user(alloc: Global, bytes: &[u8]) -> Result<(EventKind, &[u8]), LineFault>
-    ensures { Gives (λ x. (x.0, x.1.now)) result (user_at bytes.now) }
-{
-    let (session, rest) = field::number(bytes)?;
-    let (name, rest) = field::text_to_end(alloc, rest)?;
-    Ok((EventKind::User { session, name }, rest))
-}
-
-#[tactic(auto, unfolding(crate::specs::EventReading::pass_at))]
-fn pass(bytes: &[u8]) -> Result<(EventKind, &[u8]), LineFault>
-    ensures { Gives (λ x. (x.0, x.1.now)) result (pass_at bytes.now) }
-{
-    let (session, rest) = field::number(bytes)?;
-    Ok((EventKind::Pass { session }, rest))
-}
-
-#[tactic(auto, unfolding(crate::specs::EventReading::auth_at))]
+#[tactic(auto, unfolding(crate::specs::EventReading::read_as))]
 fn auth(bytes: &[u8]) -> Result<(EventKind, &[u8]), LineFault>
-    ensures { Gives (λ x. (x.0, x.1.now)) result (auth_at bytes.now) }
+    ensures { Gives (λ x. (x.0, x.1.now)) result (fields_at word.Auth bytes.now) }
 {
-    let (session, rest) = field::number(bytes)?;
-    let (answer, rest) = field::answer(rest)?;
+    let (session, rest) = number(bytes)?;
+    let (answer, rest) = field::word_value(rest)?;
     Ok((EventKind::AuthDone { session, answer }, rest))
 }
 
-#[tactic(auto, unfolding(crate::specs::EventReading::pasv_at))]
+#[tactic(auto, unfolding(crate::specs::EventReading::read_as))]
 fn pasv(bytes: &[u8]) -> Result<(EventKind, &[u8]), LineFault>
-    ensures { Gives (λ x. (x.0, x.1.now)) result (pasv_at bytes.now) }
+    ensures { Gives (λ x. (x.0, x.1.now)) result (fields_at word.Pasv bytes.now) }
 {
-    let (session, rest) = field::number(bytes)?;
+    let (session, rest) = number(bytes)?;
     let (word, rest) = field::port(rest)?;
     let (lookup, rest) = field::optional_dotted(rest)?;
     let (bound, rest) = field::optional_port(rest)?;
@@ -178,30 +188,21 @@ fn pasv(bytes: &[u8]) -> Result<(EventKind, &[u8]), LineFault>
     Ok((kind, rest))
 }
 
-#[tactic(auto, unfolding(crate::specs::EventReading::stou_at))]
+#[tactic(auto, unfolding(crate::specs::EventReading::read_as))]
 fn stou(bytes: &[u8]) -> Result<(EventKind, &[u8]), LineFault>
-    ensures { Gives (λ x. (x.0, x.1.now)) result (stou_at bytes.now) }
+    ensures { Gives (λ x. (x.0, x.1.now)) result (fields_at word.Stou bytes.now) }
 {
-    let (session, rest) = field::number(bytes)?;
+    let (session, rest) = number(bytes)?;
     let (word, rest) = field::hex_word(rest)?;
     Ok((EventKind::Stou { session, word }, rest))
 }
 
-#[tactic(auto, unfolding(crate::specs::EventReading::rest_at))]
-fn restart(bytes: &[u8]) -> Result<(EventKind, &[u8]), LineFault>
-    ensures { Gives (λ x. (x.0, x.1.now)) result (rest_at bytes.now) }
-{
-    let (session, rest) = field::number(bytes)?;
-    let (offset, rest) = field::number(rest)?;
-    Ok((EventKind::Rest { session, offset }, rest))
-}
-
-#[tactic(auto, unfolding(crate::specs::EventReading::cwd_at))]
+#[tactic(auto, unfolding(crate::specs::EventReading::read_as))]
 fn cwd(alloc: Global, bytes: &[u8]) -> Result<(EventKind, &[u8]), LineFault>
-    ensures { Gives (λ x. (x.0, x.1.now)) result (cwd_at bytes.now) }
+    ensures { Gives (λ x. (x.0, x.1.now)) result (fields_at word.Cwd bytes.now) }
 {
-    let (session, rest) = field::number(bytes)?;
-    let (refusal, rest) = field::refusal(rest)?;
+    let (session, rest) = number(bytes)?;
+    let (refusal, rest) = field::word_value(rest)?;
     let (path, rest) = field::text_to_end(alloc, rest)?;
     let kind = EventKind::Cwd {
         session,
@@ -211,17 +212,9 @@ fn cwd(alloc: Global, bytes: &[u8]) -> Result<(EventKind, &[u8]), LineFault>
     Ok((kind, rest))
 }
 
-#[tactic(auto, unfolding(crate::specs::EventReading::closed_at))]
-fn closed(bytes: &[u8]) -> Result<(EventKind, &[u8]), LineFault>
-    ensures { Gives (λ x. (x.0, x.1.now)) result (closed_at bytes.now) }
-{
-    let (session, rest) = field::number(bytes)?;
-    Ok((EventKind::Closed { session }, rest))
-}
-
-#[tactic(auto, unfolding(crate::specs::EventReading::end_at))]
+#[tactic(auto, unfolding(crate::specs::EventReading::read_as))]
 fn end(bytes: &[u8]) -> Result<(EventKind, &[u8]), LineFault>
-    ensures { Gives (λ x. (x.0, x.1.now)) result (end_at bytes.now) }
+    ensures { Gives (λ x. (x.0, x.1.now)) result (fields_at word.End bytes.now) }
 {
     let (session, nr, rest) = field::ticket(bytes)?;
     let ticket = Ticket { session, nr };

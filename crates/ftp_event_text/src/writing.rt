@@ -1,13 +1,15 @@
 //! Writing the lines of events.
 
 ghost use Rattle.std.specs.Prelude.{◌≡◌, ◌++◌, OnOk};
+ghost use Rattle.std.specs.Option.{option_copied};
 ghost use Rattle.ftp_events.specs.declared.event.EventKind.TheVariants as kind;
-ghost use Rattle.ftp_text.specs.Fields.{number};
+ghost use Rattle.ftp_text.specs.Fields.{number, field, escape, optional_text};
 ghost use Rattle.ftp_event_text.specs.Events.{word_field, kind_fields, event_line};
 
-use crate::word::{EventWord, command_word, event_word_text};
-use ftp_base::{DataChanCmd, ErrorKind, SocketAddr};
+use crate::word::EventWord;
+use ftp_base::{Bytes, DataChanCmd, ErrorKind, SocketAddr};
 use ftp_events::{EventKind, HubEvent};
+use ftp_text::Word;
 use ftp_text::writing::{
     put_address, put_answer, put_decimal, put_field, put_hex_word, put_number, put_optional_dotted,
     put_optional_port, put_optional_text, put_refusal, put_text_field, put_ticket,
@@ -34,10 +36,12 @@ fn put_kind(out: &mut Vec<u8>, kind: &EventKind) -> Result<(), AllocError>
             trace,
         } => put_connect(out, *session, *raw, *local, *trace),
         EventKind::DataIn { number, raw, port } => put_data_in(out, *number, *raw, *port),
-        EventKind::User { session, name } => {
-            put_numbered(out, EventWord::User, *session)?;
-            put_text_field(out, name.as_slice())
-        }
+        EventKind::User { session, name } => put_named(
+            out,
+            EventWord::User,
+            *session,
+            name.as_slice(),
+        ),
         EventKind::Pass { session } => put_numbered(out, EventWord::Pass, *session),
         EventKind::AuthDone { session, answer } => {
             put_numbered(out, EventWord::Auth, *session)?;
@@ -103,8 +107,19 @@ fn put_pasv(
 fn put_transfer(out: &mut Vec<u8>, session: u64, command: &DataChanCmd) -> Result<(), AllocError>
     ensures { OnOk result (out.new.items ≡ out.old.items ++ kind_fields (kind.Transfer session command.now)) }
 {
-    put_numbered(out, command_word(command), session)?;
-    put_optional_text(out, command.path())
+    match command {
+        DataChanCmd::Retr { path } => put_named(out, EventWord::Retr, session, path.as_slice()),
+        DataChanCmd::Stor { path } => put_named(out, EventWord::Stor, session, path.as_slice()),
+        DataChanCmd::Appe { path } => put_named(out, EventWord::Appe, session, path.as_slice()),
+        DataChanCmd::List { options: _, path } => put_listing(
+            out,
+            EventWord::List,
+            session,
+            path.as_ref(),
+        ),
+        DataChanCmd::Nlst { path } => put_listing(out, EventWord::Nlst, session, path.as_ref()),
+        DataChanCmd::Mlsd { path } => put_listing(out, EventWord::Mlsd, session, path.as_ref()),
+    }
 }
 
 fn put_stou(out: &mut Vec<u8>, session: u64, word: u128) -> Result<(), AllocError>
@@ -137,7 +152,7 @@ fn put_cwd(
 fn put_end(out: &mut Vec<u8>, ticket: Ticket) -> Result<(), AllocError>
     ensures { OnOk result (out.new.items ≡ out.old.items ++ kind_fields (kind.End ticket)) }
 {
-    put_field(out, event_word_text(EventWord::End))?;
+    put_field(out, EventWord::End.text())?;
     put_ticket(out, ticket.session, ticket.nr)
 }
 
@@ -145,6 +160,27 @@ fn put_end(out: &mut Vec<u8>, ticket: Ticket) -> Result<(), AllocError>
 fn put_numbered(out: &mut Vec<u8>, word: EventWord, n: u64) -> Result<(), AllocError>
     ensures { OnOk result (out.new.items ≡ out.old.items ++ (word_field word ++ number n)) }
 {
-    put_field(out, event_word_text(word))?;
+    put_field(out, word.text())?;
     put_number(out, n)
+}
+
+// The word of an event, the number that it is about, and a text.
+fn put_named(out: &mut Vec<u8>, word: EventWord, n: u64, text: &[u8]) -> Result<(), AllocError>
+    ensures { OnOk result (out.new.items ≡ out.old.items ++ (word_field word ++ number n ++ field (escape text.now))) }
+{
+    put_numbered(out, word, n)?;
+    put_text_field(out, text)
+}
+
+// The word of an event, the number that it is about, and a text or none.
+fn put_listing(
+    out: &mut Vec<u8>,
+    word: EventWord,
+    n: u64,
+    text: Option<&Bytes>,
+) -> Result<(), AllocError>
+    ensures { OnOk result (out.new.items ≡ out.old.items ++ (word_field word ++ number n ++ optional_text (option_copied text.entry))) }
+{
+    put_numbered(out, word, n)?;
+    put_optional_text(out, text)
 }

@@ -132,8 +132,8 @@ reads (suc n) before taken (c ∷ bytes) le =
           }
 
 -- the bytes are the script that is read of them
-pub read_as : {bytes : List ℕ} {items : List Item} {bad : Option ℕ} → script_of bytes ≡ (items, bad) → IsScriptOf bytes items bad
-read_as {bytes} {items} {bad} e =
+pub script_read : {bytes : List ℕ} {items : List Item} {bad : Option ℕ} → script_of bytes ≡ (items, bad) → IsScriptOf bytes items bad
+script_read {bytes} {items} {bad} e =
     let found = reads (length bytes) [] 0 bytes (omega arith) in
     record { lines = subst (λ (x : List Item × Option ℕ). Continues [] 0 bytes x.0 x.1) (sym found.is ∙ e) found.goes }
 

@@ -13,7 +13,7 @@ use Rattle.std.proofs.lemmas.Fmt.{digits_value-decimal, digits_decimal}
 use Rattle.std.proofs.lemmas.Slice.Eq.{bytes_eq-Decides}
 use Rattle.std.proofs.lemmas.Str.Parse.{digit_from_value}
 use Rattle.ftp_text.specs.Fields.{Each, optional}
-use Rattle.ftp_text.specs.Reading.{◌>>=◌, after, behind, begins, pair, made, numeral, number_at, small_at, optional_field, is_space, word_at, word_as, find_word, tested, literal_at, behind_text, before_text}
+use Rattle.ftp_text.specs.Reading.{◌>>=◌, after, behind, begins, pair, made, numeral, number_at, small_at, optional_field, is_space, word_at, word_as, find_word, word_value, tested, literal_at, behind_text, before_text}
 use Rattle.ftp_text.proofs.Numerals.{own}
 
 -- nothing follows, or a byte that fails the test
@@ -229,13 +229,43 @@ word_exact {V} text Fits value pass takes again = record {
   again = λ v rest fits follows. rw (word_again (text v) rest (pass v fits) follows, again v fits) refl;
 }
 
--- a word of a table
+-- whether each byte passes
+abbrev passes : (ℕ → Bool) → List ℕ → Bool
+passes test [] = true
+passes test (c ∷ bytes) = test c && passes test bytes
+
+passes_true : (test : ℕ → Bool) (bytes : List ℕ) → passes test bytes ≡ true → Pass test bytes
+passes_true test [] e = tt
+passes_true test (c ∷ bytes) e = let p = and_parts (test c) (passes test bytes) e in (p.0, passes_true test bytes p.1)
+
+-- whether each byte of each word of a table passes
+abbrev pub all_pass : {V : Type 0} → (ℕ → Bool) → (V → List ℕ) → List V → Bool
+all_pass test text [] = true
+all_pass test text (v ∷ table) = passes test (text v) && all_pass test text table
+
+either : {V : Type 0} (P : V → Type 0) (u v : V) (others : Option V) (b : Bool) → P u → (others ≡ Some v → P v) → cond b (Some u) others ≡ Some v → P v
+either P u v others true here later e = subst P (some_is u v e) here
+either P u v others false here later e = later e
+
+-- a word that is found is one of the table
+pub find_passes : {V : Type 0} (test : ℕ → Bool) (text : V → List ℕ) (table : List V) (w : List ℕ) (v : V) →
+    all_pass test text table ≡ true →
+    find_word text table w ≡ Some v →
+    Pass test (text v)
+find_passes test text [] w v all e = absurd cc
+find_passes test text (u ∷ table) w v all e =
+    let a = and_parts (passes test (text u)) (all_pass test text table) all in
+    either (λ x. Pass test (text x)) u v (find_word text table w) (bytes_eq (text u) w) (passes_true test (text u) a.0) (find_passes test text table w v a.1) e
+
+-- a word of a table without spaces, in which each value is found
 pub table_exact : {V : Type 0} (text : V → List ℕ) (table : List V) →
-    ((v : V) → Pass is_word_byte (text v)) →
+    all_pass is_word_byte text table ≡ true →
     ((v : V) → find_word text table (text v) ≡ Some v) →
-    IsExact (λ (v : V). 32 ∷ text v) (λ (v : V). Unit {0}) Ends (word_as (find_word text table))
-table_exact text table pass finds =
-    word_exact text (λ v. Unit {0}) (find_word text table) (λ v fits. pass v) (λ w v e. (find_takes text table w v e, tt)) (λ v fits. finds v)
+    IsExact (λ (v : V). 32 ∷ text v) (λ (v : V). Unit {0}) Ends (word_value text table)
+unfolding word_value
+table_exact text table all finds =
+    word_exact text (λ v. Unit {0}) (find_word text table) (λ v fits. find_passes is_word_byte text table (text v) v all (finds v))
+    (λ w v e. (find_takes text table w v e, tt)) (λ v fits. finds v)
 
 -- ---- a value or a hyphen
 

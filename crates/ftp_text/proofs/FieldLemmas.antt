@@ -1,5 +1,5 @@
 -- Each field is read exactly.
-use Rattle.std.proofs.Common.{◌≡◌, ℕ, ◌^◌, ◌<◌, ◌≤◌, true, eqb, cond, List, [], ◌∷◌, ◌++◌, length, Option, Some, None, refl, sym, ap, subst, ◌∙◌, append_assoc, arith, rules}
+use Rattle.std.proofs.Common.{◌≡◌, ℕ, ◌^◌, ◌<◌, ◌≤◌, true, eqb, cond, List, [], ◌∷◌, ◌++◌, length, Option, Some, None, refl, sym, ap, subst, ◌∙◌, append_assoc, arith}
 use Rattle.std.specs.Char.{is_ascii_digit}
 use Rattle.std.proofs.lemmas.Bool.{eqb-true}
 use Rattle.std.proofs.lemmas.Bool.Decides.{nat_tests}
@@ -16,7 +16,7 @@ use Rattle.ftp_base.specs.declared.error_kind.ErrorKind.{ErrorKind}
 use Rattle.ftp_base.specs.declared.error_kind.ErrorKind.TheVariants as error
 use Rattle.ftp_text.specs.Fields.{field, number, dotted, address_text, optional, optional_text, ticket, hex_digits, answer_text, refusal_text, fault_text, link_call_text, listed, IsAddress, IsNumber, AreCalls, Each}
 use Rattle.ftp_text.specs.Reading.{◌>>=◌, after, begins, number_at, small_at, dotted_at, number_field, small_field, address_field, optional_field, ticket_field, hex_word_field, find_word, answers, answer_field, refusals, refusal_field, faults, calls_field, call_of, link_call_of}
-use Rattle.ftp_text.proofs.Exact.{Ends, IsNil, Ends-from_nil, NoDigit-from_ends, IsExact, exact_weaker, pair_exact, behind_exact, Pass, is_word_byte, bind_ok, some_is, after_ok, find_takes, digits_pass, tested_exact, table_exact, optional_exact, number_exact, small_exact}
+use Rattle.ftp_text.proofs.Exact.{Ends, IsNil, Ends-from_nil, NoDigit-from_ends, IsExact, exact_weaker, pair_exact, behind_exact, Pass, bind_ok, some_is, after_ok, find_takes, find_passes, digits_pass, tested_exact, table_exact, optional_exact, number_exact, small_exact}
 use Rattle.ftp_text.proofs.Numerals.{own}
 use Rattle.ftp_text.proofs.Lists.{is_inner, pass-more, pass-append, listed_exact}
 use Rattle.ftp_text.proofs.Values.{begins_decimal, begins_dotted, dotted_exact, hex_word_exact, address_exact}
@@ -33,57 +33,19 @@ port_is = small_is (2 ^ 16) (omega arith)
 pub address_is : IsExact (λ a. field (address_text a)) IsAddress Ends address_field
 address_is = exact_weaker (behind_exact 32 address_exact) NoDigit-from_ends
 
-answer_passes : (v : AuthAnswer) → Pass is_word_byte (answer_text v)
-answer_passes auth.Good = search rules
-answer_passes auth.Disabled = search rules
-answer_passes auth.NotEntered = search rules
-answer_passes auth.BadUser = search rules
-answer_passes auth.Refused = search rules
-
 answer_found : (v : AuthAnswer) → find_word answer_text answers (answer_text v) ≡ Some v
 answer_found auth.Good = refl
-answer_found auth.Disabled = refl
-answer_found auth.NotEntered = refl
-answer_found auth.BadUser = refl
-answer_found auth.Refused = refl
+answer_found _ = refl
 
 pub answer_is : IsExact (λ (v : AuthAnswer). field (answer_text v)) (λ v. Unit {0}) Ends answer_field
-unfolding answer_field
-answer_is = table_exact answer_text answers answer_passes answer_found
-
-refusal_passes : (v : Option ErrorKind) → Pass is_word_byte (refusal_text v)
-refusal_passes None = search rules
-refusal_passes (Some error.TransientFileNotAvailable) = search rules
-refusal_passes (Some error.PermanentFileNotAvailable) = search rules
-refusal_passes (Some error.PermanentDirectoryNotAvailable) = search rules
-refusal_passes (Some error.PermanentDirectoryNotEmpty) = search rules
-refusal_passes (Some error.PermissionDenied) = search rules
-refusal_passes (Some error.ConnectionClosed) = search rules
-refusal_passes (Some error.LocalError) = search rules
-refusal_passes (Some error.PageTypeUnknown) = search rules
-refusal_passes (Some error.InsufficientStorageSpaceError) = search rules
-refusal_passes (Some error.ExceededStorageAllocationError) = search rules
-refusal_passes (Some error.FileNameNotAllowedError) = search rules
-refusal_passes (Some error.CommandNotImplemented) = search rules
+answer_is = table_exact answer_text answers refl answer_found
 
 refusal_found : (v : Option ErrorKind) → find_word refusal_text refusals (refusal_text v) ≡ Some v
-refusal_found None = refl
 refusal_found (Some error.TransientFileNotAvailable) = refl
-refusal_found (Some error.PermanentFileNotAvailable) = refl
-refusal_found (Some error.PermanentDirectoryNotAvailable) = refl
-refusal_found (Some error.PermanentDirectoryNotEmpty) = refl
-refusal_found (Some error.PermissionDenied) = refl
-refusal_found (Some error.ConnectionClosed) = refl
-refusal_found (Some error.LocalError) = refl
-refusal_found (Some error.PageTypeUnknown) = refl
-refusal_found (Some error.InsufficientStorageSpaceError) = refl
-refusal_found (Some error.ExceededStorageAllocationError) = refl
-refusal_found (Some error.FileNameNotAllowedError) = refl
-refusal_found (Some error.CommandNotImplemented) = refl
+refusal_found _ = refl
 
 pub refusal_is : IsExact (λ (v : Option ErrorKind). field (refusal_text v)) (λ v. Unit {0}) Ends refusal_field
-unfolding refusal_field
-refusal_is = table_exact refusal_text refusals refusal_passes refusal_found
+refusal_is = table_exact refusal_text refusals refl refusal_found
 
 pub optional_port_is : IsExact (optional decimal) (Each (λ n. n < 2 ^ 16)) Ends (optional_field (small_at (2 ^ 16)))
 optional_port_is = exact_weaker (optional_exact (small_exact (2 ^ 16) (omega arith)) (λ n rest lt. begins_decimal 45 n rest refl (omega (arith, lt)))) NoDigit-from_ends
@@ -133,17 +95,12 @@ calls_is =
     tested_exact (rises_above (λ n. n) 0)
     (listed_exact decimal IsNumber call_of decimal_inner (λ n rest lt. begins_decimal 45 n rest refl lt) call_takes call_again)
 
-fault_inner : (f : LinkFault) → Pass is_inner (fault_text f)
-fault_inner link.Reset = search rules
-fault_inner link.BrokenPipe = search rules
-fault_inner link.Aborted = search rules
-fault_inner link.Other = search rules
-
 fault_found : (f : LinkFault) → find_word fault_text faults (fault_text f) ≡ Some f
 fault_found link.Reset = refl
-fault_found link.BrokenPipe = refl
-fault_found link.Aborted = refl
-fault_found link.Other = refl
+fault_found _ = refl
+
+fault_inner : (f : LinkFault) → Pass is_inner (fault_text f)
+fault_inner f = find_passes is_inner fault_text faults (fault_text f) f refl (fault_found f)
 
 -- the number of a call on a connection fits its type
 abbrev IsLinkCall : ℕ × LinkFault → Type 0

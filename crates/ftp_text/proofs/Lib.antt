@@ -7,3 +7,4 @@ pub mod Values
 pub mod FieldLemmas
 pub mod TraceLemmas
 pub mod Lists
+pub mod FormLemmas

@@ -276,13 +276,17 @@ hex_field bytes = word_as hex_of bytes
 abbrev pub find_word : {V : Type 0} → (V → List ℕ) → List V → List ℕ → Option V
 find_word text table w = find (λ v. bytes_eq (text v) w) table
 
+-- the value of a table that a word spells
+unfoldable pub word_value : {V : Type 0} → (V → List ℕ) → List V → Reader V
+word_value text table bytes = word_as (find_word text table) bytes
+
 -- all that an authenticator can say
 abbrev pub answers : List AuthAnswer
 answers = auth.Good ∷ auth.Disabled ∷ auth.NotEntered ∷ auth.BadUser ∷ auth.Refused ∷ []
 
 -- what an authenticator says
-unfoldable pub answer_field : Reader AuthAnswer
-answer_field bytes = word_as (find_word answer_text answers) bytes
+abbrev pub answer_field : Reader AuthAnswer
+answer_field = word_value answer_text answers
 
 -- all kinds of refusals by a storage
 abbrev pub kinds : List ErrorKind
@@ -297,8 +301,8 @@ abbrev pub refusals : List (Option ErrorKind)
 refusals = None ∷ map Some kinds
 
 -- what a storage says of a call
-unfoldable pub refusal_field : Reader (Option ErrorKind)
-refusal_field bytes = word_as (find_word refusal_text refusals) bytes
+abbrev pub refusal_field : Reader (Option ErrorKind)
+refusal_field = word_value refusal_text refusals
 
 -- ---- the calls that fail
 

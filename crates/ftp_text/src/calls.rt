@@ -7,7 +7,7 @@ ghost use Rattle.ftp_text.specs.Reading.{Gives, is_comma, each_of, list_of, call
 
 use crate::fault::LineFault;
 use crate::field::{after, number_here, word};
-use crate::word::fault_of;
+use crate::word::find;
 use ftp_base::{FailingCall, LinkFault, rise};
 use std::alloc::Global;
 use std::marker::Model;
@@ -87,7 +87,7 @@ fn link_call(word: &[u8]) -> Result<(u64, LinkFault), LineFault>
     ensures { Gives (λ x. x) result (link_call_of word.now) }
 {
     let (number, rest) = number_here(word)?;
-    match fault_of(after(b':', rest)?) {
+    match find(after(b':', rest)?) {
         Some(fault) => Ok((number, fault)),
         None => Err(LineFault::Bad),
     }

@@ -4,12 +4,12 @@ ghost use Rattle.std.specs.Prelude.{◌≡◌, ◌^◌, ◌<◌, ◌≤◌, leng
 ghost use Rattle.std.specs.List.{prefix_len, position_or_len};
 ghost use Rattle.std.specs.Char.{is_ascii_digit};
 ghost use Rattle.std.specs.Str.Parse.{AllDigits, digits_value};
-ghost use Rattle.ftp_text.specs.Reading.{Gives, after, literal_at, is_space, numeral, number_at, small_at, dotted_at, port_at_colon, ipv4_at, hex_numeral, hex_word_at, ipv6_at, address_at, number_field, small_field, address_field, optional_field, text_field, optional_text_field, ticket_field, hex_word_field, word_at, hex_field, answer_field, refusal_field};
+ghost use Rattle.ftp_text.specs.Reading.{Gives, after, literal_at, is_space, numeral, number_at, small_at, dotted_at, port_at_colon, ipv4_at, hex_numeral, hex_word_at, ipv6_at, address_at, number_field, small_field, address_field, optional_field, text_field, optional_text_field, ticket_field, hex_word_field, word_at, hex_field, word_value};
 
 use crate::fault::LineFault;
 use crate::text::{self, nibble};
-use crate::word::{answer_of, refusal_of};
-use ftp_base::{AuthAnswer, Bytes, ErrorKind, IpAddr, SocketAddr};
+use crate::word::{Word, find};
+use ftp_base::{Bytes, IpAddr, SocketAddr};
 use std::alloc::Global;
 
 // Behind the byte `c`.
@@ -321,25 +321,13 @@ pub fn hex_bytes(alloc: Global, bytes: &[u8]) -> Result<(Bytes, &[u8]), LineFaul
     Ok((found, rest))
 }
 
-/// What an authenticator says.
-#[tactic(auto, unfolding(crate::specs::Reading::answer_field))]
-pub fn answer(bytes: &[u8]) -> Result<(AuthAnswer, &[u8]), LineFault>
-    ensures { Gives (λ x. (x.0, x.1.now)) result (answer_field bytes.now) }
+/// The value that a word of its table spells.
+#[tactic(auto, unfolding(crate::specs::Reading::word_value))]
+pub fn word_value<W: Word>(bytes: &[u8]) -> Result<(W, &[u8]), LineFault>
+    ensures { Gives (λ x. (x.0, x.1.now)) result (word_value W.text W.table bytes.now) }
 {
     let (text, rest) = word(bytes)?;
-    match answer_of(text) {
-        Some(found) => Ok((found, rest)),
-        None => Err(LineFault::Bad),
-    }
-}
-
-/// What a storage says of a call: why it refuses, or `ok`.
-#[tactic(auto, unfolding(crate::specs::Reading::refusal_field))]
-pub fn refusal(bytes: &[u8]) -> Result<(Option<ErrorKind>, &[u8]), LineFault>
-    ensures { Gives (λ x. (x.0, x.1.now)) result (refusal_field bytes.now) }
-{
-    let (text, rest) = word(bytes)?;
-    match refusal_of(text) {
+    match find(text) {
         Some(found) => Ok((found, rest)),
         None => Err(LineFault::Bad),
     }

@@ -13,3 +13,4 @@ pub mod writing;
 
 pub use calls::{CallText, FailingCalls, failing_calls};
 pub use fault::LineFault;
+pub use word::Word;

@@ -1,10 +1,32 @@
 //! The words that stand for values. A word is found by a search of its table.
 
-ghost use Rattle.std.specs.Prelude.{◌≡◌};
+ghost use Rattle.std.specs.Prelude.{◌≡◌, ℕ, List};
 ghost use Rattle.ftp_text.specs.Fields.{answer_text, kind_text, refusal_text, fault_text};
 ghost use Rattle.ftp_text.specs.Reading.{find_word, answers, refusals, faults};
 
 use ftp_base::{AuthAnswer, ErrorKind, LinkFault};
+
+/// A value that a word of a table spells.
+pub trait Word: Copy + Drop + 'static {
+    // The word of a value.
+    ghost text: { Self → List ℕ };
+
+    // The values that have a word.
+    ghost table: { List Self };
+
+    fn text(self) -> &'static [u8]
+        ensures { result.now ≡ text self };
+
+    fn table() -> &'static [Self]
+        ensures { result.now ≡ table };
+}
+
+/// The value that the word spells.
+pub fn find<W: Word>(word: &[u8]) -> Option<W>
+    ensures { result ≡ find_word W.text W.table word.now }
+{
+    W::table().iter().copied().find(|w| w.text() == word)
+}
 
 const ANSWERS: [AuthAnswer; 5] = [
     AuthAnswer::Good,
@@ -37,24 +59,6 @@ const FAULTS: [LinkFault; 4] = [
     LinkFault::Other,
 ];
 
-pub fn answer_text(answer: AuthAnswer) -> &'static [u8]
-    ensures { result.now ≡ answer_text answer }
-{
-    match answer {
-        AuthAnswer::Good => b"good",
-        AuthAnswer::Disabled => b"disabled",
-        AuthAnswer::NotEntered => b"notentered",
-        AuthAnswer::BadUser => b"baduser",
-        AuthAnswer::Refused => b"refused",
-    }
-}
-
-pub fn answer_of(text: &[u8]) -> Option<AuthAnswer>
-    ensures { result ≡ find_word answer_text answers text.now }
-{
-    ANSWERS.iter().copied().find(|w| answer_text(*w) == text)
-}
-
 pub fn kind_text(kind: ErrorKind) -> &'static [u8]
     ensures { result.now ≡ kind_text kind }
 {
@@ -74,34 +78,58 @@ pub fn kind_text(kind: ErrorKind) -> &'static [u8]
     }
 }
 
-pub fn refusal_text(refusal: Option<ErrorKind>) -> &'static [u8]
-    ensures { result.now ≡ refusal_text refusal }
-{
-    match refusal {
-        None => b"ok",
-        Some(kind) => kind_text(kind),
+impl Word for AuthAnswer {
+    ghost text = { answer_text };
+
+    ghost table = { answers };
+
+    fn text(self) -> &'static [u8] {
+        match self {
+            AuthAnswer::Good => b"good",
+            AuthAnswer::Disabled => b"disabled",
+            AuthAnswer::NotEntered => b"notentered",
+            AuthAnswer::BadUser => b"baduser",
+            AuthAnswer::Refused => b"refused",
+        }
+    }
+
+    fn table() -> &'static [AuthAnswer] {
+        &ANSWERS
     }
 }
 
-pub fn refusal_of(text: &[u8]) -> Option<Option<ErrorKind>>
-    ensures { result ≡ find_word refusal_text refusals text.now }
-{
-    REFUSALS.iter().copied().find(|w| refusal_text(*w) == text)
-}
+impl Word for Option<ErrorKind> {
+    ghost text = { refusal_text };
 
-pub fn fault_text(fault: LinkFault) -> &'static [u8]
-    ensures { result.now ≡ fault_text fault }
-{
-    match fault {
-        LinkFault::Reset => b"reset",
-        LinkFault::BrokenPipe => b"pipe",
-        LinkFault::Aborted => b"aborted",
-        LinkFault::Other => b"other",
+    ghost table = { refusals };
+
+    fn text(self) -> &'static [u8] {
+        match self {
+            None => b"ok",
+            Some(kind) => kind_text(kind),
+        }
+    }
+
+    fn table() -> &'static [Option<ErrorKind>] {
+        &REFUSALS
     }
 }
 
-pub fn fault_of(text: &[u8]) -> Option<LinkFault>
-    ensures { result ≡ find_word fault_text faults text.now }
-{
-    FAULTS.iter().copied().find(|w| fault_text(*w) == text)
+impl Word for LinkFault {
+    ghost text = { fault_text };
+
+    ghost table = { faults };
+
+    fn text(self) -> &'static [u8] {
+        match self {
+            LinkFault::Reset => b"reset",
+            LinkFault::BrokenPipe => b"pipe",
+            LinkFault::Aborted => b"aborted",
+            LinkFault::Other => b"other",
+        }
+    }
+
+    fn table() -> &'static [LinkFault] {
+        &FAULTS
+    }
 }

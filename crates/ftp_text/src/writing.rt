@@ -9,7 +9,7 @@ ghost use Rattle.ftp_base.specs.Trace.{trace_text};
 ghost use Rattle.ftp_text.specs.Fields.{field, number, hex_byte, hex_digits, hex_text, dotted, ip_text, address_text, escape_byte, escape, optional, optional_text, ticket, answer_text, kind_text, refusal_text, fault_text};
 
 use crate::text::is_plain;
-use crate::word::{answer_text, fault_text, kind_text, refusal_text};
+use crate::word::{Word, kind_text};
 use ftp_base::{AuthAnswer, Bytes, ErrorKind, IpAddr, LinkFault, SocketAddr};
 use itoa::Buffer;
 use std::alloc::AllocError;
@@ -218,7 +218,7 @@ pub fn put_optional_port(out: &mut Vec<u8>, n: Option<u16>) -> Result<(), AllocE
 pub fn put_answer(out: &mut Vec<u8>, answer: AuthAnswer) -> Result<(), AllocError>
     ensures { OnOk result (out.new.items ≡ out.old.items ++ field (answer_text answer)) }
 {
-    put_field(out, answer_text(answer))
+    put_field(out, answer.text())
 }
 
 /// Writes a space and why a storage refuses.
@@ -232,7 +232,7 @@ pub fn put_error_kind(out: &mut Vec<u8>, kind: ErrorKind) -> Result<(), AllocErr
 pub fn put_refusal(out: &mut Vec<u8>, refusal: Option<ErrorKind>) -> Result<(), AllocError>
     ensures { OnOk result (out.new.items ≡ out.old.items ++ field (refusal_text refusal)) }
 {
-    put_field(out, refusal_text(refusal))
+    put_field(out, refusal.text())
 }
 
 /// Writes a space and what a link met, or a hyphen for nothing.
@@ -241,7 +241,7 @@ pub fn put_optional_fault(out: &mut Vec<u8>, fault: Option<LinkFault>) -> Result
 {
     match fault {
         None => put(out, b" -"),
-        Some(fault) => put_field(out, fault_text(fault)),
+        Some(fault) => put_field(out, fault.text()),
     }
 }
 
