@@ -15,7 +15,7 @@ abbrev pub event_words : List EventWord
 event_words =
     word.Connect ∷ word.Data ∷ word.User ∷ word.Pass ∷ word.Auth ∷ word.Pasv
     ∷ word.Retr ∷ word.Stor ∷ word.Appe ∷ word.List ∷ word.Nlst ∷ word.Mlsd ∷ word.Stou
-    ∷ word.Rest ∷ word.Cwd ∷ word.Closed ∷ word.End ∷ []
+    ∷ word.Rest ∷ word.Cwd ∷ word.Closed ∷ word.Quit ∷ word.End ∷ []
 
 -- the word of an event
 abbrev pub event_word_field : Reader EventWord
@@ -39,6 +39,7 @@ maker word.Stou = kind.Stou
 maker word.Rest = kind.Rest
 maker word.Cwd = λ s refusal path. kind.Cwd s path refusal
 maker word.Closed = kind.Closed
+maker word.Quit = kind.Quit
 maker word.End = λ t. kind.End (record { session = t.0; nr = t.1 })
 
 -- the event of a word and the values behind it

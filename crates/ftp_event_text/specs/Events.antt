@@ -27,6 +27,7 @@ event_word_text word.Stou = codes "stou"
 event_word_text word.Rest = codes "rest"
 event_word_text word.Cwd = codes "cwd"
 event_word_text word.Closed = codes "closed"
+event_word_text word.Quit = codes "quit"
 event_word_text word.End = codes "end"
 
 -- the form of each line: what stands behind its word
@@ -47,6 +48,7 @@ form word.Stou = Number ▸ Last HexWord
 form word.Rest = Number ▸ Last Number
 form word.Cwd = Number ▸ Refusal ▸ Text
 form word.Closed = Last Number
+form word.Quit = Last Number
 form word.End = Last Ticket
 
 -- what a line says: its word, and the values of its form
@@ -75,6 +77,7 @@ told (kind.Stou s random) = say word.Stou s random
 told (kind.Rest s offset) = say word.Rest s offset
 told (kind.Cwd s path refusal) = say word.Cwd s refusal path
 told (kind.Closed s) = say word.Closed s
+told (kind.Quit s) = say word.Quit s
 told (kind.End t) = say word.End (t.session, t.nr)
 
 -- the word as a field

@@ -63,6 +63,7 @@ decision_text decision.RestOk = codes "restok"
 decision_text (decision.CwdRefused kind) = codes "cwdrefused"
 decision_text decision.CwdOk = codes "cwdok"
 decision_text decision.Closed = codes "closed"
+decision_text decision.Quit = codes "quit"
 
 -- the fields behind a decision's name
 abbrev pub decision_fields : Decision → List ℕ

@@ -82,6 +82,7 @@ fn fields(alloc: Global, word: EventWord, bytes: &[u8]) -> Result<(EventKind, &[
         )),
         EventWord::Cwd => cwd(alloc, bytes),
         EventWord::Closed => Ok(made(number(bytes)?, |session| EventKind::Closed { session })),
+        EventWord::Quit => Ok(made(number(bytes)?, |session| EventKind::Quit { session })),
         EventWord::End => end(bytes),
     }
 }

@@ -104,6 +104,7 @@ fn decision_text(decision: Decision) -> &'static [u8]
         Decision::CwdRefused(_) => b"cwdrefused",
         Decision::CwdOk => b"cwdok",
         Decision::Closed => b"closed",
+        Decision::Quit => b"quit",
     }
 }
 

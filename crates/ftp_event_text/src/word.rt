@@ -24,10 +24,11 @@ pub enum EventWord {
     Rest,
     Cwd,
     Closed,
+    Quit,
     End,
 }
 
-const EVENT_WORDS: [EventWord; 17] = [
+const EVENT_WORDS: [EventWord; 18] = [
     EventWord::Connect,
     EventWord::Data,
     EventWord::User,
@@ -44,6 +45,7 @@ const EVENT_WORDS: [EventWord; 17] = [
     EventWord::Rest,
     EventWord::Cwd,
     EventWord::Closed,
+    EventWord::Quit,
     EventWord::End,
 ];
 
@@ -70,6 +72,7 @@ impl Word for EventWord {
             EventWord::Rest => b"rest",
             EventWord::Cwd => b"cwd",
             EventWord::Closed => b"closed",
+            EventWord::Quit => b"quit",
             EventWord::End => b"end",
         }
     }

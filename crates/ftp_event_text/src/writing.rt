@@ -62,6 +62,7 @@ fn put_kind(out: &mut Vec<u8>, kind: &EventKind) -> Result<(), AllocError>
             refusal,
         } => put_cwd(out, *session, path.as_slice(), *refusal),
         EventKind::Closed { session } => put_numbered(out, EventWord::Closed, *session),
+        EventKind::Quit { session } => put_numbered(out, EventWord::Quit, *session),
         EventKind::End { ticket } => put_end(out, *ticket),
     }
 }
