@@ -6,3 +6,4 @@ pub mod RunLemmas
 pub mod SetUpLemmas
 pub mod OutcomeLemmas
 pub mod CleanLemmas
+pub mod ListedLemmas

@@ -80,7 +80,7 @@ kept-listed run items log kept = listed (fall run.hub kept.hub) where
     links = λ n before after was there.
         (let found = falls.links n after there in
         let same : found.0 ≡ before = cc in
-        let limit = subst (λ (x : LinkState). link_fault_limit after.calls ≤ link_fault_limit x.calls) same found.2 in
+        let limit = subst (λ (x : LinkState). link_fault_limit after.calls ≤ link_fault_limit x.calls) same found.2.limit in
         omega (arith, limit));
   }
 
@@ -117,7 +117,7 @@ hub-moves (Some hub) items more log old new same moves h = record {
   stands = h.stands;
   has_links = record {
     slots = λ s n x. moves.linked n (h.has_links.slots s n x);
-    jobs = λ s job x. moves.linked job.number (h.has_links.jobs s job x);
+    jobs = λ s job x. moves.linked job.job.number (h.has_links.jobs s job x);
   };
   led = moves.led (options_of hub) h.led;
 }

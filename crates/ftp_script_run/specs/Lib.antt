@@ -5,3 +5,4 @@ pub mod Statuses
 pub mod Outcome
 pub mod Runs
 pub mod Clean
+pub mod Listed
