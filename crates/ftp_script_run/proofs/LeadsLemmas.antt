@@ -221,8 +221,7 @@ leads-limits {S} {L} v o log (e ∷ newer) old new led =
       storage = omega arith;
       links = λ n after there.
           (let later = last.links n after there in
-          let before = first.links n later.0 later.1 in
-          (
+          let before = first.links n later.0 later.1 in (
             before.0,
             before.1,
             record {
