@@ -1,6 +1,7 @@
 pub mod Tables
 pub mod Numbers
 pub mod CallsLemmas
+pub mod CallsMade
 pub mod Files
 pub mod LinkTableLemmas
 pub mod MemoryFiles

@@ -1,5 +1,5 @@
 -- The calls of an object in memory: how many were made, how many failed, and which ones fail.
-use Rattle.std.specs.Prelude.{ℕ, ◌+◌, ◌-◌, ◌^◌, ◌==◌, ◌&&◌, nat_lt, if◌then◌else◌, Bool, true, List, [], ◌∷◌, refl}
+use Rattle.std.specs.Prelude.{◌≡◌, ℕ, ◌+◌, ◌-◌, ◌^◌, ◌<◌, ◌≤◌, ◌==◌, ◌&&◌, nat_lt, if◌then◌else◌, Bool, true, List, [], ◌∷◌, Contains, Option, IfSome, IsSomeAnd, refl}
 use Rattle.std.specs.List.{list_any, count_by}
 use Rattle.std.specs.Coded.{Coded, code_by, coded×, coded_ℕ, coded_list}
 
@@ -39,3 +39,26 @@ after_call c = record c { made = one_more c.made }
 -- the calls after one more that failed
 abbrev pub after_fault : {T : Type 0} → Calls T → Calls T
 after_fault c = record c { made = one_more c.made; faults = one_more c.faults }
+
+-- calls were made, and none of them is one of those that fail
+pub record NoneFailed {T : Type 0} (number : T → ℕ) (old new : Calls T) : Type 0 where
+  pub made : old.made ≤ new.made
+  pub faults : new.faults ≡ old.faults
+  pub failing : new.failing ≡ old.failing
+  pub none : (call : T) → Contains old.failing call → old.made < number call → new.made < number call
+
+-- calls were made, the last of them is one of those that fail, this one, and none before it
+pub record LastFailed {T : Type 0} (number : T → ℕ) (old new : Calls T) (last : T) : Type 0 where
+  pub made : old.made < new.made
+  pub faults : new.faults ≡ one_more old.faults
+  pub failing : new.failing ≡ old.failing
+  pub listed : Contains old.failing last
+  pub none : (call : T) → Contains old.failing call → old.made < number call → new.made ≤ number call
+
+-- all went well, where calls are told
+abbrev pub AllWell : {T : Type 0} → (T → ℕ) → Option (Calls T) → Option (Calls T) → Type 0
+AllWell number old new = IfSome old (λ c. IsSomeAnd new (NoneFailed number c))
+
+-- one more call was made, where calls are told
+abbrev pub OneMore : {T : Type 0} → Option (Calls T) → Option (Calls T) → Type 0
+OneMore old new = IfSome old (λ c. IsSomeAnd new (λ d. d.made ≡ one_more c.made))

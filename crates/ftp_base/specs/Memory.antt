@@ -1,7 +1,7 @@
 -- What callers see of the objects in memory: sources, sinks and links.
-use Rattle.std.specs.Prelude.{ℕ, Bool, List, Contains, Option, IsSomeAnd}
+use Rattle.std.specs.Prelude.{ℕ, Bool, List, Contains, Option, IfSome, IsSomeAnd}
 use Rattle.ftp_base.specs.declared.fault.LinkFault.{LinkFault}
-use Rattle.ftp_base.specs.Calls.{Calls, one_more, fails_next_by, fault_limit_by}
+use Rattle.ftp_base.specs.Calls.{Calls, one_more, fails_next_by, fault_limit_by, LastFailed}
 
 -- what a source has left, how much a call reads at most, and its calls
 pub record SourceState : Type 0 where
@@ -44,3 +44,17 @@ link_fault_limit calls = fault_limit_by (λ call. call.0) calls
 -- the fault is one that the list names for the call that comes next
 abbrev pub IsNextFault : Calls (ℕ × LinkFault) → Option LinkFault → Type 0
 IsNextFault calls fault = IsSomeAnd fault (λ f. Contains calls.failing (one_more calls.made, f))
+
+-- the last call of a link failed, where its calls are told, and the fault is one that the list names for it
+abbrev pub LinkMet : Option (Calls (ℕ × LinkFault)) → Option (Calls (ℕ × LinkFault)) → Option LinkFault → Type 0
+LinkMet old new fault =
+    IfSome old (λ c. IsSomeAnd new (λ d. IsSomeAnd fault (λ f. LastFailed (λ call. call.0) c d (d.made, f))))
+
+-- the last call of a link failed, where its calls are told
+abbrev pub LinkFailed : Option (Calls (ℕ × LinkFault)) → Option (Calls (ℕ × LinkFault)) → Type 0
+LinkFailed old new =
+    IfSome old (λ c. IsSomeAnd new (λ d. (f : LinkFault) × LastFailed (λ call. call.0) c d (d.made, f)))
+
+-- the last call of a storage or a sink failed, where its calls are told, and it is one of those that fail
+abbrev pub StorageMet : Option (Calls ℕ) → Option (Calls ℕ) → Type 0
+StorageMet old new = IfSome old (λ c. IsSomeAnd new (λ d. LastFailed (λ call. call) c d d.made))

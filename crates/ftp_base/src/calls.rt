@@ -1,10 +1,10 @@
 //! The calls of an object in memory, and which of them fail.
 
-ghost use Rattle.std.specs.Prelude.{◌≡◌, ◌==◌, ◌≤◌, ℕ, true, length, is_some, IfSome, IsTrue, Contains, IsPermutation};
+ghost use Rattle.std.specs.Prelude.{◌≡◌, ◌==◌, ◌≤◌, ℕ, true, false, length, is_some, IfSome, IsTrue, Contains, IsPermutation};
 ghost use Rattle.std.specs.List.{list_any};
 ghost use Rattle.std.specs.List.Sorted.{IsSortedByKey};
 ghost use Rattle.std.specs.Ordering.{nat_cmp};
-ghost use Rattle.ftp_base.specs.Calls.{one_more, fails_next_by, fault_limit_by, rises_above, after_call, after_fault};
+ghost use Rattle.ftp_base.specs.Calls.{one_more, fails_next_by, fault_limit_by, rises_above, after_call, after_fault, NoneFailed, LastFailed};
 
 use crate::fault::LinkFault;
 use std::marker::Model;
@@ -90,6 +90,7 @@ impl<T: FailingCall> Calls<T> {
     pub fn count_call(&mut self)
         ensures counted { self.new ≡ after_call self.old }
         ensures limit { fault_limit_by T.number self.new ≤ fault_limit_by T.number self.old }
+        ensures unlisted { fails_next_by T.number self.old ≡ false → NoneFailed T.number self.old self.new }
     {
         self.made = self.made.saturating_add(1);
     }
@@ -98,6 +99,7 @@ impl<T: FailingCall> Calls<T> {
     pub fn count_fault(&mut self)
         ensures counted { self.new ≡ after_fault self.old }
         ensures limit { fails_next_by T.number self.old ≡ true → fault_limit_by T.number self.new ≤ fault_limit_by T.number self.old }
+        ensures as_listed { fails_next_by T.number self.old ≡ true → (call : T) → Contains self.old.failing call → LastFailed T.number self.old self.new call }
     {
         self.made = self.made.saturating_add(1);
         self.faults = self.faults.saturating_add(1);

@@ -3,8 +3,8 @@
 ghost use Rattle.std.specs.Prelude.{◌≡◌, ◌↔◌, ◌<◌, ◌≤◌, [], ◌++◌, true, false, IsTrue, min, length, take, Some, None, refl, IsSome, IfOk, IfErr, OnOk, OnErr, IsErrOf, IsPermutation};
 ghost use Rattle.ftp_base.specs.declared.fault.Failed.TheVariants.{Fault, Memory};
 ghost use Rattle.ftp_base.specs.declared.fault.LinkFault.{LinkFault};
-ghost use Rattle.ftp_base.specs.Calls.{rises_above, after_call, after_fault};
-ghost use Rattle.ftp_base.specs.Memory.{link_fails_next, link_fault_limit, IsNextFault};
+ghost use Rattle.ftp_base.specs.Calls.{rises_above, after_call, after_fault, NoneFailed};
+ghost use Rattle.ftp_base.specs.Memory.{link_fails_next, link_fault_limit, IsNextFault, LinkMet, LinkFailed};
 ghost use Rattle.ftp_base.specs.Outside.{HasRisen, ReadsFront, Sending};
 
 use crate::calls::Calls;
@@ -96,6 +96,8 @@ impl Source for MemoryLink {
 
     ghost is_link = { true };
 
+    ghost calls = { λ s. Some s.calls };
+
     fn read(&mut self, out: &mut [u8]) -> Result<usize, Failed>
         ensures within { IfOk result (λ n. n ≤ length out.new) }
         ensures moved { IfOk result (λ n. n ≡ min self.old.chunk (min (length out.old) (length self.old.left))) }
@@ -110,6 +112,8 @@ impl Source for MemoryLink {
         ensures met { OnErr result (IsSome self.new.last_fault) }
         ensures fault_counted { OnErr result (self.new.calls ≡ after_fault self.old.calls) }
         ensures fault_rose { OnErr result (HasRisen self.old.calls.faults self.new.calls.faults) }
+        ensures unlisted { OnOk result (NoneFailed (λ call. call.0) self.old.calls self.new.calls) }
+        ensures as_listed { OnErr result (LinkMet (Some self.old.calls) (Some self.new.calls) self.new.last_fault) }
         ensures unchanged { OnErr result (self.new.left ≡ self.old.left) }
 
         ensures sent { self.new.sent ≡ self.old.sent }
@@ -146,6 +150,8 @@ impl Link for MemoryLink {
         ensures met { IsErrOf result Fault → IsSome self.new.last_fault }
         ensures fault_counted { IsErrOf result Fault → self.new.calls ≡ after_fault self.old.calls }
         ensures fault_rose { IsErrOf result Fault → HasRisen self.old.calls.faults self.new.calls.faults }
+        ensures unlisted { OnOk result (NoneFailed (λ call. call.0) self.old.calls self.new.calls) }
+        ensures as_listed { IsErrOf result Fault → LinkMet (Some self.old.calls) (Some self.new.calls) self.new.last_fault }
         ensures memory { IsErrOf result Memory → self.new ≡ self.old }
         ensures unchanged { OnErr result (self.new.sent ≡ self.old.sent) }
 
@@ -176,6 +182,8 @@ impl Link for MemoryLink {
         ensures only_fault { IfErr result (λ e. e ≡ Fault) }
         ensures fault_counted { OnErr result (self.new.calls ≡ after_fault self.old.calls) }
         ensures fault_rose { OnErr result (HasRisen self.old.calls.faults self.new.calls.faults) }
+        ensures unlisted { OnOk result (NoneFailed (λ call. call.0) self.old.calls self.new.calls) }
+        ensures as_listed { OnErr result (LinkFailed (Some self.old.calls) (Some self.new.calls)) }
         ensures unchanged { OnErr result (self.new.closed ≡ self.old.closed) }
 
         ensures sent { self.new.sent ≡ self.old.sent }

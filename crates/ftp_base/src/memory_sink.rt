@@ -2,8 +2,8 @@
 
 ghost use Rattle.std.specs.Prelude.{◌≡◌, ◌↔◌, ℕ, ◌<◌, ◌≤◌, [], ◌++◌, IsTrue, min, length, take, Some, IfOk, OnOk, OnErr, IsErrOf, IsPermutation};
 ghost use Rattle.ftp_base.specs.declared.fault.Failed.TheVariants.{Fault, Memory};
-ghost use Rattle.ftp_base.specs.Calls.{rises_above, after_call, after_fault};
-ghost use Rattle.ftp_base.specs.Memory.{fails_next, fault_limit};
+ghost use Rattle.ftp_base.specs.Calls.{rises_above, after_call, after_fault, NoneFailed};
+ghost use Rattle.ftp_base.specs.Memory.{fails_next, fault_limit, StorageMet};
 ghost use Rattle.ftp_base.specs.Outside.{HasRisen};
 
 use crate::calls::Calls;
@@ -65,6 +65,8 @@ impl Sink for MemorySink {
 
     ghost fault_limit = { λ s. fault_limit s.calls };
 
+    ghost calls = { λ s. Some s.calls };
+
     fn write(&mut self, bytes: &[u8]) -> Result<usize, Failed>
         ensures within { IfOk result (λ n. n ≤ length bytes.now) }
         ensures some { IfOk result (λ n. 0 < length bytes.now → 0 < n) }
@@ -76,6 +78,8 @@ impl Sink for MemorySink {
         ensures fails { IsErrOf result Fault ↔ IsTrue (fails_next self.old.calls) }
         ensures fault_counted { IsErrOf result Fault → self.new.calls ≡ after_fault self.old.calls }
         ensures fault_rose { IsErrOf result Fault → HasRisen self.old.calls.faults self.new.calls.faults }
+        ensures unlisted { OnOk result (NoneFailed (λ call. call) self.old.calls self.new.calls) }
+        ensures as_listed { IsErrOf result Fault → StorageMet (Some self.old.calls) (Some self.new.calls) }
         ensures memory { IsErrOf result Memory → self.new ≡ self.old }
         ensures unchanged { OnErr result (self.new.written ≡ self.old.written) }
 

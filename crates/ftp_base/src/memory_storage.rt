@@ -95,8 +95,8 @@ impl MemoryStorage {
     ghost use Rattle.std.specs.Prelude.{◌≡◌, ◌≢◌, ◌↔◌, ◌≤◌, ◌++◌, false, length, Some, None, IsTrue, IsSome, IsErr, IfOk, IfErr, OnOk, OnErr, MatchResult, IsPermutation};
     ghost use Rattle.std.specs.FinMap as map;
     ghost use Rattle.std.specs.Option.{option_map};
-    ghost use Rattle.ftp_base.specs.Calls.{rises_above};
-    ghost use Rattle.ftp_base.specs.Memory.{fails_next, fault_limit};
+    ghost use Rattle.ftp_base.specs.Calls.{rises_above, NoneFailed};
+    ghost use Rattle.ftp_base.specs.Memory.{fails_next, fault_limit, StorageMet};
     ghost use Rattle.ftp_base.specs.MemoryStorage.{standing_item, counted, failed, item_of, file_refusal, directory_refusal, append_refusal, if_within};
     ghost use Rattle.std.specs.Str.{bytes_eq};
     ghost use Rattle.ftp_base.specs.Storage.{Directory, root, item, contents, with_file, old_bytes, cut, listing, files_in_order, Refuses};
@@ -288,6 +288,8 @@ impl MemoryStorage {
         ensures counted { OnOk result (self.new ≡ counted self.old) }
         ensures fault_counted { OnErr result (self.new ≡ failed self.old) }
         ensures limit { fault_limit self.new.calls ≤ fault_limit self.old.calls }
+        ensures unlisted { OnOk result (NoneFailed (λ call. call) self.old.calls self.new.calls) }
+        ensures as_listed { OnErr result (StorageMet (Some self.old.calls) (Some self.new.calls)) }
     {
         if self.calls.next_failing().is_some() {
             self.calls.count_fault();

@@ -3,9 +3,11 @@
 //! What an object holds is told or not told: `None` tells nothing. The count of faults never falls, and their limit
 //! never rises. A count at the end of its type stands still, so there a fault may always be answered.
 
-ghost use Rattle.std.specs.Prelude.{◌≡◌, ℕ, ◌-◌, ◌^◌, ◌<◌, ◌≤◌, ◌++◌, List, length, take, Bool, true, false, Option, Some, IsSome, IfOk, IfErr, OnOk, OnErr, IfSome, IsErrOf};
+ghost use Rattle.std.specs.Prelude.{◌≡◌, ℕ, ◌-◌, ◌^◌, ◌<◌, ◌≤◌, ◌++◌, List, length, take, Bool, true, false, Option, Some, None, IsSome, IfOk, IfErr, OnOk, OnErr, IfSome, IsErrOf};
 ghost use Rattle.ftp_base.specs.declared.fault.Failed.TheVariants.{Fault, Memory};
 ghost use Rattle.ftp_base.specs.declared.fault.LinkFault.{LinkFault};
+ghost use Rattle.ftp_base.specs.Calls.{Calls, AllWell, OneMore};
+ghost use Rattle.ftp_base.specs.Memory.{LinkMet, LinkFailed, StorageMet};
 ghost use Rattle.ftp_base.specs.Outside.{HasRisen, ReadsFront, Writes, Sending, nothing_sent};
 
 use crate::fault::{Failed, LinkFault};
@@ -27,6 +29,9 @@ pub trait Source {
     // Whether the source is a connection, of which each failed read leaves a last fault.
     ghost is_link: { Bool } = { false };
 
+    // The calls of a connection, and which of them fail, with which fault, where it tells that.
+    ghost calls: { Self → Option (Calls (ℕ × LinkFault)) } = { λ _. None };
+
     /// Reads to the front of `out`, and says how many bytes: none exactly at the end, where `out` has room.
     fn read(&mut self, out: &mut [u8]) -> Result<usize, Failed>
         ensures within { IfOk result (λ n. n ≤ length out.new) }
@@ -36,6 +41,11 @@ pub trait Source {
         ensures last_fault { OnOk result ((sending self.new).last_fault ≡ (sending self.old).last_fault) }
         ensures only_fault { IfErr result (λ e. e ≡ Fault) }
         ensures met { OnErr result (is_link ≡ true → IsSome (sending self.new).last_fault) }
+
+        // Where calls are told, exactly the listed ones fail, with the fault that is listed.
+        ensures unlisted { OnOk result (AllWell (λ call. call.0) (calls self.old) (calls self.new)) }
+        ensures as_listed { OnErr result (LinkMet (calls self.old) (calls self.new) (sending self.new).last_fault) }
+        ensures made { OneMore (calls self.old) (calls self.new) }
         ensures fault_rose { OnErr result (HasRisen (faults self.old) (faults self.new)) }
         ensures unchanged { OnErr result (left self.new ≡ left self.old) }
         ensures count { faults self.old ≤ faults self.new }
@@ -53,6 +63,9 @@ pub trait Sink {
     // The most faults that will ever be counted.
     ghost fault_limit: { Self → ℕ } = { λ _. 2 ^ 64 - 1 };
 
+    // The calls, and which of them fail, where the sink tells that.
+    ghost calls: { Self → Option (Calls ℕ) } = { λ _. None };
+
     /// Writes bytes from the front, and says how many: at least one, where there is one.
     fn write(&mut self, bytes: &[u8]) -> Result<usize, Failed>
         ensures within { IfOk result (λ n. n ≤ length bytes.now) }
@@ -60,6 +73,10 @@ pub trait Sink {
         ensures wrote { IfOk result (λ n. Writes (written self.old) (written self.new) (take n bytes.now)) }
         ensures fault_rose { IsErrOf result Fault → HasRisen (faults self.old) (faults self.new) }
         ensures memory { IsErrOf result Memory → faults self.new ≡ faults self.old }
+        ensures unlisted { OnOk result (AllWell (λ call. call) (calls self.old) (calls self.new)) }
+        ensures as_listed { IsErrOf result Fault → StorageMet (calls self.old) (calls self.new) }
+        ensures made { (IsErrOf result Memory → ⊥) → OneMore (calls self.old) (calls self.new) }
+        ensures uncounted { IsErrOf result Memory → calls self.new ≡ calls self.old }
         ensures unchanged { OnErr result (written self.new ≡ written self.old) }
         ensures count { faults self.old ≤ faults self.new }
         ensures limit { fault_limit self.new ≤ fault_limit self.old };
@@ -82,6 +99,10 @@ pub trait Link: Source {
         ensures fault_rose { IsErrOf result Fault → HasRisen (Self.faults self.old) (Self.faults self.new) }
         ensures memory { IsErrOf result Memory → (Self.faults self.new ≡ Self.faults self.old) }
         ensures takes_memory { IsErrOf result Memory → takes_memory ≡ true }
+        ensures unlisted { OnOk result (AllWell (λ call. call.0) (Self.calls self.old) (Self.calls self.new)) }
+        ensures as_listed { IsErrOf result Fault → LinkMet (Self.calls self.old) (Self.calls self.new) (Self.sending self.new).last_fault }
+        ensures made { (IsErrOf result Memory → ⊥) → OneMore (Self.calls self.old) (Self.calls self.new) }
+        ensures uncounted { IsErrOf result Memory → Self.calls self.new ≡ Self.calls self.old }
         ensures memory_last { IsErrOf result Memory → ((Self.sending self.new).last_fault ≡ (Self.sending self.old).last_fault) }
         ensures unchanged { OnErr result ((Self.sending self.new).sent ≡ (Self.sending self.old).sent) }
         ensures count { Self.faults self.old ≤ Self.faults self.new }
@@ -95,6 +116,10 @@ pub trait Link: Source {
         ensures last_fault { (Self.sending self.new).last_fault ≡ (Self.sending self.old).last_fault }
         ensures only_fault { IfErr result (λ e. e ≡ Fault) }
         ensures fault_rose { OnErr result (HasRisen (Self.faults self.old) (Self.faults self.new)) }
+        ensures unlisted { OnOk result (AllWell (λ call. call.0) (Self.calls self.old) (Self.calls self.new)) }
+        ensures as_listed { OnErr result (LinkFailed (Self.calls self.old) (Self.calls self.new)) }
+        ensures made { OneMore (Self.calls self.old) (Self.calls self.new) }
+        ensures unchanged { OnErr result ((Self.sending self.new).closed ≡ (Self.sending self.old).closed) }
         ensures count { Self.faults self.old ≤ Self.faults self.new }
         ensures limit { Self.fault_limit self.new ≤ Self.fault_limit self.old };
 

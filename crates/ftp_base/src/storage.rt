@@ -3,8 +3,10 @@
 //! A storage is a map from paths to the bytes of a file or a directory. Its rule says, by what stands there, which calls
 //! it refuses; no call changes the rule. A call that fails, finds no memory or is refused leaves the storage as it was.
 
-ghost use Rattle.std.specs.Prelude.{◌≡◌, ℕ, ◌+◌, ◌-◌, ◌^◌, ◌<◌, ◌≤◌, Bool, true, length, Option, IfSome, IsSomeAnd, IfOk, OnOk, OnErr, IsErrOf};
+ghost use Rattle.std.specs.Prelude.{◌≡◌, ℕ, ◌+◌, ◌-◌, ◌^◌, ◌<◌, ◌≤◌, Bool, true, length, Option, None, IfSome, IsSomeAnd, IfOk, OnOk, OnErr, IsErrOf};
 ghost use Rattle.ftp_base.specs.declared.storage.StoreError.TheVariants.{OutOfMemory};
+ghost use Rattle.ftp_base.specs.Calls.{Calls, AllWell, OneMore};
+ghost use Rattle.ftp_base.specs.Memory.{StorageMet};
 ghost use Rattle.ftp_base.specs.Outside.{HasRisen};
 ghost use Rattle.ftp_base.specs.Storage.{Files, Rule, meaning_of, Metadata, Listing, ReadAt, Begin, Append, Answers, item, meta_of, listing, ReadsFile, Begins, Grows};
 
@@ -65,6 +67,9 @@ pub trait Storage {
     // The most faults that will ever be counted.
     ghost fault_limit: { Self → ℕ } = { λ _. 2 ^ 64 - 1 };
 
+    // The calls, and which of them fail, where the storage tells that.
+    ghost calls: { Self → Option (Calls ℕ) } = { λ _. None };
+
     // Whether reading a file may fail for want of memory.
     ghost reads_take_memory: { Bool };
 
@@ -77,6 +82,9 @@ pub trait Storage {
         ensures found { IfOk result (λ meta. IfSome (files self.old) (λ f. IsSomeAnd (item f path.now) (λ i. meta ≡ meta_of i))) }
         ensures refused { Answers (files self.old) (meaning_of (rule self.old) (files self.old) (Metadata user.now path.now)) result }
         ensures fault_rose { IsErrOf result StoreError.Failed → HasRisen (faults self.old) (faults self.new) }
+        ensures unlisted { (IsErrOf result StoreError.Failed → ⊥) → AllWell (λ call. call) (calls self.old) (calls self.new) }
+        ensures as_listed { IsErrOf result StoreError.Failed → StorageMet (calls self.old) (calls self.new) }
+        ensures made { OneMore (calls self.old) (calls self.new) }
         ensures unchanged { files self.new ≡ files self.old }
         ensures same_rule { rule self.new ≡ rule self.old }
         ensures count { faults self.old ≤ faults self.new }
@@ -87,6 +95,9 @@ pub trait Storage {
         ensures listed { IfOk result (λ found. IfSome (files self.old) (λ f. found.items ≡ listing f path.now)) }
         ensures refused { Answers (files self.old) (meaning_of (rule self.old) (files self.old) (Listing user.now path.now)) result }
         ensures fault_rose { IsErrOf result StoreError.Failed → HasRisen (faults self.old) (faults self.new) }
+        ensures unlisted { (IsErrOf result StoreError.Failed → ⊥) → AllWell (λ call. call) (calls self.old) (calls self.new) }
+        ensures as_listed { IsErrOf result StoreError.Failed → StorageMet (calls self.old) (calls self.new) }
+        ensures made { OneMore (calls self.old) (calls self.new) }
         ensures unchanged { files self.new ≡ files self.old }
         ensures same_rule { rule self.new ≡ rule self.old }
         ensures count { faults self.old ≤ faults self.new }
@@ -106,6 +117,9 @@ pub trait Storage {
         ensures read { IfOk result (λ n. IfSome (files self.old) (λ f. ReadsFile f path.now at n out.new)) }
         ensures refused { Answers (files self.old) (meaning_of (rule self.old) (files self.old) (ReadAt user.now path.now at)) result }
         ensures fault_rose { IsErrOf result StoreError.Failed → HasRisen (faults self.old) (faults self.new) }
+        ensures unlisted { (IsErrOf result StoreError.Failed → ⊥) → AllWell (λ call. call) (calls self.old) (calls self.new) }
+        ensures as_listed { IsErrOf result StoreError.Failed → StorageMet (calls self.old) (calls self.new) }
+        ensures made { OneMore (calls self.old) (calls self.new) }
         ensures takes_memory { IsErrOf result StoreError.OutOfMemory → reads_take_memory ≡ true }
         ensures unchanged { files self.new ≡ files self.old }
         ensures same_rule { rule self.new ≡ rule self.old }
@@ -117,6 +131,9 @@ pub trait Storage {
         ensures begun { OnOk result (Begins (files self.old) (files self.new) path.now start) }
         ensures refused { Answers (files self.old) (meaning_of (rule self.old) (files self.old) (Begin user.now path.now start)) result }
         ensures fault_rose { IsErrOf result StoreError.Failed → HasRisen (faults self.old) (faults self.new) }
+        ensures unlisted { (IsErrOf result StoreError.Failed → ⊥) → AllWell (λ call. call) (calls self.old) (calls self.new) }
+        ensures as_listed { IsErrOf result StoreError.Failed → StorageMet (calls self.old) (calls self.new) }
+        ensures made { OneMore (calls self.old) (calls self.new) }
         ensures unchanged { OnErr result (files self.new ≡ files self.old) }
         ensures same_rule { rule self.new ≡ rule self.old }
         ensures count { faults self.old ≤ faults self.new }
@@ -127,6 +144,9 @@ pub trait Storage {
         ensures grown { OnOk result (Grows (files self.old) (files self.new) path.now bytes.now) }
         ensures refused { Answers (files self.old) (meaning_of (rule self.old) (files self.old) (Append user.now path.now bytes.now)) result }
         ensures fault_rose { IsErrOf result StoreError.Failed → HasRisen (faults self.old) (faults self.new) }
+        ensures unlisted { (IsErrOf result StoreError.Failed → ⊥) → AllWell (λ call. call) (calls self.old) (calls self.new) }
+        ensures as_listed { IsErrOf result StoreError.Failed → StorageMet (calls self.old) (calls self.new) }
+        ensures made { OneMore (calls self.old) (calls self.new) }
         ensures unchanged { OnErr result (files self.new ≡ files self.old) }
         ensures same_rule { rule self.new ≡ rule self.old }
         ensures count { faults self.old ≤ faults self.new }

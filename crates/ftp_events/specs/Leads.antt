@@ -1,6 +1,8 @@
 -- What a log did to a storage and to links.
 use Rattle.std.specs.Prelude.{◌≡◌, ℕ, ◌≤◌, true, List, [], ◌∷◌, ◌++◌, Option, Some, None, is_some, MatchOption, if◌then◌else◌}
 use Rattle.std.specs.FinMap as map
+use Rattle.ftp_base.specs.declared.fault.LinkFault.{LinkFault}
+use Rattle.ftp_base.specs.Calls.{Calls}
 use Rattle.ftp_base.specs.LinkTable.{Numbered}
 use Rattle.ftp_base.specs.Outside.{Sending}
 use Rattle.ftp_base.specs.Storage.{Files, Rule}
@@ -27,10 +29,12 @@ pub record Views (S L : Type 0) : Type 0 where
   pub rule : S → Rule
   pub storage_faults : S → ℕ
   pub storage_limit : S → ℕ
+  pub storage_calls : S → Option (Calls ℕ)
   pub left : L → Option (List ℕ)
   pub sending : L → Sending
   pub link_faults : L → ℕ
   pub link_limit : L → ℕ
+  pub link_calls : L → Option (Calls (ℕ × LinkFault))
 
 -- a storage and links by their numbers
 pub record Outside (S L : Type 0) : Type 0 where
@@ -39,18 +43,20 @@ pub record Outside (S L : Type 0) : Type 0 where
 
 -- what storages and links tell, by a word for each
 abbrev pub views :
-    {S L : Type 0} → (S → Option Files) → (S → Rule) → (S → ℕ) → (S → ℕ) →
-    (L → Option (List ℕ)) → (L → Sending) → (L → ℕ) → (L → ℕ) → Views S L
-views files rule storage_faults storage_limit left sending link_faults link_limit =
+    {S L : Type 0} → (S → Option Files) → (S → Rule) → (S → ℕ) → (S → ℕ) → (S → Option (Calls ℕ)) →
+    (L → Option (List ℕ)) → (L → Sending) → (L → ℕ) → (L → ℕ) → (L → Option (Calls (ℕ × LinkFault))) → Views S L
+views files rule storage_faults storage_limit storage_calls left sending link_faults link_limit link_calls =
     record {
       files = files;
       rule = rule;
       storage_faults = storage_faults;
       storage_limit = storage_limit;
+      storage_calls = storage_calls;
       left = left;
       sending = sending;
       link_faults = link_faults;
       link_limit = link_limit;
+      link_calls = link_calls;
     }
 
 -- a storage beside links
@@ -59,7 +65,8 @@ beside storage links = record { storage = storage; links = links }
 
 -- what a storage and a link tell together
 abbrev pub told_by : {S L : Type 0} → Views S L → S → L → Told
-told_by v s l = told (v.files s) (v.rule s) (v.storage_faults s) (v.left l) (v.sending l) (v.link_faults l)
+told_by v s l =
+    told (v.files s) (v.rule s) (v.storage_faults s) (v.storage_calls s) (v.left l) (v.sending l) (v.link_faults l) (v.link_calls l)
 
 -- each link that a live session has in its slot, or a running job transfers over, is in the table
 pub record HasLinks {L : Type 0} (o : Options) (past : List Entry) (links : Numbered L) : Type 0 where

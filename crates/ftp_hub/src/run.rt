@@ -90,7 +90,7 @@ pub fn run_event<S: Storage, L: Link>(
     ensures leads { IfOk result (λ e.
         (log : List Entry) → Stands hub.old log →
         has_link_of links.old (job_to_run (options_of hub.old) (past_of log) event.kind) ≡ true →
-        LeadsOne (views S.files S.rule S.faults S.fault_limit L.left L.sending L.faults L.fault_limit)
+        LeadsOne (views S.files S.rule S.faults S.fault_limit S.calls L.left L.sending L.faults L.fault_limit L.calls)
         (options_of hub.old) (past_of log) e
         (beside storage.old links.old) (beside storage.new links.new)) }
     ensures lacks { IfOk result (λ e.
@@ -129,7 +129,7 @@ fn run_prepared<S: Storage, L: Link>(
     ensures stands { (log : List Entry) → Stands hub.old log → Stands hub.new (result ∷ log) }
     ensures leads { (log : List Entry) → Stands hub.old log →
         has_link_of links.old (job_to_run (options_of hub.old) (past_of log) event.kind) ≡ true →
-        LeadsOne (views S.files S.rule S.faults S.fault_limit L.left L.sending L.faults L.fault_limit)
+        LeadsOne (views S.files S.rule S.faults S.fault_limit S.calls L.left L.sending L.faults L.fault_limit L.calls)
         (options_of hub.old) (past_of log) result
         (beside storage.old links.old) (beside storage.new links.new) }
     ensures lacks { (log : List Entry) → Stands hub.old log →
@@ -155,7 +155,7 @@ fn run_job<S: Storage, L: Link>(
     links: &mut LinkTable<L>,
 ) -> Answer
     ensures ran { is_linked links.old job.number ≡ true →
-        RunsJob (views S.files S.rule S.faults S.fault_limit L.left L.sending L.faults L.fault_limit)
+        RunsJob (views S.files S.rule S.faults S.fault_limit S.calls L.left L.sending L.faults L.fault_limit L.calls)
         job result (beside storage.old links.old) (beside storage.new links.new) }
     ensures lacks { is_linked links.old job.number ≡ false →
         LeavesAll result (beside storage.old links.old) (beside storage.new links.new) }
@@ -193,7 +193,7 @@ pub fn run_events<S: Storage, L: Link>(
     ensures options { options_of hub.new ≡ options_of hub.old }
     ensures leads { Stands hub.old log.old.entries →
         HasLinks (options_of hub.old) (past_of log.old.entries) links.old →
-        LeadsOn (views S.files S.rule S.faults S.fault_limit L.left L.sending L.faults L.fault_limit)
+        LeadsOn (views S.files S.rule S.faults S.fault_limit S.calls L.left L.sending L.faults L.fault_limit L.calls)
         (options_of hub.old) log.old.entries log.new.entries
         (beside storage.old links.old) (beside storage.new links.new) }
     ensures linked { (n : ℕ) → is_linked links.old n ≡ true → is_linked links.new n ≡ true }
@@ -231,7 +231,7 @@ fn run_next<S: Storage, L: Link>(
     ensures options { options_of hub.new ≡ options_of hub.old }
     ensures leads { Stands hub.old log.old.entries →
         HasLinks (options_of hub.old) (past_of log.old.entries) links.old →
-        LeadsOn (views S.files S.rule S.faults S.fault_limit L.left L.sending L.faults L.fault_limit)
+        LeadsOn (views S.files S.rule S.faults S.fault_limit S.calls L.left L.sending L.faults L.fault_limit L.calls)
         (options_of hub.old) log.old.entries log.new.entries
         (beside storage.old links.old) (beside storage.new links.new) }
     ensures linked { (n : ℕ) → is_linked links.old n ≡ true → is_linked links.new n ≡ true }

@@ -25,7 +25,7 @@ use Rattle.ftp_script_run.specs.Legal.{memory_views, start_of}
 use Rattle.ftp_script_run.proofs.LeadsLemmas.{leads-limits, LimitsFall}
 
 -- what led to an entry, and what the entry did
-leads-split : {S L : Type 0} (v : Views S L) (o : Options) (log newer older : List Entry) (e : Entry) (old new : Outside S L) →
+pub leads-split : {S L : Type 0} (v : Views S L) (o : Options) (log newer older : List Entry) (e : Entry) (old new : Outside S L) →
     Leads v o log (newer ++ e ∷ older) old new →
     (x y : Outside S L) × Leads v o log older old x × LeadsOne v o (past_of (older ++ log)) e x y
 leads-split {S} {L} v o log [] older e old new led =
@@ -100,7 +100,7 @@ taken-done o items older newer e end none led =
           (let run : RunsJob memory_views job e.answer x.0 x.1 = rw runs at one in
           let was = limits.links job.number link there in
           let storage : fault_limit x.0.storage.calls ≡ 0 = omega (arith, limits.storage, none.storage) in
-          let links : link_fault_limit link.calls ≡ 0 = omega (arith, was.2, none.links job.number was.0 was.1) in
+          let links : link_fault_limit link.calls ≡ 0 = omega (arith, was.2.limit, none.links job.number was.0 was.1) in
           let taken : Takes job.command job (memory_rule x.0.storage.max_file) x.0.storage.files (Some link.left) = rw rule takes in
           runs-done job e.answer x.0 x.1 link outcome run there storage links taken is below),
     )

@@ -1,15 +1,20 @@
 -- Links under a log: their numbers stay, and one more of them changes nothing.
-use Rattle.std.proofs.Common.{◌≡◌, ◌≢◌, ℕ, Bool, true, false, cond, List, [], ◌∷◌, ◌++◌, Option, Some, None, is_some, refl, sym, ap, subst, ◌∙◌, ◌≤◌, eqb-true, arith}
-use Rattle.std.specs.Prelude.{MatchOption}
+use Rattle.std.proofs.Common.{◌≡◌, ◌≢◌, ℕ, Bool, true, false, cond, List, [], ◌∷◌, ◌++◌, Option, Some, None, is_some, refl, sym, ap, subst, ◌∙◌, ◌≤◌, eqb-true, inl, inr, arith}
+use Rattle.std.specs.Prelude.{MatchOption, IfSome, IsSomeAnd}
 use Rattle.std.specs.Ordering.{nat_cmp, eq_by_cmp}
 use Rattle.std.specs.Cmp.{nat_cmp_total, unsigned_tied}
 use Rattle.std.specs.FinMap as map
+use Rattle.ftp_base.specs.declared.fault.LinkFault.{LinkFault}
+use Rattle.ftp_base.specs.Calls.{Calls, AllWell}
 use Rattle.ftp_base.specs.LinkTable.{Numbered}
+use Rattle.ftp_base.specs.Memory.{LinkMet, LinkFailed}
 use Rattle.ftp_base.proofs.LinkTableLemmas.{get-insert-other, is_some-get-insert}
 use Rattle.ftp_options.specs.declared.options.Options.{Options}
 use Rattle.ftp_transfer.specs.declared.job.Job.{Job}
+use Rattle.ftp_transfer.specs.declared.job.Outcome.{Outcome}
+use Rattle.ftp_transfer.specs.Ran.{Told, Ran}
 use Rattle.ftp_events.specs.declared.entry.Entry.{Entry}
-use Rattle.ftp_events.specs.Leads.{Views, Outside, job_to_run, RunsJob, LeavesAll, LeadsOne, Leads}
+use Rattle.ftp_events.specs.Leads.{Views, Outside, told_by, job_to_run, RunsJob, LeavesAll, LeadsOne, Leads}
 use Rattle.ftp_events.specs.Log.{past_of}
 use Rattle.ftp_hub.specs.Runs.{is_linked}
 
@@ -104,23 +109,77 @@ leads-framed {S} {L} v o log (e ∷ newer) old new n link unlinked led =
 
 -- ---- limits of faults
 
+-- the same calls are listed, and no fewer were made, where calls are told
+abbrev pub ListStays : Option (Calls (ℕ × LinkFault)) → Option (Calls (ℕ × LinkFault)) → Type 0
+ListStays old new = IfSome old (λ c. IsSomeAnd new (λ d. (d.failing ≡ c.failing) × (c.made ≤ d.made)))
+
+-- a link's limit is no higher than before, and its list stays
+pub record LinkFalls {S L : Type 0} (v : Views S L) (before after : L) : Type 0 where
+  pub limit : v.link_limit after ≤ v.link_limit before
+  pub list : ListStays (v.link_calls before) (v.link_calls after)
+
 -- no limit is higher than before, and each link was there before
 pub record LimitsFall {S L : Type 0} (v : Views S L) (old new : Outside S L) : Type 0 where
   pub storage : v.storage_limit new.storage ≤ v.storage_limit old.storage
   pub links :
       (n : ℕ) (after : L) → map.get new.links n ≡ Some after →
-      (before : L) × (map.get old.links n ≡ Some before) × (v.link_limit after ≤ v.link_limit before)
+      (before : L) × (map.get old.links n ≡ Some before) × LinkFalls v before after
+
+ListStays-same : (a : Option (Calls (ℕ × LinkFault))) → ListStays a a
+ListStays-same None = tt
+ListStays-same (Some c) = (refl, omega arith)
+
+ListStays-more : (a b c : Option (Calls (ℕ × LinkFault))) → ListStays a b → ListStays b c → ListStays a c
+ListStays-more None b c first next = tt
+ListStays-more (Some x) None c first next = absurd first
+ListStays-more (Some x) (Some y) None first next = absurd next
+ListStays-more (Some x) (Some y) (Some z) first next = (next.0 ∙ first.0, omega (arith, first.1, next.1))
+
+ListStays-well : (a b : Option (Calls (ℕ × LinkFault))) → AllWell (λ (call : ℕ × LinkFault). call.0) a b → ListStays a b
+ListStays-well None b well = tt
+ListStays-well (Some x) None well = absurd well
+ListStays-well (Some x) (Some y) well = (well.failing, well.made)
+
+ListStays-met : (a b : Option (Calls (ℕ × LinkFault))) (last : Option LinkFault) → LinkMet a b last → ListStays a b
+ListStays-met None b last met = tt
+ListStays-met (Some x) None last met = absurd met
+ListStays-met (Some x) (Some y) None met = absurd met
+ListStays-met (Some x) (Some y) (Some f) met = (met.failing, omega (arith, met.made))
+
+ListStays-failed : (a b : Option (Calls (ℕ × LinkFault))) → LinkFailed a b → ListStays a b
+ListStays-failed None b failed = tt
+ListStays-failed (Some x) None failed = absurd failed
+ListStays-failed (Some x) (Some y) failed = (failed.1.failing, omega (arith, failed.1.made))
+
+-- a run of a job changes no list of calls
+ListStays-ran : (job : Job) (old new : Told) (outcome : Outcome) → Ran job old new outcome → ListStays old.link_calls new.link_calls
+ListStays-ran job old new outcome ran = ListStays-more old.link_calls ran.calls new.link_calls before close where
+  before : ListStays old.link_calls ran.calls
+  before = elim ran.moves.cause [
+    | inl failed ↦ ListStays-met old.link_calls ran.calls new.sending.last_fault failed.1.1
+    | inr held ↦ ListStays-well old.link_calls ran.calls (ran.moves.link_well held.0.0)
+  ]
+
+  close : ListStays ran.calls new.link_calls
+  close = elim ran.closed [
+    | inl well ↦ ListStays-well ran.calls new.link_calls well.1
+    | inr failed ↦ ListStays-failed ran.calls new.link_calls failed.2
+  ]
+
+LinkFalls-same : {S L : Type 0} (v : Views S L) (l : L) → LinkFalls v l l
+LinkFalls-same v l = record { limit = omega arith; list = ListStays-same (v.link_calls l) }
 
 pub LimitsFall-same : {S L : Type 0} (v : Views S L) (x : Outside S L) → LimitsFall v x x
-LimitsFall-same v x = record { storage = omega arith; links = λ n after there. (after, there, omega arith) }
+LimitsFall-same v x =
+    record { storage = omega arith; links = λ n after there. (after, there, LinkFalls-same v after) }
 
--- a link that is found where one was put under its number, whose limit had not risen
-found-put : {L : Type 0} (limit : L → ℕ) (links : Numbered L) (k n : ℕ) (before put after : L) →
+-- a link that is found where one was put under its number, beside which it stands so
+found-put : {L : Type 0} (R : L → L → Type 0) (same : (l : L) → R l l) (links : Numbered L) (k n : ℕ) (before put after : L) →
     map.get links k ≡ Some before →
-    limit put ≤ limit before →
+    R before put →
     map.get (map.insert links k put) n ≡ Some after →
-    (old : L) × (map.get links n ≡ Some old) × (limit after ≤ limit old)
-found-put {L} limit links k n before put after was falls there = by (eq_by_cmp nat_cmp n k) refl
+    (old : L) × (map.get links n ≡ Some old) × R old after
+found-put {L} R stays links k n before put after was falls there = by (eq_by_cmp nat_cmp n k) refl
   where
     found : (here : Bool) → eq_by_cmp nat_cmp n k ≡ here → cond here (Some put) (map.get links n) ≡ Some after
     found here is =
@@ -128,12 +187,12 @@ found-put {L} limit links k n before put after was falls there = by (eq_by_cmp n
         ∙ sym (map.get-insert nat_cmp_total links k put n)
         ∙ there
 
-    by : (here : Bool) → eq_by_cmp nat_cmp n k ≡ here → (old : L) × (map.get links n ≡ Some old) × (limit after ≤ limit old)
+    by : (here : Bool) → eq_by_cmp nat_cmp n k ≡ here → (old : L) × (map.get links n ≡ Some old) × R old after
     by true is =
         let puts = found true is in
         let same : put ≡ after = cc in
-        (before, ap (map.get links) (same_number n k is) ∙ was, subst (λ (x : L). limit x ≤ limit before) same falls)
-    by false is = (after, found false is, omega arith)
+        (before, ap (map.get links) (same_number n k is) ∙ was, subst (λ (x : L). R before x) same falls)
+    by false is = (after, found false is, stays after)
 
 LimitsFall-one : {S L : Type 0} (v : Views S L) (o : Options) (past : List Entry) (e : Entry) (old new : Outside S L) →
     LeadsOne v o past e old new →
@@ -144,7 +203,8 @@ LimitsFall-one {S} {L} v o past e old new led = by (job_to_run o past e.event.ki
   by (Some job) ran = record {
     storage = ran.storage_limit;
     links = λ n after there.
-        found-put v.link_limit old.links job.number n ran.before ran.after after ran.there ran.link_limit
+        found-put (LinkFalls v) (LinkFalls-same v) old.links job.number n ran.before ran.after after ran.there
+        (record { limit = ran.link_limit; list = ListStays-ran job (told_by v old.storage ran.before) (told_by v new.storage ran.after) ran.outcome ran.ran })
         (ap (λ (links : Numbered L). map.get links n) (sym ran.links) ∙ there);
   }
 
@@ -161,6 +221,12 @@ leads-limits {S} {L} v o log (e ∷ newer) old new led =
       storage = omega arith;
       links = λ n after there.
           (let later = last.links n after there in
-          let before = first.links n later.0 later.1 in
-          (before.0, before.1, omega arith));
+          let before = first.links n later.0 later.1 in (
+            before.0,
+            before.1,
+            record {
+              limit = omega (arith, before.2.limit, later.2.limit);
+              list = ListStays-more (v.link_calls before.0) (v.link_calls later.0) (v.link_calls after) before.2.list later.2.list;
+            },
+          ));
     }

@@ -7,3 +7,4 @@ pub mod SetUpLemmas
 pub mod OutcomeLemmas
 pub mod CleanLemmas
 pub mod DeterminedLemmas
+pub mod ListedLemmas

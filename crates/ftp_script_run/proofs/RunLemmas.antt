@@ -80,7 +80,7 @@ kept-listed run items log kept = listed (fall run.hub kept.hub) where
     links = λ n before after was there.
         (let found = falls.links n after there in
         let same : found.0 ≡ before = cc in
-        let limit = subst (λ (x : LinkState). link_fault_limit after.calls ≤ link_fault_limit x.calls) same found.2 in
+        let limit = subst (λ (x : LinkState). link_fault_limit after.calls ≤ link_fault_limit x.calls) same found.2.limit in
         omega (arith, limit));
   }
 

@@ -22,10 +22,12 @@ memory_views =
       rule = λ s. memory_rule s.max_file;
       storage_faults = λ s. s.calls.faults;
       storage_limit = λ s. fault_limit s.calls;
+      storage_calls = λ s. Some s.calls;
       left = λ l. Some l.left;
       sending = λ l. record { sent = Some l.sent; closed = l.closed; last_fault = l.last_fault };
       link_faults = λ l. l.calls.faults;
       link_limit = λ l. link_fault_limit l.calls;
+      link_calls = λ l. Some l.calls;
     }
 
 -- the storage and all links as the items set them up; an event can use no link before its line

@@ -6,3 +6,4 @@ pub mod Outcome
 pub mod Runs
 pub mod Clean
 pub mod Determined
+pub mod Listed

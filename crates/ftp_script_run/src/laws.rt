@@ -2,6 +2,7 @@
 
 ghost use Rattle.ftp_script_run.specs.Clean.{TakenTransfersAreDone};
 ghost use Rattle.ftp_script_run.specs.Determined.{SettledRunsAreDetermined};
+ghost use Rattle.ftp_script_run.specs.Listed.{ToldFaultsAreListed};
 
 /// Where a script lists no call that fails, a transfer that is run, and of which the storage's rule refuses no call, is
 /// done, or memory ran out.
@@ -13,4 +14,9 @@ pub fn taken_transfers_are_done()
 /// and leaves the same files whoever runs it.
 pub fn settled_runs_are_determined()
     ensures { SettledRunsAreDetermined }
+{}
+
+/// A fault that an entry tells is one that the script lists for a call of its link that was still to come.
+pub fn told_faults_are_listed()
+    ensures { ToldFaultsAreListed }
 {}

@@ -89,9 +89,9 @@ told-unrefused job (Some f) old new outcome within clean k refused = clean-unref
 pub clean-done : (job : Job) (old new : Told) (outcome : Outcome) → Ran job old new outcome → IsClean job old new outcome → IsDone outcome.result
 clean-done job old new outcome ran clean =
     elim ran.moves.cause [
-      | inl failed ↦ absurd (clean.link (HasRisen-more old.link_faults ran.faults new.link_faults ran.not_after failed.1) (rw failed.2 at failed.3))
+      | inl failed ↦ absurd (clean.link (HasRisen-more old.link_faults ran.faults new.link_faults ran.not_after failed.1.0) (rw failed.2 at failed.3))
       | inr held ↦
-          unrefused-done _ _ outcome.bytes outcome.result clean.storage clean.count
+          unrefused-done _ _ outcome.bytes outcome.result (λ failed. clean.storage failed.0) clean.count
           (told-unrefused job old.files old new outcome ran.moves.within clean.unrefused)
           clean.memory
           held.1

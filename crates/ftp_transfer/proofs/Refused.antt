@@ -46,8 +46,8 @@ had-get = get-insert_same no_files a (storage.File three)
 
 -- a RETR that sent the whole file, and of whose link no read or write failed, is not told as one whose connection closed
 pub close_not_told :
-    Ran retr (told (Some had) (memory_rule 10) 0 (Some []) first 0)
-    (told (Some had) (memory_rule 10) 0 (Some []) went 1)
+    Ran retr (told (Some had) (memory_rule 10) 0 None (Some []) first 0 None)
+    (told (Some had) (memory_rule 10) 0 None (Some []) went 1 None)
     (record { result = result.Refused kind.ConnectionClosed; bytes = 3; fault = None }) → ⊥
 close_not_told ran =
     elim ran.moves.cause [
@@ -71,10 +71,10 @@ no_third r (inr e) k is = cc (sym e ∙ is)
 -- a STOR of three bytes within 16,777,216, of which no call failed but the link's close, is not told as refused, whatever
 -- is there after it
 pub upload_not_refused : (new : Told) (k : ErrorKind) (bytes : ℕ) (fault : Option LinkFault) → new.storage_faults ≡ 0 → new.sending.last_fault ≡ None →
-    Ran stor (told (Some no_files) (memory_rule 16777216) 0 (Some three) first 0) new (record { result = result.Refused k; bytes = bytes; fault = fault }) → ⊥
+    Ran stor (told (Some no_files) (memory_rule 16777216) 0 None (Some three) first 0 None) new (record { result = result.Refused k; bytes = bytes; fault = fault }) → ⊥
 upload_not_refused new k bytes fault storage link ran =
     no_third (result.Refused k)
-    (memory_upload stor a 16777216 no_files three (told (Some no_files) (memory_rule 16777216) 0 (Some three) first 0) new (record { result = result.Refused k; bytes = bytes; fault = fault })
+    (memory_upload stor a 16777216 no_files three (told (Some no_files) (memory_rule 16777216) 0 None (Some three) first 0 None) new (record { result = result.Refused k; bytes = bytes; fault = fault })
     refl refl refl refl
     (record { other = refl; there = refl; free = rw nothing refl; within = omega arith; countable = omega arith })
     (λ rose. omega (arith, storage, rose (omega arith)))

@@ -4,11 +4,13 @@ use Rattle.std.specs.Prelude.{IfSome}
 use Rattle.std.proofs.lemmas.List.{drop-drop}
 use Rattle.ftp_base.specs.declared.error_kind.ErrorKind.{ErrorKind}
 use Rattle.ftp_base.specs.declared.fault.LinkFault.{LinkFault}
+use Rattle.ftp_base.specs.Calls.{Calls, AllWell}
 use Rattle.ftp_base.specs.Outside.{HasRisen}
+use Rattle.ftp_base.proofs.CallsMade.{LinkMet-more, StorageMet-more}
 use Rattle.ftp_base.specs.Storage.{Files, get, old_bytes}
 use Rattle.ftp_transfer.specs.declared.job.Completion.{Completion}
 use Rattle.ftp_transfer.specs.declared.job.Completion.TheVariants as result
-use Rattle.ftp_transfer.specs.Run.{SendsFront, RefusedBy, IfRefused, Caused, EndsRefused, RefusedFirst}
+use Rattle.ftp_transfer.specs.Run.{StorageRose, LinkRose, SendsFront, RefusedBy, IfRefused, Caused, EndsRefused, RefusedFirst}
 use Rattle.ftp_transfer.proofs.Pieces.{Writes-more}
 
 -- a count that rose later rose
@@ -18,6 +20,15 @@ HasRisen_later a b c le le' rose = grind arith
 -- a count that rose and does not fall rose
 pub HasRisen-more : (a b c : ℕ) → b ≤ c → HasRisen a b → HasRisen a c
 HasRisen-more a b c le rose = grind arith
+
+-- a storage that failed after calls that went well failed in the longer run
+pub StorageRose_later : (a b c : ℕ) (x y z : Option (Calls ℕ)) → a ≤ b → b ≤ c → AllWell (λ (call : ℕ). call) x y → StorageRose b c y z → StorageRose a c x z
+StorageRose_later a b c x y z le le' well rose = (HasRisen_later a b c le le' rose.0, StorageMet-more x y z well rose.1)
+
+-- a link that failed after calls that went well failed in the longer run
+pub LinkRose_later : (a b c : ℕ) (x y z : Option (Calls (ℕ × LinkFault))) (last : Option LinkFault) → a ≤ b → b ≤ c →
+    AllWell (λ (call : ℕ × LinkFault). call.0) x y → LinkRose b c y z last → LinkRose a c x z last
+LinkRose_later a b c x y z last le le' well rose = (HasRisen_later a b c le le' rose.0, LinkMet-more x y z last well rose.1)
 
 -- the next bytes of a text were sent after the first
 pub SendsFront-more : (text : List ℕ) (m n : ℕ) (a b c : Option (List ℕ)) →

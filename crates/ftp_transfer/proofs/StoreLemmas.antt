@@ -1,6 +1,6 @@
 -- A file that grows piece by piece.
 use Rattle.std.proofs.Common.{◌≡◌, inl, inr, ℕ, ◌+◌, ◌<◌, ◌≤◌, List, [], ◌++◌, length, length-drop, take, drop, Option, Some, None, refl, sym, ap, ◌∙◌, append_assoc, arith}
-use Rattle.std.specs.Prelude.{IsSome, IfSome, IsSomeAnd, Result, Ok, Err, IfOk, MatchResult, unwrap_or}
+use Rattle.std.specs.Prelude.{IsSome, IfSome, IsSomeAnd, MatchOption, Result, Ok, Err, IfOk, MatchResult, unwrap_or}
 use Rattle.std.specs.Option.{option_map, option_and_then}
 use Rattle.std.proofs.lemmas.List.{drop-drop, append-nil, length-append}
 use Rattle.std.proofs.lemmas.Option.{IfSome_then}
@@ -161,6 +161,20 @@ pub RefusedLast_later : (rose rose' : Type 0) (meaning : Meaning) (user path : L
     (rose → rose') → RefusedLast rose meaning user path rest later r → RefusedLast rose' meaning user path rest later r
 RefusedLast_later rose rose' meaning user path rest later r rises last piece left k some is stays refused =
     EndsRefused_later rose rose' k r rises (last piece left k some is stays refused)
+
+-- a piece that is refused of what was left is refused of the rest of all
+pub RefusesAppend-told : (meaning : Meaning) (user path : List ℕ) (l rest later : Option (List ℕ)) (m : ℕ) (k : ErrorKind) →
+    IfSome l (λ l. TakesFront l rest m) → RefusesAppend meaning user path rest later k → RefusesAppend meaning user path (option_map (drop m) l) later k
+RefusesAppend-told meaning user path None rest later m k taken (piece, some, short, front, refused) = (piece, some, short, tt, refused)
+RefusesAppend-told meaning user path (Some l) rest later m k taken refused = rw taken.1 at refused
+
+-- what an APPE refuses where it begins
+pub RefusesAppe-at : (told : Option Files) (rule : Rule) (user path : List ℕ) (n : ℕ) (none : Files → Type 0) (P : Files → ℕ → Type 0) →
+    ((f : Files) → told ≡ Some f → append_place (rule f (Metadata user path)) (length (old_bytes f path)) ≡ Some n) →
+    IfSome told (λ f. P f n) →
+    IfSome told (λ f. MatchOption (append_place (rule f (Metadata user path)) (length (old_bytes f path))) (none f) (P f))
+RefusesAppe-at None rule user path n none P place h = tt
+RefusesAppe-at (Some f) rule user path n none P place h = rw (place f refl) h
 
 -- where no byte moved, the rest is all
 pub drop-nothing : (o : Option (List ℕ)) → o ≡ option_map (drop 0) o

@@ -5,6 +5,9 @@ use Rattle.ftp_base.specs.declared.command.DataChanCmd.{DataChanCmd}
 use Rattle.ftp_base.specs.declared.command.DataChanCmd.TheVariants as command
 use Rattle.ftp_base.specs.declared.error_kind.ErrorKind.{ErrorKind}
 use Rattle.ftp_base.specs.declared.error_kind.ErrorKind.TheVariants as kind
+use Rattle.ftp_base.specs.declared.fault.LinkFault.{LinkFault}
+use Rattle.ftp_base.specs.Calls.{Calls, AllWell}
+use Rattle.ftp_base.specs.Memory as memory
 use Rattle.ftp_base.specs.Outside.{HasRisen, Writes, Sending}
 use Rattle.ftp_base.specs.Storage.{Files, Meaning, Rule, meaning_of, Listing, ReadAt, Begin, get, old_bytes, listing}
 use Rattle.ftp_transfer.specs.declared.job.Job.{Job}
@@ -12,21 +15,42 @@ use Rattle.ftp_transfer.specs.declared.job.Outcome.{Outcome}
 use Rattle.ftp_transfer.specs.declared.job.Completion.{Completion}
 use Rattle.ftp_transfer.specs.declared.job.Completion.TheVariants as result
 use Rattle.ftp_transfer.specs.Listing.{listing_text}
-use Rattle.ftp_transfer.specs.Run.{link_failure, Caused, RefusedFirst, RefusedLast, Stores, RefusesStore, Appends, RefusesAppe, TakesStore, TakesAppe, append_refusal}
+use Rattle.ftp_transfer.specs.Run.{StorageRose, LinkRose, link_failure, Caused, RefusedFirst, RefusedLast, Stores, RefusesStore, Appends, RefusesAppe, TakesStore, TakesAppe, append_refusal}
 use Rattle.ftp_transfer.specs.Transfer.{is_store}
 
--- what a storage and a link tell, and their counts of faults
+-- what a storage and a link tell, and their calls
 pub record Told : Type 0 where
   pub files : Option Files
   pub rule : Rule
   pub storage_faults : ℕ
+  pub storage_calls : Option (Calls ℕ)
   pub left : Option (List ℕ)
   pub sending : Sending
   pub link_faults : ℕ
+  pub link_calls : Option (Calls (ℕ × LinkFault))
 
-abbrev pub told : Option Files → Rule → ℕ → Option (List ℕ) → Sending → ℕ → Told
-told files rule storage_faults left sending link_faults =
-    record { files = files; rule = rule; storage_faults = storage_faults; left = left; sending = sending; link_faults = link_faults }
+abbrev pub told :
+    Option Files → Rule → ℕ → Option (Calls ℕ) →
+    Option (List ℕ) → Sending → ℕ → Option (Calls (ℕ × LinkFault)) → Told
+told files rule storage_faults storage_calls left sending link_faults link_calls =
+    record {
+      files = files;
+      rule = rule;
+      storage_faults = storage_faults;
+      storage_calls = storage_calls;
+      left = left;
+      sending = sending;
+      link_faults = link_faults;
+      link_calls = link_calls;
+    }
+
+-- what failed of the storage from one to the other
+abbrev pub StorageFailed : Told → Told → Type 0
+StorageFailed old new = StorageRose old.storage_faults new.storage_faults old.storage_calls new.storage_calls
+
+-- what failed of the link from one to the other
+abbrev pub LinkFailedAt : Told → Told → Type 0
+LinkFailedAt old new = LinkRose old.link_faults new.link_faults old.link_calls new.link_calls new.sending.last_fault
 
 -- what a command sends whole: a RETR the file from the offset on, a listing its text, and a STOR and an APPE nothing
 abbrev pub due_of : DataChanCmd → Files → List ℕ → ℕ → List ℕ
@@ -95,19 +119,23 @@ pub record Moves (job : Job) (old new : Told) (outcome : Outcome) : Type 0 where
   pub written : outcome.result ≡ result.Written → IfSome old.left (λ l. (outcome.bytes ≡ length l) × (new.left ≡ Some []))
   -- why it ended
   pub cause : Caused (link_failure job.command)
-      (HasRisen old.link_faults new.link_faults) old.sending.last_fault new.sending.last_fault
-      (HasRisen old.storage_faults new.storage_faults)
+      (LinkFailedAt old new) old.sending.last_fault new.sending.last_fault
+      (StorageFailed old new)
       (λ k. IfSome old.files (λ f. Refuses job.command job old.rule f new.files old.left new.left outcome.bytes k))
       outcome.bytes outcome.result outcome.fault
   -- a refusal of the first call is the result, and then nothing is stored
   pub refused : IfSome old.files (λ f. IfSome (first_refusal job.command job f (old.rule f)) (λ k.
-      RefusedFirst (HasRisen old.storage_faults new.storage_faults) k outcome.bytes outcome.result × (new.files ≡ Some f)))
+      RefusedFirst (StorageFailed old new) k outcome.bytes outcome.result × (new.files ≡ Some f)))
   -- a file was sent to its end only where no read there is refused
   pub unrefused : outcome.result ≡ result.Sent → IfSome old.files (λ f. old.rule f (ReadAt job.user job.path (job.offset + outcome.bytes)) ≡ None)
   -- a refusal of the piece that a store took last is the result
   pub refused_last : is_store job.command ≡ true → IsSome old.files →
-      RefusedLast (HasRisen old.storage_faults new.storage_faults) (meaning_of old.rule new.files) job.user job.path
+      RefusedLast (StorageFailed old new) (meaning_of old.rule new.files) job.user job.path
       (option_map (drop outcome.bytes) old.left) new.left outcome.result
+  -- without a fault no call of the link was one of those that fail
+  pub link_well : outcome.fault ≡ None → AllWell (λ (call : ℕ × LinkFault). call.0) old.link_calls new.link_calls
+  -- without a local error no call of the storage was one of those that fail
+  pub storage_well : (outcome.result ≡ result.Refused kind.LocalError → ⊥) → AllWell (λ (call : ℕ). call) old.storage_calls new.storage_calls
 
 -- a run of a job: bytes moved, and then the link was closed or its close failed; what that close met changes nothing
 pub record Ran (job : Job) (old new : Told) (outcome : Outcome) : Type 0 where
@@ -115,8 +143,13 @@ pub record Ran (job : Job) (old new : Told) (outcome : Outcome) : Type 0 where
   pub faults : ℕ
   pub not_before : old.link_faults ≤ faults
   pub not_after : faults ≤ new.link_faults
-  pub moves : Moves job old (record new { link_faults = faults }) outcome
-  pub closed : (new.sending.closed ≡ true) ⊎ HasRisen faults new.link_faults
+  -- which calls the link had made before its close, where it tells them
+  pub calls : Option (Calls (ℕ × LinkFault))
+  pub moves : Moves job old (record new { link_faults = faults; link_calls = calls }) outcome
+  -- the link is closed, or its close failed and it is as open as before
+  pub closed :
+      ((new.sending.closed ≡ true) × AllWell (λ (call : ℕ × LinkFault). call.0) calls new.link_calls)
+      ⊎ ((new.sending.closed ≡ old.sending.closed) × HasRisen faults new.link_faults × memory.LinkFailed calls new.link_calls)
 
 -- the rule refuses none of the calls that a whole transfer of the job makes: the reads at the places that it reaches; to
 -- begin, and the appends of what the link gives, before them the metadata of an APPE; the listing

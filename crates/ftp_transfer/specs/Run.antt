@@ -7,7 +7,9 @@ use Rattle.ftp_base.specs.declared.command.DataChanCmd.{DataChanCmd}
 use Rattle.ftp_base.specs.declared.error_kind.ErrorKind.{ErrorKind}
 use Rattle.ftp_base.specs.declared.error_kind.ErrorKind.TheVariants as kind
 use Rattle.ftp_base.specs.declared.fault.LinkFault.{LinkFault}
-use Rattle.ftp_base.specs.Outside.{Writes}
+use Rattle.ftp_base.specs.Calls.{Calls}
+use Rattle.ftp_base.specs.Memory.{LinkMet, StorageMet}
+use Rattle.ftp_base.specs.Outside.{HasRisen, Writes}
 use Rattle.ftp_base.specs.Storage.{Files, Meaning, Rule, meaning_of, Metadata, Begin, Append, contents, with_file, old_bytes, put}
 use Rattle.ftp_transfer.specs.declared.job.Outcome.{Outcome}
 use Rattle.ftp_transfer.specs.declared.job.Completion.{Completion}
@@ -17,6 +19,14 @@ use Rattle.ftp_transfer.specs.Transfer.{is_listing}
 -- the first n bytes of a text were sent
 abbrev pub SendsFront : List ℕ → ℕ → Option (List ℕ) → Option (List ℕ) → Type 0
 SendsFront text n old new = (n ≤ length text) × Writes old new (take n text)
+
+-- a storage failed: its count of faults rose, and the last call is one of those that fail
+abbrev pub StorageRose : ℕ → ℕ → Option (Calls ℕ) → Option (Calls ℕ) → Type 0
+StorageRose faults later old new = HasRisen faults later × StorageMet old new
+
+-- a link failed: its count of faults rose, and its last fault is one that the list names for the last call
+abbrev pub LinkRose : ℕ → ℕ → Option (Calls (ℕ × LinkFault)) → Option (Calls (ℕ × LinkFault)) → Option LinkFault → Type 0
+LinkRose faults later old new last = HasRisen faults later × LinkMet old new last
 
 -- a run ended with a refusal: the storage failed, the byte count stands at its end, or the storage refuses so
 abbrev pub RefusedBy : Type 0 → (ErrorKind → Type 0) → ℕ → ErrorKind → Type 0

@@ -1,12 +1,13 @@
 //! LIST, NLST and MLSD: the children of a directory go to the link, a line each.
 
-ghost use Rattle.std.specs.Prelude.{◌≡◌, ◌≤◌, true, length, Some, IsSome, IfSome};
-ghost use Rattle.ftp_base.specs.Outside.{HasRisen};
+ghost use Rattle.std.specs.Prelude.{◌≡◌, ◌≤◌, true, length, Some, None, IsSome, IfSome};
+ghost use Rattle.ftp_base.specs.declared.error_kind.ErrorKind.TheVariants as kind;
+ghost use Rattle.ftp_base.specs.Calls.{AllWell};
 ghost use Rattle.ftp_base.specs.Storage.{Listing, meaning_of, listing};
 ghost use Rattle.ftp_transfer.specs.declared.job.Completion.TheVariants as done;
 ghost use Rattle.ftp_transfer.specs.Listing.{listing_text as text_of};
 ghost use Rattle.ftp_transfer.specs.Ran.{RefusesListing, shown_refusal};
-ghost use Rattle.ftp_transfer.specs.Run.{SendsFront, Caused, RefusedFirst};
+ghost use Rattle.ftp_transfer.specs.Run.{LinkRose, StorageRose, SendsFront, Caused, RefusedFirst};
 ghost use Rattle.ftp_transfer.specs.Transfer.{is_listing, suits};
 ghost use Rattle.ftp_transfer.specs.Turn.{StopsListing, listing_end};
 
@@ -28,17 +29,19 @@ pub fn list<S: Storage, L: Link>(alloc: Global, job: &Job, storage: &mut S, link
 
     ensures suits { suits result.result job.now.command ≡ true }
     ensures cause { Caused done.WriteFailed
-        (HasRisen (L.faults link.old) (L.faults link.new)) (L.sending link.old).last_fault (L.sending link.new).last_fault
-        (HasRisen (S.faults storage.old) (S.faults storage.new))
+        (LinkRose (L.faults link.old) (L.faults link.new) (L.calls link.old) (L.calls link.new) (L.sending link.new).last_fault) (L.sending link.old).last_fault (L.sending link.new).last_fault
+        (StorageRose (S.faults storage.old) (S.faults storage.new) (S.calls storage.old) (S.calls storage.new))
         (λ k. IsSome (S.files storage.old) → RefusesListing job.now.command (meaning_of (S.rule storage.old) (S.files storage.old)) job.now.user job.now.path k)
         result.bytes result.result result.fault }
     ensures refused { IsSome (S.files storage.old) → IfSome (meaning_of (S.rule storage.old) (S.files storage.old) (Listing job.now.user job.now.path))
-        (λ k. RefusedFirst (HasRisen (S.faults storage.old) (S.faults storage.new)) (shown_refusal job.now.command k) result.bytes result.result) }
+        (λ k. RefusedFirst (StorageRose (S.faults storage.old) (S.faults storage.new) (S.calls storage.old) (S.calls storage.new)) (shown_refusal job.now.command k) result.bytes result.result) }
 
     ensures files { S.files storage.new ≡ S.files storage.old }
     ensures rule { S.rule storage.new ≡ S.rule storage.old }
     ensures left { L.left link.new ≡ L.left link.old }
     ensures closed { (L.sending link.new).closed ≡ (L.sending link.old).closed }
+    ensures storage_well { (result.result ≡ done.Refused kind.LocalError → ⊥) → AllWell (λ call. call) (S.calls storage.old) (S.calls storage.new) }
+    ensures link_well { result.fault ≡ None → AllWell (λ call. call.0) (L.calls link.old) (L.calls link.new) }
     ensures storage_count { S.faults storage.old ≤ S.faults storage.new }
     ensures storage_limit { S.fault_limit storage.new ≤ S.fault_limit storage.old }
     ensures link_count { L.faults link.old ≤ L.faults link.new }
@@ -62,10 +65,11 @@ fn send_children<L: Link>(
     ensures sent { SendsFront (text_of command.now children.now) result.bytes (L.sending link.old).sent (L.sending link.new).sent }
     ensures whole { result.result ≡ done.Listed → result.bytes ≡ length (text_of command.now children.now) }
     ensures end { StopsListing
-        (HasRisen (L.faults link.old) (L.faults link.new)) (L.sending link.old).last_fault (L.sending link.new).last_fault
+        (LinkRose (L.faults link.old) (L.faults link.new) (L.calls link.old) (L.calls link.new) (L.sending link.new).last_fault) (L.sending link.old).last_fault (L.sending link.new).last_fault
         result.result result.fault }
     ensures left { L.left link.new ≡ L.left link.old }
     ensures closed { (L.sending link.new).closed ≡ (L.sending link.old).closed }
+    ensures link_well { result.fault ≡ None → AllWell (λ call. call.0) (L.calls link.old) (L.calls link.new) }
     ensures link_count { L.faults link.old ≤ L.faults link.new }
     ensures link_limit { L.fault_limit link.new ≤ L.fault_limit link.old }
 {
@@ -80,10 +84,11 @@ fn send_text<L: Link>(text: &[u8], link: &mut L) -> Outcome
     ensures sent { SendsFront text.now result.bytes (L.sending link.old).sent (L.sending link.new).sent }
     ensures whole { result.result ≡ done.Listed → result.bytes ≡ length text.now }
     ensures end { StopsListing
-        (HasRisen (L.faults link.old) (L.faults link.new)) (L.sending link.old).last_fault (L.sending link.new).last_fault
+        (LinkRose (L.faults link.old) (L.faults link.new) (L.calls link.old) (L.calls link.new) (L.sending link.new).last_fault) (L.sending link.old).last_fault (L.sending link.new).last_fault
         result.result result.fault }
     ensures left { L.left link.new ≡ L.left link.old }
     ensures closed { (L.sending link.new).closed ≡ (L.sending link.old).closed }
+    ensures link_well { result.fault ≡ None → AllWell (λ call. call.0) (L.calls link.old) (L.calls link.new) }
     ensures link_count { L.faults link.old ≤ L.faults link.new }
     ensures link_limit { L.fault_limit link.new ≤ L.fault_limit link.old }
 {

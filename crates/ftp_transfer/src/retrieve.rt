@@ -2,11 +2,11 @@
 
 ghost use Rattle.std.specs.Prelude.{◌≡◌, ◌+◌, ◌-◌, ◌^◌, ◌<◌, ◌≤◌, true, false, [], length, Some, None, IsSome, IsNone, IfSome};
 ghost use Rattle.ftp_base.specs.declared.error_kind.ErrorKind.TheVariants as kind;
-ghost use Rattle.ftp_base.specs.Outside.{HasRisen};
+ghost use Rattle.ftp_base.specs.Calls.{AllWell};
 ghost use Rattle.ftp_base.specs.Storage.{ReadAt, meaning_of, get, old_bytes};
 ghost use Rattle.ftp_transfer.specs.declared.job.Completion.TheVariants as done;
 ghost use Rattle.ftp_transfer.specs.Turn.{StopsSending};
-ghost use Rattle.ftp_transfer.specs.Run.{SendsFront, Caused, RefusedFirst};
+ghost use Rattle.ftp_transfer.specs.Run.{LinkRose, StorageRose, SendsFront, Caused, RefusedFirst};
 ghost use Rattle.ftp_transfer.specs.Transfer.{is_retrieve, suits};
 
 use crate::job::{Completion, Job, Outcome};
@@ -25,13 +25,13 @@ pub fn retrieve<S: Storage, L: Link>(job: &Job, storage: &mut S, link: &mut L) -
 
     ensures suits { suits result.result job.now.command ≡ true }
     ensures cause { Caused (done.Refused kind.ConnectionClosed)
-        (HasRisen (L.faults link.old) (L.faults link.new)) (L.sending link.old).last_fault (L.sending link.new).last_fault
-        (HasRisen (S.faults storage.old) (S.faults storage.new))
+        (LinkRose (L.faults link.old) (L.faults link.new) (L.calls link.old) (L.calls link.new) (L.sending link.new).last_fault) (L.sending link.old).last_fault (L.sending link.new).last_fault
+        (StorageRose (S.faults storage.old) (S.faults storage.new) (S.calls storage.old) (S.calls storage.new))
         (λ k. IsSome (S.files storage.old) →
         meaning_of (S.rule storage.old) (S.files storage.old) (ReadAt job.now.user job.now.path (job.now.offset + result.bytes)) ≡ Some k)
         result.bytes result.result result.fault }
     ensures refused { IsSome (S.files storage.old) → IfSome (meaning_of (S.rule storage.old) (S.files storage.old) (ReadAt job.now.user job.now.path job.now.offset))
-        (λ k. RefusedFirst (HasRisen (S.faults storage.old) (S.faults storage.new)) k result.bytes result.result) }
+        (λ k. RefusedFirst (StorageRose (S.faults storage.old) (S.faults storage.new) (S.calls storage.old) (S.calls storage.new)) k result.bytes result.result) }
     ensures unrefused { result.result ≡ done.Sent → IsSome (S.files storage.old) →
         meaning_of (S.rule storage.old) (S.files storage.old) (ReadAt job.now.user job.now.path (job.now.offset + result.bytes)) ≡ None }
     ensures no_memory { S.reads_take_memory ≡ false → L.takes_memory ≡ false → result.result ≡ done.OutOfMemory → ⊥ }
@@ -40,6 +40,8 @@ pub fn retrieve<S: Storage, L: Link>(job: &Job, storage: &mut S, link: &mut L) -
     ensures rule { S.rule storage.new ≡ S.rule storage.old }
     ensures left { L.left link.new ≡ L.left link.old }
     ensures closed { (L.sending link.new).closed ≡ (L.sending link.old).closed }
+    ensures storage_well { (result.result ≡ done.Refused kind.LocalError → ⊥) → AllWell (λ call. call) (S.calls storage.old) (S.calls storage.new) }
+    ensures link_well { result.fault ≡ None → AllWell (λ call. call.0) (L.calls link.old) (L.calls link.new) }
     ensures storage_count { S.faults storage.old ≤ S.faults storage.new }
     ensures storage_limit { S.fault_limit storage.new ≤ S.fault_limit storage.old }
     ensures link_count { L.faults link.old ≤ L.faults link.new }
@@ -78,8 +80,8 @@ pub fn send_piece<S: Storage, L: Link>(
 
     ensures suits { IfSome result.end (λ e. suits e.result job.now.command ≡ true) }
     ensures cause { IfSome result.end (λ e. Caused (done.Refused kind.ConnectionClosed)
-        (HasRisen (L.faults link.old) (L.faults link.new)) (L.sending link.old).last_fault (L.sending link.new).last_fault
-        (HasRisen (S.faults storage.old) (S.faults storage.new))
+        (LinkRose (L.faults link.old) (L.faults link.new) (L.calls link.old) (L.calls link.new) (L.sending link.new).last_fault) (L.sending link.old).last_fault (L.sending link.new).last_fault
+        (StorageRose (S.faults storage.old) (S.faults storage.new) (S.calls storage.old) (S.calls storage.new))
         (λ k. IsSome (S.files storage.old) →
         meaning_of (S.rule storage.old) (S.files storage.old) (ReadAt job.now.user job.now.path (job.now.offset + moved + result.bytes)) ≡ Some k)
         (moved + result.bytes) e.result e.fault) }
@@ -87,7 +89,7 @@ pub fn send_piece<S: Storage, L: Link>(
     ensures goes_on { IsSome (S.files storage.old) → IsNone result.end → meaning_of (S.rule storage.old) (S.files storage.old) (ReadAt job.now.user job.now.path (job.now.offset + moved)) ≡ None }
     ensures refused { IsSome (S.files storage.old) → moved < 2 ^ 64 - 1 →
         IfSome (meaning_of (S.rule storage.old) (S.files storage.old) (ReadAt job.now.user job.now.path (job.now.offset + moved)))
-        (λ k. IfSome result.end (λ e. RefusedFirst (HasRisen (S.faults storage.old) (S.faults storage.new)) k result.bytes e.result)) }
+        (λ k. IfSome result.end (λ e. RefusedFirst (StorageRose (S.faults storage.old) (S.faults storage.new) (S.calls storage.old) (S.calls storage.new)) k result.bytes e.result)) }
     ensures unrefused { IfSome result.end (λ e. e.result ≡ done.Sent → IsSome (S.files storage.old) →
         meaning_of (S.rule storage.old) (S.files storage.old) (ReadAt job.now.user job.now.path (job.now.offset + moved)) ≡ None) }
     ensures no_memory { S.reads_take_memory ≡ false → L.takes_memory ≡ false → IfSome result.end (λ e. e.result ≡ done.OutOfMemory → ⊥) }
@@ -96,6 +98,10 @@ pub fn send_piece<S: Storage, L: Link>(
     ensures rule { S.rule storage.new ≡ S.rule storage.old }
     ensures left { L.left link.new ≡ L.left link.old }
     ensures closed { (L.sending link.new).closed ≡ (L.sending link.old).closed }
+    ensures storage_well { IsNone result.end → AllWell (λ call. call) (S.calls storage.old) (S.calls storage.new) }
+    ensures storage_held { IfSome result.end (λ e. (e.result ≡ done.Refused kind.LocalError → ⊥) → AllWell (λ call. call) (S.calls storage.old) (S.calls storage.new)) }
+    ensures link_well { IsNone result.end → AllWell (λ call. call.0) (L.calls link.old) (L.calls link.new) }
+    ensures link_held { IfSome result.end (λ e. e.fault ≡ None → AllWell (λ call. call.0) (L.calls link.old) (L.calls link.new)) }
     ensures storage_count { S.faults storage.old ≤ S.faults storage.new }
     ensures storage_limit { S.fault_limit storage.new ≤ S.fault_limit storage.old }
     ensures link_count { L.faults link.old ≤ L.faults link.new }
@@ -125,11 +131,13 @@ fn send_read<L: Link>(link: &mut L, bytes: &[u8]) -> Turn
     ensures sent { SendsFront bytes.now result.bytes (L.sending link.old).sent (L.sending link.new).sent }
     ensures last_fault { IsNone result.end → (L.sending link.new).last_fault ≡ (L.sending link.old).last_fault }
     ensures end { IfSome result.end (λ e. StopsSending
-        (HasRisen (L.faults link.old) (L.faults link.new)) (L.sending link.old).last_fault (L.sending link.new).last_fault
+        (LinkRose (L.faults link.old) (L.faults link.new) (L.calls link.old) (L.calls link.new) (L.sending link.new).last_fault) (L.sending link.old).last_fault (L.sending link.new).last_fault
         e.result e.fault) }
     ensures no_memory { L.takes_memory ≡ false → IfSome result.end (λ e. e.result ≡ done.OutOfMemory → ⊥) }
     ensures left { L.left link.new ≡ L.left link.old }
     ensures closed { (L.sending link.new).closed ≡ (L.sending link.old).closed }
+    ensures link_well { IsNone result.end → AllWell (λ call. call.0) (L.calls link.old) (L.calls link.new) }
+    ensures link_held { IfSome result.end (λ e. e.fault ≡ None → AllWell (λ call. call.0) (L.calls link.old) (L.calls link.new)) }
     ensures link_count { L.faults link.old ≤ L.faults link.new }
     ensures link_limit { L.fault_limit link.new ≤ L.fault_limit link.old }
 {

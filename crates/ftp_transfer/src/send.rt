@@ -2,7 +2,9 @@
 
 ghost use Rattle.std.specs.Prelude.{◌≡◌, ◌≢◌, ◌≤◌, false, length, take, Some, None, IsSome};
 ghost use Rattle.ftp_base.specs.declared.fault.Failed.TheVariants.{Fault, Memory};
-ghost use Rattle.ftp_base.specs.Outside.{HasRisen, Writes};
+ghost use Rattle.ftp_base.specs.Calls.{AllWell};
+ghost use Rattle.ftp_base.specs.Outside.{Writes};
+ghost use Rattle.ftp_transfer.specs.Run.{LinkRose};
 
 use ftp_base::{Failed, Link};
 
@@ -22,7 +24,8 @@ pub fn send<L: Link>(link: &mut L, bytes: &[u8]) -> SendResult
     ensures closed { (L.sending link.new).closed ≡ (L.sending link.old).closed }
     ensures last_fault { result.stopped ≢ Some Fault → (L.sending link.new).last_fault ≡ (L.sending link.old).last_fault }
     ensures met { result.stopped ≡ Some Fault → IsSome (L.sending link.new).last_fault }
-    ensures fault_rose { result.stopped ≡ Some Fault → HasRisen (L.faults link.old) (L.faults link.new) }
+    ensures fault_rose { result.stopped ≡ Some Fault → LinkRose (L.faults link.old) (L.faults link.new) (L.calls link.old) (L.calls link.new) (L.sending link.new).last_fault }
+    ensures link_well { result.stopped ≢ Some Fault → AllWell (λ call. call.0) (L.calls link.old) (L.calls link.new) }
     ensures no_memory { L.takes_memory ≡ false → result.stopped ≡ Some Memory → ⊥ }
     ensures count { L.faults link.old ≤ L.faults link.new }
     ensures limit { L.fault_limit link.new ≤ L.fault_limit link.old }

@@ -3,10 +3,10 @@
 ghost use Rattle.std.specs.Prelude.{◌≡◌, ◌≢◌, ◌+◌, ◌-◌, ◌^◌, ◌<◌, ◌≤◌, true, [], length, drop, Some, None, IsSome, IsNone, IfSome};
 ghost use Rattle.std.specs.Option.{option_map};
 ghost use Rattle.ftp_base.specs.declared.error_kind.ErrorKind.TheVariants as kind;
-ghost use Rattle.ftp_base.specs.Outside.{HasRisen};
+ghost use Rattle.ftp_base.specs.Calls.{AllWell};
 ghost use Rattle.ftp_base.specs.Storage.{Begin, Append, meaning_of, Grows, old_bytes};
 ghost use Rattle.ftp_transfer.specs.declared.job.Completion.TheVariants as done;
-ghost use Rattle.ftp_transfer.specs.Run.{Caused, EndsRefused, RefusedFirst, RefusedLast, GrowsFront, RefusesAppend, TakesFront, Stores, RefusesStore, Appends, RefusesAppe, append_refusal};
+ghost use Rattle.ftp_transfer.specs.Run.{LinkRose, StorageRose, Caused, EndsRefused, RefusedFirst, RefusedLast, GrowsFront, RefusesAppend, TakesFront, Stores, RefusesStore, Appends, RefusesAppe, append_refusal};
 ghost use Rattle.ftp_transfer.specs.Transfer.{is_store, suits};
 ghost use Rattle.ftp_transfer.specs.Turn.{StopsStoring, start_after};
 
@@ -26,20 +26,22 @@ pub fn store<S: Storage, L: Link>(job: &Job, start: u64, storage: &mut S, link: 
 
     ensures suits { suits result.result job.now.command ≡ true }
     ensures cause { Caused (done.Refused kind.ConnectionClosed)
-        (HasRisen (L.faults link.old) (L.faults link.new)) (L.sending link.old).last_fault (L.sending link.new).last_fault
-        (HasRisen (S.faults storage.old) (S.faults storage.new))
+        (LinkRose (L.faults link.old) (L.faults link.new) (L.calls link.old) (L.calls link.new) (L.sending link.new).last_fault) (L.sending link.old).last_fault (L.sending link.new).last_fault
+        (StorageRose (S.faults storage.old) (S.faults storage.new) (S.calls storage.old) (S.calls storage.new))
         (λ k. IfSome (S.files storage.old) (λ f. RefusesStore (S.rule storage.old) job.now.user f (S.files storage.new) job.now.path start
         (L.left link.old) (L.left link.new) result.bytes k))
         result.bytes result.result result.fault }
     ensures refused { IfSome (S.files storage.old) (λ f. IfSome (S.rule storage.old f (Begin job.now.user job.now.path start))
-        (λ k. RefusedFirst (HasRisen (S.faults storage.old) (S.faults storage.new)) k result.bytes result.result × (S.files storage.new ≡ Some f))) }
+        (λ k. RefusedFirst (StorageRose (S.faults storage.old) (S.faults storage.new) (S.calls storage.old) (S.calls storage.new)) k result.bytes result.result × (S.files storage.new ≡ Some f))) }
     ensures refused_last { IsSome (S.files storage.old) →
-        RefusedLast (HasRisen (S.faults storage.old) (S.faults storage.new)) (meaning_of (S.rule storage.old) (S.files storage.new)) job.now.user job.now.path
+        RefusedLast (StorageRose (S.faults storage.old) (S.faults storage.new) (S.calls storage.old) (S.calls storage.new)) (meaning_of (S.rule storage.old) (S.files storage.new)) job.now.user job.now.path
         (option_map (drop result.bytes) (L.left link.old)) (L.left link.new) result.result }
 
     ensures rule { S.rule storage.new ≡ S.rule storage.old }
     ensures sent { (L.sending link.new).sent ≡ (L.sending link.old).sent }
     ensures closed { (L.sending link.new).closed ≡ (L.sending link.old).closed }
+    ensures storage_well { (result.result ≡ done.Refused kind.LocalError → ⊥) → AllWell (λ call. call) (S.calls storage.old) (S.calls storage.new) }
+    ensures link_well { result.fault ≡ None → AllWell (λ call. call.0) (L.calls link.old) (L.calls link.new) }
     ensures storage_count { S.faults storage.old ≤ S.faults storage.new }
     ensures storage_limit { S.fault_limit storage.new ≤ S.fault_limit storage.old }
     ensures link_count { L.faults link.old ≤ L.faults link.new }
@@ -63,20 +65,22 @@ pub fn append<S: Storage, L: Link>(job: &Job, storage: &mut S, link: &mut L) -> 
 
     ensures suits { suits result.result job.now.command ≡ true }
     ensures cause { Caused (done.Refused kind.ConnectionClosed)
-        (HasRisen (L.faults link.old) (L.faults link.new)) (L.sending link.old).last_fault (L.sending link.new).last_fault
-        (HasRisen (S.faults storage.old) (S.faults storage.new))
+        (LinkRose (L.faults link.old) (L.faults link.new) (L.calls link.old) (L.calls link.new) (L.sending link.new).last_fault) (L.sending link.old).last_fault (L.sending link.new).last_fault
+        (StorageRose (S.faults storage.old) (S.faults storage.new) (S.calls storage.old) (S.calls storage.new))
         (λ k. IfSome (S.files storage.old) (λ f. RefusesAppe (S.rule storage.old) job.now.user f (S.files storage.new) job.now.path
         (L.left link.old) (L.left link.new) result.bytes k))
         result.bytes result.result result.fault }
     ensures refused { IfSome (S.files storage.old) (λ f. IfSome (append_refusal (S.rule storage.old f) job.now.user job.now.path (length (old_bytes f job.now.path)))
-        (λ k. RefusedFirst (HasRisen (S.faults storage.old) (S.faults storage.new)) k result.bytes result.result × (S.files storage.new ≡ Some f))) }
+        (λ k. RefusedFirst (StorageRose (S.faults storage.old) (S.faults storage.new) (S.calls storage.old) (S.calls storage.new)) k result.bytes result.result × (S.files storage.new ≡ Some f))) }
     ensures refused_last { IsSome (S.files storage.old) →
-        RefusedLast (HasRisen (S.faults storage.old) (S.faults storage.new)) (meaning_of (S.rule storage.old) (S.files storage.new)) job.now.user job.now.path
+        RefusedLast (StorageRose (S.faults storage.old) (S.faults storage.new) (S.calls storage.old) (S.calls storage.new)) (meaning_of (S.rule storage.old) (S.files storage.new)) job.now.user job.now.path
         (option_map (drop result.bytes) (L.left link.old)) (L.left link.new) result.result }
 
     ensures rule { S.rule storage.new ≡ S.rule storage.old }
     ensures sent { (L.sending link.new).sent ≡ (L.sending link.old).sent }
     ensures closed { (L.sending link.new).closed ≡ (L.sending link.old).closed }
+    ensures storage_well { (result.result ≡ done.Refused kind.LocalError → ⊥) → AllWell (λ call. call) (S.calls storage.old) (S.calls storage.new) }
+    ensures link_well { result.fault ≡ None → AllWell (λ call. call.0) (L.calls link.old) (L.calls link.new) }
     ensures storage_count { S.faults storage.old ≤ S.faults storage.new }
     ensures storage_limit { S.fault_limit storage.new ≤ S.fault_limit storage.old }
     ensures link_count { L.faults link.old ≤ L.faults link.new }
@@ -111,18 +115,20 @@ pub fn fill<S: Storage, L: Link>(job: &Job, storage: &mut S, link: &mut L) -> Ou
 
     ensures suits { suits result.result job.now.command ≡ true }
     ensures cause { Caused (done.Refused kind.ConnectionClosed)
-        (HasRisen (L.faults link.old) (L.faults link.new)) (L.sending link.old).last_fault (L.sending link.new).last_fault
-        (HasRisen (S.faults storage.old) (S.faults storage.new))
+        (LinkRose (L.faults link.old) (L.faults link.new) (L.calls link.old) (L.calls link.new) (L.sending link.new).last_fault) (L.sending link.old).last_fault (L.sending link.new).last_fault
+        (StorageRose (S.faults storage.old) (S.faults storage.new) (S.calls storage.old) (S.calls storage.new))
         (λ k. IsSome (S.files storage.old) → RefusesAppend (meaning_of (S.rule storage.old) (S.files storage.new)) job.now.user job.now.path
         (option_map (drop result.bytes) (L.left link.old)) (L.left link.new) k)
         result.bytes result.result result.fault }
     ensures refused_last { IsSome (S.files storage.old) →
-        RefusedLast (HasRisen (S.faults storage.old) (S.faults storage.new)) (meaning_of (S.rule storage.old) (S.files storage.new)) job.now.user job.now.path
+        RefusedLast (StorageRose (S.faults storage.old) (S.faults storage.new) (S.calls storage.old) (S.calls storage.new)) (meaning_of (S.rule storage.old) (S.files storage.new)) job.now.user job.now.path
         (option_map (drop result.bytes) (L.left link.old)) (L.left link.new) result.result }
 
     ensures rule { S.rule storage.new ≡ S.rule storage.old }
     ensures sent { (L.sending link.new).sent ≡ (L.sending link.old).sent }
     ensures closed { (L.sending link.new).closed ≡ (L.sending link.old).closed }
+    ensures storage_well { (result.result ≡ done.Refused kind.LocalError → ⊥) → AllWell (λ call. call) (S.calls storage.old) (S.calls storage.new) }
+    ensures link_well { result.fault ≡ None → AllWell (λ call. call.0) (L.calls link.old) (L.calls link.new) }
     ensures storage_count { S.faults storage.old ≤ S.faults storage.new }
     ensures storage_limit { S.fault_limit storage.new ≤ S.fault_limit storage.old }
     ensures link_count { L.faults link.old ≤ L.faults link.new }
@@ -164,19 +170,23 @@ pub fn store_piece<S: Storage, L: Link>(
 
     ensures suits { IfSome result.end (λ e. suits e.result job.now.command ≡ true) }
     ensures cause { IfSome result.end (λ e. Caused (done.Refused kind.ConnectionClosed)
-        (HasRisen (L.faults link.old) (L.faults link.new)) (L.sending link.old).last_fault (L.sending link.new).last_fault
-        (HasRisen (S.faults storage.old) (S.faults storage.new))
+        (LinkRose (L.faults link.old) (L.faults link.new) (L.calls link.old) (L.calls link.new) (L.sending link.new).last_fault) (L.sending link.old).last_fault (L.sending link.new).last_fault
+        (StorageRose (S.faults storage.old) (S.faults storage.new) (S.calls storage.old) (S.calls storage.new))
         (λ k. IsSome (S.files storage.old) → RefusesAppend (meaning_of (S.rule storage.old) (S.files storage.new)) job.now.user job.now.path
         (L.left link.old) (L.left link.new) k)
         (moved + result.bytes) e.result e.fault) }
     ensures last_fault { IsNone result.end → (L.sending link.new).last_fault ≡ (L.sending link.old).last_fault }
     ensures refused_last { IfSome result.end (λ e. IsSome (S.files storage.old) →
-        RefusedLast (HasRisen (S.faults storage.old) (S.faults storage.new)) (meaning_of (S.rule storage.old) (S.files storage.new)) job.now.user job.now.path
+        RefusedLast (StorageRose (S.faults storage.old) (S.faults storage.new) (S.calls storage.old) (S.calls storage.new)) (meaning_of (S.rule storage.old) (S.files storage.new)) job.now.user job.now.path
         (L.left link.old) (L.left link.new) e.result) }
 
     ensures rule { S.rule storage.new ≡ S.rule storage.old }
     ensures sent { (L.sending link.new).sent ≡ (L.sending link.old).sent }
     ensures closed { (L.sending link.new).closed ≡ (L.sending link.old).closed }
+    ensures storage_well { IsNone result.end → AllWell (λ call. call) (S.calls storage.old) (S.calls storage.new) }
+    ensures storage_held { IfSome result.end (λ e. (e.result ≡ done.Refused kind.LocalError → ⊥) → AllWell (λ call. call) (S.calls storage.old) (S.calls storage.new)) }
+    ensures link_well { IsNone result.end → AllWell (λ call. call.0) (L.calls link.old) (L.calls link.new) }
+    ensures link_held { IfSome result.end (λ e. e.fault ≡ None → AllWell (λ call. call.0) (L.calls link.old) (L.calls link.new)) }
     ensures storage_count { S.faults storage.old ≤ S.faults storage.new }
     ensures storage_limit { S.fault_limit storage.new ≤ S.fault_limit storage.old }
     ensures link_count { L.faults link.old ≤ L.faults link.new }
@@ -208,11 +218,13 @@ fn append_read<S: Storage>(job: &Job, bytes: &[u8], storage: &mut S) -> Turn
     ensures unchanged { IsSome result.end → S.files storage.new ≡ S.files storage.old }
     ensures rule { S.rule storage.new ≡ S.rule storage.old }
     ensures refused { IfSome result.end (λ e. (e.fault ≡ None) ×
-        StopsStoring (HasRisen (S.faults storage.old) (S.faults storage.new))
+        StopsStoring (StorageRose (S.faults storage.old) (S.faults storage.new) (S.calls storage.old) (S.calls storage.new))
         (λ k. IsSome (S.files storage.old) → meaning_of (S.rule storage.old) (S.files storage.old) (Append job.now.user job.now.path bytes.now) ≡ Some k) e.result) }
     ensures refused_last { IfSome result.end (λ e. IsSome (S.files storage.old) →
         IfSome (meaning_of (S.rule storage.old) (S.files storage.old) (Append job.now.user job.now.path bytes.now))
-        (λ k. EndsRefused (HasRisen (S.faults storage.old) (S.faults storage.new)) k e.result)) }
+        (λ k. EndsRefused (StorageRose (S.faults storage.old) (S.faults storage.new) (S.calls storage.old) (S.calls storage.new)) k e.result)) }
+    ensures storage_well { IsNone result.end → AllWell (λ call. call) (S.calls storage.old) (S.calls storage.new) }
+    ensures storage_held { IfSome result.end (λ e. (e.result ≡ done.Refused kind.LocalError → ⊥) → AllWell (λ call. call) (S.calls storage.old) (S.calls storage.new)) }
     ensures storage_count { S.faults storage.old ≤ S.faults storage.new }
     ensures storage_limit { S.fault_limit storage.new ≤ S.fault_limit storage.old }
 {

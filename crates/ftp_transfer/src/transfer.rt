@@ -20,15 +20,19 @@ pub fn execute<S: Storage, L: Link>(
     link: &mut L,
 ) -> Outcome
     ensures ran { Ran job
-        (told (S.files storage.old) (S.rule storage.old) (S.faults storage.old) (L.left link.old) (L.sending link.old) (L.faults link.old))
-        (told (S.files storage.new) (S.rule storage.new) (S.faults storage.new) (L.left link.new) (L.sending link.new) (L.faults link.new))
+        (told (S.files storage.old) (S.rule storage.old) (S.faults storage.old) (S.calls storage.old)
+        (L.left link.old) (L.sending link.old) (L.faults link.old) (L.calls link.old))
+        (told (S.files storage.new) (S.rule storage.new) (S.faults storage.new) (S.calls storage.new)
+        (L.left link.new) (L.sending link.new) (L.faults link.new) (L.calls link.new))
         result }
     ensures suits { suits result.result job.command ≡ true }
 
     // A job of which the storage's rule refuses no call, where nothing fails and memory is found, is done.
     ensures complete { IsClean job
-        (told (S.files storage.old) (S.rule storage.old) (S.faults storage.old) (L.left link.old) (L.sending link.old) (L.faults link.old))
-        (told (S.files storage.new) (S.rule storage.new) (S.faults storage.new) (L.left link.new) (L.sending link.new) (L.faults link.new))
+        (told (S.files storage.old) (S.rule storage.old) (S.faults storage.old) (S.calls storage.old)
+        (L.left link.old) (L.sending link.old) (L.faults link.old) (L.calls link.old))
+        (told (S.files storage.new) (S.rule storage.new) (S.faults storage.new) (S.calls storage.new)
+        (L.left link.new) (L.sending link.new) (L.faults link.new) (L.calls link.new))
         result → IsDone result.result }
     ensures no_memory { is_retrieve job.command ≡ true → S.reads_take_memory ≡ false → L.takes_memory ≡ false → result.result ≡ done.OutOfMemory → ⊥ }
     ensures storage_count { S.faults storage.old ≤ S.faults storage.new }
@@ -44,11 +48,14 @@ pub fn execute<S: Storage, L: Link>(
 /// Moves the bytes of a job.
 fn run<S: Storage, L: Link>(alloc: Global, job: &Job, storage: &mut S, link: &mut L) -> Outcome
     ensures moves { Moves job.now
-        (told (S.files storage.old) (S.rule storage.old) (S.faults storage.old) (L.left link.old) (L.sending link.old) (L.faults link.old))
-        (told (S.files storage.new) (S.rule storage.new) (S.faults storage.new) (L.left link.new) (L.sending link.new) (L.faults link.new))
+        (told (S.files storage.old) (S.rule storage.old) (S.faults storage.old) (S.calls storage.old)
+        (L.left link.old) (L.sending link.old) (L.faults link.old) (L.calls link.old))
+        (told (S.files storage.new) (S.rule storage.new) (S.faults storage.new) (S.calls storage.new)
+        (L.left link.new) (L.sending link.new) (L.faults link.new) (L.calls link.new))
         result }
     ensures suits { suits result.result job.now.command ≡ true }
     ensures no_memory { is_retrieve job.now.command ≡ true → S.reads_take_memory ≡ false → L.takes_memory ≡ false → result.result ≡ done.OutOfMemory → ⊥ }
+    ensures closed { (L.sending link.new).closed ≡ (L.sending link.old).closed }
     ensures storage_count { S.faults storage.old ≤ S.faults storage.new }
     ensures storage_limit { S.fault_limit storage.new ≤ S.fault_limit storage.old }
     ensures link_count { L.faults link.old ≤ L.faults link.new }

@@ -11,7 +11,8 @@ use crate::storage::{FEATURE_RESTART, FileInfo, Meta, Storage, StoreError};
 
 impl Storage for MemoryStorage {
     ghost use Rattle.std.specs.Prelude.{◌≡◌, ◌+◌, ◌^◌, ◌<◌, ◌≤◌, length, Some, IsSomeAnd, false, IfOk, OnOk, OnErr, IsErrOf};
-    ghost use Rattle.ftp_base.specs.Memory.{fault_limit};
+    ghost use Rattle.ftp_base.specs.Calls.{NoneFailed};
+    ghost use Rattle.ftp_base.specs.Memory.{fault_limit, StorageMet};
     ghost use Rattle.ftp_base.specs.MemoryStorage.{Counts, memory_meaning, memory_rule};
     ghost use Rattle.ftp_base.specs.Outside.{HasRisen};
     ghost use Rattle.ftp_base.specs.Storage.{Metadata, Listing, ReadAt, Begin, Append, Answers, item, meta_of, listing, with_file, old_bytes, cut, ReadsFile, Grows};
@@ -25,6 +26,8 @@ impl Storage for MemoryStorage {
     ghost faults = { λ s. s.calls.faults };
 
     ghost fault_limit = { λ s. fault_limit s.calls };
+
+    ghost calls = { λ s. Some s.calls };
 
     ghost reads_take_memory = { false };
 
@@ -41,6 +44,8 @@ impl Storage for MemoryStorage {
         ensures count { self.old.calls.faults ≤ self.new.calls.faults }
         ensures limit { fault_limit self.new.calls ≤ fault_limit self.old.calls }
         ensures counted { Counts self.old self.new result }
+        ensures unlisted { (IsErrOf result StoreError.Failed → ⊥) → NoneFailed (λ call. call) self.old.calls self.new.calls }
+        ensures as_listed { IsErrOf result StoreError.Failed → StorageMet (Some self.old.calls) (Some self.new.calls) }
     {
         let _ = user;
         self.count()?;
@@ -59,6 +64,8 @@ impl Storage for MemoryStorage {
         ensures count { self.old.calls.faults ≤ self.new.calls.faults }
         ensures limit { fault_limit self.new.calls ≤ fault_limit self.old.calls }
         ensures counted { Counts self.old self.new result }
+        ensures unlisted { (IsErrOf result StoreError.Failed → ⊥) → NoneFailed (λ call. call) self.old.calls self.new.calls }
+        ensures as_listed { IsErrOf result StoreError.Failed → StorageMet (Some self.old.calls) (Some self.new.calls) }
     {
         let _ = user;
         self.count()?;
@@ -86,6 +93,8 @@ impl Storage for MemoryStorage {
         ensures count { self.old.calls.faults ≤ self.new.calls.faults }
         ensures limit { fault_limit self.new.calls ≤ fault_limit self.old.calls }
         ensures counted { Counts self.old self.new result }
+        ensures unlisted { (IsErrOf result StoreError.Failed → ⊥) → NoneFailed (λ call. call) self.old.calls self.new.calls }
+        ensures as_listed { IsErrOf result StoreError.Failed → StorageMet (Some self.old.calls) (Some self.new.calls) }
     {
         let _ = user;
         self.count()?;
@@ -104,6 +113,8 @@ impl Storage for MemoryStorage {
         ensures count { self.old.calls.faults ≤ self.new.calls.faults }
         ensures limit { fault_limit self.new.calls ≤ fault_limit self.old.calls }
         ensures counted { Counts self.old self.new result }
+        ensures unlisted { (IsErrOf result StoreError.Failed → ⊥) → NoneFailed (λ call. call) self.old.calls self.new.calls }
+        ensures as_listed { IsErrOf result StoreError.Failed → StorageMet (Some self.old.calls) (Some self.new.calls) }
     {
         let _ = user;
         self.count()?;
@@ -123,6 +134,8 @@ impl Storage for MemoryStorage {
         ensures count { self.old.calls.faults ≤ self.new.calls.faults }
         ensures limit { fault_limit self.new.calls ≤ fault_limit self.old.calls }
         ensures counted { Counts self.old self.new result }
+        ensures unlisted { (IsErrOf result StoreError.Failed → ⊥) → NoneFailed (λ call. call) self.old.calls self.new.calls }
+        ensures as_listed { IsErrOf result StoreError.Failed → StorageMet (Some self.old.calls) (Some self.new.calls) }
     {
         let _ = user;
         self.count()?;

@@ -17,8 +17,8 @@ invariant-loop-event g l = record {
       Stands l.fn.hub l.fn.log.entries →
       HasLinks (options_of l.fn.hub) (past_of l.fn.log.entries) l.fn.links →
       LeadsOn
-      (views g.S.Storage.files g.S.Storage.rule g.S.Storage.faults g.S.Storage.fault_limit
-      g.L.Source.left g.L.Source.sending g.L.Source.faults g.L.Source.fault_limit)
+      (views g.S.Storage.files g.S.Storage.rule g.S.Storage.faults g.S.Storage.fault_limit g.S.Storage.calls
+      g.L.Source.left g.L.Source.sending g.L.Source.faults g.L.Source.fault_limit g.L.Source.calls)
       (options_of l.fn.hub) l.fn.log.entries l.log.entries
       (beside l.fn.storage l.fn.links) (beside l.storage l.links);
   linked : (n : ℕ) → is_linked l.fn.links n ≡ true → is_linked l.links n ≡ true;

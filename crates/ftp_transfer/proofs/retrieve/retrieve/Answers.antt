@@ -1,7 +1,9 @@
-use Rattle.std.proofs.Common.{◌≡◌, ◌+◌, ◌∙◌, inl, inr, arith, rules}
+use Rattle.std.proofs.Common.{◌≡◌, ℕ, ◌+◌, ◌∙◌, inl, inr, arith, rules}
 use Rattle.std.proofs.lemmas.Bool.{cases_lt}
+use Rattle.ftp_base.specs.declared.fault.LinkFault.{LinkFault}
 use Rattle.ftp_base.specs.Storage.{ReadAt, meaning_of}
-use Rattle.ftp_transfer.proofs.RunLemmas.{HasRisen_later, SendsFront-file, Caused_later, RefusedFirst_later}
+use Rattle.ftp_base.proofs.CallsMade.{AllWell-more}
+use Rattle.ftp_transfer.proofs.RunLemmas.{StorageRose_later, LinkRose_later, SendsFront-file, Caused_later, RefusedFirst_later}
 use Rattle.ftp_transfer.proofs.retrieve.retrieve.Goals as goal
 
 pub returns-in-Some-clause-sent : goal.returns-in-Some-clause-sent
@@ -20,8 +22,8 @@ returns-in-Some-clause-cause g c =
     let place : c.args.job.now.offset + c.pieces.moved + c.send_piece-turn.result.bytes ≡ c.args.job.now.offset + (c.pieces.moved + c.send_piece-turn.result.bytes) = omega arith in
     rw c.outcome.ensures
     (Caused_later _ _ _ _ _ _ _ _ _ _ c.in-Some.end.result c.in-Some.end.fault
-    (HasRisen_later _ _ _ c.pieces.invariant.link_count c.send_piece-turn.ensures.link_count)
-    (HasRisen_later _ _ _ c.pieces.invariant.storage_count c.send_piece-turn.ensures.storage_count)
+    (LinkRose_later _ _ _ _ _ _ _ c.pieces.invariant.link_count c.send_piece-turn.ensures.link_count c.pieces.invariant.link_well)
+    (StorageRose_later _ _ _ _ _ _ c.pieces.invariant.storage_count c.send_piece-turn.ensures.storage_count c.pieces.invariant.storage_well)
     (λ k h. rw place at h)
     cause)
 
@@ -35,10 +37,20 @@ returns-in-Some-clause-refused g c told =
           let refused = rw (c.in-Some.is, c.pieces.invariant.files, c.pieces.invariant.rule, place) at c.send_piece-turn.ensures.refused in
           rw c.outcome.ensures
           (RefusedFirst_later (meaning_of (g.S.Storage.rule c.args.storage.now) (g.S.Storage.files c.args.storage.now) (ReadAt c.args.job.now.user c.args.job.now.path c.args.job.now.offset)) _ _ c.send_piece-turn.result.bytes _ c.in-Some.end.result
-          (HasRisen_later _ _ _ c.pieces.invariant.storage_count c.send_piece-turn.ensures.storage_count)
+          (StorageRose_later _ _ _ _ _ _ c.pieces.invariant.storage_count c.send_piece-turn.ensures.storage_count c.pieces.invariant.storage_well)
           (omega arith)
           (refused told (omega arith)))
     ]
+
+pub returns-in-Some-clause-storage_well : goal.returns-in-Some-clause-storage_well
+returns-in-Some-clause-storage_well g c other =
+    let held = rw c.in-Some.is at c.send_piece-turn.ensures.storage_held in
+    AllWell-more (λ (call : ℕ). call) _ _ _ c.pieces.invariant.storage_well (held (rw c.outcome.ensures at other))
+
+pub returns-in-Some-clause-link_well : goal.returns-in-Some-clause-link_well
+returns-in-Some-clause-link_well g c none =
+    let held = rw c.in-Some.is at c.send_piece-turn.ensures.link_held in
+    AllWell-more (λ (call : ℕ × LinkFault). call.0) _ _ _ c.pieces.invariant.link_well (held (rw c.outcome.ensures at none))
 
 pub pieces-preserved : goal.pieces-preserved
 pieces-preserved g c =
@@ -63,4 +75,6 @@ pieces-preserved g c =
       link_count = omega (arith, c.send_piece-turn.ensures.link_count);
       storage_limit = omega (arith, c.send_piece-turn.ensures.storage_limit);
       link_limit = omega (arith, c.send_piece-turn.ensures.link_limit);
+      storage_well = AllWell-more (λ (call : ℕ). call) _ _ _ c.pieces.invariant.storage_well (c.send_piece-turn.ensures.storage_well (search rules));
+      link_well = AllWell-more (λ (call : ℕ × LinkFault). call.0) _ _ _ c.pieces.invariant.link_well (c.send_piece-turn.ensures.link_well (search rules));
     }

@@ -1,4 +1,8 @@
-use Rattle.std.proofs.Common.{arith, length-drop, ◌≤◌, length, ◌+◌, ◌∙◌}
+use Rattle.std.proofs.Common.{ℕ, arith, length-drop, ◌≤◌, length, ◌+◌, ◌∙◌, ◌≡◌, ap, Err}
+use Rattle.ftp_base.specs.declared.fault.LinkFault.{LinkFault}
+use Rattle.ftp_base.specs.declared.fault.Failed.TheVariants.{Fault}
+use Rattle.ftp_base.proofs.CallsMade.{AllWell-more}
+use Rattle.ftp_transfer.proofs.RunLemmas.{LinkRose_later}
 use Rattle.ftp_transfer.proofs.Pieces.{Writes-more, take-drop_rest}
 use Rattle.ftp_transfer.proofs.send.send.Goals as goal
 
@@ -15,4 +19,11 @@ loop-sent-preserved g c =
       ok.last_fault ∙ kept.4,
       omega arith,
       omega (arith, c.write.ensures.limit),
+      AllWell-more (λ (call : ℕ × LinkFault). call.0) _ _ _ kept.7 ok.unlisted,
     )
+
+pub returns-in-Err-clause-fault_rose : goal.returns-in-Err-clause-fault_rose
+returns-in-Err-clause-fault_rose g c stopped =
+    let kept = c.loop-sent.invariant in
+    let fault : c.in-Err.failed ≡ Fault = cc in
+    LinkRose_later _ _ _ _ _ _ _ kept.5 c.write.ensures.count kept.7 (c.in-Err.ensures.fault_rose (ap Err fault), c.in-Err.ensures.as_listed (ap Err fault))

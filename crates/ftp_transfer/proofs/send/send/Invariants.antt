@@ -1,4 +1,6 @@
-use Rattle.std.proofs.Common.{length, ◌-◌, ◌≡◌, ◌≤◌, take}
+use Rattle.std.proofs.Common.{ℕ, length, ◌-◌, ◌≡◌, ◌≤◌, take}
+use Rattle.ftp_base.specs.declared.fault.LinkFault.{LinkFault}
+use Rattle.ftp_base.specs.Calls.{AllWell}
 use Rattle.ftp_base.specs.Outside.{Writes}
 use Rattle.ftp_transfer.proofs.send.send.Given as goal
 
@@ -12,6 +14,7 @@ invariant-loop-sent g l =
     × ((g.L.Source.sending l.link).last_fault ≡ (g.L.Source.sending l.fn.link).last_fault)
     × (g.L.Source.faults l.fn.link ≤ g.L.Source.faults l.link)
     × (g.L.Source.fault_limit l.link ≤ g.L.Source.fault_limit l.fn.link)
+    × AllWell (λ (call : ℕ × LinkFault). call.0) (g.L.Source.calls l.fn.link) (g.L.Source.calls l.link)
 
 abbrev pub decreases-loop-sent : goal.decreases-loop-sent
 decreases-loop-sent g l = length l.bytes - l.sent

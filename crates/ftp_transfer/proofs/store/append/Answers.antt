@@ -1,19 +1,27 @@
-use Rattle.std.proofs.Common.{◌≡◌, ◌∙◌, sym, refl, Some}
+use Rattle.std.proofs.Common.{◌≡◌, ℕ, ◌∙◌, sym, refl, Some, Result, Ok, Err}
 use Rattle.ftp_base.specs.declared.error_kind.ErrorKind.{ErrorKind}
-use Rattle.ftp_base.specs.Outside.{HasRisen}
+use Rattle.ftp_base.specs.declared.storage.Meta.{Meta}
+use Rattle.ftp_base.specs.declared.storage.StoreError.{StoreError}
+use Rattle.ftp_base.specs.declared.storage.StoreError.TheVariants.{Failed}
 use Rattle.ftp_base.specs.Storage.{Files, Metadata, meaning_of}
-use Rattle.ftp_transfer.specs.Run.{RefusedFirst}
-use Rattle.ftp_transfer.proofs.RunLemmas.{HasRisen_later, RefusedFirst_more}
-use Rattle.ftp_transfer.proofs.StoreLemmas.{append_place-start, append_refusal-begin, RefusedLast-none, RefusedLast_later, drop-nothing}
+use Rattle.ftp_base.proofs.CallsMade.{AllWell-more}
+use Rattle.ftp_transfer.specs.Run.{StorageRose, RefusedFirst, RefusesStore}
+use Rattle.ftp_transfer.specs.Turn.{start_after}
+use Rattle.ftp_transfer.proofs.RunLemmas.{StorageRose_later, Caused_later, RefusedFirst_more}
+use Rattle.ftp_transfer.proofs.StoreLemmas.{RefusesAppe-at, append_place-start, append_refusal-begin, RefusedLast-none, RefusedLast_later, drop-nothing}
 use Rattle.ftp_transfer.proofs.store.append.Goals as goal
+
+-- metadata that failed leads nowhere
+went-on : (found : Result Meta StoreError) (start : ℕ) → start_after found ≡ Ok start → found ≡ Err Failed → ⊥
+went-on found start on failed = cc (rw failed at on)
 
 pub returns-in-Ok-clause-refused : goal.returns-in-Ok-clause-refused
 returns-in-Ok-clause-refused g c =
     let refused = rw (c.metadata.ensures.unchanged, c.metadata.ensures.same_rule) at c.store.ensures.refused in
-    let rose = HasRisen_later _ _ _ c.metadata.ensures.count c.store.ensures.storage_count in
+    let rose = StorageRose_later _ _ _ _ _ _ c.metadata.ensures.count c.store.ensures.storage_count (c.metadata.ensures.unlisted (λ e. absurd (went-on c.metadata.result c.in-Ok.start (sym c.start_after.ensures ∙ c.in-Ok.is) e))) in
     append_refusal-begin (g.S.Storage.files c.args.storage.now) (g.S.Storage.rule c.args.storage.now) c.args.job.now.user c.args.job.now.path c.in-Ok.start
-    (λ (f : Files) (k : ErrorKind). RefusedFirst (HasRisen (g.S.Storage.faults c.metadata.new.self) (g.S.Storage.faults c.store.new.storage)) k c.store.result.bytes c.store.result.result × (g.S.Storage.files c.store.new.storage ≡ Some f))
-    (λ (f : Files) (k : ErrorKind). RefusedFirst (HasRisen (g.S.Storage.faults c.args.storage.now) (g.S.Storage.faults c.store.new.storage)) k c.store.result.bytes c.store.result.result × (g.S.Storage.files c.store.new.storage ≡ Some f))
+    (λ (f : Files) (k : ErrorKind). RefusedFirst (StorageRose (g.S.Storage.faults c.metadata.new.self) (g.S.Storage.faults c.store.new.storage) (g.S.Storage.calls c.metadata.new.self) (g.S.Storage.calls c.store.new.storage)) k c.store.result.bytes c.store.result.result × (g.S.Storage.files c.store.new.storage ≡ Some f))
+    (λ (f : Files) (k : ErrorKind). RefusedFirst (StorageRose (g.S.Storage.faults c.args.storage.now) (g.S.Storage.faults c.store.new.storage) (g.S.Storage.calls c.args.storage.now) (g.S.Storage.calls c.store.new.storage)) k c.store.result.bytes c.store.result.result × (g.S.Storage.files c.store.new.storage ≡ Some f))
     (λ f k h. (RefusedFirst_more _ _ k c.store.result.bytes c.store.result.result rose h.0, h.1))
     (λ f told.
     append_place-start f c.args.job.now.path (g.S.Storage.rule c.args.storage.now f (Metadata c.args.job.now.user c.args.job.now.path)) c.metadata.result c.in-Ok.start
@@ -22,10 +30,34 @@ returns-in-Ok-clause-refused g c =
     (sym c.start_after.ensures ∙ c.in-Ok.is))
     refused
 
+pub returns-in-Ok-clause-cause : goal.returns-in-Ok-clause-cause
+returns-in-Ok-clause-cause g c =
+    let cause = rw (c.metadata.ensures.unchanged, c.metadata.ensures.same_rule) at c.store.ensures.cause in
+    Caused_later _ _ _ _ _ _ _ _ _ _ c.store.result.result c.store.result.fault
+    (λ h. h)
+    (StorageRose_later _ _ _ _ _ _ c.metadata.ensures.count c.store.ensures.storage_count (c.metadata.ensures.unlisted (λ e. absurd (went-on c.metadata.result c.in-Ok.start (sym c.start_after.ensures ∙ c.in-Ok.is) e))))
+    (λ k refused.
+    RefusesAppe-at (g.S.Storage.files c.args.storage.now) (g.S.Storage.rule c.args.storage.now) c.args.job.now.user c.args.job.now.path c.in-Ok.start
+    (λ (f : Files). (c.store.result.bytes ≡ 0) × (g.S.Storage.rule c.args.storage.now f (Metadata c.args.job.now.user c.args.job.now.path) ≡ Some k))
+    (λ (f : Files) (place : ℕ). RefusesStore (g.S.Storage.rule c.args.storage.now) c.args.job.now.user f (g.S.Storage.files c.store.new.storage) c.args.job.now.path place (g.L.Source.left c.args.link.now) (g.L.Source.left c.store.new.link) c.store.result.bytes k)
+    (λ f told.
+    append_place-start f c.args.job.now.path (g.S.Storage.rule c.args.storage.now f (Metadata c.args.job.now.user c.args.job.now.path)) c.metadata.result c.in-Ok.start
+    ((rw told at c.metadata.ensures.refused) refl)
+    (rw told at c.metadata.ensures.found)
+    (sym c.start_after.ensures ∙ c.in-Ok.is))
+    refused)
+    cause
+
+pub returns-in-Ok-clause-storage_well : goal.returns-in-Ok-clause-storage_well
+returns-in-Ok-clause-storage_well g c other =
+    AllWell-more (λ (call : ℕ). call) _ _ _
+    (c.metadata.ensures.unlisted (λ e. absurd (went-on c.metadata.result c.in-Ok.start (sym c.start_after.ensures ∙ c.in-Ok.is) e)))
+    (c.store.ensures.storage_well other)
+
 pub returns-in-Ok-clause-refused_last : goal.returns-in-Ok-clause-refused_last
 returns-in-Ok-clause-refused_last g c told =
     RefusedLast_later _ _ (meaning_of (g.S.Storage.rule c.args.storage.now) (g.S.Storage.files c.store.new.storage)) c.args.job.now.user c.args.job.now.path _ _ _
-    (HasRisen_later _ _ _ c.metadata.ensures.count c.store.ensures.storage_count)
+    (StorageRose_later _ _ _ _ _ _ c.metadata.ensures.count c.store.ensures.storage_count (c.metadata.ensures.unlisted (λ e. absurd (went-on c.metadata.result c.in-Ok.start (sym c.start_after.ensures ∙ c.in-Ok.is) e))))
     ((rw c.metadata.ensures.same_rule at c.store.ensures.refused_last) (rw c.metadata.ensures.unchanged told))
 
 pub returns-in-Err-clause-refused_last : goal.returns-in-Err-clause-refused_last

@@ -1,7 +1,9 @@
-use Rattle.std.proofs.Common.{◌≡◌, ◌+◌, ◌∙◌, arith, rules}
+use Rattle.std.proofs.Common.{◌≡◌, ℕ, ◌+◌, ◌∙◌, arith, rules}
+use Rattle.ftp_base.specs.declared.fault.LinkFault.{LinkFault}
 use Rattle.ftp_base.specs.Storage.{meaning_of}
-use Rattle.ftp_transfer.proofs.RunLemmas.{HasRisen_later}
-use Rattle.ftp_transfer.proofs.StoreLemmas.{GrowsFront-told, TakesFront-told, TakesFront-whole, RefusedLast-told}
+use Rattle.ftp_base.proofs.CallsMade.{AllWell-more}
+use Rattle.ftp_transfer.proofs.RunLemmas.{StorageRose_later, LinkRose_later, Caused_later}
+use Rattle.ftp_transfer.proofs.StoreLemmas.{GrowsFront-told, TakesFront-told, TakesFront-whole, RefusesAppend-told, RefusedLast-told}
 use Rattle.ftp_transfer.proofs.store.fill.Goals as goal
 
 pub returns-in-Some-clause-whole : goal.returns-in-Some-clause-whole
@@ -22,9 +24,35 @@ returns-in-Some-clause-refused_last g c told =
     rw c.outcome.ensures
     (rw sum
     (RefusedLast-told _ _ (meaning_of (g.S.Storage.rule c.args.storage.now) (g.S.Storage.files c.store_piece-turn.new.storage)) c.args.job.now.user c.args.job.now.path (g.L.Source.left c.args.link.now) (g.L.Source.left c.pieces.link) _ c.pieces.moved _
-    (HasRisen_later _ _ _ c.pieces.invariant.storage_count c.store_piece-turn.ensures.storage_count)
+    (StorageRose_later _ _ _ _ _ _ c.pieces.invariant.storage_count c.store_piece-turn.ensures.storage_count c.pieces.invariant.storage_well)
     c.pieces.invariant.taken
     (last (c.pieces.invariant.told told))))
+
+pub returns-in-Some-clause-cause : goal.returns-in-Some-clause-cause
+returns-in-Some-clause-cause g c =
+    let none : c.store_piece-turn.result.bytes ≡ 0 = c.store_piece-turn.ensures.last (search rules) in
+    let sum : c.pieces.moved + c.store_piece-turn.result.bytes ≡ c.pieces.moved = omega arith in
+    let cause = rw (c.in-Some.is, c.pieces.invariant.rule, c.pieces.invariant.last_fault, sum) at c.store_piece-turn.ensures.cause in
+    rw c.outcome.ensures
+    (rw sum
+    (Caused_later _ _ _ _ _ _ _ _ _ _ c.in-Some.end.result c.in-Some.end.fault
+    (LinkRose_later _ _ _ _ _ _ _ c.pieces.invariant.link_count c.store_piece-turn.ensures.link_count c.pieces.invariant.link_well)
+    (StorageRose_later _ _ _ _ _ _ c.pieces.invariant.storage_count c.store_piece-turn.ensures.storage_count c.pieces.invariant.storage_well)
+    (λ k refused told.
+    RefusesAppend-told (meaning_of (g.S.Storage.rule c.args.storage.now) (g.S.Storage.files c.store_piece-turn.new.storage)) c.args.job.now.user c.args.job.now.path (g.L.Source.left c.args.link.now) (g.L.Source.left c.pieces.link) _ c.pieces.moved k
+    c.pieces.invariant.taken
+    (refused (c.pieces.invariant.told told)))
+    cause))
+
+pub returns-in-Some-clause-storage_well : goal.returns-in-Some-clause-storage_well
+returns-in-Some-clause-storage_well g c other =
+    let held = rw c.in-Some.is at c.store_piece-turn.ensures.storage_held in
+    AllWell-more (λ (call : ℕ). call) _ _ _ c.pieces.invariant.storage_well (held (rw c.outcome.ensures at other))
+
+pub returns-in-Some-clause-link_well : goal.returns-in-Some-clause-link_well
+returns-in-Some-clause-link_well g c none =
+    let held = rw c.in-Some.is at c.store_piece-turn.ensures.link_held in
+    AllWell-more (λ (call : ℕ × LinkFault). call.0) _ _ _ c.pieces.invariant.link_well (held (rw c.outcome.ensures at none))
 
 pub pieces-preserved : goal.pieces-preserved
 pieces-preserved g c =
@@ -40,4 +68,6 @@ pieces-preserved g c =
       link_count = omega (arith, c.store_piece-turn.ensures.link_count);
       storage_limit = omega (arith, c.store_piece-turn.ensures.storage_limit);
       link_limit = omega (arith, c.store_piece-turn.ensures.link_limit);
+      storage_well = AllWell-more (λ (call : ℕ). call) _ _ _ c.pieces.invariant.storage_well (c.store_piece-turn.ensures.storage_well (search rules));
+      link_well = AllWell-more (λ (call : ℕ × LinkFault). call.0) _ _ _ c.pieces.invariant.link_well (c.store_piece-turn.ensures.link_well (search rules));
     }

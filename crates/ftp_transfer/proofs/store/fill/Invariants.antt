@@ -1,5 +1,7 @@
 use Rattle.std.proofs.Common.{◌≡◌, ◌≤◌, ◌-◌, ◌^◌}
-use Rattle.std.specs.Prelude.{IsSome, IfSome}
+use Rattle.std.specs.Prelude.{ℕ, IsSome, IfSome}
+use Rattle.ftp_base.specs.declared.fault.LinkFault.{LinkFault}
+use Rattle.ftp_base.specs.Calls.{AllWell}
 use Rattle.ftp_transfer.specs.Run.{GrowsFront, TakesFront}
 use Rattle.ftp_transfer.proofs.store.fill.Given as goal
 
@@ -17,6 +19,8 @@ invariant-pieces g l = record {
   link_count : g.L.Source.faults l.fn.link ≤ g.L.Source.faults l.link;
   storage_limit : g.S.Storage.fault_limit l.storage ≤ g.S.Storage.fault_limit l.fn.storage;
   link_limit : g.L.Source.fault_limit l.link ≤ g.L.Source.fault_limit l.fn.link;
+  storage_well : AllWell (λ (call : ℕ). call) (g.S.Storage.calls l.fn.storage) (g.S.Storage.calls l.storage);
+  link_well : AllWell (λ (call : ℕ × LinkFault). call.0) (g.L.Source.calls l.fn.link) (g.L.Source.calls l.link);
 }
 
 abbrev pub decreases-pieces : goal.decreases-pieces

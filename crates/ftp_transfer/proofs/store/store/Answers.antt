@@ -1,5 +1,7 @@
+use Rattle.std.proofs.Common.{ℕ, rules}
 use Rattle.ftp_base.specs.Storage.{meaning_of}
-use Rattle.ftp_transfer.proofs.RunLemmas.{HasRisen_later, Caused_later}
+use Rattle.ftp_base.proofs.CallsMade.{AllWell-more}
+use Rattle.ftp_transfer.proofs.RunLemmas.{StorageRose_later, Caused_later}
 use Rattle.ftp_transfer.proofs.StoreLemmas.{Stores-begun, Begins-told, Stores-refused, RefusedLast-none, RefusedLast_later, drop-nothing}
 use Rattle.ftp_transfer.proofs.store.store.Goals as goal
 
@@ -14,7 +16,7 @@ pub returns-in-Ok-clause-cause : goal.returns-in-Ok-clause-cause
 returns-in-Ok-clause-cause g c =
     Caused_later _ _ _ _ _ _ _ _ _ _ c.fill.result.result c.fill.result.fault
     (λ h. h)
-    (HasRisen_later _ _ _ c.begin.ensures.count c.fill.ensures.storage_count)
+    (StorageRose_later _ _ _ _ _ _ c.begin.ensures.count c.fill.ensures.storage_count (c.begin.ensures.unlisted (search rules)))
     (λ k refused.
     Stores-refused (g.S.Storage.files c.args.storage.now) (g.S.Storage.files c.begin.new.self) (g.S.Storage.files c.fill.new.storage) (g.S.Storage.rule c.args.storage.now) c.args.job.now.user c.args.job.now.path c.args.start (g.L.Source.left c.args.link.now) (g.L.Source.left c.fill.new.link) c.fill.result.bytes k
     c.in-Ok.ensures.begun
@@ -22,10 +24,14 @@ returns-in-Ok-clause-cause g c =
     (rw c.begin.ensures.same_rule at refused))
     c.fill.ensures.cause
 
+pub returns-in-Ok-clause-storage_well : goal.returns-in-Ok-clause-storage_well
+returns-in-Ok-clause-storage_well g c other =
+    AllWell-more (λ (call : ℕ). call) _ _ _ (c.begin.ensures.unlisted (search rules)) (c.fill.ensures.storage_well other)
+
 pub returns-in-Ok-clause-refused_last : goal.returns-in-Ok-clause-refused_last
 returns-in-Ok-clause-refused_last g c told =
     RefusedLast_later _ _ (meaning_of (g.S.Storage.rule c.args.storage.now) (g.S.Storage.files c.fill.new.storage)) c.args.job.now.user c.args.job.now.path _ _ _
-    (HasRisen_later _ _ _ c.begin.ensures.count c.fill.ensures.storage_count)
+    (StorageRose_later _ _ _ _ _ _ c.begin.ensures.count c.fill.ensures.storage_count (c.begin.ensures.unlisted (search rules)))
     ((rw c.begin.ensures.same_rule at c.fill.ensures.refused_last) (Begins-told (g.S.Storage.files c.args.storage.now) _ _ _ c.in-Ok.ensures.begun told))
 
 pub returns-in-Err-clause-refused_last : goal.returns-in-Err-clause-refused_last

@@ -8,6 +8,7 @@ returns-clause-ran g c =
     let moves = c.run-outcome.ensures.moves in
     record {
       faults = g.L.Source.faults c.run-outcome.new.link;
+      calls = g.L.Source.calls c.run-outcome.new.link;
       not_before = c.run-outcome.ensures.link_count;
       not_after = c.close.ensures.count;
       moves = record {
@@ -23,6 +24,8 @@ returns-clause-ran g c =
         refused = moves.refused;
         unrefused = moves.unrefused;
         refused_last = λ store told. rw c.close.ensures.left (moves.refused_last store told);
+        link_well = moves.link_well;
+        storage_well = moves.storage_well;
       };
       closed = search rules;
     }
@@ -30,8 +33,8 @@ returns-clause-ran g c =
 pub returns-clause-complete : goal.returns-clause-complete
 returns-clause-complete g c clean =
     clean-done c.args.job
-    (told (g.S.Storage.files c.args.storage.now) (g.S.Storage.rule c.args.storage.now) (g.S.Storage.faults c.args.storage.now) (g.L.Source.left c.args.link.now) (g.L.Source.sending c.args.link.now) (g.L.Source.faults c.args.link.now))
-    (told (g.S.Storage.files c.run-outcome.new.storage) (g.S.Storage.rule c.run-outcome.new.storage) (g.S.Storage.faults c.run-outcome.new.storage) (g.L.Source.left c.close.new.self) (g.L.Source.sending c.close.new.self) (g.L.Source.faults c.close.new.self))
+    (told (g.S.Storage.files c.args.storage.now) (g.S.Storage.rule c.args.storage.now) (g.S.Storage.faults c.args.storage.now) (g.S.Storage.calls c.args.storage.now) (g.L.Source.left c.args.link.now) (g.L.Source.sending c.args.link.now) (g.L.Source.faults c.args.link.now) (g.L.Source.calls c.args.link.now))
+    (told (g.S.Storage.files c.run-outcome.new.storage) (g.S.Storage.rule c.run-outcome.new.storage) (g.S.Storage.faults c.run-outcome.new.storage) (g.S.Storage.calls c.run-outcome.new.storage) (g.L.Source.left c.close.new.self) (g.L.Source.sending c.close.new.self) (g.L.Source.faults c.close.new.self) (g.L.Source.calls c.close.new.self))
     c.run-outcome.result
     (returns-clause-ran g c)
     clean

@@ -1,0 +1,39 @@
+-- The faults that the log of a script tells, by the calls that the script lists.
+use Rattle.std.specs.Prelude.{◌≡◌, ℕ, ◌<◌, List, [], ◌∷◌, ◌++◌, Contains, Some}
+use Rattle.std.specs.FinMap as map
+use Rattle.ftp_base.specs.declared.fault.LinkFault.{LinkFault}
+use Rattle.ftp_base.specs.Memory.{LinkState}
+use Rattle.ftp_base.specs.MemoryStorage.{MemoryState}
+use Rattle.ftp_options.specs.declared.options.Options.{Options}
+use Rattle.ftp_transfer.specs.declared.job.Job.{Job}
+use Rattle.ftp_transfer.specs.declared.job.Outcome.{Outcome}
+use Rattle.ftp_events.specs.declared.entry.Entry.{Entry}
+use Rattle.ftp_events.specs.declared.event.Answer.TheVariants as answer
+use Rattle.ftp_events.specs.Leads.{Outside, job_to_run, Leads}
+use Rattle.ftp_events.specs.Log.{past_of}
+use Rattle.ftp_event_text.specs.declared.setup.Item.{Item}
+use Rattle.ftp_script_run.specs.Items.{links_in}
+use Rattle.ftp_script_run.specs.Legal.{memory_views, start_of}
+
+-- the items list the fault for a call of the link with this number, and it was not yet made
+pub record IsListed (items : List Item) (n : ℕ) (f : LinkFault) (before : Outside MemoryState LinkState) : Type 0 where
+  pub link : LinkState
+  pub call : ℕ
+  pub there : map.get (links_in items) n ≡ Some link
+  pub listed : Contains link.calls.failing (call, f)
+  pub made : LinkState
+  pub found : map.get before.links n ≡ Some made
+  pub to_come : made.calls.made < call
+
+-- each fault that an entry tells is one that the script lists for the link of its job
+abbrev pub ToldFaultsAreListed : Type 0
+ToldFaultsAreListed =
+    (o : Options) (items : List Item) (older newer : List Entry) (e : Entry) (end : Outside MemoryState LinkState)
+    (job : Job) (outcome : Outcome) (f : LinkFault) →
+    Leads memory_views o [] (newer ++ e ∷ older) (start_of items) end →
+    job_to_run o (past_of older) e.event.kind ≡ Some job →
+    e.answer ≡ answer.Done outcome →
+    outcome.fault ≡ Some f →
+    (old : Outside MemoryState LinkState)
+    × Leads memory_views o [] older (start_of items) old
+    × IsListed items job.number f old
