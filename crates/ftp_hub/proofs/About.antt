@@ -2,29 +2,11 @@
 use Rattle.std.proofs.Common.{◌≡◌, refl, sym, ap, ◌∙◌, subst, ℕ, false, cond, List, ◌∷◌, Option, Some, None}
 use Rattle.std.specs.Prelude.{◌==◌, nat_eq, count_by}
 use Rattle.std.specs.HashMap as map
-use Rattle.ftp_base.specs.declared.net.IpAddr.TheVariants.{V4}
-use Rattle.ftp_options.specs.declared.options.Options.{Options}
-use Rattle.ftp_events.specs.declared.session.Running.{Running}
-use Rattle.ftp_switchboard.specs.Board.{holder_at}
-use Rattle.ftp_numbers.specs.Used.{has}
-use Rattle.ftp_events.specs.declared.action.Action.{Action}
-use Rattle.ftp_events.specs.declared.decision.Decision.{Decision}
-use Rattle.ftp_events.specs.declared.entry.Entry.{Entry}
-use Rattle.ftp_events.specs.declared.event.Answer.{Answer}
-use Rattle.ftp_events.specs.declared.event.HubEvent.{HubEvent}
-use Rattle.ftp_events.specs.declared.session.Session.{Session}
-use Rattle.ftp_events.specs.Log.{past_of, is_refusal, is_used}
-use Rattle.ftp_events.specs.Board.{holder}
+use Rattle.ftp_hub.proofs.Common.{Action, Answer, Decision, Entry, Hub, HubEvent, Options, Running, Serves, Session, Stands, Tables, V4, acts, decide, entry, has, holder, holder_at, is_refusal, is_used, live_after, lives_on, next_lane, notices_of, past_of, running_after, running_job, session, session_acts, session_after}
 use Rattle.ftp_events.specs.Notices.{is_notice_to}
-use Rattle.ftp_events.specs.Running.{running_after}
-use Rattle.ftp_events.specs.Session.{session, running_job, lives_on, session_after, next_lane, live_after}
-use Rattle.ftp_events.specs.Decide.{decide}
-use Rattle.ftp_events.specs.Acts.{session_acts, acts_of, acts}
+use Rattle.ftp_events.specs.Acts.{acts_of}
 use Rattle.ftp_laws.proofs.QuestionLemmas.{counting-counts, session_by}
 use Rattle.ftp_laws.proofs.TableLemmas.{IsAbout, session-about, running-about}
-use Rattle.ftp_hub.specs.declared.hub.Hub.{Hub}
-use Rattle.ftp_handlers.specs.Handlers.{notices_of}
-use Rattle.ftp_hub.specs.Stands.{Tables, Stands, Serves, entry}
 use Rattle.ftp_hub.proofs.Counts.{count-session_acts}
 use Rattle.ftp_hub.proofs.Moved.{Moved}
 

@@ -3,28 +3,20 @@ use Rattle.std.proofs.Common.{◌≡◌, refl, sym, ◌∙◌, subst, ℕ, Bool,
 use Rattle.std.proofs.lemmas.Option.{same_Some}
 use Rattle.std.specs.Prelude.{unwrap_or}
 use Rattle.std.specs.Bool.{then_some}
-use Rattle.ftp_base.specs.declared.net.IpAddr.{IpAddr}
-use Rattle.ftp_base.specs.declared.net.IpAddr.TheVariants.{V4, V6}
+use Rattle.ftp_hub.proofs.Common.{Answer, Entry, EventKind, IpAddr, IsRight, Options, Session, V4, decide, ipv4, past_of, session}
+use Rattle.ftp_base.specs.declared.net.IpAddr.TheVariants.{V6}
 use Rattle.ftp_base.specs.declared.net.SocketAddr.{SocketAddr}
-use Rattle.ftp_base.specs.Net.{is_v6, ipv4}
-use Rattle.ftp_options.specs.declared.options.Options.{Options}
+use Rattle.ftp_base.specs.Net.{is_v6}
 use Rattle.ftp_options.specs.declared.options.ListenerMode.{ListenerMode}
 use Rattle.ftp_options.specs.declared.options.ListenerMode.TheVariants.{Legacy, Pooled}
 use Rattle.ftp_options.specs.Modes.{is_legacy, is_pooled}
 use Rattle.ftp_events.specs.declared.decision.Decision.TheVariants as decision
-use Rattle.ftp_events.specs.declared.entry.Entry.{Entry}
-use Rattle.ftp_events.specs.declared.event.Answer.{Answer}
-use Rattle.ftp_events.specs.declared.event.EventKind.{EventKind}
 use Rattle.ftp_events.specs.declared.event.EventKind.TheVariants as kind
 use Rattle.ftp_events.specs.declared.session.Opening.{Opening}
-use Rattle.ftp_events.specs.declared.session.Session.{Session}
-use Rattle.ftp_events.specs.Log.{past_of}
 use Rattle.ftp_events.specs.Opening.{opening_by, opener}
 use Rattle.ftp_events.specs.History.{opens}
-use Rattle.ftp_events.specs.Session.{session}
 use Rattle.ftp_events.specs.ConnectionRows.{connect_row}
-use Rattle.ftp_events.specs.Decide.{due, decide}
-use Rattle.ftp_events.specs.Right.{IsRight}
+use Rattle.ftp_events.specs.Decide.{due}
 use Rattle.ftp_laws.proofs.QuestionLemmas.{session-told}
 use Rattle.ftp_laws.proofs.ClassLemmas.{opened-is}
 use Rattle.ftp_laws.proofs.EntryLemmas.{past-more}

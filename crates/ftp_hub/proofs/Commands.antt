@@ -3,33 +3,12 @@ use Rattle.std.proofs.Common.{◌≡◌, refl, sym, ap, ◌∙◌, ℕ, ◌-◌,
 use Rattle.std.specs.Prelude.{◌==◌, unwrap_or, nat_eq}
 use Rattle.std.specs.Option.{option_and_then, option_map_or}
 use Rattle.std.specs.HashMap as map
-use Rattle.ftp_base.specs.declared.net.IpAddr.{IpAddr}
-use Rattle.ftp_base.specs.declared.net.IpAddr.TheVariants.{V4}
-use Rattle.ftp_base.specs.Net.{ipv4}
-use Rattle.ftp_options.specs.declared.options.Options.{Options}
-use Rattle.ftp_events.specs.declared.session.Running.{Running}
-use Rattle.ftp_switchboard.specs.Board.{holder_at}
-use Rattle.ftp_numbers.specs.Used.{has}
-use Rattle.ftp_events.specs.declared.action.Action.{Action}
-use Rattle.ftp_events.specs.declared.decision.Decision.{Decision}
+use Rattle.ftp_hub.proofs.Common.{Action, Answer, Decision, Entry, EventKind, Hub, HubEvent, IpAddr, IsFew, Options, Running, Serves, Session, Stands, Tables, V4, decide, has, holder, holder_at, ipv4, is_refusal, live_after, lives_on, named_session, next_lane, past_of, running_after, running_job, session, session_acts, session_after, waiting_port}
 use Rattle.ftp_events.specs.declared.decision.Decision.TheVariants as decision
-use Rattle.ftp_events.specs.declared.entry.Entry.{Entry}
-use Rattle.ftp_events.specs.declared.event.Answer.{Answer}
-use Rattle.ftp_events.specs.declared.event.EventKind.{EventKind}
 use Rattle.ftp_events.specs.declared.event.EventKind.TheVariants as kind
-use Rattle.ftp_events.specs.declared.event.HubEvent.{HubEvent}
-use Rattle.ftp_events.specs.declared.session.Session.{Session}
-use Rattle.ftp_events.specs.Log.{past_of, is_refusal, named_session}
-use Rattle.ftp_events.specs.Board.{holder}
 use Rattle.ftp_events.specs.CommandRows.{command_row}
-use Rattle.ftp_events.specs.Running.{running_after}
-use Rattle.ftp_events.specs.Slot.{waiting_port}
-use Rattle.ftp_events.specs.Session.{session, running_job, lives_on, session_after, next_lane, live_after}
-use Rattle.ftp_events.specs.Decide.{if_live, due, decide}
-use Rattle.ftp_events.specs.Acts.{session_acts}
-use Rattle.ftp_hub.specs.declared.hub.Hub.{Hub}
-use Rattle.ftp_handlers.specs.Handlers.{IsFew, ends_session, held_for, is_command}
-use Rattle.ftp_hub.specs.Stands.{Tables, Stands, Serves}
+use Rattle.ftp_events.specs.Decide.{if_live, due}
+use Rattle.ftp_handlers.specs.Handlers.{ends_session, held_for, is_command}
 use Rattle.ftp_hub.proofs.Clients.{client-v4}
 use Rattle.ftp_hub.proofs.Refusals.{serves-refusal}
 use Rattle.ftp_hub.proofs.Named.{few-counts, serves-named}

@@ -2,31 +2,21 @@
 use Rattle.std.proofs.Common.{◌≡◌, refl, sym, ap, ◌∙◌, ℕ, suc, ◌+◌, ◌≤◌, Bool, true, false, cond, List, [], ◌∷◌, length, Option, Some, None, arith, eq-eqb}
 use Rattle.std.specs.Prelude.{count_by}
 use Rattle.std.specs.Option.{option_map_or}
+use Rattle.ftp_hub.proofs.Common.{Answer, Decision, Entry, EventKind, IsActed, Options, Running, Session, acts, history, is_refusal, notices_of, past_of, running_job, session, session_acts}
 use Rattle.ftp_base.specs.declared.notice.Notice.{Notice}
-use Rattle.ftp_options.specs.declared.options.Options.{Options}
-use Rattle.ftp_events.specs.declared.session.Running.{Running}
 use Rattle.ftp_transfer.specs.declared.job.Outcome.{Outcome}
 use Rattle.ftp_transfer.specs.declared.job.Completion.{Completion}
 use Rattle.ftp_transfer.specs.declared.job.Completion.TheVariants as result
-use Rattle.ftp_events.specs.declared.decision.Decision.{Decision}
 use Rattle.ftp_events.specs.declared.decision.Decision.TheVariants as decision
-use Rattle.ftp_events.specs.declared.entry.Entry.{Entry}
-use Rattle.ftp_events.specs.declared.event.Answer.{Answer}
 use Rattle.ftp_events.specs.declared.event.Answer.TheVariants as answer
-use Rattle.ftp_events.specs.declared.event.EventKind.{EventKind}
-use Rattle.ftp_events.specs.declared.session.Session.{Session}
-use Rattle.ftp_events.specs.Log.{past_of, is_refusal}
-use Rattle.ftp_events.specs.History.{history, concerns}
+use Rattle.ftp_events.specs.History.{concerns}
 use Rattle.ftp_events.specs.Notices.{is_notice_to, notice_count}
-use Rattle.ftp_events.specs.Session.{session, running_job}
 use Rattle.ftp_events.specs.Message.{message_of_outcome}
 use Rattle.ftp_events.specs.Place.{is_queued, ticket_count}
 use Rattle.ftp_events.specs.Reply.{path_of_job}
 use Rattle.ftp_events.specs.Transfer.{moves_file}
-use Rattle.ftp_events.specs.Acts.{notice_for, session_acts, acts_of, acts}
-use Rattle.ftp_events.specs.Right.{IsActed}
+use Rattle.ftp_events.specs.Acts.{notice_for, acts_of}
 use Rattle.ftp_laws.proofs.NoticeLemmas as law
-use Rattle.ftp_handlers.specs.Handlers.{notices_of}
 use Rattle.ftp_laws.proofs.EntryLemmas.{past-more, history-more}
 
 -- the message of an outcome notifies where a file was moved

@@ -2,39 +2,20 @@
 use Rattle.std.proofs.Common.{subst, ◌≡◌, refl, sym, ap, ◌∙◌, ℕ, Bool, true, false, not, cond, ◌&&◌, ◌||◌, List, [], ◌∷◌, Option, Some, None, arith}
 use Rattle.std.specs.Prelude.{◌==◌, nat_eq}
 use Rattle.std.specs.HashMap as map
-use Rattle.ftp_base.specs.declared.net.IpAddr.{IpAddr}
-use Rattle.ftp_base.specs.declared.net.IpAddr.TheVariants.{V4}
+use Rattle.ftp_hub.proofs.Common.{Action, Answer, Decision, Entry, EventKind, Hub, HubEvent, IpAddr, Jobs, Options, Running, Serves, Session, Stands, Starts, V4, acts, decide, entry, has, holder, holder_at, is_used, next_lane, notices_of, past_of, running_after, running_job, same-both, session, session_acts, session_after, starting}
 use Rattle.ftp_base.specs.declared.net.SocketAddr.{SocketAddr}
 use Rattle.ftp_base.specs.Net.{is_v6, same_ip}
-use Rattle.ftp_options.specs.declared.options.Options.{Options}
-use Rattle.ftp_events.specs.declared.session.Running.{Running}
-use Rattle.ftp_switchboard.specs.Board.{holder_at, is_key}
-use Rattle.ftp_numbers.specs.Used.{has}
-use Rattle.ftp_events.specs.declared.action.Action.{Action}
+use Rattle.ftp_switchboard.specs.Board.{is_key}
 use Rattle.ftp_events.specs.declared.action.Action.TheVariants as action
-use Rattle.ftp_events.specs.declared.decision.Decision.{Decision}
 use Rattle.ftp_events.specs.declared.decision.Decision.TheVariants as decision
-use Rattle.ftp_events.specs.declared.entry.Entry.{Entry}
-use Rattle.ftp_events.specs.declared.event.Answer.{Answer}
-use Rattle.ftp_events.specs.declared.event.EventKind.{EventKind}
 use Rattle.ftp_events.specs.declared.event.EventKind.TheVariants as kind
-use Rattle.ftp_events.specs.declared.event.HubEvent.{HubEvent}
-use Rattle.ftp_events.specs.declared.session.Session.{Session}
 use Rattle.ftp_events.specs.Modes.{in_range}
-use Rattle.ftp_events.specs.Log.{past_of, is_used}
-use Rattle.ftp_events.specs.Board.{holder}
-use Rattle.ftp_events.specs.Running.{running_after, running_count}
-use Rattle.ftp_events.specs.Session.{session, running_job, session_after, next_lane}
+use Rattle.ftp_events.specs.Running.{running_count}
 use Rattle.ftp_events.specs.ConnectionRows.{arrival_row, holder_row}
-use Rattle.ftp_events.specs.Decide.{decide}
-use Rattle.ftp_events.specs.Acts.{session_acts, starting, acts}
 use Rattle.ftp_laws.proofs.QuestionLemmas.{running-other, session-other}
 use Rattle.ftp_laws.proofs.HoldLemmas.{WaitsFor, holder-waits}
-use Rattle.ftp_laws.proofs.TableLemmas.{IsAbout, holder-arrived, arrival-about, eq-comm, same-both}
-use Rattle.ftp_hub.specs.declared.hub.Hub.{Hub}
+use Rattle.ftp_laws.proofs.TableLemmas.{IsAbout, holder-arrived, arrival-about, eq-comm}
 use Rattle.ftp_hub.specs.Arrivals.{arrival_of}
-use Rattle.ftp_handlers.specs.Handlers.{Jobs, Starts, notices_of}
-use Rattle.ftp_hub.specs.Stands.{Stands, Serves, entry}
 use Rattle.ftp_hub.proofs.About.{serves-about}
 use Rattle.ftp_hub.proofs.Moved.{JobsMoved, jobs-start, sessions-stay}
 use Rattle.ftp_hub.proofs.Clients.{pooled-shared}

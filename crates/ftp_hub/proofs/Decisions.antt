@@ -3,23 +3,15 @@ use Rattle.std.proofs.Common.{◌≡◌, refl, sym, ap, ◌∙◌, subst, ℕ, �
 use Rattle.std.specs.Prelude.{◌==◌, nat_eq}
 use Rattle.std.specs.Option.{option_or}
 use Rattle.std.specs.HashMap as map
-use Rattle.ftp_options.specs.declared.options.Options.{Options}
-use Rattle.ftp_events.specs.declared.session.Running.{Running}
-use Rattle.ftp_events.specs.declared.decision.Decision.{Decision}
+use Rattle.ftp_hub.proofs.Common.{Answer, Decision, EventKind, Jobs, Options, Running, Session, Starts, held_after, is_refusal, live_after, lives_on, new_number, next_lane, notices_of, running_after, same-both, session_acts, session_after, starting}
 use Rattle.ftp_events.specs.declared.decision.Decision.TheVariants as decision
-use Rattle.ftp_events.specs.declared.event.Answer.{Answer}
-use Rattle.ftp_events.specs.declared.event.EventKind.{EventKind}
-use Rattle.ftp_events.specs.declared.session.Session.{Session}
 use Rattle.ftp_events.specs.Words.{total}
 use Rattle.ftp_events.specs.Classes.{slot_move}
-use Rattle.ftp_events.specs.Log.{is_refusal, new_number}
 use Rattle.ftp_events.specs.Opening.{opened_number}
 use Rattle.ftp_events.specs.Board.{granted_port}
-use Rattle.ftp_events.specs.Running.{ended, running_after}
-use Rattle.ftp_events.specs.Session.{lives_on, session_after, queued_for, lane_in, next_lane, live_after}
-use Rattle.ftp_events.specs.Acts.{session_acts, starting, stays}
-use Rattle.ftp_handlers.specs.Handlers.{Jobs, Starts, held_after, notices_of}
-use Rattle.ftp_laws.proofs.TableLemmas.{same-both}
+use Rattle.ftp_events.specs.Running.{ended}
+use Rattle.ftp_events.specs.Session.{queued_for, lane_in}
+use Rattle.ftp_events.specs.Acts.{stays}
 use Rattle.ftp_laws.proofs.BalanceLemmas.{is_finished, no-completion}
 use Rattle.ftp_laws.proofs.RunningLemmas.{running-after}
 use Rattle.ftp_hub.proofs.Running.{IsIdle, count-start, running-acts}

@@ -4,44 +4,26 @@ use Rattle.std.specs.Prelude.{◌==◌, nat_eq}
 use Rattle.std.specs.Option.{option_map, option_or}
 use Rattle.std.specs.HashMap as map
 use Rattle.std.proofs.lemmas.Option.{same_Some}
-use Rattle.ftp_base.specs.declared.net.IpAddr.TheVariants.{V4}
-use Rattle.ftp_options.specs.declared.options.Options.{Options}
-use Rattle.ftp_switchboard.specs.Board.{holder_at}
-use Rattle.ftp_numbers.specs.Used.{has}
-use Rattle.ftp_events.specs.declared.session.Running.{Running}
-use Rattle.ftp_transfer.specs.declared.job.Ticket.{Ticket}
+use Rattle.ftp_hub.proofs.Common.{Action, Answer, Decision, Entry, EventKind, Hub, HubEvent, Jobs, Options, Running, Serves, Session, Stands, Starts, Tables, Ticket, V4, acts, decide, entry, has, history, holder, holder_at, named_session, next_lane, past_of, running_after, running_job, session, session_acts, starting}
 use Rattle.ftp_transfer.specs.declared.job.Outcome.{Outcome}
 use Rattle.ftp_transfer.specs.Transfer.{suits}
-use Rattle.ftp_events.specs.declared.action.Action.{Action}
 use Rattle.ftp_events.specs.declared.action.Action.TheVariants as action
-use Rattle.ftp_events.specs.declared.decision.Decision.{Decision}
 use Rattle.ftp_events.specs.declared.decision.Decision.TheVariants as decision
-use Rattle.ftp_events.specs.declared.entry.Entry.{Entry}
-use Rattle.ftp_events.specs.declared.event.Answer.{Answer}
 use Rattle.ftp_events.specs.declared.event.Answer.TheVariants.{Done}
-use Rattle.ftp_events.specs.declared.event.EventKind.{EventKind}
 use Rattle.ftp_events.specs.declared.event.EventKind.TheVariants as kind
-use Rattle.ftp_events.specs.declared.event.HubEvent.{HubEvent}
 use Rattle.ftp_events.specs.declared.session.Opening.{Opening}
-use Rattle.ftp_events.specs.declared.session.Session.{Session}
-use Rattle.ftp_events.specs.Log.{past_of, named_session}
 use Rattle.ftp_events.specs.Opening.{opener}
-use Rattle.ftp_events.specs.Board.{holder}
-use Rattle.ftp_events.specs.History.{history, opens, concerns}
-use Rattle.ftp_events.specs.Running.{running_after, running_count}
+use Rattle.ftp_events.specs.History.{opens, concerns}
+use Rattle.ftp_events.specs.Running.{running_count}
 use Rattle.ftp_events.specs.Slot.{lane}
-use Rattle.ftp_events.specs.Session.{session, running_job, life_by, is_live, session_by_history, next_lane}
+use Rattle.ftp_events.specs.Session.{life_by, is_live, session_by_history}
 use Rattle.ftp_events.specs.CommandRows.{is_logged_in, if_logged_in, can_queue, transfer_row, command_row}
 use Rattle.ftp_events.specs.EndRows.{end_row}
 use Rattle.ftp_events.specs.Transfer.{same_ticket}
-use Rattle.ftp_events.specs.Decide.{decide}
-use Rattle.ftp_events.specs.Acts.{session_acts, starting, acts}
 use Rattle.ftp_laws.proofs.QuestionLemmas.{counting-counts, history-own, running-other, session-other}
 use Rattle.ftp_laws.proofs.LaneLemmas.{ended-empty}
 use Rattle.ftp_laws.proofs.TableLemmas.{holder-named}
-use Rattle.ftp_hub.specs.declared.hub.Hub.{Hub}
-use Rattle.ftp_handlers.specs.Handlers.{Jobs, Starts, is_transfer}
-use Rattle.ftp_hub.specs.Stands.{Tables, Stands, Serves, entry}
+use Rattle.ftp_handlers.specs.Handlers.{is_transfer}
 use Rattle.ftp_laws.proofs.RunningLemmas.{runs-started}
 use Rattle.ftp_hub.proofs.Running.{count-start, running-acts}
 use Rattle.ftp_hub.proofs.Decisions.{Comes}

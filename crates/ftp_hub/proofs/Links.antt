@@ -6,37 +6,24 @@ use Rattle.std.specs.FinMap as table
 use Rattle.std.specs.Ordering.{nat_cmp, eq_by_cmp}
 use Rattle.std.specs.Cmp.{nat_cmp_total}
 use Rattle.std.specs.Option.{option_map_or}
+use Rattle.ftp_hub.proofs.Common.{Answer, Decision, Entry, EventKind, Hub, IsRight, Options, Pending, Running, Session, Stands, Ticket, decide, history, is_linked, new_number, past_of, running_job, session}
 use Rattle.ftp_base.specs.LinkTable.{Numbered}
-use Rattle.ftp_options.specs.declared.options.Options.{Options}
 use Rattle.ftp_transfer.specs.declared.job.Job.{Job}
-use Rattle.ftp_events.specs.declared.session.Running.{Running}
-use Rattle.ftp_transfer.specs.declared.job.Ticket.{Ticket}
-use Rattle.ftp_events.specs.declared.decision.Decision.{Decision}
 use Rattle.ftp_events.specs.declared.decision.Decision.TheVariants as decision
-use Rattle.ftp_events.specs.declared.entry.Entry.{Entry}
-use Rattle.ftp_events.specs.declared.event.Answer.{Answer}
-use Rattle.ftp_events.specs.declared.event.EventKind.{EventKind}
 use Rattle.ftp_events.specs.declared.event.EventKind.TheVariants as kind
-use Rattle.ftp_events.specs.declared.session.Pending.{Pending}
-use Rattle.ftp_events.specs.declared.session.Session.{Session}
 use Rattle.ftp_events.specs.declared.session.Slot.{Slot}
 use Rattle.ftp_events.specs.declared.session.Slot.TheVariants.{Empty, Waits, Linked}
 use Rattle.ftp_events.specs.Covers.{link_number, is_covered}
-use Rattle.ftp_events.specs.Log.{new_number, past_of}
-use Rattle.ftp_events.specs.History.{history}
 use Rattle.ftp_events.specs.Leads.{HasLinks, job_of_ticket, job_to_run}
 use Rattle.ftp_events.specs.Transfer.{same_ticket}
 use Rattle.ftp_events.specs.Acts.{link_in, slot_of}
 use Rattle.ftp_events.specs.Slot.{Lane, drops, lane, lane_of, lane_after, queued_in, with_link}
-use Rattle.ftp_events.specs.Session.{session, running_job}
-use Rattle.ftp_events.specs.Decide.{due, decide}
-use Rattle.ftp_events.specs.Right.{IsRight}
+use Rattle.ftp_events.specs.Decide.{due}
 use Rattle.ftp_laws.proofs.EntryLemmas.{past-more, history-more}
 use Rattle.ftp_laws.proofs.LaneLemmas.{ended-empty}
 use Rattle.ftp_laws.proofs.QuestionLemmas.{session-told}
-use Rattle.ftp_hub.specs.declared.hub.Hub.{Hub}
-use Rattle.ftp_hub.specs.Runs.{has_link_of, is_linked}
-use Rattle.ftp_hub.specs.Stands.{Stands, job_for}
+use Rattle.ftp_hub.specs.Runs.{has_link_of}
+use Rattle.ftp_hub.specs.Stands.{job_for}
 
 -- the link of a job
 abbrev link_at : Option Running → Option ℕ

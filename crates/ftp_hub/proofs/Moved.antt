@@ -2,23 +2,8 @@
 use Rattle.std.proofs.Common.{BuildHasherDefault, FoldHasher, ◌≡◌, refl, sym, ap, ◌∙◌, ℕ, cond, Bool, List, Option, Some, None}
 use Rattle.std.specs.Prelude.{◌==◌, nat_eq, true, false}
 use Rattle.std.specs.HashMap as map
-use Rattle.ftp_base.specs.Net.{ipv4}
-use Rattle.ftp_options.specs.declared.options.Options.{Options}
-use Rattle.ftp_switchboard.specs.Board.{holder_at}
-use Rattle.ftp_numbers.specs.Used.{has}
-use Rattle.ftp_events.specs.declared.action.Action.{Action}
-use Rattle.ftp_events.specs.declared.decision.Decision.{Decision}
-use Rattle.ftp_events.specs.declared.event.Answer.{Answer}
-use Rattle.ftp_events.specs.declared.event.EventKind.{EventKind}
-use Rattle.ftp_events.specs.declared.session.Running.{Running}
-use Rattle.ftp_events.specs.declared.session.Session.{Session}
-use Rattle.ftp_events.specs.Acts.{session_acts, starting}
-use Rattle.ftp_events.specs.Running.{running_after}
-use Rattle.ftp_events.specs.Session.{lives_on, live_after, next_lane, session_after}
-use Rattle.ftp_events.specs.Slot.{waiting_port}
+use Rattle.ftp_hub.proofs.Common.{Action, Answer, Decision, EventKind, Hub, Jobs, Options, Running, Session, Starts, has, held_after, holder_at, ipv4, live_after, lives_on, next_lane, notices_of, running_after, session_acts, session_after, starting, waiting_port}
 use Rattle.ftp_laws.proofs.BalanceLemmas.{is_finished}
-use Rattle.ftp_handlers.specs.Handlers.{Jobs, Starts, held_after, notices_of}
-use Rattle.ftp_hub.specs.declared.hub.Hub.{Hub}
 use Rattle.ftp_hub.proofs.Decisions.{jobs-idle, jobs-started, running-started}
 use Rattle.ftp_hub.proofs.Running.{IsIdle, running-idle}
 

@@ -4,44 +4,25 @@ use Rattle.std.proofs.Common.{◌≡◌, refl, sym, ap, ◌∙◌, ℕ, ◌-◌,
 use Rattle.std.proofs.lemmas.Option.{same_Some}
 use Rattle.std.specs.Prelude.{◌==◌, nat_eq}
 use Rattle.std.specs.HashMap as map
-use Rattle.ftp_base.specs.declared.net.IpAddr.{IpAddr}
-use Rattle.ftp_base.specs.declared.net.IpAddr.TheVariants.{V4}
-use Rattle.ftp_base.specs.Net.{ipv4, same_ip}
-use Rattle.ftp_options.specs.declared.options.Options.{Options}
-use Rattle.ftp_switchboard.specs.Board.{holder_at, is_key, still_holder}
-use Rattle.ftp_numbers.specs.Used.{has}
-use Rattle.ftp_events.specs.declared.action.Action.{Action}
-use Rattle.ftp_events.specs.declared.decision.Decision.{Decision}
+use Rattle.ftp_hub.proofs.Common.{Action, Answer, Decision, Entry, EventKind, Hub, HubEvent, IpAddr, IsFew, Options, Serves, Session, Stands, V4, decide, entry, has, held_after, history, holder, holder_at, ipv4, is_refusal, live_after, lives_on, named_session, new_number, next_lane, past_of, running_after, same-both, session, session_acts, session_after, waiting_port}
+use Rattle.ftp_base.specs.Net.{same_ip}
+use Rattle.ftp_switchboard.specs.Board.{is_key, still_holder}
 use Rattle.ftp_events.specs.declared.decision.Decision.TheVariants as decision
-use Rattle.ftp_events.specs.declared.entry.Entry.{Entry}
-use Rattle.ftp_events.specs.declared.event.Answer.{Answer}
-use Rattle.ftp_events.specs.declared.event.EventKind.{EventKind}
 use Rattle.ftp_events.specs.declared.event.EventKind.TheVariants as kind
-use Rattle.ftp_events.specs.declared.event.HubEvent.{HubEvent}
 use Rattle.ftp_events.specs.declared.decision.SlotMove.{SlotMove}
 use Rattle.ftp_events.specs.declared.decision.SlotMove.TheVariants.{Awaits, Empties}
-use Rattle.ftp_events.specs.declared.session.Session.{Session}
 use Rattle.ftp_events.specs.Classes.{gives_up, slot_move}
 use Rattle.ftp_events.specs.Words.{is_number}
-use Rattle.ftp_events.specs.Log.{past_of, is_refusal, new_number, named_session}
 use Rattle.ftp_events.specs.Opening.{opened_number}
-use Rattle.ftp_events.specs.Board.{granted_port, gives_up_hold, holder}
-use Rattle.ftp_events.specs.History.{history}
+use Rattle.ftp_events.specs.Board.{granted_port, gives_up_hold}
 use Rattle.ftp_events.specs.Notices.{notice_count}
 use Rattle.ftp_events.specs.Place.{ticket_count}
-use Rattle.ftp_events.specs.Running.{running_after}
-use Rattle.ftp_events.specs.Slot.{waiting_port}
-use Rattle.ftp_events.specs.Session.{session, lives_on, session_after, next_lane, live_after}
-use Rattle.ftp_events.specs.Decide.{decide}
-use Rattle.ftp_events.specs.Acts.{session_acts}
 use Rattle.ftp_laws.proofs.QuestionLemmas.{session-told}
 use Rattle.ftp_laws.proofs.HoldLemmas.{WaitsFor, holder-waits, same_ip-equal}
 use Rattle.ftp_laws.proofs.PortLemmas.{named-target}
-use Rattle.ftp_laws.proofs.TableLemmas.{IsNamed, holder-named, holder-granted, and-zero, eq-comm, same-both}
+use Rattle.ftp_laws.proofs.TableLemmas.{IsNamed, holder-named, holder-granted, and-zero, eq-comm}
 use Rattle.ftp_laws.proofs.ClassLemmas.{awaits-is, granted-is}
-use Rattle.ftp_hub.specs.declared.hub.Hub.{Hub}
-use Rattle.ftp_handlers.specs.Handlers.{IsFew, held_after, held_by}
-use Rattle.ftp_hub.specs.Stands.{Stands, Serves, entry}
+use Rattle.ftp_handlers.specs.Handlers.{held_by}
 use Rattle.ftp_hub.proofs.Counts.{notices-few, tickets-few}
 use Rattle.ftp_hub.proofs.About.{serves-about}
 use Rattle.ftp_hub.proofs.Clients.{pooled-shared, client-v4}

@@ -2,33 +2,18 @@
 use Rattle.std.proofs.Common.{◌≡◌, refl, sym, ap, ◌∙◌, subst, ℕ, ◌+◌, Bool, true, false, cond, ◌||◌, List, [], ◌∷◌, Some, None, eq-eqb, eqb-true}
 use Rattle.std.specs.Prelude.{◌==◌, nat_eq}
 use Rattle.std.specs.HashMap as map
-use Rattle.ftp_base.specs.declared.net.IpAddr.TheVariants.{V4}
+use Rattle.ftp_hub.proofs.Common.{Action, Answer, Entry, Hub, HubEvent, Jobs, Options, Serves, Stands, Tables, V4, acts, decide, entry, has, history, holder, holder_at, is_used, past_of, running_job, same-both, session}
 use Rattle.ftp_base.specs.declared.net.SocketAddr.{SocketAddr}
 use Rattle.ftp_base.specs.Net.{is_v6}
-use Rattle.ftp_options.specs.declared.options.Options.{Options}
-use Rattle.ftp_switchboard.specs.Board.{holder_at}
-use Rattle.ftp_numbers.specs.Used.{has}
-use Rattle.ftp_events.specs.declared.action.Action.{Action}
 use Rattle.ftp_events.specs.declared.decision.Decision.TheVariants as decision
-use Rattle.ftp_events.specs.declared.entry.Entry.{Entry}
-use Rattle.ftp_events.specs.declared.event.Answer.{Answer}
 use Rattle.ftp_events.specs.declared.event.EventKind.TheVariants as kind
-use Rattle.ftp_events.specs.declared.event.HubEvent.{HubEvent}
 use Rattle.ftp_events.specs.declared.session.Opening.{Opening}
-use Rattle.ftp_events.specs.Log.{past_of, is_used}
-use Rattle.ftp_events.specs.Board.{holder}
-use Rattle.ftp_events.specs.History.{history}
 use Rattle.ftp_events.specs.Running.{running_count}
 use Rattle.ftp_events.specs.Slot.{lane}
-use Rattle.ftp_events.specs.Session.{session, running_job, is_live, new_session}
-use Rattle.ftp_events.specs.Decide.{decide}
-use Rattle.ftp_events.specs.Acts.{acts}
+use Rattle.ftp_events.specs.Session.{is_live, new_session}
 use Rattle.ftp_laws.proofs.QuestionLemmas.{counting-counts, running-other, session-other, session-opened}
-use Rattle.ftp_laws.proofs.TableLemmas.{holder-other, same-both}
+use Rattle.ftp_laws.proofs.TableLemmas.{holder-other}
 use Rattle.ftp_laws.proofs.NotificationLemmas.{unused-opener}
-use Rattle.ftp_hub.specs.declared.hub.Hub.{Hub}
-use Rattle.ftp_handlers.specs.Handlers.{Jobs}
-use Rattle.ftp_hub.specs.Stands.{Tables, Stands, Serves, entry}
 use Rattle.ftp_laws.proofs.RunningLemmas.{unused-idle}
 use Rattle.ftp_hub.proofs.Running.{running-none}
 

@@ -1,21 +1,8 @@
 -- Refused events, and tables that give the same answers.
 use Rattle.std.proofs.Common.{◌≡◌, sym, ap, ◌∙◌, subst, ◌+◌, true, List, [], length}
-use Rattle.ftp_base.specs.declared.net.IpAddr.TheVariants.{V4}
-use Rattle.ftp_options.specs.declared.options.Options.{Options}
-use Rattle.ftp_events.specs.declared.action.Action.{Action}
-use Rattle.ftp_events.specs.declared.decision.Decision.{Decision}
-use Rattle.ftp_events.specs.declared.entry.Entry.{Entry}
-use Rattle.ftp_events.specs.declared.event.Answer.{Answer}
-use Rattle.ftp_events.specs.declared.event.HubEvent.{HubEvent}
-use Rattle.ftp_events.specs.Log.{past_of, is_refusal}
-use Rattle.ftp_events.specs.Board.{holder}
-use Rattle.ftp_events.specs.Session.{session, running_job}
-use Rattle.ftp_events.specs.Decide.{decide}
-use Rattle.ftp_events.specs.Acts.{acts}
-use Rattle.ftp_events.specs.Right.{IsRight, IsActed}
+use Rattle.ftp_hub.proofs.Common.{Action, Answer, Decision, Entry, Hub, HubEvent, IsActed, IsRight, Options, Serves, Stands, Tables, V4, acts, decide, entry, holder, is_refusal, past_of, running_job, session}
 use Rattle.ftp_laws.proofs.QuestionLemmas.{counting-refused}
-use Rattle.ftp_hub.specs.declared.hub.Hub.{Hub}
-use Rattle.ftp_hub.specs.Stands.{Tables, Stands, Serves, SameTables, SameAnswers, entry}
+use Rattle.ftp_hub.specs.Stands.{SameTables, SameAnswers}
 
 -- a refused event changes nothing
 pub serves-refusal : (old new : Hub) (log : List Entry) (event : HubEvent) (answer : Answer) (d : Decision) (done : List Action) → Stands old log → d ≡ decide old.options log event answer → is_refusal d ≡ true → done ≡ [] → Tables new (past_of log) → Serves old new log event answer d done

@@ -1,15 +1,13 @@
 -- The decisions with which a session and its job go on, and those that end it.
 use Rattle.std.proofs.Common.{◌≡◌, refl, ap, ◌∙◌, ℕ, ◌-◌, true, false, cond, Option, None}
 use Rattle.std.specs.Prelude.{unwrap_or}
-use Rattle.ftp_events.specs.declared.decision.Decision.{Decision}
+use Rattle.ftp_hub.proofs.Common.{Decision, Pending, live_after, lives_on, new_number}
 use Rattle.ftp_events.specs.declared.decision.Life.{Life}
 use Rattle.ftp_events.specs.declared.decision.Life.TheVariants.{Goes, Ends}
 use Rattle.ftp_events.specs.declared.decision.SlotMove.{SlotMove}
-use Rattle.ftp_events.specs.declared.session.Pending.{Pending}
 use Rattle.ftp_events.specs.declared.decision.SlotMove.TheVariants.{Keeps, Empties, EmptiesWaiting, Awaits}
 use Rattle.ftp_events.specs.Classes.{ends, is_ending, life, slot_move}
-use Rattle.ftp_events.specs.Log.{new_number}
-use Rattle.ftp_events.specs.Session.{lives_on, live_after, live_by_life, told_of_life}
+use Rattle.ftp_events.specs.Session.{live_by_life, told_of_life}
 use Rattle.ftp_events.specs.Slot.{Lane, starts_by}
 use Rattle.ftp_laws.proofs.ClassLemmas.{ending-empties}
 use Rattle.ftp_laws.proofs.SubjectLemmas.{no-stop}

@@ -2,24 +2,16 @@
 use Rattle.std.proofs.Common.{◌≡◌, refl, ap, ◌∙◌, ℕ, ◌+◌, ◌-◌, Bool, false, cond, List, [], ◌∷◌, Option, Some, None, arith}
 use Rattle.std.specs.Prelude.{◌==◌, count_by, is_some}
 use Rattle.std.proofs.lemmas.List.Sums.{sum_by-cons}
-use Rattle.ftp_options.specs.declared.options.Options.{Options}
-use Rattle.ftp_events.specs.declared.session.Running.{Running}
-use Rattle.ftp_transfer.specs.declared.job.Ticket.{Ticket}
-use Rattle.ftp_events.specs.declared.action.Action.{Action}
+use Rattle.ftp_hub.proofs.Common.{Action, Answer, Decision, EventKind, Options, Pending, Running, Session, Ticket, running_after, session_acts, starting}
 use Rattle.ftp_events.specs.declared.action.Action.TheVariants as action
-use Rattle.ftp_events.specs.declared.decision.Decision.{Decision}
 use Rattle.ftp_events.specs.declared.decision.Decision.TheVariants as decision
-use Rattle.ftp_events.specs.declared.event.Answer.{Answer}
-use Rattle.ftp_events.specs.declared.event.EventKind.{EventKind}
 use Rattle.ftp_events.specs.declared.event.EventKind.TheVariants as kind
-use Rattle.ftp_events.specs.declared.session.Pending.{Pending}
-use Rattle.ftp_events.specs.declared.session.Session.{Session}
 use Rattle.ftp_events.specs.Words.{total}
 use Rattle.ftp_events.specs.Slot.{Lane, started_by}
 use Rattle.ftp_laws.proofs.CountLemmas.{IsOnTransfers, count-drop_acts, count-session_acts}
 use Rattle.ftp_laws.proofs.BalanceLemmas.{is_finished, no-completion}
-use Rattle.ftp_events.specs.Acts.{completions, session_acts, start_acts, starting, stays}
-use Rattle.ftp_events.specs.Running.{ended, started, running_after}
+use Rattle.ftp_events.specs.Acts.{completions, start_acts, stays}
+use Rattle.ftp_events.specs.Running.{ended, started}
 
 -- a count in which an action is one or nothing, and only what becomes of transfers is one, but no cancellation
 record TellsJobs (f : Action → ℕ) : Type 0 where

@@ -1,18 +1,12 @@
 -- One more event of a run, and the headline of a whole run.
 use Rattle.std.proofs.Common.{◌≡◌, refl, sym, ap, ◌∙◌, subst, ℕ, ◌+◌, ◌<◌, ◌≤◌, append-nil, take_all, List, [], ◌∷◌, ◌++◌, map, reverse, take, get_or, length, append_assoc}
 use Rattle.std.proofs.lemmas.List.{reverse-append, take_more, map-append}
-use Rattle.ftp_options.specs.declared.options.Options.{Options}
-use Rattle.ftp_events.specs.declared.entry.Entry.{Entry}
-use Rattle.ftp_events.specs.declared.event.HubEvent.{HubEvent}
+use Rattle.ftp_hub.proofs.Common.{Entry, Hub, HubEvent, IsActed, IsRight, Options, Stands, options_of, past_of}
 use Rattle.ftp_events.specs.Leads.{Views, Outside, LeadsOne, Leads}
-use Rattle.ftp_events.specs.Log.{past_of}
-use Rattle.ftp_events.specs.Right.{IsRight, IsActed}
 use Rattle.ftp_events.specs.Headline.{IsServed, AllServed}
 use Rattle.ftp_laws.proofs.ServiceLemmas.{all-served}
-use Rattle.ftp_hub.specs.declared.hub.Hub.{Hub}
 use Rattle.ftp_hub.specs.Headline.{IsFresh, Headline}
 use Rattle.ftp_hub.specs.Runs.{GoesOn, LeadsOn}
-use Rattle.ftp_hub.specs.Stands.{Stands, options_of}
 
 -- an entry of the event after the log goes on by it
 pub goes-on-one : (old new : List Entry) (e : Entry) (event : HubEvent) → new ≡ e ∷ old → e.event ≡ event → GoesOn old new (event ∷ [])

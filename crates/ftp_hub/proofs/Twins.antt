@@ -3,42 +3,28 @@ use Rattle.std.proofs.Common.{◌≡◌, refl, sym, ap, ◌∙◌, ℕ, Bool, tr
 use Rattle.std.specs.Prelude.{nat_eq, unwrap_or}
 use Rattle.std.specs.Option.{option_and_then, option_map, option_map_or, option_or}
 use Rattle.std.specs.HashMap as map
+use Rattle.ftp_hub.proofs.Common.{Action, Answer, Decision, Entry, EventKind, Hub, IpAddr, Options, Pending, Running, Session, Stands, Ticket, V4, acts, decide, is_refusal, new_number, past_of, running_job, session, session_acts, starting}
 use Rattle.ftp_base.specs.declared.command.DataChanCmd.{DataChanCmd}
-use Rattle.ftp_base.specs.declared.net.IpAddr.{IpAddr}
-use Rattle.ftp_base.specs.declared.net.IpAddr.TheVariants.{V4, V6}
+use Rattle.ftp_base.specs.declared.net.IpAddr.TheVariants.{V6}
 use Rattle.ftp_base.specs.declared.notice.Notice.{Notice}
 use Rattle.ftp_base.specs.declared.reply.Reply.{Reply}
 use Rattle.ftp_base.specs.declared.reply.Reply.TheVariants as reply
-use Rattle.ftp_options.specs.declared.options.Options.{Options}
 use Rattle.ftp_transfer.specs.declared.job.Job.{Job}
-use Rattle.ftp_transfer.specs.declared.job.Ticket.{Ticket}
-use Rattle.ftp_events.specs.declared.action.Action.{Action}
 use Rattle.ftp_events.specs.declared.action.Action.TheVariants as action
-use Rattle.ftp_events.specs.declared.decision.Decision.{Decision}
 use Rattle.ftp_events.specs.declared.decision.Decision.TheVariants as decision
-use Rattle.ftp_events.specs.declared.entry.Entry.{Entry}
-use Rattle.ftp_events.specs.declared.event.Answer.{Answer}
-use Rattle.ftp_events.specs.declared.event.EventKind.{EventKind}
 use Rattle.ftp_events.specs.declared.event.EventKind.TheVariants as kind
-use Rattle.ftp_events.specs.declared.session.Pending.{Pending}
-use Rattle.ftp_events.specs.declared.session.Running.{Running}
-use Rattle.ftp_events.specs.declared.session.Session.{Session}
 use Rattle.ftp_events.specs.declared.session.Slot.{Slot}
 use Rattle.ftp_events.specs.declared.session.Slot.TheVariants.{Empty, Waits, Linked}
-use Rattle.ftp_events.specs.Acts.{acts, cancellations, closings, completions, drop_acts, farewells, link_in, notice_and_reply, notice_for, notifications, presence_for, refused_link, reply_acts, session_acts, start_acts, starting, stays}
-use Rattle.ftp_events.specs.Decide.{decide}
+use Rattle.ftp_events.specs.Acts.{cancellations, closings, completions, drop_acts, farewells, link_in, notice_and_reply, notice_for, notifications, presence_for, refused_link, reply_acts, start_acts, stays}
 use Rattle.ftp_events.specs.Classes.{is_ending}
 use Rattle.ftp_events.specs.History.{Subject, Nobody, One, All, subject, meant}
-use Rattle.ftp_events.specs.Log.{is_refusal, new_number, past_of}
 use Rattle.ftp_events.specs.Login.{logged_user, login_by}
 use Rattle.ftp_events.specs.Reply.{delay_of, message_for, reply_for}
-use Rattle.ftp_events.specs.Session.{session, running_job}
 use Rattle.ftp_events.specs.Slot.{asked_command, drops, startable, with_link}
 use Rattle.ftp_events.specs.Transfer.{pending_of}
 use Rattle.ftp_laws.proofs.SubjectLemmas.{no-stop, one-meant, by_subject}
-use Rattle.ftp_hub.specs.declared.hub.Hub.{Hub}
 use Rattle.ftp_handlers.specs.Handlers.{asked_for}
-use Rattle.ftp_hub.specs.Stands.{Stands, pending_for}
+use Rattle.ftp_hub.specs.Stands.{pending_for}
 use Rattle.ftp_hub.specs.Twin.{can_start, concerned_in, first_start, job_at, started_for, started_job, subject_in, waiting_in}
 
 -- where no value comes of any, none comes

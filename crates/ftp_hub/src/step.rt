@@ -77,7 +77,9 @@ impl Hub {
                 self.transfer(room, event, answer, *session)
             }
             EventKind::End { ticket } => self.end(room, event, answer, *ticket),
-            EventKind::Closed { session } | EventKind::Quit { session } => self.close(room, event, answer, *session),
+            EventKind::Closed { session } | EventKind::Quit { session } => self.close(
+                room, event, answer, *session,
+            ),
         }
     }
 

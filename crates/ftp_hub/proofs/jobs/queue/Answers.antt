@@ -1,18 +1,11 @@
 use Rattle.std.proofs.Common.{◌≡◌, refl, sym, ap, ◌∙◌, subst, ℕ, ◌+◌, Bool, true, false, cond, Option, Some, None, add-zero}
 use Rattle.std.specs.Prelude.{nat_eq, unwrap_or}
 use Rattle.std.specs.HashMap as map
-use Rattle.ftp_options.specs.declared.options.Options.{Options}
-use Rattle.ftp_events.specs.declared.session.Running.{Running}
-use Rattle.ftp_transfer.specs.declared.job.Ticket.{Ticket}
-use Rattle.ftp_events.specs.declared.decision.Decision.{Decision}
+use Rattle.ftp_hub.proofs.Common.{Answer, Decision, EventKind, IsFew, Options, Running, Session, Starts, Ticket, session_acts, session_after, starting}
 use Rattle.ftp_events.specs.declared.decision.Decision.TheVariants as decision
-use Rattle.ftp_events.specs.declared.event.Answer.{Answer}
-use Rattle.ftp_events.specs.declared.event.EventKind.{EventKind}
-use Rattle.ftp_events.specs.declared.session.Session.{Session}
-use Rattle.ftp_events.specs.Acts.{notice_and_reply, session_acts, starting}
+use Rattle.ftp_events.specs.Acts.{notice_and_reply}
 use Rattle.ftp_events.specs.CommandRows.{can_queue, if_logged_in, is_logged_in, transfer_row}
-use Rattle.ftp_events.specs.Session.{session_after}
-use Rattle.ftp_handlers.specs.Handlers.{IsFew, Starts, number_of, with_queued}
+use Rattle.ftp_handlers.specs.Handlers.{number_of, with_queued}
 use Rattle.ftp_laws.proofs.BalanceLemmas.{no-completion}
 use Rattle.ftp_hub.proofs.Decisions.{starts-none}
 use Rattle.ftp_hub.proofs.jobs.queue.Goals as goal

@@ -1,5 +1,5 @@
 use Rattle.std.proofs.Common.{◌∙◌, sym, arith}
-use Rattle.ftp_hub.specs.Stands.{options_of}
+use Rattle.ftp_hub.proofs.Common.{options_of}
 use Rattle.ftp_hub.proofs.Links.{has_links-under}
 use Rattle.ftp_hub.proofs.Runs.{goes-on-more, headline-fresh, leads-on, leads-under}
 use Rattle.ftp_hub.proofs.run.run_events.Goals as goal

@@ -2,7 +2,7 @@ use Rattle.std.proofs.Common.{◌≡◌, refl, sym, ap, ◌∙◌, subst}
 use Rattle.std.specs.Prelude.{OnSome}
 use Rattle.std.specs.Option.{option_copied_mut}
 use Rattle.std.specs.FinMap as map
-use Rattle.ftp_hub.specs.Runs.{is_linked}
+use Rattle.ftp_hub.proofs.Common.{is_linked}
 use Rattle.ftp_hub.proofs.Links.{insert-linked}
 use Rattle.ftp_hub.proofs.run.run_job.Goals as goal
 

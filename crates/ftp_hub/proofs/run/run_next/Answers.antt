@@ -1,13 +1,7 @@
 use Rattle.std.proofs.Common.{◌≡◌, sym, ap, subst, ◌∙◌, ◌∷◌, List, true}
-use Rattle.ftp_options.specs.declared.options.Options.{Options}
-use Rattle.ftp_events.specs.declared.entry.Entry.{Entry}
-use Rattle.ftp_events.specs.declared.event.HubEvent.{HubEvent}
+use Rattle.ftp_hub.proofs.Common.{Entry, HubEvent, IsRight, Options, is_linked, options_of, past_of}
 use Rattle.ftp_events.specs.Covers.{is_covered}
 use Rattle.ftp_events.specs.Leads.{HasLinks}
-use Rattle.ftp_events.specs.Log.{past_of}
-use Rattle.ftp_events.specs.Right.{IsRight}
-use Rattle.ftp_hub.specs.Runs.{is_linked}
-use Rattle.ftp_hub.specs.Stands.{options_of}
 use Rattle.ftp_hub.proofs.Links.{has_link_of-due, links-more}
 use Rattle.ftp_hub.proofs.Runs.{goes-on-one, leads-one}
 use Rattle.ftp_hub.proofs.run.run_next.Goals as goal

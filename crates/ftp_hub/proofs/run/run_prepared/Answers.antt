@@ -1,8 +1,7 @@
 use Rattle.std.proofs.Common.{◌≡◌, refl, sym, ap, ◌∙◌, true}
-use Rattle.ftp_events.specs.declared.event.HubEvent.{HubEvent}
+use Rattle.ftp_hub.proofs.Common.{HubEvent, is_linked, past_of}
 use Rattle.ftp_events.specs.Leads.{job_to_run}
-use Rattle.ftp_events.specs.Log.{past_of}
-use Rattle.ftp_hub.specs.Runs.{has_link_of, is_linked}
+use Rattle.ftp_hub.specs.Runs.{has_link_of}
 use Rattle.ftp_hub.proofs.Links.{job-due}
 use Rattle.ftp_hub.proofs.run.run_prepared.Goals.{in-None, in-Some}
 use Rattle.ftp_hub.proofs.run.run_prepared.Goals as goal

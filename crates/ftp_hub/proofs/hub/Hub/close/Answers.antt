@@ -2,21 +2,13 @@ use Rattle.std.proofs.Common.{◌≡◌, refl, sym, ap, ◌∙◌, ℕ, Option, 
 use Rattle.std.specs.Prelude.{nat_eq, ◌==◌, unwrap_or}
 use Rattle.std.specs.HashMap as map
 use Rattle.std.proofs.Common.{arith, ◌-◌}
-use Rattle.ftp_events.specs.Log.{past_of}
-use Rattle.ftp_events.specs.Session.{session_after}
-use Rattle.ftp_handlers.specs.Handlers.{held_after, notices_of, number_of}
-use Rattle.ftp_events.specs.declared.decision.Decision.{Decision}
-use Rattle.ftp_events.specs.declared.session.Session.{Session}
+use Rattle.ftp_hub.proofs.Common.{Decision, Running, Session, held_after, holder_at, ipv4, notices_of, past_of, session_acts, session_after, waiting_port}
+use Rattle.ftp_handlers.specs.Handlers.{number_of}
 use Rattle.ftp_hub.proofs.Refusals.{tables-same}
 use Rattle.ftp_hub.proofs.Decisions.{put-back}
 use Rattle.ftp_hub.proofs.Commands.{serves-unknown, serves-command, ending-plain}
 use Rattle.ftp_hub.proofs.Rows.{EndsLife, ending-ends}
 use Rattle.ftp_hub.proofs.Moved.{jobs-stay}
-use Rattle.ftp_base.specs.Net.{ipv4}
-use Rattle.ftp_switchboard.specs.Board.{holder_at}
-use Rattle.ftp_events.specs.Acts.{session_acts}
-use Rattle.ftp_events.specs.Slot.{waiting_port}
-use Rattle.ftp_events.specs.declared.session.Running.{Running}
 use Rattle.ftp_hub.proofs.hub.Hub.close.Goals as goal
 
 -- a session that is not live

@@ -1,18 +1,12 @@
 use Rattle.std.proofs.Common.{◌≡◌, refl, sym, ap, ◌∙◌, ℕ, Option, Some}
 use Rattle.std.specs.Prelude.{nat_eq, unwrap_or}
 use Rattle.std.specs.HashMap as map
-use Rattle.ftp_events.specs.Log.{past_of}
-use Rattle.ftp_events.specs.declared.session.Session.{Session}
+use Rattle.ftp_hub.proofs.Common.{Running, Session, held_after, holder_at, ipv4, past_of, session_acts, waiting_port}
 use Rattle.ftp_hub.proofs.Refusals.{tables-same}
-use Rattle.ftp_base.specs.Net.{ipv4}
-use Rattle.ftp_switchboard.specs.Board.{holder_at}
-use Rattle.ftp_events.specs.Acts.{session_acts}
-use Rattle.ftp_events.specs.Slot.{waiting_port}
-use Rattle.ftp_handlers.specs.Handlers.{held_after, number_of}
+use Rattle.ftp_handlers.specs.Handlers.{number_of}
 use Rattle.ftp_hub.proofs.Commands.{serves-unknown, serves-command, command-plain}
 use Rattle.ftp_hub.proofs.Moved.{jobs-stay, sessions-stay}
 use Rattle.ftp_hub.proofs.Rows.{goes_on-lives}
-use Rattle.ftp_events.specs.declared.session.Running.{Running}
 use Rattle.ftp_hub.proofs.hub.Hub.command.Goals as goal
 
 -- a session that is not live

@@ -1,8 +1,7 @@
 use Rattle.std.proofs.Common.{◌≡◌, refl, sym, ap, ◌∙◌, true, false, None, []}
 use Rattle.std.specs.Prelude.{nat_eq}
 use Rattle.std.specs.HashMap as map
-use Rattle.ftp_events.specs.Decide.{decide}
-use Rattle.ftp_events.specs.Log.{past_of, is_used}
+use Rattle.ftp_hub.proofs.Common.{decide, is_used, past_of}
 use Rattle.ftp_events.specs.declared.decision.Decision.TheVariants as decision
 use Rattle.ftp_handlers.specs.Rooms.{actions_in}
 use Rattle.ftp_hub.proofs.Refusals.{serves-refused}

@@ -1,24 +1,17 @@
 use Rattle.std.proofs.Common.{◌≡◌, refl, sym, ap, subst, ◌∙◌, Bool, true, false, Option, Some}
 use Rattle.std.specs.Prelude.{nat_eq}
 use Rattle.std.specs.HashMap as map
-use Rattle.ftp_events.specs.Decide.{decide}
-use Rattle.ftp_events.specs.Log.{past_of, is_used}
 use Rattle.ftp_events.specs.declared.decision.Decision.TheVariants as decision
 use Rattle.ftp_switchboard.proofs.BoardLemmas.{get-remove-key}
 use Rattle.ftp_hub.proofs.Refusals.{serves-refusal, serves-refused, tables-same}
 use Rattle.ftp_hub.proofs.DataLinks.{serves-unheld, serves-held, held-live}
 use Rattle.ftp_base.specs.Net.{same_ip}
-use Rattle.ftp_events.specs.declared.decision.Decision.{Decision}
 use Rattle.ftp_events.specs.declared.event.EventKind.TheVariants.{DataIn}
 use Rattle.ftp_events.specs.Modes.{in_range}
-use Rattle.ftp_events.specs.Session.{session_after}
-use Rattle.ftp_events.specs.declared.session.Running.{Running}
-use Rattle.ftp_events.specs.Acts.{session_acts, starting}
-use Rattle.ftp_handlers.specs.Handlers.{Starts}
 use Rattle.ftp_hub.specs.Arrivals.{arrival_of}
-use Rattle.ftp_events.specs.declared.session.Session.{Session}
 use Rattle.ftp_switchboard.specs.Board.{Held, key}
 use Rattle.std.specs.FinMap as finmap
+use Rattle.ftp_hub.proofs.Common.{Decision, Running, Session, Starts, decide, is_used, past_of, session_acts, session_after, starting}
 use Rattle.ftp_hub.proofs.hub.Hub.data_in.Goals as goal
 
 -- an address of version 6 is refused

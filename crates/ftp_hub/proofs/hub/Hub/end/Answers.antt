@@ -2,12 +2,11 @@ use Rattle.std.proofs.Common.{◌≡◌, refl, sym, ap, ◌∙◌, Bool, true, f
 use Rattle.std.specs.Prelude.{nat_eq}
 use Rattle.std.specs.Option.{option_copied}
 use Rattle.std.specs.HashMap as map
+use Rattle.ftp_hub.proofs.Common.{Answer, Running}
 use Rattle.ftp_transfer.specs.declared.job.Job.{Job}
-use Rattle.ftp_events.specs.declared.session.Running.{Running}
 use Rattle.ftp_transfer.specs.declared.job.Outcome.{Outcome}
 use Rattle.ftp_transfer.specs.Transfer.{suits}
 use Rattle.ftp_events.specs.declared.decision.Decision.TheVariants as decision
-use Rattle.ftp_events.specs.declared.event.Answer.{Answer}
 use Rattle.ftp_events.specs.declared.event.Answer.TheVariants.{Done}
 use Rattle.ftp_events.specs.declared.event.Answer.TheVariants as answer
 use Rattle.ftp_events.specs.EndRows.{end_row, outcome_row}

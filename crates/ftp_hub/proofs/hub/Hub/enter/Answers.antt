@@ -1,7 +1,5 @@
 use Rattle.std.proofs.Common.{◌≡◌, ap, ◌∙◌, [], List}
-use Rattle.ftp_events.specs.declared.action.Action.{Action}
-use Rattle.ftp_events.specs.declared.decision.Decision.{Decision}
-use Rattle.ftp_events.specs.Acts.{acts}
+use Rattle.ftp_hub.proofs.Common.{Action, Decision, acts}
 use Rattle.ftp_handlers.specs.Rooms.{actions_in}
 use Rattle.ftp_hub.proofs.Refusals.{same-refused}
 use Rattle.ftp_hub.proofs.hub.Hub.enter.Goals as goal

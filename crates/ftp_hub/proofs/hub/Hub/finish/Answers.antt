@@ -1,21 +1,12 @@
 use Rattle.std.proofs.Common.{◌≡◌, refl, sym, ap, ◌∙◌, subst, ℕ, ◌+◌, ◌-◌, ◌++◌, true, false, Option, Some, [], ◌∷◌, cond, arith}
 use Rattle.std.specs.Prelude.{nat_eq, ◌==◌, IsSomeAnd}
 use Rattle.std.specs.HashMap as map
-use Rattle.ftp_events.specs.declared.session.Running.{Running}
-use Rattle.ftp_transfer.specs.declared.job.Ticket.{Ticket}
+use Rattle.ftp_hub.proofs.Common.{Answer, EventKind, IsFew, Jobs, Running, Session, Starts, Ticket, named_session, next_lane, notices_of, running_after, session_acts, session_after, starting}
 use Rattle.ftp_transfer.specs.Transfer.{suits}
 use Rattle.ftp_events.specs.declared.action.Action.TheVariants as action
 use Rattle.ftp_events.specs.declared.decision.Decision.TheVariants as decision
-use Rattle.ftp_events.specs.declared.event.Answer.{Answer}
 use Rattle.ftp_events.specs.declared.event.Answer.TheVariants.{Done}
-use Rattle.ftp_events.specs.declared.event.EventKind.{EventKind}
 use Rattle.ftp_events.specs.declared.event.EventKind.TheVariants as kind
-use Rattle.ftp_events.specs.declared.session.Session.{Session}
-use Rattle.ftp_events.specs.Log.{named_session}
-use Rattle.ftp_events.specs.Running.{running_after}
-use Rattle.ftp_events.specs.Session.{next_lane, session_after}
-use Rattle.ftp_events.specs.Acts.{session_acts, starting}
-use Rattle.ftp_handlers.specs.Handlers.{IsFew, Jobs, Starts, notices_of}
 use Rattle.ftp_hub.proofs.Named.{few-counts, serves-named}
 use Rattle.ftp_hub.proofs.Ends.{finish-due, jobs-finished, running-finished, serves-lost}
 use Rattle.ftp_hub.proofs.hub.Hub.finish.Goals as goal

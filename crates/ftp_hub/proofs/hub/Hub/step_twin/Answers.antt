@@ -1,13 +1,8 @@
 use Rattle.std.proofs.Common.{sym, ap, ◌∙◌, subst, ◌∷◌, ℕ, Option}
 use Rattle.std.specs.Option.{option_and_then, option_map}
-use Rattle.ftp_options.specs.declared.options.Options.{Options}
-use Rattle.ftp_transfer.specs.declared.job.Ticket.{Ticket}
-use Rattle.ftp_events.specs.declared.entry.Entry.{Entry}
-use Rattle.ftp_events.specs.declared.session.Pending.{Pending}
-use Rattle.ftp_events.specs.Log.{past_of}
-use Rattle.ftp_events.specs.Right.{IsRight, IsActed}
+use Rattle.ftp_hub.proofs.Common.{Entry, IsActed, IsRight, Options, Pending, Ticket, entry, options_of, past_of}
 use Rattle.ftp_handlers.specs.Rooms.{actions_in}
-use Rattle.ftp_hub.specs.Stands.{entry, options_of, pending_for}
+use Rattle.ftp_hub.specs.Stands.{pending_for}
 use Rattle.ftp_hub.specs.Twin.{can_start, first_start, job_at, started_job}
 use Rattle.ftp_hub.proofs.Twins.{job-is}
 use Rattle.ftp_hub.proofs.hub.Hub.step_twin.Goals as goal

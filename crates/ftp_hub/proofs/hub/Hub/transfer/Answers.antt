@@ -1,15 +1,9 @@
 use Rattle.std.proofs.Common.{◌≡◌, refl, sym, ap, ◌∙◌, ℕ, Option, Some}
 use Rattle.std.specs.Prelude.{nat_eq}
 use Rattle.std.specs.HashMap as map
-use Rattle.ftp_base.specs.Net.{ipv4}
-use Rattle.ftp_switchboard.specs.Board.{Board, holder_at}
-use Rattle.ftp_events.specs.declared.session.Running.{Running}
-use Rattle.ftp_events.specs.Log.{past_of}
-use Rattle.ftp_events.specs.Session.{session_after}
-use Rattle.ftp_events.specs.Slot.{waiting_port}
-use Rattle.ftp_events.specs.declared.decision.Decision.{Decision}
-use Rattle.ftp_events.specs.declared.session.Session.{Session}
-use Rattle.ftp_handlers.specs.Handlers.{IsFew, held_for}
+use Rattle.ftp_hub.proofs.Common.{Decision, IsFew, Running, Session, holder_at, ipv4, past_of, session_after, waiting_port}
+use Rattle.ftp_switchboard.specs.Board.{Board}
+use Rattle.ftp_handlers.specs.Handlers.{held_for}
 use Rattle.ftp_hub.proofs.Refusals.{tables-same}
 use Rattle.ftp_hub.proofs.Named.{few-counts}
 use Rattle.ftp_hub.proofs.Decisions.{Comes, comes-held}
