@@ -97,6 +97,7 @@ fn a_script_is_printed_with_its_decisions_and_actions(rt: HostRuntime) -> Result
         transcripts::ALL_PORTS,
         transcripts::ONE_CLIENT,
         transcripts::TWO_CLIENTS,
+        transcripts::QUITTING,
         transcripts::TURNED,
         transcripts::PASSWORDS,
         transcripts::ATTACHED,
@@ -135,7 +136,7 @@ const OPTIONS: &str = "options pooled 50000 50001 connection passive 600 off res
 /// Lines that are bad behind an options line and link 3.
 const BAD_LINES: [&str; 48] = [
     "0 fly",
-    "0 quit 1",
+    "0 quit",
     "0 abor 1",
     "storage 5 -",
     "options pooled 50000 50001 connection passive 600 off restart",

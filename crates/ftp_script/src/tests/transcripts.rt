@@ -191,6 +191,35 @@ link 11 sent .
 link 12 sent .
 ";
 
+/// A session that quits is told so, and the port that it held is free.
+pub const QUITTING: &str = "< options pooled 50000 50000 connection passive 600 off restart
+> 0 connect 1 10.0.0.1:4000 10.0.0.9:21 1
+= opened
+> 0 user 1 ann
+= needpass
+- reply 1 0 331 Password Required
+> 0 pass 1
+= passout
+> 0 auth 1 good
+= loggedin
+- notify 1 1 0x1 login 0 3 0 ann
+- reply 1 0 230 User logged in, proceed
+> 1 pasv 1 0 - -
+= granted 50000
+- reply 1 0 227 Entering Passive Mode (10,0,0,9,195,80)
+> 2 retr 1 a
+= queued 1.1
+- reply 1 0 150 Sending data
+> 3 quit 1
+= quit
+- cancelled 1.1
+- notify 1 2 0x1 logout 0 3 0 ann
+- reply 1 0 221 Bye!
+- close 1
+> 3 quit 1
+= unknown
+";
+
 /// A connection that nobody waits for is closed, and its number is used.
 pub const TURNED: &str = "< options pooled 50000 50000 connection passive 600 off restart
 < link 11 65536 - .
