@@ -103,6 +103,13 @@ IsSentWhole result.Sent = Unit {0}
 IsSentWhole result.Listed = Unit {0}
 IsSentWhole _ = ⊥
 
+-- the command did what it was asked for
+abbrev pub IsDone : Completion → Type 0
+IsDone result.Sent = Unit {0}
+IsDone result.Written = Unit {0}
+IsDone result.Listed = Unit {0}
+IsDone _ = ⊥
+
 -- what a run moved, what it left, and why it ended
 pub record Moves (job : Job) (old new : Told) (outcome : Outcome) : Type 0 where
   -- which calls the storage refuses by what stands there stays
@@ -117,6 +124,8 @@ pub record Moves (job : Job) (old new : Told) (outcome : Outcome) : Type 0 where
   -- what was stored is the front of the input, and all of it where the result says so
   pub stored : IfSome old.files (λ f. IfSome old.left (λ l. StoresAs job.command job f (old.rule f) new.files l outcome))
   pub written : outcome.result ≡ result.Written → IfSome old.left (λ l. (outcome.bytes ≡ length l) × (new.left ≡ Some []))
+  -- what is done has a byte count below its end
+  pub countable : IsDone outcome.result → outcome.bytes < 2 ^ 64 - 1
   -- why it ended
   pub cause : Caused (link_failure job.command)
       (LinkFailedAt old new) old.sending.last_fault new.sending.last_fault
@@ -164,13 +173,6 @@ Takes c job rule files input = rule files (Listing job.user job.path) ≡ None
 abbrev pub EndsUnrefused : Job → Files → Told → Told → ℕ → Type 0
 EndsUnrefused job files old new m =
     (k : ErrorKind) → Refuses job.command job old.rule files new.files old.left new.left m k → ⊥
-
--- the command did what it was asked for
-abbrev pub IsDone : Completion → Type 0
-IsDone result.Sent = Unit {0}
-IsDone result.Written = Unit {0}
-IsDone result.Listed = Unit {0}
-IsDone _ = ⊥
 
 -- nothing was refused, no call but the link's close failed, memory was found, and the byte count is below its end
 pub record IsClean (job : Job) (old new : Told) (outcome : Outcome) : Type 0 where

@@ -6,6 +6,7 @@ ghost use Rattle.ftp_base.specs.declared.error_kind.ErrorKind.TheVariants as kin
 ghost use Rattle.ftp_base.specs.Calls.{AllWell};
 ghost use Rattle.ftp_base.specs.Storage.{Begin, Append, meaning_of, Grows, old_bytes};
 ghost use Rattle.ftp_transfer.specs.declared.job.Completion.TheVariants as done;
+ghost use Rattle.ftp_transfer.specs.Ran.{IsDone};
 ghost use Rattle.ftp_transfer.specs.Run.{LinkRose, StorageRose, Caused, EndsRefused, RefusedFirst, RefusedLast, GrowsFront, RefusesAppend, TakesFront, Stores, RefusesStore, Appends, RefusesAppe, append_refusal};
 ghost use Rattle.ftp_transfer.specs.Transfer.{is_store, suits};
 ghost use Rattle.ftp_transfer.specs.Turn.{StopsStoring, start_after};
@@ -23,6 +24,7 @@ pub fn store<S: Storage, L: Link>(job: &Job, start: u64, storage: &mut S, link: 
     ensures within { IfSome (L.left link.old) (λ l. result.bytes ≤ length l) }
     ensures whole { result.result ≡ done.Written →
         IfSome (L.left link.old) (λ l. (result.bytes ≡ length l) × (L.left link.new ≡ Some [])) }
+    ensures countable { IsDone result.result → result.bytes < 2 ^ 64 - 1 }
 
     ensures suits { suits result.result job.now.command ≡ true }
     ensures cause { Caused (done.Refused kind.ConnectionClosed)
@@ -62,6 +64,7 @@ pub fn append<S: Storage, L: Link>(job: &Job, storage: &mut S, link: &mut L) -> 
     ensures within { IfSome (L.left link.old) (λ l. result.bytes ≤ length l) }
     ensures whole { result.result ≡ done.Written →
         IfSome (L.left link.old) (λ l. (result.bytes ≡ length l) × (L.left link.new ≡ Some [])) }
+    ensures countable { IsDone result.result → result.bytes < 2 ^ 64 - 1 }
 
     ensures suits { suits result.result job.now.command ≡ true }
     ensures cause { Caused (done.Refused kind.ConnectionClosed)
@@ -112,6 +115,7 @@ pub fn fill<S: Storage, L: Link>(job: &Job, storage: &mut S, link: &mut L) -> Ou
     ensures within { IfSome (L.left link.old) (λ l. result.bytes ≤ length l) }
     ensures whole { result.result ≡ done.Written →
         IfSome (L.left link.old) (λ l. (result.bytes ≡ length l) × (L.left link.new ≡ Some [])) }
+    ensures countable { IsDone result.result → result.bytes < 2 ^ 64 - 1 }
 
     ensures suits { suits result.result job.now.command ≡ true }
     ensures cause { Caused (done.Refused kind.ConnectionClosed)
@@ -167,6 +171,7 @@ pub fn store_piece<S: Storage, L: Link>(
     ensures unchanged { IsSome result.end → S.files storage.new ≡ S.files storage.old }
     ensures whole { IfSome result.end (λ e. e.result ≡ done.Written →
         IfSome (L.left link.old) (λ l. (l ≡ []) × (L.left link.new ≡ Some []))) }
+    ensures countable { IfSome result.end (λ e. IsDone e.result → moved + result.bytes < 2 ^ 64 - 1) }
 
     ensures suits { IfSome result.end (λ e. suits e.result job.now.command ≡ true) }
     ensures cause { IfSome result.end (λ e. Caused (done.Refused kind.ConnectionClosed)
