@@ -15,7 +15,7 @@ use Rattle.ftp_transfer.specs.declared.job.Outcome.{Outcome}
 use Rattle.ftp_transfer.specs.declared.job.Completion.{Completion}
 use Rattle.ftp_transfer.specs.declared.job.Completion.TheVariants as result
 use Rattle.ftp_transfer.specs.Listing.{listing_text}
-use Rattle.ftp_transfer.specs.Run.{StorageRose, LinkRose, link_failure, Caused, RefusedFirst, RefusedLast, Stores, RefusesStore, Appends, RefusesAppe, TakesStore, TakesAppe, append_refusal}
+use Rattle.ftp_transfer.specs.Run.{StorageRose, LinkRose, StorageWent, link_failure, Caused, RefusedFirst, RefusedLast, Stores, RefusesStore, Appends, RefusesAppe, TakesStore, TakesAppe, append_refusal}
 use Rattle.ftp_transfer.specs.Transfer.{is_store}
 
 -- what a storage and a link tell, and their calls
@@ -143,8 +143,8 @@ pub record Moves (job : Job) (old new : Told) (outcome : Outcome) : Type 0 where
       (option_map (drop outcome.bytes) old.left) new.left outcome.result
   -- without a fault no call of the link was one of those that fail
   pub link_well : outcome.fault ≡ None → AllWell (λ (call : ℕ × LinkFault). call.0) old.link_calls new.link_calls
-  -- without a local error no call of the storage was one of those that fail
-  pub storage_well : (outcome.result ≡ result.Refused kind.LocalError → ⊥) → AllWell (λ (call : ℕ). call) old.storage_calls new.storage_calls
+  -- the calls of the storage went well, or the last one failed as listed and the result is a local error
+  pub storage_well : StorageWent old.storage_calls new.storage_calls outcome.result
 
 -- a run of a job: bytes moved, and then the link was closed or its close failed; what that close met changes nothing
 pub record Ran (job : Job) (old new : Told) (outcome : Outcome) : Type 0 where

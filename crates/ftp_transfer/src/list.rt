@@ -1,13 +1,12 @@
 //! LIST, NLST and MLSD: the children of a directory go to the link, a line each.
 
 ghost use Rattle.std.specs.Prelude.{◌≡◌, ◌-◌, ◌^◌, ◌<◌, ◌≤◌, true, length, Some, None, IsSome, IfSome};
-ghost use Rattle.ftp_base.specs.declared.error_kind.ErrorKind.TheVariants as kind;
 ghost use Rattle.ftp_base.specs.Calls.{AllWell};
 ghost use Rattle.ftp_base.specs.Storage.{Listing, meaning_of, listing};
 ghost use Rattle.ftp_transfer.specs.declared.job.Completion.TheVariants as done;
 ghost use Rattle.ftp_transfer.specs.Listing.{listing_text as text_of};
 ghost use Rattle.ftp_transfer.specs.Ran.{RefusesListing, shown_refusal, IsDone};
-ghost use Rattle.ftp_transfer.specs.Run.{LinkRose, StorageRose, SendsFront, Caused, RefusedFirst};
+ghost use Rattle.ftp_transfer.specs.Run.{LinkRose, StorageRose, StorageWent, SendsFront, Caused, RefusedFirst};
 ghost use Rattle.ftp_transfer.specs.Transfer.{is_listing, suits};
 ghost use Rattle.ftp_transfer.specs.Turn.{StopsListing, listing_end};
 
@@ -41,7 +40,7 @@ pub fn list<S: Storage, L: Link>(alloc: Global, job: &Job, storage: &mut S, link
     ensures rule { S.rule storage.new ≡ S.rule storage.old }
     ensures left { L.left link.new ≡ L.left link.old }
     ensures closed { (L.sending link.new).closed ≡ (L.sending link.old).closed }
-    ensures storage_well { (result.result ≡ done.Refused kind.LocalError → ⊥) → AllWell (λ call. call) (S.calls storage.old) (S.calls storage.new) }
+    ensures storage_well { StorageWent (S.calls storage.old) (S.calls storage.new) result.result }
     ensures link_well { result.fault ≡ None → AllWell (λ call. call.0) (L.calls link.old) (L.calls link.new) }
     ensures storage_count { S.faults storage.old ≤ S.faults storage.new }
     ensures storage_limit { S.fault_limit storage.new ≤ S.fault_limit storage.old }
