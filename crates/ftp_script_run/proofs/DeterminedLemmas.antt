@@ -18,7 +18,7 @@ use Rattle.ftp_transfer.specs.declared.job.Completion.{Completion}
 use Rattle.ftp_transfer.specs.declared.job.Completion.TheVariants as result
 use Rattle.ftp_transfer.specs.declared.job.Job.{Job}
 use Rattle.ftp_transfer.specs.declared.job.Outcome.{Outcome}
-use Rattle.ftp_transfer.specs.Ran.{StoresAs, Refuses, first_refusal, shown_refusal, IsSentWhole, IsDone, due_of}
+use Rattle.ftp_transfer.specs.Ran.{StorageFailed, StoresAs, Refuses, first_refusal, shown_refusal, IsSentWhole, IsDone, due_of}
 use Rattle.ftp_transfer.specs.Run.{RefusedBy, IfRefused, RefusedFirst, RefusesStore, IsStopped, Stores, append_place}
 use Rattle.ftp_transfer.specs.Transfer.{suits, is_store}
 use Rattle.ftp_transfer.proofs.RunLemmas.{HasRisen-more}
@@ -92,19 +92,19 @@ files_after (command.Appe x) job max files input = option_map_or (λ place. with
 files_after c job max files input = files
 
 -- what a run tells, from files and an input, of calls that are refused by the files as they stand later
-record Run (c : DataChanCmd) (job : Job) (max : ℕ) (files : Files) (input : List ℕ) (new : Option Files) (later : Option (List ℕ)) (a b : ℕ) (outcome : Outcome) : Type 0 where
-  held : HasRisen a b → ⊥
+record Run (c : DataChanCmd) (job : Job) (max : ℕ) (files : Files) (input : List ℕ) (new : Option Files) (later : Option (List ℕ)) (rose : Type 0) (outcome : Outcome) : Type 0 where
+  held : rose → ⊥
   memory : outcome.result ≡ result.OutOfMemory → ⊥
   exceeded : outcome.result ≡ result.Refused kind.ExceededStorageAllocationError → ⊥
   count : outcome.bytes < 2 ^ 64 - 1
   fits : suits outcome.result c ≡ true
   fault : outcome.fault ≡ None
-  cause : IfRefused (RefusedBy (HasRisen a b) (λ k. Refuses c job (memory_rule max) files new (Some input) later outcome.bytes k) outcome.bytes) outcome.result
+  cause : IfRefused (RefusedBy rose (λ k. Refuses c job (memory_rule max) files new (Some input) later outcome.bytes k) outcome.bytes) outcome.result
   whole : IsSentWhole outcome.result → outcome.bytes ≡ length (due_of c files job.path job.offset)
   kept : is_store c ≡ false → new ≡ Some files
   stored : StoresAs c job files (memory_rule max files) new input outcome
   written : outcome.result ≡ result.Written → outcome.bytes ≡ length input
-  refused : IfSome (first_refusal c job files (memory_rule max files)) (λ k. RefusedFirst (HasRisen a b) k outcome.bytes outcome.result × (new ≡ Some files))
+  refused : IfSome (first_refusal c job files (memory_rule max files)) (λ k. RefusedFirst rose k outcome.bytes outcome.result × (new ≡ Some files))
 
 -- the outcome of such a run and the files that it leaves, by how the first call is refused
 abbrev EndsSo : DataChanCmd → Job → ℕ → Files → List ℕ → Option Files → Outcome → Option ErrorKind → Type 0
@@ -117,19 +117,19 @@ outcome-is outcome r n result bytes fault = λ i. record { result = result i; by
 
 -- ---- a first call that is refused
 
-refused-result : (a b m : ℕ) (k : ErrorKind) (r : Completion) → (HasRisen a b → ⊥) → (r ≡ result.OutOfMemory → ⊥) → RefusedFirst (HasRisen a b) k m r → r ≡ result.Refused k
-refused-result a b m k r held memory (zero, inl e) = e
-refused-result a b m k r held memory (zero, inr (inl e)) = absurd (memory e)
-refused-result a b m k r held memory (zero, inr (inr x)) = absurd (held x.0)
+refused-result : (rose : Type 0) (m : ℕ) (k : ErrorKind) (r : Completion) → (rose → ⊥) → (r ≡ result.OutOfMemory → ⊥) → RefusedFirst rose k m r → r ≡ result.Refused k
+refused-result rose m k r held memory (zero, inl e) = e
+refused-result rose m k r held memory (zero, inr (inl e)) = absurd (memory e)
+refused-result rose m k r held memory (zero, inr (inr x)) = absurd (held x.0)
 
-refused-ends : (c : DataChanCmd) (job : Job) (max : ℕ) (files : Files) (input : List ℕ) (new : Option Files) (later : Option (List ℕ)) (a b : ℕ) (outcome : Outcome) (k : ErrorKind) →
-    Run c job max files input new later a b outcome →
+refused-ends : (c : DataChanCmd) (job : Job) (max : ℕ) (files : Files) (input : List ℕ) (new : Option Files) (later : Option (List ℕ)) (rose : Type 0) (outcome : Outcome) (k : ErrorKind) →
+    Run c job max files input new later rose outcome →
     first_refusal c job files (memory_rule max files) ≡ Some k →
     EndsSo c job max files input new outcome (Some k)
-refused-ends c job max files input new later a b outcome k r is =
-    let told : RefusedFirst (HasRisen a b) k outcome.bytes outcome.result × (new ≡ Some files) =
-    subst (λ (o : Option ErrorKind). IfSome o (λ j. RefusedFirst (HasRisen a b) j outcome.bytes outcome.result × (new ≡ Some files))) is r.refused in (
-      outcome-is outcome (result.Refused k) 0 (refused-result a b outcome.bytes k outcome.result r.held r.memory told.0) told.0.0 r.fault,
+refused-ends c job max files input new later rose outcome k r is =
+    let told : RefusedFirst rose k outcome.bytes outcome.result × (new ≡ Some files) =
+    subst (λ (o : Option ErrorKind). IfSome o (λ j. RefusedFirst rose j outcome.bytes outcome.result × (new ≡ Some files))) is r.refused in (
+      outcome-is outcome (result.Refused k) 0 (refused-result rose outcome.bytes k outcome.result r.held r.memory told.0) told.0.0 r.fault,
       told.1,
     )
 
@@ -218,14 +218,14 @@ settled-done rose refuses m result.OutOfMemory held below none memory h = absurd
 
 -- ---- what a whole transfer moves and leaves
 
-done-count : (c : DataChanCmd) (job : Job) (max : ℕ) (files : Files) (input : List ℕ) (new : Option Files) (later : Option (List ℕ)) (a b : ℕ) (outcome : Outcome) →
-    Run c job max files input new later a b outcome → outcome.result ≡ good c → outcome.bytes ≡ count_of c job files input
-done-count (command.Stor x) job max files input new later a b outcome r is = r.written is
-done-count (command.Appe x) job max files input new later a b outcome r is = r.written is
-done-count (command.Retr x) job max files input new later a b outcome r is = r.whole (subst IsSentWhole (sym is) tt)
-done-count (command.List o x) job max files input new later a b outcome r is = r.whole (subst IsSentWhole (sym is) tt)
-done-count (command.Nlst x) job max files input new later a b outcome r is = r.whole (subst IsSentWhole (sym is) tt)
-done-count (command.Mlsd x) job max files input new later a b outcome r is = r.whole (subst IsSentWhole (sym is) tt)
+done-count : (c : DataChanCmd) (job : Job) (max : ℕ) (files : Files) (input : List ℕ) (new : Option Files) (later : Option (List ℕ)) (rose : Type 0) (outcome : Outcome) →
+    Run c job max files input new later rose outcome → outcome.result ≡ good c → outcome.bytes ≡ count_of c job files input
+done-count (command.Stor x) job max files input new later rose outcome r is = r.written is
+done-count (command.Appe x) job max files input new later rose outcome r is = r.written is
+done-count (command.Retr x) job max files input new later rose outcome r is = r.whole (subst IsSentWhole (sym is) tt)
+done-count (command.List o x) job max files input new later rose outcome r is = r.whole (subst IsSentWhole (sym is) tt)
+done-count (command.Nlst x) job max files input new later rose outcome r is = r.whole (subst IsSentWhole (sym is) tt)
+done-count (command.Mlsd x) job max files input new later rose outcome r is = r.whole (subst IsSentWhole (sym is) tt)
 
 -- a whole input was stored
 stored-whole : (job : Job) (files : Files) (new : Option Files) (place : ℕ) (input : List ℕ) (outcome : Outcome) →
@@ -234,48 +234,48 @@ stored-whole job files new place input outcome (within, inl stored) is whole =
     stored ∙ ap (λ (bytes : List ℕ). Some (with_input job files place bytes)) (take_all outcome.bytes input (omega arith))
 stored-whole job files new place input outcome (within, inr idle) is whole = absurd (subst IsStopped is idle.1.2)
 
-done-files : (c : DataChanCmd) (job : Job) (max : ℕ) (files : Files) (input : List ℕ) (new : Option Files) (later : Option (List ℕ)) (a b : ℕ) (outcome : Outcome) →
-    Run c job max files input new later a b outcome →
+done-files : (c : DataChanCmd) (job : Job) (max : ℕ) (files : Files) (input : List ℕ) (new : Option Files) (later : Option (List ℕ)) (rose : Type 0) (outcome : Outcome) →
+    Run c job max files input new later rose outcome →
     first_refusal c job files (memory_rule max files) ≡ None →
     outcome.result ≡ good c →
     new ≡ Some (files_after c job max files input)
-done-files (command.Stor x) job max files input new later a b outcome r none is = stored-whole job files new job.offset input outcome r.stored is (r.written is)
-done-files (command.Appe x) job max files input new later a b outcome r none is =
+done-files (command.Stor x) job max files input new later rose outcome r none is = stored-whole job files new job.offset input outcome r.stored is (r.written is)
+done-files (command.Appe x) job max files input new later rose outcome r none is =
     let met : Option ErrorKind = memory_rule max files (Metadata job.user job.path) in
     let at = appe-place met (length (old_bytes files job.path)) (λ place. file_refusal files max job.path place) (append_place met (length (old_bytes files job.path))) refl none in
     let stored : Stores files new job.path at.0 input outcome =
     subst (λ (o : Option ℕ). MatchOption o ((new ≡ Some files) × ((outcome.bytes ≡ 0) × (outcome.fault ≡ None) × IsStopped outcome.result)) (λ place. Stores files new job.path place input outcome)) at.1 r.stored in
     stored-whole job files new at.0 input outcome stored is (r.written is)
     ∙ ap (λ (o : Option ℕ). Some (option_map_or (λ place. with_input job files place input) o files)) (sym at.1)
-done-files (command.Retr x) job max files input new later a b outcome r none is = r.kept refl
-done-files (command.List o x) job max files input new later a b outcome r none is = r.kept refl
-done-files (command.Nlst x) job max files input new later a b outcome r none is = r.kept refl
-done-files (command.Mlsd x) job max files input new later a b outcome r none is = r.kept refl
+done-files (command.Retr x) job max files input new later rose outcome r none is = r.kept refl
+done-files (command.List o x) job max files input new later rose outcome r none is = r.kept refl
+done-files (command.Nlst x) job max files input new later rose outcome r none is = r.kept refl
+done-files (command.Mlsd x) job max files input new later rose outcome r none is = r.kept refl
 
-done-ends : (c : DataChanCmd) (job : Job) (max : ℕ) (files : Files) (input : List ℕ) (new : Option Files) (later : Option (List ℕ)) (a b : ℕ) (outcome : Outcome) →
-    Run c job max files input new later a b outcome →
+done-ends : (c : DataChanCmd) (job : Job) (max : ℕ) (files : Files) (input : List ℕ) (new : Option Files) (later : Option (List ℕ)) (rose : Type 0) (outcome : Outcome) →
+    Run c job max files input new later rose outcome →
     first_refusal c job files (memory_rule max files) ≡ None →
     EndsSo c job max files input new outcome None
-done-ends c job max files input new later a b outcome r none =
+done-ends c job max files input new later rose outcome r none =
     let done : IsDone outcome.result =
-    settled-done (HasRisen a b) (λ k. Refuses c job (memory_rule max) files new (Some input) later outcome.bytes k) outcome.bytes outcome.result r.held r.count
+    settled-done rose (λ k. Refuses c job (memory_rule max) files new (Some input) later outcome.bytes k) outcome.bytes outcome.result r.held r.count
     (λ k is refused. r.exceeded (is ∙ ap result.Refused (cause-is c job max outcome.bytes files input new later k none refused)))
     r.memory r.cause in
     let is : outcome.result ≡ good c = good-of c outcome.result done r.fits in (
-      outcome-is outcome (good c) (count_of c job files input) is (done-count c job max files input new later a b outcome r is) r.fault,
-      done-files c job max files input new later a b outcome r none is,
+      outcome-is outcome (good c) (count_of c job files input) is (done-count c job max files input new later rose outcome r is) r.fault,
+      done-files c job max files input new later rose outcome r none is,
     )
 
 -- ---- a run over memory
 
 run-of : (job : Job) (storage later : MemoryState) (link after : LinkState) (outcome : Outcome) →
     RunsTo job storage link later after outcome →
-    Run job.command job storage.max_file storage.files link.left (Some later.files) (Some after.left) storage.calls.faults later.calls.faults outcome
+    Run job.command job storage.max_file storage.files link.left (Some later.files) (Some after.left) (StorageFailed (told_in_memory storage link) (told_in_memory later after)) outcome
 run-of job storage later link after outcome to =
     elim to.ran.moves.cause [
-      | inl failed ↦ absurd (to.settled.link (HasRisen-more link.calls.faults to.ran.faults after.calls.faults to.ran.not_after failed.1))
+      | inl failed ↦ absurd (to.settled.link (HasRisen-more link.calls.faults to.ran.faults after.calls.faults to.ran.not_after failed.1.0))
       | inr held ↦ record {
-        held = to.settled.storage;
+        held = λ failed. to.settled.storage failed.0;
         memory = to.settled.memory;
         exceeded = to.settled.exceeded;
         count = to.settled.count;
@@ -293,18 +293,18 @@ run-of job storage later link after outcome to =
 pub settled-determined : SettledRunsAreDetermined
 settled-determined job storage left right link near far first second one other =
     by (first_refusal job.command job storage.files (memory_rule storage.max_file storage.files)) refl where
-      x : Run job.command job storage.max_file storage.files link.left (Some left.files) (Some near.left) storage.calls.faults left.calls.faults first
+      x : Run job.command job storage.max_file storage.files link.left (Some left.files) (Some near.left) (StorageFailed (told_in_memory storage link) (told_in_memory left near)) first
       x = run-of job storage left link near first one
 
-      y : Run job.command job storage.max_file storage.files link.left (Some right.files) (Some far.left) storage.calls.faults right.calls.faults second
+      y : Run job.command job storage.max_file storage.files link.left (Some right.files) (Some far.left) (StorageFailed (told_in_memory storage link) (told_in_memory right far)) second
       y = run-of job storage right link far second other
 
       by : (found : Option ErrorKind) → first_refusal job.command job storage.files (memory_rule storage.max_file storage.files) ≡ found → (first ≡ second) × (left.files ≡ right.files)
       by None e =
-          let a = done-ends job.command job storage.max_file storage.files link.left (Some left.files) (Some near.left) storage.calls.faults left.calls.faults first x e in
-          let b = done-ends job.command job storage.max_file storage.files link.left (Some right.files) (Some far.left) storage.calls.faults right.calls.faults second y e in
+          let a = done-ends job.command job storage.max_file storage.files link.left (Some left.files) (Some near.left) (StorageFailed (told_in_memory storage link) (told_in_memory left near)) first x e in
+          let b = done-ends job.command job storage.max_file storage.files link.left (Some right.files) (Some far.left) (StorageFailed (told_in_memory storage link) (told_in_memory right far)) second y e in
           (a.0 ∙ sym b.0, same_Some _ _ (a.1 ∙ sym b.1))
       by (Some k) e =
-          let a = refused-ends job.command job storage.max_file storage.files link.left (Some left.files) (Some near.left) storage.calls.faults left.calls.faults first k x e in
-          let b = refused-ends job.command job storage.max_file storage.files link.left (Some right.files) (Some far.left) storage.calls.faults right.calls.faults second k y e in
+          let a = refused-ends job.command job storage.max_file storage.files link.left (Some left.files) (Some near.left) (StorageFailed (told_in_memory storage link) (told_in_memory left near)) first k x e in
+          let b = refused-ends job.command job storage.max_file storage.files link.left (Some right.files) (Some far.left) (StorageFailed (told_in_memory storage link) (told_in_memory right far)) second k y e in
           (a.0 ∙ sym b.0, same_Some _ _ (a.1 ∙ sym b.1))
