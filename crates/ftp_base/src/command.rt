@@ -7,7 +7,7 @@ ghost use Rattle.ftp_base.specs.Command.{path_of};
 use crate::bytes::Bytes;
 use std::alloc::{AllocError, Global};
 
-#[derive(Debug, Drop)]
+#[derive(Debug, PartialEq, Eq, Drop)]
 pub enum DataChanCmd {
     Retr {
         path: Bytes,

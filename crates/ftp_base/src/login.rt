@@ -1,9 +1,10 @@
 //! How far a login is, and what is said of a password.
 
 /// How far a session's login is.
-#[derive(Clone, Copy, Debug, PartialEq, Eq)]
+#[derive(Clone, Copy, Debug, Default, PartialEq, Eq)]
 pub enum SessionState {
     /// No user name was given, or a login failed since.
+    #[default]
     New,
     /// A user name was given.
     WaitPass,

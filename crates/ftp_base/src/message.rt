@@ -5,7 +5,7 @@ use crate::error_kind::ErrorKind;
 use crate::reply::Reply;
 use crate::trace::TraceId;
 
-#[derive(Debug, Drop)]
+#[derive(Debug, PartialEq, Eq, Drop)]
 pub enum ControlChanMsg {
     AuthSuccess { username: Bytes, trace_id: TraceId },
     AuthFailed,

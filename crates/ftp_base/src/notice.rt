@@ -10,7 +10,7 @@ pub enum PresenceEvent {
 }
 
 /// What was done with a file; the path is that in the storage.
-#[derive(Debug, Drop)]
+#[derive(Debug, PartialEq, Eq, Drop)]
 pub enum DataEvent {
     /// A client has got so many bytes of the file.
     Got { path: Bytes, bytes: u64 },
@@ -19,14 +19,14 @@ pub enum DataEvent {
 }
 
 /// Whom a notification is about, and its place among those of the session, counted from 1.
-#[derive(Debug, Drop)]
+#[derive(Debug, PartialEq, Eq, Drop)]
 pub struct EventMeta {
     pub username: Bytes,
     pub trace_id: TraceId,
     pub sequence_number: u64,
 }
 
-#[derive(Debug, Drop)]
+#[derive(Debug, PartialEq, Eq, Drop)]
 pub enum Notice {
     Presence(PresenceEvent),
     Data(DataEvent),

@@ -96,7 +96,7 @@ impl ReplyCode {
     }
 }
 
-#[derive(Debug, Drop)]
+#[derive(Debug, PartialEq, Eq, Drop)]
 pub enum Reply {
     /// Nothing is said.
     None,

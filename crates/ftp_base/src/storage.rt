@@ -26,7 +26,7 @@ pub struct Meta {
 }
 
 /// What a listing shows of a child of a directory.
-#[derive(Debug, Drop)]
+#[derive(Debug, PartialEq, Eq, Drop)]
 pub struct FileInfo {
     pub name: Bytes,
     pub meta: Meta,

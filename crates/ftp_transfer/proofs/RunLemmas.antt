@@ -6,11 +6,11 @@ use Rattle.ftp_base.specs.declared.error_kind.ErrorKind.{ErrorKind}
 use Rattle.ftp_base.specs.declared.fault.LinkFault.{LinkFault}
 use Rattle.ftp_base.specs.Calls.{Calls, AllWell}
 use Rattle.ftp_base.specs.Outside.{HasRisen}
-use Rattle.ftp_base.proofs.CallsMade.{LinkMet-more, StorageMet-more}
+use Rattle.ftp_base.proofs.CallsMade.{AllWell-more, LinkMet-more, StorageMet-more}
 use Rattle.ftp_base.specs.Storage.{Files, get, old_bytes}
 use Rattle.ftp_transfer.specs.declared.job.Completion.{Completion}
 use Rattle.ftp_transfer.specs.declared.job.Completion.TheVariants as result
-use Rattle.ftp_transfer.specs.Run.{StorageRose, LinkRose, SendsFront, RefusedBy, IfRefused, Caused, EndsRefused, RefusedFirst}
+use Rattle.ftp_transfer.specs.Run.{StorageRose, LinkRose, StorageWent, SendsFront, RefusedBy, IfRefused, Caused, EndsRefused, RefusedFirst}
 use Rattle.ftp_transfer.proofs.Pieces.{Writes-more}
 
 -- a count that rose later rose
@@ -24,6 +24,11 @@ HasRisen-more a b c le rose = grind arith
 -- a storage that failed after calls that went well failed in the longer run
 pub StorageRose_later : (a b c : ℕ) (x y z : Option (Calls ℕ)) → a ≤ b → b ≤ c → AllWell (λ (call : ℕ). call) x y → StorageRose b c y z → StorageRose a c x z
 StorageRose_later a b c x y z le le' well rose = (HasRisen_later a b c le le' rose.0, StorageMet-more x y z well rose.1)
+
+-- how the calls of a storage went after others that went well
+pub StorageWent-more : (a b c : Option (Calls ℕ)) (r : Completion) → AllWell (λ (call : ℕ). call) a b → StorageWent b c r → StorageWent a c r
+StorageWent-more a b c r first (inl well) = inl (AllWell-more (λ (call : ℕ). call) a b c first well)
+StorageWent-more a b c r first (inr (is, met)) = inr (is, StorageMet-more a b c first met)
 
 -- a link that failed after calls that went well failed in the longer run
 pub LinkRose_later : (a b c : ℕ) (x y z : Option (Calls (ℕ × LinkFault))) (last : Option LinkFault) → a ≤ b → b ≤ c →

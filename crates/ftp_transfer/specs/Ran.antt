@@ -15,7 +15,7 @@ use Rattle.ftp_transfer.specs.declared.job.Outcome.{Outcome}
 use Rattle.ftp_transfer.specs.declared.job.Completion.{Completion}
 use Rattle.ftp_transfer.specs.declared.job.Completion.TheVariants as result
 use Rattle.ftp_transfer.specs.Listing.{listing_text}
-use Rattle.ftp_transfer.specs.Run.{StorageRose, LinkRose, link_failure, Caused, RefusedFirst, RefusedLast, Stores, RefusesStore, Appends, RefusesAppe, TakesStore, TakesAppe, append_refusal}
+use Rattle.ftp_transfer.specs.Run.{StorageRose, LinkRose, StorageWent, link_failure, Caused, RefusedFirst, RefusedLast, Stores, RefusesStore, Appends, RefusesAppe, TakesStore, TakesAppe, append_refusal}
 use Rattle.ftp_transfer.specs.Transfer.{is_store}
 
 -- what a storage and a link tell, and their calls
@@ -103,6 +103,13 @@ IsSentWhole result.Sent = Unit {0}
 IsSentWhole result.Listed = Unit {0}
 IsSentWhole _ = ⊥
 
+-- the command did what it was asked for
+abbrev pub IsDone : Completion → Type 0
+IsDone result.Sent = Unit {0}
+IsDone result.Written = Unit {0}
+IsDone result.Listed = Unit {0}
+IsDone _ = ⊥
+
 -- what a run moved, what it left, and why it ended
 pub record Moves (job : Job) (old new : Told) (outcome : Outcome) : Type 0 where
   -- which calls the storage refuses by what stands there stays
@@ -117,6 +124,8 @@ pub record Moves (job : Job) (old new : Told) (outcome : Outcome) : Type 0 where
   -- what was stored is the front of the input, and all of it where the result says so
   pub stored : IfSome old.files (λ f. IfSome old.left (λ l. StoresAs job.command job f (old.rule f) new.files l outcome))
   pub written : outcome.result ≡ result.Written → IfSome old.left (λ l. (outcome.bytes ≡ length l) × (new.left ≡ Some []))
+  -- what is done has a byte count below its end
+  pub countable : IsDone outcome.result → outcome.bytes < 2 ^ 64 - 1
   -- why it ended
   pub cause : Caused (link_failure job.command)
       (LinkFailedAt old new) old.sending.last_fault new.sending.last_fault
@@ -134,8 +143,8 @@ pub record Moves (job : Job) (old new : Told) (outcome : Outcome) : Type 0 where
       (option_map (drop outcome.bytes) old.left) new.left outcome.result
   -- without a fault no call of the link was one of those that fail
   pub link_well : outcome.fault ≡ None → AllWell (λ (call : ℕ × LinkFault). call.0) old.link_calls new.link_calls
-  -- without a local error no call of the storage was one of those that fail
-  pub storage_well : (outcome.result ≡ result.Refused kind.LocalError → ⊥) → AllWell (λ (call : ℕ). call) old.storage_calls new.storage_calls
+  -- the calls of the storage went well, or the last one failed as listed and the result is a local error
+  pub storage_well : StorageWent old.storage_calls new.storage_calls outcome.result
 
 -- a run of a job: bytes moved, and then the link was closed or its close failed; what that close met changes nothing
 pub record Ran (job : Job) (old new : Told) (outcome : Outcome) : Type 0 where
@@ -164,13 +173,6 @@ Takes c job rule files input = rule files (Listing job.user job.path) ≡ None
 abbrev pub EndsUnrefused : Job → Files → Told → Told → ℕ → Type 0
 EndsUnrefused job files old new m =
     (k : ErrorKind) → Refuses job.command job old.rule files new.files old.left new.left m k → ⊥
-
--- the command did what it was asked for
-abbrev pub IsDone : Completion → Type 0
-IsDone result.Sent = Unit {0}
-IsDone result.Written = Unit {0}
-IsDone result.Listed = Unit {0}
-IsDone _ = ⊥
 
 -- nothing was refused, no call but the link's close failed, memory was found, and the byte count is below its end
 pub record IsClean (job : Job) (old new : Told) (outcome : Outcome) : Type 0 where

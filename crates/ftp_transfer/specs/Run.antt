@@ -7,7 +7,7 @@ use Rattle.ftp_base.specs.declared.command.DataChanCmd.{DataChanCmd}
 use Rattle.ftp_base.specs.declared.error_kind.ErrorKind.{ErrorKind}
 use Rattle.ftp_base.specs.declared.error_kind.ErrorKind.TheVariants as kind
 use Rattle.ftp_base.specs.declared.fault.LinkFault.{LinkFault}
-use Rattle.ftp_base.specs.Calls.{Calls}
+use Rattle.ftp_base.specs.Calls.{Calls, AllWell}
 use Rattle.ftp_base.specs.Memory.{LinkMet, StorageMet}
 use Rattle.ftp_base.specs.Outside.{HasRisen, Writes}
 use Rattle.ftp_base.specs.Storage.{Files, Meaning, Rule, meaning_of, Metadata, Begin, Append, contents, with_file, old_bytes, put}
@@ -27,6 +27,11 @@ StorageRose faults later old new = HasRisen faults later × StorageMet old new
 -- a link failed: its count of faults rose, and its last fault is one that the list names for the last call
 abbrev pub LinkRose : ℕ → ℕ → Option (Calls (ℕ × LinkFault)) → Option (Calls (ℕ × LinkFault)) → Option LinkFault → Type 0
 LinkRose faults later old new last = HasRisen faults later × LinkMet old new last
+
+-- how the calls of a storage went: all well, or the last one failed as listed and the result is a local error
+abbrev pub StorageWent : Option (Calls ℕ) → Option (Calls ℕ) → Completion → Type 0
+StorageWent old new r =
+    AllWell (λ (call : ℕ). call) old new ⊎ ((r ≡ result.Refused kind.LocalError) × StorageMet old new)
 
 -- a run ended with a refusal: the storage failed, the byte count stands at its end, or the storage refuses so
 abbrev pub RefusedBy : Type 0 → (ErrorKind → Type 0) → ℕ → ErrorKind → Type 0

@@ -14,7 +14,7 @@ pub struct Ticket {
 }
 
 /// A transfer, as it was fixed when it was asked for.
-#[derive(Debug, Drop)]
+#[derive(Debug, PartialEq, Eq, Drop)]
 pub struct Job {
     pub ticket: Ticket,
     pub user: Bytes,

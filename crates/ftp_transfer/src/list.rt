@@ -1,13 +1,12 @@
 //! LIST, NLST and MLSD: the children of a directory go to the link, a line each.
 
-ghost use Rattle.std.specs.Prelude.{◌≡◌, ◌≤◌, true, length, Some, None, IsSome, IfSome};
-ghost use Rattle.ftp_base.specs.declared.error_kind.ErrorKind.TheVariants as kind;
+ghost use Rattle.std.specs.Prelude.{◌≡◌, ◌-◌, ◌^◌, ◌<◌, ◌≤◌, true, length, Some, None, IsSome, IfSome};
 ghost use Rattle.ftp_base.specs.Calls.{AllWell};
 ghost use Rattle.ftp_base.specs.Storage.{Listing, meaning_of, listing};
 ghost use Rattle.ftp_transfer.specs.declared.job.Completion.TheVariants as done;
 ghost use Rattle.ftp_transfer.specs.Listing.{listing_text as text_of};
-ghost use Rattle.ftp_transfer.specs.Ran.{RefusesListing, shown_refusal};
-ghost use Rattle.ftp_transfer.specs.Run.{LinkRose, StorageRose, SendsFront, Caused, RefusedFirst};
+ghost use Rattle.ftp_transfer.specs.Ran.{RefusesListing, shown_refusal, IsDone};
+ghost use Rattle.ftp_transfer.specs.Run.{LinkRose, StorageRose, StorageWent, SendsFront, Caused, RefusedFirst};
 ghost use Rattle.ftp_transfer.specs.Transfer.{is_listing, suits};
 ghost use Rattle.ftp_transfer.specs.Turn.{StopsListing, listing_end};
 
@@ -26,6 +25,7 @@ pub fn list<S: Storage, L: Link>(alloc: Global, job: &Job, storage: &mut S, link
         SendsFront (text_of job.now.command (listing f job.now.path)) result.bytes (L.sending link.old).sent (L.sending link.new).sent) }
     ensures whole { result.result ≡ done.Listed →
         IfSome (S.files storage.old) (λ f. result.bytes ≡ length (text_of job.now.command (listing f job.now.path))) }
+    ensures countable { IsDone result.result → result.bytes < 2 ^ 64 - 1 }
 
     ensures suits { suits result.result job.now.command ≡ true }
     ensures cause { Caused done.WriteFailed
@@ -40,7 +40,7 @@ pub fn list<S: Storage, L: Link>(alloc: Global, job: &Job, storage: &mut S, link
     ensures rule { S.rule storage.new ≡ S.rule storage.old }
     ensures left { L.left link.new ≡ L.left link.old }
     ensures closed { (L.sending link.new).closed ≡ (L.sending link.old).closed }
-    ensures storage_well { (result.result ≡ done.Refused kind.LocalError → ⊥) → AllWell (λ call. call) (S.calls storage.old) (S.calls storage.new) }
+    ensures storage_well { StorageWent (S.calls storage.old) (S.calls storage.new) result.result }
     ensures link_well { result.fault ≡ None → AllWell (λ call. call.0) (L.calls link.old) (L.calls link.new) }
     ensures storage_count { S.faults storage.old ≤ S.faults storage.new }
     ensures storage_limit { S.fault_limit storage.new ≤ S.fault_limit storage.old }
@@ -64,6 +64,7 @@ fn send_children<L: Link>(
 
     ensures sent { SendsFront (text_of command.now children.now) result.bytes (L.sending link.old).sent (L.sending link.new).sent }
     ensures whole { result.result ≡ done.Listed → result.bytes ≡ length (text_of command.now children.now) }
+    ensures countable { IsDone result.result → result.bytes < 2 ^ 64 - 1 }
     ensures end { StopsListing
         (LinkRose (L.faults link.old) (L.faults link.new) (L.calls link.old) (L.calls link.new) (L.sending link.new).last_fault) (L.sending link.old).last_fault (L.sending link.new).last_fault
         result.result result.fault }

@@ -5,8 +5,9 @@ ghost use Rattle.ftp_base.specs.declared.error_kind.ErrorKind.TheVariants as kin
 ghost use Rattle.ftp_base.specs.Calls.{AllWell};
 ghost use Rattle.ftp_base.specs.Storage.{ReadAt, meaning_of, get, old_bytes};
 ghost use Rattle.ftp_transfer.specs.declared.job.Completion.TheVariants as done;
+ghost use Rattle.ftp_transfer.specs.Ran.{IsDone};
 ghost use Rattle.ftp_transfer.specs.Turn.{StopsSending};
-ghost use Rattle.ftp_transfer.specs.Run.{LinkRose, StorageRose, SendsFront, Caused, RefusedFirst};
+ghost use Rattle.ftp_transfer.specs.Run.{LinkRose, StorageRose, StorageWent, SendsFront, Caused, RefusedFirst};
 ghost use Rattle.ftp_transfer.specs.Transfer.{is_retrieve, suits};
 
 use crate::job::{Completion, Job, Outcome};
@@ -22,6 +23,7 @@ pub fn retrieve<S: Storage, L: Link>(job: &Job, storage: &mut S, link: &mut L) -
         SendsFront (get (old_bytes f job.now.path) job.now.offset) result.bytes (L.sending link.old).sent (L.sending link.new).sent) }
     ensures whole { result.result ≡ done.Sent →
         IfSome (S.files storage.old) (λ f. result.bytes ≡ length (get (old_bytes f job.now.path) job.now.offset)) }
+    ensures countable { IsDone result.result → result.bytes < 2 ^ 64 - 1 }
 
     ensures suits { suits result.result job.now.command ≡ true }
     ensures cause { Caused (done.Refused kind.ConnectionClosed)
@@ -40,7 +42,7 @@ pub fn retrieve<S: Storage, L: Link>(job: &Job, storage: &mut S, link: &mut L) -
     ensures rule { S.rule storage.new ≡ S.rule storage.old }
     ensures left { L.left link.new ≡ L.left link.old }
     ensures closed { (L.sending link.new).closed ≡ (L.sending link.old).closed }
-    ensures storage_well { (result.result ≡ done.Refused kind.LocalError → ⊥) → AllWell (λ call. call) (S.calls storage.old) (S.calls storage.new) }
+    ensures storage_well { StorageWent (S.calls storage.old) (S.calls storage.new) result.result }
     ensures link_well { result.fault ≡ None → AllWell (λ call. call.0) (L.calls link.old) (L.calls link.new) }
     ensures storage_count { S.faults storage.old ≤ S.faults storage.new }
     ensures storage_limit { S.fault_limit storage.new ≤ S.fault_limit storage.old }
@@ -77,6 +79,7 @@ pub fn send_piece<S: Storage, L: Link>(
         SendsFront (get (old_bytes f job.now.path) (job.now.offset + moved)) result.bytes (L.sending link.old).sent (L.sending link.new).sent) }
     ensures whole { IfSome result.end (λ e. e.result ≡ done.Sent →
         (result.bytes ≡ 0) × IfSome (S.files storage.old) (λ f. get (old_bytes f job.now.path) (job.now.offset + moved) ≡ [])) }
+    ensures countable { IfSome result.end (λ e. IsDone e.result → moved + result.bytes < 2 ^ 64 - 1) }
 
     ensures suits { IfSome result.end (λ e. suits e.result job.now.command ≡ true) }
     ensures cause { IfSome result.end (λ e. Caused (done.Refused kind.ConnectionClosed)
@@ -99,7 +102,7 @@ pub fn send_piece<S: Storage, L: Link>(
     ensures left { L.left link.new ≡ L.left link.old }
     ensures closed { (L.sending link.new).closed ≡ (L.sending link.old).closed }
     ensures storage_well { IsNone result.end → AllWell (λ call. call) (S.calls storage.old) (S.calls storage.new) }
-    ensures storage_held { IfSome result.end (λ e. (e.result ≡ done.Refused kind.LocalError → ⊥) → AllWell (λ call. call) (S.calls storage.old) (S.calls storage.new)) }
+    ensures storage_held { IfSome result.end (λ e. StorageWent (S.calls storage.old) (S.calls storage.new) e.result) }
     ensures link_well { IsNone result.end → AllWell (λ call. call.0) (L.calls link.old) (L.calls link.new) }
     ensures link_held { IfSome result.end (λ e. e.fault ≡ None → AllWell (λ call. call.0) (L.calls link.old) (L.calls link.new)) }
     ensures storage_count { S.faults storage.old ≤ S.faults storage.new }

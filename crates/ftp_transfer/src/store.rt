@@ -6,7 +6,8 @@ ghost use Rattle.ftp_base.specs.declared.error_kind.ErrorKind.TheVariants as kin
 ghost use Rattle.ftp_base.specs.Calls.{AllWell};
 ghost use Rattle.ftp_base.specs.Storage.{Begin, Append, meaning_of, Grows, old_bytes};
 ghost use Rattle.ftp_transfer.specs.declared.job.Completion.TheVariants as done;
-ghost use Rattle.ftp_transfer.specs.Run.{LinkRose, StorageRose, Caused, EndsRefused, RefusedFirst, RefusedLast, GrowsFront, RefusesAppend, TakesFront, Stores, RefusesStore, Appends, RefusesAppe, append_refusal};
+ghost use Rattle.ftp_transfer.specs.Ran.{IsDone};
+ghost use Rattle.ftp_transfer.specs.Run.{LinkRose, StorageRose, StorageWent, Caused, EndsRefused, RefusedFirst, RefusedLast, GrowsFront, RefusesAppend, TakesFront, Stores, RefusesStore, Appends, RefusesAppe, append_refusal};
 ghost use Rattle.ftp_transfer.specs.Transfer.{is_store, suits};
 ghost use Rattle.ftp_transfer.specs.Turn.{StopsStoring, start_after};
 
@@ -23,6 +24,7 @@ pub fn store<S: Storage, L: Link>(job: &Job, start: u64, storage: &mut S, link: 
     ensures within { IfSome (L.left link.old) (λ l. result.bytes ≤ length l) }
     ensures whole { result.result ≡ done.Written →
         IfSome (L.left link.old) (λ l. (result.bytes ≡ length l) × (L.left link.new ≡ Some [])) }
+    ensures countable { IsDone result.result → result.bytes < 2 ^ 64 - 1 }
 
     ensures suits { suits result.result job.now.command ≡ true }
     ensures cause { Caused (done.Refused kind.ConnectionClosed)
@@ -40,7 +42,7 @@ pub fn store<S: Storage, L: Link>(job: &Job, start: u64, storage: &mut S, link: 
     ensures rule { S.rule storage.new ≡ S.rule storage.old }
     ensures sent { (L.sending link.new).sent ≡ (L.sending link.old).sent }
     ensures closed { (L.sending link.new).closed ≡ (L.sending link.old).closed }
-    ensures storage_well { (result.result ≡ done.Refused kind.LocalError → ⊥) → AllWell (λ call. call) (S.calls storage.old) (S.calls storage.new) }
+    ensures storage_well { StorageWent (S.calls storage.old) (S.calls storage.new) result.result }
     ensures link_well { result.fault ≡ None → AllWell (λ call. call.0) (L.calls link.old) (L.calls link.new) }
     ensures storage_count { S.faults storage.old ≤ S.faults storage.new }
     ensures storage_limit { S.fault_limit storage.new ≤ S.fault_limit storage.old }
@@ -62,6 +64,7 @@ pub fn append<S: Storage, L: Link>(job: &Job, storage: &mut S, link: &mut L) -> 
     ensures within { IfSome (L.left link.old) (λ l. result.bytes ≤ length l) }
     ensures whole { result.result ≡ done.Written →
         IfSome (L.left link.old) (λ l. (result.bytes ≡ length l) × (L.left link.new ≡ Some [])) }
+    ensures countable { IsDone result.result → result.bytes < 2 ^ 64 - 1 }
 
     ensures suits { suits result.result job.now.command ≡ true }
     ensures cause { Caused (done.Refused kind.ConnectionClosed)
@@ -79,7 +82,7 @@ pub fn append<S: Storage, L: Link>(job: &Job, storage: &mut S, link: &mut L) -> 
     ensures rule { S.rule storage.new ≡ S.rule storage.old }
     ensures sent { (L.sending link.new).sent ≡ (L.sending link.old).sent }
     ensures closed { (L.sending link.new).closed ≡ (L.sending link.old).closed }
-    ensures storage_well { (result.result ≡ done.Refused kind.LocalError → ⊥) → AllWell (λ call. call) (S.calls storage.old) (S.calls storage.new) }
+    ensures storage_well { StorageWent (S.calls storage.old) (S.calls storage.new) result.result }
     ensures link_well { result.fault ≡ None → AllWell (λ call. call.0) (L.calls link.old) (L.calls link.new) }
     ensures storage_count { S.faults storage.old ≤ S.faults storage.new }
     ensures storage_limit { S.fault_limit storage.new ≤ S.fault_limit storage.old }
@@ -112,6 +115,7 @@ pub fn fill<S: Storage, L: Link>(job: &Job, storage: &mut S, link: &mut L) -> Ou
     ensures within { IfSome (L.left link.old) (λ l. result.bytes ≤ length l) }
     ensures whole { result.result ≡ done.Written →
         IfSome (L.left link.old) (λ l. (result.bytes ≡ length l) × (L.left link.new ≡ Some [])) }
+    ensures countable { IsDone result.result → result.bytes < 2 ^ 64 - 1 }
 
     ensures suits { suits result.result job.now.command ≡ true }
     ensures cause { Caused (done.Refused kind.ConnectionClosed)
@@ -127,7 +131,7 @@ pub fn fill<S: Storage, L: Link>(job: &Job, storage: &mut S, link: &mut L) -> Ou
     ensures rule { S.rule storage.new ≡ S.rule storage.old }
     ensures sent { (L.sending link.new).sent ≡ (L.sending link.old).sent }
     ensures closed { (L.sending link.new).closed ≡ (L.sending link.old).closed }
-    ensures storage_well { (result.result ≡ done.Refused kind.LocalError → ⊥) → AllWell (λ call. call) (S.calls storage.old) (S.calls storage.new) }
+    ensures storage_well { StorageWent (S.calls storage.old) (S.calls storage.new) result.result }
     ensures link_well { result.fault ≡ None → AllWell (λ call. call.0) (L.calls link.old) (L.calls link.new) }
     ensures storage_count { S.faults storage.old ≤ S.faults storage.new }
     ensures storage_limit { S.fault_limit storage.new ≤ S.fault_limit storage.old }
@@ -167,6 +171,7 @@ pub fn store_piece<S: Storage, L: Link>(
     ensures unchanged { IsSome result.end → S.files storage.new ≡ S.files storage.old }
     ensures whole { IfSome result.end (λ e. e.result ≡ done.Written →
         IfSome (L.left link.old) (λ l. (l ≡ []) × (L.left link.new ≡ Some []))) }
+    ensures countable { IfSome result.end (λ e. IsDone e.result → moved + result.bytes < 2 ^ 64 - 1) }
 
     ensures suits { IfSome result.end (λ e. suits e.result job.now.command ≡ true) }
     ensures cause { IfSome result.end (λ e. Caused (done.Refused kind.ConnectionClosed)
@@ -184,7 +189,7 @@ pub fn store_piece<S: Storage, L: Link>(
     ensures sent { (L.sending link.new).sent ≡ (L.sending link.old).sent }
     ensures closed { (L.sending link.new).closed ≡ (L.sending link.old).closed }
     ensures storage_well { IsNone result.end → AllWell (λ call. call) (S.calls storage.old) (S.calls storage.new) }
-    ensures storage_held { IfSome result.end (λ e. (e.result ≡ done.Refused kind.LocalError → ⊥) → AllWell (λ call. call) (S.calls storage.old) (S.calls storage.new)) }
+    ensures storage_held { IfSome result.end (λ e. StorageWent (S.calls storage.old) (S.calls storage.new) e.result) }
     ensures link_well { IsNone result.end → AllWell (λ call. call.0) (L.calls link.old) (L.calls link.new) }
     ensures link_held { IfSome result.end (λ e. e.fault ≡ None → AllWell (λ call. call.0) (L.calls link.old) (L.calls link.new)) }
     ensures storage_count { S.faults storage.old ≤ S.faults storage.new }
@@ -224,7 +229,7 @@ fn append_read<S: Storage>(job: &Job, bytes: &[u8], storage: &mut S) -> Turn
         IfSome (meaning_of (S.rule storage.old) (S.files storage.old) (Append job.now.user job.now.path bytes.now))
         (λ k. EndsRefused (StorageRose (S.faults storage.old) (S.faults storage.new) (S.calls storage.old) (S.calls storage.new)) k e.result)) }
     ensures storage_well { IsNone result.end → AllWell (λ call. call) (S.calls storage.old) (S.calls storage.new) }
-    ensures storage_held { IfSome result.end (λ e. (e.result ≡ done.Refused kind.LocalError → ⊥) → AllWell (λ call. call) (S.calls storage.old) (S.calls storage.new)) }
+    ensures storage_held { IfSome result.end (λ e. StorageWent (S.calls storage.old) (S.calls storage.new) e.result) }
     ensures storage_count { S.faults storage.old ≤ S.faults storage.new }
     ensures storage_limit { S.fault_limit storage.new ≤ S.fault_limit storage.old }
 {

@@ -3,7 +3,7 @@ use Rattle.std.proofs.lemmas.Bool.{cases_lt}
 use Rattle.ftp_base.specs.declared.fault.LinkFault.{LinkFault}
 use Rattle.ftp_base.specs.Storage.{ReadAt, meaning_of}
 use Rattle.ftp_base.proofs.CallsMade.{AllWell-more}
-use Rattle.ftp_transfer.proofs.RunLemmas.{StorageRose_later, LinkRose_later, SendsFront-file, Caused_later, RefusedFirst_later}
+use Rattle.ftp_transfer.proofs.RunLemmas.{StorageRose_later, StorageWent-more, LinkRose_later, SendsFront-file, Caused_later, RefusedFirst_later}
 use Rattle.ftp_transfer.proofs.retrieve.retrieve.Goals as goal
 
 pub returns-in-Some-clause-sent : goal.returns-in-Some-clause-sent
@@ -43,9 +43,9 @@ returns-in-Some-clause-refused g c told =
     ]
 
 pub returns-in-Some-clause-storage_well : goal.returns-in-Some-clause-storage_well
-returns-in-Some-clause-storage_well g c other =
+returns-in-Some-clause-storage_well g c =
     let held = rw c.in-Some.is at c.send_piece-turn.ensures.storage_held in
-    AllWell-more (λ (call : ℕ). call) _ _ _ c.pieces.invariant.storage_well (held (rw c.outcome.ensures at other))
+    rw c.outcome.ensures (StorageWent-more _ _ _ _ c.pieces.invariant.storage_well held)
 
 pub returns-in-Some-clause-link_well : goal.returns-in-Some-clause-link_well
 returns-in-Some-clause-link_well g c none =

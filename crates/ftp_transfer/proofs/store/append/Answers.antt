@@ -4,10 +4,9 @@ use Rattle.ftp_base.specs.declared.storage.Meta.{Meta}
 use Rattle.ftp_base.specs.declared.storage.StoreError.{StoreError}
 use Rattle.ftp_base.specs.declared.storage.StoreError.TheVariants.{Failed}
 use Rattle.ftp_base.specs.Storage.{Files, Metadata, meaning_of}
-use Rattle.ftp_base.proofs.CallsMade.{AllWell-more}
 use Rattle.ftp_transfer.specs.Run.{StorageRose, RefusedFirst, RefusesStore}
 use Rattle.ftp_transfer.specs.Turn.{start_after}
-use Rattle.ftp_transfer.proofs.RunLemmas.{StorageRose_later, Caused_later, RefusedFirst_more}
+use Rattle.ftp_transfer.proofs.RunLemmas.{StorageRose_later, StorageWent-more, Caused_later, RefusedFirst_more}
 use Rattle.ftp_transfer.proofs.StoreLemmas.{RefusesAppe-at, append_place-start, append_refusal-begin, RefusedLast-none, RefusedLast_later, drop-nothing}
 use Rattle.ftp_transfer.proofs.store.append.Goals as goal
 
@@ -49,10 +48,10 @@ returns-in-Ok-clause-cause g c =
     cause
 
 pub returns-in-Ok-clause-storage_well : goal.returns-in-Ok-clause-storage_well
-returns-in-Ok-clause-storage_well g c other =
-    AllWell-more (λ (call : ℕ). call) _ _ _
+returns-in-Ok-clause-storage_well g c =
+    StorageWent-more _ _ _ _
     (c.metadata.ensures.unlisted (λ e. absurd (went-on c.metadata.result c.in-Ok.start (sym c.start_after.ensures ∙ c.in-Ok.is) e)))
-    (c.store.ensures.storage_well other)
+    c.store.ensures.storage_well
 
 pub returns-in-Ok-clause-refused_last : goal.returns-in-Ok-clause-refused_last
 returns-in-Ok-clause-refused_last g c told =

@@ -2,7 +2,7 @@ use Rattle.std.proofs.Common.{◌≡◌, ℕ, ◌+◌, ◌∙◌, arith, rules}
 use Rattle.ftp_base.specs.declared.fault.LinkFault.{LinkFault}
 use Rattle.ftp_base.specs.Storage.{meaning_of}
 use Rattle.ftp_base.proofs.CallsMade.{AllWell-more}
-use Rattle.ftp_transfer.proofs.RunLemmas.{StorageRose_later, LinkRose_later, Caused_later}
+use Rattle.ftp_transfer.proofs.RunLemmas.{StorageRose_later, StorageWent-more, LinkRose_later, Caused_later}
 use Rattle.ftp_transfer.proofs.StoreLemmas.{GrowsFront-told, TakesFront-told, TakesFront-whole, RefusesAppend-told, RefusedLast-told}
 use Rattle.ftp_transfer.proofs.store.fill.Goals as goal
 
@@ -45,9 +45,9 @@ returns-in-Some-clause-cause g c =
     cause))
 
 pub returns-in-Some-clause-storage_well : goal.returns-in-Some-clause-storage_well
-returns-in-Some-clause-storage_well g c other =
+returns-in-Some-clause-storage_well g c =
     let held = rw c.in-Some.is at c.store_piece-turn.ensures.storage_held in
-    AllWell-more (λ (call : ℕ). call) _ _ _ c.pieces.invariant.storage_well (held (rw c.outcome.ensures at other))
+    rw c.outcome.ensures (StorageWent-more _ _ _ _ c.pieces.invariant.storage_well held)
 
 pub returns-in-Some-clause-link_well : goal.returns-in-Some-clause-link_well
 returns-in-Some-clause-link_well g c none =

@@ -1,7 +1,6 @@
-use Rattle.std.proofs.Common.{ℕ, rules}
+use Rattle.std.proofs.Common.{rules}
 use Rattle.ftp_base.specs.Storage.{meaning_of}
-use Rattle.ftp_base.proofs.CallsMade.{AllWell-more}
-use Rattle.ftp_transfer.proofs.RunLemmas.{StorageRose_later, Caused_later}
+use Rattle.ftp_transfer.proofs.RunLemmas.{StorageRose_later, StorageWent-more, Caused_later}
 use Rattle.ftp_transfer.proofs.StoreLemmas.{Stores-begun, Begins-told, Stores-refused, RefusedLast-none, RefusedLast_later, drop-nothing}
 use Rattle.ftp_transfer.proofs.store.store.Goals as goal
 
@@ -25,8 +24,8 @@ returns-in-Ok-clause-cause g c =
     c.fill.ensures.cause
 
 pub returns-in-Ok-clause-storage_well : goal.returns-in-Ok-clause-storage_well
-returns-in-Ok-clause-storage_well g c other =
-    AllWell-more (λ (call : ℕ). call) _ _ _ (c.begin.ensures.unlisted (search rules)) (c.fill.ensures.storage_well other)
+returns-in-Ok-clause-storage_well g c =
+    StorageWent-more _ _ _ _ (c.begin.ensures.unlisted (search rules)) c.fill.ensures.storage_well
 
 pub returns-in-Ok-clause-refused_last : goal.returns-in-Ok-clause-refused_last
 returns-in-Ok-clause-refused_last g c told =

@@ -20,6 +20,7 @@ returns-clause-ran g c =
         kept = λ other. ((moves.kept other).0, c.close.ensures.left ∙ (moves.kept other).1);
         stored = moves.stored;
         written = λ done. rw c.close.ensures.left (moves.written done);
+        countable = moves.countable;
         cause = rw (c.close.ensures.last_fault, c.close.ensures.left) moves.cause;
         refused = moves.refused;
         unrefused = moves.unrefused;
