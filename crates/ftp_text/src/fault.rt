@@ -1,8 +1,10 @@
 //! Why a line could not be read.
 
-ghost use Rattle.std.specs.Prelude.{◌≡◌};
+ghost use Rattle.std.specs.Prelude.{◌≡◌, ◌↔◌};
+ghost use Rattle.hex.specs.declared.error.FromHexError.TheVariants.{OutOfMemory};
 ghost use Rattle.ftp_text.specs.declared.fault.LineFault.TheVariants.{Memory};
 
+use hex::FromHexError;
 use std::alloc::{AllocError, AllocFailed};
 
 /// Why a line could not be read.
@@ -27,5 +29,16 @@ impl<T: Drop> From<AllocFailed<T>> for LineFault {
 
     fn from(_e: AllocFailed<T>) -> LineFault {
         LineFault::Memory
+    }
+}
+
+impl From<FromHexError> for LineFault {
+    ghost from_gives = { λ e f. (f ≡ Memory) ↔ (e ≡ OutOfMemory) };
+
+    fn from(e: FromHexError) -> LineFault {
+        match e {
+            FromHexError::OutOfMemory => LineFault::Memory,
+            _ => LineFault::Bad,
+        }
     }
 }

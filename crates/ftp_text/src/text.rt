@@ -1,8 +1,10 @@
 //! Texts, whose bytes are escaped, and bytes in pairs of hexadecimal digits.
 
 ghost use Rattle.std.specs.Prelude.{◌≡◌, None, option_map};
+ghost use Rattle.std.specs.Char.{is_ascii_uppercase};
+ghost use Rattle.std.specs.List.{list_any};
 ghost use Rattle.ftp_text.specs.Fields.{is_plain};
-ghost use Rattle.ftp_text.specs.Reading.{Gives, SpellsNibble, escaped_at, text_byte_at, text_of, hex_pair, hex_from, hex_of};
+ghost use Rattle.ftp_text.specs.Reading.{Gives, SpellsNibble, escaped_at, text_byte_at, text_of, hex_from, hex_of};
 
 use crate::fault::LineFault;
 use ftp_base::Bytes;
@@ -76,33 +78,22 @@ pub fn text(alloc: Global, bytes: &[u8]) -> Result<Bytes, LineFault>
     Ok(Bytes::from_vec(out))
 }
 
-// The byte that two digits spell.
-fn hex_pair(high: u8, low: u8) -> Option<u8>
-    ensures { result ≡ hex_pair high low }
+// Whether one of the digits is an upper-case letter.
+fn has_upper(digits: &[u8]) -> bool
+    ensures { result ≡ list_any is_ascii_uppercase digits.now }
 {
-    let high = nibble(high)?;
-    let low = nibble(low)?;
-    Some(high * 16 + low)
+    digits.iter().any(|c| c.is_ascii_uppercase())
 }
 
-// The bytes that pairs of digits spell.
+// The bytes that pairs of digits spell. The crate `hex` reads upper-case letters too.
 fn hex_pairs(alloc: Global, digits: &[u8]) -> Result<Bytes, LineFault>
     ensures { Gives (λ x. x) result (hex_from None digits.now) }
 {
-    let mut out = Vec::with_capacity(alloc, digits.len() / 2)?;
-    let mut rest = digits;
-    while let [high, low, behind @ ..] = rest {
-        let Some(b) = hex_pair(*high, *low) else {
-            return Err(LineFault::Bad);
-        };
-        out.push(b)?;
-        rest = behind;
+    let bytes = hex::decode(alloc, digits)?;
+    if has_upper(digits) {
+        return Err(LineFault::Bad);
     }
-    if rest.is_empty() {
-        Ok(Bytes::from_vec(out))
-    } else {
-        Err(LineFault::Bad)
-    }
+    Ok(Bytes::from_vec(bytes))
 }
 
 /// The bytes that a hexadecimal text spells: a dot for none, else a pair of lower-case digits for each.

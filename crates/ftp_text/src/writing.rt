@@ -118,7 +118,8 @@ fn put_text_byte(out: &mut Vec<u8>, b: u8) -> Result<(), AllocError>
     if is_plain(b) {
         return put_byte(out, b);
     }
-    put(out, &[b'\\', b'x', glyph(b / 16), glyph(b % 16)])
+    put(out, b"\\x")?;
+    put_hex_byte(out, b)
 }
 
 /// Writes a text with its escapes.
@@ -169,7 +170,9 @@ pub fn put_hex_word(out: &mut Vec<u8>, n: u128) -> Result<(), AllocError>
 fn put_hex_byte(out: &mut Vec<u8>, b: u8) -> Result<(), AllocError>
     ensures { OnOk result (out.new.items ≡ out.old.items ++ hex_byte b) }
 {
-    put(out, &[glyph(b / 16), glyph(b % 16)])
+    let mut pair = [0; 2];
+    hex::encode_to_slice([b], &mut pair).unwrap();
+    put(out, &pair)
 }
 
 fn put_hex_pairs(out: &mut Vec<u8>, bytes: &[u8]) -> Result<(), AllocError>
