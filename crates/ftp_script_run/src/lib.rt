@@ -10,8 +10,6 @@ mod run;
 mod script;
 mod status;
 
-pub use laws::{
-    settled_runs_are_determined, taken_transfers_are_done, told_faults_are_listed,
-};
+pub use laws::{settled_runs_are_determined, taken_transfers_are_done, told_faults_are_listed};
 pub use script::run_script;
 pub use status::Status;

@@ -125,7 +125,10 @@ fn each_entry_is_given_twice_and_the_job_with_its_start(rt: HostRuntime) -> Resu
     let mut hub = Hub::new(alloc, options()?);
     let mut links = Vec::new(alloc);
     for event in events(alloc)? {
-        let room = hub.prepare_twin(&event, &Answer::None).ok().ok_or("not prepared")?;
+        let room = hub
+            .prepare_twin(&event, &Answer::None)
+            .ok()
+            .ok_or("not prepared")?;
         let Twin { kept, told, job } = hub.step_twin(room, event, Answer::None);
         assert_eq!(rt; told.decision, kept.decision);
         let told = told.actions.as_slice();
