@@ -8,10 +8,14 @@ use std::test::Fail;
 fn asked(line: &Result<Command, LineError>) -> Result<(&str, &[u8]), LineError> {
     match line {
         Ok(Command::User { username }) => Ok(("user", username.as_slice())),
-        Ok(Command::Data(DataChanCmd::List {
-            options: None,
-            path: Some(path),
-        })) => Ok(("list", path.as_slice())),
+        Ok(
+            Command::Data(
+                DataChanCmd::List {
+                    options: None,
+                    path: Some(path),
+                },
+            ),
+        ) => Ok(("list", path.as_slice())),
         Ok(_) => Ok(("another", &[])),
         Err(fault) => Err(*fault),
     }
@@ -24,10 +28,7 @@ fn a_line_asks_for_a_command_or_is_refused(rt: HostRuntime) -> Result<(), Fail> 
     for (line, due) in [
         (b"uSeR Dolores\r\n".as_slice(), Ok(("user", dolores))),
         (b"USER Dolores\r", Err(LineError::InvalidEol)),
-        (
-            b"LIST -la -- folder with space\r\n",
-            Ok(("list", folder)),
-        ),
+        (b"LIST -la -- folder with space\r\n", Ok(("list", folder))),
         (b"REST 1303 343\r\n", Err(LineError::InvalidCommand)),
     ] {
         assert_eq!(rt; asked(&parse_line(rt.alloc(), line)), due);
