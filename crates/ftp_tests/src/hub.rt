@@ -9,7 +9,7 @@ use ftp_base::{
     AuthAnswer, Bytes, DataChanCmd, IpAddr, LinkTable, MemoryLink, MemoryStorage, Reply, SocketAddr,
 };
 use ftp_events::{Action, Answer, Decision, EventKind, HubEvent, Log};
-use ftp_hub::{Hub, RunError, Twin, covers, run_events};
+use ftp_hub::{Hub, PrepareError, RunError, Twin, covers, run_events};
 use ftp_options::{Options, ServerBuilder};
 use ftp_transfer::Ticket;
 use std::alloc::{AllocError, Global};
@@ -31,6 +31,15 @@ fn arrival(number: u64, ip: u32) -> EventKind {
             port: 1,
         },
         port: 50000,
+    }
+}
+
+/// The entry of an event without an answer, given twice.
+fn twice(hub: &mut Hub, event: HubEvent) -> Result<Twin, PrepareError> {
+    let answer = Answer::None;
+    match hub.prepare_twin(&event, &answer) {
+        Ok(room) => Ok(hub.step_twin(room, event, answer)),
+        Err(error) => Err(error),
     }
 }
 
@@ -125,11 +134,7 @@ fn each_entry_is_given_twice_and_the_job_with_its_start(rt: HostRuntime) -> Resu
     let mut hub = Hub::new(alloc, options()?);
     let mut links = Vec::new(alloc);
     for event in events(alloc)? {
-        let room = hub
-            .prepare_twin(&event, &Answer::None)
-            .ok()
-            .ok_or("not prepared")?;
-        let Twin { kept, told, job } = hub.step_twin(room, event, Answer::None);
+        let Twin { kept, told, job } = twice(&mut hub, event).ok().ok_or("not prepared")?;
         assert_eq!(rt; told.decision, kept.decision);
         let told = told.actions.as_slice();
         let kept = kept.actions.as_slice();
