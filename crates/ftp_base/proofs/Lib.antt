@@ -10,3 +10,4 @@ pub mod PathOrder
 pub mod Under
 pub mod ListingSteps
 pub mod Ranges
+pub mod KeptLemmas

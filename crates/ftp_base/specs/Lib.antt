@@ -9,3 +9,4 @@ pub mod LinkTable
 pub mod Calls
 pub mod Memory
 pub mod MemoryStorage
+pub mod Kept

@@ -17,7 +17,7 @@ use Rattle.ftp_base.specs.declared.storage.StoreError.TheVariants.{Failed}
 use Rattle.ftp_base.specs.declared.memory_storage.Standing.{Standing}
 use Rattle.ftp_base.specs.declared.memory_storage.Standing.TheVariants as standing
 use Rattle.ftp_base.specs.Calls.{Calls, calls_code, after_call, after_fault}
-use Rattle.ftp_base.specs.Memory.{fails_next}
+use Rattle.ftp_base.specs.Memory.{faults_of, fails_next, fault_limit}
 use Rattle.ftp_base.specs.Storage.{Item, Directory, File, Files, Call, Metadata, Listing, ReadAt, Begin, Append, Rule, item, bytes_of, contents, parent, root, is_child, file_at}
 
 -- the files, how many bytes each may have, and the calls so far
@@ -124,6 +124,18 @@ memory_meaning files max_file (Append user path bytes) = append_refusal (content
 -- the same by what stands at each path, where a file may have so many bytes
 abbrev pub memory_rule : ℕ → Rule
 memory_rule max_file files = memory_meaning files max_file
+
+-- which calls a storage in memory refuses
+abbrev pub storage_rule : MemoryState → Rule
+storage_rule s = memory_rule s.max_file
+
+-- how many faults a storage in memory counted
+abbrev pub storage_faults : MemoryState → ℕ
+storage_faults s = faults_of s.calls
+
+-- how many faults a storage in memory can count in all
+abbrev pub storage_limit : MemoryState → ℕ
+storage_limit s = fault_limit s.calls
 
 -- what was found at a path
 abbrev pub standing_item : Standing → Item

@@ -4,7 +4,8 @@ ghost use Rattle.std.specs.Prelude.{◌≡◌, ◌↔◌, ◌<◌, ◌≤◌, []
 ghost use Rattle.ftp_base.specs.declared.fault.Failed.TheVariants.{Fault, Memory};
 ghost use Rattle.ftp_base.specs.declared.fault.LinkFault.{LinkFault};
 ghost use Rattle.ftp_base.specs.Calls.{rises_above, after_call, after_fault, NoneFailed};
-ghost use Rattle.ftp_base.specs.Memory.{link_fails_next, link_fault_limit, IsNextFault, LinkMet, LinkFailed};
+ghost use Rattle.ftp_base.specs.Kept.{OnlySends, OnlyReads, OnlyCloses};
+ghost use Rattle.ftp_base.specs.Memory.{link_left, link_sending, link_faults, link_limit, link_fails_next, link_fault_limit, IsNextFault, LinkMet, LinkFailed};
 ghost use Rattle.ftp_base.specs.Outside.{HasRisen, ReadsFront, Sending};
 
 use crate::calls::Calls;
@@ -86,13 +87,13 @@ impl MemoryLink {
 }
 
 impl Source for MemoryLink {
-    ghost left = { λ s. Some s.left };
+    ghost left = { link_left };
 
-    ghost faults = { λ s. s.calls.faults };
+    ghost faults = { link_faults };
 
-    ghost fault_limit = { λ s. link_fault_limit s.calls };
+    ghost fault_limit = { link_limit };
 
-    ghost sending = { λ s. record { sent = Some s.sent; closed = s.closed; last_fault = s.last_fault } };
+    ghost sending = { link_sending };
 
     ghost is_link = { true };
 
@@ -116,10 +117,7 @@ impl Source for MemoryLink {
         ensures as_listed { OnErr result (LinkMet (Some self.old.calls) (Some self.new.calls) self.new.last_fault) }
         ensures unchanged { OnErr result (self.new.left ≡ self.old.left) }
 
-        ensures sent { self.new.sent ≡ self.old.sent }
-        ensures closed { self.new.closed ≡ self.old.closed }
-        ensures count { self.old.calls.faults ≤ self.new.calls.faults }
-        ensures limit { link_fault_limit self.new.calls ≤ link_fault_limit self.old.calls }
+        ensures only_reads { OnlyReads link_sending link_faults link_limit self.old self.new }
         ensures chunk { self.new.chunk ≡ self.old.chunk }
     {
         if let Some((_, fault)) = self.calls.next_failing() {
@@ -155,10 +153,7 @@ impl Link for MemoryLink {
         ensures memory { IsErrOf result Memory → self.new ≡ self.old }
         ensures unchanged { OnErr result (self.new.sent ≡ self.old.sent) }
 
-        ensures left { self.new.left ≡ self.old.left }
-        ensures closed { self.new.closed ≡ self.old.closed }
-        ensures count { self.old.calls.faults ≤ self.new.calls.faults }
-        ensures limit { link_fault_limit self.new.calls ≤ link_fault_limit self.old.calls }
+        ensures only_sends { OnlySends link_left link_sending link_faults link_limit self.old self.new }
         ensures chunk { self.new.chunk ≡ self.old.chunk }
     {
         if let Some((_, fault)) = self.calls.next_failing() {
@@ -186,11 +181,7 @@ impl Link for MemoryLink {
         ensures as_listed { OnErr result (LinkFailed (Some self.old.calls) (Some self.new.calls)) }
         ensures unchanged { OnErr result (self.new.closed ≡ self.old.closed) }
 
-        ensures sent { self.new.sent ≡ self.old.sent }
-        ensures left { self.new.left ≡ self.old.left }
-        ensures last_fault { self.new.last_fault ≡ self.old.last_fault }
-        ensures count { self.old.calls.faults ≤ self.new.calls.faults }
-        ensures limit { link_fault_limit self.new.calls ≤ link_fault_limit self.old.calls }
+        ensures only_closes { OnlyCloses link_left link_sending link_faults link_limit self.old self.new }
         ensures chunk { self.new.chunk ≡ self.old.chunk }
     {
         if self.calls.next_failing().is_some() {

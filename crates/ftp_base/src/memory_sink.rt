@@ -3,7 +3,8 @@
 ghost use Rattle.std.specs.Prelude.{◌≡◌, ◌↔◌, ℕ, ◌<◌, ◌≤◌, [], ◌++◌, IsTrue, min, length, take, Some, IfOk, OnOk, OnErr, IsErrOf, IsPermutation};
 ghost use Rattle.ftp_base.specs.declared.fault.Failed.TheVariants.{Fault, Memory};
 ghost use Rattle.ftp_base.specs.Calls.{rises_above, after_call, after_fault, NoneFailed};
-ghost use Rattle.ftp_base.specs.Memory.{fails_next, fault_limit, StorageMet};
+ghost use Rattle.ftp_base.specs.Kept.{CountsOn};
+ghost use Rattle.ftp_base.specs.Memory.{faults_of, fails_next, fault_limit, StorageMet};
 ghost use Rattle.ftp_base.specs.Outside.{HasRisen};
 
 use crate::calls::Calls;
@@ -83,8 +84,7 @@ impl Sink for MemorySink {
         ensures memory { IsErrOf result Memory → self.new ≡ self.old }
         ensures unchanged { OnErr result (self.new.written ≡ self.old.written) }
 
-        ensures count { self.old.calls.faults ≤ self.new.calls.faults }
-        ensures limit { fault_limit self.new.calls ≤ fault_limit self.old.calls }
+        ensures counts { CountsOn faults_of fault_limit self.old.calls self.new.calls }
         ensures chunk { self.new.chunk ≡ self.old.chunk }
     {
         if self.calls.next_failing().is_some() {

@@ -3,7 +3,8 @@
 ghost use Rattle.std.specs.Prelude.{◌≡◌, ◌↔◌, ◌<◌, ◌≤◌, min, length, IsTrue, Some, IfOk, IfErr, OnOk, OnErr, IsErrOf, IsPermutation};
 ghost use Rattle.ftp_base.specs.declared.fault.Failed.TheVariants.{Fault};
 ghost use Rattle.ftp_base.specs.Calls.{rises_above, after_call, after_fault};
-ghost use Rattle.ftp_base.specs.Memory.{fails_next, fault_limit};
+ghost use Rattle.ftp_base.specs.Kept.{CountsOn};
+ghost use Rattle.ftp_base.specs.Memory.{faults_of, fails_next, fault_limit};
 ghost use Rattle.ftp_base.specs.Outside.{HasRisen, ReadsFront};
 
 use crate::calls::Calls;
@@ -72,8 +73,7 @@ impl Source for MemorySource {
         ensures fault_rose { OnErr result (HasRisen self.old.calls.faults self.new.calls.faults) }
         ensures unchanged { OnErr result (self.new.left ≡ self.old.left) }
 
-        ensures count { self.old.calls.faults ≤ self.new.calls.faults }
-        ensures limit { fault_limit self.new.calls ≤ fault_limit self.old.calls }
+        ensures counts { CountsOn faults_of fault_limit self.old.calls self.new.calls }
         ensures chunk { self.new.chunk ≡ self.old.chunk }
     {
         if self.calls.next_failing().is_some() {

@@ -7,6 +7,7 @@ ghost use Rattle.std.specs.Prelude.{◌≡◌, ℕ, ◌-◌, ◌^◌, ◌<◌, �
 ghost use Rattle.ftp_base.specs.declared.fault.Failed.TheVariants.{Fault, Memory};
 ghost use Rattle.ftp_base.specs.declared.fault.LinkFault.{LinkFault};
 ghost use Rattle.ftp_base.specs.Calls.{Calls, AllWell, OneMore};
+ghost use Rattle.ftp_base.specs.Kept.{CountsOn, OnlySends, OnlyReads, OnlyCloses};
 ghost use Rattle.ftp_base.specs.Memory.{LinkMet, LinkFailed, StorageMet};
 ghost use Rattle.ftp_base.specs.Outside.{HasRisen, ReadsFront, Writes, Sending, nothing_sent};
 
@@ -36,8 +37,6 @@ pub trait Source {
     fn read(&mut self, out: &mut [u8]) -> Result<usize, Failed>
         ensures within { IfOk result (λ n. n ≤ length out.new) }
         ensures read { IfOk result (λ n. IfSome (left self.old) (λ l. ReadsFront l (left self.new) n out.new)) }
-        ensures sent { (sending self.new).sent ≡ (sending self.old).sent }
-        ensures closed { (sending self.new).closed ≡ (sending self.old).closed }
         ensures last_fault { OnOk result ((sending self.new).last_fault ≡ (sending self.old).last_fault) }
         ensures only_fault { IfErr result (λ e. e ≡ Fault) }
         ensures met { OnErr result (is_link ≡ true → IsSome (sending self.new).last_fault) }
@@ -48,8 +47,7 @@ pub trait Source {
         ensures made { OneMore (calls self.old) (calls self.new) }
         ensures fault_rose { OnErr result (HasRisen (faults self.old) (faults self.new)) }
         ensures unchanged { OnErr result (left self.new ≡ left self.old) }
-        ensures count { faults self.old ≤ faults self.new }
-        ensures limit { fault_limit self.new ≤ fault_limit self.old };
+        ensures only_reads { OnlyReads sending faults fault_limit self.old self.new };
 }
 
 /// Takes bytes, as a file or standard output does.
@@ -78,8 +76,7 @@ pub trait Sink {
         ensures made { (IsErrOf result Memory → ⊥) → OneMore (calls self.old) (calls self.new) }
         ensures uncounted { IsErrOf result Memory → calls self.new ≡ calls self.old }
         ensures unchanged { OnErr result (written self.new ≡ written self.old) }
-        ensures count { faults self.old ≤ faults self.new }
-        ensures limit { fault_limit self.new ≤ fault_limit self.old };
+        ensures counts { CountsOn faults fault_limit self.old self.new };
 }
 
 /// Both directions of a connection, under one count of faults.
@@ -92,8 +89,6 @@ pub trait Link: Source {
         ensures within { IfOk result (λ n. n ≤ length bytes.now) }
         ensures some { IfOk result (λ n. 0 < length bytes.now → 0 < n) }
         ensures wrote { IfOk result (λ n. Writes (Self.sending self.old).sent (Self.sending self.new).sent (take n bytes.now)) }
-        ensures left { Self.left self.new ≡ Self.left self.old }
-        ensures closed { (Self.sending self.new).closed ≡ (Self.sending self.old).closed }
         ensures last_fault { OnOk result ((Self.sending self.new).last_fault ≡ (Self.sending self.old).last_fault) }
         ensures met { IsErrOf result Fault → IsSome (Self.sending self.new).last_fault }
         ensures fault_rose { IsErrOf result Fault → HasRisen (Self.faults self.old) (Self.faults self.new) }
@@ -105,23 +100,18 @@ pub trait Link: Source {
         ensures uncounted { IsErrOf result Memory → Self.calls self.new ≡ Self.calls self.old }
         ensures memory_last { IsErrOf result Memory → ((Self.sending self.new).last_fault ≡ (Self.sending self.old).last_fault) }
         ensures unchanged { OnErr result ((Self.sending self.new).sent ≡ (Self.sending self.old).sent) }
-        ensures count { Self.faults self.old ≤ Self.faults self.new }
-        ensures limit { Self.fault_limit self.new ≤ Self.fault_limit self.old };
+        ensures only_sends { OnlySends Self.left Self.sending Self.faults Self.fault_limit self.old self.new };
 
     /// Closes both directions. What was sent and what is left to be read stay as they are.
     fn close(&mut self) -> Result<(), Failed>
         ensures closed { OnOk result ((Self.sending self.new).closed ≡ true) }
-        ensures sent { (Self.sending self.new).sent ≡ (Self.sending self.old).sent }
-        ensures left { Self.left self.new ≡ Self.left self.old }
-        ensures last_fault { (Self.sending self.new).last_fault ≡ (Self.sending self.old).last_fault }
         ensures only_fault { IfErr result (λ e. e ≡ Fault) }
         ensures fault_rose { OnErr result (HasRisen (Self.faults self.old) (Self.faults self.new)) }
         ensures unlisted { OnOk result (AllWell (λ call. call.0) (Self.calls self.old) (Self.calls self.new)) }
         ensures as_listed { OnErr result (LinkFailed (Self.calls self.old) (Self.calls self.new)) }
         ensures made { OneMore (Self.calls self.old) (Self.calls self.new) }
         ensures unchanged { OnErr result ((Self.sending self.new).closed ≡ (Self.sending self.old).closed) }
-        ensures count { Self.faults self.old ≤ Self.faults self.new }
-        ensures limit { Self.fault_limit self.new ≤ Self.fault_limit self.old };
+        ensures only_closes { OnlyCloses Self.left Self.sending Self.faults Self.fault_limit self.old self.new };
 
     /// What the last read or write that failed met; nothing before any failed.
     fn last_fault(&self) -> Option<LinkFault>

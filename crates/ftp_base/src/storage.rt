@@ -6,6 +6,7 @@
 ghost use Rattle.std.specs.Prelude.{◌≡◌, ℕ, ◌+◌, ◌-◌, ◌^◌, ◌<◌, ◌≤◌, Bool, true, length, Option, None, IfSome, IsSomeAnd, IfOk, OnOk, OnErr, IsErrOf};
 ghost use Rattle.ftp_base.specs.declared.storage.StoreError.TheVariants.{OutOfMemory};
 ghost use Rattle.ftp_base.specs.Calls.{Calls, AllWell, OneMore};
+ghost use Rattle.ftp_base.specs.Kept.{StorageKept};
 ghost use Rattle.ftp_base.specs.Memory.{StorageMet};
 ghost use Rattle.ftp_base.specs.Outside.{HasRisen};
 ghost use Rattle.ftp_base.specs.Storage.{Files, Rule, meaning_of, Metadata, Listing, ReadAt, Begin, Append, Answers, item, meta_of, listing, ReadsFile, Begins, Grows};
@@ -86,9 +87,7 @@ pub trait Storage {
         ensures as_listed { IsErrOf result StoreError.Failed → StorageMet (calls self.old) (calls self.new) }
         ensures made { OneMore (calls self.old) (calls self.new) }
         ensures unchanged { files self.new ≡ files self.old }
-        ensures same_rule { rule self.new ≡ rule self.old }
-        ensures count { faults self.old ≤ faults self.new }
-        ensures limit { fault_limit self.new ≤ fault_limit self.old };
+        ensures storage_kept { StorageKept rule faults fault_limit self.old self.new };
 
     /// The direct children of a directory in byte order of their names, equal names in byte order of their paths.
     fn list(&mut self, user: &Bytes, path: &Bytes) -> Result<Vec<FileInfo>, StoreError>
@@ -99,9 +98,7 @@ pub trait Storage {
         ensures as_listed { IsErrOf result StoreError.Failed → StorageMet (calls self.old) (calls self.new) }
         ensures made { OneMore (calls self.old) (calls self.new) }
         ensures unchanged { files self.new ≡ files self.old }
-        ensures same_rule { rule self.new ≡ rule self.old }
-        ensures count { faults self.old ≤ faults self.new }
-        ensures limit { fault_limit self.new ≤ fault_limit self.old };
+        ensures storage_kept { StorageKept rule faults fault_limit self.old self.new };
 
     /// Reads to the front of `out` from a place in a file, and says how many bytes: none exactly at or past the end,
     /// where `out` has room.
@@ -122,9 +119,7 @@ pub trait Storage {
         ensures made { OneMore (calls self.old) (calls self.new) }
         ensures takes_memory { IsErrOf result StoreError.OutOfMemory → reads_take_memory ≡ true }
         ensures unchanged { files self.new ≡ files self.old }
-        ensures same_rule { rule self.new ≡ rule self.old }
-        ensures count { faults self.old ≤ faults self.new }
-        ensures limit { fault_limit self.new ≤ fault_limit self.old };
+        ensures storage_kept { StorageKept rule faults fault_limit self.old self.new };
 
     /// Cuts a file at a place, or fills it with zeros up to there; an absent file counts as empty.
     fn begin(&mut self, user: &Bytes, path: &Bytes, start: u64) -> Result<(), StoreError>
@@ -135,9 +130,7 @@ pub trait Storage {
         ensures as_listed { IsErrOf result StoreError.Failed → StorageMet (calls self.old) (calls self.new) }
         ensures made { OneMore (calls self.old) (calls self.new) }
         ensures unchanged { OnErr result (files self.new ≡ files self.old) }
-        ensures same_rule { rule self.new ≡ rule self.old }
-        ensures count { faults self.old ≤ faults self.new }
-        ensures limit { fault_limit self.new ≤ fault_limit self.old };
+        ensures storage_kept { StorageKept rule faults fault_limit self.old self.new };
 
     /// Puts bytes at the end of a file.
     fn append(&mut self, user: &Bytes, path: &Bytes, bytes: &[u8]) -> Result<(), StoreError>
@@ -148,7 +141,5 @@ pub trait Storage {
         ensures as_listed { IsErrOf result StoreError.Failed → StorageMet (calls self.old) (calls self.new) }
         ensures made { OneMore (calls self.old) (calls self.new) }
         ensures unchanged { OnErr result (files self.new ≡ files self.old) }
-        ensures same_rule { rule self.new ≡ rule self.old }
-        ensures count { faults self.old ≤ faults self.new }
-        ensures limit { fault_limit self.new ≤ fault_limit self.old };
+        ensures storage_kept { StorageKept rule faults fault_limit self.old self.new };
 }

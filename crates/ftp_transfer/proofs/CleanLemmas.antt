@@ -1,18 +1,16 @@
 -- Runs that nothing refused and nothing stopped.
-use Rattle.std.proofs.Common.{◌≡◌, inl, inr, true, false, ℕ, ◌+◌, ◌-◌, ◌^◌, ◌<◌, ◌≤◌, List, length, length-drop, take, drop, Option, Some, None, refl, sym, ap, ◌∙◌, arith}
-use Rattle.std.specs.Prelude.{◌⊎◌, IsSome, IfSome, IsSomeAnd, MatchOption}
-use Rattle.std.specs.Option.{option_map}
+use Rattle.std.proofs.Common.{◌≡◌, inl, inr, false, ℕ, ◌+◌, ◌-◌, ◌^◌, ◌<◌, ◌≤◌, List, length, length-drop, take, Option, Some, None, refl, sym, ◌∙◌, arith}
+use Rattle.std.specs.Prelude.{◌⊎◌, IfSome, IsSomeAnd, MatchOption}
 use Rattle.ftp_base.specs.declared.command.DataChanCmd.{DataChanCmd}
 use Rattle.ftp_base.specs.declared.command.DataChanCmd.TheVariants as command
 use Rattle.ftp_base.specs.declared.error_kind.ErrorKind.{ErrorKind}
-use Rattle.ftp_base.specs.Outside.{HasRisen}
-use Rattle.ftp_base.specs.Storage.{Files, Rule, meaning_of, Metadata, Listing, Append, get, old_bytes, with_file, put}
+use Rattle.ftp_base.specs.Storage.{Files, Rule, Metadata, Append, old_bytes, with_file, put}
 use Rattle.ftp_transfer.specs.declared.job.Job.{Job}
 use Rattle.ftp_transfer.specs.declared.job.Outcome.{Outcome}
 use Rattle.ftp_transfer.specs.declared.job.Completion.{Completion}
 use Rattle.ftp_transfer.specs.declared.job.Completion.TheVariants as result
-use Rattle.ftp_transfer.specs.Run.{RefusedBy, IfRefused, IsStored, RefusesAppend, RefusesStore, RefusesAppe, TakesStore, TakesAppe, append_place}
-use Rattle.ftp_transfer.specs.Ran.{Told, Moves, Ran, Refuses, RefusesListing, Takes, EndsUnrefused, IsClean, IsDone, due_of}
+use Rattle.ftp_transfer.specs.Run.{RefusedBy, IfRefused, RefusesStore, TakesStore, append_place}
+use Rattle.ftp_transfer.specs.Ran.{Told, Ran, Refuses, Takes, EndsUnrefused, IsClean, IsDone, due_of}
 use Rattle.ftp_transfer.specs.Transfer.{is_store}
 use Rattle.ftp_transfer.proofs.RunLemmas.{HasRisen-more}
 

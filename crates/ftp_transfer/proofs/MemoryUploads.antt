@@ -1,25 +1,18 @@
 -- Uploads to a storage in memory.
-use Rattle.std.proofs.Common.{◌≡◌, inl, inr, Bool, true, false, cond, ℕ, ◌+◌, ◌-◌, ◌^◌, ◌<◌, ◌≤◌, List, length, length-drop, length-take, length-take-le, take, drop, replicate, Option, Some, None, refl, sym, ap, ◌∙◌, arith}
-use Rattle.std.specs.Prelude.{◌⊎◌, nat_lt, if◌then◌else◌}
-use Rattle.std.specs.FinMap as map
-use Rattle.std.specs.Option.{option_and_then}
+use Rattle.std.proofs.Common.{◌≡◌, inl, inr, true, false, ℕ, ◌+◌, ◌-◌, ◌≤◌, List, length, length-drop, length-take, length-take-le, take, drop, replicate, Option, Some, None, refl, ap, ◌∙◌, arith}
+use Rattle.std.specs.Prelude.{◌⊎◌}
 use Rattle.std.specs.Str.{bytes_eq}
 use Rattle.std.proofs.lemmas.Bool.{le-ltb}
 use Rattle.std.proofs.lemmas.List.{length-append, length-replicate}
-use Rattle.ftp_base.specs.declared.command.DataChanCmd.{DataChanCmd}
 use Rattle.ftp_base.specs.declared.command.DataChanCmd.TheVariants as command
-use Rattle.ftp_base.specs.declared.error_kind.ErrorKind.{ErrorKind}
 use Rattle.ftp_base.specs.declared.error_kind.ErrorKind.TheVariants as kind
-use Rattle.ftp_base.specs.Outside.{HasRisen}
-use Rattle.ftp_base.specs.Storage.{Item, Directory, File, Files, Begin, Append, item, contents, bytes_of, root, parent, with_file, old_bytes, cut, put}
-use Rattle.ftp_base.specs.MemoryStorage.{memory_rule, if_within, if_file, if_directory, append_refusal}
+use Rattle.ftp_base.specs.Storage.{Item, Directory, File, Files, item, contents, root, parent, with_file, old_bytes, cut, put}
+use Rattle.ftp_base.specs.MemoryStorage.{memory_rule, if_within, if_file, if_directory}
 use Rattle.ftp_base.proofs.Files.{get-insert_same}
-use Rattle.ftp_transfer.specs.declared.job.Job.{Job}
-use Rattle.ftp_transfer.specs.declared.job.Outcome.{Outcome}
 use Rattle.ftp_transfer.specs.declared.job.Completion.{Completion}
 use Rattle.ftp_transfer.specs.declared.job.Completion.TheVariants as result
 use Rattle.ftp_transfer.specs.Run.{TakesStore}
-use Rattle.ftp_transfer.specs.Ran.{Told, Ran, Takes, IsClean, IsDone}
+use Rattle.ftp_transfer.specs.Ran.{Takes, IsDone}
 use Rattle.ftp_transfer.specs.Transfer.{suits}
 use Rattle.ftp_transfer.specs.Uploads.{UploadsAreWritten}
 use Rattle.ftp_transfer.proofs.CleanLemmas.{clean-done}

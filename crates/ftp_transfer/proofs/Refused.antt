@@ -1,5 +1,5 @@
 -- Outcomes that no run has.
-use Rattle.std.proofs.Common.{◌≡◌, ℕ, true, false, List, [], ◌∷◌, ◌<◌, ◌≤◌, ◌^◌, ◌-◌, length, Option, Some, None, inl, inr, refl, sym, ap, ◌∙◌, arith}
+use Rattle.std.proofs.Common.{◌≡◌, ℕ, false, List, [], ◌∷◌, Option, Some, None, inl, inr, refl, sym, ◌∙◌, arith}
 use Rattle.std.specs.Prelude.{codes, ◌⊎◌}
 use Rattle.std.specs.Ordering.{nat_cmp}
 use Rattle.std.specs.Cmp.Lexicographic.{slice_cmp}
@@ -8,13 +8,12 @@ use Rattle.ftp_base.specs.declared.command.DataChanCmd.TheVariants as command
 use Rattle.ftp_base.specs.declared.error_kind.ErrorKind.{ErrorKind}
 use Rattle.ftp_base.specs.declared.error_kind.ErrorKind.TheVariants as kind
 use Rattle.ftp_base.specs.declared.fault.LinkFault.{LinkFault}
-use Rattle.ftp_base.specs.Outside.{HasRisen, Sending}
+use Rattle.ftp_base.specs.Outside.{Sending}
 use Rattle.ftp_base.specs.Storage.{Files, with_file, Append, ReadAt}
 use Rattle.ftp_base.specs.Storage as storage
 use Rattle.ftp_base.specs.MemoryStorage.{memory_rule}
 use Rattle.ftp_base.proofs.Files.{get-insert_same}
 use Rattle.ftp_transfer.specs.declared.job.Job.{Job}
-use Rattle.ftp_transfer.specs.declared.job.Outcome.{Outcome}
 use Rattle.ftp_transfer.specs.declared.job.Completion.{Completion}
 use Rattle.ftp_transfer.specs.declared.job.Completion.TheVariants as result
 use Rattle.ftp_transfer.specs.Ran.{told, Told, Ran}

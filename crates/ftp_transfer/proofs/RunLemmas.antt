@@ -5,6 +5,7 @@ use Rattle.std.proofs.lemmas.List.{drop-drop}
 use Rattle.ftp_base.specs.declared.error_kind.ErrorKind.{ErrorKind}
 use Rattle.ftp_base.specs.declared.fault.LinkFault.{LinkFault}
 use Rattle.ftp_base.specs.Calls.{Calls, AllWell}
+use Rattle.ftp_base.specs.Kept.{CountsOn}
 use Rattle.ftp_base.specs.Outside.{HasRisen}
 use Rattle.ftp_base.proofs.CallsMade.{AllWell-more, LinkMet-more, StorageMet-more}
 use Rattle.ftp_base.specs.Storage.{Files, get, old_bytes}
@@ -22,8 +23,10 @@ pub HasRisen-more : (a b c : ℕ) → b ≤ c → HasRisen a b → HasRisen a c
 HasRisen-more a b c le rose = grind arith
 
 -- a storage that failed after calls that went well failed in the longer run
-pub StorageRose_later : (a b c : ℕ) (x y z : Option (Calls ℕ)) → a ≤ b → b ≤ c → AllWell (λ (call : ℕ). call) x y → StorageRose b c y z → StorageRose a c x z
-StorageRose_later a b c x y z le le' well rose = (HasRisen_later a b c le le' rose.0, StorageMet-more x y z well rose.1)
+pub StorageRose_later : {S : Type 0} {faults fault_limit : S → ℕ} {a b c : S} (x y z : Option (Calls ℕ)) →
+    CountsOn faults fault_limit a b → CountsOn faults fault_limit b c → AllWell (λ (call : ℕ). call) x y →
+    StorageRose (faults b) (faults c) y z → StorageRose (faults a) (faults c) x z
+StorageRose_later x y z first next well rose = (HasRisen_later _ _ _ first.count next.count rose.0, StorageMet-more x y z well rose.1)
 
 -- how the calls of a storage went after others that went well
 pub StorageWent-more : (a b c : Option (Calls ℕ)) (r : Completion) → AllWell (λ (call : ℕ). call) a b → StorageWent b c r → StorageWent a c r
@@ -31,9 +34,10 @@ StorageWent-more a b c r first (inl well) = inl (AllWell-more (λ (call : ℕ). 
 StorageWent-more a b c r first (inr (is, met)) = inr (is, StorageMet-more a b c first met)
 
 -- a link that failed after calls that went well failed in the longer run
-pub LinkRose_later : (a b c : ℕ) (x y z : Option (Calls (ℕ × LinkFault))) (last : Option LinkFault) → a ≤ b → b ≤ c →
-    AllWell (λ (call : ℕ × LinkFault). call.0) x y → LinkRose b c y z last → LinkRose a c x z last
-LinkRose_later a b c x y z last le le' well rose = (HasRisen_later a b c le le' rose.0, LinkMet-more x y z last well rose.1)
+pub LinkRose_later : {L : Type 0} {faults fault_limit : L → ℕ} {a b c : L} (x y z : Option (Calls (ℕ × LinkFault))) (last : Option LinkFault) →
+    CountsOn faults fault_limit a b → CountsOn faults fault_limit b c → AllWell (λ (call : ℕ × LinkFault). call.0) x y →
+    LinkRose (faults b) (faults c) y z last → LinkRose (faults a) (faults c) x z last
+LinkRose_later x y z last first next well rose = (HasRisen_later _ _ _ first.count next.count rose.0, LinkMet-more x y z last well rose.1)
 
 -- the next bytes of a text were sent after the first
 pub SendsFront-more : (text : List ℕ) (m n : ℕ) (a b c : Option (List ℕ)) →

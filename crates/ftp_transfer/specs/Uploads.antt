@@ -1,5 +1,5 @@
 -- Uploads to a storage in memory.
-use Rattle.std.specs.Prelude.{◌≡◌, ◌⊎◌, ℕ, ◌+◌, ◌-◌, ◌^◌, ◌<◌, ◌≤◌, true, false, List, length, Option, Some, None, IsSome}
+use Rattle.std.specs.Prelude.{◌≡◌, ◌⊎◌, ℕ, ◌+◌, ◌-◌, ◌^◌, ◌<◌, ◌≤◌, true, false, List, length, Some, None, IsSome}
 use Rattle.std.specs.Str.{bytes_eq}
 use Rattle.ftp_base.specs.declared.command.DataChanCmd.TheVariants as command
 use Rattle.ftp_base.specs.Outside.{HasRisen}

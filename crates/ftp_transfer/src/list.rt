@@ -2,6 +2,7 @@
 
 ghost use Rattle.std.specs.Prelude.{◌≡◌, ◌-◌, ◌^◌, ◌<◌, ◌≤◌, true, length, Some, None, IsSome, IfSome};
 ghost use Rattle.ftp_base.specs.Calls.{AllWell};
+ghost use Rattle.ftp_base.specs.Kept.{StorageKept, OnlySends};
 ghost use Rattle.ftp_base.specs.Storage.{Listing, meaning_of, listing};
 ghost use Rattle.ftp_transfer.specs.declared.job.Completion.TheVariants as done;
 ghost use Rattle.ftp_transfer.specs.Listing.{listing_text as text_of};
@@ -37,15 +38,10 @@ pub fn list<S: Storage, L: Link>(alloc: Global, job: &Job, storage: &mut S, link
         (λ k. RefusedFirst (StorageRose (S.faults storage.old) (S.faults storage.new) (S.calls storage.old) (S.calls storage.new)) (shown_refusal job.now.command k) result.bytes result.result) }
 
     ensures files { S.files storage.new ≡ S.files storage.old }
-    ensures rule { S.rule storage.new ≡ S.rule storage.old }
-    ensures left { L.left link.new ≡ L.left link.old }
-    ensures closed { (L.sending link.new).closed ≡ (L.sending link.old).closed }
+    ensures storage_kept { StorageKept S.rule S.faults S.fault_limit storage.old storage.new }
+    ensures only_sends { OnlySends L.left L.sending L.faults L.fault_limit link.old link.new }
     ensures storage_well { StorageWent (S.calls storage.old) (S.calls storage.new) result.result }
     ensures link_well { result.fault ≡ None → AllWell (λ call. call.0) (L.calls link.old) (L.calls link.new) }
-    ensures storage_count { S.faults storage.old ≤ S.faults storage.new }
-    ensures storage_limit { S.fault_limit storage.new ≤ S.fault_limit storage.old }
-    ensures link_count { L.faults link.old ≤ L.faults link.new }
-    ensures link_limit { L.fault_limit link.new ≤ L.fault_limit link.old }
 {
     match storage.list(&job.user, &job.path) {
         Ok(children) => send_children(alloc, &job.command, children.as_slice(), link),
@@ -68,11 +64,8 @@ fn send_children<L: Link>(
     ensures end { StopsListing
         (LinkRose (L.faults link.old) (L.faults link.new) (L.calls link.old) (L.calls link.new) (L.sending link.new).last_fault) (L.sending link.old).last_fault (L.sending link.new).last_fault
         result.result result.fault }
-    ensures left { L.left link.new ≡ L.left link.old }
-    ensures closed { (L.sending link.new).closed ≡ (L.sending link.old).closed }
+    ensures only_sends { OnlySends L.left L.sending L.faults L.fault_limit link.old link.new }
     ensures link_well { result.fault ≡ None → AllWell (λ call. call.0) (L.calls link.old) (L.calls link.new) }
-    ensures link_count { L.faults link.old ≤ L.faults link.new }
-    ensures link_limit { L.fault_limit link.new ≤ L.fault_limit link.old }
 {
     let Ok(text) = listing_text(alloc, command, children) else {
         return nothing_moved(Completion::OutOfMemory);
@@ -87,11 +80,8 @@ fn send_text<L: Link>(text: &[u8], link: &mut L) -> Outcome
     ensures end { StopsListing
         (LinkRose (L.faults link.old) (L.faults link.new) (L.calls link.old) (L.calls link.new) (L.sending link.new).last_fault) (L.sending link.old).last_fault (L.sending link.new).last_fault
         result.result result.fault }
-    ensures left { L.left link.new ≡ L.left link.old }
-    ensures closed { (L.sending link.new).closed ≡ (L.sending link.old).closed }
+    ensures only_sends { OnlySends L.left L.sending L.faults L.fault_limit link.old link.new }
     ensures link_well { result.fault ≡ None → AllWell (λ call. call.0) (L.calls link.old) (L.calls link.new) }
-    ensures link_count { L.faults link.old ≤ L.faults link.new }
-    ensures link_limit { L.fault_limit link.new ≤ L.fault_limit link.old }
 {
     let sending = send(link, text);
     let (result, fault) = match sending.stopped {

@@ -3,6 +3,7 @@
 ghost use Rattle.std.specs.Prelude.{◌≡◌, ◌+◌, ◌-◌, ◌^◌, ◌<◌, ◌≤◌, true, false, [], length, Some, None, IsSome, IsNone, IfSome};
 ghost use Rattle.ftp_base.specs.declared.error_kind.ErrorKind.TheVariants as kind;
 ghost use Rattle.ftp_base.specs.Calls.{AllWell};
+ghost use Rattle.ftp_base.specs.Kept.{StorageKept, OnlySends};
 ghost use Rattle.ftp_base.specs.Storage.{ReadAt, meaning_of, get, old_bytes};
 ghost use Rattle.ftp_transfer.specs.declared.job.Completion.TheVariants as done;
 ghost use Rattle.ftp_transfer.specs.Ran.{IsDone};
@@ -39,15 +40,10 @@ pub fn retrieve<S: Storage, L: Link>(job: &Job, storage: &mut S, link: &mut L) -
     ensures no_memory { S.reads_take_memory ≡ false → L.takes_memory ≡ false → result.result ≡ done.OutOfMemory → ⊥ }
 
     ensures files { S.files storage.new ≡ S.files storage.old }
-    ensures rule { S.rule storage.new ≡ S.rule storage.old }
-    ensures left { L.left link.new ≡ L.left link.old }
-    ensures closed { (L.sending link.new).closed ≡ (L.sending link.old).closed }
+    ensures storage_kept { StorageKept S.rule S.faults S.fault_limit storage.old storage.new }
+    ensures only_sends { OnlySends L.left L.sending L.faults L.fault_limit link.old link.new }
     ensures storage_well { StorageWent (S.calls storage.old) (S.calls storage.new) result.result }
     ensures link_well { result.fault ≡ None → AllWell (λ call. call.0) (L.calls link.old) (L.calls link.new) }
-    ensures storage_count { S.faults storage.old ≤ S.faults storage.new }
-    ensures storage_limit { S.fault_limit storage.new ≤ S.fault_limit storage.old }
-    ensures link_count { L.faults link.old ≤ L.faults link.new }
-    ensures link_limit { L.fault_limit link.new ≤ L.fault_limit link.old }
 {
     let mut buffer = [0; PIECE_LEN];
     let mut moved: u64 = 0;
@@ -98,17 +94,12 @@ pub fn send_piece<S: Storage, L: Link>(
     ensures no_memory { S.reads_take_memory ≡ false → L.takes_memory ≡ false → IfSome result.end (λ e. e.result ≡ done.OutOfMemory → ⊥) }
 
     ensures files { S.files storage.new ≡ S.files storage.old }
-    ensures rule { S.rule storage.new ≡ S.rule storage.old }
-    ensures left { L.left link.new ≡ L.left link.old }
-    ensures closed { (L.sending link.new).closed ≡ (L.sending link.old).closed }
+    ensures storage_kept { StorageKept S.rule S.faults S.fault_limit storage.old storage.new }
+    ensures only_sends { OnlySends L.left L.sending L.faults L.fault_limit link.old link.new }
     ensures storage_well { IsNone result.end → AllWell (λ call. call) (S.calls storage.old) (S.calls storage.new) }
     ensures storage_held { IfSome result.end (λ e. StorageWent (S.calls storage.old) (S.calls storage.new) e.result) }
     ensures link_well { IsNone result.end → AllWell (λ call. call.0) (L.calls link.old) (L.calls link.new) }
     ensures link_held { IfSome result.end (λ e. e.fault ≡ None → AllWell (λ call. call.0) (L.calls link.old) (L.calls link.new)) }
-    ensures storage_count { S.faults storage.old ≤ S.faults storage.new }
-    ensures storage_limit { S.fault_limit storage.new ≤ S.fault_limit storage.old }
-    ensures link_count { L.faults link.old ≤ L.faults link.new }
-    ensures link_limit { L.fault_limit link.new ≤ L.fault_limit link.old }
 {
     let room = piece_room(moved);
     if room == 0 {
@@ -137,12 +128,9 @@ fn send_read<L: Link>(link: &mut L, bytes: &[u8]) -> Turn
         (LinkRose (L.faults link.old) (L.faults link.new) (L.calls link.old) (L.calls link.new) (L.sending link.new).last_fault) (L.sending link.old).last_fault (L.sending link.new).last_fault
         e.result e.fault) }
     ensures no_memory { L.takes_memory ≡ false → IfSome result.end (λ e. e.result ≡ done.OutOfMemory → ⊥) }
-    ensures left { L.left link.new ≡ L.left link.old }
-    ensures closed { (L.sending link.new).closed ≡ (L.sending link.old).closed }
+    ensures only_sends { OnlySends L.left L.sending L.faults L.fault_limit link.old link.new }
     ensures link_well { IsNone result.end → AllWell (λ call. call.0) (L.calls link.old) (L.calls link.new) }
     ensures link_held { IfSome result.end (λ e. e.fault ≡ None → AllWell (λ call. call.0) (L.calls link.old) (L.calls link.new)) }
-    ensures link_count { L.faults link.old ≤ L.faults link.new }
-    ensures link_limit { L.fault_limit link.new ≤ L.fault_limit link.old }
 {
     let sending = send(link, bytes);
     let sent = sending.sent as u64;

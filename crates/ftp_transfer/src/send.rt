@@ -3,6 +3,7 @@
 ghost use Rattle.std.specs.Prelude.{◌≡◌, ◌≢◌, ◌≤◌, false, length, take, Some, None, IsSome};
 ghost use Rattle.ftp_base.specs.declared.fault.Failed.TheVariants.{Fault, Memory};
 ghost use Rattle.ftp_base.specs.Calls.{AllWell};
+ghost use Rattle.ftp_base.specs.Kept.{OnlySends};
 ghost use Rattle.ftp_base.specs.Outside.{Writes};
 ghost use Rattle.ftp_transfer.specs.Run.{LinkRose};
 
@@ -20,15 +21,12 @@ pub fn send<L: Link>(link: &mut L, bytes: &[u8]) -> SendResult
     ensures within { result.sent ≤ length bytes.now }
     ensures all { result.stopped ≡ None → result.sent ≡ length bytes.now }
     ensures wrote { Writes (L.sending link.old).sent (L.sending link.new).sent (take result.sent bytes.now) }
-    ensures left { L.left link.new ≡ L.left link.old }
-    ensures closed { (L.sending link.new).closed ≡ (L.sending link.old).closed }
+    ensures only_sends { OnlySends L.left L.sending L.faults L.fault_limit link.old link.new }
     ensures last_fault { result.stopped ≢ Some Fault → (L.sending link.new).last_fault ≡ (L.sending link.old).last_fault }
     ensures met { result.stopped ≡ Some Fault → IsSome (L.sending link.new).last_fault }
     ensures fault_rose { result.stopped ≡ Some Fault → LinkRose (L.faults link.old) (L.faults link.new) (L.calls link.old) (L.calls link.new) (L.sending link.new).last_fault }
     ensures link_well { result.stopped ≢ Some Fault → AllWell (λ call. call.0) (L.calls link.old) (L.calls link.new) }
     ensures no_memory { L.takes_memory ≡ false → result.stopped ≡ Some Memory → ⊥ }
-    ensures count { L.faults link.old ≤ L.faults link.new }
-    ensures limit { L.fault_limit link.new ≤ L.fault_limit link.old }
 {
     let mut sent = 0;
     while sent < bytes.len() {

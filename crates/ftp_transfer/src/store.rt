@@ -4,6 +4,7 @@ ghost use Rattle.std.specs.Prelude.{◌≡◌, ◌≢◌, ◌+◌, ◌-◌, ◌^
 ghost use Rattle.std.specs.Option.{option_map};
 ghost use Rattle.ftp_base.specs.declared.error_kind.ErrorKind.TheVariants as kind;
 ghost use Rattle.ftp_base.specs.Calls.{AllWell};
+ghost use Rattle.ftp_base.specs.Kept.{StorageKept, OnlyReads};
 ghost use Rattle.ftp_base.specs.Storage.{Begin, Append, meaning_of, Grows, old_bytes};
 ghost use Rattle.ftp_transfer.specs.declared.job.Completion.TheVariants as done;
 ghost use Rattle.ftp_transfer.specs.Ran.{IsDone};
@@ -39,15 +40,10 @@ pub fn store<S: Storage, L: Link>(job: &Job, start: u64, storage: &mut S, link: 
         RefusedLast (StorageRose (S.faults storage.old) (S.faults storage.new) (S.calls storage.old) (S.calls storage.new)) (meaning_of (S.rule storage.old) (S.files storage.new)) job.now.user job.now.path
         (option_map (drop result.bytes) (L.left link.old)) (L.left link.new) result.result }
 
-    ensures rule { S.rule storage.new ≡ S.rule storage.old }
-    ensures sent { (L.sending link.new).sent ≡ (L.sending link.old).sent }
-    ensures closed { (L.sending link.new).closed ≡ (L.sending link.old).closed }
+    ensures storage_kept { StorageKept S.rule S.faults S.fault_limit storage.old storage.new }
+    ensures only_reads { OnlyReads L.sending L.faults L.fault_limit link.old link.new }
     ensures storage_well { StorageWent (S.calls storage.old) (S.calls storage.new) result.result }
     ensures link_well { result.fault ≡ None → AllWell (λ call. call.0) (L.calls link.old) (L.calls link.new) }
-    ensures storage_count { S.faults storage.old ≤ S.faults storage.new }
-    ensures storage_limit { S.fault_limit storage.new ≤ S.fault_limit storage.old }
-    ensures link_count { L.faults link.old ≤ L.faults link.new }
-    ensures link_limit { L.fault_limit link.new ≤ L.fault_limit link.old }
 {
     match storage.begin(&job.user, &job.path, start) {
         Ok(()) => fill(job, storage, link),
@@ -79,15 +75,10 @@ pub fn append<S: Storage, L: Link>(job: &Job, storage: &mut S, link: &mut L) -> 
         RefusedLast (StorageRose (S.faults storage.old) (S.faults storage.new) (S.calls storage.old) (S.calls storage.new)) (meaning_of (S.rule storage.old) (S.files storage.new)) job.now.user job.now.path
         (option_map (drop result.bytes) (L.left link.old)) (L.left link.new) result.result }
 
-    ensures rule { S.rule storage.new ≡ S.rule storage.old }
-    ensures sent { (L.sending link.new).sent ≡ (L.sending link.old).sent }
-    ensures closed { (L.sending link.new).closed ≡ (L.sending link.old).closed }
+    ensures storage_kept { StorageKept S.rule S.faults S.fault_limit storage.old storage.new }
+    ensures only_reads { OnlyReads L.sending L.faults L.fault_limit link.old link.new }
     ensures storage_well { StorageWent (S.calls storage.old) (S.calls storage.new) result.result }
     ensures link_well { result.fault ≡ None → AllWell (λ call. call.0) (L.calls link.old) (L.calls link.new) }
-    ensures storage_count { S.faults storage.old ≤ S.faults storage.new }
-    ensures storage_limit { S.fault_limit storage.new ≤ S.fault_limit storage.old }
-    ensures link_count { L.faults link.old ≤ L.faults link.new }
-    ensures link_limit { L.fault_limit link.new ≤ L.fault_limit link.old }
 {
     match start_after(storage.metadata(&job.user, &job.path)) {
         Ok(start) => store(job, start, storage, link),
@@ -128,15 +119,10 @@ pub fn fill<S: Storage, L: Link>(job: &Job, storage: &mut S, link: &mut L) -> Ou
         RefusedLast (StorageRose (S.faults storage.old) (S.faults storage.new) (S.calls storage.old) (S.calls storage.new)) (meaning_of (S.rule storage.old) (S.files storage.new)) job.now.user job.now.path
         (option_map (drop result.bytes) (L.left link.old)) (L.left link.new) result.result }
 
-    ensures rule { S.rule storage.new ≡ S.rule storage.old }
-    ensures sent { (L.sending link.new).sent ≡ (L.sending link.old).sent }
-    ensures closed { (L.sending link.new).closed ≡ (L.sending link.old).closed }
+    ensures storage_kept { StorageKept S.rule S.faults S.fault_limit storage.old storage.new }
+    ensures only_reads { OnlyReads L.sending L.faults L.fault_limit link.old link.new }
     ensures storage_well { StorageWent (S.calls storage.old) (S.calls storage.new) result.result }
     ensures link_well { result.fault ≡ None → AllWell (λ call. call.0) (L.calls link.old) (L.calls link.new) }
-    ensures storage_count { S.faults storage.old ≤ S.faults storage.new }
-    ensures storage_limit { S.fault_limit storage.new ≤ S.fault_limit storage.old }
-    ensures link_count { L.faults link.old ≤ L.faults link.new }
-    ensures link_limit { L.fault_limit link.new ≤ L.fault_limit link.old }
 {
     let mut buffer = [0; PIECE_LEN];
     let mut moved: u64 = 0;
@@ -185,17 +171,12 @@ pub fn store_piece<S: Storage, L: Link>(
         RefusedLast (StorageRose (S.faults storage.old) (S.faults storage.new) (S.calls storage.old) (S.calls storage.new)) (meaning_of (S.rule storage.old) (S.files storage.new)) job.now.user job.now.path
         (L.left link.old) (L.left link.new) e.result) }
 
-    ensures rule { S.rule storage.new ≡ S.rule storage.old }
-    ensures sent { (L.sending link.new).sent ≡ (L.sending link.old).sent }
-    ensures closed { (L.sending link.new).closed ≡ (L.sending link.old).closed }
+    ensures storage_kept { StorageKept S.rule S.faults S.fault_limit storage.old storage.new }
+    ensures only_reads { OnlyReads L.sending L.faults L.fault_limit link.old link.new }
     ensures storage_well { IsNone result.end → AllWell (λ call. call) (S.calls storage.old) (S.calls storage.new) }
     ensures storage_held { IfSome result.end (λ e. StorageWent (S.calls storage.old) (S.calls storage.new) e.result) }
     ensures link_well { IsNone result.end → AllWell (λ call. call.0) (L.calls link.old) (L.calls link.new) }
     ensures link_held { IfSome result.end (λ e. e.fault ≡ None → AllWell (λ call. call.0) (L.calls link.old) (L.calls link.new)) }
-    ensures storage_count { S.faults storage.old ≤ S.faults storage.new }
-    ensures storage_limit { S.fault_limit storage.new ≤ S.fault_limit storage.old }
-    ensures link_count { L.faults link.old ≤ L.faults link.new }
-    ensures link_limit { L.fault_limit link.new ≤ L.fault_limit link.old }
 {
     let room = piece_room(moved);
     if room == 0 {
@@ -221,7 +202,7 @@ fn append_read<S: Storage>(job: &Job, bytes: &[u8], storage: &mut S) -> Turn
     ensures grown { IsNone result.end → Grows (S.files storage.old) (S.files storage.new) job.now.path bytes.now }
     ensures last { IsSome result.end → result.bytes ≡ 0 }
     ensures unchanged { IsSome result.end → S.files storage.new ≡ S.files storage.old }
-    ensures rule { S.rule storage.new ≡ S.rule storage.old }
+    ensures storage_kept { StorageKept S.rule S.faults S.fault_limit storage.old storage.new }
     ensures refused { IfSome result.end (λ e. (e.fault ≡ None) ×
         StopsStoring (StorageRose (S.faults storage.old) (S.faults storage.new) (S.calls storage.old) (S.calls storage.new))
         (λ k. IsSome (S.files storage.old) → meaning_of (S.rule storage.old) (S.files storage.old) (Append job.now.user job.now.path bytes.now) ≡ Some k) e.result) }
@@ -230,8 +211,6 @@ fn append_read<S: Storage>(job: &Job, bytes: &[u8], storage: &mut S) -> Turn
         (λ k. EndsRefused (StorageRose (S.faults storage.old) (S.faults storage.new) (S.calls storage.old) (S.calls storage.new)) k e.result)) }
     ensures storage_well { IsNone result.end → AllWell (λ call. call) (S.calls storage.old) (S.calls storage.new) }
     ensures storage_held { IfSome result.end (λ e. StorageWent (S.calls storage.old) (S.calls storage.new) e.result) }
-    ensures storage_count { S.faults storage.old ≤ S.faults storage.new }
-    ensures storage_limit { S.fault_limit storage.new ≤ S.fault_limit storage.old }
 {
     match storage.append(&job.user, &job.path, bytes) {
         Ok(()) => Turn::more(bytes.len() as u64),

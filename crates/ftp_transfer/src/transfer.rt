@@ -1,6 +1,7 @@
 //! Runs a job on its storage and its link.
 
 ghost use Rattle.std.specs.Prelude.{◌≡◌, ◌≤◌, true, false};
+ghost use Rattle.ftp_base.specs.Kept.{CountsOn, StorageKept};
 ghost use Rattle.ftp_transfer.specs.declared.job.Completion.TheVariants as done;
 ghost use Rattle.ftp_transfer.specs.Ran.{told, Moves, Ran, IsClean, IsDone};
 ghost use Rattle.ftp_transfer.specs.Transfer.{is_retrieve, suits};
@@ -35,10 +36,8 @@ pub fn execute<S: Storage, L: Link>(
         (L.left link.new) (L.sending link.new) (L.faults link.new) (L.calls link.new))
         result → IsDone result.result }
     ensures no_memory { is_retrieve job.command ≡ true → S.reads_take_memory ≡ false → L.takes_memory ≡ false → result.result ≡ done.OutOfMemory → ⊥ }
-    ensures storage_count { S.faults storage.old ≤ S.faults storage.new }
-    ensures storage_limit { S.fault_limit storage.new ≤ S.fault_limit storage.old }
-    ensures link_count { L.faults link.old ≤ L.faults link.new }
-    ensures link_limit { L.fault_limit link.new ≤ L.fault_limit link.old }
+    ensures storage_kept { StorageKept S.rule S.faults S.fault_limit storage.old storage.new }
+    ensures link_counts { CountsOn L.faults L.fault_limit link.old link.new }
 {
     let outcome = run(alloc, &job, storage, link);
     let _ = link.close();
@@ -55,11 +54,9 @@ fn run<S: Storage, L: Link>(alloc: Global, job: &Job, storage: &mut S, link: &mu
         result }
     ensures suits { suits result.result job.now.command ≡ true }
     ensures no_memory { is_retrieve job.now.command ≡ true → S.reads_take_memory ≡ false → L.takes_memory ≡ false → result.result ≡ done.OutOfMemory → ⊥ }
+    ensures storage_kept { StorageKept S.rule S.faults S.fault_limit storage.old storage.new }
     ensures closed { (L.sending link.new).closed ≡ (L.sending link.old).closed }
-    ensures storage_count { S.faults storage.old ≤ S.faults storage.new }
-    ensures storage_limit { S.fault_limit storage.new ≤ S.fault_limit storage.old }
-    ensures link_count { L.faults link.old ≤ L.faults link.new }
-    ensures link_limit { L.fault_limit link.new ≤ L.fault_limit link.old }
+    ensures link_counts { CountsOn L.faults L.fault_limit link.old link.new }
 {
     match &job.command {
         DataChanCmd::Retr { .. } => retrieve(job, storage, link),

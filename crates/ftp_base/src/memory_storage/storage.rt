@@ -12,8 +12,9 @@ use crate::storage::{FEATURE_RESTART, FileInfo, Meta, Storage, StoreError};
 impl Storage for MemoryStorage {
     ghost use Rattle.std.specs.Prelude.{◌≡◌, ◌+◌, ◌^◌, ◌<◌, ◌≤◌, length, Some, IsSomeAnd, false, IfOk, OnOk, OnErr, IsErrOf};
     ghost use Rattle.ftp_base.specs.Calls.{NoneFailed};
-    ghost use Rattle.ftp_base.specs.Memory.{fault_limit, StorageMet};
-    ghost use Rattle.ftp_base.specs.MemoryStorage.{Counts, memory_meaning, memory_rule};
+    ghost use Rattle.ftp_base.specs.Kept.{StorageKept};
+    ghost use Rattle.ftp_base.specs.Memory.{StorageMet};
+    ghost use Rattle.ftp_base.specs.MemoryStorage.{Counts, memory_meaning, storage_rule, storage_faults, storage_limit};
     ghost use Rattle.ftp_base.specs.Outside.{HasRisen};
     ghost use Rattle.ftp_base.specs.Storage.{Metadata, Listing, ReadAt, Begin, Append, Answers, item, meta_of, listing, with_file, old_bytes, cut, ReadsFile, Grows};
 
@@ -21,11 +22,11 @@ impl Storage for MemoryStorage {
 
     ghost files = { λ s. Some s.files };
 
-    ghost rule = { λ s. memory_rule s.max_file };
+    ghost rule = { storage_rule };
 
-    ghost faults = { λ s. s.calls.faults };
+    ghost faults = { storage_faults };
 
-    ghost fault_limit = { λ s. fault_limit s.calls };
+    ghost fault_limit = { storage_limit };
 
     ghost calls = { λ s. Some s.calls };
 
@@ -40,9 +41,7 @@ impl Storage for MemoryStorage {
         ensures refused { Answers (Some self.old.files) (memory_meaning self.old.files self.old.max_file (Metadata user.now path.now)) result }
         ensures fault_rose { IsErrOf result StoreError.Failed → HasRisen self.old.calls.faults self.new.calls.faults }
         ensures unchanged { self.new.files ≡ self.old.files }
-        ensures same_rule { memory_rule self.new.max_file ≡ memory_rule self.old.max_file }
-        ensures count { self.old.calls.faults ≤ self.new.calls.faults }
-        ensures limit { fault_limit self.new.calls ≤ fault_limit self.old.calls }
+        ensures storage_kept { StorageKept storage_rule storage_faults storage_limit self.old self.new }
         ensures counted { Counts self.old self.new result }
         ensures unlisted { (IsErrOf result StoreError.Failed → ⊥) → NoneFailed (λ call. call) self.old.calls self.new.calls }
         ensures as_listed { IsErrOf result StoreError.Failed → StorageMet (Some self.old.calls) (Some self.new.calls) }
@@ -60,9 +59,7 @@ impl Storage for MemoryStorage {
         ensures refused { Answers (Some self.old.files) (memory_meaning self.old.files self.old.max_file (Listing user.now path.now)) result }
         ensures fault_rose { IsErrOf result StoreError.Failed → HasRisen self.old.calls.faults self.new.calls.faults }
         ensures unchanged { self.new.files ≡ self.old.files }
-        ensures same_rule { memory_rule self.new.max_file ≡ memory_rule self.old.max_file }
-        ensures count { self.old.calls.faults ≤ self.new.calls.faults }
-        ensures limit { fault_limit self.new.calls ≤ fault_limit self.old.calls }
+        ensures storage_kept { StorageKept storage_rule storage_faults storage_limit self.old self.new }
         ensures counted { Counts self.old self.new result }
         ensures unlisted { (IsErrOf result StoreError.Failed → ⊥) → NoneFailed (λ call. call) self.old.calls self.new.calls }
         ensures as_listed { IsErrOf result StoreError.Failed → StorageMet (Some self.old.calls) (Some self.new.calls) }
@@ -89,9 +86,7 @@ impl Storage for MemoryStorage {
         ensures refused { Answers (Some self.old.files) (memory_meaning self.old.files self.old.max_file (ReadAt user.now path.now at)) result }
         ensures fault_rose { IsErrOf result StoreError.Failed → HasRisen self.old.calls.faults self.new.calls.faults }
         ensures unchanged { self.new.files ≡ self.old.files }
-        ensures same_rule { memory_rule self.new.max_file ≡ memory_rule self.old.max_file }
-        ensures count { self.old.calls.faults ≤ self.new.calls.faults }
-        ensures limit { fault_limit self.new.calls ≤ fault_limit self.old.calls }
+        ensures storage_kept { StorageKept storage_rule storage_faults storage_limit self.old self.new }
         ensures counted { Counts self.old self.new result }
         ensures unlisted { (IsErrOf result StoreError.Failed → ⊥) → NoneFailed (λ call. call) self.old.calls self.new.calls }
         ensures as_listed { IsErrOf result StoreError.Failed → StorageMet (Some self.old.calls) (Some self.new.calls) }
@@ -109,9 +104,7 @@ impl Storage for MemoryStorage {
         ensures refused { Answers (Some self.old.files) (memory_meaning self.old.files self.old.max_file (Begin user.now path.now start)) result }
         ensures fault_rose { IsErrOf result StoreError.Failed → HasRisen self.old.calls.faults self.new.calls.faults }
         ensures unchanged { OnErr result (self.new.files ≡ self.old.files) }
-        ensures same_rule { memory_rule self.new.max_file ≡ memory_rule self.old.max_file }
-        ensures count { self.old.calls.faults ≤ self.new.calls.faults }
-        ensures limit { fault_limit self.new.calls ≤ fault_limit self.old.calls }
+        ensures storage_kept { StorageKept storage_rule storage_faults storage_limit self.old self.new }
         ensures counted { Counts self.old self.new result }
         ensures unlisted { (IsErrOf result StoreError.Failed → ⊥) → NoneFailed (λ call. call) self.old.calls self.new.calls }
         ensures as_listed { IsErrOf result StoreError.Failed → StorageMet (Some self.old.calls) (Some self.new.calls) }
@@ -130,9 +123,7 @@ impl Storage for MemoryStorage {
         ensures refused { Answers (Some self.old.files) (memory_meaning self.old.files self.old.max_file (Append user.now path.now bytes.now)) result }
         ensures fault_rose { IsErrOf result StoreError.Failed → HasRisen self.old.calls.faults self.new.calls.faults }
         ensures unchanged { OnErr result (self.new.files ≡ self.old.files) }
-        ensures same_rule { memory_rule self.new.max_file ≡ memory_rule self.old.max_file }
-        ensures count { self.old.calls.faults ≤ self.new.calls.faults }
-        ensures limit { fault_limit self.new.calls ≤ fault_limit self.old.calls }
+        ensures storage_kept { StorageKept storage_rule storage_faults storage_limit self.old self.new }
         ensures counted { Counts self.old self.new result }
         ensures unlisted { (IsErrOf result StoreError.Failed → ⊥) → NoneFailed (λ call. call) self.old.calls self.new.calls }
         ensures as_listed { IsErrOf result StoreError.Failed → StorageMet (Some self.old.calls) (Some self.new.calls) }

@@ -16,8 +16,8 @@ went-on found start on failed = cc (rw failed at on)
 
 pub returns-in-Ok-clause-refused : goal.returns-in-Ok-clause-refused
 returns-in-Ok-clause-refused g c =
-    let refused = rw (c.metadata.ensures.unchanged, c.metadata.ensures.same_rule) at c.store.ensures.refused in
-    let rose = StorageRose_later _ _ _ _ _ _ c.metadata.ensures.count c.store.ensures.storage_count (c.metadata.ensures.unlisted (λ e. absurd (went-on c.metadata.result c.in-Ok.start (sym c.start_after.ensures ∙ c.in-Ok.is) e))) in
+    let refused = rw (c.metadata.ensures.unchanged, c.metadata.ensures.storage_kept.same_rule) at c.store.ensures.refused in
+    let rose = StorageRose_later _ _ _ c.metadata.ensures.storage_kept.counts c.store.ensures.storage_kept.counts (c.metadata.ensures.unlisted (λ e. absurd (went-on c.metadata.result c.in-Ok.start (sym c.start_after.ensures ∙ c.in-Ok.is) e))) in
     append_refusal-begin (g.S.Storage.files c.args.storage.now) (g.S.Storage.rule c.args.storage.now) c.args.job.now.user c.args.job.now.path c.in-Ok.start
     (λ (f : Files) (k : ErrorKind). RefusedFirst (StorageRose (g.S.Storage.faults c.metadata.new.self) (g.S.Storage.faults c.store.new.storage) (g.S.Storage.calls c.metadata.new.self) (g.S.Storage.calls c.store.new.storage)) k c.store.result.bytes c.store.result.result × (g.S.Storage.files c.store.new.storage ≡ Some f))
     (λ (f : Files) (k : ErrorKind). RefusedFirst (StorageRose (g.S.Storage.faults c.args.storage.now) (g.S.Storage.faults c.store.new.storage) (g.S.Storage.calls c.args.storage.now) (g.S.Storage.calls c.store.new.storage)) k c.store.result.bytes c.store.result.result × (g.S.Storage.files c.store.new.storage ≡ Some f))
@@ -31,10 +31,10 @@ returns-in-Ok-clause-refused g c =
 
 pub returns-in-Ok-clause-cause : goal.returns-in-Ok-clause-cause
 returns-in-Ok-clause-cause g c =
-    let cause = rw (c.metadata.ensures.unchanged, c.metadata.ensures.same_rule) at c.store.ensures.cause in
+    let cause = rw (c.metadata.ensures.unchanged, c.metadata.ensures.storage_kept.same_rule) at c.store.ensures.cause in
     Caused_later _ _ _ _ _ _ _ _ _ _ c.store.result.result c.store.result.fault
     (λ h. h)
-    (StorageRose_later _ _ _ _ _ _ c.metadata.ensures.count c.store.ensures.storage_count (c.metadata.ensures.unlisted (λ e. absurd (went-on c.metadata.result c.in-Ok.start (sym c.start_after.ensures ∙ c.in-Ok.is) e))))
+    (StorageRose_later _ _ _ c.metadata.ensures.storage_kept.counts c.store.ensures.storage_kept.counts (c.metadata.ensures.unlisted (λ e. absurd (went-on c.metadata.result c.in-Ok.start (sym c.start_after.ensures ∙ c.in-Ok.is) e))))
     (λ k refused.
     RefusesAppe-at (g.S.Storage.files c.args.storage.now) (g.S.Storage.rule c.args.storage.now) c.args.job.now.user c.args.job.now.path c.in-Ok.start
     (λ (f : Files). (c.store.result.bytes ≡ 0) × (g.S.Storage.rule c.args.storage.now f (Metadata c.args.job.now.user c.args.job.now.path) ≡ Some k))
@@ -56,8 +56,8 @@ returns-in-Ok-clause-storage_well g c =
 pub returns-in-Ok-clause-refused_last : goal.returns-in-Ok-clause-refused_last
 returns-in-Ok-clause-refused_last g c told =
     RefusedLast_later _ _ (meaning_of (g.S.Storage.rule c.args.storage.now) (g.S.Storage.files c.store.new.storage)) c.args.job.now.user c.args.job.now.path _ _ _
-    (StorageRose_later _ _ _ _ _ _ c.metadata.ensures.count c.store.ensures.storage_count (c.metadata.ensures.unlisted (λ e. absurd (went-on c.metadata.result c.in-Ok.start (sym c.start_after.ensures ∙ c.in-Ok.is) e))))
-    ((rw c.metadata.ensures.same_rule at c.store.ensures.refused_last) (rw c.metadata.ensures.unchanged told))
+    (StorageRose_later _ _ _ c.metadata.ensures.storage_kept.counts c.store.ensures.storage_kept.counts (c.metadata.ensures.unlisted (λ e. absurd (went-on c.metadata.result c.in-Ok.start (sym c.start_after.ensures ∙ c.in-Ok.is) e))))
+    ((rw c.metadata.ensures.storage_kept.same_rule at c.store.ensures.refused_last) (rw c.metadata.ensures.unchanged told))
 
 pub returns-in-Err-clause-refused_last : goal.returns-in-Err-clause-refused_last
 returns-in-Err-clause-refused_last g c told =

@@ -15,12 +15,12 @@ pub returns-in-Ok-clause-cause : goal.returns-in-Ok-clause-cause
 returns-in-Ok-clause-cause g c =
     Caused_later _ _ _ _ _ _ _ _ _ _ c.fill.result.result c.fill.result.fault
     (λ h. h)
-    (StorageRose_later _ _ _ _ _ _ c.begin.ensures.count c.fill.ensures.storage_count (c.begin.ensures.unlisted (search rules)))
+    (StorageRose_later _ _ _ c.begin.ensures.storage_kept.counts c.fill.ensures.storage_kept.counts (c.begin.ensures.unlisted (search rules)))
     (λ k refused.
     Stores-refused (g.S.Storage.files c.args.storage.now) (g.S.Storage.files c.begin.new.self) (g.S.Storage.files c.fill.new.storage) (g.S.Storage.rule c.args.storage.now) c.args.job.now.user c.args.job.now.path c.args.start (g.L.Source.left c.args.link.now) (g.L.Source.left c.fill.new.link) c.fill.result.bytes k
     c.in-Ok.ensures.begun
     c.fill.ensures.grown
-    (rw c.begin.ensures.same_rule at refused))
+    (rw c.begin.ensures.storage_kept.same_rule at refused))
     c.fill.ensures.cause
 
 pub returns-in-Ok-clause-storage_well : goal.returns-in-Ok-clause-storage_well
@@ -30,8 +30,8 @@ returns-in-Ok-clause-storage_well g c =
 pub returns-in-Ok-clause-refused_last : goal.returns-in-Ok-clause-refused_last
 returns-in-Ok-clause-refused_last g c told =
     RefusedLast_later _ _ (meaning_of (g.S.Storage.rule c.args.storage.now) (g.S.Storage.files c.fill.new.storage)) c.args.job.now.user c.args.job.now.path _ _ _
-    (StorageRose_later _ _ _ _ _ _ c.begin.ensures.count c.fill.ensures.storage_count (c.begin.ensures.unlisted (search rules)))
-    ((rw c.begin.ensures.same_rule at c.fill.ensures.refused_last) (Begins-told (g.S.Storage.files c.args.storage.now) _ _ _ c.in-Ok.ensures.begun told))
+    (StorageRose_later _ _ _ c.begin.ensures.storage_kept.counts c.fill.ensures.storage_kept.counts (c.begin.ensures.unlisted (search rules)))
+    ((rw c.begin.ensures.storage_kept.same_rule at c.fill.ensures.refused_last) (Begins-told (g.S.Storage.files c.args.storage.now) _ _ _ c.in-Ok.ensures.begun told))
 
 pub returns-in-Err-clause-refused_last : goal.returns-in-Err-clause-refused_last
 returns-in-Err-clause-refused_last g c told =

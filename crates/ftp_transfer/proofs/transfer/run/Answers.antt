@@ -45,7 +45,7 @@ pub returns-in-Stor-clause-moves : goal.returns-in-Stor-clause-moves
 returns-in-Stor-clause-moves g c =
     record {
       rule = search rules;
-      sent = rw c.in-Stor.is (sends-nothing (g.S.Storage.files c.args.storage.now) _ _ c.store.result.bytes c.store.ensures.sent);
+      sent = rw c.in-Stor.is (sends-nothing (g.S.Storage.files c.args.storage.now) _ _ c.store.result.bytes c.store.ensures.only_reads.sent);
       within = search rules;
       whole = search rules;
       silent = search rules;
@@ -65,7 +65,7 @@ pub returns-in-Appe-clause-moves : goal.returns-in-Appe-clause-moves
 returns-in-Appe-clause-moves g c =
     record {
       rule = search rules;
-      sent = rw c.in-Appe.is (sends-nothing (g.S.Storage.files c.args.storage.now) _ _ c.append.result.bytes c.append.ensures.sent);
+      sent = rw c.in-Appe.is (sends-nothing (g.S.Storage.files c.args.storage.now) _ _ c.append.result.bytes c.append.ensures.only_reads.sent);
       within = search rules;
       whole = search rules;
       silent = search rules;
