@@ -1,6 +1,9 @@
 //! The line at the front of a source, byte by byte.
 
 ghost use Rattle.std.specs.Prelude.{◌≡◌, ℕ, ◌≤◌, ◌<◌, ◌∷◌, [], List, length, take, drop, Some, None, IfOk, IfErr, OnOk, OnErr, IfSome, IsSome, IsErrOf, MatchOption, true};
+ghost use Rattle.ftp_base.specs.Calls.{AllWell};
+ghost use Rattle.ftp_base.specs.Kept.{OnlyReads};
+ghost use Rattle.ftp_base.specs.Memory.{LinkMet};
 ghost use Rattle.ftp_base.specs.Outside.{HasRisen};
 ghost use Rattle.ftp_proxy.specs.Line.{untaken, IsAnswer, IsTaken, IsLine, IsCutShort, IsFront, IsNext};
 
@@ -20,13 +23,12 @@ const SHORTEST: usize = 13;
 pub fn read_proxy_header<S: Source>(source: &mut S) -> Result<ProxyHeader, ProxyError>
     ensures line { IfSome (S.left source.old) (λ left. IsAnswer left result) }
     ensures taken { IfSome (S.left source.old) (λ left. IsTaken left result (S.left source.new)) }
-    ensures sent { (S.sending source.new).sent ≡ (S.sending source.old).sent }
-    ensures closed { (S.sending source.new).closed ≡ (S.sending source.old).closed }
     ensures last_fault { (IsErrOf result (ProxyError.ReadError ReadError.Fault) → ⊥) → (S.sending source.new).last_fault ≡ (S.sending source.old).last_fault }
     ensures met { IsErrOf result (ProxyError.ReadError ReadError.Fault) → S.is_link ≡ true → IsSome (S.sending source.new).last_fault }
+    ensures unlisted { (IsErrOf result (ProxyError.ReadError ReadError.Fault) → ⊥) → AllWell (λ call. call.0) (S.calls source.old) (S.calls source.new) }
+    ensures as_listed { IsErrOf result (ProxyError.ReadError ReadError.Fault) → LinkMet (S.calls source.old) (S.calls source.new) (S.sending source.new).last_fault }
     ensures fault_rose { IsErrOf result (ProxyError.ReadError ReadError.Fault) → HasRisen (S.faults source.old) (S.faults source.new) }
-    ensures count { S.faults source.old ≤ S.faults source.new }
-    ensures limit { S.fault_limit source.new ≤ S.fault_limit source.old }
+    ensures only_reads { OnlyReads S.sending S.faults S.fault_limit source.old source.new }
 {
     let mut bytes = [0; LONGEST];
     let Some(end) = read_line(source, &mut bytes)? else {
@@ -52,13 +54,12 @@ fn read_line<S: Source>(
     ensures taken { OnOk result (IfSome (S.left source.old) (λ left. S.left source.new ≡ Some (untaken left))) }
     ensures all { IsErrOf result ReadError.UnexpectedEof → IfSome (S.left source.old) (λ left. S.left source.new ≡ Some (untaken left)) }
     ensures front { IsErrOf result ReadError.Fault → IfSome (S.left source.old) (λ left. IsFront left (S.left source.new)) }
-    ensures sent { (S.sending source.new).sent ≡ (S.sending source.old).sent }
-    ensures closed { (S.sending source.new).closed ≡ (S.sending source.old).closed }
     ensures last_fault { (IsErrOf result ReadError.Fault → ⊥) → (S.sending source.new).last_fault ≡ (S.sending source.old).last_fault }
     ensures met { IsErrOf result ReadError.Fault → S.is_link ≡ true → IsSome (S.sending source.new).last_fault }
+    ensures unlisted { (IsErrOf result ReadError.Fault → ⊥) → AllWell (λ call. call.0) (S.calls source.old) (S.calls source.new) }
+    ensures as_listed { IsErrOf result ReadError.Fault → LinkMet (S.calls source.old) (S.calls source.new) (S.sending source.new).last_fault }
     ensures fault_rose { IsErrOf result ReadError.Fault → HasRisen (S.faults source.old) (S.faults source.new) }
-    ensures count { S.faults source.old ≤ S.faults source.new }
-    ensures limit { S.fault_limit source.new ≤ S.fault_limit source.old }
+    ensures only_reads { OnlyReads S.sending S.faults S.fault_limit source.old source.new }
 {
     for i in 0..LONGEST {
         let Some(byte) = read_byte(source)? else {
@@ -75,15 +76,14 @@ fn read_line<S: Source>(
 // Reads one byte; none at the end of the source.
 fn read_byte<S: Source>(source: &mut S) -> Result<Option<u8>, ReadError>
     ensures next { IfOk result (λ byte. IfSome (S.left source.old) (λ left. IsNext left byte (S.left source.new))) }
-    ensures sent { (S.sending source.new).sent ≡ (S.sending source.old).sent }
-    ensures closed { (S.sending source.new).closed ≡ (S.sending source.old).closed }
     ensures last_fault { OnOk result ((S.sending source.new).last_fault ≡ (S.sending source.old).last_fault) }
     ensures met { OnErr result (S.is_link ≡ true → IsSome (S.sending source.new).last_fault) }
     ensures only_fault { IfErr result (λ e. e ≡ ReadError.Fault) }
+    ensures unlisted { OnOk result (AllWell (λ call. call.0) (S.calls source.old) (S.calls source.new)) }
+    ensures as_listed { OnErr result (LinkMet (S.calls source.old) (S.calls source.new) (S.sending source.new).last_fault) }
     ensures fault_rose { OnErr result (HasRisen (S.faults source.old) (S.faults source.new)) }
     ensures unchanged { OnErr result (S.left source.new ≡ S.left source.old) }
-    ensures count { S.faults source.old ≤ S.faults source.new }
-    ensures limit { S.fault_limit source.new ≤ S.fault_limit source.old }
+    ensures only_reads { OnlyReads S.sending S.faults S.fault_limit source.old source.new }
 {
     let mut byte = [0];
     match source.read(&mut byte) {

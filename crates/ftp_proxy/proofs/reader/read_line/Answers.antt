@@ -1,6 +1,10 @@
 use Rattle.std.proofs.Common.{◌∙◌, arith, eq-eqb}
+use Rattle.std.specs.Prelude.{ℕ}
 use Rattle.std.proofs.lemmas.Bool.Decides.{nat_tests}
 use Rattle.std.proofs.lemmas.Option.{IfSome_then}
+use Rattle.ftp_base.specs.declared.fault.LinkFault.{LinkFault}
+use Rattle.ftp_base.proofs.CallsMade.{AllWell-more, LinkMet-more}
+use Rattle.ftp_base.proofs.KeptLemmas.{OnlyReads-more}
 use Rattle.ftp_proxy.proofs.Scan.{scan_more, scan_found, scan_ended, scan_full, scan_failed}
 use Rattle.ftp_proxy.proofs.reader.read_line.Goals as goal
 
@@ -8,6 +12,18 @@ pub returns-in_err-byte-clause-front : goal.returns-in_err-byte-clause-front
 returns-in_err-byte-clause-front g c = λ _.
     IfSome_then _ c.loop-i.invariant.scanned
     (λ all s. scan_failed all c.loop-i.bytes c.loop-i.i _ _ s (omega arith) c.in_err-byte.ensures.unchanged)
+
+pub returns-in_err-byte-clause-as_listed : goal.returns-in_err-byte-clause-as_listed
+returns-in_err-byte-clause-as_listed g c = λ _.
+    LinkMet-more _ _ _ _ c.loop-i.invariant.unlisted c.in_err-byte.ensures.as_listed
+
+pub returns-in_default-clause-unlisted : goal.returns-in_default-clause-unlisted
+returns-in_default-clause-unlisted g c = λ _.
+    AllWell-more (λ (call : ℕ × LinkFault). call.0) _ _ _ c.loop-i.invariant.unlisted c.in_ok-byte.ensures.unlisted
+
+pub returns-then-byte-eq10-clause-unlisted : goal.returns-then-byte-eq10-clause-unlisted
+returns-then-byte-eq10-clause-unlisted g c = λ _.
+    AllWell-more (λ (call : ℕ × LinkFault). call.0) _ _ _ c.loop-i.invariant.unlisted c.in_ok-byte.ensures.unlisted
 
 pub returns-in_default-clause-end : goal.returns-in_default-clause-end
 returns-in_default-clause-end g c = λ _.
@@ -34,11 +50,9 @@ loop-i-preserved g c = record {
   scanned =
       IfSome_then _ c.loop-i.invariant.scanned
       (λ all s. scan_more all c.loop-i.bytes c.loop-i.i c.in-Some.byte _ _ _ s (grind arith) c.in_ok-byte.ensures.next c.in-Some.is (grind (arith, nat_tests)));
-  sent = c.read_byte.ensures.sent ∙ c.loop-i.invariant.sent;
-  closed = c.read_byte.ensures.closed ∙ c.loop-i.invariant.closed;
+  only_reads = OnlyReads-more c.loop-i.invariant.only_reads c.read_byte.ensures.only_reads;
+  unlisted = AllWell-more (λ (call : ℕ × LinkFault). call.0) _ _ _ c.loop-i.invariant.unlisted c.in_ok-byte.ensures.unlisted;
   last_fault = c.in_ok-byte.ensures.last_fault ∙ c.loop-i.invariant.last_fault;
-  count = omega arith;
-  limit = omega arith;
 }
 
 pub returns-clause-found : goal.returns-clause-found
