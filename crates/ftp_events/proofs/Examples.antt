@@ -1,5 +1,5 @@
 -- Worked examples, each by computation.
-use Rattle.std.specs.Prelude.{ℕ, ◌≡◌, ◌++◌, refl, true, false, List, [], ◌∷◌, map, reverse, codes, Option, Some, None}
+use Rattle.std.specs.Prelude.{ℕ, ◌≡◌, ◌++◌, refl, true, false, List, [], ◌∷◌, map, reverse, codes, Option, Some, None, Err}
 use Rattle.ftp_base.specs.declared.login.AuthAnswer.TheVariants.{Good, Refused}
 use Rattle.ftp_base.specs.declared.error_kind.ErrorKind.TheVariants as error
 use Rattle.ftp_base.specs.declared.command.DataChanCmd.TheVariants.{Retr, Stor}
@@ -7,13 +7,14 @@ use Rattle.ftp_base.specs.declared.notice.DataEvent.TheVariants.{Got, Put}
 use Rattle.ftp_base.specs.declared.notice.Notice.TheVariants.{Presence, Data}
 use Rattle.ftp_base.specs.declared.notice.PresenceEvent.TheVariants as presence
 use Rattle.ftp_base.specs.declared.reply.ReplyCode.TheVariants as code
+use Rattle.ftp_proxy.specs.declared.error.ProxyError.TheVariants as fault
 use Rattle.ftp_events.specs.declared.event.EventKind.TheVariants as kind
 use Rattle.ftp_events.specs.declared.decision.Decision.TheVariants as decision
 use Rattle.ftp_events.specs.declared.action.Action.TheVariants as action
 use Rattle.ftp_transfer.specs.declared.job.Completion.TheVariants.{Sent, Written}
 use Rattle.ftp_events.specs.Fate.{Fate, CompletedAt, CancelledAt, AwaitsConnection, AwaitsItsEnd, AwaitsEarlierEnd, fate}
 use Rattle.ftp_events.specs.Right.{log_of}
-use Rattle.ftp_events.proofs.Script.{Event, everything, ticket, ended, addr, two_ports, one_port, all_ports, opened, event, login, pasv, told_after, decided_after, say, data_in, a1, a2}
+use Rattle.ftp_events.proofs.Script.{Event, everything, ticket, ended, addr, two_ports, one_port, all_ports, proxied_ports, header, proxied, opened, event, login, pasv, told_after, decided_after, say, data_in, a1, a2}
 
 -- the login itself
 a_login : told_after 0 two_ports (login 1 a1)
@@ -80,6 +81,33 @@ out_of_sequence : told_after 1 two_ports
     ∷ (decision.NotExpected, []) ∷ [])
 unfolding everything
 out_of_sequence = refl
+
+-- a client behind a proxy: the grant shows the address that it called, and a data connection has to come from the same proxy
+behind_a_proxy : told_after 4 proxied_ports
+    (proxied 1 9 (header 40000 2121) ∷ event 0 (kind.User 1 (codes "ann")) ∷ event 0 (kind.Pass 1) ∷ event 0 (kind.AuthDone 1 Good)
+    ∷ pasv 1 0 ∷ event 1 (kind.Transfer 1 (Retr (codes "a"))) ∷ proxied 12 8 (header 40001 50000) ∷ event 1 (kind.Transfer 1 (Retr (codes "a"))) ∷ [])
+    ≡ ((decision.Granted 50000, say 1 code.EnteringPassiveMode (codes "Entering Passive Mode (198,51,100,1,195,80)") ∷ [])
+    ∷ (decision.Queued (ticket 1 1), say 1 code.FileStatusOkay (codes "Sending data") ∷ [])
+    ∷ (decision.Turned, action.Cancelled (ticket 1 1) ∷ say 1 code.ConnectionClosed (codes "Datachannel unexpectedly closed") ∷ action.Close 12 ∷ [])
+    ∷ (decision.NoSlot, say 1 code.CantOpenDataConnection (codes "No data connection established") ∷ []) ∷ [])
+unfolding everything
+behind_a_proxy = refl
+
+-- from the same proxy it is attached, and the transfer starts
+from_the_same_proxy : told_after 6 proxied_ports
+    (proxied 1 9 (header 40000 2121) ∷ event 0 (kind.User 1 (codes "ann")) ∷ event 0 (kind.Pass 1) ∷ event 0 (kind.AuthDone 1 Good)
+    ∷ pasv 1 0 ∷ event 1 (kind.Transfer 1 (Retr (codes "a"))) ∷ proxied 12 9 (header 40001 50000) ∷ [])
+    ≡ ((decision.Attached 1, action.Start (ticket 1 1) 12 ∷ []) ∷ [])
+unfolding everything
+from_the_same_proxy = refl
+
+-- a header that is none closes the connection; a connection without an answer, or one of another mode, is refused
+headers_that_are_none : told_after 0 proxied_ports
+    (proxied 1 9 (Err fault.CrlfError) ∷ event 1 (kind.Proxied 2 (addr a1 1) 1) ∷ proxied 1 9 (header 40000 2121) ∷ opened 3 a1 ∷ data_in 4 (addr a1 1) 50000 ∷ [])
+    ≡ ((decision.HeaderFault fault.CrlfError, action.Close 1 ∷ []) ∷ (decision.NotExpected, []) ∷ (decision.UsedNumber, [])
+    ∷ (decision.Misplaced, []) ∷ (decision.Misplaced, []) ∷ [])
+unfolding everything
+headers_that_are_none = refl
 
 -- a session that ends frees its port, and its own connection is closed last
 ending_frees : told_after 8 one_port

@@ -1,5 +1,5 @@
 -- A small script language for the examples.
-use Rattle.std.specs.Prelude.{ℕ, ◌+◌, ◌*◌, List, [], ◌∷◌, map, reverse, drop, codes, None}
+use Rattle.std.specs.Prelude.{ℕ, ◌+◌, ◌*◌, List, [], ◌∷◌, map, reverse, drop, codes, None, Result, Ok}
 use Rattle.std.proofs.Common.{lit≤}
 use Rattle.ftp_base.specs.declared.net.IpAddr.{IpAddr}
 use Rattle.ftp_base.specs.declared.net.IpAddr.TheVariants.{V4}
@@ -8,9 +8,11 @@ use Rattle.ftp_base.specs.declared.login.AuthAnswer.TheVariants.{Good}
 use Rattle.ftp_base.specs.declared.reply.Reply.TheVariants.{CodeAndMsg}
 use Rattle.ftp_base.specs.declared.reply.ReplyCode.{ReplyCode}
 use Rattle.ftp_options.specs.declared.options.Options.{Options}
+use Rattle.ftp_proxy.specs.declared.error.ProxyError.{ProxyError}
+use Rattle.ftp_proxy.specs.declared.header.ProxyHeader.{ProxyHeader}
 use Rattle.ftp_transfer.specs.declared.job.Ticket.{Ticket}
 use Rattle.ftp_transfer.specs.declared.job.Completion.{Completion}
-use Rattle.ftp_options.specs.declared.options.ListenerMode.TheVariants.{Pooled}
+use Rattle.ftp_options.specs.declared.options.ListenerMode.TheVariants.{Pooled, Proxy}
 use Rattle.ftp_options.specs.declared.options.PassiveHost.TheVariants.{FromConnection}
 use Rattle.ftp_options.specs.declared.options.ActivePassiveMode.TheVariants.{PassiveOnly}
 use Rattle.ftp_events.specs.declared.entry.Entry.{Entry}
@@ -48,6 +50,10 @@ one_port = record { mode = Pooled; lo = 50000; hi = 50000; host = FromConnection
 abbrev pub all_ports : Options
 all_ports = record { mode = Pooled; lo = 1; hi = 65535; host = FromConnection; active_passive = PassiveOnly; idle_ms = 600000; features = 1; ordered = lit≤ tt; listens = λ _. lit≤ tt }
 
+-- behind a proxy, whose control port is 2121
+abbrev pub proxied_ports : Options
+proxied_ports = record { mode = Proxy 2121; lo = 50000; hi = 50001; host = FromConnection; active_passive = PassiveOnly; idle_ms = 600000; features = 1; ordered = lit≤ tt; listens = λ _. lit≤ tt }
+
 -- an event and its answer
 abbrev pub Event : Type 0
 Event = HubEvent × Answer
@@ -72,6 +78,14 @@ pasv s word = event 1 (kind.Pasv s word None None)
 -- a data connection
 abbrev pub data_in : ℕ → SocketAddr → ℕ → Event
 data_in number raw port = event 1 (kind.DataIn number raw port)
+
+-- the header of a connection from 192.0.2.7 to 198.51.100.1, by its ports
+abbrev pub header : ℕ → ℕ → Result ProxyHeader ProxyError
+header p q = Ok (record { source = addr (ip 192 0 2 7) p; destination = addr (ip 198 51 100 1) q })
+
+-- a connection behind the proxy 10.9.9.x, with its header
+abbrev pub proxied : ℕ → ℕ → Result ProxyHeader ProxyError → Event
+proxied number x line = (record { at = 1; kind = kind.Proxied number (addr (ip 10 9 9 x) 1) 1 }, answer.Header line)
 
 -- a ticket
 abbrev pub ticket : ℕ → ℕ → Ticket

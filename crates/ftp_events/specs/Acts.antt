@@ -18,7 +18,7 @@ use Rattle.ftp_events.specs.declared.event.EventKind.{EventKind}
 use Rattle.ftp_events.specs.declared.event.EventKind.TheVariants.{End}
 use Rattle.ftp_events.specs.declared.event.Answer.{Answer}
 use Rattle.ftp_events.specs.declared.decision.Decision.{Decision}
-use Rattle.ftp_events.specs.declared.decision.Decision.TheVariants.{Turned, LoggedIn, Finished}
+use Rattle.ftp_events.specs.declared.decision.Decision.TheVariants.{Turned, HeaderFault, LoggedIn, Finished}
 use Rattle.ftp_events.specs.declared.decision.Life.{Life}
 use Rattle.ftp_events.specs.declared.decision.Life.TheVariants.{Ends}
 use Rattle.ftp_events.specs.declared.session.Pending.{Pending}
@@ -82,9 +82,10 @@ abbrev pub reply_acts : ℕ → ℕ → Reply → List Action
 reply_acts s delay reply.None = []
 reply_acts s delay (reply.CodeAndMsg c msg) = action.Reply s delay (reply.CodeAndMsg c msg) ∷ []
 
--- a new connection that is turned away is closed
+-- a new connection that is turned away is closed, and so is one whose header is none
 abbrev pub refused_link : EventKind → Decision → List Action
-refused_link k Turned = option_map_or (λ n. action.Close n ∷ []) (new_number k Turned) []
+refused_link k Turned = closings (new_number k Turned)
+refused_link k (HeaderFault fault) = closings (new_number k (HeaderFault fault))
 refused_link k _ = []
 
 -- at an ending the session's own connection is closed last

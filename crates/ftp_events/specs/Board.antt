@@ -1,15 +1,16 @@
 -- Who holds which port, for each client.
-use Rattle.std.specs.Prelude.{ℕ, Bool, false, ◌&&◌, ◌||◌, not, ◌==◌, List, [], ◌∷◌, Option, Some, None}
+use Rattle.std.specs.Prelude.{ℕ, Bool, false, ◌&&◌, ◌||◌, not, ◌==◌, List, [], ◌∷◌, Option, Some, None, Ok}
 use Rattle.std.specs.Option.{option_and_then, option_map_or}
 use Rattle.ftp_base.specs.declared.net.IpAddr.{IpAddr}
 use Rattle.ftp_base.specs.Net.{same_ip}
 use Rattle.ftp_base.specs.Ports.{first_free}
 use Rattle.ftp_options.specs.declared.options.Options.{Options}
-use Rattle.ftp_options.specs.Modes.{is_legacy}
+use Rattle.ftp_options.specs.Modes.{is_legacy, is_control_port}
 use Rattle.ftp_events.specs.declared.entry.Entry.{Entry}
 use Rattle.ftp_events.specs.declared.event.EventKind.{EventKind}
-use Rattle.ftp_events.specs.declared.event.EventKind.TheVariants.{DataIn}
+use Rattle.ftp_events.specs.declared.event.EventKind.TheVariants.{Proxied, DataIn}
 use Rattle.ftp_events.specs.declared.event.Answer.{Answer}
+use Rattle.ftp_events.specs.declared.event.Answer.TheVariants.{Header}
 use Rattle.ftp_events.specs.declared.decision.Decision.{Decision}
 use Rattle.ftp_events.specs.declared.decision.Decision.TheVariants.{Granted}
 use Rattle.ftp_events.specs.Words.{◌⇒◌∣◌, is_number}
@@ -17,7 +18,7 @@ use Rattle.ftp_events.specs.Classes.{is_stop, slot_move, gives_up}
 use Rattle.ftp_events.specs.Log.{named_session}
 use Rattle.ftp_events.specs.Opening.{opener}
 
--- what a data connection comes for: its client and the port that it comes to
+-- what a data connection comes for: its client and the port that it comes to, behind a proxy by its header
 pub record Target : Type 0 where
   pub client : IpAddr
   pub port : ℕ
@@ -25,6 +26,9 @@ pub record Target : Type 0 where
 -- the target of a data connection, and nothing for any other event
 abbrev pub target : Options → EventKind → Answer → Option Target
 target o (DataIn number raw port) answer = Some (record { client = raw.ip; port = port })
+target o (Proxied number raw trace) (Header (Ok line)) =
+    is_control_port o.mode line.destination.port ⇒ None
+    ∣ Some (record { client = line.source.ip; port = line.destination.port })
 target o _ _ = None
 
 -- the port that was granted

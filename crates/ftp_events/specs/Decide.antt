@@ -13,7 +13,7 @@ use Rattle.ftp_events.specs.declared.session.Session.{Session}
 use Rattle.ftp_events.specs.Log.{past_of, named_session}
 use Rattle.ftp_events.specs.Board.{holder}
 use Rattle.ftp_events.specs.Session.{session, running_job}
-use Rattle.ftp_events.specs.ConnectionRows.{connect_row, data_row}
+use Rattle.ftp_events.specs.ConnectionRows.{connect_row, data_row, proxied_row}
 use Rattle.ftp_events.specs.CommandRows.{command_row}
 use Rattle.ftp_events.specs.EndRows.{end_row}
 
@@ -24,6 +24,7 @@ if_live v row = option_map_or row v UnknownNumber
 -- the decision that is due: on a connection, on the end of a job, or on a command of the session that is named
 abbrev pub due : Options → List Entry → ℕ → EventKind → Answer → Decision
 due o past at (kind.Connect s raw local trace) answer = connect_row o past s raw local
+due o past at (kind.Proxied number raw trace) answer = proxied_row o past number raw answer
 due o past at (kind.DataIn number raw port) answer = data_row o past number raw port
 due o past at (kind.End ticket) answer = end_row ticket answer (running_job o past ticket.session)
 due o past at k answer =

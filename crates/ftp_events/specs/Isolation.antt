@@ -1,12 +1,13 @@
 -- The part of a log that belongs to one client.
-use Rattle.std.specs.Prelude.{◌++◌, option_to_list, Contains, Bool, false, ◌||◌, List, [], ◌∷◌, Option, Some, ℕ, if◌then◌else◌}
+use Rattle.std.specs.Prelude.{◌++◌, option_to_list, Contains, Bool, false, ◌||◌, List, [], ◌∷◌, Option, Some, Ok, ℕ, if◌then◌else◌}
 use Rattle.std.specs.Option.{option_and_then, option_map, option_map_or}
 use Rattle.ftp_base.specs.declared.net.IpAddr.{IpAddr}
 use Rattle.ftp_base.specs.Net.{same_ip}
 use Rattle.ftp_events.specs.declared.entry.Entry.{Entry}
 use Rattle.ftp_events.specs.declared.event.EventKind.{EventKind}
-use Rattle.ftp_events.specs.declared.event.EventKind.TheVariants.{Connect, DataIn}
+use Rattle.ftp_events.specs.declared.event.EventKind.TheVariants.{Connect, Proxied, DataIn}
 use Rattle.ftp_events.specs.declared.event.Answer.{Answer}
+use Rattle.ftp_events.specs.declared.event.Answer.TheVariants.{Header}
 use Rattle.ftp_events.specs.declared.decision.Decision.TheVariants.{Opened}
 use Rattle.ftp_events.specs.Log.{past_of, is_refusal, new_number, named_session}
 use Rattle.ftp_events.specs.Opening.{opener}
@@ -15,6 +16,7 @@ use Rattle.ftp_events.specs.Opening.{opener}
 abbrev pub owner : List Entry → EventKind → Answer → Option IpAddr
 owner past (Connect session raw local trace) answer = Some raw.ip
 owner past (DataIn number raw port) answer = Some raw.ip
+owner past (Proxied number raw trace) (Header (Ok line)) = Some line.source.ip
 owner past k answer = option_map (λ opening. opening.client) (option_and_then (opener past) (named_session k))
 
 -- the entry belongs to client a

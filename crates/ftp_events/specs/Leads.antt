@@ -1,12 +1,21 @@
 -- What a log did to a storage and to links.
-use Rattle.std.specs.Prelude.{◌≡◌, ℕ, ◌≤◌, true, List, [], ◌∷◌, ◌++◌, Option, Some, None, is_some, MatchOption, if◌then◌else◌}
+use Rattle.std.specs.Prelude.{◌≡◌, ℕ, ◌≤◌, true, List, [], ◌∷◌, ◌++◌, Option, Some, None, is_some, MatchOption, Result, IfSome, IsErrOf, not, ◌||◌, if◌then◌else◌}
 use Rattle.std.specs.FinMap as map
 use Rattle.ftp_base.specs.declared.fault.LinkFault.{LinkFault}
-use Rattle.ftp_base.specs.Calls.{Calls}
+use Rattle.ftp_base.specs.Calls.{Calls, AllWell}
+use Rattle.ftp_base.specs.Kept.{OnlyReads}
+use Rattle.ftp_base.specs.Memory.{LinkMet}
 use Rattle.ftp_base.specs.LinkTable.{Numbered}
-use Rattle.ftp_base.specs.Outside.{Sending}
+use Rattle.ftp_base.specs.Net.{is_v6}
+use Rattle.ftp_base.specs.Outside.{Sending, HasRisen}
 use Rattle.ftp_base.specs.Storage.{Files, Rule}
 use Rattle.ftp_options.specs.declared.options.Options.{Options}
+use Rattle.ftp_options.specs.Modes.{is_proxy}
+use Rattle.ftp_proxy.specs.declared.error.ProxyError.{ProxyError}
+use Rattle.ftp_proxy.specs.declared.error.ProxyError.TheVariants.{ReadError}
+use Rattle.ftp_proxy.specs.declared.error.ReadError.TheVariants.{Fault}
+use Rattle.ftp_proxy.specs.declared.header.ProxyHeader.{ProxyHeader}
+use Rattle.ftp_proxy.specs.Line.{IsAnswer, IsTaken}
 use Rattle.ftp_transfer.specs.declared.job.Job.{Job}
 use Rattle.ftp_events.specs.declared.session.Running.{Running}
 use Rattle.ftp_transfer.specs.declared.job.Ticket.{Ticket}
@@ -17,9 +26,10 @@ use Rattle.ftp_events.specs.declared.entry.Entry.{Entry}
 use Rattle.ftp_events.specs.declared.event.Answer.{Answer}
 use Rattle.ftp_events.specs.declared.event.Answer.TheVariants as answer
 use Rattle.ftp_events.specs.declared.event.EventKind.{EventKind}
-use Rattle.ftp_events.specs.declared.event.EventKind.TheVariants.{End}
+use Rattle.ftp_events.specs.declared.event.EventKind.TheVariants.{Proxied, End}
 use Rattle.ftp_events.specs.Acts.{link_in, slot_of}
-use Rattle.ftp_events.specs.Log.{past_of}
+use Rattle.ftp_events.specs.Words.{◌⇒◌∣◌}
+use Rattle.ftp_events.specs.Log.{past_of, is_used}
 use Rattle.ftp_events.specs.Session.{session, running_job}
 use Rattle.ftp_events.specs.Transfer.{same_ticket}
 
@@ -83,6 +93,29 @@ abbrev pub job_to_run : Options → List Entry → EventKind → Option Job
 job_to_run o past (End ticket) = job_of_ticket (running_job o past ticket.session) ticket
 job_to_run o past _ = None
 
+-- the connection whose header an event is to be decided by: that of a proxy, where the event is not refused without it
+abbrev pub header_to_read : Options → List Entry → EventKind → Option ℕ
+header_to_read o past (Proxied number raw trace) = (not (is_proxy o.mode) || is_v6 raw.ip) || is_used past number ⇒ None ∣ Some number
+header_to_read o past _ = None
+
+-- the header was read from this link, nothing behind its line was taken, and nothing else moved
+pub record ReadsHeader {S L : Type 0} (v : Views S L) (number : ℕ) (given : Answer) (old new : Outside S L) : Type 0 where
+  pub header : Result ProxyHeader ProxyError
+  pub before : L
+  pub after : L
+  pub given_is : given ≡ answer.Header header
+  pub there : map.get old.links number ≡ Some before
+  pub links : new.links ≡ map.insert old.links number after
+  pub storage : new.storage ≡ old.storage
+  pub line : IfSome (v.left before) (λ left. IsAnswer left header)
+  pub taken : IfSome (v.left before) (λ left. IsTaken left header (v.left after))
+  -- the calls went well, or the last of them failed as listed and the header tells a fault
+  pub unlisted : (IsErrOf header (ReadError Fault) → ⊥) → AllWell (λ (call : ℕ × LinkFault). call.0) (v.link_calls before) (v.link_calls after)
+  pub as_listed : IsErrOf header (ReadError Fault) → LinkMet (v.link_calls before) (v.link_calls after) (v.sending after).last_fault
+  pub last_fault : (IsErrOf header (ReadError Fault) → ⊥) → (v.sending after).last_fault ≡ (v.sending before).last_fault
+  pub fault_rose : IsErrOf header (ReadError Fault) → HasRisen (v.link_faults before) (v.link_faults after)
+  pub only_reads : OnlyReads v.sending v.link_faults v.link_limit before after
+
 -- a job was run on the link that it started on, and on no other
 pub record RunsJob {S L : Type 0} (v : Views S L) (job : Job) (given : Answer) (old new : Outside S L) : Type 0 where
   pub outcome : Outcome
@@ -105,10 +138,12 @@ pub record LeavesAll {S L : Type 0} (given : Answer) (old new : Outside S L) : T
   pub given_is : given ≡ answer.None
   pub same : new ≡ old
 
--- an entry ran the job that it is the end of, and no other acts
+-- an entry read the header that it is decided by, or ran the job that it is the end of, and no other acts
 abbrev pub LeadsOne : {S L : Type 0} → Views S L → Options → List Entry → Entry → Outside S L → Outside S L → Type 0
 LeadsOne v o past e old new =
-    MatchOption (job_to_run o past e.event.kind) (LeavesAll e.answer old new) (λ job. RunsJob v job e.answer old new)
+    MatchOption (header_to_read o past e.event.kind)
+    (MatchOption (job_to_run o past e.event.kind) (LeavesAll e.answer old new) (λ job. RunsJob v job e.answer old new))
+    (λ number. ReadsHeader v number e.answer old new)
 
 -- the newer entries of a log, one after the other, did so
 abbrev pub Leads : {S L : Type 0} → Views S L → Options → List Entry → List Entry → Outside S L → Outside S L → Type 0

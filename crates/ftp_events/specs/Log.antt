@@ -3,7 +3,7 @@ use Rattle.std.specs.Prelude.{ℕ, Bool, true, false, not, List, filter, Option,
 use Rattle.std.specs.List.{list_any}
 use Rattle.ftp_events.specs.declared.entry.Entry.{Entry}
 use Rattle.ftp_events.specs.declared.event.EventKind.{EventKind}
-use Rattle.ftp_events.specs.declared.event.EventKind.TheVariants.{Connect, DataIn, User, Pass, AuthDone, Pasv, Transfer, Stou, Rest, Cwd, End}
+use Rattle.ftp_events.specs.declared.event.EventKind.TheVariants.{Connect, Proxied, DataIn, User, Pass, AuthDone, Pasv, Transfer, Stou, Rest, Cwd, End}
 use Rattle.ftp_events.specs.declared.event.EventKind.TheVariants as kind
 use Rattle.ftp_events.specs.declared.decision.Decision.{Decision}
 use Rattle.ftp_events.specs.declared.decision.Decision.TheVariants.{UnknownNumber, UsedNumber, Misplaced, NotExpected}
@@ -29,6 +29,7 @@ past_of log = filter (λ e. not (is_refusal e.decision)) log
 -- the number that an entry carries as new
 abbrev pub new_number : EventKind → Decision → Option ℕ
 new_number (Connect session raw local trace) d = Some session
+new_number (Proxied number raw trace) d = Some number
 new_number (DataIn number raw port) d = Some number
 new_number _ _ = None
 

@@ -4,6 +4,7 @@ ghost use Rattle.std.specs.Prelude.{◌≡◌};
 ghost use Rattle.ftp_events.specs.Classes.{life, slot_move, gives_up};
 
 use ftp_base::{ErrorKind, LockState};
+use ftp_proxy::ProxyError;
 use ftp_transfer::Ticket;
 
 #[derive(Clone, Copy, Debug, PartialEq, Eq)]
@@ -20,6 +21,8 @@ pub enum Decision {
     Opened,
     /// The connection is turned away, and closed.
     Turned,
+    /// The header of the connection is none, and the connection is closed.
+    HeaderFault(ProxyError),
     /// The data connection goes to the session.
     Attached { session: u64 },
     BadSequence,

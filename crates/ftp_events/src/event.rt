@@ -5,6 +5,7 @@ ghost use Rattle.ftp_events.specs.Covers.{link_number};
 ghost use Rattle.ftp_events.specs.Log.{named_session, has_text};
 
 use ftp_base::{AuthAnswer, Bytes, DataChanCmd, ErrorKind, SocketAddr};
+use ftp_proxy::{ProxyError, ProxyHeader};
 use ftp_transfer::{Outcome, Ticket};
 use std::alloc::{AllocError, Global};
 
@@ -16,6 +17,12 @@ pub enum EventKind {
         session: u64,
         raw: SocketAddr,
         local: SocketAddr,
+        trace: u64,
+    },
+    /// A connection came from the proxy at `raw`. Its header says for whom, and where to.
+    Proxied {
+        number: u64,
+        raw: SocketAddr,
         trace: u64,
     },
     /// A data connection came from `raw` to a passive port.
@@ -94,6 +101,8 @@ pub struct HubEvent {
 pub enum Answer {
     /// Nothing was asked.
     None,
+    /// The header of the connection was read.
+    Header(Result<ProxyHeader, ProxyError>),
     /// The transfer was run, with this outcome.
     Done(Outcome),
 }
@@ -115,7 +124,8 @@ impl EventKind {
             | EventKind::Quit { session }
             | EventKind::Closed { session } => Some(*session),
             EventKind::End { ticket } => Some(ticket.session),
-            EventKind::Connect { .. } | EventKind::DataIn { .. } => None,
+            EventKind::Connect { .. } | EventKind::Proxied { .. } | EventKind::DataIn { .. } =>
+                None,
         }
     }
 
@@ -124,7 +134,7 @@ impl EventKind {
         ensures { result ≡ link_number self.now }
     {
         match self {
-            EventKind::DataIn { number, .. } => Some(*number),
+            EventKind::Proxied { number, .. } | EventKind::DataIn { number, .. } => Some(*number),
             _ => None,
         }
     }
@@ -172,6 +182,7 @@ impl EventKind {
                 local,
                 trace,
             },
+            EventKind::Proxied { number, raw, trace } => EventKind::Proxied { number, raw, trace },
             EventKind::DataIn { number, raw, port } => EventKind::DataIn { number, raw, port },
             EventKind::Pass { session } => EventKind::Pass { session },
             EventKind::AuthDone { session, answer } => EventKind::AuthDone { session, answer },

@@ -17,7 +17,7 @@ use crate::event::{Answer, EventKind};
 use crate::log::Log;
 use crate::session::Opening;
 use ftp_base::{IpAddr, Reply, SocketAddr};
-use ftp_options::{ListenerMode, Options};
+use ftp_options::Options;
 use std::alloc::{AllocError, Global};
 
 /// The session that holds the port for the client of this IPv4 address, after the log.
@@ -114,8 +114,8 @@ fn holder_after(
 fn gives_hold(options: &Options, before: &[Entry], e: &Entry, client: IpAddr, port: u16) -> bool
     ensures { result ≡ gives_hold options.now (past_of (reverse before.now)) e.now client port }
 {
-    match (options.mode, e.decision) {
-        (ListenerMode::Pooled, Decision::Granted { port: granted }) => {
+    match e.decision {
+        Decision::Granted { port: granted } if !options.mode.is_legacy() => {
             granted == port && is_client(before, e.event.kind.named_session(), client)
         }
         _ => false,
@@ -166,7 +166,7 @@ fn is_carried(kind: &EventKind, n: u64) -> bool
 {
     match kind {
         EventKind::Connect { session, .. } => *session == n,
-        EventKind::DataIn { number, .. } => *number == n,
+        EventKind::Proxied { number, .. } | EventKind::DataIn { number, .. } => *number == n,
         _ => false,
     }
 }
@@ -175,16 +175,25 @@ fn is_carried(kind: &EventKind, n: u64) -> bool
 fn opening_by(kind: &EventKind, answer: Answer) -> Option<Opening>
     ensures { result ≡ opening_by kind.now answer }
 {
-    match kind {
-        EventKind::Connect {
-            raw,
-            local,
-            trace,
-            ..
-        } => Some(Opening {
+    match (kind, answer) {
+        (
+            EventKind::Connect {
+                raw,
+                local,
+                trace,
+                ..
+            },
+            _,
+        ) => Some(Opening {
             raw: *raw,
             local: *local,
             client: raw.ip,
+            trace: *trace,
+        }),
+        (EventKind::Proxied { raw, trace, .. }, Answer::Header(Ok(line))) => Some(Opening {
+            raw: *raw,
+            local: line.destination,
+            client: line.source.ip,
             trace: *trace,
         }),
         _ => None,
@@ -205,10 +214,15 @@ fn comes_to(options: &Options, e: &Entry, client: IpAddr, port: u16) -> bool
 fn target(options: &Options, kind: &EventKind, answer: Answer) -> Option<SocketAddr>
     ensures { option_map (λ a. record { client = a.ip; port = a.port }) result ≡ target options.now kind.now answer }
 {
-    match kind {
-        EventKind::DataIn { raw, port, .. } => Some(SocketAddr {
+    match (kind, answer) {
+        (EventKind::DataIn { raw, port, .. }, _) => Some(SocketAddr {
             ip: raw.ip,
             port: *port,
+        }),
+        (EventKind::Proxied { .. }, Answer::Header(Ok(line)))
+            if !options.mode.is_control_port(line.destination.port) => Some(SocketAddr {
+            ip: line.source.ip,
+            port: line.destination.port,
         }),
         _ => None,
     }

@@ -1,7 +1,7 @@
 -- Who listens for data connections.
-use Rattle.std.specs.Prelude.{Bool, true, false}
+use Rattle.std.specs.Prelude.{ℕ, ◌==◌, Bool, true, false}
 use Rattle.ftp_options.specs.declared.options.ListenerMode.{ListenerMode}
-use Rattle.ftp_options.specs.declared.options.ListenerMode.TheVariants.{Legacy, Pooled}
+use Rattle.ftp_options.specs.declared.options.ListenerMode.TheVariants.{Legacy, Pooled, Proxy}
 
 -- each session has a listener of its own
 abbrev pub is_legacy : ListenerMode → Bool
@@ -12,3 +12,13 @@ is_legacy _ = false
 abbrev pub is_pooled : ListenerMode → Bool
 is_pooled Pooled = true
 is_pooled _ = false
+
+-- all connections come through a proxy
+abbrev pub is_proxy : ListenerMode → Bool
+is_proxy (Proxy control_port) = true
+is_proxy _ = false
+
+-- connections that the proxy passes on to this port open sessions
+abbrev pub is_control_port : ListenerMode → ℕ → Bool
+is_control_port (Proxy control_port) port = control_port == port
+is_control_port _ port = false

@@ -61,6 +61,15 @@ impl ServerBuilder {
         self.mode = ListenerMode::Pooled;
     }
 
+    /// Connections come through a proxy; those that it took at its own port `external_control_port` open sessions.
+    pub fn proxy_protocol_mode(&mut self, external_control_port: u16)
+        ensures { self.new ≡ record self.old { mode = ListenerMode.Proxy external_control_port } }
+    {
+        self.mode = ListenerMode::Proxy {
+            control_port: external_control_port,
+        };
+    }
+
     /// The passive ports, both included.
     pub fn passive_ports(&mut self, lo: u16, hi: u16)
         ensures { self.new ≡ record self.old { lo = lo; hi = hi } }
@@ -92,7 +101,7 @@ impl ServerBuilder {
         if self.lo > self.hi {
             return Err(ServerError::EmptyRange);
         }
-        if self.lo == 0 && self.mode.is_pooled() {
+        if self.lo == 0 && !self.mode.is_legacy() {
             return Err(ServerError::PortZero);
         }
         let options = Options {

@@ -1,7 +1,7 @@
 //! The options of a server.
 
 ghost use Rattle.std.specs.Prelude.{◌≡◌, ◌≤◌, false};
-ghost use Rattle.ftp_options.specs.Modes.{is_legacy, is_pooled};
+ghost use Rattle.ftp_options.specs.Modes.{is_legacy, is_pooled, is_proxy, is_control_port};
 ghost use Rattle.ftp_options.specs.Features.{has_restart};
 
 use ftp_base::FEATURE_RESTART;
@@ -13,13 +13,35 @@ pub enum ListenerMode {
     Legacy,
     /// All sessions share the listeners of the passive ports.
     Pooled,
+    /// All connections come through a proxy, each with a line that tells where from and where to. Those to the
+    /// control port open sessions.
+    Proxy { control_port: u16 },
 }
 
 impl ListenerMode {
+    pub fn is_legacy(self) -> bool
+        ensures { result ≡ is_legacy self }
+    {
+        matches!(self, ListenerMode::Legacy)
+    }
+
     pub fn is_pooled(self) -> bool
         ensures { result ≡ is_pooled self }
     {
         matches!(self, ListenerMode::Pooled)
+    }
+
+    pub fn is_proxy(self) -> bool
+        ensures { result ≡ is_proxy self }
+    {
+        matches!(self, ListenerMode::Proxy { .. })
+    }
+
+    /// Says whether connections that a proxy passes on to this port open sessions.
+    pub fn is_control_port(self, port: u16) -> bool
+        ensures { result ≡ is_control_port self port }
+    {
+        matches!(self, ListenerMode::Proxy { control_port } if control_port == port)
     }
 }
 
