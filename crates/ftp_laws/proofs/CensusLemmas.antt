@@ -1,5 +1,5 @@
 -- The counts of live sessions and of running jobs are those of lists that have each once.
-use Rattle.std.proofs.Common.{◌≡◌, refl, sym, ◌∙◌, ap, ℕ, ◌+◌, ◌-◌, ◌≤◌, Bool, true, false, true≢false, not, cond, List, [], ◌∷◌, length, Option, Some, None, arith, eqb-true, eq-eqb}
+use Rattle.std.proofs.Common.{◌≡◌, refl, sym, ◌∙◌, ap, ℕ, ◌+◌, ◌-◌, ◌≤◌, Bool, true, false, true≢false, not, cond, List, [], ◌∷◌, length, Option, Some, None, Ok, arith, eqb-true, eq-eqb}
 use Rattle.std.specs.Prelude.{◌≢◌, ◌==◌, count_by, filter, is_some}
 use Rattle.std.proofs.lemmas.List.Sums.{sum_by-cons, length-filter, count_by-le-length}
 use Rattle.std.proofs.lemmas.List.Filters.{length-filter_both}
@@ -7,6 +7,7 @@ use Rattle.ftp_events.specs.declared.action.Action.TheVariants as action
 use Rattle.ftp_events.specs.declared.decision.Decision.TheVariants as decision
 use Rattle.ftp_events.specs.declared.decision.Life.TheVariants.{Opens, Ends}
 use Rattle.ftp_events.specs.declared.decision.SlotMove.TheVariants.{Finishes}
+use Rattle.ftp_events.specs.declared.event.Answer.TheVariants.{Header}
 use Rattle.ftp_events.specs.declared.event.EventKind.TheVariants as kind
 use Rattle.ftp_events.specs.Words.{total}
 use Rattle.ftp_events.specs.History.{Nobody, One}
@@ -99,23 +100,22 @@ recount before after q xs census same = go (after q) refl
 abbrev HasCensus : (ℕ → Bool) → ℕ → Type 0
 HasCensus test n = (xs : List ℕ) × IsCensus test xs × (n ≡ length xs)
 
--- a control connection
-abbrev is_connect : EventKind → Bool
-is_connect (kind.Connect s raw local trace) = true
-is_connect _ = false
-
--- only one opens a session
-opening-connects :
+-- what opens a session tells how it came
+opening-tells :
     (o : Options) (past : List Entry) (at : ℕ) (k : EventKind) (answer : Answer) →
-    due o past at k answer ≡ decision.Opened → is_connect k ≡ true
-opening-connects o past at (kind.Connect s raw local trace) answer h = refl
-opening-connects o past at k answer h = grind arith
+    due o past at k answer ≡ decision.Opened →
+    is_some (opening_by k answer) ≡ true
+opening-tells o past at (kind.Connect s raw local trace) answer h = refl
+opening-tells o past at (kind.Proxied number raw trace) (Header (Ok line)) h = refl
+opening-tells o past at k answer h = grind arith
 
--- with its number, and with what is known of it
+-- and comes with the session's number
 opening-known :
-    (k : EventKind) (answer : Answer) → is_connect k ≡ true →
+    (k : EventKind) (answer : Answer) → is_some (opening_by k answer) ≡ true →
     (s : ℕ) × (op : Opening) × (opened_number k decision.Opened ≡ Some s) × (opening_by k answer ≡ Some op)
 opening-known (kind.Connect s raw local trace) answer h = (s, record { raw = raw; local = local; client = raw.ip; trace = trace }, refl, refl)
+opening-known (kind.Proxied number raw trace) (Header (Ok line)) h =
+    (number, record { raw = raw; local = line.destination; client = line.source.ip; trace = trace }, refl, refl)
 opening-known k answer h = cc
 
 -- the sessions that are live
@@ -161,7 +161,7 @@ live-step o past e fit h = go (life e.decision) refl
     opening : life e.decision ≡ Opens → HasCensus (live_in o (e ∷ past)) (live_count (e ∷ past))
     opening x =
         let d : e.decision ≡ decision.Opened = opens-is e.decision x in
-        let known = opening-known e.event.kind e.answer (opening-connects o past e.event.at e.event.kind e.answer (sym fit ∙ d)) in
+        let known = opening-known e.event.kind e.answer (opening-tells o past e.event.at e.event.kind e.answer (sym fit ∙ d)) in
         let s : ℕ = known.0 in
         let number : opened_number e.event.kind e.decision ≡ Some s = ap (opened_number e.event.kind) d ∙ known.2 in
         let about = opened-subject o past e d (sym fit ∙ d) in

@@ -1,15 +1,16 @@
 -- A client's part of the log decides and does on the client's events what the whole log does.
-use Rattle.std.proofs.Common.{◌≡◌, refl, sym, ◌∙◌, ap, ap₂, subst, ℕ, Bool, true, false, not, cond, List, [], ◌∷◌, ◌++◌, Option, Some, None}
+use Rattle.std.proofs.Common.{◌≡◌, refl, sym, ◌∙◌, ap, ap₂, subst, ℕ, Bool, true, false, not, cond, List, [], ◌∷◌, ◌++◌, Option, Some, None, Ok, Err}
 use Rattle.std.specs.Prelude.{Contains, find, is_none}
 use Rattle.std.specs.Option.{option_map_or, option_or}
 use Rattle.std.proofs.lemmas.List.Elements.{Contains-push, Contains-append_left, Contains-append_right}
 use Rattle.ftp_base.specs.declared.net.SocketAddr.{SocketAddr}
 use Rattle.ftp_base.specs.Ports.{port_order}
 use Rattle.ftp_events.specs.declared.decision.Decision.TheVariants as decision
+use Rattle.ftp_events.specs.declared.event.Answer.TheVariants.{Header}
 use Rattle.ftp_events.specs.declared.event.EventKind.TheVariants as kind
 use Rattle.ftp_events.specs.Modes.{in_range}
 use Rattle.ftp_events.specs.Board.{first_free_port}
-use Rattle.ftp_events.specs.ConnectionRows.{arrival_row, holder_row}
+use Rattle.ftp_events.specs.ConnectionRows.{arrival_row, header_row, holder_row}
 use Rattle.ftp_events.specs.CommandRows.{pasv_row, if_logged_in}
 use Rattle.ftp_events.specs.EndRows.{end_row}
 use Rattle.ftp_events.specs.Decide.{if_live}
@@ -17,7 +18,7 @@ use Rattle.ftp_events.specs.Acts.{session_acts}
 use Rattle.ftp_events.specs.Isolation.{owner, is_own, numbers_in, own_numbers, IsApart}
 use Rattle.ftp_events.specs.History.{Nobody, One, All, one_or_nobody}
 use Rattle.ftp_events.specs.Classes.{is_stop}
-use Rattle.ftp_laws.proofs.Common.{Subject, subject_acts, IpAddr, same_ip, Options, is_legacy, Decision, Entry, EventKind, Opening, Session, past_of, is_refusal, is_used, named_session, target, holder, holder_of_target, subject, session, due, decide, acts, acts_of, IsRight, IsActed, client_log}
+use Rattle.ftp_laws.proofs.Common.{Subject, subject_acts, IpAddr, same_ip, Options, is_legacy, Answer, Decision, Entry, EventKind, Opening, Session, past_of, is_refusal, is_used, named_session, target, holder, holder_of_target, subject, session, due, decide, acts, acts_of, IsRight, IsActed, client_log}
 use Rattle.ftp_laws.proofs.SubjectLemmas.{no-stop, one-meant, not-all}
 use Rattle.ftp_laws.proofs.QuestionLemmas.{session-told}
 use Rattle.ftp_laws.proofs.HoldLemmas.{same_ip-equal, ComesFor, comes-for, names-itself}
@@ -111,6 +112,16 @@ due-alike o log K e a m r kept reads = go e.event.kind refl
         if_live (session o K s) f ≡ if_live (session o (past_of log) s) g
     row k s f g y n same = rows-alike o (past_of log) K a s f g reads.tables (named s (ap named_session y ∙ n)) same
 
+    headed :
+        (number : ℕ) (raw : SocketAddr) (trace : ℕ) → e.event.kind ≡ kind.Proxied number raw trace →
+        (w : Answer) → e.answer ≡ w →
+        header_row o K raw w ≡ header_row o (past_of log) raw w
+    headed number raw trace y (Header (Ok line)) z =
+        let own = subst (λ (x : Answer). option_map_or (λ client. same_ip client a) (owner (past_of log) (kind.Proxied number raw trace) x) false ≡ true) z (mine _ y) in
+        rw (arrival-alike o log K raw line.source.ip a line.destination.port m r reads.tables own) refl
+    headed number raw trace y (Header (Err fault)) z = refl
+    headed number raw trace y w z = refl
+
     go :
         (k : EventKind) → e.event.kind ≡ k →
         due o K e.event.at k e.answer ≡ due o (past_of log) e.event.at k e.answer
@@ -126,6 +137,8 @@ due-alike o log K e a m r kept reads = go e.event.kind refl
     go (kind.Cwd s path refusal) y = row _ s _ _ y refl (λ v x. refl)
     go (kind.Pasv s word lookup bound) y = row _ s _ _ y refl (λ v x. pasv-alike o (past_of log) K a word v reads.tables (client-of o (past_of log) s a v x (named s (ap named_session y))))
     go (kind.Connect s raw local trace) y = rw (used _ y s (Contains-push [] s)) refl
+    go (kind.Proxied number raw trace) y =
+        rw (used _ y number (Contains-push [] number), headed number raw trace y e.answer refl) refl
     go (kind.DataIn number raw port) y =
         rw (used _ y number (Contains-push [] number), arrival-alike o log K raw raw.ip a port m r reads.tables (mine _ y)) refl
 

@@ -67,15 +67,12 @@ count-drop_acts p s staying d slot pending t c = go (drops d slot)
         omega (arith, count-append p (cancellations s staying pending) (closings (link_in slot)), cancelled staying pending, count-closings p (link_in slot) t.closes)
     go false = refl
 
--- nor does a connection that is turned away
+-- nor does a connection that is closed as soon as it came
 pub count-refused_link :
     (p : Action → Bool) (k : EventKind) (d : Decision) →
     ((n : ℕ) → p (action.Close n) ≡ false) → count_by p (refused_link k d) ≡ 0
-count-refused_link p k decision.Turned closes = go (new_number k decision.Turned)
-  where
-    go : (n : Option ℕ) → count_by p (option_map_or (λ n. action.Close n ∷ []) n []) ≡ 0
-    go None = refl
-    go (Some n) = rw (closes n) refl
+count-refused_link p k decision.Turned closes = count-closings p (new_number k decision.Turned) closes
+count-refused_link p k (decision.HeaderFault fault) closes = count-closings p (new_number k (decision.HeaderFault fault)) closes
 count-refused_link p k d closes = refl
 
 -- nor a notification

@@ -1,21 +1,21 @@
 -- Only a live session ends, but for a stop.
-use Rattle.std.proofs.Common.{◌≡◌, refl, sym, ◌∙◌, ℕ, Bool, true, false, true≢false, not, ◌&&◌, ◌||◌, cond, List, Option, Some, None}
+use Rattle.std.proofs.Common.{◌≡◌, refl, sym, ◌∙◌, ℕ, Bool, true, false, true≢false, not, ◌&&◌, ◌||◌, cond, List, Option, Some, None, Ok, Err}
 use Rattle.std.specs.Option.{option_and_then, option_map_or}
 use Rattle.ftp_base.specs.declared.net.SocketAddr.{SocketAddr}
 use Rattle.ftp_base.specs.Net.{same_ip, is_v6}
 use Rattle.ftp_transfer.specs.Transfer.{suits}
-use Rattle.ftp_options.specs.Modes.{is_pooled}
+use Rattle.ftp_options.specs.Modes.{is_pooled, is_proxy, is_control_port}
 use Rattle.ftp_events.specs.Classes.{is_stop}
 use Rattle.ftp_events.specs.Transfer.{same_ticket}
 use Rattle.ftp_events.specs.Modes.{in_range}
 use Rattle.ftp_events.specs.declared.decision.Decision.TheVariants as decision
-use Rattle.ftp_events.specs.declared.event.Answer.TheVariants.{Done}
+use Rattle.ftp_events.specs.declared.event.Answer.TheVariants.{Header, Done}
 use Rattle.ftp_events.specs.declared.event.EventKind.TheVariants as kind
 use Rattle.ftp_events.specs.CommandRows.{command_row}
-use Rattle.ftp_events.specs.ConnectionRows.{connect_row, holder_row, arrival_row, data_row}
+use Rattle.ftp_events.specs.ConnectionRows.{arrival_row, holder_row, header_row}
 use Rattle.ftp_events.specs.EndRows.{outcome_row, end_row}
 use Rattle.ftp_events.specs.Decide.{if_live}
-use Rattle.ftp_laws.proofs.Common.{life, ends, Options, Ticket, Running, Answer, Decision, Entry, EventKind, Session, is_used, named_session, session, running_job, due, holder}
+use Rattle.ftp_laws.proofs.Common.{IpAddr, life, ends, Options, Ticket, Running, Answer, Decision, Entry, EventKind, Session, is_used, named_session, session, running_job, due, holder}
 use Rattle.ftp_laws.proofs.DecisionLemmas.{IsLive}
 
 -- a decision that ends no session
@@ -27,24 +27,31 @@ none-cond : (b : Bool) (x y : Decision) → EndsNone x → EndsNone y → EndsNo
 none-cond true x y h j = h
 none-cond false x y h j = j
 
--- a control connection ends none
-connect-none : (o : Options) (past : List Entry) (s : ℕ) (raw local : SocketAddr) → EndsNone (connect_row o past s raw local)
-connect-none o past s raw local =
-    none-cond (is_pooled o.mode && (is_v6 raw.ip || is_v6 local.ip)) decision.Misplaced _ (record { none = refl })
-    (none-cond (is_used past s) decision.UsedNumber decision.Opened (record { none = refl }) (record { none = refl }))
+-- no connection ends one whose row does not
+new-none :
+    (strange used : Bool) (row : Decision) → EndsNone row →
+    EndsNone (cond strange decision.Misplaced (cond used decision.UsedNumber row))
+new-none strange used row h =
+    none-cond strange decision.Misplaced _ (record { none = refl }) (none-cond used decision.UsedNumber row (record { none = refl }) h)
 
--- nor does a data connection
-arrival-none : (o : Options) (past : List Entry) (number : ℕ) (raw : SocketAddr) (port : ℕ) → EndsNone (data_row o past number raw port)
-arrival-none o past number raw port =
-    none-cond (not (is_pooled o.mode) || is_v6 raw.ip) decision.Misplaced _ (record { none = refl })
-    (none-cond (is_used past number) decision.UsedNumber (arrival_row o past raw raw.ip port) (record { none = refl })
-    (none-cond (not (in_range o port)) decision.Turned _ (record { none = refl }) (by_holder (holder o past raw.ip port))))
+-- that of a data connection does not
+arrival-none : (o : Options) (past : List Entry) (raw : SocketAddr) (a : IpAddr) (port : ℕ) → EndsNone (arrival_row o past raw a port)
+arrival-none o past raw a port = none-cond (not (in_range o port)) decision.Turned _ (record { none = refl }) (by_holder (holder o past a port))
   where
     by_holder : (h : Option ℕ) → EndsNone (holder_row o past raw h)
     by_holder None = record { none = refl }
     by_holder (Some s) =
         none-cond (option_map_or (λ (v : Session). same_ip v.opening.raw.ip raw.ip) (session o past s) false) (decision.Attached s) decision.Turned
         (record { none = refl }) (record { none = refl })
+
+-- nor that of a header
+header-none : (o : Options) (past : List Entry) (raw : SocketAddr) (answer : Answer) → EndsNone (header_row o past raw answer)
+header-none o past raw (Header (Ok line)) =
+    none-cond (is_v6 line.source.ip || is_v6 line.destination.ip) decision.NotExpected _ (record { none = refl })
+    (none-cond (is_control_port o.mode line.destination.port) decision.Opened _ (record { none = refl })
+    (arrival-none o past raw line.source.ip line.destination.port))
+header-none o past raw (Header (Err fault)) = record { none = refl }
+header-none o past raw answer = record { none = refl }
 
 -- nor the end of a job
 end-none : (t : Ticket) (answer : Answer) (run : Option Running) → EndsNone (end_row t answer run)
@@ -71,7 +78,14 @@ row-live o past k (Some s) row named h = go (session o past s) refl h
 pub ending-live :
     (o : Options) (past : List Entry) (at : ℕ) (k : EventKind) (answer : Answer) →
     is_stop (due o past at k answer) ≡ false → ends (life (due o past at k answer)) ≡ true → IsLive o past k
-ending-live o past at (kind.Connect s raw local trace) answer plain h = absurd (true≢false (sym h ∙ (connect-none o past s raw local).none))
-ending-live o past at (kind.DataIn number raw port) answer plain h = absurd (true≢false (sym h ∙ (arrival-none o past number raw port).none))
+ending-live o past at (kind.Connect s raw local trace) answer plain h =
+    let strange : Bool = is_proxy o.mode || (is_pooled o.mode && (is_v6 raw.ip || is_v6 local.ip)) in
+    absurd (true≢false (sym h ∙ (new-none strange (is_used past s) decision.Opened (record { none = refl })).none))
+ending-live o past at (kind.Proxied number raw trace) answer plain h =
+    let strange : Bool = not (is_proxy o.mode) || is_v6 raw.ip in
+    absurd (true≢false (sym h ∙ (new-none strange (is_used past number) (header_row o past raw answer) (header-none o past raw answer)).none))
+ending-live o past at (kind.DataIn number raw port) answer plain h =
+    let strange : Bool = not (is_pooled o.mode) || is_v6 raw.ip in
+    absurd (true≢false (sym h ∙ (new-none strange (is_used past number) (arrival_row o past raw raw.ip port) (arrival-none o past raw raw.ip port)).none))
 ending-live o past at (kind.End t) answer plain h = absurd (true≢false (sym h ∙ (end-none t answer (running_job o past t.session)).none))
 ending-live o past at k answer plain h = row-live o past k (named_session k) (λ v. command_row o (holder o past v.opening.client) k v) refl h

@@ -1,14 +1,13 @@
 -- Who holds a port, both ways, and when a hold ends.
-use Rattle.std.proofs.Common.{◌≡◌, refl, sym, ◌∙◌, ap, subst, ℕ, Bool, true, false, true≢false, ◌&&◌, List, ◌∷◌, Some, None, eqb-true, eq-eqb, inl, inr}
+use Rattle.std.proofs.Common.{◌≡◌, refl, sym, ◌∙◌, ap, ap₂, subst, ℕ, Bool, true, false, true≢false, ◌&&◌, List, ◌∷◌, Option, Some, None, eqb-true, eq-eqb, inl, inr}
 use Rattle.std.specs.Prelude.{◌≢◌, ◌⊎◌, ◌==◌}
 use Rattle.std.specs.Option.{option_map_or}
 use Rattle.std.proofs.lemmas.Option.{same_Some}
 use Rattle.std.proofs.lemmas.Bool.{and_parts}
 use Rattle.ftp_events.specs.declared.decision.SlotMove.TheVariants.{Empties, Awaits}
-use Rattle.ftp_events.specs.declared.event.EventKind.TheVariants as kind
 use Rattle.ftp_events.specs.declared.session.Slot.TheVariants.{Empty, Waits, Linked}
 use Rattle.ftp_events.specs.Slot.{waiting_port}
-use Rattle.ftp_laws.proofs.Common.{SlotMove, slot_move, gives_up, IpAddr, same_ip, Options, is_legacy, Entry, EventKind, Session, Slot, is_number, named_session, is_refusal, past_of, target, is_client, gives_hold, comes_to, ends_hold, gives_up_hold, holder, due, decide, IsRight}
+use Rattle.ftp_laws.proofs.Common.{SlotMove, slot_move, gives_up, IpAddr, same_ip, Options, is_legacy, Entry, Session, Slot, is_number, named_session, is_refusal, past_of, Target, target, is_client, gives_hold, comes_to, ends_hold, gives_up_hold, holder, due, decide, IsRight}
 use Rattle.ftp_laws.proofs.SubjectLemmas.{no-stop, ends-plain, named-ends}
 use Rattle.ftp_laws.specs.Holds.{WaitsOn, ComesTo, GrantsAnother, EndsSession, EndsHold}
 use Rattle.ftp_laws.proofs.ClassLemmas.{awaits-is, empties-ends, ending-gives_up}
@@ -51,17 +50,17 @@ holds-one o log a b p q s m r x y =
 -- a data connection to a key, in words
 pub comes-in-words :
     (o : Options) (e : Entry) (a : IpAddr) (p : ℕ) →
-    comes_to o e a p ≡ true → ComesTo e a p
-comes-in-words o e a p h = by_kind e.event.kind refl h
+    comes_to o e a p ≡ true → ComesTo o e a p
+comes-in-words o e a p h = go (target o e.event.kind e.answer) refl h
   where
-    by_kind :
-        (k : EventKind) → e.event.kind ≡ k →
-        option_map_or (λ t. same_ip t.client a && (t.port == p)) (target o k e.answer) false ≡ true →
-        ComesTo e a p
-    by_kind (kind.DataIn number raw port) x h =
-        let parts = and_parts (same_ip raw.ip a) (port == p) h in
-        (number, raw, x ∙ ap (kind.DataIn number raw) (eqb-true port p parts.1), same_ip-equal _ _ parts.0)
-    by_kind k x h = cc
+    go :
+        (t : Option Target) → target o e.event.kind e.answer ≡ t →
+        option_map_or (λ t. same_ip t.client a && (t.port == p)) t false ≡ true →
+        ComesTo o e a p
+    go None x h = cc
+    go (Some t) x h =
+        let parts = and_parts (same_ip t.client a) (t.port == p) h in
+        x ∙ ap₂ (λ c q. Some (record { client = c; port = q })) (same_ip-equal _ _ parts.0) (eqb-true t.port p parts.1)
 
 -- a decision that gives a hold up, in words
 pub ends-in-words :
@@ -97,7 +96,7 @@ pub holds-end-step :
     is_legacy o.mode ≡ false →
     e.decision ≡ due o past e.event.at e.event.kind e.answer →
     WaitsFor o past s a p → holder o past a p ≡ Some s →
-    (holder o (e ∷ past) a p ≡ Some s) ⊎ ((holder o (e ∷ past) a p ≡ None) × EndsHold e s a p)
+    (holder o (e ∷ past) a p ≡ Some s) ⊎ ((holder o (e ∷ past) a p ≡ None) × EndsHold o e s a p)
 holds-end-step o past e a p s m fit w held = by_arrival (comes_to o e a p) refl
   where
     ungranted : gives_hold o past e a p ≡ false
@@ -106,7 +105,7 @@ holds-end-step o past e a p s m fit w held = by_arrival (comes_to o e a p) refl
     by_end :
         comes_to o e a p ≡ false → (b : Bool) →
         ends_hold e s ≡ b →
-        (holder o (e ∷ past) a p ≡ Some s) ⊎ ((holder o (e ∷ past) a p ≡ None) × EndsHold e s a p)
+        (holder o (e ∷ past) a p ≡ Some s) ⊎ ((holder o (e ∷ past) a p ≡ None) × EndsHold o e s a p)
     by_end c false x = inl (rw (ungranted, c, held, x) refl)
     by_end c true x =
         let parts = and_parts (is_number (named_session e.event.kind) s) (gives_up_hold e.decision) (sym (ends-plain e s (no-stop e.decision)) ∙ x) in
@@ -114,7 +113,7 @@ holds-end-step o past e a p s m fit w held = by_arrival (comes_to o e a p) refl
 
     by_arrival :
         (b : Bool) → comes_to o e a p ≡ b →
-        (holder o (e ∷ past) a p ≡ Some s) ⊎ ((holder o (e ∷ past) a p ≡ None) × EndsHold e s a p)
+        (holder o (e ∷ past) a p ≡ Some s) ⊎ ((holder o (e ∷ past) a p ≡ None) × EndsHold o e s a p)
     by_arrival true c = inr (rw (ungranted, c) refl, inl (comes-in-words o e a p c))
     by_arrival false c = by_end c (ends_hold e s) refl
 
@@ -123,25 +122,25 @@ pub holds-end :
     (o : Options) (log : List Entry) (e : Entry) (a : IpAddr) (p s : ℕ) →
     is_legacy o.mode ≡ false → IsRight o (e ∷ log) →
     holder o (past_of log) a p ≡ Some s →
-    (holder o (past_of (e ∷ log)) a p ≡ Some s) ⊎ ((holder o (past_of (e ∷ log)) a p ≡ None) × EndsHold e s a p)
+    (holder o (past_of (e ∷ log)) a p ≡ Some s) ⊎ ((holder o (past_of (e ∷ log)) a p ≡ None) × EndsHold o e s a p)
 unfolding decide
 holds-end o log e a p s m r held = go (is_refusal e.decision) refl
   where
     go :
         (b : Bool) → is_refusal e.decision ≡ b →
-        (holder o (past_of (e ∷ log)) a p ≡ Some s) ⊎ ((holder o (past_of (e ∷ log)) a p ≡ None) × EndsHold e s a p)
+        (holder o (past_of (e ∷ log)) a p ≡ Some s) ⊎ ((holder o (past_of (e ∷ log)) a p ≡ None) × EndsHold o e s a p)
     go true x = inl (rw x held)
     go false x =
-        subst (λ (l : List Entry). (holder o l a p ≡ Some s) ⊎ ((holder o l a p ≡ None) × EndsHold e s a p)) (sym (counting-counts e log x))
+        subst (λ (l : List Entry). (holder o l a p ≡ Some s) ⊎ ((holder o l a p ≡ None) × EndsHold o e s a p)) (sym (counting-counts e log x))
         (holds-end-step o (past_of log) e a p s m r.1 (holder-waits o log m r.0 a p s held) held)
 
 -- after each of the reasons the port is free
 pub each-ends :
     (o : Options) (past : List Entry) (e : Entry) (a : IpAddr) (p s : ℕ) →
     gives_hold o past e a p ≡ false →
-    holder o past a p ≡ Some s → EndsHold e s a p →
+    holder o past a p ≡ Some s → EndsHold o e s a p →
     holder o (e ∷ past) a p ≡ None
-each-ends o past e a p s g held (inl x) = rw (g, x.2, x.3, same_ip-refl a, eq-eqb p p refl) refl
+each-ends o past e a p s g held (inl x) = rw (g, x, same_ip-refl a, eq-eqb p p refl) refl
 each-ends o past e a p s g held (inr (inl x)) = rw (g, named-target o e.event.kind e.answer s x.3, held, named-ends e s x.3 (ap gives_up_hold x.2)) refl
 each-ends o past e a p s g held (inr (inr x)) = rw (g, named-target o e.event.kind e.answer s x.0, held, named-ends e s x.0 (ending-gives_up e.decision x.1)) refl
 
@@ -149,7 +148,7 @@ each-ends o past e a p s g held (inr (inr x)) = rw (g, named-target o e.event.ki
 pub holds-ended :
     (o : Options) (log : List Entry) (e : Entry) (a : IpAddr) (p s : ℕ) →
     IsRight o (e ∷ log) →
-    holder o (past_of log) a p ≡ Some s → EndsHold e s a p →
+    holder o (past_of log) a p ≡ Some s → EndsHold o e s a p →
     is_refusal e.decision ≡ false →
     holder o (past_of (e ∷ log)) a p ≡ None
 unfolding decide

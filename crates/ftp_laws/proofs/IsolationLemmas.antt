@@ -1,10 +1,12 @@
 -- What the log tells of a client's sessions and ports, the client's part of the log tells too.
-use Rattle.std.proofs.Common.{◌≡◌, refl, sym, ◌∙◌, ap, subst, ℕ, Bool, true, false, true≢false, not, ◌&&◌, ◌||◌, cond, List, [], ◌∷◌, Option, Some, None, eqb-true}
+use Rattle.std.proofs.Common.{◌≡◌, refl, sym, ◌∙◌, ap, subst, ℕ, Bool, true, false, true≢false, not, ◌&&◌, ◌||◌, cond, List, [], ◌∷◌, Option, Some, None, Ok, eqb-true}
 use Rattle.std.specs.Prelude.{unwrap_or, ◌==◌, Contains, option_to_list, ◌++◌}
 use Rattle.std.specs.Bool.{then_some}
 use Rattle.std.specs.Option.{option_map_or, option_and_then, option_map, option_or}
 use Rattle.std.proofs.lemmas.Option.{same_Some}
 use Rattle.std.proofs.lemmas.List.Elements.{Contains-push, Contains-append_left, Contains-append_right}
+use Rattle.ftp_options.specs.Modes.{is_control_port}
+use Rattle.ftp_events.specs.declared.event.Answer.TheVariants.{Header}
 use Rattle.ftp_events.specs.declared.event.EventKind.TheVariants as kind
 use Rattle.ftp_events.specs.Isolation.{owner, is_own, foreign_numbers}
 use Rattle.ftp_laws.proofs.Common.{IpAddr, same_ip, Options, is_legacy, Entry, EventKind, Answer, Opening, is_number, past_of, is_refusal, named_session, is_used, new_number, opening_by, opener, Target, target, is_client, gives_hold, granted_port, comes_to, ends_hold, holder, holder_of_target, concerns, opens, history, lane, session, running_job, IsRight, client_log}
@@ -56,6 +58,7 @@ pub owner-named :
     named_session k ≡ Some s →
     option_map_or (λ client. same_ip client a) (owner past k answer) false ≡ is_of past s a
 owner-named past (kind.Connect s raw local trace) w a n e = cc
+owner-named past (kind.Proxied number raw trace) w a n e = cc
 owner-named past (kind.DataIn number raw port) w a n e = cc
 owner-named past k w a n e = owner-at past a _ n e
 
@@ -65,6 +68,14 @@ pub owner-target :
     target o k answer ≡ Some t →
     owner past k answer ≡ Some t.client
 owner-target o past (kind.DataIn number raw port) w t e = ap Some (ap (λ (x : Target). x.client) (same_Some _ _ e))
+owner-target o past (kind.Proxied number raw trace) (Header (Ok line)) t e = by_port (is_control_port o.mode line.destination.port) e
+  where
+    by_port :
+        (c : Bool) →
+        cond c None (Some (record { client = line.source.ip; port = line.destination.port })) ≡ Some t →
+        Some line.source.ip ≡ Some t.client
+    by_port true x = cc
+    by_port false x = ap Some (ap (λ (y : Target). y.client) (same_Some _ _ x))
 owner-target o past k w t e = cc
 
 -- an entry of client a, after a past
@@ -166,6 +177,7 @@ pub opening-owner :
     opening_by k answer ≡ Some op →
     owner P k answer ≡ Some op.client
 opening-owner P (kind.Connect s raw local trace) w op e = ap (λ (x : Opening). Some x.client) (same_Some _ _ e)
+opening-owner P (kind.Proxied number raw trace) (Header (Ok line)) op e = ap (λ (x : Opening). Some x.client) (same_Some _ _ e)
 opening-owner P k w op e = cc
 
 -- the session's client, where the newest entry does not open it

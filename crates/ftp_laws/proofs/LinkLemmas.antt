@@ -2,18 +2,16 @@
 use Rattle.std.proofs.Common.{◌≡◌, refl, sym, ◌∙◌, ap, subst, ℕ, ◌+◌, ◌≤◌, Bool, true, false, true≢false, cond, List, ◌∷◌, Option, Some, None, arith, eqb-true, eq-eqb, inl, inr}
 use Rattle.std.specs.Prelude.{◌⊎◌, ◌==◌, count_by}
 use Rattle.std.specs.Option.{option_map_or, option_and_then}
-use Rattle.std.proofs.lemmas.Option.{same_Some}
 use Rattle.std.proofs.lemmas.Bool.{or_right, or_parts}
 use Rattle.ftp_events.specs.declared.decision.SlotMove.TheVariants.{Awaits, Links, Queues, Finishes}
-use Rattle.ftp_events.specs.declared.event.EventKind.TheVariants as kind
-use Rattle.ftp_events.specs.declared.event.EventKind.TheVariants.{End}
 use Rattle.ftp_events.specs.declared.session.Slot.TheVariants.{Empty, Waits, Linked}
 use Rattle.ftp_events.specs.Slot.{startable, started_by}
 use Rattle.ftp_events.specs.History.{Nobody, One, All}
-use Rattle.ftp_laws.proofs.Common.{Subject, SlotMove, slot_move, empties, moved, starts_by, Options, Running, Decision, Entry, EventKind, Answer, Pending, Session, Slot, is_number, is_refusal, past_of, is_used, new_number, subject, concerns, opens, history, Lane, with_link, lane_of, queued_in, lane, session, running_job, due, acts_of, link_in, start_acts, starting, IsRight, IsActed}
+use Rattle.ftp_laws.proofs.Common.{Subject, SlotMove, slot_move, empties, moved, starts_by, Options, Running, Decision, Entry, Pending, Session, Slot, is_number, is_refusal, past_of, is_used, new_number, subject, concerns, opens, history, Lane, with_link, lane_of, queued_in, lane, session, running_job, due, acts_of, link_in, start_acts, starting, IsRight, IsActed}
 use Rattle.ftp_laws.proofs.SubjectLemmas.{no-stop, concerned, one-own, one-same, not-all}
 use Rattle.ftp_laws.specs.Links.{starts_on, start_count}
 use Rattle.ftp_laws.proofs.ClassLemmas.{opened-is}
+use Rattle.ftp_laws.proofs.DecisionLemmas.{new-unused}
 use Rattle.ftp_laws.proofs.QuestionLemmas.{history-other, history-own, session-told}
 use Rattle.ftp_laws.proofs.CountLemmas.{IsOnStarts, count-starts, count-nobody}
 use Rattle.ftp_laws.proofs.EntryLemmas.{acted-past}
@@ -115,19 +113,6 @@ link-brings (Queues ticket) number queued l n e = inl (lane_of-link l.slot queue
 link-brings Finishes number queued l n e = inl (lane_of-link l.slot l.pending None n e)
 link-brings (Awaits port) number queued l n e = cc
 link-brings m number queued l n e = inl (dropped-link (empties m l.slot) l.slot n e)
-
--- a connection that is attached has a new number
-pub attached-unused :
-    (o : Options) (past : List Entry) (at : ℕ) (k : EventKind) (answer : Answer) (d : Decision) (n : ℕ) →
-    d ≡ due o past at k answer → is_attached d ≡ true →
-    new_number k d ≡ Some n → is_used past n ≡ false
-attached-unused o past at (kind.DataIn number raw port) answer d n fit a e = go (is_used past number) refl
-  where
-    go : (b : Bool) → is_used past number ≡ b → is_used past n ≡ false
-    go false x = ap (is_used past) (sym (same_Some _ _ e)) ∙ x
-    go true x = grind arith
-attached-unused o past at (kind.Connect s raw local trace) answer d n fit a e = grind arith
-attached-unused o past at k answer d n fit a e = cc
 
 -- what starts is told by the history
 pub starting-told :
@@ -266,7 +251,7 @@ taken-step o past e n count fit counts acted h =
     unused :
         (is_attached e.decision ≡ true) × (new_number e.event.kind e.decision ≡ Some n) →
         is_used past n ≡ false
-    unused x = attached-unused o past e.event.at e.event.kind e.answer e.decision n fit x.0 x.1
+    unused x = new-unused o past e.event.at e.event.kind e.answer e.decision n (sym (ap is_refusal fit) ∙ counts) x.1
 
     new : new_number e.event.kind e.decision ≡ Some n → is_used (e ∷ past) n ≡ true
     new x = rw (x, eq-eqb n n refl) refl

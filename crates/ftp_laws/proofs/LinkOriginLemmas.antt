@@ -1,26 +1,27 @@
 -- A transfer starts on a link that was brought to its session.
-use Rattle.std.proofs.Common.{◌≡◌, refl, sym, ◌∙◌, ap, subst, ℕ, ◌≤◌, Bool, true, false, List, [], ◌∷◌, Option, Some, None, arith, eqb-true, eq-eqb, inl, inr}
-use Rattle.std.specs.Prelude.{◌==◌, count_by}
+use Rattle.std.proofs.Common.{◌≡◌, refl, sym, ◌∙◌, ap, subst, ℕ, ◌≤◌, Bool, true, false, true≢false, List, [], ◌∷◌, Option, Some, None, arith, eqb-true, eq-eqb, inl, inr}
+use Rattle.std.specs.Prelude.{◌==◌, count_by, is_some}
 use Rattle.std.specs.List.{list_any}
 use Rattle.std.specs.Option.{option_or}
 use Rattle.std.proofs.lemmas.Bool.{and_parts, or_right}
 use Rattle.std.proofs.lemmas.List.Sums.{sum_by-cons}
 use Rattle.ftp_events.specs.declared.action.Action.TheVariants as action
 use Rattle.ftp_events.specs.declared.decision.Decision.TheVariants as decision
-use Rattle.ftp_events.specs.declared.event.EventKind.TheVariants as kind
 use Rattle.ftp_events.specs.History.{Nobody, One, All}
 use Rattle.ftp_events.specs.Classes.{is_stop}
-use Rattle.ftp_laws.proofs.Common.{Subject, slot_move, Options, Running, Action, Decision, Entry, Answer, EventKind, is_number, is_refusal, past_of, named_session, new_number, holder, holder_of_target, subject, concerns, history, queued_in, lane, due, decide, acts, start_acts, IsRight, IsActed}
+use Rattle.ftp_laws.proofs.Common.{Subject, slot_move, Options, Running, Action, Decision, Entry, Answer, EventKind, is_number, is_refusal, past_of, named_session, new_number, Target, target, holder, holder_of_target, subject, concerns, history, queued_in, lane, due, decide, acts, start_acts, IsRight, IsActed}
 use Rattle.ftp_laws.proofs.SubjectLemmas.{no-stop, one-own, not-all, concerns-plain}
 use Rattle.ftp_laws.specs.Jobs.{starts_there, attaches_to, brings_link, has_brought}
 use Rattle.ftp_laws.proofs.EntryLemmas.{past-more}
-use Rattle.ftp_laws.proofs.ServiceLemmas.{AttachedOrTurned, connection-goes}
+use Rattle.ftp_laws.proofs.ServiceLemmas.{AttachedOrTurned, attached-comes, connection-goes}
+use Rattle.ftp_laws.proofs.PortLemmas.{target-unnamed}
 use Rattle.ftp_laws.proofs.LaneLemmas.{ended-empty}
 use Rattle.ftp_laws.proofs.CountLemmas.{IsOnStarts, started_in, count-starts, count-nobody}
 use Rattle.ftp_laws.proofs.LinkLemmas.{is_attached, Brings, started-brings, link_of, WasOrComes, link-after}
 use Rattle.ftp_laws.proofs.BalanceLemmas.{one}
 use Rattle.ftp_laws.proofs.CancellationLemmas.{any-counted}
 use Rattle.ftp_laws.proofs.JobLemmas.{starting-history, started_in-owned}
+use Rattle.ftp_laws.proofs.Cases.{by_option}
 
 -- the test on starts of a session on a link is one on starts
 starts_there-on-starts : (s n : ℕ) → IsOnStarts (starts_there s n)
@@ -37,17 +38,18 @@ attached-subject :
     (o : Options) (past : List Entry) (at : ℕ) (k : EventKind) (answer : Answer) (q : ℕ) →
     due o past at k answer ≡ decision.Attached q →
     option_or (named_session k) (holder_of_target o past k answer) ≡ Some q
-attached-subject o past at (kind.DataIn number raw port) answer q h =
-    go
-    (connection-goes o past at (kind.DataIn number raw port) answer (due o past at (kind.DataIn number raw port) answer)
-    (record { client = raw.ip; port = port }) refl (ap is_refusal h) refl)
+attached-subject o past at k answer q h =
+    by_option (target o k answer)
+    (λ none. absurd (true≢false (sym (attached-comes o past at k answer q h) ∙ ap is_some none)))
+    (λ t w.
+    rw (target-unnamed o k answer t w, w)
+    (goes t (connection-goes o past at k answer (due o past at k answer) t refl (ap is_refusal h) w)))
   where
-    go :
-        AttachedOrTurned o past (due o past at (kind.DataIn number raw port) answer) raw.ip port →
-        holder o past raw.ip port ≡ Some q
-    go (inl x) = x.2 ∙ ap attached_session (sym x.1 ∙ h)
-    go (inr x) = let z : decision.Turned ≡ decision.Attached q = sym x ∙ h in cc
-attached-subject o past at k answer q h = grind arith
+    goes :
+        (t : Target) → AttachedOrTurned o past (due o past at k answer) t.client t.port →
+        holder o past t.client t.port ≡ Some q
+    goes t (inl x) = x.2 ∙ ap attached_session (sym x.1 ∙ h)
+    goes t (inr x) = let z : decision.Turned ≡ decision.Attached q = sym x ∙ h in cc
 
 -- so a connection that is attached is attached to the session that the entry concerns
 attached-own :

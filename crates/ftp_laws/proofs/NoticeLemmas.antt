@@ -71,17 +71,17 @@ pub notices-start_acts : (s : ℕ) (job : Option Running) → filter_map (notice
 notices-start_acts s None = refl
 notices-start_acts s (Some job) = refl
 
--- nor a connection that is turned away
+-- nor a link that is closed
+pub notices-closings : (s : ℕ) (link : Option ℕ) → filter_map (notice_to s) (closings link) ≡ []
+notices-closings s None = refl
+notices-closings s (Some n) = refl
+
+-- nor a connection that is closed as soon as it came
 pub notices-refused_link :
     (s : ℕ) (k : EventKind) (d : Decision) →
     filter_map (notice_to s) (refused_link k d) ≡ []
-notices-refused_link s k decision.Turned = go (new_number k decision.Turned)
-  where
-    go :
-        (n : Option ℕ) →
-        filter_map (notice_to s) (option_map_or (λ n. action.Close n ∷ []) n []) ≡ []
-    go None = refl
-    go (Some n) = refl
+notices-refused_link s k decision.Turned = notices-closings s (new_number k decision.Turned)
+notices-refused_link s k (decision.HeaderFault fault) = notices-closings s (new_number k (decision.HeaderFault fault))
 notices-refused_link s k d = refl
 
 -- nor a connection that is closed at the end

@@ -20,7 +20,7 @@ use Rattle.ftp_laws.proofs.DecisionLemmas.{is_connection, named-no_connection}
 use Rattle.ftp_laws.proofs.GrantLemmas.{IsGrant, granted-free}
 use Rattle.ftp_laws.proofs.QuestionLemmas.{session-own, session-other, session_by, IsTold, session-told}
 use Rattle.ftp_laws.proofs.HoldLemmas.{port-lane, port-kept, touch-free, number-is, or-number, same_ip-equal, WaitsFor, comes-for}
-use Rattle.ftp_laws.proofs.ServiceLemmas.{connection-goes, AttachedOrTurned}
+use Rattle.ftp_laws.proofs.ServiceLemmas.{Arrives, counted-arrives, connection-goes, AttachedOrTurned}
 use Rattle.ftp_laws.proofs.EntryLemmas.{right-past}
 use Rattle.ftp_laws.proofs.Cases.{by_part}
 
@@ -174,14 +174,16 @@ pub port-arrived :
     d ≡ due o past at k answer → is_refusal d ≡ false →
     target o k answer ≡ Some t →
     waiting_port (lane_after k d queued l).slot ≡ None
-port-arrived o past at (kind.DataIn number raw port) answer d t queued l fit c w = go (connection-goes o past at (kind.DataIn number raw port) answer d t fit c w)
+port-arrived o past at k answer d t queued l fit c w = go (connection-goes o past at k answer d t fit c w)
   where
+    arrives : Arrives o past k d t
+    arrives = counted-arrives o past at k answer d t fit c w
+
     go :
         AttachedOrTurned o past d t.client t.port →
-        waiting_port (lane_after (kind.DataIn number raw port) d queued l).slot ≡ None
-    go (inl x) = rw x.1 (port-lane (with_link l.slot (Some number)) l.pending l.running ∙ port-linked l.slot number)
-    go (inr x) = rw x (port-turned (kind.DataIn number raw port) queued l.slot l.pending l.running)
-port-arrived o past at k answer d t queued l fit c w = cc
+        waiting_port (lane_after k d queued l).slot ≡ None
+    go (inl x) = rw (x.1, arrives.new (decision.Attached x.0)) (port-lane (with_link l.slot (Some arrives.number)) l.pending l.running ∙ port-linked l.slot arrives.number)
+    go (inr x) = rw x (port-turned k queued l.slot l.pending l.running)
 
 -- an opening leaves an empty slot
 pub port-opened :

@@ -1,23 +1,26 @@
 -- Every right and acted log serves its data connections and its PASVs as promised.
-use Rattle.std.proofs.Common.{◌≡◌, refl, sym, ◌∙◌, ap, subst, ℕ, Bool, true, false, true≢false, not, ◌&&◌, ◌||◌, cond, List, [], ◌∷◌, ◌++◌, Option, Some, None, inl, inr}
-use Rattle.std.specs.Prelude.{◌⊎◌, Contains, MatchOption, unwrap_or}
+use Rattle.std.proofs.Common.{◌≡◌, refl, sym, ◌∙◌, ap, subst, ℕ, Bool, true, false, true≢false, not, ◌&&◌, ◌||◌, cond, List, [], ◌∷◌, ◌++◌, Option, Some, None, Ok, Err, inl, inr, arith}
+use Rattle.std.specs.Prelude.{◌⊎◌, Contains, MatchOption, is_some, unwrap_or}
 use Rattle.std.specs.Bool.{then_some}
 use Rattle.std.specs.Option.{option_map_or, option_and_then}
-use Rattle.std.proofs.lemmas.Bool.{and_parts, or_parts}
+use Rattle.std.proofs.lemmas.Bool.{and_parts, or_parts, or_from, not-true, not-false}
 use Rattle.std.proofs.lemmas.Option.{same_Some}
 use Rattle.std.proofs.lemmas.List.Elements.{Contains-append_left, Contains-append_right, Contains-push}
 use Rattle.ftp_base.specs.declared.net.SocketAddr.{SocketAddr}
 use Rattle.ftp_base.specs.Net.{is_v6}
-use Rattle.ftp_options.specs.Modes.{is_pooled}
+use Rattle.ftp_options.specs.declared.options.ListenerMode.{ListenerMode}
+use Rattle.ftp_options.specs.declared.options.ListenerMode.TheVariants.{Pooled}
+use Rattle.ftp_options.specs.Modes.{is_pooled, is_proxy, is_control_port}
 use Rattle.ftp_events.specs.declared.action.Action.TheVariants.{Close}
 use Rattle.ftp_events.specs.declared.decision.Decision.TheVariants as decision
+use Rattle.ftp_events.specs.declared.event.Answer.TheVariants.{Header}
 use Rattle.ftp_events.specs.declared.event.EventKind.TheVariants as kind
 use Rattle.ftp_events.specs.Modes.{in_range}
 use Rattle.ftp_events.specs.Board.{first_free_port}
-use Rattle.ftp_events.specs.ConnectionRows.{arrival_row, holder_row}
+use Rattle.ftp_events.specs.ConnectionRows.{arrival_row, header_row, holder_row}
 use Rattle.ftp_events.specs.CommandRows.{is_logged_in}
 use Rattle.ftp_events.specs.Acts.{notice_and_reply, farewells}
-use Rattle.ftp_events.specs.Headline.{is_barred, is_admitted, IsClosed, AttachedOrClosed, GrantedOrFull, AllServed}
+use Rattle.ftp_events.specs.Headline.{is_header, is_barred, is_admitted, peer_of, from_one_peer, IsClosed, AttachedByPeer, AttachedOrClosed, GrantedOrFull, AllServed}
 use Rattle.ftp_events.specs.History.{Nobody, One, All}
 use Rattle.ftp_laws.proofs.Common.{Subject, subject_acts, IpAddr, same_ip, Options, is_legacy, Running, Action, Decision, Entry, EventKind, Answer, Opening, Session, is_number, past_of, is_refusal, is_used, new_number, named_session, opened_number, opening_by, opener, Target, target, granted_port, is_client, gives_hold, comes_to, ends_hold, holder, subject, session, running_job, due, decide, acts, acts_of, acts_for, completions, stays, drop_acts, slot_of, pending_in, refused_link, start_acts, starting, IsRight, IsActed}
 use Rattle.ftp_laws.proofs.ClassLemmas.{granted-is}
@@ -97,41 +100,113 @@ arrival-goes o past raw a p = by_range (in_range o p)
     by_range true = by_holder (holder o past a p) refl
     by_range false = inr refl
 
--- the decision on a barred data connection is a refusal
+-- a connection is refused as strange, for its used number, or by its row
+row-refused :
+    (strange used : Bool) (row : Decision) →
+    (strange ≡ false → used ≡ false → is_refusal row ≡ true) →
+    is_refusal (cond strange decision.Misplaced (cond used decision.UsedNumber row)) ≡ true
+row-refused true used row h = refl
+row-refused false true row h = refl
+row-refused false false row h = h refl refl
+
+-- one behind a proxy is refused without a header
+headless-refused :
+    (o : Options) (past : List Entry) (raw : SocketAddr) (a : Answer) →
+    not (is_header a) ≡ true →
+    is_refusal (header_row o past raw a) ≡ true
+headless-refused o past raw (Header (Ok line)) h = rw (not-false _ (not-true _ h)) refl
+headless-refused o past raw (Header (Err fault)) h = cc
+headless-refused o past raw a h = refl
+
+-- the decision on a barred connection is a refusal
 pub barred-refused :
     (o : Options) (past : List Entry) (at : ℕ) (k : EventKind) (a : Answer) →
-    is_barred o past k ≡ true →
+    is_barred o past k a ≡ true →
     is_refusal (due o past at k a) ≡ true
-barred-refused o past at (kind.DataIn number raw port) a b = go (not (is_pooled o.mode) || is_v6 raw.ip) (is_used past number) b
-  where
-    go :
-        (strange used : Bool) → (strange || used) ≡ true →
-        is_refusal (cond strange decision.Misplaced (cond used decision.UsedNumber (arrival_row o past raw raw.ip port))) ≡ true
-    go true used x = refl
-    go false true x = refl
-    go false false x = cc
+barred-refused o past at (kind.DataIn number raw port) a b =
+    let strange : Bool = not (is_pooled o.mode) || is_v6 raw.ip in
+    row-refused strange (is_used past number) (arrival_row o past raw raw.ip port)
+    (λ x y. absurd (true≢false (sym b ∙ or_from strange (is_used past number) x y)))
+barred-refused o past at (kind.Proxied number raw trace) a b =
+    let strange : Bool = not (is_proxy o.mode) || is_v6 raw.ip in
+    row-refused strange (is_used past number) (header_row o past raw a)
+    (λ x y. headless-refused o past raw a (sym (ap (λ z. z || not (is_header a)) (or_from strange (is_used past number) x y)) ∙ b))
 barred-refused o past at k a b = cc
 
--- a data connection that is not barred: its raw peer, and its number
+-- no proxy is where the ports are pooled
+pooled-unproxied : (m : ListenerMode) → is_pooled m ≡ true → is_proxy m ≡ false
+pooled-unproxied Pooled h = refl
+pooled-unproxied m h = cc
+
+-- a data connection that is not barred: its raw peer, its number, and its row; without a proxy its raw peer is its client
 pub record Arrives (o : Options) (past : List Entry) (k : EventKind) (d : Decision) (t : Target) : Type 0 where
   pub raw : SocketAddr
   pub number : ℕ
-  pub new : new_number k decision.Turned ≡ Some number
-  pub row : d ≡ arrival_row o past raw raw.ip t.port
-  pub client : raw.ip ≡ t.client
+  pub new : (x : Decision) → new_number k x ≡ Some number
+  pub peer : peer_of k ≡ Some raw
+  pub direct : is_pooled o.mode ≡ true → raw.ip ≡ t.client
+  pub row : d ≡ arrival_row o past raw t.client t.port
 
 -- the decision on it is that of its row
 pub unbarred-arrives :
     (o : Options) (past : List Entry) (at : ℕ) (k : EventKind) (a : Answer) (t : Target) →
     target o k a ≡ Some t →
-    is_barred o past k ≡ false →
+    is_barred o past k a ≡ false →
     Arrives o past k (due o past at k a) t
 unbarred-arrives o past at (kind.DataIn number raw port) a t w b =
+    let k : EventKind = kind.DataIn number raw port in
     let parts = or_parts (not (is_pooled o.mode) || is_v6 raw.ip) (is_used past number) b in
-    let row : due o past at (kind.DataIn number raw port) a ≡ arrival_row o past raw raw.ip port = rw (parts.0, parts.1) refl in
-    subst (λ (x : Target). Arrives o past (kind.DataIn number raw port) (due o past at (kind.DataIn number raw port) a) x) (same_Some _ _ w)
-    (record { raw = raw; number = number; new = refl; row = row; client = refl })
+    subst (λ (x : Target). Arrives o past k (due o past at k a) x) (same_Some _ _ w)
+    (record { raw = raw; number = number; new = λ x. refl; peer = refl; direct = λ x. refl; row = rw (parts.0, parts.1) refl })
+unbarred-arrives o past at (kind.Proxied number raw trace) (Header (Ok line)) t w b =
+    by_port (is_control_port o.mode line.destination.port) refl w
+  where
+    k : EventKind
+    k = kind.Proxied number raw trace
+
+    strange : Bool
+    strange = not (is_proxy o.mode) || is_v6 raw.ip
+
+    v6 : Bool
+    v6 = is_v6 line.source.ip || is_v6 line.destination.ip
+
+    parts : ((strange || is_used past number) ≡ false) × (not (not v6) ≡ false)
+    parts = or_parts (strange || is_used past number) (not (not v6)) b
+
+    fresh : (strange ≡ false) × (is_used past number ≡ false)
+    fresh = or_parts strange (is_used past number) parts.0
+
+    proxied : is_pooled o.mode ≡ true → ⊥
+    proxied x = true≢false (sym (not-false _ (or_parts (not (is_proxy o.mode)) (is_v6 raw.ip) fresh.0).0) ∙ pooled-unproxied o.mode x)
+
+    by_port :
+        (c : Bool) → is_control_port o.mode line.destination.port ≡ c →
+        cond c None (Some (record { client = line.source.ip; port = line.destination.port })) ≡ Some t →
+        Arrives o past k (due o past at k (Header (Ok line))) t
+    by_port true x y = cc
+    by_port false x y =
+        subst (λ (z : Target). Arrives o past k (due o past at k (Header (Ok line))) z) (same_Some _ _ y)
+        (record {
+          raw = raw;
+          number = number;
+          new = λ z. refl;
+          peer = refl;
+          direct = λ z. absurd (proxied z);
+          row = rw (fresh.0, fresh.1, not-true _ (not-false _ parts.1), x) refl;
+        })
 unbarred-arrives o past at k a t w b = cc
+
+-- so is that on one that is not refused
+pub counted-arrives :
+    (o : Options) (past : List Entry) (at : ℕ) (k : EventKind) (a : Answer) (d : Decision) (t : Target) →
+    d ≡ due o past at k a → is_refusal d ≡ false →
+    target o k a ≡ Some t →
+    Arrives o past k d t
+counted-arrives o past at k a d t fit c w = go (is_barred o past k a) refl
+  where
+    go : (b : Bool) → is_barred o past k a ≡ b → Arrives o past k d t
+    go true b = absurd (true≢false (sym (barred-refused o past at k a b) ∙ (ap is_refusal (sym fit) ∙ c)))
+    go false b = subst (λ (x : Decision). Arrives o past k x t) (sym fit) (unbarred-arrives o past at k a t w b)
 
 -- where a data connection goes that is not refused
 pub connection-goes :
@@ -139,37 +214,54 @@ pub connection-goes :
     d ≡ due o past at k a → is_refusal d ≡ false →
     target o k a ≡ Some t →
     AttachedOrTurned o past d t.client t.port
-connection-goes o past at k a d t fit c w = go (is_barred o past k) refl
-  where
-    go : (b : Bool) → is_barred o past k ≡ b → AttachedOrTurned o past d t.client t.port
-    go true b = absurd (true≢false (sym (barred-refused o past at k a b) ∙ (ap is_refusal (sym fit) ∙ c)))
-    go false b =
-        let x : Arrives o past k (due o past at k a) t = unbarred-arrives o past at k a t w b in
-        subst (λ (i : IpAddr). AttachedOrTurned o past d i t.port) x.client
-        (subst (λ (y : Decision). AttachedOrTurned o past y x.raw.ip t.port) (sym (fit ∙ x.row)) (arrival-goes o past x.raw x.raw.ip t.port))
+connection-goes o past at k a d t fit c w =
+    let x : Arrives o past k d t = counted-arrives o past at k a d t fit c w in
+    subst (λ (y : Decision). AttachedOrTurned o past y t.client t.port) (sym x.row) (arrival-goes o past x.raw t.client t.port)
 
--- the client of a session is its raw peer
+-- only a data connection is attached
+pub attached-comes :
+    (o : Options) (past : List Entry) (at : ℕ) (k : EventKind) (a : Answer) (s : ℕ) →
+    due o past at k a ≡ decision.Attached s →
+    is_some (target o k a) ≡ true
+attached-comes o past at (kind.DataIn number raw port) a s h = refl
+attached-comes o past at k a s h = grind arith
+
+-- where the ports are pooled the client of a session is its raw peer
 pub opener-raw :
-    (past : List Entry) (s : ℕ) (opening : Opening) →
-    opener past s ≡ Some opening →
+    (o : Options) (log : List Entry) →
+    is_pooled o.mode ≡ true → IsRight o log →
+    (s : ℕ) (opening : Opening) →
+    opener (past_of log) s ≡ Some opening →
     opening.client ≡ opening.raw.ip
-opener-raw [] s opening h = cc
-opener-raw (e ∷ past) s opening h =
-    by_opening (is_number (opened_number e.event.kind e.decision) s) h (λ later. opener-raw past s opening later)
+opener-raw o log m r =
+    right-past o (λ past. (s : ℕ) (opening : Opening) → opener past s ≡ Some opening → opening.client ≡ opening.raw.ip)
+    (λ s opening h. cc)
+    (λ log e comes ih s opening h.
+    by_opening (past_of log) e s opening (λ x. by_kind (past_of log) e opening comes.fit comes.counts e.event.kind refl x) (ih s opening) (is_number (opened_number e.event.kind e.decision) s) h)
+    log r
   where
     by_kind :
-        (k : EventKind) → opening_by k e.answer ≡ Some opening →
+        (past : List Entry) (e : Entry) (opening : Opening) →
+        e.decision ≡ due o past e.event.at e.event.kind e.answer →
+        is_refusal e.decision ≡ false →
+        (k : EventKind) → e.event.kind ≡ k →
+        opening_by k e.answer ≡ Some opening →
         opening.client ≡ opening.raw.ip
-    by_kind (kind.Connect n raw local trace) x = subst (λ (y : Opening). y.client ≡ y.raw.ip) (same_Some _ _ x) refl
-    by_kind k x = cc
+    by_kind past e opening fit counts (kind.Connect n raw local trace) y x = subst (λ (z : Opening). z.client ≡ z.raw.ip) (same_Some _ _ x) refl
+    by_kind past e opening fit counts (kind.Proxied n raw trace) y x =
+        let misplaced : e.decision ≡ decision.Misplaced = fit ∙ rw (y, pooled-unproxied o.mode m) refl in
+        absurd (true≢false (sym (ap is_refusal misplaced) ∙ counts))
+    by_kind past e opening fit counts k y x = cc
 
     by_opening :
+        (past : List Entry) (e : Entry) (s : ℕ) (opening : Opening) →
+        (opening_by e.event.kind e.answer ≡ Some opening → opening.client ≡ opening.raw.ip) →
+        (opener past s ≡ Some opening → opening.client ≡ opening.raw.ip) →
         (b : Bool) →
         unwrap_or (then_some b (opening_by e.event.kind e.answer)) (opener past s) ≡ Some opening →
-        (opener past s ≡ Some opening → opening.client ≡ opening.raw.ip) →
         opening.client ≡ opening.raw.ip
-    by_opening true x ih = by_kind e.event.kind x
-    by_opening false x ih = ih x
+    by_opening past e s opening now before true x = now x
+    by_opening past e s opening now before false x = before x
 
 -- a port that is held is one of the range
 pub holder-ranged :
@@ -201,51 +293,75 @@ holder-ranged o log r =
         (granted-free o past e.event.at e.event.kind e.answer p (sym fit ∙ granted-is e.decision p parts.0)).ranged
     by_grant past e fit a p s false g h ih = ih (stayed (comes_to o e a p) (option_map_or (ends_hold e) (holder o past a p) false) (holder o past a p) s h)
 
--- a data connection to a key that is held goes to its holder
+-- a data connection to a key that is held goes to its holder, where both came from one raw address
 pub arrival_row-held :
     (o : Options) (log : List Entry) →
     is_legacy o.mode ≡ false → IsRight o log →
-    (raw : SocketAddr) (p s : ℕ) →
-    holder o (past_of log) raw.ip p ≡ Some s →
-    arrival_row o (past_of log) raw raw.ip p ≡ decision.Attached s
-arrival_row-held o log m r raw p s held =
-    let w : WaitsFor o (past_of log) s raw.ip p = holder-waits o log m r raw.ip p s held in
-    let own : w.view.opening.client ≡ w.view.opening.raw.ip = opener-raw (past_of log) s w.view.opening (session-told o (past_of log) s w.view w.known).opening in
-    let peer : same_ip w.view.opening.raw.ip raw.ip ≡ true = subst (λ (i : IpAddr). same_ip i raw.ip ≡ true) own w.client in
-    rw (holder-ranged o log r raw.ip p s held, held, w.known, peer) refl
+    (raw : SocketAddr) (a : IpAddr) (p s : ℕ) (w : WaitsFor o (past_of log) s a p) →
+    holder o (past_of log) a p ≡ Some s →
+    arrival_row o (past_of log) raw a p ≡ cond (same_ip w.view.opening.raw.ip raw.ip) (decision.Attached s) decision.Turned
+arrival_row-held o log m r raw a p s w held = rw (holder-ranged o log r a p s held, held, w.known) refl
 
 -- one to a key that nobody holds is turned away
 pub arrival_row-unheld :
-    (o : Options) (past : List Entry) (raw : SocketAddr) (p : ℕ) →
-    holder o past raw.ip p ≡ None →
-    arrival_row o past raw raw.ip p ≡ decision.Turned
-arrival_row-unheld o past raw p held = go (in_range o p)
+    (o : Options) (past : List Entry) (raw : SocketAddr) (a : IpAddr) (p : ℕ) →
+    holder o past a p ≡ None →
+    arrival_row o past raw a p ≡ decision.Turned
+arrival_row-unheld o past raw a p held = go (in_range o p)
   where
     go :
         (b : Bool) →
-        cond (not b) decision.Turned (holder_row o past raw (holder o past raw.ip p)) ≡ decision.Turned
+        cond (not b) decision.Turned (holder_row o past raw (holder o past a p)) ≡ decision.Turned
     go true = rw held refl
     go false = refl
 
--- so a data connection is attached to the holder, or closed where there is none
+-- so a data connection is attached to the holder or closed, and closed where there is none
 pub serves-connection :
     (o : Options) (log : List Entry) (e : Entry) (t : Target) →
     is_legacy o.mode ≡ false → IsRight o log →
     e.actions ≡ acts_of o (past_of log) e →
     Arrives o (past_of log) e.event.kind e.decision t →
     AttachedOrClosed o (past_of log) e t
-serves-connection o log e t m r acted x =
-    subst (λ (i : IpAddr). MatchOption (holder o (past_of log) i t.port) (IsClosed e) (λ s. e.decision ≡ decision.Attached s)) x.client
-    (go (holder o (past_of log) x.raw.ip t.port) refl)
+serves-connection o log e t m r acted x = by_holder (holder o past t.client t.port) refl
   where
-    go :
+    past : List Entry
+    past = past_of log
+
+    closed : e.decision ≡ decision.Turned → IsClosed e
+    closed turned = (
+      x.number,
+      turned,
+      x.new decision.Turned,
+      subst (λ (xs : List Action). Contains xs (Close x.number)) (sym acted) (turned-closes o past e x.number turned (x.new decision.Turned)),
+    )
+
+    by_mode :
+        (s : ℕ) (w : WaitsFor o past s t.client t.port) →
+        e.decision ≡ cond (same_ip w.view.opening.raw.ip x.raw.ip) (decision.Attached s) decision.Turned →
+        (b : Bool) → is_pooled o.mode ≡ b →
+        AttachedByPeer o past e s
+    by_mode s w row true pooled =
+        let own : w.view.opening.client ≡ w.view.opening.raw.ip = opener-raw o log pooled r s w.view.opening (session-told o past s w.view w.known).opening in
+        let peer : same_ip w.view.opening.raw.ip x.raw.ip ≡ true = rw (sym own, x.direct pooled) w.client in
+        record {
+          attached = λ y. row ∙ rw peer refl;
+          closed = λ y. absurd (true≢false (sym (rw pooled refl) ∙ y));
+        }
+    by_mode s w row false pooled =
+        let peer : from_one_peer o past e.event.kind s ≡ same_ip w.view.opening.raw.ip x.raw.ip = rw (pooled, x.peer, (session-told o past s w.view w.known).opening) refl in
+        record {
+          attached = λ y. row ∙ rw (sym peer ∙ y) refl;
+          closed = λ y. closed (row ∙ rw (sym peer ∙ y) refl);
+        }
+
+    by_holder :
         (h : Option ℕ) →
-        holder o (past_of log) x.raw.ip t.port ≡ h →
-        MatchOption h (IsClosed e) (λ s. e.decision ≡ decision.Attached s)
-    go None h =
-        let turned : e.decision ≡ decision.Turned = x.row ∙ arrival_row-unheld o (past_of log) x.raw t.port h in
-        (x.number, turned, x.new, subst (λ (xs : List Action). Contains xs (Close x.number)) (sym acted) (turned-closes o (past_of log) e x.number turned x.new))
-    go (Some s) h = x.row ∙ arrival_row-held o log m r x.raw t.port s h
+        holder o past t.client t.port ≡ h →
+        MatchOption h (IsClosed e) (AttachedByPeer o past e)
+    by_holder None h = closed (x.row ∙ arrival_row-unheld o past x.raw t.client t.port h)
+    by_holder (Some s) h =
+        let w : WaitsFor o past s t.client t.port = holder-waits o log m r t.client t.port s h in
+        by_mode s w (x.row ∙ arrival_row-held o log m r x.raw t.client t.port s w h) (is_pooled o.mode) refl
 
 -- an admitted PASV is granted the first free port, or is told that there is none
 pub serves-grant :

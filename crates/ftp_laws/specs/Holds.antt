@@ -1,13 +1,12 @@
 -- Who waits for a port, and what ends a hold.
 use Rattle.std.specs.Prelude.{ℕ, ◌≡◌, ◌≢◌, ◌⊎◌, true, List, Some}
 use Rattle.ftp_base.specs.declared.net.IpAddr.{IpAddr}
-use Rattle.ftp_base.specs.declared.net.SocketAddr.{SocketAddr}
 use Rattle.ftp_options.specs.declared.options.Options.{Options}
 use Rattle.ftp_events.specs.declared.decision.Decision.TheVariants.{Granted}
 use Rattle.ftp_events.specs.declared.entry.Entry.{Entry}
-use Rattle.ftp_events.specs.declared.event.EventKind.TheVariants.{DataIn}
 use Rattle.ftp_events.specs.declared.session.Session.{Session}
 use Rattle.ftp_events.specs.declared.session.Slot.TheVariants.{Waits}
+use Rattle.ftp_events.specs.Board.{target}
 use Rattle.ftp_events.specs.Classes.{is_ending}
 use Rattle.ftp_events.specs.Log.{named_session}
 use Rattle.ftp_events.specs.Session.{session}
@@ -18,8 +17,8 @@ WaitsOn o past s a p =
     (v : Session) × (session o past s ≡ Some v) × (v.opening.client ≡ a) × (v.slot ≡ Waits p)
 
 -- a data connection of client a to port p
-abbrev pub ComesTo : Entry → IpAddr → ℕ → Type 0
-ComesTo e a p = (number : ℕ) × (raw : SocketAddr) × (e.event.kind ≡ DataIn number raw p) × (raw.ip ≡ a)
+abbrev pub ComesTo : Options → Entry → IpAddr → ℕ → Type 0
+ComesTo o e a p = target o e.event.kind e.answer ≡ Some (record { client = a; port = p })
 
 -- another port than p is granted to session s
 abbrev pub GrantsAnother : Entry → ℕ → ℕ → Type 0
@@ -30,5 +29,5 @@ abbrev pub EndsSession : Entry → ℕ → Type 0
 EndsSession e s = (named_session e.event.kind ≡ Some s) × (is_ending e.decision ≡ true)
 
 -- what ends the hold of port p that session s has for client a
-abbrev pub EndsHold : Entry → ℕ → IpAddr → ℕ → Type 0
-EndsHold e s a p = ComesTo e a p ⊎ (GrantsAnother e s p ⊎ EndsSession e s)
+abbrev pub EndsHold : Options → Entry → ℕ → IpAddr → ℕ → Type 0
+EndsHold o e s a p = ComesTo o e a p ⊎ (GrantsAnother e s p ⊎ EndsSession e s)

@@ -72,13 +72,13 @@ abbrev pub HoldsEndOnlySo : Type 0
 HoldsEndOnlySo =
     (o : Options) (log : List Entry) (e : Entry) (a : IpAddr) (p s : ℕ) → is_legacy o.mode ≡ false → IsRight o (e ∷ log) →
     holder o (past_of log) a p ≡ Some s →
-    (holder o (past_of (e ∷ log)) a p ≡ Some s) ⊎ ((holder o (past_of (e ∷ log)) a p ≡ None) × EndsHold e s a p)
+    (holder o (past_of (e ∷ log)) a p ≡ Some s) ⊎ ((holder o (past_of (e ∷ log)) a p ≡ None) × EndsHold o e s a p)
 
 -- after each of these, unless it was refused, the port is free
 abbrev pub EachEndsHold : Type 0
 EachEndsHold =
     (o : Options) (log : List Entry) (e : Entry) (a : IpAddr) (p s : ℕ) → is_legacy o.mode ≡ false → IsRight o (e ∷ log) →
-    holder o (past_of log) a p ≡ Some s → EndsHold e s a p → is_refusal e.decision ≡ false →
+    holder o (past_of log) a p ≡ Some s → EndsHold o e s a p → is_refusal e.decision ≡ false →
     holder o (past_of (e ∷ log)) a p ≡ None
 
 -- the notifications of a session are numbered 1, 2, 3 .. without gaps

@@ -13,7 +13,8 @@ pub fn right_logs_are_determined()
 {}
 
 /// Every data connection that is not refused is attached to the session that holds its client address and port, or
-/// is turned away with a `Close`. Every admitted PASV is granted the first free port, or is told that there is none.
+/// is turned away with a `Close`: where nobody holds them, or where it and the session came through two proxies.
+/// Every admitted PASV is granted the first free port, or is told that there is none.
 pub fn right_logs_serve()
     ensures served { RightLogsServe }
 {}
@@ -104,8 +105,9 @@ pub fn replies_follow_openings()
     ensures replies { RepliesFollowOpenings }
 {}
 
-/// The entries of one client address are right and acted by themselves. With the outcomes of the client's own
-/// transfers given, it is granted, attached and refused what it would be with nobody else there.
+/// The entries of one client address are right and acted by themselves. With the headers of the client's own
+/// connections and the outcomes of its own transfers given, it is granted, attached and refused what it would be
+/// with nobody else there.
 pub fn client_part_is_right_and_acted()
     ensures isolated { ClientsAreIsolated }
     ensures alone { ClientsAreAsIfAlone }
