@@ -89,12 +89,14 @@ places_for k = most_actions + (if is_quit k then 1 else 0)
 -- the kinds that a reply answers
 abbrev pub can_reply : EventKind → Bool
 can_reply (kind.Connect s raw local trace) = false
+can_reply (kind.Proxied number raw trace) = false
 can_reply (kind.DataIn number raw port) = false
 can_reply (kind.Closed s) = false
 can_reply _ = true
 
 -- the kinds with which a transfer may be dropped whose session goes on
 abbrev pub can_drop : EventKind → Bool
+can_drop (kind.Proxied number raw trace) = true
 can_drop (kind.DataIn number raw port) = true
 can_drop k = is_pasv k
 
@@ -123,9 +125,10 @@ word_of _ = 0
 abbrev pub held_for : Board → Session → ℕ → Option ℕ
 held_for board v = holder_at board (ipv4 v.opening.client)
 
--- what an event keeps whatever its session is: a new session is in the root, and STOU has a unique name
+-- what an event keeps whatever its session is: a new session, or one that may come of it, is in the root, and STOU has a unique name
 abbrev pub kept_alone : EventKind → List ℕ
 kept_alone (kind.Connect s raw local trace) = root
+kept_alone (kind.Proxied number raw trace) = root
 kept_alone (kind.Stou s word) = unique_name word
 kept_alone _ = []
 

@@ -7,7 +7,7 @@ use Rattle.ftp_events.specs.declared.action.Action.{Action}
 use Rattle.ftp_events.specs.declared.action.Action.TheVariants as action
 use Rattle.ftp_events.specs.declared.session.Pending.{Pending}
 use Rattle.ftp_handlers.specs.declared.room.Need.{Need}
-use Rattle.ftp_handlers.specs.declared.room.Need.TheVariants.{Nothing, Run}
+use Rattle.ftp_handlers.specs.declared.room.Need.TheVariants.{Nothing, Header, Run}
 use Rattle.ftp_handlers.specs.Copies.{IsWide, TextState}
 
 -- what contracts see of a room
@@ -44,10 +44,11 @@ need_in room = room.need
 abbrev pub job_in : RoomState → Option Job
 job_in room = room.job
 
--- what has to be done outside for a job that is to be run
-abbrev pub need_for : Option Job → Need
-need_for None = Nothing
-need_for (Some job) = Run job.ticket
+-- what has to be done outside where a header is to be read, or else for a job that is to be run
+abbrev pub need_for : Bool → Option Job → Need
+need_for true job = Header
+need_for false None = Nothing
+need_for false (Some job) = Run job.ticket
 
 -- the name or the path that the event keeps or tells
 abbrev pub kept_in : RoomState → List ℕ

@@ -25,6 +25,7 @@ pub fn copy_kept(alloc: Global, kind: &EventKind, session: &Session) -> Result<B
         }
         EventKind::Cwd { path, .. } => join_path(alloc, &session.cwd, path),
         EventKind::Connect { .. }
+        | EventKind::Proxied { .. }
         | EventKind::DataIn { .. }
         | EventKind::Pass { .. }
         | EventKind::Pasv { .. }
@@ -34,12 +35,13 @@ pub fn copy_kept(alloc: Global, kind: &EventKind, session: &Session) -> Result<B
     }
 }
 
-/// What an event keeps whatever its session is: a new session is in the root, and STOU has a unique name.
+/// What an event keeps whatever its session is: a new session, or one that may come of it, is in the root, and STOU
+/// has a unique name.
 pub fn copy_alone(alloc: Global, kind: &EventKind) -> Result<Bytes, AllocError>
     ensures { IfOk result (λ kept. kept ≡ kept_alone kind.now) }
 {
     match kind {
-        EventKind::Connect { .. } => Bytes::from_slice(alloc, b"/"),
+        EventKind::Connect { .. } | EventKind::Proxied { .. } => { Bytes::from_slice(alloc, b"/") }
         EventKind::Stou { word, .. } => unique_name(alloc, *word),
         _ => Ok(Bytes::from_vec(Vec::new(alloc))),
     }

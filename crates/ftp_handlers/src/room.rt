@@ -19,6 +19,8 @@ const MOST_ACTIONS: usize = 4;
 #[derive(Clone, Copy, Debug, PartialEq, Eq)]
 pub enum Need {
     Nothing,
+    /// The header of the connection that the event brings is read.
+    Header,
     /// The transfer is run; its job is in the room.
     Run(Ticket),
 }
@@ -63,6 +65,8 @@ pub struct Prepared {
     pub path: Bytes,
     /// The transfer that the event asks for.
     pub pending: Option<Pending>,
+    /// The header of the connection that the event brings is to be read.
+    pub header: bool,
     /// The job that is to be run.
     pub job: Option<Job>,
 }
@@ -91,7 +95,7 @@ impl Extent {
     {
         let (places, replies, drops) = match kind {
             EventKind::Connect { .. } | EventKind::Closed { .. } => (MOST_ACTIONS, false, false),
-            EventKind::DataIn { .. } => (MOST_ACTIONS, false, true),
+            EventKind::Proxied { .. } | EventKind::DataIn { .. } => (MOST_ACTIONS, false, true),
             EventKind::Pasv { .. } => (MOST_ACTIONS, true, true),
             EventKind::Quit { .. } => (MOST_ACTIONS + 1, true, false),
             EventKind::User { .. }
@@ -131,7 +135,7 @@ impl Room {
         ensures path { IfOk result (λ room. room.path ≡ prepared.path) }
         ensures pending { IfOk result (λ room. room.pending ≡ prepared.pending) }
         ensures job { IfOk result (λ room. job_in room ≡ prepared.job) }
-        ensures need { IfOk result (λ room. need_in room ≡ need_for prepared.job) }
+        ensures need { IfOk result (λ room. need_in room ≡ need_for prepared.header prepared.job) }
     {
         let text = Text::with_room(alloc, extent.replies, extent.twice)?;
         let dropped = Text::with_room(alloc, extent.drops, extent.twice)?;
@@ -140,13 +144,14 @@ impl Room {
             kept,
             path,
             pending,
+            header,
             job,
         } = prepared;
         let kept = Text::of(alloc, kept, extent.twice)?;
         Ok(Room {
             alloc,
             count,
-            need: need_for(&job),
+            need: need_for(header, &job),
             job,
             kept,
             path,
@@ -264,10 +269,11 @@ impl Room {
 }
 
 // What has to be done outside before the step.
-fn need_for(job: &Option<Job>) -> Need
-    ensures { result ≡ need_for job.now }
+fn need_for(header: bool, job: &Option<Job>) -> Need
+    ensures { result ≡ need_for header job.now }
 {
     match job {
+        _ if header => Need::Header,
         Some(job) => Need::Run(job.ticket),
         None => Need::Nothing,
     }

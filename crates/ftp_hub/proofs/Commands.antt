@@ -1,9 +1,9 @@
 -- The tables after a command of a session.
 use Rattle.std.proofs.Common.{◌≡◌, refl, sym, ap, ◌∙◌, ℕ, ◌-◌, ◌^◌, ◌<◌, Bool, true, false, cond, List, [], Option, Some, None}
-use Rattle.std.specs.Prelude.{◌==◌, unwrap_or, nat_eq}
+use Rattle.std.specs.Prelude.{◌==◌, nat_eq}
 use Rattle.std.specs.Option.{option_and_then, option_map_or}
 use Rattle.std.specs.HashMap as map
-use Rattle.ftp_hub.proofs.Common.{Action, Answer, Decision, Entry, EventKind, Hub, HubEvent, IpAddr, IsFew, Options, Running, Serves, Session, Stands, Tables, V4, decide, has, holder, holder_at, ipv4, is_refusal, live_after, lives_on, named_session, next_lane, past_of, running_after, running_job, session, session_acts, session_after, waiting_port}
+use Rattle.ftp_hub.proofs.Common.{Action, Answer, Decision, Entry, EventKind, Hub, HubEvent, IpAddr, IsFew, Options, Running, Serves, Session, Stands, Tables, V4, decide, holder, holder_at, ipv4, is_refusal, live_after, named_session, past_of, running_job, session, session_acts, waiting_port}
 use Rattle.ftp_events.specs.declared.decision.Decision.TheVariants as decision
 use Rattle.ftp_events.specs.declared.event.EventKind.TheVariants as kind
 use Rattle.ftp_events.specs.CommandRows.{command_row}
@@ -24,6 +24,7 @@ is_end _ = false
 -- what is due on an event that names a session and is no end of a transfer is the row of its command
 due-row : (o : Options) (past : List Entry) (at : ℕ) (k : EventKind) (answer : Answer) (s : ℕ) → is_end k ≡ false → named_session k ≡ Some s → due o past at k answer ≡ if_live (option_and_then (session o past) (named_session k)) (λ v. command_row o (holder o past v.opening.client) k v)
 due-row o past at (kind.Connect q raw local trace) answer s c n = cc
+due-row o past at (kind.Proxied q raw trace) answer s c n = cc
 due-row o past at (kind.DataIn q raw port) answer s c n = cc
 due-row o past at (kind.End t) answer s c n = cc
 due-row o past at k answer s c n = refl
@@ -53,7 +54,7 @@ serves-unknown old new log event answer done s st plain named none nothing table
 -- the board's holders of a client's ports are those of the log
 held-same : (hub : Hub) (log : List Entry) (s : ℕ) (v : Session) → Stands hub log → session hub.options (past_of log) s ≡ Some v → held_for hub.board v ≡ holder hub.options (past_of log) v.opening.client
 held-same hub log s v st known =
-    let client = client-v4 hub.options log s v hub.pooled st.right known in
+    let client = client-v4 hub.options log s v hub.shared st.right known in
     λ i p. (st.tables.holders (ipv4 v.opening.client) p ∙ ap (λ (x : IpAddr). holder hub.options (past_of log) x p) (sym client)) i
 
 -- what was decided and done on a live session is what its row wants, and the tables moved so

@@ -2,39 +2,30 @@
 use Rattle.std.proofs.Common.{subst, ◌≡◌, refl, sym, ap, ◌∙◌, ℕ, Bool, true, false, not, cond, ◌&&◌, ◌||◌, List, [], ◌∷◌, Option, Some, None, arith}
 use Rattle.std.specs.Prelude.{◌==◌, nat_eq}
 use Rattle.std.specs.HashMap as map
-use Rattle.ftp_hub.proofs.Common.{Action, Answer, Decision, Entry, EventKind, Hub, HubEvent, IpAddr, Jobs, Options, Running, Serves, Session, Stands, Starts, V4, acts, decide, entry, has, holder, holder_at, is_used, next_lane, notices_of, past_of, running_after, running_job, same-both, session, session_acts, session_after, starting}
+use Rattle.ftp_hub.proofs.Common.{Action, Answer, Decision, Entry, EventKind, Hub, HubEvent, Jobs, Options, Running, Serves, Session, Stands, Starts, Tables, V4, acts, decide, entry, has, holder, holder_at, is_used, named_session, new_number, past_of, running_after, running_job, same-both, session, session_acts, session_after, starting}
 use Rattle.ftp_base.specs.declared.net.SocketAddr.{SocketAddr}
-use Rattle.ftp_base.specs.Net.{is_v6, same_ip}
+use Rattle.ftp_base.specs.Net.{same_ip}
+use Rattle.ftp_proxy.specs.declared.error.ProxyError.{ProxyError}
 use Rattle.ftp_switchboard.specs.Board.{is_key}
 use Rattle.ftp_events.specs.declared.action.Action.TheVariants as action
 use Rattle.ftp_events.specs.declared.decision.Decision.TheVariants as decision
 use Rattle.ftp_events.specs.declared.event.EventKind.TheVariants as kind
+use Rattle.ftp_events.specs.Acts.{acts_of, closings, refused_link}
+use Rattle.ftp_events.specs.Board.{target}
+use Rattle.ftp_events.specs.History.{Nobody, meant, one_or_nobody, subject}
 use Rattle.ftp_events.specs.Modes.{in_range}
 use Rattle.ftp_events.specs.Running.{running_count}
-use Rattle.ftp_events.specs.ConnectionRows.{arrival_row, holder_row}
-use Rattle.ftp_laws.proofs.QuestionLemmas.{running-other, session-other}
+use Rattle.ftp_events.specs.ConnectionRows.{holder_row}
+use Rattle.ftp_laws.proofs.BalanceLemmas.{no-completion}
+use Rattle.ftp_laws.proofs.QuestionLemmas.{counting-counts, running-other, session-other}
 use Rattle.ftp_laws.proofs.HoldLemmas.{WaitsFor, holder-waits}
-use Rattle.ftp_laws.proofs.TableLemmas.{IsAbout, holder-arrived, arrival-about, eq-comm}
-use Rattle.ftp_hub.specs.Arrivals.{arrival_of}
+use Rattle.ftp_laws.proofs.SubjectLemmas.{no-stop, nobody-concerns, subject-plain}
+use Rattle.ftp_laws.proofs.TableLemmas.{IsAbout, holder-arrived, holder-other, arrival-about, eq-comm}
+use Rattle.ftp_hub.specs.declared.data_links.Arrival.{Arrival}
+use Rattle.ftp_hub.specs.Arrivals.{IsDataLink, arrival_of}
 use Rattle.ftp_hub.proofs.About.{serves-about}
-use Rattle.ftp_hub.proofs.Moved.{JobsMoved, jobs-start, sessions-stay}
-use Rattle.ftp_hub.proofs.Clients.{pooled-shared}
+use Rattle.ftp_hub.proofs.Moved.{jobs-start, sessions-stay}
 use Rattle.ftp_hub.proofs.Decisions.{Comes}
-
--- a data connection, from an address of version 4, with a number that was not used
-pub record Arrives (o : Options) (log : List Entry) (event : HubEvent) (n source port : ℕ) (raw : SocketAddr) : Type 0 where
-  pub kind_is : event.kind ≡ kind.DataIn n raw port
-  pub from : raw.ip ≡ V4 source
-  pub unused : is_used (past_of log) n ≡ false
-
--- its row, once the number is new
-arrival-due : (hub : Hub) (log : List Entry) (event : HubEvent) (answer : Answer) (n source port : ℕ) (raw : SocketAddr) → Stands hub log → Arrives hub.options log event n source port raw → decide hub.options log event answer ≡ arrival_row hub.options (past_of log) raw raw.ip port
-unfolding decide
-arrival-due hub log event answer n source port raw st a = rw (a.kind_is, hub.pooled, a.unused) (ap (λ (x : IpAddr). cond (is_v6 x) decision.Misplaced (arrival_row hub.options (past_of log) raw raw.ip port)) a.from)
-
--- the holder of its port, by the board
-board-holder : (hub : Hub) (log : List Entry) (source port : ℕ) (raw : SocketAddr) → Stands hub log → raw.ip ≡ V4 source → holder hub.options (past_of log) raw.ip port ≡ holder_at hub.board source port
-board-holder hub log source port raw st from = ap (λ (x : IpAddr). holder hub.options (past_of log) x port) from ∙ sym (st.tables.holders source port)
 
 turned-comes : Comes decision.Turned
 turned-comes = record { counts = refl; unopened = λ k. refl; no_grant = refl; lives = refl; silent = λ answer. refl; as_many = λ n. refl; unfinished = refl }
@@ -42,45 +33,78 @@ turned-comes = record { counts = refl; unopened = λ k. refl; no_grant = refl; l
 attached-comes : (s : ℕ) → Comes (decision.Attached s)
 attached-comes s = record { counts = refl; unopened = λ k. refl; no_grant = refl; lives = refl; silent = λ answer. refl; as_many = λ n. refl; unfinished = refl }
 
+fault-comes : (fault : ProxyError) → Comes (decision.HeaderFault fault)
+fault-comes fault = record { counts = refl; unopened = λ k. refl; no_grant = refl; lives = refl; silent = λ answer. refl; as_many = λ n. refl; unfinished = refl }
+
 arrival-comes : (b c : Bool) (s : ℕ) → Comes (arrival_of b c s)
 arrival-comes true true s = attached-comes s
 arrival-comes true false s = turned-comes
 arrival-comes false c s = turned-comes
 
--- who holds a port after a data connection
-holders-arrived : (hub : Hub) (log : List Entry) (event : HubEvent) (answer : Answer) (d : Decision) (done : List Action) (n source port : ℕ) (raw : SocketAddr) (a p : ℕ) → Stands hub log → Arrives hub.options log event n source port raw → Comes d → holder hub.options (entry event answer d done ∷ past_of log) (V4 a) p ≡ cond (is_key a p source port) None (holder_at hub.board a p)
-holders-arrived hub log event answer d done n source port raw a p st arr comes =
-    holder-arrived hub.options (past_of log) (entry event answer d done) (record { client = raw.ip; port = port }) (V4 a) p
-    (record { to = rw arr.kind_is refl; unnamed = rw arr.kind_is refl; no_grant = comes.no_grant })
-    ∙ ap (λ (x : IpAddr). cond (same_ip x (V4 a) && (port == p)) None (holder hub.options (past_of log) (V4 a) p)) arr.from
-    ∙ ap (λ b. cond (b && (port == p)) None (holder hub.options (past_of log) (V4 a) p)) (eq-comm source a)
-    ∙ ap (λ b. cond ((a == source) && b) None (holder hub.options (past_of log) (V4 a) p)) (eq-comm port p)
-    ∙ ap (λ (x : Option ℕ). cond (is_key a p source port) None x) (sym (st.tables.holders a p))
+-- what becomes of a data connection that session s holds the port of
+abbrev pub decided_on : Options → Arrival → Session → ℕ → Decision
+decided_on o a v s = arrival_of (in_range o a.port) (same_ip v.opening.raw.ip a.raw.ip) s
 
--- a data connection that has no holder is turned away
-pub serves-unheld : (old new : Hub) (log : List Entry) (event : HubEvent) (answer : Answer) (done : List Action) (n source port : ℕ) (raw : SocketAddr) → Stands old log → Arrives old.options log event n source port raw → holder_at old.board source port ≡ None → done ≡ action.Close n ∷ [] → new.options ≡ old.options → ((q : ℕ) → map.get nat_eq new.sessions q ≡ map.get nat_eq old.sessions q) → (map.hash_map_len new.sessions ≡ map.hash_map_len old.sessions) → new.jobs ≡ old.jobs → ((q : ℕ) → has new.numbers q ≡ ((n == q) || has old.numbers q)) → ((a p : ℕ) → holder_at new.board a p ≡ cond (is_key a p source port) None (holder_at old.board a p)) → Serves old new log event answer decision.Turned done
+-- whichever kind brings a connection of this number, the session is afterwards the same
+pub after-alike :
+    (b c : Bool) (k : EventKind) (n s m port : ℕ) (raw : SocketAddr) (answer : Answer) (job : Option Running) (v : Session) →
+    ((d : Decision) → new_number k d ≡ Some n) →
+    session_after (kind.DataIn n raw port) answer (arrival_of b c s) m job v ≡ session_after k answer (arrival_of b c s) m job v
+after-alike true true k n s m port raw answer job v brings = rw (brings (decision.Attached s)) refl
+after-alike true false k n s m port raw answer job v brings = refl
+after-alike false c k n s m port raw answer job v brings = refl
+
+-- the same is done
+pub acts-alike :
+    (b c : Bool) (o : Options) (k : EventKind) (n s port : ℕ) (raw : SocketAddr) (answer : Answer) (job : Option Running) (v : Session) →
+    ((d : Decision) → new_number k d ≡ Some n) →
+    session_acts o s (kind.DataIn n raw port) answer (arrival_of b c s) job (Some v) ≡ session_acts o s k answer (arrival_of b c s) job (Some v)
+acts-alike true true o k n s port raw answer job v brings = rw (no-completion (decision.Attached s) k true refl, brings (decision.Attached s)) refl
+acts-alike true false o k n s port raw answer job v brings = rw (no-completion decision.Turned k true refl, brings decision.Turned) refl
+acts-alike false c o k n s port raw answer job v brings = rw (no-completion decision.Turned k true refl, brings decision.Turned) refl
+
+-- and the same transfer starts
+pub starting-alike :
+    (b c : Bool) (k : EventKind) (n s port : ℕ) (raw : SocketAddr) (job : Option Running) (v : Session) →
+    ((d : Decision) → new_number k d ≡ Some n) →
+    starting (kind.DataIn n raw port) (arrival_of b c s) job v ≡ starting k (arrival_of b c s) job v
+starting-alike true true k n s port raw job v brings = rw (brings (decision.Attached s)) refl
+starting-alike true false k n s port raw job v brings = refl
+starting-alike false c k n s port raw job v brings = refl
+
+-- a connection that is about no session is closed
+serves-nobody :
+    (old new : Hub) (log : List Entry) (event : HubEvent) (answer : Answer) (d : Decision) (done : List Action) (n : ℕ) →
+    Stands old log → Comes d → d ≡ decide old.options log event answer →
+    meant old.options (past_of log) (entry event answer d done) ≡ None →
+    refused_link event.kind d ≡ closings (new_number event.kind d) → new_number event.kind d ≡ Some n →
+    done ≡ action.Close n ∷ [] →
+    new.options ≡ old.options →
+    ((q : ℕ) → map.get nat_eq new.sessions q ≡ map.get nat_eq old.sessions q) →
+    (map.hash_map_len new.sessions ≡ map.hash_map_len old.sessions) →
+    new.jobs ≡ old.jobs →
+    ((q : ℕ) → has new.numbers q ≡ ((n == q) || has old.numbers q)) →
+    ((a p : ℕ) → holder_at new.board a p ≡ holder old.options (entry event answer d done ∷ past_of log) (V4 a) p) →
+    Serves old new log event answer d done
 unfolding acts
-serves-unheld old new log event answer done n source port raw st arr nobody closes same table len jobs numbers board =
+serves-nobody old new log event answer d done n st comes right nobody closed brings closes same table len jobs numbers board =
     record {
-      decision = sym (arrival-due old log event answer n source port raw st arr ∙ ap (λ (h : Option ℕ). cond (not (in_range o port)) decision.Turned (holder_row o past raw h)) unheld ∙ same-both (not (in_range o port)) decision.Turned);
-      done = rw (arr.kind_is, unheld) closes;
-      tables = record {
+      decision = right;
+      done = closes ∙ sym due_acts;
+      tables = subst (Tables new) (sym (counting-counts e log comes.counts)) (record {
         sessions = λ q.
             table q ∙ st.tables.sessions q
-            ∙ sym (session-other o past e q refl (rw (arr.kind_is, unheld) refl))
+            ∙ sym (session-other o past e q (rw (comes.unopened event.kind) refl) (nobody-concerns o past e q about))
             ∙ ap (λ (o : Options). session o (e ∷ past) q) (sym same);
-        live = len ∙ st.tables.live;
+        live = len ∙ st.tables.live ∙ sym (comes.as_many _);
         jobs = λ q.
             ap (λ (m : Jobs). map.get nat_eq m q) jobs ∙ st.tables.jobs q
-            ∙ sym (running-other o past e q refl (rw (arr.kind_is, unheld) refl))
+            ∙ sym (running-other o past e q (rw (comes.unopened event.kind) refl) (nobody-concerns o past e q about))
             ∙ ap (λ (o : Options). running_job o (e ∷ past) q) (sym same);
         running = ap map.hash_map_len jobs ∙ st.tables.running ∙ sym (ap (λ xs. running_after xs (running_count past)) closes ∙ none_ran (running_count past));
-        numbers = λ q. rw arr.kind_is (numbers q ∙ ap (λ b. (n == q) || b) (st.tables.numbers q));
-        holders = λ a p.
-            board a p
-            ∙ sym (holders-arrived old log event answer decision.Turned done n source port raw a p st arr turned-comes)
-            ∙ ap (λ (o : Options). holder o (e ∷ past) (V4 a) p) (sym same);
-      };
+        numbers = λ q. rw brings (numbers q ∙ ap (λ b. (n == q) || b) (st.tables.numbers q));
+        holders = λ a p. board a p ∙ ap (λ (o : Options). holder o (e ∷ past) (V4 a) p) (sym same);
+      });
     }
   where
     o : Options
@@ -90,42 +114,102 @@ serves-unheld old new log event answer done n source port raw st arr nobody clos
     past = past_of log
 
     e : Entry
-    e = entry event answer decision.Turned done
+    e = entry event answer d done
 
-    unheld : holder o past raw.ip port ≡ None
-    unheld = board-holder old log source port raw st arr.from ∙ nobody
+    about : subject o past e ≡ Nobody
+    about = subject-plain o past e (no-stop d) ∙ ap one_or_nobody nobody
+
+    due_acts : acts_of o past e ≡ action.Close n ∷ []
+    due_acts = rw (comes.counts, about) (closed ∙ ap closings brings)
 
     none_ran : (k : ℕ) → running_after (action.Close n ∷ []) k ≡ k
     none_ran k = omega arith
 
+-- a connection whose header is none is closed
+pub serves-faulted :
+    (old new : Hub) (log : List Entry) (event : HubEvent) (answer : Answer) (fault : ProxyError) (done : List Action) (n : ℕ) →
+    Stands old log → decision.HeaderFault fault ≡ decide old.options log event answer →
+    target old.options event.kind answer ≡ None → named_session event.kind ≡ None →
+    new_number event.kind (decision.HeaderFault fault) ≡ Some n →
+    done ≡ action.Close n ∷ [] →
+    new.options ≡ old.options →
+    ((q : ℕ) → map.get nat_eq new.sessions q ≡ map.get nat_eq old.sessions q) →
+    (map.hash_map_len new.sessions ≡ map.hash_map_len old.sessions) →
+    new.jobs ≡ old.jobs →
+    ((q : ℕ) → has new.numbers q ≡ ((n == q) || has old.numbers q)) →
+    ((a p : ℕ) → holder_at new.board a p ≡ holder_at old.board a p) →
+    Serves old new log event answer (decision.HeaderFault fault) done
+serves-faulted old new log event answer fault done n st right nowhere unnamed brings closes same table len jobs numbers board =
+    serves-nobody old new log event answer (decision.HeaderFault fault) done n st (fault-comes fault) right (rw (unnamed, nowhere) refl) refl brings closes same table len jobs numbers
+    (λ a p. board a p ∙ st.tables.holders a p ∙ sym (holder-other old.options (past_of log) (entry event answer (decision.HeaderFault fault) done) (V4 a) p nowhere unnamed refl))
+
+-- who holds a port after a data connection
+holders-arrived :
+    (hub : Hub) (log : List Entry) (event : HubEvent) (answer : Answer) (d : Decision) (done : List Action) (arr : Arrival) (a p : ℕ) →
+    Stands hub log → IsDataLink hub.options event answer arr → Comes d →
+    holder hub.options (entry event answer d done ∷ past_of log) (V4 a) p ≡ cond (is_key a p arr.source arr.port) None (holder_at hub.board a p)
+holders-arrived hub log event answer d done arr a p st link comes =
+    let before : Option ℕ = holder hub.options (past_of log) (V4 a) p in
+    holder-arrived hub.options (past_of log) (entry event answer d done) (record { client = V4 arr.source; port = arr.port }) (V4 a) p
+    (record { to = link.to; unnamed = link.unnamed; no_grant = comes.no_grant })
+    ∙ ap (λ b. cond (b && (arr.port == p)) None before) (eq-comm arr.source a)
+    ∙ ap (λ b. cond ((a == arr.source) && b) None before) (eq-comm arr.port p)
+    ∙ ap (λ (x : Option ℕ). cond (is_key a p arr.source arr.port) None x) (sym (st.tables.holders a p))
+
+-- a data connection that has no holder is turned away
+pub serves-unheld :
+    (old new : Hub) (log : List Entry) (event : HubEvent) (answer : Answer) (done : List Action) (arr : Arrival) →
+    Stands old log → IsDataLink old.options event answer arr → is_used (past_of log) arr.number ≡ false →
+    holder_at old.board arr.source arr.port ≡ None →
+    done ≡ action.Close arr.number ∷ [] →
+    new.options ≡ old.options →
+    ((q : ℕ) → map.get nat_eq new.sessions q ≡ map.get nat_eq old.sessions q) →
+    (map.hash_map_len new.sessions ≡ map.hash_map_len old.sessions) →
+    new.jobs ≡ old.jobs →
+    ((q : ℕ) → has new.numbers q ≡ ((arr.number == q) || has old.numbers q)) →
+    ((a p : ℕ) → holder_at new.board a p ≡ cond (is_key a p arr.source arr.port) None (holder_at old.board a p)) →
+    Serves old new log event answer decision.Turned done
+unfolding decide
+serves-unheld old new log event answer done arr st link unused nobody closes same table len jobs numbers board =
+    serves-nobody old new log event answer decision.Turned done arr.number st turned-comes
+    (sym (link.row past unused ∙ ap (λ (h : Option ℕ). cond (not (in_range o arr.port)) decision.Turned (holder_row o past arr.raw h)) unheld ∙ same-both (not (in_range o arr.port)) decision.Turned))
+    (rw (link.unnamed, link.to) unheld) refl (link.brings decision.Turned) closes same table len jobs numbers
+    (λ a p. board a p ∙ sym (holders-arrived old log event answer decision.Turned done arr a p st link turned-comes))
+  where
+    o : Options
+    o = old.options
+
+    past : List Entry
+    past = past_of log
+
+    unheld : holder o past (V4 arr.source) arr.port ≡ None
+    unheld = sym (st.tables.holders arr.source arr.port) ∙ nobody
+
 -- a data connection that has a holder goes to it, or is turned away where the peers differ
 pub serves-held :
-    (old new : Hub) (log : List Entry) (event : HubEvent) (answer : Answer) (done : List Action) (n source port s : ℕ) (raw : SocketAddr) (v after : Session) →
-    Stands old log → Arrives old.options log event n source port raw →
-    holder_at old.board source port ≡ Some s → map.get nat_eq old.sessions s ≡ Some v →
-    after ≡ session_after (kind.DataIn n raw port) answer (arrival_of (in_range old.options port) (same_ip v.opening.raw.ip raw.ip) s) 0 (map.get nat_eq old.jobs s) v →
-    done ≡ session_acts old.options s (kind.DataIn n raw port) answer (arrival_of (in_range old.options port) (same_ip v.opening.raw.ip raw.ip) s) (map.get nat_eq old.jobs s) (Some v) →
+    (old new : Hub) (log : List Entry) (event : HubEvent) (answer : Answer) (done : List Action) (arr : Arrival) (s : ℕ) (v after : Session) →
+    Stands old log → IsDataLink old.options event answer arr → is_used (past_of log) arr.number ≡ false →
+    holder_at old.board arr.source arr.port ≡ Some s → map.get nat_eq old.sessions s ≡ Some v →
+    after ≡ session_after event.kind answer (decided_on old.options arr v s) 0 (map.get nat_eq old.jobs s) v →
+    done ≡ session_acts old.options s event.kind answer (decided_on old.options arr v s) (map.get nat_eq old.jobs s) (Some v) →
     new.options ≡ old.options →
     ((q : ℕ) → map.get nat_eq new.sessions q ≡ cond (s == q) (Some after) (map.get nat_eq old.sessions q)) →
     (map.hash_map_len new.sessions ≡ map.hash_map_len old.sessions) →
-    Starts old.jobs new.jobs s (starting (kind.DataIn n raw port) (arrival_of (in_range old.options port) (same_ip v.opening.raw.ip raw.ip) s) (map.get nat_eq old.jobs s) v) →
-    ((q : ℕ) → has new.numbers q ≡ ((n == q) || has old.numbers q)) →
-    ((a p : ℕ) → holder_at new.board a p ≡ cond (is_key a p source port) None (holder_at old.board a p)) →
-    Serves old new log event answer (arrival_of (in_range old.options port) (same_ip v.opening.raw.ip raw.ip) s) done
-serves-held old new log event answer done n source port s raw v after st arr held there after_is acted same table len begins numbers board =
-    serves-about old new log event answer d done s v after st comes.counts about known (sym (arrival-due old log event answer n source port raw st arr ∙ rw (holds, known) refl))
-    (acted ∙ ap (λ (x : EventKind). session_acts o s x answer d job (Some v)) (sym arr.kind_is))
+    Starts old.jobs new.jobs s (starting event.kind (decided_on old.options arr v s) (map.get nat_eq old.jobs s) v) →
+    ((q : ℕ) → has new.numbers q ≡ ((arr.number == q) || has old.numbers q)) →
+    ((a p : ℕ) → holder_at new.board a p ≡ cond (is_key a p arr.source arr.port) None (holder_at old.board a p)) →
+    Serves old new log event answer (decided_on old.options arr v s) done
+unfolding decide
+serves-held old new log event answer done arr s v after st link unused held there after_is acted same table len begins numbers board =
+    serves-about old new log event answer d done s v after st comes.counts about known (sym (link.row past unused ∙ rw (holds, known) refl)) acted
     (record {
       options = same;
-      session =
-          after_is
-          ∙ ap (λ c. session_after k answer d c job v) (sym (comes.silent answer))
-          ∙ ap (λ (x : EventKind). session_after x answer d (notices_of d answer) job v) (sym arr.kind_is);
+      session = after_is ∙ ap (λ c. session_after event.kind answer d c job v) (sym (comes.silent answer));
       sessions = sessions-stay old.sessions new.sessions d s after comes.lives comes.as_many table len;
-      jobs = subst (λ (x : EventKind). JobsMoved old.jobs new.jobs x d done s v) (sym arr.kind_is) (jobs-start old.jobs new.jobs o k answer d done s v comes.unfinished begins acted);
+      jobs = jobs-start old.jobs new.jobs o event.kind answer d done s v comes.unfinished begins acted;
     })
-    (λ q. rw arr.kind_is (numbers q ∙ ap (λ b. (n == q) || b) (st.tables.numbers q)))
-    (λ a p. board a p ∙ sym (holders-arrived old log event answer d done n source port raw a p st arr comes))
+    (λ q. rw (link.brings d) (numbers q ∙ ap (λ b. (arr.number == q) || b) (st.tables.numbers q)))
+    (λ a p. board a p ∙ sym (holders-arrived old log event answer d done arr a p st link comes))
   where
     o : Options
     o = old.options
@@ -136,29 +220,26 @@ serves-held old new log event answer done n source port s raw v after st arr hel
     job : Option Running
     job = map.get nat_eq old.jobs s
 
-    k : EventKind
-    k = kind.DataIn n raw port
-
     d : Decision
-    d = arrival_of (in_range o port) (same_ip v.opening.raw.ip raw.ip) s
+    d = decided_on o arr v s
 
     comes : Comes d
-    comes = arrival-comes (in_range o port) (same_ip v.opening.raw.ip raw.ip) s
+    comes = arrival-comes (in_range o arr.port) (same_ip v.opening.raw.ip arr.raw.ip) s
 
-    holds : holder o past raw.ip port ≡ Some s
-    holds = board-holder old log source port raw st arr.from ∙ held
+    holds : holder o past (V4 arr.source) arr.port ≡ Some s
+    holds = sym (st.tables.holders arr.source arr.port) ∙ held
 
     known : session o past s ≡ Some v
     known = sym (st.tables.sessions s) ∙ there
 
     about : IsAbout o past (entry event answer d done) s
     about =
-        arrival-about o past (entry event answer d done) (record { client = raw.ip; port = port }) s
-        (record { to = rw arr.kind_is refl; unnamed = rw arr.kind_is refl; no_grant = comes.no_grant }) (comes.unopened event.kind) holds
+        arrival-about o past (entry event answer d done) (record { client = V4 arr.source; port = arr.port }) s
+        (record { to = link.to; unnamed = link.unnamed; no_grant = comes.no_grant }) (comes.unopened event.kind) holds
 
 -- whoever holds a port is live
 pub held-live : (hub : Hub) (log : List Entry) (a p s : ℕ) → Stands hub log → holder_at hub.board a p ≡ Some s → map.get nat_eq hub.sessions s ≡ None → ⊥
 held-live hub log a p s st held none =
-    let w : WaitsFor hub.options (past_of log) s (V4 a) p = holder-waits hub.options log (pooled-shared _ hub.pooled) st.right (V4 a) p s (sym (st.tables.holders a p) ∙ held) in
+    let w : WaitsFor hub.options (past_of log) s (V4 a) p = holder-waits hub.options log hub.shared st.right (V4 a) p s (sym (st.tables.holders a p) ∙ held) in
     let clash : Some w.view ≡ None = sym w.known ∙ sym (st.tables.sessions s) ∙ none in
     cc

@@ -1,20 +1,24 @@
 -- A session and a job that runs have their links.
-use Rattle.std.proofs.Common.{◌≡◌, refl, sym, ap, ◌∙◌, subst, ℕ, Bool, true, false, cond, List, [], ◌∷◌, Option, Some, None, arith}
+use Rattle.std.proofs.Common.{◌≡◌, refl, sym, ap, ◌∙◌, subst, ℕ, Bool, true, false, not, cond, ◌||◌, List, [], ◌∷◌, Option, Some, None, arith}
 use Rattle.std.specs.Prelude.{is_some}
+use Rattle.std.proofs.lemmas.Bool.{or_parts}
 use Rattle.std.proofs.lemmas.Option.{same_Some}
 use Rattle.std.specs.FinMap as table
 use Rattle.std.specs.Ordering.{nat_cmp, eq_by_cmp}
 use Rattle.std.specs.Cmp.{nat_cmp_total}
 use Rattle.std.specs.Option.{option_map_or}
-use Rattle.ftp_hub.proofs.Common.{Answer, Decision, Entry, EventKind, Hub, IsRight, Options, Pending, Running, Session, Stands, Ticket, decide, history, is_linked, new_number, past_of, running_job, session}
+use Rattle.ftp_hub.proofs.Common.{Answer, Decision, Entry, EventKind, Hub, has, IsRight, Options, Pending, Running, Session, Stands, Ticket, decide, history, is_linked, new_number, past_of, running_job, session}
 use Rattle.ftp_base.specs.LinkTable.{Numbered}
+use Rattle.ftp_base.specs.declared.net.SocketAddr.{SocketAddr}
+use Rattle.ftp_base.specs.Net.{is_v6}
+use Rattle.ftp_options.specs.Modes.{is_proxy}
 use Rattle.ftp_transfer.specs.declared.job.Job.{Job}
 use Rattle.ftp_events.specs.declared.decision.Decision.TheVariants as decision
 use Rattle.ftp_events.specs.declared.event.EventKind.TheVariants as kind
 use Rattle.ftp_events.specs.declared.session.Slot.{Slot}
 use Rattle.ftp_events.specs.declared.session.Slot.TheVariants.{Empty, Waits, Linked}
 use Rattle.ftp_events.specs.Covers.{link_number, is_covered}
-use Rattle.ftp_events.specs.Leads.{HasLinks, job_of_ticket, job_to_run}
+use Rattle.ftp_events.specs.Leads.{HasLinks, header_to_read, job_of_ticket, job_to_run}
 use Rattle.ftp_events.specs.Transfer.{same_ticket}
 use Rattle.ftp_events.specs.Acts.{link_in, slot_of}
 use Rattle.ftp_events.specs.Slot.{Lane, drops, lane, lane_of, lane_after, queued_in, with_link}
@@ -23,7 +27,7 @@ use Rattle.ftp_laws.proofs.EntryLemmas.{past-more, history-more}
 use Rattle.ftp_laws.proofs.LaneLemmas.{ended-empty}
 use Rattle.ftp_laws.proofs.QuestionLemmas.{session-told}
 use Rattle.ftp_hub.specs.Runs.{has_link_of}
-use Rattle.ftp_hub.specs.Stands.{job_for}
+use Rattle.ftp_hub.specs.Stands.{header_for, job_for}
 
 -- the link of a job
 abbrev link_at : Option Running → Option ℕ
@@ -82,6 +86,7 @@ lane_after-linked linked k d queued l came h = dropped-linked linked (drops d l.
 
 -- only a data connection is attached
 attached-link : (o : Options) (past : List Entry) (at : ℕ) (k : EventKind) (answer : Answer) (q n : ℕ) → due o past at k answer ≡ decision.Attached q → new_number k (decision.Attached q) ≡ Some n → link_number k ≡ Some n
+attached-link o past at (kind.Proxied m raw trace) answer q n d e = e
 attached-link o past at (kind.DataIn m raw port) answer q n d e = e
 attached-link o past at (kind.Connect s raw local trace) answer q n d e = grind arith
 attached-link o past at k answer q n d e = cc
@@ -187,6 +192,33 @@ insert-linked {L} old number n link has = ap is_some (table.get-insert nat_cmp_t
     go : (b : Bool) → is_some (cond b (Some link) (table.get old n)) ≡ true
     go true = refl
     go false = has
+
+-- the header to be read is that by the hub's tables
+pub header-due :
+    (hub : Hub) (log : List Entry) (k : EventKind) →
+    Stands hub log → header_to_read hub.options (past_of log) k ≡ header_for hub k
+header-due hub log (kind.Proxied n raw trace) st =
+    ap (λ b. cond ((not (is_proxy hub.options.mode) || is_v6 raw.ip) || b) None (Some n)) (sym (st.tables.numbers n))
+header-due hub log k st = refl
+
+-- a header is read behind a proxy of version 4, for a number that was not used
+pub header-parts :
+    (hub : Hub) (n trace : ℕ) (raw : SocketAddr) → is_some (header_for hub (kind.Proxied n raw trace)) ≡ true →
+    ((not (is_proxy hub.options.mode) || is_v6 raw.ip) ≡ false) × (has hub.numbers n ≡ false)
+header-parts hub n trace raw read =
+    or_parts (not (is_proxy hub.options.mode) || is_v6 raw.ip) (has hub.numbers n) (go ((not (is_proxy hub.options.mode) || is_v6 raw.ip) || has hub.numbers n) read)
+  where
+    go : (b : Bool) → is_some (cond b None (Some n)) ≡ true → b ≡ false
+    go true h = cc
+    go false h = refl
+
+-- and it is that of the connection that comes with the event
+pub header-number :
+    (hub : Hub) (k : EventKind) (n : ℕ) → is_some (header_for hub k) ≡ true → link_number k ≡ Some n → header_for hub k ≡ Some n
+header-number hub (kind.Proxied m raw trace) n read link =
+    let parts = header-parts hub m trace raw read in
+    rw (parts.0, parts.1) link
+header-number hub k n read link = cc
 
 -- the job to be run is that of the hub's table
 pub job-due :

@@ -1,8 +1,8 @@
 -- What an entry about one live session makes of the tables: a record a table, each with a form for what stays.
-use Rattle.std.proofs.Common.{BuildHasherDefault, FoldHasher, ◌≡◌, refl, sym, ap, ◌∙◌, ℕ, cond, Bool, List, Option, Some, None}
+use Rattle.std.proofs.Common.{BuildHasherDefault, FoldHasher, ◌≡◌, sym, ap, ◌∙◌, ℕ, cond, Bool, List, Some, None}
 use Rattle.std.specs.Prelude.{◌==◌, nat_eq, true, false}
 use Rattle.std.specs.HashMap as map
-use Rattle.ftp_hub.proofs.Common.{Action, Answer, Decision, EventKind, Hub, Jobs, Options, Running, Session, Starts, has, held_after, holder_at, ipv4, live_after, lives_on, next_lane, notices_of, running_after, session_acts, session_after, starting, waiting_port}
+use Rattle.ftp_hub.proofs.Common.{Action, Answer, Decision, EventKind, Hub, Jobs, Options, Session, Starts, has, held_after, holder_at, ipv4, live_after, lives_on, next_lane, notices_of, running_after, session_acts, session_after, starting, waiting_port}
 use Rattle.ftp_laws.proofs.BalanceLemmas.{is_finished}
 use Rattle.ftp_hub.proofs.Decisions.{jobs-idle, jobs-started, running-started}
 use Rattle.ftp_hub.proofs.Running.{IsIdle, running-idle}

@@ -4,7 +4,7 @@ use Rattle.std.proofs.Common.{◌≡◌, refl, sym, ap, ◌∙◌, ℕ, ◌-◌,
 use Rattle.std.proofs.lemmas.Option.{same_Some}
 use Rattle.std.specs.Prelude.{◌==◌, nat_eq}
 use Rattle.std.specs.HashMap as map
-use Rattle.ftp_hub.proofs.Common.{Action, Answer, Decision, Entry, EventKind, Hub, HubEvent, IpAddr, IsFew, Options, Serves, Session, Stands, V4, decide, entry, has, held_after, history, holder, holder_at, ipv4, is_refusal, live_after, lives_on, named_session, new_number, next_lane, past_of, running_after, same-both, session, session_acts, session_after, waiting_port}
+use Rattle.ftp_hub.proofs.Common.{Action, Answer, Decision, Entry, EventKind, Hub, HubEvent, IpAddr, IsFew, Options, Serves, Session, Stands, V4, decide, entry, held_after, history, holder, ipv4, is_refusal, named_session, new_number, past_of, same-both, session, session_acts, waiting_port}
 use Rattle.ftp_base.specs.Net.{same_ip}
 use Rattle.ftp_switchboard.specs.Board.{is_key, still_holder}
 use Rattle.ftp_events.specs.declared.decision.Decision.TheVariants as decision
@@ -25,12 +25,13 @@ use Rattle.ftp_laws.proofs.ClassLemmas.{awaits-is, granted-is}
 use Rattle.ftp_handlers.specs.Handlers.{held_by}
 use Rattle.ftp_hub.proofs.Counts.{notices-few, tickets-few}
 use Rattle.ftp_hub.proofs.About.{serves-about}
-use Rattle.ftp_hub.proofs.Clients.{pooled-shared, client-v4}
+use Rattle.ftp_hub.proofs.Clients.{client-v4}
 use Rattle.ftp_hub.proofs.Moved.{MovedAlone}
 
 -- an event that names a session brings no number
 no-number : (k : EventKind) (d : Decision) (s : ℕ) → named_session k ≡ Some s → new_number k d ≡ None
 no-number (kind.Connect s raw local trace) d q h = cc
+no-number (kind.Proxied n raw trace) d q h = cc
 no-number (kind.DataIn n raw port) d q h = cc
 no-number k d q h = refl
 
@@ -45,7 +46,7 @@ still-waiting hub log s v a p st known = go (holder hub.options (past_of log) (V
   where
     waits : (h : ℕ) → holder hub.options (past_of log) (V4 a) p ≡ Some h → (h == s) ≡ true → (a ≡ ipv4 v.opening.client) × (waiting_port v.slot ≡ Some p)
     waits h held same =
-        let w : WaitsFor hub.options (past_of log) s (V4 a) p = holder-waits hub.options log (pooled-shared _ hub.pooled) st.right (V4 a) p s (held ∙ ap Some (eqb-true h s same)) in
+        let w : WaitsFor hub.options (past_of log) s (V4 a) p = holder-waits hub.options log hub.shared st.right (V4 a) p s (held ∙ ap Some (eqb-true h s same)) in
         let view : w.view ≡ v = same_Some _ _ (sym w.known ∙ known) in
         let client : v.opening.client ≡ V4 a = ap (λ (x : Session). x.opening.client) (sym view) ∙ same_ip-equal _ _ w.client in
         (ap ipv4 (sym client), ap (λ (x : Session). waiting_port x.slot) (sym view) ∙ w.port)
@@ -89,7 +90,7 @@ holders-named hub log event answer d done s v a p st n known = go (granted_port 
     still = still-waiting hub log s v a p st known
 
     client : v.opening.client ≡ V4 (ipv4 v.opening.client)
-    client = client-v4 o log s v hub.pooled st.right known
+    client = client-v4 o log s v hub.shared st.right known
 
     key-same : (port : ℕ) → ((port == p) && same_ip v.opening.client (V4 a)) ≡ is_key a p (ipv4 v.opening.client) port
     key-same port =
@@ -110,7 +111,7 @@ holders-named hub log event answer d done s v a p st n known = go (granted_port 
     go : (g : Option ℕ) → granted_port d ≡ g → (m : SlotMove) → slot_move d ≡ m → holder o (e ∷ past) (V4 a) p ≡ held_by m s (ipv4 v.opening.client) waited a p before
     go (Some port) g m move =
         let granted : d ≡ decision.Granted port = granted-is d port (rw g (eq-eqb port port refl)) in
-        holder-granted o past e s port v (V4 a) p (pooled-shared _ hub.pooled) named granted known
+        holder-granted o past e s port v (V4 a) p hub.shared named granted known
         ∙ ap (λ b. cond b (Some s) (cond (is_number before s) None before)) (key-same port)
         ∙ ap (λ (x : Option ℕ). cond (is_key a p (ipv4 v.opening.client) port) (Some s) x) (sym still)
         ∙ ap (λ (x : SlotMove). held_by x s (ipv4 v.opening.client) waited a p before) (sym (ap slot_move granted) ∙ move)

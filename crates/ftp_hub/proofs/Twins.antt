@@ -1,23 +1,30 @@
 -- The job that starts with an entry is that of the transfer which was copied before it.
-use Rattle.std.proofs.Common.{◌≡◌, refl, sym, ap, ◌∙◌, ℕ, Bool, true, false, cond, List, [], ◌∷◌, ◌++◌, Option, Some, None}
+use Rattle.std.proofs.Common.{◌≡◌, refl, sym, ap, ◌∙◌, ℕ, Bool, true, false, not, cond, ◌||◌, List, [], ◌∷◌, ◌++◌, Option, Some, None, Ok}
+use Rattle.std.proofs.lemmas.Bool.{or_parts}
 use Rattle.std.specs.Prelude.{nat_eq, unwrap_or}
-use Rattle.std.specs.Option.{option_and_then, option_map, option_map_or, option_or}
+use Rattle.std.specs.Option.{option_and_then, option_map, option_or}
 use Rattle.std.specs.HashMap as map
-use Rattle.ftp_hub.proofs.Common.{Action, Answer, Decision, Entry, EventKind, Hub, IpAddr, Options, Pending, Running, Session, Stands, Ticket, V4, acts, decide, is_refusal, new_number, past_of, running_job, session, session_acts, starting}
+use Rattle.ftp_hub.proofs.Common.{Action, Answer, Decision, Entry, EventKind, Hub, IpAddr, Options, Pending, Running, Session, Stands, Ticket, V4, acts, decide, holder, is_refusal, is_used, named_session, new_number, past_of, running_job, session, session_acts, starting}
 use Rattle.ftp_base.specs.declared.command.DataChanCmd.{DataChanCmd}
 use Rattle.ftp_base.specs.declared.net.IpAddr.TheVariants.{V6}
+use Rattle.ftp_base.specs.Net.{is_v6}
 use Rattle.ftp_base.specs.declared.notice.Notice.{Notice}
 use Rattle.ftp_base.specs.declared.reply.Reply.{Reply}
 use Rattle.ftp_base.specs.declared.reply.Reply.TheVariants as reply
+use Rattle.ftp_options.specs.Modes.{is_control_port, is_pooled, is_proxy}
 use Rattle.ftp_transfer.specs.declared.job.Job.{Job}
 use Rattle.ftp_events.specs.declared.action.Action.TheVariants as action
 use Rattle.ftp_events.specs.declared.decision.Decision.TheVariants as decision
+use Rattle.ftp_events.specs.declared.event.Answer.TheVariants.{Header}
 use Rattle.ftp_events.specs.declared.event.EventKind.TheVariants as kind
 use Rattle.ftp_events.specs.declared.session.Slot.{Slot}
 use Rattle.ftp_events.specs.declared.session.Slot.TheVariants.{Empty, Waits, Linked}
 use Rattle.ftp_events.specs.Acts.{cancellations, closings, completions, drop_acts, farewells, link_in, notice_and_reply, notice_for, notifications, presence_for, refused_link, reply_acts, start_acts, stays}
+use Rattle.ftp_events.specs.Board.{Target, holder_of_target}
 use Rattle.ftp_events.specs.Classes.{is_ending}
-use Rattle.ftp_events.specs.History.{Subject, Nobody, One, All, subject, meant}
+use Rattle.ftp_events.specs.ConnectionRows.{arrival_row, header_row}
+use Rattle.ftp_events.specs.Decide.{due}
+use Rattle.ftp_events.specs.History.{Nobody, One, subject, meant}
 use Rattle.ftp_events.specs.Login.{logged_user, login_by}
 use Rattle.ftp_events.specs.Reply.{delay_of, message_for, reply_for}
 use Rattle.ftp_events.specs.Slot.{asked_command, drops, startable, with_link}
@@ -25,7 +32,8 @@ use Rattle.ftp_events.specs.Transfer.{pending_of}
 use Rattle.ftp_laws.proofs.SubjectLemmas.{no-stop, one-meant, by_subject}
 use Rattle.ftp_handlers.specs.Handlers.{asked_for}
 use Rattle.ftp_hub.specs.Stands.{pending_for}
-use Rattle.ftp_hub.specs.Twin.{can_start, concerned_in, first_start, job_at, started_for, started_job, subject_in, waiting_in}
+use Rattle.ftp_hub.proofs.Clients.{header-counts, row-counts}
+use Rattle.ftp_hub.specs.Twin.{arrival_holder, can_start, concerned_in, first_start, job_at, started_for, started_job, subject_in, waiting_in}
 
 -- where no value comes of any, none comes
 none-after : {A B : Type 0} (f : A → Option B) → ((y : A) → f y ≡ None) → (x : Option A) → option_and_then f x ≡ None
@@ -59,11 +67,8 @@ first-drop_acts s b d slot p = go (drops d slot)
     go false = refl
 
 first-refused : (k : EventKind) (d : Decision) → first_start (refused_link k d) ≡ None
-first-refused k decision.Turned = go (new_number k decision.Turned)
-  where
-    go : (n : Option ℕ) → first_start (option_map_or (λ n. action.Close n ∷ []) n []) ≡ None
-    go None = refl
-    go (Some n) = refl
+first-refused k decision.Turned = first-closings (new_number k decision.Turned)
+first-refused k (decision.HeaderFault fault) = first-closings (new_number k (decision.HeaderFault fault))
 first-refused k d = refl
 
 first-notifications : (s : ℕ) (v : Session) (user : List ℕ) (what : Option Notice) → first_start (notifications s v user what) ≡ None
@@ -176,24 +181,53 @@ asked-none k None e = refl
 asked-none k (Some v) e = rw e refl
 
 asked-subject : (hub : Hub) (k : EventKind) (answer : Answer) → pending_for hub k ≡ option_and_then (asked_for k) (subject_in hub k answer)
+asked-subject hub (kind.Proxied n raw trace) answer = sym (asked-none (kind.Proxied n raw trace) (subject_in hub (kind.Proxied n raw trace) answer) refl)
 asked-subject hub (kind.DataIn n raw port) answer = sym (asked-none (kind.DataIn n raw port) (subject_in hub (kind.DataIn n raw port) answer) refl)
 asked-subject hub k answer = refl
 
--- the session that an event is about, by the tables
+-- the session that holds what a connection comes for, by the tables
+arrival-held :
+    (hub : Hub) (log : List Entry) (client : IpAddr) (port : ℕ) → Stands hub log → is_v6 client ≡ false →
+    arrival_holder hub client port ≡ holder hub.options (past_of log) client port
+arrival-held hub log (V4 a) port st v4 = st.tables.holders a port
+arrival-held hub log (V6 a) port st v4 = cc
+
+-- the session that an event is meant for, by the tables
+concerned-by :
+    (hub : Hub) (log : List Entry) (at : ℕ) (k : EventKind) (answer : Answer) → Stands hub log →
+    is_refusal (due hub.options (past_of log) at k answer) ≡ false →
+    concerned_in hub k answer ≡ option_or (named_session k) (holder_of_target hub.options (past_of log) k answer)
+concerned-by hub log at (kind.DataIn n raw port) answer st counts =
+    let o = hub.options in
+    let past = past_of log in
+    let placed = (row-counts (not (is_pooled o.mode) || is_v6 raw.ip) (is_used past n) (arrival_row o past raw raw.ip port) counts).0 in
+    arrival-held hub log raw.ip port st (or_parts (not (is_pooled o.mode)) (is_v6 raw.ip) placed).1
+concerned-by hub log at (kind.Proxied n raw trace) (Header (Ok line)) st counts = by_port (is_control_port o.mode line.destination.port)
+  where
+    o : Options
+    o = hub.options
+
+    past : List Entry
+    past = past_of log
+
+    v4 : (is_v6 line.source.ip || is_v6 line.destination.ip) ≡ false
+    v4 =
+        header-counts (is_v6 line.source.ip || is_v6 line.destination.ip) (is_control_port o.mode line.destination.port)
+        (arrival_row o past raw line.source.ip line.destination.port)
+        (row-counts (not (is_proxy o.mode) || is_v6 raw.ip) (is_used past n) (header_row o past raw (Header (Ok line))) counts).1
+
+    by_port :
+        (c : Bool) →
+        cond c None (arrival_holder hub line.source.ip line.destination.port) ≡
+        option_and_then (λ (t : Target). holder o past t.client t.port) (cond c None (Some (record { client = line.source.ip; port = line.destination.port })))
+    by_port true = refl
+    by_port false = arrival-held hub log line.source.ip line.destination.port st (or_parts (is_v6 line.source.ip) (is_v6 line.destination.ip) v4).0
+concerned-by hub log at k answer st counts = refl
+
+-- so is the one that an entry which counts is meant for
 concerned-is : (hub : Hub) (log : List Entry) (e : Entry) → Stands hub log → e.decision ≡ decide hub.options log e.event e.answer → is_refusal e.decision ≡ false → concerned_in hub e.event.kind e.answer ≡ meant hub.options (past_of log) e
 unfolding decide
-concerned-is hub log e st due counts = go e.event.kind refl
-  where
-    arrived : (n port : ℕ) (raw : _) → e.event.kind ≡ kind.DataIn n raw port → (ip : IpAddr) → raw.ip ≡ ip → concerned_in hub (kind.DataIn n raw port) e.answer ≡ meant hub.options (past_of log) e
-    arrived n port raw is (V4 a) from = rw (is, from) (st.tables.holders a port)
-    arrived n port raw is (V6 a) from =
-        let refused : e.decision ≡ decision.Misplaced = due ∙ rw (is, from, hub.pooled) refl in
-        let clash : true ≡ false = sym (ap is_refusal refused) ∙ counts in
-        cc
-
-    go : (k : EventKind) → e.event.kind ≡ k → concerned_in hub e.event.kind e.answer ≡ meant hub.options (past_of log) e
-    go (kind.DataIn n raw port) is = ap (λ k. concerned_in hub k e.answer) is ∙ arrived n port raw is raw.ip refl
-    go k is = rw is refl
+concerned-is hub log e st due counts = concerned-by hub log e.event.at e.event.kind e.answer st (sym (ap is_refusal due) ∙ counts)
 
 -- the job of the copy is the job that starts
 pub job-is :

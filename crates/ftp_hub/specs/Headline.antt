@@ -19,17 +19,18 @@ pub record IsFresh (hub : Hub) : Type 0 where
   pub shares : is_legacy (options_of hub).mode ≡ false
 
 -- the log has exactly the given events in order; every data connection is attached to the session that by the entries
--- before it holds its client address and port, or closed where nobody holds them, or refused where it is barred; every
--- admitted PASV is granted the first port from its word that nobody holds, or refused as full where none is free
+-- before it holds its client address and port, or closed where nobody holds them, and behind a proxy where another proxy
+-- passed it on than the session; every connection that is barred is refused; every admitted PASV is granted the first port
+-- from its word that nobody holds, or refused as full where none is free
 pub record Headline (o : Options) (events : List HubEvent) (log : List Entry) : Type 0 where
   pub exactly_the_events : map (λ (e : Entry). e.event) (reverse log) ≡ events
   pub every_connection :
       (after before : List Entry) (e : Entry) (t : Target) → log ≡ after ++ e ∷ before →
-      target o e.event.kind e.answer ≡ Some t → is_barred o (past_of before) e.event.kind ≡ false →
+      target o e.event.kind e.answer ≡ Some t → is_barred o (past_of before) e.event.kind e.answer ≡ false →
       AttachedOrClosed o (past_of before) e t
   pub every_refusal :
       (after before : List Entry) (e : Entry) → log ≡ after ++ e ∷ before →
-      is_barred o (past_of before) e.event.kind ≡ true → is_refusal e.decision ≡ true
+      is_barred o (past_of before) e.event.kind e.answer ≡ true → is_refusal e.decision ≡ true
   pub every_grant :
       (after before : List Entry) (e : Entry) (s word : ℕ) (lookup bound : Option ℕ) (v : Session) →
       log ≡ after ++ e ∷ before → e.event.kind ≡ Pasv s word lookup bound →

@@ -1,10 +1,11 @@
 -- When a hub stands for a log.
-use Rattle.std.specs.Prelude.{◌≡◌, ℕ, ◌+◌, ◌-◌, ◌^◌, ◌<◌, ◌≤◌, [], ◌∷◌, List, length, Option, Some, None, IsTrue, nat_eq}
+use Rattle.std.specs.Prelude.{◌≡◌, ℕ, ◌+◌, ◌-◌, ◌^◌, ◌<◌, ◌≤◌, [], ◌∷◌, List, length, not, ◌||◌, Option, Some, None, is_some, IsTrue, nat_eq}
 use Rattle.std.specs.Option.{option_and_then, option_map_or}
 use Rattle.std.specs.HashMap as map
 use Rattle.ftp_base.specs.declared.net.IpAddr.TheVariants.{V4}
-use Rattle.ftp_base.specs.Net.{ipv4}
+use Rattle.ftp_base.specs.Net.{ipv4, is_v6}
 use Rattle.ftp_options.specs.declared.options.Options.{Options}
+use Rattle.ftp_options.specs.Modes.{is_proxy}
 use Rattle.ftp_transfer.specs.declared.job.Job.{Job}
 use Rattle.ftp_switchboard.specs.Board.{holder_at, HasRoom}
 use Rattle.ftp_numbers.specs.Used.{has, HasSpare}
@@ -25,10 +26,11 @@ use Rattle.ftp_events.specs.Running.{running_count}
 use Rattle.ftp_events.specs.Decide.{decide}
 use Rattle.ftp_events.specs.Acts.{acts}
 use Rattle.ftp_events.specs.Right.{IsRight, IsActed}
+use Rattle.ftp_events.specs.Words.{◌⇒◌∣◌}
 use Rattle.ftp_hub.specs.declared.hub.Hub.{Hub}
 use Rattle.ftp_handlers.specs.Rooms.{CanReply, CanTellDropped, HasCopy, IsReady, RoomState, kept_in, need_for, need_in}
 use Rattle.ftp_handlers.specs.Handlers.{asked_for, can_drop, can_reply, is_pasv, kept_alone, kept_by, places_for}
-use Rattle.ftp_hub.specs.Arrivals.{brings_number, is_connect, may_start}
+use Rattle.ftp_hub.specs.Arrivals.{brings_number, may_open, may_start}
 
 -- the options that a hub was made from
 abbrev pub options_of : Hub → Options
@@ -96,6 +98,11 @@ kept_for hub k = option_map_or (kept_by k) (named_in hub k) (kept_alone k)
 abbrev pub pending_for : Hub → EventKind → Option Pending
 pending_for hub k = option_and_then (asked_for k) (named_in hub k)
 
+-- the connection whose header is to be read for an event: that of a proxy, where the event is not refused without it
+abbrev pub header_for : Hub → EventKind → Option ℕ
+header_for hub (kind.Proxied number raw trace) = (not (is_proxy hub.options.mode) || is_v6 raw.ip) || has hub.numbers number ⇒ None ∣ Some number
+header_for hub _ = None
+
 -- the job that is to be run for an event: that whose end it is
 abbrev pub job_for : Hub → EventKind → Option Job
 job_for hub (kind.End ticket) = job_of_ticket (map.get nat_eq hub.jobs ticket.session) ticket
@@ -121,8 +128,8 @@ pub record Fits (room : RoomState) (hub : Hub) (event : HubEvent) : Type 0 where
   pub kept : kept_in room ≡ kept_for hub event.kind
   pub path : HasCopy room (path_for hub event.kind)
   pub pending : room.pending ≡ pending_for hub event.kind
-  pub need : need_in room ≡ need_for (job_for hub event.kind)
-  pub sessions : IsTrue (is_connect event.kind) → 0 < map.spare hub.sessions
+  pub need : need_in room ≡ need_for (is_some (header_for hub event.kind)) (job_for hub event.kind)
+  pub sessions : IsTrue (may_open event.kind) → 0 < map.spare hub.sessions
   pub jobs : IsTrue (may_start event.kind) → 0 < map.spare hub.jobs
   pub numbers : IsTrue (brings_number event.kind) → HasSpare hub.numbers
   pub board : IsTrue (is_pasv event.kind) → HasRoom hub.board (client_for hub event.kind)

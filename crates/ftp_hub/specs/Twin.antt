@@ -1,10 +1,11 @@
 -- An entry that is given twice, and the job that starts with it.
-use Rattle.std.specs.Prelude.{◌≡◌, ℕ, List, [], ◌∷◌, nat_eq, IsTrue, Option, Some, None}
+use Rattle.std.specs.Prelude.{◌≡◌, ℕ, List, [], ◌∷◌, nat_eq, IsTrue, Option, Some, None, Ok}
 use Rattle.std.specs.Option.{option_and_then, option_map}
 use Rattle.std.specs.HashMap as map
 use Rattle.ftp_base.specs.declared.net.IpAddr.{IpAddr}
 use Rattle.ftp_base.specs.declared.net.IpAddr.TheVariants.{V4}
 use Rattle.ftp_options.specs.declared.options.Options.{Options}
+use Rattle.ftp_options.specs.Modes.{is_control_port}
 use Rattle.ftp_transfer.specs.declared.job.Job.{Job}
 use Rattle.ftp_transfer.specs.declared.job.Ticket.{Ticket}
 use Rattle.ftp_switchboard.specs.Board.{holder_at}
@@ -14,6 +15,7 @@ use Rattle.ftp_events.specs.declared.decision.Decision.{Decision}
 use Rattle.ftp_events.specs.declared.decision.Decision.TheVariants.{Queued}
 use Rattle.ftp_events.specs.declared.entry.Entry.{Entry}
 use Rattle.ftp_events.specs.declared.event.Answer.{Answer}
+use Rattle.ftp_events.specs.declared.event.Answer.TheVariants.{Header}
 use Rattle.ftp_events.specs.declared.event.EventKind.{EventKind}
 use Rattle.ftp_events.specs.declared.event.EventKind.TheVariants as kind
 use Rattle.ftp_events.specs.declared.event.HubEvent.{HubEvent}
@@ -63,6 +65,9 @@ arrival_holder hub _ port = None
 -- the session that an event with its answer names, or that holds what it comes for
 abbrev pub concerned_in : Hub → EventKind → Answer → Option ℕ
 concerned_in hub (kind.DataIn number raw port) answer = arrival_holder hub raw.ip port
+concerned_in hub (kind.Proxied number raw trace) (Header (Ok line)) =
+    is_control_port hub.options.mode line.destination.port ⇒ None
+    ∣ arrival_holder hub line.source.ip line.destination.port
 concerned_in hub k answer = named_session k
 
 -- that session, where it is live

@@ -1,7 +1,7 @@
 //! The tables of the hub, and what can be asked of them.
 
-ghost use Rattle.std.specs.Prelude.{◌≡◌, true};
-ghost use Rattle.ftp_options.specs.Modes.{is_pooled};
+ghost use Rattle.std.specs.Prelude.{◌≡◌, false};
+ghost use Rattle.ftp_options.specs.Modes.{is_legacy};
 
 use ftp_events::{Running, Session};
 use ftp_numbers::Numbers;
@@ -23,15 +23,15 @@ pub struct Hub {
     // The count of events that the hub was made with.
     pub(crate) start: u64,
     pub(crate) count: u64,
-    ghost pooled: { is_pooled options.mode ≡ true },
+    ghost shared: { is_legacy options.mode ≡ false },
     ghost lo: { board.lo ≡ options.lo },
     ghost hi: { board.hi ≡ options.hi },
 }
 
 impl Hub {
-    ghost use Rattle.std.specs.Prelude.{◌≡◌, ◌==◌, ◌&&◌, [], List, is_some, IsTrue};
+    ghost use Rattle.std.specs.Prelude.{◌≡◌, ◌==◌, ◌&&◌, not, [], List, is_some, IsTrue};
     ghost use Rattle.ftp_options.specs.declared.options.Options.{Options};
-    ghost use Rattle.ftp_options.specs.Modes.{is_pooled};
+    ghost use Rattle.ftp_options.specs.Modes.{is_legacy};
     ghost use Rattle.ftp_events.specs.declared.entry.Entry.{Entry};
     ghost use Rattle.ftp_events.specs.Log.{past_of};
     ghost use Rattle.ftp_events.specs.Session.{session, live_count};
@@ -40,7 +40,7 @@ impl Hub {
 
     /// A hub to which nothing has happened. So far sessions have to share the passive ports.
     pub fn new(alloc: Global, options: Options) -> Hub
-        requires { IsTrue (is_pooled options.mode) }
+        requires { IsTrue (not (is_legacy options.mode)) }
         ensures stands { Stands result [] }
         ensures options { options_of result ≡ options }
         ensures count { count_of result ≡ 0 }
@@ -50,7 +50,7 @@ impl Hub {
 
     /// A hub that has counted so many events, to try what happens at the end of the count.
     pub fn with_count(alloc: Global, options: Options, count: u64) -> Hub
-        requires { IsTrue (is_pooled options.mode) }
+        requires { IsTrue (not (is_legacy options.mode)) }
         ensures stands { Stands result [] }
         ensures options { options_of result ≡ options }
         ensures count { count_of result ≡ count }

@@ -5,6 +5,7 @@
 #![tactic(auto)]
 
 mod arrivals;
+mod data_links;
 mod hub;
 mod jobs;
 mod prepare;

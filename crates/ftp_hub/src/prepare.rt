@@ -1,6 +1,6 @@
 //! All memory that a step can need, taken before it.
 
-ghost use Rattle.std.specs.Prelude.{◌≡◌, ◌-◌, ◌^◌, ◌<◌, ◌≤◌, ◌↔◌, nat_eq, IfErr, IfOk, OnOk, IsErrOf, IsTrue};
+ghost use Rattle.std.specs.Prelude.{◌≡◌, ◌-◌, ◌^◌, ◌<◌, ◌≤◌, ◌↔◌, is_some, IfErr, IfOk, OnOk, IsErrOf, IsTrue};
 ghost use Rattle.std.specs.Option.{option_copied};
 ghost use Rattle.std.specs.HashMap as map;
 ghost use Rattle.ftp_base.specs.Net.{ipv4};
@@ -9,8 +9,8 @@ ghost use Rattle.ftp_switchboard.specs.Board.{HasRoom};
 ghost use Rattle.ftp_events.specs.Leads.{job_of_ticket};
 ghost use Rattle.ftp_handlers.specs.Handlers.{can_drop, can_reply, is_pasv, places_for};
 ghost use Rattle.ftp_handlers.specs.Rooms.{CanReply, CanTellDropped, HasCopy, IsReady, job_in, kept_in, need_for, need_in, twice_in};
-ghost use Rattle.ftp_hub.specs.Arrivals.{brings_number, is_connect, may_start};
-ghost use Rattle.ftp_hub.specs.Stands.{Fits, SameAnswers, count_of, named_in, kept_for, pending_for, job_for, client_for, path_for};
+ghost use Rattle.ftp_hub.specs.Arrivals.{brings_number, may_open, may_start};
+ghost use Rattle.ftp_hub.specs.Stands.{Fits, SameAnswers, count_of, named_in, kept_for, pending_for, header_for, job_for, client_for, path_for};
 
 use crate::hub::Hub;
 use ftp_base::Bytes;
@@ -82,7 +82,7 @@ impl Hub {
 
     // Makes the places in the tables that an event of this kind can take.
     fn make_places(&mut self, kind: &EventKind) -> Result<(), AllocError>
-        ensures sessions { OnOk result (IsTrue (is_connect kind.now) → 0 < map.spare self.new.sessions) }
+        ensures sessions { OnOk result (IsTrue (may_open kind.now) → 0 < map.spare self.new.sessions) }
         ensures jobs { OnOk result (IsTrue (may_start kind.now) → 0 < map.spare self.new.jobs) }
         ensures numbers { OnOk result (IsTrue (brings_number kind.now) → HasSpare self.new.numbers) }
         ensures board { OnOk result (IsTrue (is_pasv kind.now) → HasRoom self.new.board (client_for self.old kind.now)) }
@@ -91,6 +91,11 @@ impl Hub {
         match kind {
             EventKind::Connect { .. } => {
                 self.sessions.reserve(1)?;
+                self.numbers.make_room()
+            }
+            EventKind::Proxied { .. } => {
+                self.sessions.reserve(1)?;
+                self.jobs.reserve(1)?;
                 self.numbers.make_room()
             }
             EventKind::DataIn { .. } => {
@@ -140,7 +145,7 @@ impl Hub {
         ensures kept { IfOk result (λ room. kept_in room ≡ kept_for self.now kind.now) }
         ensures pending { IfOk result (λ room. room.pending ≡ pending_for self.now kind.now) }
         ensures job { IfOk result (λ room. job_in room ≡ job_for self.now kind.now) }
-        ensures need { IfOk result (λ room. need_in room ≡ need_for (job_for self.now kind.now)) }
+        ensures need { IfOk result (λ room. need_in room ≡ need_for (is_some (header_for self.now kind.now)) (job_for self.now kind.now)) }
         ensures counted { IfOk result (λ room. room.count ≡ self.now.count) }
         ensures full { IfErr result (λ error. error ≡ PrepareError.OutOfMemory) }
         ensures path { IfOk result (λ room. HasCopy room (path_for self.now kind.now)) }
@@ -153,6 +158,7 @@ impl Hub {
             kept,
             path: self.copy_path(kind, twice)?,
             pending,
+            header: self.needs_header(kind),
             job: self.copy_job(kind)?,
         };
         Ok(Room::new(self.alloc, self.count, prepared, Extent::of(kind, twice))?)
@@ -200,6 +206,18 @@ impl Hub {
                 None => Ok(Bytes::from_vec(Vec::new(self.alloc))),
             },
             _ => Ok(Bytes::from_vec(Vec::new(self.alloc))),
+        }
+    }
+
+    // Says whether the event is to be decided by the header of its connection.
+    fn needs_header(&self, kind: &EventKind) -> bool
+        ensures { result ≡ is_some (header_for self.now kind.now) }
+    {
+        match kind {
+            EventKind::Proxied { number, raw, .. } => {
+                self.options.mode.is_proxy() && !raw.ip.is_v6() && !self.numbers.has(*number)
+            }
+            _ => false,
         }
     }
 

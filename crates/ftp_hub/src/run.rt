@@ -16,7 +16,8 @@ use crate::hub::Hub;
 use crate::prepare::PrepareError;
 use ftp_base::{Link, LinkTable, Storage};
 use ftp_events::{Answer, Entry, HubEvent, Log};
-use ftp_handlers::Room;
+use ftp_handlers::{Need, Room};
+use ftp_proxy::read_proxy_header;
 use ftp_transfer::{Job, execute};
 use std::alloc::Global;
 use thiserror::Error;
@@ -53,7 +54,7 @@ impl RunError {
     }
 }
 
-/// Says whether each number of a data connection has its link.
+/// Says whether each connection that comes with an event has its link.
 pub fn covers<L: Link>(links: &LinkTable<L>, events: &[HubEvent]) -> bool
     ensures { result ≡ list_all (λ e. is_covered (is_linked links.now) e.kind) events.now }
 {
@@ -70,10 +71,11 @@ fn is_covered<L: Link>(links: &LinkTable<L>, event: &HubEvent) -> bool
     }
 }
 
-/// Runs one event, and for the end of a transfer its job, on the link that it started on. An error leaves all as it
-/// was, with `done` 0.
+/// Runs one event. Before it the header of its connection is read, where a proxy passes that on; and for the end of a
+/// transfer its job is run, on the link that it started on. An error leaves all as it was, with `done` 0.
 ///
-/// Where that link is not in the table the job is not run, and its end is refused.
+/// Where the job's link is not in the table the job is not run, and its end is refused. No header is read of a connection
+/// that is refused whatever its header says.
 pub fn run_event<S: Storage, L: Link>(
     hub: &mut Hub,
     storage: &mut S,
@@ -113,7 +115,7 @@ pub fn run_event<S: Storage, L: Link>(
     }
 }
 
-// Runs the job of a room, where it has one, and then the event.
+// Does what the room needs outside, and then runs the event.
 fn run_prepared<S: Storage, L: Link>(
     hub: &mut Hub,
     room: Room,
@@ -123,6 +125,7 @@ fn run_prepared<S: Storage, L: Link>(
 ) -> Entry
     requires fits { Fits room hub.old event }
     requires job { job_in room ≡ job_for hub.old event.kind }
+    requires covered { IsTrue (is_covered (is_linked links.old) event.kind) }
     ensures event { result.event ≡ event }
     ensures due { (log : List Entry) → Stands hub.old log →
         result ≡ next_entry (options_of hub.old) log event result.answer }
@@ -140,11 +143,50 @@ fn run_prepared<S: Storage, L: Link>(
     ensures count { count_of hub.new ≡ count_of hub.old + 1 }
 {
     let mut room = room;
-    let answer = match room.take_job() {
-        None => Answer::None,
-        Some(job) => run_job(hub.alloc, job, storage, links),
-    };
+    let answer = ask(hub, &mut room, storage, links, &event);
     hub.step(room, event, answer)
+}
+
+// Reads the header that the event is to be decided by, or runs the job that it is the end of.
+fn ask<S: Storage, L: Link>(
+    hub: &Hub,
+    room: &mut Room,
+    storage: &mut S,
+    links: &mut LinkTable<L>,
+    event: &HubEvent,
+) -> Answer
+    requires fits { Fits room.old hub.now event.now }
+    requires job { job_in room.old ≡ job_for hub.now event.now.kind }
+    requires covered { IsTrue (is_covered (is_linked links.old) event.now.kind) }
+    ensures fits { Fits room.new hub.now event.now }
+    ensures leads { (log : List Entry) (e : Entry) → Stands hub.now log → e.event ≡ event.now → e.answer ≡ result →
+        has_link_of links.old (job_to_run (options_of hub.now) (past_of log) event.now.kind) ≡ true →
+        LeadsOne (views S.files S.rule S.faults S.fault_limit S.calls L.left L.sending L.faults L.fault_limit L.calls)
+        (options_of hub.now) (past_of log) e
+        (beside storage.old links.old) (beside storage.new links.new) }
+    ensures lacks { (log : List Entry) → Stands hub.now log →
+        has_link_of links.old (job_to_run (options_of hub.now) (past_of log) event.now.kind) ≡ false →
+        LeavesAll result (beside storage.old links.old) (beside storage.new links.new) }
+    ensures linked { (n : ℕ) → is_linked links.old n ≡ true → is_linked links.new n ≡ true }
+{
+    match room.need() {
+        Need::Nothing => Answer::None,
+        Need::Header => {
+            let Some(number) = event.kind.link_number() else {
+                unreachable!()
+            };
+            let Some(link) = links.get_mut(number) else {
+                unreachable!()
+            };
+            Answer::Header(read_proxy_header(link))
+        }
+        Need::Run(_) => {
+            let Some(job) = room.take_job() else {
+                unreachable!()
+            };
+            run_job(hub.alloc, job, storage, links)
+        }
+    }
 }
 
 // Runs a job on its link, where that is in the table.

@@ -1,17 +1,16 @@
 //! One event: what is decided, how the tables change, and what is done.
 
-ghost use Rattle.std.specs.Prelude.{◌≡◌, ◌+◌, ◌-◌, ◌<◌, ◌^◌, ◌∷◌, List, IsTrue, true, Some, IsSomeAnd, nat_eq};
+ghost use Rattle.std.specs.Prelude.{◌≡◌, ◌+◌, ◌-◌, ◌∷◌, List, IsTrue, true, Some, IsSomeAnd, nat_eq};
 ghost use Rattle.ftp_transfer.specs.Transfer.{suits};
 ghost use Rattle.ftp_events.specs.declared.event.Answer.TheVariants.{Done};
 ghost use Rattle.ftp_events.specs.declared.event.EventKind.TheVariants.{End};
 ghost use Rattle.std.specs.HashMap as map;
-ghost use Rattle.ftp_switchboard.specs.Board.{HasRoom};
 ghost use Rattle.ftp_events.specs.declared.entry.Entry.{Entry};
 ghost use Rattle.ftp_events.specs.Log.{is_refusal, named_session};
 ghost use Rattle.ftp_events.specs.Right.{next_entry};
 ghost use Rattle.ftp_handlers.specs.Handlers.{ends_session, is_command, is_transfer};
-ghost use Rattle.ftp_handlers.specs.Rooms.{IsReady, actions_in, kept_in, twice_in};
-ghost use Rattle.ftp_hub.specs.Stands.{Stands, Serves, SameHead, SameTables, Fits, entry, options_of, count_of, kept_for, client_for};
+ghost use Rattle.ftp_handlers.specs.Rooms.{actions_in, twice_in};
+ghost use Rattle.ftp_hub.specs.Stands.{Stands, Serves, SameHead, SameTables, Fits, entry, options_of, count_of};
 
 use crate::hub::Hub;
 use crate::jobs::{finish, queue};
@@ -66,6 +65,7 @@ impl Hub {
     {
         match &event.kind {
             EventKind::Connect { .. } => self.connect(room, event, answer),
+            EventKind::Proxied { .. } => self.proxied(room, event, answer),
             EventKind::DataIn { .. } => self.data_in(room, event, answer),
             EventKind::User { session, .. }
             | EventKind::Pass { session }

@@ -7,7 +7,7 @@ ghost use Rattle.ftp_events.specs.Log.{is_refusal, past_of};
 ghost use Rattle.ftp_events.specs.Right.{next_entry};
 ghost use Rattle.ftp_handlers.specs.Rooms.{job_in, need_in};
 ghost use Rattle.ftp_hub.specs.Stands.{SameAnswers, SameTables, Stands, count_of, job_for, options_of};
-ghost use Rattle.ftp_hub.specs.Twin.{FitsTwin, can_start, concerned_in, first_start, job_at, started_job, waiting_in};
+ghost use Rattle.ftp_hub.specs.Twin.{FitsTwin, arrival_holder, can_start, concerned_in, first_start, job_at, started_job, waiting_in};
 
 use crate::hub::Hub;
 use crate::prepare::PrepareError;
@@ -172,15 +172,28 @@ struct Copies {
 
 impl Hub {
     // The session that an event names, or that holds what it comes for.
-    fn concerned(&self, kind: &EventKind, _answer: &Answer) -> Option<u64>
-        ensures { result ≡ concerned_in self.now kind.now _answer.now }
+    fn concerned(&self, kind: &EventKind, answer: &Answer) -> Option<u64>
+        ensures { result ≡ concerned_in self.now kind.now answer.now }
     {
-        match kind {
-            EventKind::DataIn { raw, port, .. } => match raw.ip {
-                IpAddr::V4(source) => self.board.holder(source, *port),
-                IpAddr::V6(_) => None,
-            },
+        match (kind, answer) {
+            (EventKind::DataIn { raw, port, .. }, _) => self.arrival_holder(raw.ip, *port),
+            (EventKind::Proxied { .. }, Answer::Header(Ok(line))) => {
+                if self.options.mode.is_control_port(line.destination.port) {
+                    return None;
+                }
+                self.arrival_holder(line.source.ip, line.destination.port)
+            }
             _ => kind.named_session(),
+        }
+    }
+
+    // The session that holds what a connection comes for.
+    fn arrival_holder(&self, client: IpAddr, port: u16) -> Option<u64>
+        ensures { result ≡ arrival_holder self.now client port }
+    {
+        match client {
+            IpAddr::V4(source) => self.board.holder(source, port),
+            IpAddr::V6(_) => None,
         }
     }
 

@@ -43,6 +43,7 @@ returns-then-ne-clause-serves c log st =
 -- only what was run is an outcome
 unrun : (job : Job) (x : Answer) → ((outcome : Outcome) → x ≡ Done outcome → ⊥) → outcome_row job x ≡ decision.NotExpected
 unrun job answer.None never = refl
+unrun job (answer.Header line) never = refl
 unrun job (Done outcome) never = absurd (never outcome refl)
 
 -- it was not run

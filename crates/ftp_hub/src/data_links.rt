@@ -1,0 +1,127 @@
+//! Data connections: each goes to the session that holds its port for its client.
+
+ghost use Rattle.std.specs.Prelude.{◌≡◌, ◌<◌, List, false, Some, nat_eq};
+ghost use Rattle.std.specs.HashMap as map;
+ghost use Rattle.ftp_base.specs.Net.{same_ip};
+ghost use Rattle.ftp_numbers.specs.Used.{HasSpare, has};
+ghost use Rattle.ftp_options.specs.declared.options.Options.{Options};
+ghost use Rattle.ftp_events.specs.declared.entry.Entry.{Entry};
+ghost use Rattle.ftp_events.specs.declared.event.Answer.{Answer};
+ghost use Rattle.ftp_events.specs.declared.event.EventKind.TheVariants.{DataIn};
+ghost use Rattle.ftp_events.specs.Modes.{in_range};
+ghost use Rattle.ftp_events.specs.Session.{session_after};
+ghost use Rattle.ftp_events.specs.Slot.{with_link};
+ghost use Rattle.ftp_events.specs.Acts.{session_acts, starting};
+ghost use Rattle.ftp_hub.specs.Arrivals.{IsDataLink, arrival_of};
+ghost use Rattle.ftp_handlers.specs.Handlers.{Starts};
+ghost use Rattle.ftp_handlers.specs.Rooms.{CanTellDropped, IsReady, actions_in, twice_in};
+ghost use Rattle.ftp_hub.specs.Stands.{Stands, Serves, SameHead};
+
+use crate::hub::Hub;
+use crate::jobs::start;
+use ftp_base::SocketAddr;
+use ftp_events::{Answer, Decision, HubEvent, Running, Session, Slot};
+use ftp_handlers::Room;
+use ftp_options::Options;
+use ftp_switchboard::SwitchboardKey;
+use std::collections::HashMap;
+use std::mem;
+
+/// A data connection: its number, its peer, and the client and the port that it comes for.
+#[derive(Clone, Copy)]
+pub(crate) struct Arrival {
+    pub(crate) number: u64,
+    pub(crate) raw: SocketAddr,
+    pub(crate) source: u32,
+    pub(crate) port: u16,
+}
+
+impl Hub {
+    // Brings a data connection to the session that holds its port, or turns it away.
+    pub(crate) fn bring(
+        &mut self,
+        room: &mut Room,
+        event: &HubEvent,
+        answer: Answer,
+        arrival: Arrival,
+    ) -> Decision
+        requires of_this_event { IsDataLink self.old.options event.now answer arrival }
+        requires unused { has self.old.numbers arrival.number ≡ false }
+        requires ready { IsReady room.old }
+        requires dropped { CanTellDropped room.old }
+        requires numbers { HasSpare self.old.numbers }
+        requires jobs { 0 < map.spare self.old.jobs }
+        ensures serves { (log : List Entry) → Stands self.old log → Serves self.old self.new log event.now answer result (actions_in room.new) }
+        ensures head { SameHead self.old self.new }
+        ensures twice { twice_in room.new ≡ twice_in room.old }
+    {
+        self.numbers.put(arrival.number);
+        let key = SwitchboardKey {
+            source: arrival.source,
+            port: arrival.port,
+        };
+        let Some(holder) = self.board.unregister_by_key(&key) else {
+            room.close(arrival.number);
+            return Decision::Turned;
+        };
+        let in_range = in_range(&self.options, arrival.port);
+        match self.sessions.get_mut(&holder) {
+            None => {
+                room.close(arrival.number);
+                Decision::Turned
+            }
+            Some(session) => arrival.come(in_range, holder, session, &mut self.jobs, room),
+        }
+    }
+}
+
+// A port of the range.
+fn in_range(options: &Options, port: u16) -> bool
+    ensures { result ≡ in_range options.now port }
+{
+    options.lo <= port && port <= options.hi
+}
+
+impl Arrival {
+    // Goes to the session where the port is in the range and the peers have one address, or else closes and drops the
+    // slot. What is done and changed is the same behind a proxy and without one.
+    fn come(
+        self,
+        in_range: bool,
+        holder: u64,
+        session: &mut Session,
+        jobs: &mut HashMap<u64, Running>,
+        room: &mut Room,
+    ) -> Decision
+        requires ready { IsReady room.old }
+        requires dropped { CanTellDropped room.old }
+        requires spare { 0 < map.spare jobs.old }
+        ensures decision { result ≡ arrival_of in_range (same_ip session.old.opening.raw.ip self.raw.ip) holder }
+        ensures session { (answer : Answer) → session.new ≡ session_after (DataIn self.number self.raw self.port) answer result 0 (map.get nat_eq jobs.old holder) session.old }
+        ensures actions { (o : Options) (answer : Answer) → actions_in room.new ≡ session_acts o holder (DataIn self.number self.raw self.port) answer result (map.get nat_eq jobs.old holder) (Some session.old) }
+        ensures starts { Starts jobs.old jobs.new holder (starting (DataIn self.number self.raw self.port) result (map.get nat_eq jobs.old holder) session.old) }
+        ensures twice { twice_in room.new ≡ twice_in room.old }
+    {
+        if in_range && session.opening.raw.ip.is_same(self.raw.ip) {
+            session.slot = with_link(session.slot, self.number);
+            start(session, holder, jobs, room);
+            return Decision::Attached { session: holder };
+        }
+        if let Slot::Waits { port: _ } = session.slot {
+            room.cancel_and_tell(holder, mem::replace(&mut session.pending, None));
+            session.slot = Slot::Empty;
+        }
+        room.close(self.number);
+        Decision::Turned
+    }
+}
+
+// A link comes for a slot that waits.
+fn with_link(slot: Slot, number: u64) -> Slot
+    ensures { result ≡ with_link slot (Some number) }
+{
+    match slot {
+        Slot::Waits { port: _ } => Slot::Linked { number },
+        Slot::Empty | Slot::Linked { .. } => slot,
+    }
+}
