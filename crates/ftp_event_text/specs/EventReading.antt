@@ -13,7 +13,7 @@ use Rattle.ftp_text.specs.Reading.{◌>>=◌, Reader, made, number_at, word_valu
 -- all words of events
 abbrev pub event_words : List EventWord
 event_words =
-    word.Connect ∷ word.Data ∷ word.User ∷ word.Pass ∷ word.Auth ∷ word.Pasv
+    word.Connect ∷ word.Proxied ∷ word.Data ∷ word.User ∷ word.Pass ∷ word.Auth ∷ word.Pasv
     ∷ word.Retr ∷ word.Stor ∷ word.Appe ∷ word.List ∷ word.Nlst ∷ word.Mlsd ∷ word.Stou
     ∷ word.Rest ∷ word.Cwd ∷ word.Closed ∷ word.Quit ∷ word.End ∷ []
 
@@ -24,6 +24,7 @@ event_word_field = word_value event_word_text event_words
 -- the event of each word, as it takes the values behind the word
 abbrev pub maker : (w : EventWord) → Takes (form w) EventKind
 maker word.Connect = kind.Connect
+maker word.Proxied = kind.Proxied
 maker word.Data = kind.DataIn
 maker word.User = kind.User
 maker word.Pass = kind.Pass

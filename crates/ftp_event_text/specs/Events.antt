@@ -12,6 +12,7 @@ use Rattle.ftp_text.specs.Forms.{Form, Last, Text, MaybeText, ◌▸◌, Number,
 -- the word of each kind of event
 abbrev pub event_word_text : EventWord → List ℕ
 event_word_text word.Connect = codes "connect"
+event_word_text word.Proxied = codes "proxied"
 event_word_text word.Data = codes "data"
 event_word_text word.User = codes "user"
 event_word_text word.Pass = codes "pass"
@@ -33,6 +34,7 @@ event_word_text word.End = codes "end"
 -- the form of each line: what stands behind its word
 abbrev pub form : EventWord → Form
 form word.Connect = Number ▸ Address ▸ Address ▸ Last Number
+form word.Proxied = Number ▸ Address ▸ Last Number
 form word.Data = Number ▸ Address ▸ Last Port
 form word.User = Number ▸ Text
 form word.Pass = Last Number
@@ -62,6 +64,7 @@ say w = gather (form w) (λ values. (w, values))
 -- what the line of each event says
 abbrev pub told : EventKind → Told
 told (kind.Connect s raw local trace) = say word.Connect s raw local trace
+told (kind.Proxied n raw trace) = say word.Proxied n raw trace
 told (kind.DataIn n raw port) = say word.Data n raw port
 told (kind.User s name) = say word.User s name
 told (kind.Pass s) = say word.Pass s

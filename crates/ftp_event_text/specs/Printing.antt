@@ -1,5 +1,5 @@
 -- How the log is printed: the lines of each entry.
-use Rattle.std.specs.Prelude.{ℕ, Bool, true, false, List, [], ◌∷◌, ◌++◌, length, codes, Option, Some, None}
+use Rattle.std.specs.Prelude.{ℕ, Bool, true, false, List, [], ◌∷◌, ◌++◌, length, codes, Option, Some, None, Result, Ok, Err}
 use Rattle.std.specs.List.{flat_map}
 use Rattle.ftp_base.specs.declared.notice.PresenceEvent.TheVariants as presence
 use Rattle.ftp_base.specs.declared.notice.DataEvent.TheVariants.{Got, Put}
@@ -12,6 +12,8 @@ use Rattle.ftp_base.specs.Reply.{code_text}
 use Rattle.ftp_base.specs.Trace.{trace_text}
 use Rattle.ftp_base.specs.declared.login.LockState.{LockState}
 use Rattle.ftp_base.specs.declared.login.LockState.TheVariants as lock
+use Rattle.ftp_proxy.specs.declared.error.ProxyError.{ProxyError}
+use Rattle.ftp_proxy.specs.declared.header.ProxyHeader.{ProxyHeader}
 use Rattle.ftp_transfer.specs.declared.job.Completion.{Completion}
 use Rattle.ftp_transfer.specs.declared.job.Completion.TheVariants as result
 use Rattle.ftp_transfer.specs.declared.job.Outcome.{Outcome}
@@ -22,7 +24,7 @@ use Rattle.ftp_events.specs.declared.decision.Decision.TheVariants as decision
 use Rattle.ftp_events.specs.declared.entry.Entry.{Entry}
 use Rattle.ftp_events.specs.declared.event.Answer.{Answer}
 use Rattle.ftp_events.specs.declared.event.Answer.TheVariants as answer
-use Rattle.ftp_text.specs.Fields.{field, number, escape, optional, ticket, kind_text, fault_text}
+use Rattle.ftp_text.specs.Fields.{field, number, address_text, escape, optional, ticket, kind_text, fault_text, proxy_error_text}
 use Rattle.ftp_event_text.specs.Events.{event_line}
 
 -- a line with its line feed
@@ -45,6 +47,7 @@ decision_text decision.Misplaced = codes "misplaced"
 decision_text decision.NotExpected = codes "notexpected"
 decision_text decision.Opened = codes "opened"
 decision_text decision.Turned = codes "turned"
+decision_text (decision.HeaderFault fault) = codes "headerfault"
 decision_text (decision.Attached s) = codes "attached"
 decision_text decision.BadSequence = codes "badsequence"
 decision_text decision.NeedPass = codes "needpass"
@@ -67,6 +70,7 @@ decision_text decision.Quit = codes "quit"
 
 -- the fields behind a decision's name
 abbrev pub decision_fields : Decision → List ℕ
+decision_fields (decision.HeaderFault fault) = field (proxy_error_text fault)
 decision_fields (decision.Attached s) = number s
 decision_fields (decision.LoginFailed lock delay) = field (lock_text lock) ++ number delay
 decision_fields (decision.Granted port) = number port
@@ -79,6 +83,11 @@ abbrev pub decision_line : Decision → List ℕ
 decision_line d = line (61 ∷ field (decision_text d) ++ decision_fields d)
 
 -- ---- answers
+
+-- the client and the address that it called, or why the header of a proxy is none
+abbrev pub header_fields : Result ProxyHeader ProxyError → List ℕ
+header_fields (Ok line) = field (address_text line.source) ++ field (address_text line.destination)
+header_fields (Err fault) = field (proxy_error_text fault)
 
 -- how a transfer ended
 abbrev pub result_text : Completion → List ℕ
@@ -96,6 +105,7 @@ outcome_fields o = field (result_text o.result) ++ number o.bytes ++ optional fa
 -- the line of an answer, where something was asked
 abbrev pub answer_line : Answer → List ℕ
 answer_line answer.None = []
+answer_line (answer.Header header) = line (codes "? header" ++ header_fields header)
 answer_line (answer.Done o) = line (codes "? done" ++ outcome_fields o)
 
 -- ---- actions

@@ -1,9 +1,12 @@
 -- Reading a line of a script.
 use Rattle.std.specs.Prelude.{ℕ, ◌^◌, ◌==◌, ◌&&◌, nat_le, Bool, true, false, List, [], ◌∷◌, length, codes, Option, Some, None, if◌then◌else◌}
+use Rattle.std.specs.Str.{bytes_eq}
+use Rattle.ftp_options.specs.declared.options.ListenerMode.{ListenerMode}
+use Rattle.ftp_options.specs.declared.options.ListenerMode.TheVariants.{Pooled, Proxy}
 use Rattle.ftp_event_text.specs.declared.setup.Item.{Item}
 use Rattle.ftp_event_text.specs.declared.setup.Item.TheVariants as item
 use Rattle.ftp_base.specs.declared.fault.LinkFault.{LinkFault}
-use Rattle.ftp_text.specs.Reading.{◌>>=◌, Reader, pair, made, tested, begins, behind_text, before_text, small_field, number_field, hex_field, text_field, word_as, find_word, calls_field, call_of, link_call_of}
+use Rattle.ftp_text.specs.Reading.{◌>>=◌, Reader, pair, made, tested, begins, behind_text, before_text, all_of, small_at, small_field, number_field, hex_field, text_field, word_as, find_word, calls_field, call_of, link_call_of}
 use Rattle.ftp_event_text.specs.EventReading.{event_of}
 use Rattle.ftp_event_text.specs.Setup.{is_skipped, is_absolute, restart_text}
 
@@ -15,7 +18,19 @@ is_range x = nat_le 1 x.0.0 && nat_le x.0.0 x.0.1
 abbrev pub moves : ((ℕ × ℕ) × List (ℕ × LinkFault)) × List ℕ → Bool
 moves x = nat_le 1 x.0.0.1
 
--- the two ports and the mode behind them
+-- the control port of a proxy
+abbrev pub control_port_at : Reader ℕ
+control_port_at = behind_text (codes "proxy:") (small_at (2 ^ 16))
+
+-- the mode that all of a word spells
+unfoldable pub mode_of : List ℕ → Option ListenerMode
+mode_of w = if bytes_eq w (codes "pooled") then Some Pooled else (all_of control_port_at w >>= λ port. Some (Proxy port))
+
+-- the mode
+unfoldable pub mode_at : Reader ListenerMode
+mode_at bytes = word_as mode_of bytes
+
+-- the two ports and what stands behind them
 abbrev pub ports_at : Reader (ℕ × ℕ)
 ports_at bytes = before_text (codes " connection passive") (pair (small_field (2 ^ 16)) (small_field (2 ^ 16))) bytes
 
@@ -34,7 +49,8 @@ idle_at bytes = pair (before_text (codes " off") (small_field (2 ^ 32))) restart
 -- the line of the options
 unfoldable pub options_at : Reader Item
 options_at =
-    made (λ x. item.Options x.0.0 x.0.1 x.1.0 x.1.1) (tested is_range (behind_text (codes "options pooled") (pair ports_at idle_at)))
+    made (λ x. item.Options x.0 x.1.0.0 x.1.0.1 x.1.1.0 x.1.1.1)
+    (behind_text (codes "options") (pair mode_at (tested is_range (pair ports_at idle_at))))
 
 -- the line of the storage
 unfoldable pub storage_at : Reader Item

@@ -55,6 +55,7 @@ fn fields(alloc: Global, word: EventWord, bytes: &[u8]) -> Result<(EventKind, &[
 {
     match word {
         EventWord::Connect => connect(bytes),
+        EventWord::Proxied => proxied(bytes),
         EventWord::Data => data_in(bytes),
         EventWord::User => Ok(made(
             on_text(alloc, bytes)?,
@@ -151,6 +152,16 @@ fn connect(bytes: &[u8]) -> Result<(EventKind, &[u8]), LineFault>
         trace,
     };
     Ok((kind, rest))
+}
+
+#[tactic(auto, unfolding(crate::specs::EventReading::read_as))]
+fn proxied(bytes: &[u8]) -> Result<(EventKind, &[u8]), LineFault>
+    ensures { Gives (λ x. (x.0, x.1.now)) result (fields_at word.Proxied bytes.now) }
+{
+    let (number, rest) = number(bytes)?;
+    let (raw, rest) = field::address(rest)?;
+    let (trace, rest) = field::number(rest)?;
+    Ok((EventKind::Proxied { number, raw, trace }, rest))
 }
 
 #[tactic(auto, unfolding(crate::specs::EventReading::read_as))]

@@ -5,14 +5,15 @@ ghost use Rattle.std.specs.List.{flat_map};
 ghost use Rattle.ftp_text.specs.Fields.{field, escape};
 ghost use Rattle.ftp_events.specs.declared.action.Action.TheVariants as action;
 ghost use Rattle.ftp_events.specs.declared.event.Answer.TheVariants as answer;
-ghost use Rattle.ftp_event_text.specs.Printing.{lock_text, decision_text, decision_fields, decision_line, result_text, outcome_fields, answer_line, notice_text, notice_bytes, first_path, second_path, notify_fields, reply_fields, delivered_text, action_fields, action_line, entry_lines};
+ghost use Rattle.ftp_event_text.specs.Printing.{lock_text, decision_text, decision_fields, decision_line, header_fields, result_text, outcome_fields, answer_line, notice_text, notice_bytes, first_path, second_path, notify_fields, reply_fields, delivered_text, action_fields, action_line, entry_lines};
 
 use crate::writing::put_event;
 use ftp_base::{DataEvent, EventMeta, LockState, Notice, PresenceEvent, Reply};
 use ftp_events::{Action, Answer, Decision, Entry};
+use ftp_proxy::{ProxyError, ProxyHeader};
 use ftp_text::writing::{
-    put, put_byte, put_error_kind, put_field, put_number, put_optional_fault, put_text,
-    put_text_field, put_ticket, put_trace,
+    put, put_address, put_byte, put_error_kind, put_field, put_number, put_optional_fault,
+    put_proxy_error, put_text, put_text_field, put_ticket, put_trace,
 };
 use ftp_transfer::{Completion, Outcome, Ticket};
 use std::alloc::AllocError;
@@ -34,7 +35,31 @@ fn put_answer(out: &mut Vec<u8>, answer: Answer) -> Result<(), AllocError>
 {
     match answer {
         Answer::None => Ok(()),
+        Answer::Header(header) => put_header(out, header),
         Answer::Done(outcome) => put_done(out, outcome),
+    }
+}
+
+fn put_header(out: &mut Vec<u8>, header: Result<ProxyHeader, ProxyError>) -> Result<(), AllocError>
+    ensures { OnOk result (out.new.items ≡ out.old.items ++ answer_line (answer.Header header)) }
+{
+    put(out, b"? header")?;
+    put_header_fields(out, header)?;
+    put_byte(out, b'\n')
+}
+
+fn put_header_fields(
+    out: &mut Vec<u8>,
+    header: Result<ProxyHeader, ProxyError>,
+) -> Result<(), AllocError>
+    ensures { OnOk result (out.new.items ≡ out.old.items ++ header_fields header) }
+{
+    match header {
+        Ok(header) => {
+            put_address(out, header.source)?;
+            put_address(out, header.destination)
+        }
+        Err(error) => put_proxy_error(out, error),
     }
 }
 
@@ -86,6 +111,7 @@ fn decision_text(decision: Decision) -> &'static [u8]
         Decision::NotExpected => b"notexpected",
         Decision::Opened => b"opened",
         Decision::Turned => b"turned",
+        Decision::HeaderFault(_) => b"headerfault",
         Decision::Attached { session: _ } => b"attached",
         Decision::BadSequence => b"badsequence",
         Decision::NeedPass => b"needpass",
@@ -112,6 +138,7 @@ fn put_decision_fields(out: &mut Vec<u8>, decision: Decision) -> Result<(), Allo
     ensures { OnOk result (out.new.items ≡ out.old.items ++ decision_fields decision) }
 {
     match decision {
+        Decision::HeaderFault(error) => put_proxy_error(out, error),
         Decision::Attached { session } => put_number(out, session),
         Decision::LoginFailed { lock, delay } => {
             put_field(out, lock_text(lock))?;

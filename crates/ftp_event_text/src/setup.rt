@@ -5,11 +5,12 @@ ghost use Rattle.ftp_text.specs.declared.fault.LineFault.TheVariants as fault;
 ghost use Rattle.ftp_event_text.specs.declared.setup.Item.{Item};
 ghost use Rattle.ftp_event_text.specs.Setup.{is_skipped, restart_text, is_absolute, IsItemOf, sent_line, file_line};
 ghost use Rattle.ftp_text.specs.Reading.{Gives, find_word};
-ghost use Rattle.ftp_event_text.specs.SetupReading.{ports_at, restarts, restart_at, idle_at, options_at, storage_at, dir_at, file_at, link_calls_at, link_at, whole, item_of};
+ghost use Rattle.ftp_event_text.specs.SetupReading.{ports_at, restarts, restart_at, idle_at, mode_of, mode_at, options_at, storage_at, dir_at, file_at, link_calls_at, link_at, whole, item_of};
 
 use crate::event::read_event;
 use ftp_base::{Bytes, LinkFault};
 use ftp_events::HubEvent;
+use ftp_options::ListenerMode;
 use ftp_text::field::{self, literal};
 use ftp_text::writing::{put, put_byte, put_hex_bytes, put_number, put_text_field};
 use ftp_text::{FailingCalls, LineFault, failing_calls};
@@ -22,9 +23,10 @@ const RESTARTS: [bool; 2] = [true, false];
 pub enum Item {
     /// Nothing: the line is empty or a comment.
     Skip,
-    /// Pooled mode with these passive ports, both included, and an idle time in seconds. Transfers can begin at a
-    /// restart offset, or cannot.
+    /// Who listens, the passive ports, both included, and an idle time in seconds. Transfers can begin at a restart
+    /// offset, or cannot.
     Options {
+        mode: ListenerMode,
         lo: u16,
         hi: u16,
         idle: u32,
@@ -113,19 +115,45 @@ fn whole(read: (Item, &[u8])) -> Result<Item, LineFault>
 fn options(bytes: &[u8]) -> Result<(Item, &[u8]), LineFault>
     ensures { Gives (λ x. (x.0, x.1.now)) result (options_at bytes.now) }
 {
-    let rest = literal(b"options pooled", bytes)?;
+    let rest = literal(b"options", bytes)?;
+    let (mode, rest) = mode(rest)?;
     let ((lo, hi), rest) = ports(rest)?;
     let ((idle, restart), rest) = idle(rest)?;
     if lo < 1 || hi < lo {
         return Err(LineFault::Bad);
     }
     let item = Item::Options {
+        mode,
         lo: lo as u16,
         hi: hi as u16,
         idle: idle as u32,
         restart,
     };
     Ok((item, rest))
+}
+
+#[tactic(auto, unfolding(crate::specs::SetupReading::mode_at))]
+fn mode(bytes: &[u8]) -> Result<(ListenerMode, &[u8]), LineFault>
+    ensures { Gives (λ x. (x.0, x.1.now)) result (mode_at bytes.now) }
+{
+    let (word, rest) = field::word(bytes)?;
+    let found = mode_of(word)?;
+    Ok((found, rest))
+}
+
+#[tactic(auto, unfolding(crate::specs::SetupReading::mode_of))]
+fn mode_of(word: &[u8]) -> Result<ListenerMode, LineFault>
+    ensures { Gives (λ x. x) result (mode_of word.now) }
+{
+    if word == b"pooled".as_slice() {
+        return Ok(ListenerMode::Pooled);
+    }
+    let (control_port, rest) = field::port_here(literal(b"proxy:", word)?)?;
+    if rest.is_empty() {
+        Ok(ListenerMode::Proxy { control_port })
+    } else {
+        Err(LineFault::Bad)
+    }
 }
 
 fn ports(bytes: &[u8]) -> Result<((u64, u64), &[u8]), LineFault>

@@ -9,6 +9,7 @@ use ftp_text::Word;
 #[derive(Clone, Copy, Debug, PartialEq, Eq)]
 pub enum EventWord {
     Connect,
+    Proxied,
     Data,
     User,
     Pass,
@@ -28,8 +29,9 @@ pub enum EventWord {
     End,
 }
 
-const EVENT_WORDS: [EventWord; 18] = [
+const EVENT_WORDS: [EventWord; 19] = [
     EventWord::Connect,
+    EventWord::Proxied,
     EventWord::Data,
     EventWord::User,
     EventWord::Pass,
@@ -57,6 +59,7 @@ impl Word for EventWord {
     fn text(self) -> &'static [u8] {
         match self {
             EventWord::Connect => b"connect",
+            EventWord::Proxied => b"proxied",
             EventWord::Data => b"data",
             EventWord::User => b"user",
             EventWord::Pass => b"pass",

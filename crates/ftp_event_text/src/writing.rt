@@ -35,6 +35,7 @@ fn put_kind(out: &mut Vec<u8>, kind: &EventKind) -> Result<(), AllocError>
             local,
             trace,
         } => put_connect(out, *session, *raw, *local, *trace),
+        EventKind::Proxied { number, raw, trace } => put_proxied(out, *number, *raw, *trace),
         EventKind::DataIn { number, raw, port } => put_data_in(out, *number, *raw, *port),
         EventKind::User { session, name } => put_named(
             out,
@@ -79,6 +80,19 @@ fn put_connect(
     put_numbered(out, EventWord::Connect, session)?;
     put_address(out, raw)?;
     put_address(out, local)?;
+    put_number(out, trace)
+}
+
+fn put_proxied(
+    out: &mut Vec<u8>,
+    number: u64,
+    raw: SocketAddr,
+    trace: u64,
+) -> Result<(), AllocError>
+    ensures { OnOk result (out.new.items ≡ out.old.items ++ kind_fields (kind.Proxied number raw trace)) }
+{
+    put_numbered(out, EventWord::Proxied, number)?;
+    put_address(out, raw)?;
     put_number(out, trace)
 }
 

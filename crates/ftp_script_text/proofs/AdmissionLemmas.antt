@@ -1,12 +1,12 @@
 -- What a line gives behind the lines before it.
-use Rattle.std.proofs.Common.{◌≡◌, ℕ, ◌≤◌, true, List, length, sym, ap, subst, ◌∙◌}
+use Rattle.std.proofs.Common.{◌≡◌, ℕ, ◌≤◌, List, length, sym, ap, subst, ◌∙◌}
 use Rattle.std.specs.Prelude.{Result, Ok, Err, IfOk}
 use Rattle.ftp_text.specs.declared.fault.LineFault.{LineFault}
 use Rattle.ftp_text.specs.declared.fault.LineFault.TheVariants as fault
 use Rattle.ftp_event_text.specs.declared.setup.Item.{Item}
 use Rattle.ftp_event_text.specs.Setup.{IsItemOf}
 use Rattle.ftp_script_text.specs.declared.admission.Admission.{Admission}
-use Rattle.ftp_script_text.specs.Script.{may_stand, ComesNext}
+use Rattle.ftp_script_text.specs.Script.{may_stand}
 use Rattle.ftp_script_text.specs.Admission.{LetsIn, GivesItem}
 
 -- what was let in is what the line gives, as the line has no other item

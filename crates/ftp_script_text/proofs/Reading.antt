@@ -1,5 +1,5 @@
 -- A script as a function of its bytes, and that it is the only one.
-use Rattle.std.proofs.Common.{◌≡◌, ℕ, zero, suc, ◌+◌, ◌<◌, ◌≤◌, Bool, true, false, cond, ◌&&◌, leb, List, [], ◌∷◌, ◌++◌, length, Option, Some, None, refl, sym, ap, subst, ◌∙◌, arith}
+use Rattle.std.proofs.Common.{◌≡◌, ℕ, zero, suc, ◌+◌, ◌≤◌, Bool, true, false, cond, ◌&&◌, leb, List, [], ◌∷◌, ◌++◌, length, Option, Some, None, refl, sym, ap, subst, ◌∙◌, arith}
 use Rattle.std.specs.Prelude.{nat_le, if◌then◌else◌}
 use Rattle.std.specs.List.{position_or_len}
 use Rattle.std.proofs.lemmas.Bool.{le-leb, leb-true, and_parts}
@@ -7,10 +7,9 @@ use Rattle.std.proofs.lemmas.List.{length-drop, append-nil, append_assoc}
 use Rattle.ftp_stream.specs.Lines.{is_line_feed, first_line, behind_line}
 use Rattle.ftp_text.specs.Reading.{◌>>=◌}
 use Rattle.ftp_event_text.specs.declared.setup.Item.{Item}
-use Rattle.ftp_event_text.specs.Setup.{IsItemOf}
 use Rattle.ftp_event_text.specs.SetupReading.{item_of}
 use Rattle.ftp_event_text.proofs.SetupLemmas.{item_takes, item_again}
-use Rattle.ftp_script_text.specs.Laws.{LineHasOneItem, IsOnly, BytesAreOneScript}
+use Rattle.ftp_script_text.specs.Laws.{LineHasOneItem, BytesAreOneScript}
 use Rattle.ftp_script_text.specs.Script.{may_stand, ComesNext, line_size, Continues, IsScriptOf}
 
 -- the item of a line behind these items, where the source has given so many bytes up to the line's end

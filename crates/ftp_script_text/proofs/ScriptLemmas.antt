@@ -1,5 +1,5 @@
 -- A script line by line.
-use Rattle.std.proofs.Common.{◌≡◌, ℕ, ◌+◌, ◌-◌, ◌<◌, ◌≤◌, true, List, [], ◌∷◌, ◌++◌, length, Option, Some, None, refl, sym, ap, subst, ◌∙◌, arith, take, drop, get_or, ◌⊎◌, inl, inr, eqb-true, append_assoc}
+use Rattle.std.proofs.Common.{◌≡◌, ℕ, ◌+◌, ◌<◌, ◌≤◌, List, [], ◌∷◌, ◌++◌, length, Option, Some, None, refl, sym, ap, subst, ◌∙◌, arith, take, drop, get_or, ◌⊎◌, inl, inr, eqb-true, append_assoc}
 use Rattle.std.specs.Prelude.{IfSome, Ok}
 use Rattle.std.specs.List.{position_or_len}
 use Rattle.std.proofs.lemmas.List.{length-drop, length-take, length-take-le, length-append, append-nil, take-append-drop, take-append-le, take-take, take_more, take_all, drop_all, drop_at, get_or-take}

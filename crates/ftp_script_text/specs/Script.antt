@@ -11,7 +11,7 @@ use Rattle.ftp_script_text.specs.SetUp.{storage_in, has_event}
 
 -- whether the item is the options
 abbrev pub is_options : Item → Bool
-is_options (item.Options lo hi idle restart) = true
+is_options (item.Options mode lo hi idle restart) = true
 is_options _ = false
 
 -- whether the item is the link of this number
@@ -52,7 +52,7 @@ is_free before path = is_none (directory_refusal (storage_in before).files path)
 -- file is no longer than the storage allows, a link has a new number, and an event comes behind the options and its link
 abbrev pub may_stand : List Item → Item → Bool
 may_stand before item.Skip = true
-may_stand before (item.Options lo hi idle restart) = not (list_any says before)
+may_stand before (item.Options mode lo hi idle restart) = not (list_any says before)
 may_stand before (item.Storage max fails) = not (has_event before) && not (has_stored before)
 may_stand before (item.Dir path) = not (has_event before) && is_free before path
 may_stand before (item.File bytes path) =

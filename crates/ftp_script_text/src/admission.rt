@@ -4,6 +4,7 @@ ghost use Rattle.std.specs.Prelude.{◌≡◌, ◌&&◌, not, ℕ, ◌≤◌, Bo
 ghost use Rattle.std.specs.Ordering.{nat_cmp};
 ghost use Rattle.std.specs.BTreeSet.{contains};
 ghost use Rattle.ftp_base.specs.declared.fault.LinkFault.{LinkFault};
+ghost use Rattle.ftp_options.specs.declared.options.ListenerMode.{ListenerMode};
 ghost use Rattle.ftp_event_text.specs.declared.setup.Item.{Item};
 ghost use Rattle.ftp_event_text.specs.declared.setup.Item.TheVariants as item;
 ghost use Rattle.ftp_event_text.specs.Setup.{IsItem};
@@ -112,7 +113,7 @@ impl Admission {
 
     // The options, where nothing was said.
     fn let_options_in(&mut self) -> Result<(), LineFault>
-        ensures { (before : List Item) (lo hi idle : ℕ) (restart : Bool) → Remembers self.old before → LetsIn before (item.Options lo hi idle restart) result self.new }
+        ensures { (before : List Item) (mode : ListenerMode) (lo hi idle : ℕ) (restart : Bool) → Remembers self.old before → LetsIn before (item.Options mode lo hi idle restart) result self.new }
     {
         if self.begun {
             return Err(LineFault::Bad);

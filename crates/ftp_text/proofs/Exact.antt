@@ -8,12 +8,12 @@ use Rattle.std.specs.Str.Parse.{AllDigits, digits_value}
 use Rattle.std.proofs.lemmas.Option.{cond_some}
 use Rattle.std.proofs.lemmas.Bool.{eqb-true, ltb-true, lt-ltb, and_parts}
 use Rattle.std.proofs.lemmas.Bool.Decides.{nat_tests}
-use Rattle.std.proofs.lemmas.List.{take-append-drop, take_at, drop_at}
+use Rattle.std.proofs.lemmas.List.{append-nil, nil_from_length, take-append-drop, take_at, drop_at}
 use Rattle.std.proofs.lemmas.Fmt.{digits_value-decimal, digits_decimal}
 use Rattle.std.proofs.lemmas.Slice.Eq.{bytes_eq-Decides}
 use Rattle.std.proofs.lemmas.Str.Parse.{digit_from_value}
 use Rattle.ftp_text.specs.Fields.{Each, optional}
-use Rattle.ftp_text.specs.Reading.{◌>>=◌, after, behind, begins, pair, made, numeral, number_at, small_at, optional_field, is_space, word_at, word_as, find_word, word_value, tested, literal_at, behind_text, before_text}
+use Rattle.ftp_text.specs.Reading.{◌>>=◌, after, behind, begins, pair, made, numeral, number_at, small_at, optional_field, is_space, word_at, word_as, find_word, word_value, tested, literal_at, behind_text, before_text, all_of}
 use Rattle.ftp_text.proofs.Numerals.{own}
 
 -- nothing follows, or a byte that fails the test
@@ -126,6 +126,23 @@ pub made_again : {A B : Type 0} {s : A → List ℕ} {F : A → Type 0} {W : Lis
     (make : A → B) (x : A) (rest : List ℕ) → F x → W rest → made make r (s x ++ rest) ≡ Some (make x, rest)
 made_again a make x rest fits follows = rw (a.again x rest fits follows) refl
 
+-- the two laws where nothing follows
+pub all_of-takes : {A : Type 0} {s : A → List ℕ} {F : A → Type 0} {W : List ℕ → Type 0} {r : List ℕ → Option (A × List ℕ)} → IsExact s F W r →
+    (w : List ℕ) (x : A) → all_of r w ≡ Some x → (s x ≡ w) × F x
+all_of-takes {A} {s} {F} {W} {r} a w x e =
+    let first = bind_ok (r w) (λ y. cond (eqb (length y.1) 0) (Some y.0) None) x e in
+    let p = cond_some (eqb (length first.0.1) 0) first.0.0 x first.2 in
+    let t = a.takes w first.0 first.1 in
+    let nothing : first.0.1 ≡ [] = nil_from_length first.0.1 (eqb-true _ _ p.0) in
+    subst (λ (y : A). (s y ≡ w) × F y) p.1
+    (sym (t.0 ∙ ap (λ (rest : List ℕ). s first.0.0 ++ rest) nothing ∙ append-nil (s first.0.0)), t.1)
+
+pub all_of-again : {A : Type 0} {s : A → List ℕ} {F : A → Type 0} {W : List ℕ → Type 0} {r : List ℕ → Option (A × List ℕ)} → IsExact s F W r →
+    (x : A) → F x → W [] → all_of r (s x) ≡ Some x
+all_of-again {A} {s} {F} {W} {r} a x fits ends =
+    let read : r (s x) ≡ Some (x, []) = ap r (sym (append-nil (s x))) ∙ a.again x [] fits ends in
+    rw read refl
+
 -- ---- numbers
 
 -- each byte passes
@@ -230,11 +247,11 @@ word_exact {V} text Fits value pass takes again = record {
 }
 
 -- whether each byte passes
-abbrev passes : (ℕ → Bool) → List ℕ → Bool
+abbrev pub passes : (ℕ → Bool) → List ℕ → Bool
 passes test [] = true
 passes test (c ∷ bytes) = test c && passes test bytes
 
-passes_true : (test : ℕ → Bool) (bytes : List ℕ) → passes test bytes ≡ true → Pass test bytes
+pub passes_true : (test : ℕ → Bool) (bytes : List ℕ) → passes test bytes ≡ true → Pass test bytes
 passes_true test [] e = tt
 passes_true test (c ∷ bytes) e = let p = and_parts (test c) (passes test bytes) e in (p.0, passes_true test bytes p.1)
 

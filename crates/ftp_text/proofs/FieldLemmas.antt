@@ -1,11 +1,8 @@
 -- Each field is read exactly.
-use Rattle.std.proofs.Common.{◌≡◌, ℕ, ◌^◌, ◌<◌, ◌≤◌, true, eqb, cond, List, [], ◌∷◌, ◌++◌, length, Option, Some, None, refl, sym, ap, subst, ◌∙◌, append_assoc, arith}
+use Rattle.std.proofs.Common.{◌≡◌, ℕ, ◌^◌, ◌<◌, ◌≤◌, true, List, ◌∷◌, ◌++◌, Option, Some, None, refl, sym, ap, subst, ◌∙◌, append_assoc, arith}
 use Rattle.std.specs.Char.{is_ascii_digit}
-use Rattle.std.proofs.lemmas.Bool.{eqb-true}
 use Rattle.std.proofs.lemmas.Bool.Decides.{nat_tests}
 use Rattle.std.proofs.lemmas.Fmt.{digits_decimal}
-use Rattle.std.proofs.lemmas.List.{append-nil, nil_from_length}
-use Rattle.std.proofs.lemmas.Option.{cond_some}
 use Rattle.ftp_base.specs.declared.fault.LinkFault.{LinkFault}
 use Rattle.ftp_base.specs.declared.fault.LinkFault.TheVariants as link
 use Rattle.ftp_base.specs.Calls.{rises_above}
@@ -14,9 +11,12 @@ use Rattle.ftp_base.specs.declared.login.AuthAnswer.{AuthAnswer}
 use Rattle.ftp_base.specs.declared.login.AuthAnswer.TheVariants as auth
 use Rattle.ftp_base.specs.declared.error_kind.ErrorKind.{ErrorKind}
 use Rattle.ftp_base.specs.declared.error_kind.ErrorKind.TheVariants as error
-use Rattle.ftp_text.specs.Fields.{field, number, dotted, address_text, optional, optional_text, ticket, hex_digits, answer_text, refusal_text, fault_text, link_call_text, listed, IsAddress, IsNumber, AreCalls, Each}
-use Rattle.ftp_text.specs.Reading.{◌>>=◌, after, begins, number_at, small_at, dotted_at, number_field, small_field, address_field, optional_field, ticket_field, hex_word_field, find_word, answers, answer_field, refusals, refusal_field, faults, calls_field, call_of, link_call_of}
-use Rattle.ftp_text.proofs.Exact.{Ends, IsNil, Ends-from_nil, NoDigit-from_ends, IsExact, exact_weaker, pair_exact, behind_exact, Pass, bind_ok, some_is, after_ok, find_takes, find_passes, digits_pass, tested_exact, table_exact, optional_exact, number_exact, small_exact}
+use Rattle.ftp_proxy.specs.declared.error.ProxyError.{ProxyError}
+use Rattle.ftp_proxy.specs.declared.error.ProxyError.TheVariants as proxy
+use Rattle.ftp_proxy.specs.declared.error.ReadError.TheVariants as read
+use Rattle.ftp_text.specs.Fields.{field, number, dotted, address_text, optional, optional_text, ticket, hex_digits, answer_text, refusal_text, fault_text, proxy_error_text, link_call_text, listed, IsAddress, IsNumber, AreCalls, Each}
+use Rattle.ftp_text.specs.Reading.{◌>>=◌, after, begins, number_at, small_at, dotted_at, number_field, small_field, address_field, optional_field, ticket_field, hex_word_field, find_word, word_value, answers, answer_field, refusals, refusal_field, proxy_errors, faults, calls_field, call_of, link_call_of}
+use Rattle.ftp_text.proofs.Exact.{Ends, IsNil, Ends-from_nil, NoDigit-from_ends, IsExact, exact_weaker, pair_exact, behind_exact, Pass, bind_ok, some_is, after_ok, find_takes, find_passes, digits_pass, tested_exact, table_exact, optional_exact, number_exact, small_exact, all_of-takes, all_of-again}
 use Rattle.ftp_text.proofs.Numerals.{own}
 use Rattle.ftp_text.proofs.Lists.{is_inner, pass-more, pass-append, listed_exact}
 use Rattle.ftp_text.proofs.Values.{begins_decimal, begins_dotted, dotted_exact, hex_word_exact, address_exact}
@@ -67,6 +67,13 @@ ticket_is = exact_weaker (pair_exact (behind_exact 32 number_exact) (behind_exac
 pub hex_word_is : IsExact (λ n. field (hex_digits 32 n)) (λ n. n < 2 ^ 128) Ends hex_word_field
 hex_word_is = exact_weaker (behind_exact 32 hex_word_exact) (λ rest h. tt)
 
+proxy_error_found : (e : ProxyError) → find_word proxy_error_text proxy_errors (proxy_error_text e) ≡ Some e
+proxy_error_found (proxy.ReadError read.UnexpectedEof) = refl
+proxy_error_found _ = refl
+
+pub proxy_error_is : IsExact (λ (e : ProxyError). field (proxy_error_text e)) (λ e. Unit {0}) Ends (word_value proxy_error_text proxy_errors)
+proxy_error_is = table_exact proxy_error_text proxy_errors refl proxy_error_found
+
 -- ---- the calls that fail
 
 digit_inner : (b : ℕ) → is_ascii_digit b ≡ true → is_inner b ≡ true
@@ -77,17 +84,11 @@ decimal_inner n lt = pass-more is_ascii_digit is_inner digit_inner (decimal n) (
 
 call_takes : (w : List ℕ) (n : ℕ) → call_of w ≡ Some n → (decimal n ≡ w) × IsNumber n
 unfolding call_of
-call_takes w n e =
-    let first = bind_ok (number_at w) (λ x. cond (eqb (length x.1) 0) (Some x.0) None) n e in
-    let p = cond_some (eqb (length first.0.1) 0) first.0.0 n first.2 in
-    let t = number_exact.takes w first.0 first.1 in
-    let nothing : first.0.1 ≡ [] = nil_from_length first.0.1 (eqb-true _ _ p.0) in
-    subst (λ (m : ℕ). (decimal m ≡ w) × IsNumber m) p.1
-    (sym (t.0 ∙ ap (λ (rest : List ℕ). decimal first.0.0 ++ rest) nothing ∙ append-nil (decimal first.0.0)), t.1)
+call_takes w n e = all_of-takes number_exact w n e
 
 call_again : (n : ℕ) → IsNumber n → call_of (decimal n) ≡ Some n
 unfolding call_of
-call_again n lt = let read : number_at (decimal n) ≡ Some (n, []) = ap number_at (sym (append-nil (decimal n))) ∙ number_exact.again n [] lt tt in rw read refl
+call_again n lt = all_of-again number_exact n lt tt
 
 pub calls_is : IsExact (λ (calls : List ℕ). field (listed decimal calls)) (AreCalls (λ n. n)) Ends (calls_field call_of (λ n. n))
 unfolding calls_field

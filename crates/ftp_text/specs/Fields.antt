@@ -15,6 +15,9 @@ use Rattle.ftp_base.specs.declared.error_kind.ErrorKind.{ErrorKind}
 use Rattle.ftp_base.specs.declared.error_kind.ErrorKind.TheVariants as error
 use Rattle.ftp_base.specs.declared.fault.LinkFault.{LinkFault}
 use Rattle.ftp_base.specs.declared.fault.LinkFault.TheVariants as link
+use Rattle.ftp_proxy.specs.declared.error.ProxyError.{ProxyError}
+use Rattle.ftp_proxy.specs.declared.error.ProxyError.TheVariants as proxy
+use Rattle.ftp_proxy.specs.declared.error.ReadError.TheVariants as read
 
 -- a space, and what stands in the field
 abbrev pub field : List ℕ → List ℕ
@@ -111,6 +114,17 @@ fault_text link.Reset = codes "reset"
 fault_text link.BrokenPipe = codes "pipe"
 fault_text link.Aborted = codes "aborted"
 fault_text link.Other = codes "other"
+
+-- why the header of a proxy is none
+abbrev pub proxy_error_text : ProxyError → List ℕ
+proxy_error_text proxy.HeaderSize = codes "size"
+proxy_error_text proxy.CrlfError = codes "crlf"
+proxy_error_text proxy.NotProxyHdr = codes "notproxy"
+proxy_error_text proxy.DecodeError = codes "decode"
+proxy_error_text proxy.IPv4Required = codes "ipv4"
+proxy_error_text proxy.UnsupportedVersion = codes "version"
+proxy_error_text (proxy.ReadError read.UnexpectedEof) = codes "eof"
+proxy_error_text (proxy.ReadError read.Fault) = codes "fault"
 
 -- a failing call on a connection: its number, a colon and what it meets
 abbrev pub link_call_text : ℕ × LinkFault → List ℕ

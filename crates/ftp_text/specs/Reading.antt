@@ -15,6 +15,9 @@ use Rattle.ftp_base.specs.declared.error_kind.ErrorKind.TheVariants as error
 use Rattle.ftp_base.specs.declared.fault.LinkFault.{LinkFault}
 use Rattle.ftp_base.specs.declared.fault.LinkFault.TheVariants as link
 use Rattle.ftp_base.specs.Calls.{rises_above}
+use Rattle.ftp_proxy.specs.declared.error.ProxyError.{ProxyError}
+use Rattle.ftp_proxy.specs.declared.error.ProxyError.TheVariants as proxy
+use Rattle.ftp_proxy.specs.declared.error.ReadError.TheVariants as read
 use Rattle.ftp_text.specs.declared.fault.LineFault.{LineFault}
 use Rattle.ftp_text.specs.declared.fault.LineFault.TheVariants as fault
 use Rattle.ftp_text.specs.Fields.{hex_byte, hex_digits, is_plain, escape_byte, answer_text, refusal_text, fault_text}
@@ -92,6 +95,12 @@ before_text text read bytes = do
   x ← read bytes
   rest ← literal_at text x.1
   Some (x.0, rest)
+
+-- the value that all of the bytes spell
+abbrev pub all_of : {A : Type 0} → Reader A → List ℕ → Option A
+all_of read bytes = do
+  x ← read bytes
+  if length x.1 == 0 then Some x.0 else None
 
 -- ---- numbers
 
@@ -304,6 +313,12 @@ refusals = None ∷ map Some kinds
 abbrev pub refusal_field : Reader (Option ErrorKind)
 refusal_field = word_value refusal_text refusals
 
+-- all that can be wrong with the header of a proxy
+abbrev pub proxy_errors : List ProxyError
+proxy_errors =
+    proxy.HeaderSize ∷ proxy.CrlfError ∷ proxy.NotProxyHdr ∷ proxy.DecodeError ∷ proxy.IPv4Required ∷ proxy.UnsupportedVersion
+    ∷ proxy.ReadError read.UnexpectedEof ∷ proxy.ReadError read.Fault ∷ []
+
 -- ---- the calls that fail
 
 -- whether the byte stands between values
@@ -328,9 +343,7 @@ calls_field value number = tested (rises_above number 0) (word_as (list_of value
 
 -- the number that all of a word spells
 unfoldable pub call_of : List ℕ → Option ℕ
-call_of w = do
-  n ← number_at w
-  if length n.1 == 0 then Some n.0 else None
+call_of w = all_of number_at w
 
 -- all that a call on a connection can meet
 abbrev pub faults : List LinkFault

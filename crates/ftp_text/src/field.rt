@@ -122,7 +122,8 @@ fn dotted(bytes: &[u8]) -> Result<(u32, &[u8]), LineFault>
     ))
 }
 
-fn port_here(bytes: &[u8]) -> Result<(u16, &[u8]), LineFault>
+/// The port whose digits stand at the front.
+pub fn port_here(bytes: &[u8]) -> Result<(u16, &[u8]), LineFault>
     ensures { Gives (λ x. (x.0, x.1.now)) result (small_at (2 ^ 16) bytes.now) }
 {
     let (n, rest) = small_here(65536, bytes)?;

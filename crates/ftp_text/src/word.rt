@@ -1,10 +1,11 @@
 //! The words that stand for values. A word is found by a search of its table.
 
 ghost use Rattle.std.specs.Prelude.{◌≡◌, ℕ, List};
-ghost use Rattle.ftp_text.specs.Fields.{answer_text, kind_text, refusal_text, fault_text};
-ghost use Rattle.ftp_text.specs.Reading.{find_word, answers, refusals, faults};
+ghost use Rattle.ftp_text.specs.Fields.{answer_text, kind_text, refusal_text, fault_text, proxy_error_text};
+ghost use Rattle.ftp_text.specs.Reading.{find_word, answers, refusals, faults, proxy_errors};
 
 use ftp_base::{AuthAnswer, ErrorKind, LinkFault};
+use ftp_proxy::{ProxyError, ReadError};
 
 /// A value that a word of a table spells.
 pub trait Word: Copy + Drop + 'static {
@@ -57,6 +58,17 @@ const FAULTS: [LinkFault; 4] = [
     LinkFault::BrokenPipe,
     LinkFault::Aborted,
     LinkFault::Other,
+];
+
+const PROXY_ERRORS: [ProxyError; 8] = [
+    ProxyError::HeaderSize,
+    ProxyError::CrlfError,
+    ProxyError::NotProxyHdr,
+    ProxyError::DecodeError,
+    ProxyError::IPv4Required,
+    ProxyError::UnsupportedVersion,
+    ProxyError::ReadError(ReadError::UnexpectedEof),
+    ProxyError::ReadError(ReadError::Fault),
 ];
 
 pub fn kind_text(kind: ErrorKind) -> &'static [u8]
@@ -131,5 +143,28 @@ impl Word for LinkFault {
 
     fn table() -> &'static [LinkFault] {
         &FAULTS
+    }
+}
+
+impl Word for ProxyError {
+    ghost text = { proxy_error_text };
+
+    ghost table = { proxy_errors };
+
+    fn text(self) -> &'static [u8] {
+        match self {
+            ProxyError::HeaderSize => b"size",
+            ProxyError::CrlfError => b"crlf",
+            ProxyError::NotProxyHdr => b"notproxy",
+            ProxyError::DecodeError => b"decode",
+            ProxyError::IPv4Required => b"ipv4",
+            ProxyError::UnsupportedVersion => b"version",
+            ProxyError::ReadError(ReadError::UnexpectedEof) => b"eof",
+            ProxyError::ReadError(ReadError::Fault) => b"fault",
+        }
+    }
+
+    fn table() -> &'static [ProxyError] {
+        &PROXY_ERRORS
     }
 }

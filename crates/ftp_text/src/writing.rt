@@ -6,11 +6,12 @@ ghost use Rattle.std.specs.List.{flat_map};
 ghost use Rattle.std.specs.Option.{option_copied};
 ghost use Rattle.std.specs.Fmt.{digit_glyph, digits};
 ghost use Rattle.ftp_base.specs.Trace.{trace_text};
-ghost use Rattle.ftp_text.specs.Fields.{field, number, hex_byte, hex_digits, hex_text, dotted, ip_text, address_text, escape_byte, escape, optional, optional_text, ticket, answer_text, kind_text, refusal_text, fault_text};
+ghost use Rattle.ftp_text.specs.Fields.{field, number, hex_byte, hex_digits, hex_text, dotted, ip_text, address_text, escape_byte, escape, optional, optional_text, ticket, answer_text, kind_text, refusal_text, fault_text, proxy_error_text};
 
 use crate::text::is_plain;
 use crate::word::{Word, kind_text};
 use ftp_base::{AuthAnswer, Bytes, ErrorKind, IpAddr, LinkFault, SocketAddr};
+use ftp_proxy::ProxyError;
 use itoa::Buffer;
 use std::alloc::AllocError;
 
@@ -246,6 +247,13 @@ pub fn put_optional_fault(out: &mut Vec<u8>, fault: Option<LinkFault>) -> Result
         None => put(out, b" -"),
         Some(fault) => put_field(out, fault.text()),
     }
+}
+
+/// Writes a space and why the header of a proxy is none.
+pub fn put_proxy_error(out: &mut Vec<u8>, error: ProxyError) -> Result<(), AllocError>
+    ensures { OnOk result (out.new.items ≡ out.old.items ++ field (proxy_error_text error)) }
+{
+    put_field(out, error.text())
 }
 
 /// Writes a space and a trace id.
