@@ -1,12 +1,16 @@
 //! Whole scripts, with the lines that are written for them.
 
+mod proxied;
 mod transcripts;
 mod transfers;
 
 ghost use Rattle.std.specs.Prelude.{◌≤◌};
 
 use ftp_base::{MemorySink, MemorySource};
-use ftp_script_run::{Status, run_script, settled_runs_are_determined, taken_transfers_are_done};
+use ftp_script_run::{
+    Status, run_script, settled_runs_are_determined, taken_transfers_are_done,
+    told_faults_are_listed,
+};
 use ftp_script_text::{a_line_has_one_item, bytes_are_one_script};
 use std::alloc::{AllocError, Global};
 use std::process::Abort;
@@ -109,6 +113,22 @@ fn a_script_is_printed_with_its_decisions_and_actions(rt: HostRuntime) -> Result
 }
 
 #[test]
+fn a_proxy_tells_the_client_of_each_connection(rt: HostRuntime) -> Result<(), Fail> {
+    for text in [
+        proxied::OTHER_PROXY,
+        proxied::SAME_PROXY,
+        proxied::UP_AND_DOWN,
+        proxied::FAULTS,
+        proxied::LAST_CALL,
+        proxied::NO_CALL_BEHIND,
+        proxied::REFUSED,
+    ] {
+        replay(&rt, rt.alloc(), text, 65536)?;
+    }
+    Ok(())
+}
+
+#[test]
 fn a_transfer_is_run_at_its_end(rt: HostRuntime) -> Result<(), Fail> {
     let login = transcripts::LOGIN;
     for (set_up, said) in [
@@ -134,7 +154,7 @@ fn a_transfer_is_run_at_its_end(rt: HostRuntime) -> Result<(), Fail> {
 const OPTIONS: &str = "options pooled 50000 50001 connection passive 600 off restart";
 
 /// Lines that are bad behind an options line and link 3.
-const BAD_LINES: [&str; 48] = [
+const BAD_LINES: [&str; 50] = [
     "0 fly",
     "0 quit",
     "0 abor 1",
@@ -157,6 +177,8 @@ const BAD_LINES: [&str; 48] = [
     "link 11 5 -",
     "link 18446744073709551616 5 - .",
     "1 data 11 10.0.0.1:4001 50000",
+    "0 proxied 11 10.9.9.9:1 1",
+    "0 proxied 3 10.9.9.9:1",
     " ",
     "\r",
     " 0 pass 1",
@@ -186,7 +208,7 @@ const BAD_LINES: [&str; 48] = [
 ];
 
 /// Lines that are bad where they are the first.
-const BAD_FIRST: [&str; 22] = [
+const BAD_FIRST: [&str; 25] = [
     "0 pass 1",
     "options pooled 50001 50000 connection passive 600 off restart",
     "options pooled 0 50000 connection passive 600 off restart",
@@ -194,6 +216,9 @@ const BAD_FIRST: [&str; 22] = [
     "options pooled 50000 50001 connection passive 4294967296 off restart",
     "options pooled 50000 50001 connection passive 600 off restarts",
     "options pooled 50000 50001 connection passive 600 off",
+    "options proxy 50000 50001 connection passive 600 off restart",
+    "options proxy:65536 50000 50001 connection passive 600 off restart",
+    "options proxy:2121 0 50001 connection passive 600 off restart",
     "storage 5",
     "storage 5 0",
     "storage 5 2,1",
@@ -357,4 +382,5 @@ fn the_laws_of_scripts_can_be_called() {
     bytes_are_one_script();
     taken_transfers_are_done();
     settled_runs_are_determined();
+    told_faults_are_listed();
 }

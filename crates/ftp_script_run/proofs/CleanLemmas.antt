@@ -1,12 +1,10 @@
 -- Transfers of which nothing is refused and nothing fails.
-use Rattle.std.proofs.Common.{◌≡◌, ℕ, ◌+◌, ◌-◌, ◌^◌, ◌<◌, ◌≤◌, List, [], ◌∷◌, ◌++◌, Option, Some, None, inl, inr, refl, sym, ap, subst, ◌∙◌, arith}
-use Rattle.std.specs.Prelude.{◌⊎◌, MatchOption}
+use Rattle.std.proofs.Common.{◌≡◌, ◌-◌, ◌^◌, ◌<◌, List, [], ◌∷◌, ◌++◌, Some, inl, inr, refl, sym, ap, subst, ◌∙◌, arith}
+use Rattle.std.specs.Prelude.{◌⊎◌}
 use Rattle.std.specs.FinMap as map
-use Rattle.std.proofs.lemmas.List.{append-nil}
 use Rattle.std.proofs.lemmas.Option.{same_Some}
 use Rattle.ftp_base.specs.Memory.{LinkState, fault_limit, link_fault_limit}
 use Rattle.ftp_base.specs.MemoryStorage.{MemoryState, memory_rule}
-use Rattle.ftp_base.specs.Storage.{Rule}
 use Rattle.ftp_options.specs.declared.options.Options.{Options}
 use Rattle.ftp_transfer.specs.declared.job.Completion.{Completion}
 use Rattle.ftp_transfer.specs.declared.job.Completion.TheVariants as result
@@ -16,31 +14,21 @@ use Rattle.ftp_transfer.specs.Ran.{Takes, IsDone}
 use Rattle.ftp_events.specs.declared.entry.Entry.{Entry}
 use Rattle.ftp_events.specs.declared.event.Answer.{Answer}
 use Rattle.ftp_events.specs.declared.event.Answer.TheVariants as answer
-use Rattle.ftp_events.specs.Leads.{Views, Outside, job_to_run, RunsJob, LeavesAll, LeadsOne, Leads}
+use Rattle.ftp_events.specs.Leads.{Views, Outside, RunsJob, LeadsOne, Leads}
 use Rattle.ftp_events.specs.Log.{past_of}
-use Rattle.ftp_event_text.specs.declared.setup.Item.{Item}
 use Rattle.ftp_script_text.specs.SetUp.{storage_in}
-use Rattle.ftp_script_run.specs.Clean.{ListsNoFault, IsDoneWhereTaken, TakenTransfersAreDone}
+use Rattle.ftp_script_run.specs.Clean.{TakenTransfersAreDone}
 use Rattle.ftp_script_run.specs.Legal.{memory_views, start_of}
-use Rattle.ftp_script_run.proofs.LeadsLemmas.{leads-limits, LimitsFall}
-
--- what led to an entry, and what the entry did
-pub leads-split : {S L : Type 0} (v : Views S L) (o : Options) (log newer older : List Entry) (e : Entry) (old new : Outside S L) →
-    Leads v o log (newer ++ e ∷ older) old new →
-    (x y : Outside S L) × Leads v o log older old x × LeadsOne v o (past_of (older ++ log)) e x y
-leads-split {S} {L} v o log [] older e old new led =
-    let x : (between : Outside S L) × Leads v o log older old between × LeadsOne v o (past_of (older ++ log)) e between new = led in
-    (x.0, new, x.1, x.2)
-leads-split {S} {L} v o log (last ∷ newer) older e old new led =
-    let x : (between : Outside S L) × Leads v o log (newer ++ e ∷ older) old between × LeadsOne v o (past_of ((newer ++ e ∷ older) ++ log)) last between new = led in
-    leads-split v o log newer older e old x.0 x.1
+use Rattle.ftp_script_run.proofs.LeadsLemmas.{one-of, job-no_header, script-split}
 
 one-rule : {S L : Type 0} (v : Views S L) (o : Options) (past : List Entry) (e : Entry) (old new : Outside S L) →
     LeadsOne v o past e old new → v.rule new.storage ≡ v.rule old.storage
-one-rule {S} {L} v o past e old new led = by (job_to_run o past e.event.kind) led where
-  by : (found : Option Job) → MatchOption found (LeavesAll e.answer old new) (λ job. RunsJob v job e.answer old new) → v.rule new.storage ≡ v.rule old.storage
-  by None idle = ap (λ (x : Outside S L). v.rule x.storage) idle.same
-  by (Some job) ran = ran.ran.moves.rule
+one-rule {S} {L} v o past e old new led =
+    one-of v o past e old new
+    (λ idle. ap (λ (x : Outside S L). v.rule x.storage) idle.same)
+    (λ job ran. ran.ran.moves.rule)
+    (λ number read. ap v.rule read.storage)
+    led
 
 -- what a log does changes no rule
 pub leads-rule : {S L : Type 0} (v : Views S L) (o : Options) (log newer : List Entry) (old new : Outside S L) →
@@ -87,19 +75,17 @@ runs-done job given old new link outcome ran there storage links takes is below 
 
 pub taken-done : TakenTransfersAreDone
 taken-done o items older newer e end none led =
-    let x = leads-split memory_views o [] newer older e (start_of items) end led in
-    let past : older ++ [] ≡ older = append-nil older in
-    let one : LeadsOne memory_views o (past_of older) e x.0 x.1 = rw past at x.3 in
-    let limits : LimitsFall memory_views (start_of items) x.0 = leads-limits memory_views o [] older (start_of items) x.0 x.2 in
+    let x = script-split o items older newer e end led in
+    let one = x.4 in
     let rule : memory_rule x.0.storage.max_file ≡ memory_rule (storage_in items).max_file = leads-rule memory_views o [] older (start_of items) x.0 x.2 in (
       x.0,
       x.1,
       x.2,
       one,
       λ job link outcome runs there takes is below.
-          (let run : RunsJob memory_views job e.answer x.0 x.1 = rw runs at one in
-          let was = limits.links job.number link there in
-          let storage : fault_limit x.0.storage.calls ≡ 0 = omega (arith, limits.storage, none.storage) in
+          (let run : RunsJob memory_views job e.answer x.0 x.1 = rw (job-no_header o (past_of older) e.event.kind job runs, runs) at one in
+          let was = x.3.links job.number link there in
+          let storage : fault_limit x.0.storage.calls ≡ 0 = omega (arith, x.3.storage, none.storage) in
           let links : link_fault_limit link.calls ≡ 0 = omega (arith, was.2.limit, none.links job.number was.0 was.1) in
           let taken : Takes job.command job (memory_rule x.0.storage.max_file) x.0.storage.files (Some link.left) = rw rule takes in
           runs-done job e.answer x.0 x.1 link outcome run there storage links taken is below),

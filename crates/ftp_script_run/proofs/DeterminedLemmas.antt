@@ -1,6 +1,6 @@
 -- A run over a storage and a link in memory that nothing stopped has one outcome.
-use Rattle.std.proofs.Common.{◌≡◌, inl, inr, Bool, true, false, cond, ℕ, ◌+◌, ◌-◌, ◌^◌, ◌<◌, ◌≤◌, List, length, take, Option, Some, None, refl, sym, ap, subst, ◌∙◌, arith}
-use Rattle.std.specs.Prelude.{◌⊎◌, IfSome, MatchOption, nat_lt}
+use Rattle.std.proofs.Common.{◌≡◌, inl, inr, Bool, true, false, cond, ℕ, ◌+◌, ◌-◌, ◌^◌, ◌<◌, List, length, take, Option, Some, None, refl, sym, ap, subst, ◌∙◌, arith}
+use Rattle.std.specs.Prelude.{IfSome, MatchOption, nat_lt}
 use Rattle.std.specs.Option.{option_map, option_map_or}
 use Rattle.std.specs.Str.{bytes_eq}
 use Rattle.std.proofs.lemmas.List.{take_all}
@@ -11,14 +11,13 @@ use Rattle.ftp_base.specs.declared.error_kind.ErrorKind.{ErrorKind}
 use Rattle.ftp_base.specs.declared.error_kind.ErrorKind.TheVariants as kind
 use Rattle.ftp_base.specs.Memory.{LinkState}
 use Rattle.ftp_base.specs.MemoryStorage.{MemoryState, memory_rule, if_within, if_file, if_directory, file_refusal, append_refusal as refused_append}
-use Rattle.ftp_base.specs.Outside.{HasRisen}
-use Rattle.ftp_base.specs.Storage.{Item, Directory, File, Files, Metadata, Listing, Begin, Append, meaning_of, item, contents, root, parent, with_file, old_bytes, put}
+use Rattle.ftp_base.specs.Storage.{Item, Directory, File, Files, Metadata, Append, meaning_of, item, contents, root, parent, with_file, old_bytes, put}
 use Rattle.ftp_base.proofs.Files.{get-insert_same}
 use Rattle.ftp_transfer.specs.declared.job.Completion.{Completion}
 use Rattle.ftp_transfer.specs.declared.job.Completion.TheVariants as result
 use Rattle.ftp_transfer.specs.declared.job.Job.{Job}
 use Rattle.ftp_transfer.specs.declared.job.Outcome.{Outcome}
-use Rattle.ftp_transfer.specs.Ran.{StorageFailed, StoresAs, Refuses, first_refusal, shown_refusal, IsSentWhole, IsDone, due_of}
+use Rattle.ftp_transfer.specs.Ran.{StorageFailed, StoresAs, Refuses, first_refusal, IsSentWhole, IsDone, due_of}
 use Rattle.ftp_transfer.specs.Run.{RefusedBy, IfRefused, RefusedFirst, RefusesStore, IsStopped, Stores, append_place}
 use Rattle.ftp_transfer.specs.Transfer.{suits, is_store}
 use Rattle.ftp_transfer.proofs.RunLemmas.{HasRisen-more}

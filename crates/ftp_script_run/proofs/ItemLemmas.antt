@@ -28,7 +28,7 @@ events_in-append items more = filter_map-append event_in items more
 pub options_in-some : (items more : List Item) (s : Settings) → options_in items ≡ Some s → options_in (items ++ more) ≡ Some s
 options_in-some [] more s h = absurd cc
 options_in-some (item.Skip ∷ items) more s h = options_in-some items more s h
-options_in-some (item.Options lo hi idle restart ∷ items) more s h = h
+options_in-some (item.Options mode lo hi idle restart ∷ items) more s h = h
 options_in-some (item.Storage max fails ∷ items) more s h = options_in-some items more s h
 options_in-some (item.Dir path ∷ items) more s h = options_in-some items more s h
 options_in-some (item.File bytes path ∷ items) more s h = options_in-some items more s h
@@ -39,7 +39,7 @@ options_in-some (item.Event e ∷ items) more s h = options_in-some items more s
 pub options_in-none : (items more : List Item) → options_in items ≡ None → options_in (items ++ more) ≡ options_in more
 options_in-none [] more h = refl
 options_in-none (item.Skip ∷ items) more h = options_in-none items more h
-options_in-none (item.Options lo hi idle restart ∷ items) more h = absurd cc
+options_in-none (item.Options mode lo hi idle restart ∷ items) more h = absurd cc
 options_in-none (item.Storage max fails ∷ items) more h = options_in-none items more h
 options_in-none (item.Dir path ∷ items) more h = options_in-none items more h
 options_in-none (item.File bytes path ∷ items) more h = options_in-none items more h
@@ -49,7 +49,7 @@ options_in-none (item.Event e ∷ items) more h = options_in-none items more h
 pub has_options-is : (items : List Item) → has_options items ≡ is_some (options_in items)
 has_options-is [] = refl
 has_options-is (item.Skip ∷ items) = has_options-is items
-has_options-is (item.Options lo hi idle restart ∷ items) = refl
+has_options-is (item.Options mode lo hi idle restart ∷ items) = refl
 has_options-is (item.Storage max fails ∷ items) = has_options-is items
 has_options-is (item.Dir path ∷ items) = has_options-is items
 has_options-is (item.File bytes path ∷ items) = has_options-is items
@@ -71,7 +71,7 @@ found n entries = map.find nat_cmp n entries
 has_link-found : (n : ℕ) (items : List Item) → is_some (map.find nat_cmp n (link_entries items)) ≡ has_link n items
 has_link-found n [] = refl
 has_link-found n (item.Skip ∷ items) = has_link-found n items
-has_link-found n (item.Options lo hi idle restart ∷ items) = has_link-found n items
+has_link-found n (item.Options mode lo hi idle restart ∷ items) = has_link-found n items
 has_link-found n (item.Storage max fails ∷ items) = has_link-found n items
 has_link-found n (item.Dir path ∷ items) = has_link-found n items
 has_link-found n (item.File bytes path ∷ items) = has_link-found n items

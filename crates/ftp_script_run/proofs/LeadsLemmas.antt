@@ -1,32 +1,81 @@
 -- Links under a log: their numbers stay, and one more of them changes nothing.
 use Rattle.std.proofs.Common.{◌≡◌, ◌≢◌, ℕ, Bool, true, false, cond, List, [], ◌∷◌, ◌++◌, Option, Some, None, is_some, refl, sym, ap, subst, ◌∙◌, ◌≤◌, eqb-true, inl, inr, arith}
-use Rattle.std.specs.Prelude.{MatchOption, IfSome, IsSomeAnd}
+use Rattle.std.proofs.lemmas.List.{append-nil}
+use Rattle.std.specs.Prelude.{MatchOption, IfSome, IsSomeAnd, Result, Err, IsErrOf}
 use Rattle.std.specs.Ordering.{nat_cmp, eq_by_cmp}
 use Rattle.std.specs.Cmp.{nat_cmp_total, unsigned_tied}
 use Rattle.std.specs.FinMap as map
 use Rattle.ftp_base.specs.declared.fault.LinkFault.{LinkFault}
 use Rattle.ftp_base.specs.Calls.{Calls, AllWell}
 use Rattle.ftp_base.specs.LinkTable.{Numbered}
-use Rattle.ftp_base.specs.Memory.{LinkMet, LinkFailed}
+use Rattle.ftp_base.specs.Memory.{LinkState, LinkMet, LinkFailed}
+use Rattle.ftp_base.specs.MemoryStorage.{MemoryState}
 use Rattle.ftp_base.proofs.LinkTableLemmas.{get-insert-other, is_some-get-insert}
 use Rattle.ftp_options.specs.declared.options.Options.{Options}
+use Rattle.ftp_proxy.specs.declared.error.ProxyError.{ProxyError}
+use Rattle.ftp_proxy.specs.declared.error.ProxyError.TheVariants.{ReadError}
+use Rattle.ftp_proxy.specs.declared.error.ReadError.TheVariants.{Fault}
+use Rattle.ftp_proxy.specs.declared.header.ProxyHeader.{ProxyHeader}
 use Rattle.ftp_transfer.specs.declared.job.Job.{Job}
 use Rattle.ftp_transfer.specs.declared.job.Outcome.{Outcome}
 use Rattle.ftp_transfer.specs.Ran.{Told, Ran}
 use Rattle.ftp_events.specs.declared.entry.Entry.{Entry}
-use Rattle.ftp_events.specs.Leads.{Views, Outside, told_by, job_to_run, RunsJob, LeavesAll, LeadsOne, Leads}
+use Rattle.ftp_events.specs.declared.event.Answer.{Answer}
+use Rattle.ftp_events.specs.declared.event.EventKind.{EventKind}
+use Rattle.ftp_events.specs.declared.event.EventKind.TheVariants.{Proxied}
+use Rattle.ftp_events.specs.Leads.{Views, Outside, told_by, header_to_read, job_to_run, ReadsHeader, RunsJob, LeavesAll, LeadsOne, Leads}
 use Rattle.ftp_events.specs.Log.{past_of}
+use Rattle.ftp_event_text.specs.declared.setup.Item.{Item}
 use Rattle.ftp_hub.specs.Runs.{is_linked}
+use Rattle.ftp_script_run.specs.Legal.{memory_views, start_of}
+
+-- ---- what an entry did
+
+-- what an entry did, by the header to be read and the job to be run
+abbrev Did : {S L : Type 0} → Views S L → Answer → Option ℕ → Option Job → Outside S L → Outside S L → Type 0
+Did v given header job old new =
+    MatchOption header
+    (MatchOption job (LeavesAll given old new) (λ job. RunsJob v job given old new))
+    (λ number. ReadsHeader v number given old new)
+
+-- what follows from each thing that an entry can do
+pub one-of : {S L X : Type 0} (v : Views S L) (o : Options) (past : List Entry) (e : Entry) (old new : Outside S L) →
+    (LeavesAll e.answer old new → X) →
+    ((job : Job) → RunsJob v job e.answer old new → X) →
+    ((number : ℕ) → ReadsHeader v number e.answer old new → X) →
+    LeadsOne v o past e old new →
+    X
+one-of {S} {L} {X} v o past e old new idle run read led =
+    by (header_to_read o past e.event.kind) (job_to_run o past e.event.kind) led where
+      by : (header : Option ℕ) (job : Option Job) → Did v e.answer header job old new → X
+      by None None did = idle did
+      by None (Some job) did = run job did
+      by (Some number) job did = read number did
+
+-- an event that a job is run for has no header
+pub job-no_header : (o : Options) (past : List Entry) (k : EventKind) (job : Job) →
+    job_to_run o past k ≡ Some job →
+    header_to_read o past k ≡ None
+job-no_header o past (Proxied number raw trace) job runs = absurd cc
+job-no_header o past k job runs = refl
 
 -- ---- numbers
 
 one-numbers : {S L : Type 0} (v : Views S L) (o : Options) (past : List Entry) (e : Entry) (old new : Outside S L) (n : ℕ) →
     LeadsOne v o past e old new →
     is_linked new.links n ≡ is_linked old.links n
-one-numbers {S} {L} v o past e old new n led = by (job_to_run o past e.event.kind) led where
-  by : (found : Option Job) → MatchOption found (LeavesAll e.answer old new) (λ job. RunsJob v job e.answer old new) → is_linked new.links n ≡ is_linked old.links n
-  by None idle = ap (λ (x : Outside S L). is_linked x.links n) idle.same
-  by (Some job) ran = ap (λ (links : Numbered L). is_linked links n) ran.links ∙ is_some-get-insert old.links job.number ran.after (ap is_some ran.there) n
+one-numbers {S} {L} v o past e old new n led =
+    one-of v o past e old new
+    (λ idle. ap (λ (x : Outside S L). is_linked x.links n) idle.same)
+    (λ job ran. put job.number ran.before ran.after ran.there ran.links)
+    (λ number read. put number read.before read.after read.there read.links)
+    led where
+      put : (number : ℕ) (before after : L) →
+          map.get old.links number ≡ Some before →
+          new.links ≡ map.insert old.links number after →
+          is_linked new.links n ≡ is_linked old.links n
+      put number before after there links =
+          ap (λ (links : Numbered L). is_linked links n) links ∙ is_some-get-insert old.links number after (ap is_some there) n
 
 -- the same numbers have a link as before
 pub leads-numbers : {S L : Type 0} (v : Views S L) (o : Options) (log newer : List Entry) (old new : Outside S L) (n : ℕ) →
@@ -71,28 +120,52 @@ one-framed : {S L : Type 0} (v : Views S L) (o : Options) (past : List Entry) (e
     is_linked old.links n ≡ false →
     LeadsOne v o past e old new →
     LeadsOne v o past e (with_link old n link) (with_link new n link)
-one-framed {S} {L} v o past e old new n link unlinked led = by (job_to_run o past e.event.kind) led where
-  by : (found : Option Job) →
-      MatchOption found (LeavesAll e.answer old new) (λ job. RunsJob v job e.answer old new) →
-      MatchOption found (LeavesAll e.answer (with_link old n link) (with_link new n link)) (λ job. RunsJob v job e.answer (with_link old n link) (with_link new n link))
-  by None idle = record { given_is = idle.given_is; same = ap (λ (x : Outside S L). with_link x n link) idle.same }
-  by (Some job) ran =
-      let other : job.number ≢ n = unlinked-other old.links job.number n ran.before ran.there unlinked in
-      record {
-        outcome = ran.outcome;
-        before = ran.before;
-        after = ran.after;
-        given_is = ran.given_is;
-        fits = ran.fits;
-        there = get-insert-other old.links n link job.number other ∙ ran.there;
-        links = ap (λ (links : Numbered L). map.insert links n link) ran.links ∙ insert-commutes old.links job.number n ran.after link other;
-        ran = ran.ran;
-        complete = ran.complete;
-        storage_count = ran.storage_count;
-        link_count = ran.link_count;
-        storage_limit = ran.storage_limit;
-        link_limit = ran.link_limit;
-      }
+one-framed {S} {L} v o past e old new n link unlinked led =
+    by (header_to_read o past e.event.kind) (job_to_run o past e.event.kind) led where
+      -- what was put at a number that has a link
+      put : (number : ℕ) (after : L) → number ≢ n → new.links ≡ map.insert old.links number after → map.insert new.links n link ≡ map.insert (map.insert old.links n link) number after
+      put number after other links =
+          ap (λ (links : Numbered L). map.insert links n link) links ∙ insert-commutes old.links number n after link other
+
+      by : (header : Option ℕ) (job : Option Job) →
+          Did v e.answer header job old new →
+          Did v e.answer header job (with_link old n link) (with_link new n link)
+      by None None idle = record { given_is = idle.given_is; same = ap (λ (x : Outside S L). with_link x n link) idle.same }
+      by None (Some job) ran =
+          let other : job.number ≢ n = unlinked-other old.links job.number n ran.before ran.there unlinked in
+          record {
+            outcome = ran.outcome;
+            before = ran.before;
+            after = ran.after;
+            given_is = ran.given_is;
+            fits = ran.fits;
+            there = get-insert-other old.links n link job.number other ∙ ran.there;
+            links = put job.number ran.after other ran.links;
+            ran = ran.ran;
+            complete = ran.complete;
+            storage_count = ran.storage_count;
+            link_count = ran.link_count;
+            storage_limit = ran.storage_limit;
+            link_limit = ran.link_limit;
+          }
+      by (Some number) job read =
+          let other : number ≢ n = unlinked-other old.links number n read.before read.there unlinked in
+          record {
+            header = read.header;
+            before = read.before;
+            after = read.after;
+            given_is = read.given_is;
+            there = get-insert-other old.links n link number other ∙ read.there;
+            links = put number read.after other read.links;
+            storage = read.storage;
+            line = read.line;
+            taken = read.taken;
+            unlisted = read.unlisted;
+            as_listed = read.as_listed;
+            last_fault = read.last_fault;
+            fault_rose = read.fault_rose;
+            only_reads = read.only_reads;
+          }
 
 -- a link at a number that had none is used by no entry
 pub leads-framed : {S L : Type 0} (v : Views S L) (o : Options) (log newer : List Entry) (old new : Outside S L) (n : ℕ) (link : L) →
@@ -166,6 +239,23 @@ ListStays-ran job old new outcome ran = ListStays-more old.link_calls ran.calls 
     | inr failed ↦ ListStays-failed ran.calls new.link_calls failed.2
   ]
 
+-- the reading of a header changes no list of calls
+ListStays-read : {S L : Type 0} (v : Views S L) (number : ℕ) (given : Answer) (old new : Outside S L) (read : ReadsHeader v number given old new) →
+    ListStays (v.link_calls read.before) (v.link_calls read.after)
+ListStays-read v number given old new read = by read.header refl where
+  before : Option (Calls (ℕ × LinkFault))
+  before = v.link_calls read.before
+
+  after : Option (Calls (ℕ × LinkFault))
+  after = v.link_calls read.after
+
+  well : (IsErrOf read.header (ReadError Fault) → ⊥) → ListStays before after
+  well no_fault = ListStays-well before after (read.unlisted no_fault)
+
+  by : (header : Result ProxyHeader ProxyError) → read.header ≡ header → ListStays before after
+  by (Err (ReadError Fault)) is = ListStays-met before after (v.sending read.after).last_fault (read.as_listed is)
+  by header is = well (λ fault. cc (sym is ∙ fault))
+
 LinkFalls-same : {S L : Type 0} (v : Views S L) (l : L) → LinkFalls v l l
 LinkFalls-same v l = record { limit = omega arith; list = ListStays-same (v.link_calls l) }
 
@@ -197,16 +287,29 @@ found-put {L} R stays links k n before put after was falls there = by (eq_by_cmp
 LimitsFall-one : {S L : Type 0} (v : Views S L) (o : Options) (past : List Entry) (e : Entry) (old new : Outside S L) →
     LeadsOne v o past e old new →
     LimitsFall v old new
-LimitsFall-one {S} {L} v o past e old new led = by (job_to_run o past e.event.kind) led where
-  by : (found : Option Job) → MatchOption found (LeavesAll e.answer old new) (λ job. RunsJob v job e.answer old new) → LimitsFall v old new
-  by None idle = subst (λ (x : Outside S L). LimitsFall v old x) (sym idle.same) (LimitsFall-same v old)
-  by (Some job) ran = record {
-    storage = ran.storage_limit;
-    links = λ n after there.
-        found-put (LinkFalls v) (LinkFalls-same v) old.links job.number n ran.before ran.after after ran.there
-        (record { limit = ran.link_limit; list = ListStays-ran job (told_by v old.storage ran.before) (told_by v new.storage ran.after) ran.outcome ran.ran })
-        (ap (λ (links : Numbered L). map.get links n) (sym ran.links) ∙ there);
-  }
+LimitsFall-one {S} {L} v o past e old new led =
+    one-of v o past e old new
+    (λ idle. subst (λ (x : Outside S L). LimitsFall v old x) (sym idle.same) (LimitsFall-same v old))
+    (λ job ran.
+    put job.number ran.before ran.after ran.there ran.links ran.storage_limit
+    (record { limit = ran.link_limit; list = ListStays-ran job (told_by v old.storage ran.before) (told_by v new.storage ran.after) ran.outcome ran.ran }))
+    (λ number read.
+    put number read.before read.after read.there read.links
+    (subst (λ (s : S). v.storage_limit s ≤ v.storage_limit old.storage) (sym read.storage) (omega arith))
+    (record { limit = read.only_reads.counts.limit; list = ListStays-read v number e.answer old new read }))
+    led where
+      put : (number : ℕ) (before after : L) →
+          map.get old.links number ≡ Some before →
+          new.links ≡ map.insert old.links number after →
+          v.storage_limit new.storage ≤ v.storage_limit old.storage →
+          LinkFalls v before after →
+          LimitsFall v old new
+      put number before after was links storage falls = record {
+        storage = storage;
+        links = λ n later there.
+            found-put (LinkFalls v) (LinkFalls-same v) old.links number n before after later was falls
+            (ap (λ (links : Numbered L). map.get links n) (sym links) ∙ there);
+      }
 
 -- what a log does raises no limit of faults
 pub leads-limits : {S L : Type 0} (v : Views S L) (o : Options) (log newer : List Entry) (old new : Outside S L) →
@@ -230,3 +333,29 @@ leads-limits {S} {L} v o log (e ∷ newer) old new led =
             },
           ));
     }
+
+-- ---- one entry of a log
+
+-- what led to an entry, and what the entry did
+leads-split : {S L : Type 0} (v : Views S L) (o : Options) (log newer older : List Entry) (e : Entry) (old new : Outside S L) →
+    Leads v o log (newer ++ e ∷ older) old new →
+    (x y : Outside S L) × Leads v o log older old x × LeadsOne v o (past_of (older ++ log)) e x y
+leads-split {S} {L} v o log [] older e old new led =
+    let x : (between : Outside S L) × Leads v o log older old between × LeadsOne v o (past_of (older ++ log)) e between new = led in
+    (x.0, new, x.1, x.2)
+leads-split {S} {L} v o log (last ∷ newer) older e old new led =
+    let x : (between : Outside S L) × Leads v o log (newer ++ e ∷ older) old between × LeadsOne v o (past_of ((newer ++ e ∷ older) ++ log)) last between new = led in
+    leads-split v o log newer older e old x.0 x.1
+
+-- what led to an entry of a script's log, and what the entry did
+pub script-split : (o : Options) (items : List Item) (older newer : List Entry) (e : Entry) (end : Outside MemoryState LinkState) →
+    Leads memory_views o [] (newer ++ e ∷ older) (start_of items) end →
+    (x y : Outside MemoryState LinkState)
+    × Leads memory_views o [] older (start_of items) x
+    × LimitsFall memory_views (start_of items) x
+    × LeadsOne memory_views o (past_of older) e x y
+script-split o items older newer e end led =
+    let x = leads-split memory_views o [] newer older e (start_of items) end led in
+    let past : older ++ [] ≡ older = append-nil older in
+    let one : LeadsOne memory_views o (past_of older) e x.0 x.1 = rw past at x.3 in
+    (x.0, x.1, x.2, leads-limits memory_views o [] older (start_of items) x.0 x.2, one)

@@ -8,3 +8,4 @@ pub mod OutcomeLemmas
 pub mod CleanLemmas
 pub mod DeterminedLemmas
 pub mod ListedLemmas
+pub mod HeaderLemmas

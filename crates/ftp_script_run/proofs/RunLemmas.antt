@@ -9,6 +9,7 @@ use Rattle.ftp_base.specs.declared.fault.LinkFault.{LinkFault}
 use Rattle.ftp_base.specs.MemoryStorage.{MemoryState}
 use Rattle.ftp_base.specs.LinkTable.{Numbered}
 use Rattle.ftp_base.specs.Memory.{LinkState, link_fault_limit}
+use Rattle.ftp_options.specs.declared.options.ListenerMode.{ListenerMode}
 use Rattle.ftp_options.specs.declared.options.Options.{Options}
 use Rattle.ftp_options.specs.Settings.{Settings}
 use Rattle.ftp_options.specs.Builder.{settings_of}
@@ -224,24 +225,24 @@ keeps-link old new items log n chunk fails bytes hub put storage stands kept =
 unsaid-options : (items : List Item) → list_any says items ≡ false → has_options items ≡ false
 unsaid-options [] h = refl
 unsaid-options (item.Skip ∷ items) h = unsaid-options items h
-unsaid-options (item.Options lo hi idle restart ∷ items) h = cc
+unsaid-options (item.Options mode lo hi idle restart ∷ items) h = cc
 unsaid-options (item.Storage max fails ∷ items) h = cc
 unsaid-options (item.Dir path ∷ items) h = cc
 unsaid-options (item.File bytes path ∷ items) h = cc
 unsaid-options (item.Link n chunk fails bytes ∷ items) h = cc
 unsaid-options (item.Event e ∷ items) h = cc
 
-pub keeps-options : (old new : Run) (items : List Item) (log : List Entry) (lo hi seconds : ℕ) (restart : Bool) (made : Hub) (o : Options) →
+pub keeps-options : (old new : Run) (items : List Item) (log : List Entry) (mode : ListenerMode) (lo hi seconds : ℕ) (restart : Bool) (made : Hub) (o : Options) →
     new.hub ≡ Some made →
     new.links ≡ old.links →
     new.storage ≡ old.storage →
     Stands made [] →
     options_of made ≡ o →
-    Some (settings_of o) ≡ options_in (item.Options lo hi seconds restart ∷ []) →
-    may_stand items (item.Options lo hi seconds restart) ≡ true →
+    Some (settings_of o) ≡ options_in (item.Options mode lo hi seconds restart ∷ []) →
+    may_stand items (item.Options mode lo hi seconds restart) ≡ true →
     Keeps old items log →
-    Keeps new (items ++ item.Options lo hi seconds restart ∷ []) log
-keeps-options old new items log lo hi seconds restart made o is links storage stands same set may kept =
+    Keeps new (items ++ item.Options mode lo hi seconds restart ∷ []) log
+keeps-options old new items log mode lo hi seconds restart made o is links storage stands same set may kept =
     record {
       events = events-other items log options refl kept.events;
       hub =
@@ -258,7 +259,7 @@ keeps-options old new items log lo hi seconds restart made o is links storage st
           });
     } where
       options : Item
-      options = item.Options lo hi seconds restart
+      options = item.Options mode lo hi seconds restart
 
       more : List Item
       more = items ++ options ∷ []

@@ -1,17 +1,17 @@
--- Transfers of which nothing is refused and nothing fails, in the legal logs of scripts.
+-- Transfers of which nothing is refused and nothing fails, and headers of which nothing fails, in the legal logs of scripts.
 use Rattle.std.specs.Prelude.{◌≡◌, ◌⊎◌, ℕ, ◌-◌, ◌^◌, ◌<◌, List, [], ◌∷◌, ◌++◌, Some}
 use Rattle.std.specs.FinMap as map
 use Rattle.ftp_base.specs.Memory.{LinkState, fault_limit, link_fault_limit}
 use Rattle.ftp_base.specs.MemoryStorage.{MemoryState, memory_rule}
 use Rattle.ftp_options.specs.declared.options.Options.{Options}
-use Rattle.ftp_transfer.specs.declared.job.Completion.{Completion}
+use Rattle.ftp_proxy.specs.Line.{line}
 use Rattle.ftp_transfer.specs.declared.job.Completion.TheVariants as result
 use Rattle.ftp_transfer.specs.declared.job.Job.{Job}
 use Rattle.ftp_transfer.specs.declared.job.Outcome.{Outcome}
 use Rattle.ftp_transfer.specs.Ran.{Takes, IsDone}
 use Rattle.ftp_events.specs.declared.entry.Entry.{Entry}
 use Rattle.ftp_events.specs.declared.event.Answer.TheVariants as answer
-use Rattle.ftp_events.specs.Leads.{Outside, job_to_run, LeadsOne, Leads}
+use Rattle.ftp_events.specs.Leads.{Outside, header_to_read, job_to_run, LeadsOne, Leads}
 use Rattle.ftp_events.specs.Log.{past_of}
 use Rattle.ftp_event_text.specs.declared.setup.Item.{Item}
 use Rattle.ftp_script_text.specs.SetUp.{storage_in}
@@ -45,3 +45,22 @@ TakenTransfersAreDone =
     × Leads memory_views o [] older (start_of items) old
     × LeadsOne memory_views o (past_of older) e old new
     × IsDoneWhereTaken o (past_of older) e (storage_in items).max_file old
+
+-- an entry that read a header from old on tells the line at the front of what its connection had left
+abbrev pub IsLineWhereRead : Options → List Entry → Entry → Outside MemoryState LinkState → Type 0
+IsLineWhereRead o past e old =
+    (number : ℕ) (link : LinkState) →
+    header_to_read o past e.event.kind ≡ Some number →
+    map.get old.links number ≡ Some link →
+    e.answer ≡ answer.Header (line link.left)
+
+-- so does each entry of a legal log of a script that lists no call that fails
+abbrev pub HeadersAreRead : Type 0
+HeadersAreRead =
+    (o : Options) (items : List Item) (older newer : List Entry) (e : Entry) (end : Outside MemoryState LinkState) →
+    ListsNoFault items →
+    Leads memory_views o [] (newer ++ e ∷ older) (start_of items) end →
+    (old new : Outside MemoryState LinkState)
+    × Leads memory_views o [] older (start_of items) old
+    × LeadsOne memory_views o (past_of older) e old new
+    × IsLineWhereRead o (past_of older) e old

@@ -1,15 +1,19 @@
--- Runs over a storage and a link in memory that nothing stopped.
-use Rattle.std.specs.Prelude.{◌≡◌, ℕ, ◌-◌, ◌^◌, ◌<◌, true}
+-- Runs over a storage and a link in memory that nothing stopped, and headers that were read without a fault.
+use Rattle.std.specs.Prelude.{◌≡◌, ℕ, ◌-◌, ◌^◌, ◌<◌, true, Err}
 use Rattle.ftp_base.specs.Memory.{LinkState}
 use Rattle.ftp_base.specs.MemoryStorage.{MemoryState}
 use Rattle.ftp_base.specs.Outside.{HasRisen}
 use Rattle.ftp_base.specs.declared.error_kind.ErrorKind.TheVariants as kind
+use Rattle.ftp_proxy.specs.declared.error.ProxyError.TheVariants.{ReadError}
+use Rattle.ftp_proxy.specs.declared.error.ReadError.TheVariants.{Fault}
 use Rattle.ftp_transfer.specs.declared.job.Completion.TheVariants as result
 use Rattle.ftp_transfer.specs.declared.job.Job.{Job}
 use Rattle.ftp_transfer.specs.declared.job.Outcome.{Outcome}
 use Rattle.ftp_transfer.specs.Ran.{Told, Ran}
 use Rattle.ftp_transfer.specs.Transfer.{suits}
-use Rattle.ftp_events.specs.Leads.{told_by}
+use Rattle.ftp_events.specs.declared.event.Answer.{Answer}
+use Rattle.ftp_events.specs.declared.event.Answer.TheVariants as answer
+use Rattle.ftp_events.specs.Leads.{Outside, told_by, ReadsHeader}
 use Rattle.ftp_script_run.specs.Legal.{memory_views}
 
 -- what a storage and a link in memory tell together
@@ -36,3 +40,12 @@ SettledRunsAreDetermined =
     (job : Job) (storage left right : MemoryState) (link near far : LinkState) (first second : Outcome) →
     RunsTo job storage link left near first → RunsTo job storage link right far second →
     (first ≡ second) × (left.files ≡ right.files)
+
+-- two readings of the header of one connection, neither of which met a fault, give one answer and leave the same bytes
+abbrev pub ReadHeadersAreDetermined : Type 0
+ReadHeadersAreDetermined =
+    (number : ℕ) (first second : Answer) (old left right : Outside MemoryState LinkState)
+    (one : ReadsHeader memory_views number first old left) (other : ReadsHeader memory_views number second old right) →
+    (first ≡ answer.Header (Err (ReadError Fault)) → ⊥) →
+    (second ≡ answer.Header (Err (ReadError Fault)) → ⊥) →
+    (first ≡ second) × (one.after.left ≡ other.after.left)

@@ -5,7 +5,6 @@ use Rattle.ftp_base.specs.declared.fault.LinkFault.{LinkFault}
 use Rattle.ftp_base.specs.LinkTable.{Numbered}
 use Rattle.ftp_base.specs.Memory.{LinkState}
 use Rattle.ftp_options.specs.Settings.{Settings}
-use Rattle.ftp_options.specs.declared.options.ListenerMode.TheVariants.{Pooled}
 use Rattle.ftp_events.specs.declared.event.HubEvent.{HubEvent}
 use Rattle.ftp_event_text.specs.declared.setup.Item.{Item}
 use Rattle.ftp_event_text.specs.declared.setup.Item.TheVariants as item
@@ -24,11 +23,11 @@ abbrev pub features_of : Bool → ℕ
 features_of true = 1
 features_of false = 0
 
--- the options, where they are set: sessions share the ports, and the idle time is in milliseconds
+-- the options, where they are set; the idle time is in milliseconds
 abbrev pub options_in : List Item → Option Settings
 options_in [] = None
-options_in (item.Options lo hi idle restart ∷ items) =
-    Some (record { mode = Pooled; lo = lo; hi = hi; idle_ms = idle * 1000; features = features_of restart })
+options_in (item.Options mode lo hi idle restart ∷ items) =
+    Some (record { mode = mode; lo = lo; hi = hi; idle_ms = idle * 1000; features = features_of restart })
 options_in (_ ∷ items) = options_in items
 
 -- a link that gives these bytes, on which no call was made, and of whose calls these fail

@@ -41,7 +41,8 @@ pub record FailsAsListed (old new : Outside MemoryState LinkState) : Type 0 wher
       (n : ℕ) (before after : LinkState) → map.get old.links n ≡ Some before → map.get new.links n ≡ Some after →
       after.calls.faults ≤ link_fault_limit before.calls
 
--- by options with these settings each decision and each action is due, and each job was run, at its end, from old to new
+-- by options with these settings each decision and each action is due, and each header was read and each job was run, at its
+-- end, from old to new
 pub record IsDue (settings : Settings) (log : List Entry) (old new : Outside MemoryState LinkState) : Type 0 where
   pub options : Options
   pub set : settings_of options ≡ settings

@@ -1,15 +1,17 @@
 -- The faults that the log of a script tells, by the calls that the script lists.
-use Rattle.std.specs.Prelude.{◌≡◌, ℕ, ◌<◌, List, [], ◌∷◌, ◌++◌, Contains, Some}
+use Rattle.std.specs.Prelude.{◌≡◌, ℕ, ◌<◌, List, [], ◌∷◌, ◌++◌, Contains, Some, Err}
 use Rattle.std.specs.FinMap as map
 use Rattle.ftp_base.specs.declared.fault.LinkFault.{LinkFault}
 use Rattle.ftp_base.specs.Memory.{LinkState}
 use Rattle.ftp_base.specs.MemoryStorage.{MemoryState}
 use Rattle.ftp_options.specs.declared.options.Options.{Options}
+use Rattle.ftp_proxy.specs.declared.error.ProxyError.TheVariants.{ReadError}
+use Rattle.ftp_proxy.specs.declared.error.ReadError.TheVariants.{Fault}
 use Rattle.ftp_transfer.specs.declared.job.Job.{Job}
 use Rattle.ftp_transfer.specs.declared.job.Outcome.{Outcome}
 use Rattle.ftp_events.specs.declared.entry.Entry.{Entry}
 use Rattle.ftp_events.specs.declared.event.Answer.TheVariants as answer
-use Rattle.ftp_events.specs.Leads.{Outside, job_to_run, Leads}
+use Rattle.ftp_events.specs.Leads.{Outside, header_to_read, job_to_run, Leads}
 use Rattle.ftp_events.specs.Log.{past_of}
 use Rattle.ftp_event_text.specs.declared.setup.Item.{Item}
 use Rattle.ftp_script_run.specs.Items.{links_in}
@@ -25,7 +27,7 @@ pub record IsListed (items : List Item) (n : ℕ) (f : LinkFault) (before : Outs
   pub found : map.get before.links n ≡ Some made
   pub to_come : made.calls.made < call
 
--- each fault that an entry tells is one that the script lists for the link of its job
+-- each fault of a transfer that an entry tells is one that the script lists for the link of its job
 abbrev pub ToldFaultsAreListed : Type 0
 ToldFaultsAreListed =
     (o : Options) (items : List Item) (older newer : List Entry) (e : Entry) (end : Outside MemoryState LinkState)
@@ -37,3 +39,14 @@ ToldFaultsAreListed =
     (old : Outside MemoryState LinkState)
     × Leads memory_views o [] older (start_of items) old
     × IsListed items job.number f old
+
+-- each fault of a header that an entry tells is one that the script lists for the link of its connection
+abbrev pub ToldHeaderFaultsAreListed : Type 0
+ToldHeaderFaultsAreListed =
+    (o : Options) (items : List Item) (older newer : List Entry) (e : Entry) (end : Outside MemoryState LinkState) (n : ℕ) →
+    Leads memory_views o [] (newer ++ e ∷ older) (start_of items) end →
+    header_to_read o (past_of older) e.event.kind ≡ Some n →
+    e.answer ≡ answer.Header (Err (ReadError Fault)) →
+    (old : Outside MemoryState LinkState)
+    × Leads memory_views o [] older (start_of items) old
+    × ((f : LinkFault) × IsListed items n f old)

@@ -12,7 +12,7 @@ ghost use Rattle.ftp_script_run.specs.Left.{end_lines};
 ghost use Rattle.ftp_script_run.specs.Outcome.{log_lines, bad_line};
 ghost use Rattle.ftp_script_run.specs.Runs.{Keeps, MayTake, Takes, IsTaken, IsPartlyTaken};
 ghost use Rattle.ftp_options.specs.Builder.{settings_of};
-ghost use Rattle.ftp_event_text.specs.Setup.{IsItem};
+ghost use Rattle.ftp_event_text.specs.Setup.{IsItem, IsMode};
 ghost use Rattle.ftp_script_text.specs.Script.{may_stand};
 
 use crate::printing::{print_bad_line, print_entry, print_files, print_links};
@@ -23,7 +23,7 @@ use ftp_base::{
 use ftp_event_text::Item;
 use ftp_events::{Entry, HubEvent};
 use ftp_hub::{Hub, run_event};
-use ftp_options::{Options, ServerBuilder};
+use ftp_options::{ListenerMode, Options, ServerBuilder};
 use ftp_script_text::MAX_FILE;
 use ftp_text::FailingCalls;
 use std::alloc::Global;
@@ -75,12 +75,13 @@ impl Run {
         match item {
             Item::Skip => Ok(()),
             Item::Options {
+                mode,
                 lo,
                 hi,
                 idle,
                 restart,
             } => {
-                self.start(lo, hi, idle, restart);
+                self.start(mode, lo, hi, idle, restart);
                 Ok(())
             }
             Item::Storage { max, fails } => {
@@ -100,11 +101,11 @@ impl Run {
     }
 
     // Makes the hub.
-    fn start(&mut self, lo: u16, hi: u16, idle: u32, restart: bool)
-        requires { MayTake self.old (item.Options lo hi idle restart) }
-        ensures { Takes self.old (item.Options lo hi idle restart) self.new [] }
+    fn start(&mut self, mode: ListenerMode, lo: u16, hi: u16, idle: u32, restart: bool)
+        requires { MayTake self.old (item.Options mode lo hi idle restart) }
+        ensures { Takes self.old (item.Options mode lo hi idle restart) self.new [] }
     {
-        self.hub = Some(Hub::new(self.alloc, pooled(lo, hi, idle, restart)));
+        self.hub = Some(Hub::new(self.alloc, built(mode, lo, hi, idle, restart)));
     }
 
     // Makes the storage, which has no files yet.
@@ -225,19 +226,31 @@ fn want_of_memory(error: StoreError) -> Failed
     }
 }
 
-// The options of sessions that share the passive ports. The idle time is in seconds.
-fn pooled(lo: u16, hi: u16, idle: u32, restart: bool) -> Options
-    requires { IsItem (item.Options lo hi idle restart) }
-    ensures { Some (settings_of result) ≡ options_in (item.Options lo hi idle restart ∷ []) }
+// The options of an options line. The idle time is in seconds.
+fn built(mode: ListenerMode, lo: u16, hi: u16, idle: u32, restart: bool) -> Options
+    requires { IsItem (item.Options mode lo hi idle restart) }
+    ensures { Some (settings_of result) ≡ options_in (item.Options mode lo hi idle restart ∷ []) }
 {
     let mut builder = ServerBuilder::new();
-    builder.pooled_listener_mode();
+    set_mode(&mut builder, mode);
     builder.passive_ports(lo, hi);
     builder.idle_session_timeout(u64::from(idle));
     builder.storage_features(features(restart));
     match builder.build() {
         Ok(built) => built.options,
         Err(_) => unreachable!(),
+    }
+}
+
+// Sets the mode, which is one that has a line.
+fn set_mode(builder: &mut ServerBuilder, mode: ListenerMode)
+    requires { IsMode mode }
+    ensures { builder.new ≡ record builder.old { mode = mode } }
+{
+    match mode {
+        ListenerMode::Legacy => unreachable!(),
+        ListenerMode::Pooled => builder.pooled_listener_mode(),
+        ListenerMode::Proxy { control_port } => builder.proxy_protocol_mode(control_port),
     }
 }
 
