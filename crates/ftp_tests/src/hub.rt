@@ -1,7 +1,7 @@
 //! Runs with ample memory, and at the end of the count of events.
 
-ghost use Rattle.std.specs.Prelude.{IfOk, IsTrue};
-ghost use Rattle.ftp_options.specs.Modes.{is_pooled};
+ghost use Rattle.std.specs.Prelude.{IfOk, IsTrue, not};
+ghost use Rattle.ftp_options.specs.Modes.{is_legacy};
 
 use crate::headline::run_all;
 use crate::values::{CLIENT, CONNECT, PASV};
@@ -86,7 +86,7 @@ fn links(alloc: Global) -> Result<LinkTable<MemoryLink>, Fail> {
 }
 
 fn options() -> Result<Options, Fail>
-    ensures { IfOk result (λ o. IsTrue (is_pooled o.mode)) }
+    ensures { IfOk result (λ o. IsTrue (not (is_legacy o.mode))) }
 {
     let mut builder = ServerBuilder::new();
     builder.pooled_listener_mode();

@@ -5,6 +5,8 @@
 #![tactic(auto)]
 
 #[cfg(test)]
+mod behind_proxy;
+#[cfg(test)]
 mod control_lines;
 #[cfg(test)]
 mod headline;

@@ -22,6 +22,10 @@ fn header(source: (u32, u16), destination: (u32, u16)) -> ProxyHeader {
 fn a_header_is_read_whatever_the_pieces(rt: HostRuntime) -> Result<(), Fail> {
     let alloc = rt.alloc();
     let longest = header((0xffff_ffff, 65535), (0xffff_ffff, 65535));
+    let mut crlf = [b'A'; 108];
+    crlf[107] = b'\n';
+    let mut endless = [b'A'; 109];
+    endless[108] = b'\n';
     for (bytes, read) in [
         (
             b"PROXY TCP4 255.255.255.255 255.255.255.255 65535 65535\r\n".as_slice(),
@@ -38,6 +42,8 @@ fn a_header_is_read_whatever_the_pieces(rt: HostRuntime) -> Result<(), Fail> {
         (b"PROXY TCP4\r\n", Err(ProxyError::HeaderSize)),
         (b"PROXY UNKNOWN\r\n", Err(ProxyError::UnsupportedVersion)),
         (&[b'A'; 108], Err(ProxyError::NotProxyHdr)),
+        (&crlf, Err(ProxyError::CrlfError)),
+        (&endless, Err(ProxyError::NotProxyHdr)),
         (
             b"PROXY TCP4 127.0.0.1",
             Err(ProxyError::ReadError(ReadError::UnexpectedEof)),

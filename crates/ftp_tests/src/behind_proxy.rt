@@ -1,0 +1,119 @@
+//! A hub behind a proxy, event by event, by headers that were read elsewhere.
+
+ghost use Rattle.std.specs.Prelude.{IfOk, IsTrue, not};
+ghost use Rattle.ftp_options.specs.Modes.{is_legacy};
+
+use crate::values::{CLIENT, PASV};
+use ftp_base::{AuthAnswer, Bytes, IpAddr, SocketAddr};
+use ftp_events::{Answer, Decision, EventKind, HubEvent};
+use ftp_hub::{Hub, PrepareError};
+use ftp_options::{Options, ServerBuilder};
+use ftp_proxy::{ProxyError, ProxyHeader};
+use std::alloc::Global;
+use std::test::Fail;
+
+/// The address of the proxy, 10.9.9.9.
+const PROXY: u32 = 0x0a09_0909;
+
+/// The port of the proxy that opens sessions.
+const CONTROL: u16 = 2121;
+
+fn options() -> Result<Options, Fail>
+    ensures { IfOk result (λ o. IsTrue (not (is_legacy o.mode))) }
+{
+    let mut builder = ServerBuilder::new();
+    builder.proxy_protocol_mode(CONTROL);
+    builder.passive_ports(50000, 50001);
+    Ok(builder.build().ok().ok_or("not built")?.options)
+}
+
+/// What is decided on an event.
+fn act(hub: &mut Hub, kind: EventKind, answer: Answer) -> Result<Decision, PrepareError> {
+    let event = HubEvent { at: 0, kind };
+    match hub.prepare(&event) {
+        Ok(room) => Ok(hub.step(room, event, answer).decision),
+        Err(error) => Err(error),
+    }
+}
+
+/// A connection that comes from the proxy at an address.
+fn passed_on(number: u64, proxy: u32) -> EventKind {
+    EventKind::Proxied {
+        number,
+        raw: SocketAddr {
+            ip: IpAddr::V4(proxy),
+            port: 1,
+        },
+        trace: 1,
+    }
+}
+
+/// The header of a client's connection to a port of the proxy.
+fn header(port: u16) -> Answer {
+    Answer::Header(Ok(ProxyHeader {
+        source: SocketAddr {
+            ip: IpAddr::V4(CLIENT),
+            port: 4000,
+        },
+        destination: SocketAddr {
+            ip: IpAddr::V4(0xc633_6401),
+            port,
+        },
+    }))
+}
+
+/// Session 1 is opened by its header, and logs in.
+fn logged_in(alloc: Global) -> Result<Hub, Fail> {
+    let session = 1;
+    let name = Bytes::from_slice(alloc, b"ann")?;
+    let good = AuthAnswer::Good;
+    let mut hub = Hub::new(alloc, options()?);
+    for (kind, answer) in [
+        (passed_on(session, PROXY), header(CONTROL)),
+        (EventKind::User { session, name }, Answer::None),
+        (EventKind::Pass { session }, Answer::None),
+        (
+            EventKind::AuthDone {
+                session,
+                answer: good,
+            },
+            Answer::None,
+        ),
+    ] {
+        act(&mut hub, kind, answer).ok().ok_or("not prepared")?;
+    }
+    Ok(hub)
+}
+
+#[test]
+fn a_header_decides_what_its_connection_is(rt: HostRuntime) -> Result<(), Fail> {
+    let alloc = rt.alloc();
+    let error = ProxyError::CrlfError;
+    let mut hub = Hub::new(alloc, options()?);
+    for (number, answer, decision) in [
+        (1, Answer::None, Decision::NotExpected),
+        (1, Answer::Header(Err(error)), Decision::HeaderFault(error)),
+        (1, header(CONTROL), Decision::UsedNumber),
+        (2, header(CONTROL), Decision::Opened),
+        (3, header(50002), Decision::Turned),
+    ] {
+        let found = act(&mut hub, passed_on(number, PROXY), answer);
+        assert_eq!(rt; found, Ok(decision));
+    }
+    Ok(())
+}
+
+#[test]
+fn a_data_connection_comes_from_the_proxy_of_its_session(rt: HostRuntime) -> Result<(), Fail> {
+    let mut hub = logged_in(rt.alloc())?;
+    for (number, proxy, decision) in [
+        (11, PROXY + 1, Decision::Turned),
+        (12, PROXY, Decision::Attached { session: 1 }),
+    ] {
+        let granted = act(&mut hub, PASV, Answer::None);
+        assert_eq!(rt; granted, Ok(Decision::Granted { port: 50000 }));
+        let found = act(&mut hub, passed_on(number, proxy), header(50000));
+        assert_eq!(rt; found, Ok(decision));
+    }
+    Ok(())
+}
