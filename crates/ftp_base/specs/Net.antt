@@ -1,5 +1,5 @@
 -- Addresses of peers.
-use Rattle.std.specs.Prelude.{ℕ, Bool, true, false, ◌==◌}
+use Rattle.std.specs.Prelude.{ℕ, Bool, true, false, ◌==◌, Option, Some, None}
 use Rattle.ftp_base.specs.declared.net.IpAddr.{IpAddr}
 use Rattle.ftp_base.specs.declared.net.IpAddr.TheVariants.{V4, V6}
 
@@ -16,6 +16,6 @@ is_v6 (V4 a) = false
 is_v6 (V6 a) = true
 
 -- the number of an address of version 4
-abbrev pub ipv4 : IpAddr → ℕ
-ipv4 (V4 a) = a
-ipv4 (V6 a) = 0
+abbrev pub ipv4 : IpAddr → Option ℕ
+ipv4 (V4 a) = Some a
+ipv4 (V6 a) = None

@@ -28,13 +28,13 @@ impl IpAddr {
         matches!(self, IpAddr::V6(_))
     }
 
-    /// The number of an address of version 4, and 0 for one of version 6.
-    pub fn ipv4(self) -> u32
+    /// The number of an address of version 4.
+    pub fn ipv4(self) -> Option<u32>
         ensures { result ≡ ipv4 self }
     {
         match self {
-            IpAddr::V4(ip) => ip,
-            IpAddr::V6(_) => 0,
+            IpAddr::V4(ip) => Some(ip),
+            IpAddr::V6(_) => None,
         }
     }
 }
