@@ -1,7 +1,9 @@
--- Who listens for data connections.
+-- Who listens for data connections, and who opens them.
 use Rattle.std.specs.Prelude.{ℕ, ◌==◌, Bool, true, false}
 use Rattle.ftp_options.specs.declared.options.ListenerMode.{ListenerMode}
 use Rattle.ftp_options.specs.declared.options.ListenerMode.TheVariants.{Legacy, Pooled, Proxy}
+use Rattle.ftp_options.specs.declared.options.ActivePassiveMode.{ActivePassiveMode}
+use Rattle.ftp_options.specs.declared.options.ActivePassiveMode.TheVariants.{PassiveOnly, ActiveOnly}
 
 -- each session has a listener of its own
 abbrev pub is_legacy : ListenerMode → Bool
@@ -22,3 +24,13 @@ is_proxy _ = false
 abbrev pub is_control_port : ListenerMode → ℕ → Bool
 is_control_port (Proxy control_port) port = control_port == port
 is_control_port _ port = false
+
+-- passive commands are refused
+abbrev pub is_passive_off : ActivePassiveMode → Bool
+is_passive_off ActiveOnly = true
+is_passive_off _ = false
+
+-- PORT commands are refused
+abbrev pub is_active_off : ActivePassiveMode → Bool
+is_active_off PassiveOnly = true
+is_active_off _ = false

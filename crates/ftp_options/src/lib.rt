@@ -6,10 +6,19 @@
 
 mod builder;
 mod error;
+mod escape;
+mod ftps;
+mod host;
 mod lockout;
 mod options;
+mod shutdown;
+mod site;
 
 pub use builder::{Built, ServerBuilder};
-pub use error::ServerError;
+pub use error::{ConfigFault, ServerError};
+pub use ftps::{FtpsClientAuth, FtpsRequired, TlsFlags};
+pub use host::PassiveHost;
 pub use lockout::{FailedLoginsBlock, FailedLoginsPolicy};
-pub use options::{ActivePassiveMode, ListenerMode, Options, PassiveHost};
+pub use options::{ActivePassiveMode, ListenerMode, Options, SiteMd5};
+pub use shutdown::Shutdown;
+pub use site::{Handler, SiteCommandContext, SiteCommandHandler, SiteHandlers};

@@ -1,10 +1,14 @@
 //! The options of a server.
 
-ghost use Rattle.std.specs.Prelude.{◌≡◌, ◌≤◌, false};
-ghost use Rattle.ftp_options.specs.Modes.{is_legacy, is_pooled, is_proxy, is_control_port};
+ghost use Rattle.std.specs.Prelude.{◌≡◌, ◌≤◌, false, IfOk};
+ghost use Rattle.ftp_options.specs.Modes.{is_legacy, is_pooled, is_proxy, is_control_port, is_passive_off, is_active_off};
 ghost use Rattle.ftp_options.specs.Features.{has_restart};
 
-use ftp_base::FEATURE_RESTART;
+use crate::ftps::TlsFlags;
+use crate::host::PassiveHost;
+use crate::lockout::FailedLoginsPolicy;
+use ftp_base::{Bytes, FEATURE_RESTART};
+use std::alloc::{AllocError, Global};
 
 /// Who listens for data connections.
 #[derive(Clone, Copy, Debug, PartialEq, Eq)]
@@ -45,22 +49,44 @@ impl ListenerMode {
     }
 }
 
-/// Which address a passive reply advertises.
-#[derive(Clone, Copy, Debug, PartialEq, Eq)]
-pub enum PassiveHost {
-    /// The address that the control connection came to.
-    FromConnection,
-}
-
 /// Which commands open data connections.
 #[derive(Clone, Copy, Debug, PartialEq, Eq)]
 pub enum ActivePassiveMode {
+    /// The client connects, after a passive command.
     PassiveOnly,
+    /// The server connects, after a PORT command.
+    ActiveOnly,
+    ActiveAndPassive,
+}
+
+impl ActivePassiveMode {
+    /// Says whether passive commands are refused.
+    pub fn is_passive_off(self) -> bool
+        ensures { result ≡ is_passive_off self }
+    {
+        matches!(self, ActivePassiveMode::ActiveOnly)
+    }
+
+    /// Says whether PORT commands are refused.
+    pub fn is_active_off(self) -> bool
+        ensures { result ≡ is_active_off self }
+    {
+        matches!(self, ActivePassiveMode::PassiveOnly)
+    }
+}
+
+/// Who may ask for the MD5 digest of a file.
+#[derive(Clone, Copy, Debug, PartialEq, Eq)]
+pub enum SiteMd5 {
+    All,
+    /// All users but the anonymous one.
+    Accounts,
+    None,
 }
 
 /// Lawful options: the passive ports are `lo` to `hi`, both included, and 0 is none of them
 /// where sessions share the ports.
-#[derive(Clone, Copy, Debug, PartialEq, Eq)]
+#[derive(Debug, PartialEq, Eq, Drop)]
 pub struct Options {
     pub mode: ListenerMode,
     pub lo: u16,
@@ -69,17 +95,54 @@ pub struct Options {
     pub active_passive: ActivePassiveMode,
     /// The idle time of a session, in milliseconds.
     pub idle_ms: u64,
+    /// When failed logins lock a name or an address, where they ever do.
+    pub lockout: Option<FailedLoginsPolicy>,
     /// What the storage can do: the sum of the `FEATURE_` constants.
     pub features: u32,
+    pub site_md5: SiteMd5,
+    pub tls_flags: TlsFlags,
+    pub collect_metrics: bool,
+    /// What a new control connection is greeted with; `None` stands for `Welcome to the libunftp FTP server`.
+    pub greeting: Option<Bytes>,
     pub ghost ordered: { lo ≤ hi },
     pub ghost listens: { is_legacy mode ≡ false → 1 ≤ lo },
 }
 
 impl Options {
+    /// Gives equal options.
+    pub fn copy(&self, alloc: Global) -> Result<Options, AllocError>
+        ensures { IfOk result (λ copy. copy ≡ self.now) }
+    {
+        Ok(Options {
+            mode: self.mode,
+            lo: self.lo,
+            hi: self.hi,
+            host: self.host.copy(alloc)?,
+            active_passive: self.active_passive,
+            idle_ms: self.idle_ms,
+            lockout: self.lockout,
+            features: self.features,
+            site_md5: self.site_md5,
+            tls_flags: self.tls_flags,
+            collect_metrics: self.collect_metrics,
+            greeting: copy_of(alloc, &self.greeting)?,
+        })
+    }
+
     /// Transfers can begin at a restart offset.
     pub fn has_restart(&self) -> bool
         ensures { result ≡ has_restart self.now.features }
     {
         self.features & FEATURE_RESTART == FEATURE_RESTART
+    }
+}
+
+// Gives equal bytes, where there are any.
+fn copy_of(alloc: Global, bytes: &Option<Bytes>) -> Result<Option<Bytes>, AllocError>
+    ensures { IfOk result (λ copy. copy ≡ bytes.now) }
+{
+    match bytes {
+        Some(bytes) => Ok(Some(bytes.copy(alloc)?)),
+        None => Ok(None),
     }
 }
