@@ -12,4 +12,6 @@ mod reader;
 
 pub use error::{ProxyError, ReadError};
 pub use header::ProxyHeader;
+pub use number::value_below;
+pub use pieces::cut;
 pub use reader::read_proxy_header;

@@ -16,7 +16,7 @@ pub fn number(text: &[u8], limit: u32) -> Option<u32>
     if !is_decimal(text) {
         return None;
     }
-    value(text, limit)
+    value_below(text, limit)
 }
 
 // Says whether all are digits, of which a zero leads no other.
@@ -33,8 +33,8 @@ fn are_digits(text: &[u8]) -> bool
     text.iter().all(|b| b.is_ascii_digit())
 }
 
-// The value of the digits, where it is below the limit.
-fn value(digits: &[u8], limit: u32) -> Option<u32>
+/// The value of decimal digits, where it is below the limit, which is at most 65536.
+pub fn value_below(digits: &[u8], limit: u32) -> Option<u32>
     requires digits { list_all is_ascii_digit digits.now ≡ true }
     requires some { 1 ≤ limit }
     requires small { limit ≤ 65536 }
