@@ -1,6 +1,9 @@
 -- Worked examples, each by computation.
 use Rattle.std.specs.Prelude.{ℕ, ◌≡◌, ◌++◌, refl, true, false, List, [], ◌∷◌, map, reverse, codes, Option, Some, None, Err}
+use Rattle.ftp_base.specs.declared.login.AuthAnswer.{AuthAnswer}
 use Rattle.ftp_base.specs.declared.login.AuthAnswer.TheVariants.{Good, Refused}
+use Rattle.ftp_base.specs.declared.login.LockState.TheVariants.{MaxFailuresReached, AlreadyLocked}
+use Rattle.ftp_lockout.specs.Keys.{key_cmp}
 use Rattle.ftp_base.specs.declared.error_kind.ErrorKind.TheVariants as error
 use Rattle.ftp_base.specs.declared.command.DataChanCmd.TheVariants.{Retr, Stor}
 use Rattle.ftp_base.specs.declared.notice.DataEvent.TheVariants.{Got, Put}
@@ -9,12 +12,13 @@ use Rattle.ftp_base.specs.declared.notice.PresenceEvent.TheVariants as presence
 use Rattle.ftp_base.specs.declared.reply.ReplyCode.TheVariants as code
 use Rattle.ftp_proxy.specs.declared.error.ProxyError.TheVariants as fault
 use Rattle.ftp_events.specs.declared.event.EventKind.TheVariants as kind
+use Rattle.ftp_events.specs.declared.decision.Decision.{Decision}
 use Rattle.ftp_events.specs.declared.decision.Decision.TheVariants as decision
 use Rattle.ftp_events.specs.declared.action.Action.TheVariants as action
 use Rattle.ftp_transfer.specs.declared.job.Completion.TheVariants.{Sent, Written}
 use Rattle.ftp_events.specs.Fate.{Fate, CompletedAt, CancelledAt, AwaitsConnection, AwaitsItsEnd, AwaitsEarlierEnd, fate}
 use Rattle.ftp_events.specs.Right.{log_of}
-use Rattle.ftp_events.proofs.Script.{Event, everything, ticket, ended, addr, two_ports, one_port, all_ports, proxied_ports, header, proxied, opened, event, login, pasv, told_after, decided_after, say, data_in, a1, a2}
+use Rattle.ftp_events.proofs.Script.{Event, everything, ticket, ended, addr, two_ports, one_port, all_ports, proxied_ports, own_ports, locking, named_host, both_modes, header, proxied, opened, event, login, pasv, told_after, decided_after, say, data_in, a1, a2}
 
 -- the login itself
 a_login : told_after 0 two_ports (login 1 a1)
@@ -108,6 +112,52 @@ headers_that_are_none : told_after 0 proxied_ports
     ∷ (decision.Misplaced, []) ∷ (decision.Misplaced, []) ∷ [])
 unfolding everything
 headers_that_are_none = refl
+
+-- three failures lock; a right password on the lock is told late, and the lock expires
+try_at : ℕ → AuthAnswer → List Event
+try_at at said = event at (kind.User 1 (codes "ann")) ∷ event at (kind.Pass 1) ∷ event at (kind.AuthDone 1 said) ∷ []
+
+checked : List Decision → List Decision
+checked (a ∷ b ∷ c ∷ rest) = c ∷ checked rest
+checked _ = []
+
+lockout : checked (decided_after 1 locking
+    (opened 1 a1 ∷ (try_at 0 Refused ++ try_at 1000 Refused ++ try_at 2000 Refused ++ try_at 3000 Good ++ try_at 122000 Good ++ try_at 123000 Good)))
+    ≡ (decision.LoginFailed None 0 ∷ decision.LoginFailed None 0 ∷ decision.LoginFailed (Some MaxFailuresReached) 0
+    ∷ decision.LoginFailed (Some AlreadyLocked) 1500 ∷ decision.LoginFailed (Some AlreadyLocked) 1500 ∷ decision.LoggedIn ∷ [])
+unfolding everything try_at checked key_cmp
+lockout = refl
+
+-- a name that is advertised has to be looked up
+advertised_name : told_after 4 named_host
+    (login 1 a1 ++ pasv 1 0 ∷ event 1 (kind.Pasv 1 0 (Some 3221225989) None) ∷ [])
+    ≡ ((decision.NoLookup, say 1 code.CantOpenDataConnection (codes "Could not resolve DNS address 'ftp.example'") ∷ [])
+    ∷ (decision.Granted 50000, say 1 code.EnteringPassiveMode (codes "Entering Passive Mode (192,0,2,5,195,80)") ∷ []) ∷ [])
+unfolding everything
+advertised_name = refl
+
+-- a socket of the session's own, and a wait on it that ends
+own_sockets : told_after 4 own_ports
+    (login 1 a1 ++ pasv 1 0 ∷ event 1 (kind.Pasv 1 0 None (Some 50001)) ∷ event 1 (kind.Transfer 1 (Retr (codes "a"))) ∷ event 15000 (kind.SlotTick 1) ∷ event 15001 (kind.SlotTick 1) ∷ [])
+    ≡ ((decision.NoSocket, say 1 code.CantOpenDataConnection (codes "No data connection established") ∷ [])
+    ∷ (decision.Granted 50001, say 1 code.EnteringPassiveMode (codes "Entering Passive Mode (10,0,0,9,195,81)") ∷ [])
+    ∷ (decision.Queued (ticket 1 1), say 1 code.FileStatusOkay (codes "Sending data") ∷ [])
+    ∷ (decision.Early, [])
+    ∷ (decision.SlotDropped, action.Cancelled (ticket 1 1) ∷ say 1 code.ConnectionClosed (codes "Datachannel unexpectedly closed") ∷ []) ∷ [])
+unfolding everything
+own_sockets = refl
+
+-- connections that the server makes: to the peer alone, and a link without a transfer may stand five minutes
+connections_made : told_after 4 both_modes
+    (login 1 a1 ++ event 1 (kind.Port 1 (codes "10,0,0,1,117,48") (Some 11)) ∷ event 1 (kind.Port 1 (codes "10,0,0,2,117,48") None)
+    ∷ event 1 (kind.Port 1 (codes "10,0,0,1") None) ∷ event 300000 (kind.SlotTick 1) ∷ event 300001 (kind.SlotTick 1) ∷ [])
+    ≡ ((decision.PortOk, say 1 code.CommandOkay (codes "PORT command successful") ∷ [])
+    ∷ (decision.OtherAddress, say 1 code.CantOpenDataConnection (codes "Could not establish data connection") ∷ [])
+    ∷ (decision.BadAddress, say 1 code.ParameterSyntaxError (codes "Invalid address format") ∷ [])
+    ∷ (decision.Early, [])
+    ∷ (decision.SlotDropped, action.Close 11 ∷ []) ∷ [])
+unfolding everything
+connections_made = refl
 
 -- a session that ends frees its port, and its own connection is closed last
 ending_frees : told_after 8 one_port

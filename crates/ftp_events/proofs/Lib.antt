@@ -1,2 +1,3 @@
+pub mod PortTexts
 pub mod Script
 mod Examples

@@ -1,5 +1,5 @@
 -- A small script language for the examples.
-use Rattle.std.specs.Prelude.{ℕ, ◌+◌, ◌*◌, List, [], ◌∷◌, map, reverse, drop, codes, None, Result, Ok}
+use Rattle.std.specs.Prelude.{ℕ, ◌≡◌, ◌≤◌, false, Some, ◌+◌, ◌*◌, List, [], ◌∷◌, map, reverse, drop, codes, None, Result, Ok}
 use Rattle.std.proofs.Common.{lit≤}
 use Rattle.ftp_base.specs.declared.net.IpAddr.{IpAddr}
 use Rattle.ftp_base.specs.declared.net.IpAddr.TheVariants.{V4}
@@ -12,9 +12,13 @@ use Rattle.ftp_proxy.specs.declared.error.ProxyError.{ProxyError}
 use Rattle.ftp_proxy.specs.declared.header.ProxyHeader.{ProxyHeader}
 use Rattle.ftp_transfer.specs.declared.job.Ticket.{Ticket}
 use Rattle.ftp_transfer.specs.declared.job.Completion.{Completion}
-use Rattle.ftp_options.specs.declared.options.ListenerMode.TheVariants.{Pooled, Proxy}
-use Rattle.ftp_options.specs.declared.options.PassiveHost.TheVariants.{FromConnection}
-use Rattle.ftp_options.specs.declared.options.ActivePassiveMode.TheVariants.{PassiveOnly}
+use Rattle.ftp_options.specs.declared.options.ListenerMode.{ListenerMode}
+use Rattle.ftp_options.specs.declared.options.ListenerMode.TheVariants.{Legacy, Pooled, Proxy}
+use Rattle.ftp_options.specs.declared.host.PassiveHost.TheVariants.{FromConnection, Dns}
+use Rattle.ftp_options.specs.declared.lockout.FailedLoginsBlock.TheVariants.{UserAndIP}
+use Rattle.ftp_options.specs.declared.options.SiteMd5.TheVariants.{Accounts}
+use Rattle.ftp_options.specs.Modes.{is_legacy}
+use Rattle.ftp_options.specs.declared.options.ActivePassiveMode.TheVariants.{PassiveOnly, ActiveAndPassive}
 use Rattle.ftp_events.specs.declared.entry.Entry.{Entry}
 use Rattle.ftp_events.specs.declared.event.HubEvent.{HubEvent}
 use Rattle.ftp_events.specs.declared.event.EventKind.{EventKind}
@@ -38,21 +42,57 @@ ip a b c d = V4 (((a * 256 + b) * 256 + c) * 256 + d)
 abbrev pub addr : IpAddr → ℕ → SocketAddr
 addr a p = record { ip = a; port = p }
 
+-- lawful options with these parts, the other settings as a builder has them
+abbrev pub lawful : (mode : ListenerMode) (lo hi : ℕ) → lo ≤ hi → (is_legacy mode ≡ false → 1 ≤ lo) → Options
+lawful mode lo hi ordered listens =
+    record {
+      mode = mode;
+      lo = lo;
+      hi = hi;
+      host = FromConnection;
+      active_passive = PassiveOnly;
+      idle_ms = 600000;
+      lockout = None;
+      features = 1;
+      site_md5 = Accounts;
+      tls_flags = record { 0 = 25 };
+      collect_metrics = false;
+      greeting = None;
+      ordered = ordered;
+      listens = listens;
+    }
+
 -- pooled mode with the passive ports 50000 to 50001
 abbrev pub two_ports : Options
-two_ports = record { mode = Pooled; lo = 50000; hi = 50001; host = FromConnection; active_passive = PassiveOnly; idle_ms = 600000; features = 1; ordered = lit≤ tt; listens = λ _. lit≤ tt }
+two_ports = lawful Pooled 50000 50001 (lit≤ tt) (λ _. lit≤ tt)
 
 -- with the port 50000 alone
 abbrev pub one_port : Options
-one_port = record { mode = Pooled; lo = 50000; hi = 50000; host = FromConnection; active_passive = PassiveOnly; idle_ms = 600000; features = 1; ordered = lit≤ tt; listens = λ _. lit≤ tt }
+one_port = lawful Pooled 50000 50000 (lit≤ tt) (λ _. lit≤ tt)
 
 -- with all ports
 abbrev pub all_ports : Options
-all_ports = record { mode = Pooled; lo = 1; hi = 65535; host = FromConnection; active_passive = PassiveOnly; idle_ms = 600000; features = 1; ordered = lit≤ tt; listens = λ _. lit≤ tt }
+all_ports = lawful Pooled 1 65535 (lit≤ tt) (λ _. lit≤ tt)
 
 -- behind a proxy, whose control port is 2121
 abbrev pub proxied_ports : Options
-proxied_ports = record { mode = Proxy 2121; lo = 50000; hi = 50001; host = FromConnection; active_passive = PassiveOnly; idle_ms = 600000; features = 1; ordered = lit≤ tt; listens = λ _. lit≤ tt }
+proxied_ports = lawful (Proxy 2121) 50000 50001 (lit≤ tt) (λ _. lit≤ tt)
+
+-- a listener for each session
+abbrev pub own_ports : Options
+own_ports = lawful Legacy 50000 50001 (lit≤ tt) (λ _. lit≤ tt)
+
+-- three failed logins within two minutes lock a name from an address
+abbrev pub locking : Options
+locking = record two_ports { lockout = Some (record { max_attempts = 3; expires_after_ms = 120000; block_by = UserAndIP }) }
+
+-- a name is advertised
+abbrev pub named_host : Options
+named_host = record two_ports { host = Dns (codes "ftp.example") }
+
+-- both PASV and PORT are served
+abbrev pub both_modes : Options
+both_modes = record two_ports { active_passive = ActiveAndPassive }
 
 -- an event and its answer
 abbrev pub Event : Type 0

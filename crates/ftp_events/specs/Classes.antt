@@ -1,11 +1,11 @@
 -- The classes of decisions: what one makes of a session's life, and what of its slot. All that is said of lives and slots is said of these.
 use Rattle.std.specs.Prelude.{Bool, true, false}
 use Rattle.ftp_events.specs.declared.decision.Decision.{Decision}
-use Rattle.ftp_events.specs.declared.decision.Decision.TheVariants.{Opened, Quit, Closed, Granted, Attached, Queued, Finished, Turned}
+use Rattle.ftp_events.specs.declared.decision.Decision.TheVariants.{Opened, Quit, Closed, Granted, PortOk, SlotDropped, Attached, Queued, Finished, Turned}
 use Rattle.ftp_events.specs.declared.decision.Life.{Life}
 use Rattle.ftp_events.specs.declared.decision.Life.TheVariants.{Goes, Opens, Ends}
 use Rattle.ftp_events.specs.declared.decision.SlotMove.{SlotMove}
-use Rattle.ftp_events.specs.declared.decision.SlotMove.TheVariants.{Keeps, Empties, EmptiesWaiting, Awaits, Links, Queues, Finishes}
+use Rattle.ftp_events.specs.declared.decision.SlotMove.TheVariants.{Keeps, Empties, EmptiesWaiting, Awaits, Connects, Expires, Links, Queues, Finishes}
 
 -- what a decision makes of the life of the session that it is about
 abbrev pub life : Decision → Life
@@ -22,6 +22,8 @@ move_of_life _ = Keeps
 -- what a decision makes of that session's slot
 abbrev pub slot_move : Decision → SlotMove
 slot_move (Granted port) = Awaits port
+slot_move PortOk = Connects
+slot_move SlotDropped = Expires
 slot_move (Attached session) = Links
 slot_move (Queued ticket) = Queues ticket
 slot_move Finished = Finishes
@@ -41,13 +43,21 @@ is_ending d = ends (life d)
 abbrev pub is_stop : Decision → Bool
 is_stop _ = false
 
--- the moves that replace or drop the slot, whatever it has
+-- the moves that replace or drop the slot, whatever it has, and so end a hold
 abbrev pub gives_up : SlotMove → Bool
 gives_up Empties = true
 gives_up (Awaits port) = true
+gives_up Connects = true
 gives_up _ = false
 
 -- the moves that put a transfer into the slot
 abbrev pub queues_one : SlotMove → Bool
 queues_one (Queues ticket) = true
 queues_one _ = false
+
+-- the moves from which the age of the slot counts
+abbrev pub renews : SlotMove → Bool
+renews (Awaits port) = true
+renews Connects = true
+renews Links = true
+renews _ = false

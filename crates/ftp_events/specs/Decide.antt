@@ -8,18 +8,23 @@ use Rattle.ftp_events.specs.declared.event.EventKind.{EventKind}
 use Rattle.ftp_events.specs.declared.event.EventKind.TheVariants as kind
 use Rattle.ftp_events.specs.declared.event.Answer.{Answer}
 use Rattle.ftp_events.specs.declared.decision.Decision.{Decision}
-use Rattle.ftp_events.specs.declared.decision.Decision.TheVariants.{UnknownNumber}
+use Rattle.ftp_events.specs.declared.decision.Decision.TheVariants.{UnknownNumber, Swept}
 use Rattle.ftp_events.specs.declared.session.Session.{Session}
-use Rattle.ftp_events.specs.Log.{past_of, named_session}
+use Rattle.ftp_events.specs.Log.{past_of, named_session, is_used}
 use Rattle.ftp_events.specs.Board.{holder}
 use Rattle.ftp_events.specs.Session.{session, running_job}
 use Rattle.ftp_events.specs.ConnectionRows.{connect_row, data_row, proxied_row}
-use Rattle.ftp_events.specs.CommandRows.{command_row}
+use Rattle.ftp_events.specs.CommandRows.{Around, command_row}
+use Rattle.ftp_events.specs.Lockout.{failures}
 use Rattle.ftp_events.specs.EndRows.{end_row}
 
 -- the rows of a session that has to be live
 abbrev pub if_live : Option Session → (Session → Decision) → Decision
 if_live v row = option_map_or row v UnknownNumber
+
+-- what a command of a session is decided by beside that session
+abbrev pub around : Options → List Entry → ℕ → Session → Around
+around o past at v = record { holders = holder o past v.opening.client; failures = failures o past; used = is_used past; at = at }
 
 -- the decision that is due: on a connection, on the end of a job, or on a command of the session that is named
 abbrev pub due : Options → List Entry → ℕ → EventKind → Answer → Decision
@@ -27,8 +32,9 @@ due o past at (kind.Connect s raw local trace) answer = connect_row o past s raw
 due o past at (kind.Proxied number raw trace) answer = proxied_row o past number raw answer
 due o past at (kind.DataIn number raw port) answer = data_row o past number raw port
 due o past at (kind.End ticket) answer = end_row ticket answer (running_job o past ticket.session)
+due o past at kind.Sweep answer = Swept
 due o past at k answer =
-    if_live (option_and_then (session o past) (named_session k)) (λ v. command_row o (holder o past v.opening.client) k v)
+    if_live (option_and_then (session o past) (named_session k)) (λ v. command_row o (around o past at v) k v)
 
 -- the decision on an event and its answer, after a log
 unfoldable pub decide : Options → List Entry → HubEvent → Answer → Decision

@@ -1,10 +1,11 @@
 -- What a right log promises for data connections and for ports, where sessions share the ports.
-use Rattle.std.specs.Prelude.{ℕ, ◌≡◌, Bool, true, false, not, ◌||◌, List, [], ◌∷◌, Contains, ⊤, IsTrue, Option, Some, None, MatchOption, Ok, Err}
+use Rattle.std.specs.Prelude.{ℕ, ◌≡◌, Bool, true, false, not, ◌&&◌, ◌||◌, List, [], ◌∷◌, Contains, ⊤, IsTrue, Option, Some, None, MatchOption, Ok, Err}
 use Rattle.std.specs.Option.{option_map_or}
 use Rattle.ftp_base.specs.declared.net.SocketAddr.{SocketAddr}
 use Rattle.ftp_base.specs.Net.{same_ip, is_v6}
 use Rattle.ftp_options.specs.declared.options.Options.{Options}
-use Rattle.ftp_options.specs.Modes.{is_pooled, is_proxy}
+use Rattle.ftp_options.specs.Modes.{is_pooled, is_proxy, is_passive_off}
+use Rattle.ftp_options.specs.Host.{lacks_lookup}
 use Rattle.ftp_events.specs.declared.action.Action.TheVariants.{Close}
 use Rattle.ftp_events.specs.declared.decision.Decision.TheVariants.{Attached, Turned, Granted, Full}
 use Rattle.ftp_events.specs.declared.entry.Entry.{Entry}
@@ -32,9 +33,10 @@ is_barred o past (Proxied number raw trace) answer =
     ((not (is_proxy o.mode) || is_v6 raw.ip) || is_used past number) || not (is_header answer)
 is_barred o past _ answer = false
 
--- a PASV of a logged in session
+-- a PASV of a logged in session, where passive mode is on and there is an address to show
 abbrev pub is_admitted : Options → EventKind → Session → Bool
-is_admitted o (Pasv s word lookup bound) v = is_logged_in v.login
+is_admitted o (Pasv s word lookup bound) v =
+    is_logged_in v.login && not (is_passive_off o.active_passive) && not (lacks_lookup o.host lookup)
 is_admitted o _ v = false
 
 -- the connection is turned away and closed

@@ -12,7 +12,10 @@ pub mod Notices
 pub mod Transfer
 pub mod Place
 pub mod Slot
+pub mod Ages
 pub mod Session
+pub mod Lockout
+pub mod Advertised
 pub mod ConnectionRows
 pub mod LoginRows
 pub mod CommandRows

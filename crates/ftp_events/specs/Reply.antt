@@ -1,32 +1,45 @@
 -- The reply to each decision.
-use Rattle.std.specs.Prelude.{ℕ, List, [], codes, Option, Some, None, unwrap_or}
+use Rattle.std.specs.Prelude.{ℕ, List, [], ◌++◌, codes, Option, Some, None, unwrap_or}
+use Rattle.std.specs.Option.{option_map_or}
 use Rattle.ftp_base.specs.declared.message.ControlChanMsg.{ControlChanMsg}
 use Rattle.ftp_base.specs.declared.message.ControlChanMsg.TheVariants as message
 use Rattle.ftp_base.specs.declared.reply.ReplyCode.TheVariants as code
 use Rattle.ftp_base.specs.declared.reply.Reply.{Reply}
 use Rattle.ftp_base.specs.declared.reply.Reply.TheVariants as reply
 use Rattle.ftp_base.specs.declared.trace.TraceId.{TraceId}
-use Rattle.ftp_base.specs.Net.{ipv4}
+use Rattle.ftp_base.specs.declared.net.IpAddr.{IpAddr}
 use Rattle.ftp_base.specs.declared.command.DataChanCmd.TheVariants.{Retr, Stor, Appe}
 use Rattle.ftp_events.specs.declared.session.Running.{Running}
 use Rattle.ftp_options.specs.declared.options.Options.{Options}
-use Rattle.ftp_options.specs.declared.options.PassiveHost.{PassiveHost}
-use Rattle.ftp_options.specs.declared.options.PassiveHost.TheVariants.{FromConnection}
+use Rattle.ftp_options.specs.declared.host.PassiveHost.{PassiveHost}
+use Rattle.ftp_options.specs.declared.host.PassiveHost.TheVariants.{Dns}
 use Rattle.ftp_events.specs.declared.event.EventKind.{EventKind}
 use Rattle.ftp_events.specs.declared.event.EventKind.TheVariants as kind
 use Rattle.ftp_events.specs.declared.event.Answer.{Answer}
 use Rattle.ftp_events.specs.declared.event.Answer.TheVariants.{Done}
 use Rattle.ftp_events.specs.declared.decision.Decision.{Decision}
-use Rattle.ftp_events.specs.declared.decision.Decision.TheVariants.{BadSequence, NeedPass, Reauth, LoggedIn, LoginFailed, NotLoggedIn, Full, Granted, NoSlot, Queued, NoRestart, RestOk, CwdRefused, CwdOk, Finished, Quit}
+use Rattle.ftp_events.specs.declared.decision.Decision.TheVariants.{BadSequence, NeedPass, Reauth, LoggedIn, LoginFailed, NotLoggedIn, ModeOff, Full, NoLookup, NoSocket, Granted, BadAddress, OtherAddress, NoConnection, PortOk, NoSlot, Queued, NoRestart, RestOk, CwdRefused, CwdOk, Finished, Quit}
 use Rattle.ftp_events.specs.declared.session.Login.{Login}
 use Rattle.ftp_events.specs.declared.session.Login.TheVariants as login
 use Rattle.ftp_events.specs.declared.session.Session.{Session}
+use Rattle.ftp_events.specs.Advertised.{shown}
 use Rattle.ftp_events.specs.Text.{passive_text, offset_text, unique_name}
 use Rattle.ftp_events.specs.Message.{reply_of, message_of_outcome}
 
--- the reply that advertises a port: at the address that the client came to
-abbrev pub passive_reply : PassiveHost → ℕ → Option ℕ → ℕ → Reply
-passive_reply FromConnection local lookup port = reply.CodeAndMsg code.EnteringPassiveMode (passive_text local port)
+-- what is said where there is no address to show
+abbrev pub unshown : PassiveHost → Reply
+unshown (Dns name) = reply.CodeAndMsg code.CantOpenDataConnection (codes "Could not resolve DNS address '" ++ name ++ codes "'")
+unshown _ = reply.CodeAndMsg code.CantOpenDataConnection (codes "No data connection established")
+
+-- the reply that advertises a port, at the address that is shown
+abbrev pub passive_reply : PassiveHost → IpAddr → Option ℕ → ℕ → Reply
+passive_reply host called lookup port =
+    option_map_or (λ ip. reply.CodeAndMsg code.EnteringPassiveMode (passive_text ip port)) (shown host called lookup) (unshown host)
+
+-- which mode is off
+abbrev pub mode_text : EventKind → List ℕ
+mode_text (kind.Pasv session word lookup bound) = codes "Passive mode is switched off"
+mode_text _ = codes "Active mode is switched off"
 
 -- the address that was looked up for a PASV
 abbrev pub lookup_of : EventKind → Option ℕ
@@ -76,8 +89,15 @@ reply_for o v m k NeedPass = reply.CodeAndMsg code.NeedPassword (codes "Password
 reply_for o v m k BadSequence = reply.CodeAndMsg code.BadCommandSequence (sequence_text k v.login)
 reply_for o v m k Reauth = reply.CodeAndMsg code.NotLoggedIn (codes "Please open a new connection to re-authenticate")
 reply_for o v m k NotLoggedIn = reply.CodeAndMsg code.NotLoggedIn (codes "Please authenticate")
-reply_for o v m k (Granted port) = passive_reply o.host (ipv4 v.opening.local.ip) (lookup_of k) port
+reply_for o v m k (Granted port) = passive_reply o.host v.opening.local.ip (lookup_of k) port
 reply_for o v m k Full = reply.CodeAndMsg code.CantOpenDataConnection (codes "Could not allocate passive port")
+reply_for o v m k NoLookup = unshown o.host
+reply_for o v m k NoSocket = reply.CodeAndMsg code.CantOpenDataConnection (codes "No data connection established")
+reply_for o v m k BadAddress = reply.CodeAndMsg code.ParameterSyntaxError (codes "Invalid address format")
+reply_for o v m k OtherAddress = reply.CodeAndMsg code.CantOpenDataConnection (codes "Could not establish data connection")
+reply_for o v m k NoConnection = reply.CodeAndMsg code.CantOpenDataConnection (codes "Could not establish data connection")
+reply_for o v m k PortOk = reply.CodeAndMsg code.CommandOkay (codes "PORT command successful")
+reply_for o v m k ModeOff = reply.CodeAndMsg code.CommandNotImplemented (mode_text k)
 reply_for o v m k NoSlot = reply.CodeAndMsg code.CantOpenDataConnection (codes "No data connection established")
 reply_for o v m k (Queued ticket) = reply.CodeAndMsg code.FileStatusOkay (queued_text k)
 reply_for o v m k RestOk = reply.CodeAndMsg code.FileActionPending (restart_text k)

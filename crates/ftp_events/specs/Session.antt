@@ -23,6 +23,7 @@ use Rattle.ftp_events.specs.Login.{login_by, name_by, login_state, user_name, lo
 use Rattle.ftp_events.specs.Notices.{notice_count}
 use Rattle.ftp_events.specs.Place.{cwd_after, cwd, offset_by, offset, is_queued, ticket_count}
 use Rattle.ftp_events.specs.Slot.{Lane, lane_after, lane, queued_by}
+use Rattle.ftp_events.specs.Ages.{slot_at_by, slot_at}
 
 -- what a turn of a life says of it
 abbrev pub told_of_life : Life → Option Bool
@@ -48,6 +49,7 @@ session_by_history s h opening =
       cwd = cwd h;
       offset = offset h;
       slot = (lane h).slot;
+      slot_at = slot_at h;
       pending = (lane h).pending;
       tickets = ticket_count h;
       notices = notice_count s h;
@@ -96,9 +98,9 @@ lane_in v job = record { slot = v.slot; pending = v.pending; running = job }
 abbrev pub next_lane : EventKind → Decision → Option Running → Session → Lane
 next_lane k d job v = lane_after k d (queued_for d k v) (lane_in v job)
 
--- what an event makes of a live session, with its answer, its decision, how many notices it sends and the job that ran before it
-abbrev pub session_after : EventKind → Answer → Decision → ℕ → Option Running → Session → Session
-session_after k answer d sent job v =
+-- what an event at a moment makes of a live session, with its answer, its decision, how many notices it sends and the job that ran before it
+abbrev pub session_after : ℕ → EventKind → Answer → Decision → ℕ → Option Running → Session → Session
+session_after at k answer d sent job v =
     record {
       opening = v.opening;
       login = unwrap_or (login_by d) v.login;
@@ -106,6 +108,7 @@ session_after k answer d sent job v =
       cwd = cwd_after d k v.cwd;
       offset = unwrap_or (offset_by d k answer) v.offset;
       slot = (next_lane k d job v).slot;
+      slot_at = unwrap_or (slot_at_by d at) v.slot_at;
       pending = (next_lane k d job v).pending;
       tickets = v.tickets + (if is_queued d then 1 else 0);
       notices = v.notices + sent;
@@ -128,4 +131,4 @@ live_count (e ∷ past) = live_after e.decision (live_count past)
 
 -- a session when it is opened
 abbrev pub new_session : Opening → Session
-new_session opening = record { opening = opening; login = login.New; name = None; cwd = root; offset = 0; slot = Empty; pending = None; tickets = 0; notices = 0 }
+new_session opening = record { opening = opening; login = login.New; name = None; cwd = root; offset = 0; slot = Empty; slot_at = 0; pending = None; tickets = 0; notices = 0 }

@@ -1,6 +1,6 @@
 -- A session's slot, the transfer that waits in it, and the job that runs, read from the session's history.
 use Rattle.std.specs.Prelude.{ℕ, Bool, true, false, List, [], ◌∷◌, Option, Some, None, if◌then◌else◌}
-use Rattle.std.specs.Option.{option_map}
+use Rattle.std.specs.Option.{option_map, option_map_or}
 use Rattle.ftp_base.specs.declared.command.DataChanCmd.{DataChanCmd}
 use Rattle.ftp_base.specs.declared.command.DataChanCmd.TheVariants.{Stor}
 use Rattle.ftp_events.specs.declared.session.Running.{Running}
@@ -10,7 +10,7 @@ use Rattle.ftp_events.specs.declared.event.EventKind.TheVariants.{Transfer, Stou
 use Rattle.ftp_events.specs.declared.decision.Decision.{Decision}
 use Rattle.ftp_events.specs.declared.decision.Decision.TheVariants.{Queued}
 use Rattle.ftp_events.specs.declared.decision.SlotMove.{SlotMove}
-use Rattle.ftp_events.specs.declared.decision.SlotMove.TheVariants.{Empties, EmptiesWaiting, Awaits, Links, Queues, Finishes}
+use Rattle.ftp_events.specs.declared.decision.SlotMove.TheVariants.{Empties, EmptiesWaiting, Awaits, Connects, Expires, Links, Queues, Finishes}
 use Rattle.ftp_events.specs.declared.session.Pending.{Pending}
 use Rattle.ftp_events.specs.declared.session.Slot.{Slot}
 use Rattle.ftp_events.specs.declared.session.Slot.TheVariants.{Empty, Waits, Linked}
@@ -51,6 +51,8 @@ waiting_port slot = None
 abbrev pub empties : SlotMove → Slot → Bool
 empties Empties slot = true
 empties (Awaits port) slot = true
+empties Connects slot = true
+empties Expires slot = true
 empties EmptiesWaiting slot = is_waiting slot
 empties _ slot = false
 
@@ -77,6 +79,7 @@ lane_of slot pending running = record { slot = slot; pending = pending; running 
 -- what a move makes of the slot and the job, with the connection that comes and the transfer that is queued
 abbrev pub moved : SlotMove → Option ℕ → Option Pending → Lane → Lane
 moved (Awaits port) number queued l = record { slot = Waits port; pending = None; running = l.running }
+moved Connects number queued l = record { slot = option_map_or Linked number Empty; pending = None; running = l.running }
 moved Links number queued l = lane_of (with_link l.slot number) l.pending l.running
 moved (Queues ticket) number queued l = lane_of l.slot queued l.running
 moved Finishes number queued l = lane_of l.slot l.pending None

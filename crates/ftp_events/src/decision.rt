@@ -35,10 +35,24 @@ pub enum Decision {
     /// The login failed; the reply is sent after a delay in milliseconds.
     LoginFailed { lock: Option<LockState>, delay: u32 },
     NotLoggedIn,
+    /// The command belongs to a mode that is switched off.
+    ModeOff,
     /// No passive port is free for the client.
     Full,
+    /// The name that a passive reply has to show was not looked up to an address.
+    NoLookup,
     /// The passive port is reserved.
     Granted { port: u16 },
+    /// No socket was bound for the session that can be shown to its client.
+    NoSocket,
+    /// The text of a PORT is no address.
+    BadAddress,
+    /// The address of a PORT is not the peer's.
+    OtherAddress,
+    /// The connection that a PORT asked for was not made.
+    NoConnection,
+    /// The connection that a PORT asked for is there.
+    PortOk,
     /// No data connection waits or is awaited for the transfer.
     NoSlot,
     /// The transfer waits for its data connection, or runs.
@@ -52,6 +66,12 @@ pub enum Decision {
     CwdRefused(ErrorKind),
     /// The working directory has changed.
     CwdOk,
+    /// The slot may stand on.
+    Early,
+    /// The slot stood for too long, and what it had is dropped.
+    SlotDropped,
+    /// Failed logins that were too old are forgotten.
+    Swept,
     /// The session has ended by its own wish.
     Quit,
     /// The session has ended with its control connection.
@@ -80,6 +100,10 @@ pub enum SlotMove {
     EmptiesWaiting,
     /// The slot waits for a connection to this port, and what it had is dropped.
     Awaits { port: u16 },
+    /// The connection that was made is the link of the slot, and what that had is dropped.
+    Connects,
+    /// What the slot has is dropped, as it stood for too long. No port is held for it.
+    Expires,
     /// The connection that comes is the link of a slot that waits.
     Links,
     /// The transfer waits in the slot.
@@ -106,6 +130,8 @@ impl Decision {
     {
         match self {
             Decision::Granted { port } => SlotMove::Awaits { port },
+            Decision::PortOk => SlotMove::Connects,
+            Decision::SlotDropped => SlotMove::Expires,
             Decision::Attached { .. } => SlotMove::Links,
             Decision::Queued { ticket } => SlotMove::Queues { ticket },
             Decision::Finished => SlotMove::Finishes,
@@ -123,6 +149,9 @@ impl SlotMove {
     pub fn gives_up(self) -> bool
         ensures { result ≡ gives_up self }
     {
-        matches!(self, SlotMove::Empties | SlotMove::Awaits { .. })
+        matches!(
+            self,
+            SlotMove::Empties | SlotMove::Awaits { .. } | SlotMove::Connects
+        )
     }
 }

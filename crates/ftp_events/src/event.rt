@@ -31,6 +31,12 @@ pub enum EventKind {
         raw: SocketAddr,
         port: u16,
     },
+    /// A data connection came from `raw` to the port that was bound for the session alone.
+    Accepted {
+        session: u64,
+        number: u64,
+        raw: SocketAddr,
+    },
     /// USER (RFC 959, section 4.1.1).
     User {
         session: u64,
@@ -53,6 +59,12 @@ pub enum EventKind {
         lookup: Option<u32>,
         /// The port that was bound for the session alone.
         bound: Option<u16>,
+    },
+    /// PORT (RFC 959, section 4.1.2), with the text of the address, and the number of the connection that was made to it.
+    Port {
+        session: u64,
+        text: Bytes,
+        number: Option<u64>,
     },
     /// RETR, STOR, APPE, LIST, NLST (RFC 959, section 4.1.3) or MLSD (RFC 3659, section 7).
     Transfer {
@@ -87,6 +99,12 @@ pub enum EventKind {
     Closed {
         session: u64,
     },
+    /// A look at how long the session's slot has stood.
+    SlotTick {
+        session: u64,
+    },
+    /// Failed logins that are too old are forgotten.
+    Sweep,
 }
 
 /// An event, at a moment in milliseconds.
@@ -113,7 +131,9 @@ impl EventKind {
         ensures { result ≡ named_session self.now }
     {
         match self {
-            EventKind::User { session, .. }
+            EventKind::Accepted { session, .. }
+            | EventKind::User { session, .. }
+            | EventKind::Port { session, .. }
             | EventKind::Transfer { session, .. }
             | EventKind::Stou { session, .. }
             | EventKind::Pass { session }
@@ -122,10 +142,13 @@ impl EventKind {
             | EventKind::Rest { session, .. }
             | EventKind::Cwd { session, .. }
             | EventKind::Quit { session }
-            | EventKind::Closed { session } => Some(*session),
+            | EventKind::Closed { session }
+            | EventKind::SlotTick { session } => Some(*session),
             EventKind::End { ticket } => Some(ticket.session),
-            EventKind::Connect { .. } | EventKind::Proxied { .. } | EventKind::DataIn { .. } =>
-                None,
+            EventKind::Connect { .. }
+            | EventKind::Proxied { .. }
+            | EventKind::DataIn { .. }
+            | EventKind::Sweep => None,
         }
     }
 
@@ -134,7 +157,10 @@ impl EventKind {
         ensures { result ≡ link_number self.now }
     {
         match self {
-            EventKind::Proxied { number, .. } | EventKind::DataIn { number, .. } => Some(*number),
+            EventKind::Proxied { number, .. }
+            | EventKind::DataIn { number, .. }
+            | EventKind::Accepted { number, .. } => Some(*number),
+            EventKind::Port { number, .. } => *number,
             _ => None,
         }
     }
@@ -147,6 +173,15 @@ impl EventKind {
             EventKind::User { session, name } => Ok(EventKind::User {
                 session: *session,
                 name: name.copy(alloc)?,
+            }),
+            EventKind::Port {
+                session,
+                text,
+                number,
+            } => Ok(EventKind::Port {
+                session: *session,
+                text: text.copy(alloc)?,
+                number: *number,
             }),
             EventKind::Transfer { session, command } => Ok(EventKind::Transfer {
                 session: *session,
@@ -202,6 +237,17 @@ impl EventKind {
             EventKind::End { ticket } => EventKind::End { ticket },
             EventKind::Quit { session } => EventKind::Quit { session },
             EventKind::Closed { session } => EventKind::Closed { session },
+            EventKind::Accepted {
+                session,
+                number,
+                raw,
+            } => EventKind::Accepted {
+                session,
+                number,
+                raw,
+            },
+            EventKind::SlotTick { session } => EventKind::SlotTick { session },
+            EventKind::Sweep => EventKind::Sweep,
             _ => unreachable!(),
         }
     }

@@ -9,6 +9,7 @@ mod decision;
 mod entry;
 mod event;
 mod log;
+mod port_text;
 mod questions;
 mod session;
 mod text;
@@ -19,6 +20,7 @@ pub use decision::{Decision, Life, SlotMove};
 pub use entry::Entry;
 pub use event::{Answer, EventKind, HubEvent};
 pub use log::Log;
+pub use port_text::port_target;
 pub use questions::{holder_of, replies_of};
 pub use session::{Login, Opening, Pending, Running, Session, Slot};
 pub use text::{

@@ -166,7 +166,9 @@ fn is_carried(kind: &EventKind, n: u64) -> bool
 {
     match kind {
         EventKind::Connect { session, .. } => *session == n,
-        EventKind::Proxied { number, .. } | EventKind::DataIn { number, .. } => *number == n,
+        EventKind::Proxied { number, .. }
+        | EventKind::DataIn { number, .. }
+        | EventKind::Accepted { number, .. } => *number == n,
         _ => false,
     }
 }

@@ -98,6 +98,8 @@ pub struct Session {
     /// Where the next RETR or STOR begins, in bytes.
     pub offset: u64,
     pub slot: Slot,
+    /// The moment from which the slot's age counts, in milliseconds.
+    pub slot_at: u64,
     /// The transfer that waits in the slot.
     pub pending: Option<Pending>,
     /// How many transfers were queued.

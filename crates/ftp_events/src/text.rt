@@ -5,7 +5,9 @@ ghost use Rattle.std.specs.Vec.{vec_len, vec_capacity};
 ghost use Rattle.ftp_base.specs.declared.reply.Reply.TheVariants as reply;
 ghost use Rattle.ftp_events.specs.Text.{passive_text, passive_numbers, offset_text, unique_name};
 ghost use Rattle.ftp_events.specs.Message.{reply_of, reply_of_kind};
-ghost use Rattle.ftp_events.specs.Reply.{passive_reply};
+ghost use Rattle.ftp_events.specs.Reply.{passive_reply, unshown};
+ghost use Rattle.ftp_base.specs.declared.net.IpAddr.TheVariants.{V4};
+ghost use Rattle.ftp_options.specs.declared.host.PassiveHost.TheVariants.{Dns};
 
 use crate::wording;
 use ftp_base::{Bytes, ControlChanMsg, ErrorKind, Reply, ReplyCode};
@@ -69,8 +71,9 @@ pub fn refusal(kind: ErrorKind) -> (ReplyCode, &'static [u8])
     }
 }
 
-/// The reply that advertises a passive port (RFC 959, section 4.1.2). The addresses are IPv4, as one
-/// number in network order; `lookup` is what the advertised name was looked up to.
+/// The reply that advertises a passive port (RFC 959, section 4.1.2), or that says that there is no address to
+/// advertise. The addresses are IPv4, as one number in network order; `lookup` is what the advertised name was
+/// looked up to.
 pub fn make_pasv_reply(
     alloc: Global,
     host: &PassiveHost,
@@ -78,13 +81,34 @@ pub fn make_pasv_reply(
     lookup: Option<u32>,
     port: u16,
 ) -> Result<Reply, AllocError>
-    ensures { IfOk result (λ reply. reply ≡ passive_reply host.now conn_ip lookup port) }
+    ensures { IfOk result (λ reply. reply ≡ passive_reply host.now (V4 conn_ip) lookup port) }
 {
+    let shown = match host {
+        PassiveHost::FromConnection => conn_ip,
+        PassiveHost::Ip(ip) => *ip,
+        PassiveHost::Dns(name) => match lookup {
+            Some(ip) => ip,
+            None => return unresolved(alloc, name),
+        },
+    };
     let mut text = Vec::with_capacity(alloc, PASSIVE_TEXT)?;
-    let PassiveHost::FromConnection = host;
-    write_passive_text(&mut text, conn_ip, port);
+    write_passive_text(&mut text, shown, port);
     Ok(Reply::CodeAndMsg {
         code: ReplyCode::EnteringPassiveMode,
+        msg: Bytes::from_vec(text),
+    })
+}
+
+// Says that a name was not looked up to an address.
+fn unresolved(alloc: Global, name: &Bytes) -> Result<Reply, AllocError>
+    ensures { IfOk result (λ reply. reply ≡ unshown (Dns name.now)) }
+{
+    let mut text = Vec::new(alloc);
+    text.extend_from_slice(wording::UNRESOLVED)?;
+    text.extend_from_slice(name.as_slice())?;
+    text.extend_from_slice(b"'")?;
+    Ok(Reply::CodeAndMsg {
+        code: ReplyCode::CantOpenDataConnection,
         msg: Bytes::from_vec(text),
     })
 }

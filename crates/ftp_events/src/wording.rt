@@ -20,3 +20,6 @@ pub const LISTED: &[u8] = b"Listed the directory";
 
 /// The text on a listing that could not be sent.
 pub const WRITE_FAILED: &[u8] = b"Failed to write file";
+
+/// The text on a name that was not looked up, before that name and a closing quote.
+pub const UNRESOLVED: &[u8] = b"Could not resolve DNS address '";
