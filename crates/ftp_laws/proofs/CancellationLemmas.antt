@@ -4,7 +4,7 @@ use Rattle.std.specs.Prelude.{◌↔◌, count_by, IsSomeAnd}
 use Rattle.std.specs.List.{list_any}
 use Rattle.std.specs.Option.{option_and_then}
 use Rattle.ftp_events.specs.declared.decision.Decision.TheVariants as decision
-use Rattle.ftp_events.specs.declared.decision.SlotMove.TheVariants.{Empties, EmptiesWaiting, Awaits}
+use Rattle.ftp_events.specs.declared.decision.SlotMove.TheVariants.{Empties, EmptiesWaiting, Awaits, Connects, Expires}
 use Rattle.ftp_events.specs.Fate.{cancels}
 use Rattle.ftp_events.specs.History.{Nobody, One, All}
 use Rattle.ftp_laws.proofs.Common.{Subject, Options, Ticket, Action, Decision, Entry, Pending, Session, Slot, is_refusal, past_of, subject, concerns, history, slot_move, SlotMove, empties, drops, lane, session, running_job, acts, acts_of, stays, slot_of, pending_in, starting, IsRight, IsActed, is_pending}
@@ -66,6 +66,8 @@ lost-both false c h = absurd (omega (arith, h))
 -- only the moves that can cancel drop a slot
 pub drops-cancels : (m : SlotMove) (slot : Slot) → empties m slot ≡ true → may_cancel m ≡ true
 drops-cancels (Awaits port) slot h = refl
+drops-cancels Connects slot h = refl
+drops-cancels Expires slot h = refl
 drops-cancels EmptiesWaiting slot h = refl
 drops-cancels Empties slot h = refl
 drops-cancels m slot h = cc

@@ -2,7 +2,7 @@
 use Rattle.std.proofs.Common.{◌≡◌, refl, ap, ℕ, true, eqb-true}
 use Rattle.ftp_events.specs.declared.decision.Decision.TheVariants as decision
 use Rattle.ftp_events.specs.declared.decision.Life.TheVariants.{Opens, Ends}
-use Rattle.ftp_events.specs.declared.decision.SlotMove.TheVariants.{Empties, Awaits, Queues, Finishes}
+use Rattle.ftp_events.specs.declared.decision.SlotMove.TheVariants.{Empties, Awaits, Connects, Expires, Queues, Finishes}
 use Rattle.ftp_laws.proofs.Common.{Decision, EventKind, Life, Ticket, is_number, opened_number, granted_port, life, ends, is_ending, slot_move, gives_up}
 use Rattle.ftp_laws.specs.Fates.{queues}
 use Rattle.ftp_laws.proofs.TicketLemmas.{same_ticket-equal}
@@ -11,6 +11,16 @@ use Rattle.ftp_laws.proofs.TicketLemmas.{same_ticket-equal}
 pub awaits-is : (d : Decision) (p : ℕ) → slot_move d ≡ Awaits p → d ≡ decision.Granted p
 awaits-is (decision.Granted port) p h = cc
 awaits-is d p h = cc
+
+-- the connection of a PORT is taken by its decision
+pub connects-is : (d : Decision) → slot_move d ≡ Connects → d ≡ decision.PortOk
+connects-is decision.PortOk h = refl
+connects-is d h = cc
+
+-- a slot that stood too long is dropped by its decision
+pub expires-is : (d : Decision) → slot_move d ≡ Expires → d ≡ decision.SlotDropped
+expires-is decision.SlotDropped h = refl
+expires-is d h = cc
 
 -- a transfer is queued by its decision
 pub queues-is : (d : Decision) (t : Ticket) → slot_move d ≡ Queues t → d ≡ decision.Queued t

@@ -14,7 +14,7 @@ use Rattle.ftp_events.specs.declared.event.EventKind.TheVariants as kind
 use Rattle.ftp_events.specs.CommandRows.{command_row}
 use Rattle.ftp_events.specs.ConnectionRows.{arrival_row, holder_row, header_row}
 use Rattle.ftp_events.specs.EndRows.{outcome_row, end_row}
-use Rattle.ftp_events.specs.Decide.{if_live}
+use Rattle.ftp_events.specs.Decide.{if_live, around}
 use Rattle.ftp_laws.proofs.Common.{IpAddr, life, ends, Options, Ticket, Running, Answer, Decision, Entry, EventKind, Session, is_used, named_session, session, running_job, due, holder}
 use Rattle.ftp_laws.proofs.DecisionLemmas.{IsLive}
 
@@ -88,4 +88,5 @@ ending-live o past at (kind.DataIn number raw port) answer plain h =
     let strange : Bool = not (is_pooled o.mode) || is_v6 raw.ip in
     absurd (true≢false (sym h ∙ (new-none strange (is_used past number) (arrival_row o past raw raw.ip port) (arrival-none o past raw raw.ip port)).none))
 ending-live o past at (kind.End t) answer plain h = absurd (true≢false (sym h ∙ (end-none t answer (running_job o past t.session)).none))
-ending-live o past at k answer plain h = row-live o past k (named_session k) (λ v. command_row o (holder o past v.opening.client) k v) refl h
+ending-live o past at kind.Sweep answer plain h = cc
+ending-live o past at k answer plain h = row-live o past k (named_session k) (λ v. command_row o (around o past at v) k v) refl h

@@ -4,13 +4,13 @@ use Rattle.std.specs.Prelude.{◌≢◌, ◌⊎◌, ◌==◌}
 use Rattle.std.specs.Option.{option_map_or}
 use Rattle.std.proofs.lemmas.Option.{same_Some}
 use Rattle.std.proofs.lemmas.Bool.{and_parts}
-use Rattle.ftp_events.specs.declared.decision.SlotMove.TheVariants.{Empties, Awaits}
+use Rattle.ftp_events.specs.declared.decision.SlotMove.TheVariants.{Empties, Awaits, Connects}
 use Rattle.ftp_events.specs.declared.session.Slot.TheVariants.{Empty, Waits, Linked}
 use Rattle.ftp_events.specs.Slot.{waiting_port}
 use Rattle.ftp_laws.proofs.Common.{SlotMove, slot_move, gives_up, IpAddr, same_ip, Options, is_legacy, Entry, Session, Slot, is_number, named_session, is_refusal, past_of, Target, target, is_client, gives_hold, comes_to, ends_hold, gives_up_hold, holder, due, decide, IsRight}
 use Rattle.ftp_laws.proofs.SubjectLemmas.{no-stop, ends-plain, named-ends}
-use Rattle.ftp_laws.specs.Holds.{WaitsOn, ComesTo, GrantsAnother, EndsSession, EndsHold}
-use Rattle.ftp_laws.proofs.ClassLemmas.{awaits-is, empties-ends, ending-gives_up}
+use Rattle.ftp_laws.specs.Holds.{WaitsOn, ComesTo, GrantsAnother, TakesConnection, EndsSession, EndsHold}
+use Rattle.ftp_laws.proofs.ClassLemmas.{awaits-is, connects-is, empties-ends, ending-gives_up}
 use Rattle.ftp_laws.proofs.QuestionLemmas.{counting-counts}
 use Rattle.ftp_laws.proofs.HoldLemmas.{WaitsFor, holder-waits, same_ip-equal, same_ip-refl, number-is}
 use Rattle.ftp_laws.proofs.PortLemmas.{named-target, held-ungranted, client-known}
@@ -71,7 +71,7 @@ pub ends-in-words :
     WaitsFor o past s a p →
     named_session e.event.kind ≡ Some s →
     gives_up_hold e.decision ≡ true →
-    GrantsAnother e s p ⊎ EndsSession e s
+    GrantsAnother e s p ⊎ (TakesConnection e s ⊎ EndsSession e s)
 ends-in-words o past e a p s m fit ungranted w n g = by_move (slot_move e.decision) refl g
   where
     client : is_client past (Some s) a ≡ true
@@ -80,14 +80,15 @@ ends-in-words o past e a p s m fit ungranted w n g = by_move (slot_move e.decisi
     by_move :
         (x : SlotMove) → slot_move e.decision ≡ x →
         gives_up x ≡ true →
-        GrantsAnother e s p ⊎ EndsSession e s
+        GrantsAnother e s p ⊎ (TakesConnection e s ⊎ EndsSession e s)
     by_move (Awaits q) x h = inl (q, other, awaits-is e.decision q x, n)
       where
         other : q ≢ p
         other same =
             let gives : gives_hold o past e a p ≡ true = rw (m, awaits-is e.decision q x, n, client, same, eq-eqb p p refl) refl in
             true≢false (sym gives ∙ ungranted)
-    by_move Empties x h = inr (n, empties-ends e.decision x)
+    by_move Connects x h = inr (inl (n, connects-is e.decision x))
+    by_move Empties x h = inr (inr (n, empties-ends e.decision x))
     by_move d x h = cc
 
 -- a hold stays, or ends for one of the reasons
@@ -142,7 +143,8 @@ pub each-ends :
     holder o (e ∷ past) a p ≡ None
 each-ends o past e a p s g held (inl x) = rw (g, x, same_ip-refl a, eq-eqb p p refl) refl
 each-ends o past e a p s g held (inr (inl x)) = rw (g, named-target o e.event.kind e.answer s x.3, held, named-ends e s x.3 (ap gives_up_hold x.2)) refl
-each-ends o past e a p s g held (inr (inr x)) = rw (g, named-target o e.event.kind e.answer s x.0, held, named-ends e s x.0 (ending-gives_up e.decision x.1)) refl
+each-ends o past e a p s g held (inr (inr (inl x))) = rw (g, named-target o e.event.kind e.answer s x.0, held, named-ends e s x.0 (ap gives_up_hold x.1)) refl
+each-ends o past e a p s g held (inr (inr (inr x))) = rw (g, named-target o e.event.kind e.answer s x.0, held, named-ends e s x.0 (ending-gives_up e.decision x.1)) refl
 
 -- so it is in every right log, where the entry is not refused
 pub holds-ended :

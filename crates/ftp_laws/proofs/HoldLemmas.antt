@@ -8,16 +8,16 @@ use Rattle.std.proofs.lemmas.Bool.{and_parts, or_parts, or_right, cond-false}
 use Rattle.ftp_base.specs.declared.net.IpAddr.TheVariants.{V4, V6}
 use Rattle.ftp_events.specs.declared.decision.Decision.TheVariants as decision
 use Rattle.ftp_events.specs.declared.decision.Life.TheVariants.{Ends}
-use Rattle.ftp_events.specs.declared.decision.SlotMove.TheVariants.{Empties, EmptiesWaiting, Awaits, Links, Queues, Finishes}
+use Rattle.ftp_events.specs.declared.decision.SlotMove.TheVariants.{Empties, EmptiesWaiting, Awaits, Connects, Expires, Links, Queues, Finishes}
 use Rattle.ftp_events.specs.declared.session.Slot.TheVariants.{Empty, Waits, Linked}
-use Rattle.ftp_events.specs.Slot.{waiting_port}
+use Rattle.ftp_events.specs.Slot.{waiting_port, is_waiting}
 use Rattle.ftp_events.specs.Session.{told_of_life, queued_for, lane_in}
 use Rattle.ftp_events.specs.Classes.{is_stop}
 use Rattle.ftp_laws.proofs.Common.{Life, SlotMove, life, slot_move, gives_up, empties, moved, IpAddr, same_ip, Options, is_legacy, Running, Entry, EventKind, Answer, Decision, Opening, Pending, Session, Slot, is_number, named_session, new_number, is_used, past_of, opened_number, opening_by, opener, Target, target, granted_port, is_client, gives_hold, comes_to, ends_hold, gives_up_hold, holder, concerns, opens, Lane, lane_of, lane_after, lives_on, session, running_job, due, IsRight}
 use Rattle.ftp_laws.proofs.SubjectLemmas.{concerns-plain, ends-plain, named-concerns}
-use Rattle.ftp_laws.proofs.DecisionLemmas.{by_connection, is_connection, named-no_connection, opened-unused, IsLive}
+use Rattle.ftp_laws.proofs.DecisionLemmas.{by_connection, is_connection, named-no_connection, expired-linked, opened-unused, IsLive}
 use Rattle.ftp_laws.proofs.GrantLemmas.{granted-free}
-use Rattle.ftp_laws.proofs.ClassLemmas.{ending-empties, granted-is}
+use Rattle.ftp_laws.proofs.ClassLemmas.{ending-empties, expires-is, granted-is}
 use Rattle.ftp_laws.proofs.QuestionLemmas.{session-own, session-other, session_by, session-told}
 use Rattle.ftp_laws.proofs.EntryLemmas.{right-past}
 use Rattle.ftp_laws.proofs.Cases.{by_test}
@@ -50,6 +50,7 @@ opener-used (e ∷ past) s opening h = go (is_number (opened_number e.event.kind
 abbrev pub touches : SlotMove → Slot → Bool
 touches (Awaits port) slot = true
 touches Links slot = true
+touches Expires slot = is_waiting slot
 touches m slot = empties m slot
 
 -- a job that starts takes no port
@@ -62,26 +63,50 @@ port-lane (Linked number) None job = refl
 port-lane Empty pending job = refl
 port-lane (Waits port) pending job = refl
 
+-- a slot that does not wait is empty or has a link, and waits for no port
+unwaiting : (slot : Slot) → is_waiting slot ≡ false → None ≡ waiting_port slot
+unwaiting (Waits port) t = cc
+unwaiting Empty t = refl
+unwaiting (Linked number) t = refl
+
 -- every other move leaves the port that the slot waits for
 pub port-kept :
     (m : SlotMove) (number : Option ℕ) (queued : Option Pending) (l : Lane) →
     touches m l.slot ≡ false →
     waiting_port (moved m number queued l).slot ≡ waiting_port l.slot
 port-kept (Awaits port) number queued l t = cc
+port-kept Connects number queued l t = cc
+port-kept Expires number queued l t = unwaiting l.slot t
 port-kept Links number queued l t = cc
 port-kept (Queues ticket) number queued l t = port-lane l.slot queued l.running
 port-kept Finishes number queued l t = port-lane l.slot l.pending None
 port-kept _ number queued l t = ap waiting_port (cond-false _ Empty l.slot t)
 
--- a move that neither gives the slot up nor is by a connection does not touch it
-pub touch-free :
+-- a move that neither gives the slot up nor is by a connection does not touch it, where none that waits expires
+touch-free :
     (m : SlotMove) (slot : Slot) → gives_up m ≡ false →
-    by_connection m ≡ false → touches m slot ≡ false
-touch-free (Awaits port) slot g c = cc
-touch-free Empties slot g c = cc
-touch-free Links slot g c = cc
-touch-free EmptiesWaiting slot g c = cc
-touch-free _ slot g c = refl
+    by_connection m ≡ false → (m ≡ Expires → is_waiting slot ≡ false) →
+    touches m slot ≡ false
+touch-free (Awaits port) slot g c x = cc
+touch-free Connects slot g c x = cc
+touch-free Empties slot g c x = cc
+touch-free Links slot g c x = cc
+touch-free EmptiesWaiting slot g c x = cc
+touch-free Expires slot g c x = x refl
+touch-free _ slot g c x = refl
+
+-- where there is no legacy listener, an entry that names a live session and gives no slot up does not touch its slot
+pub named-untouched :
+    (o : Options) (past : List Entry) (e : Entry) (s : ℕ) (v : Session) →
+    is_legacy o.mode ≡ false →
+    e.decision ≡ due o past e.event.at e.event.kind e.answer →
+    named_session e.event.kind ≡ Some s → session o past s ≡ Some v →
+    gives_up_hold e.decision ≡ false →
+    touches (slot_move e.decision) v.slot ≡ false
+named-untouched o past e s v m fit n known g =
+    touch-free (slot_move e.decision) v.slot g
+    (subst (λ (d : Decision). is_connection d ≡ false) (sym fit) (named-no_connection o past e.event.at e.event.kind e.answer s m n))
+    (λ x. expired-linked o past e.event.at e.event.kind e.answer s v m n known (sym fit ∙ expires-is e.decision x))
 
 -- a decision that does not give the slot up lets the session live
 pub lives-kept : (d : Decision) → gives_up_hold d ≡ false → lives_on d ≡ true
@@ -222,8 +247,7 @@ holder-stays o past e s a p m fit ih w c ends =
     (λ n.
     let gives : gives_up_hold e.decision ≡ false = and-false _ _ (sym (ends-plain e s plain_ends) ∙ ends) n in
     let names : named_session e.event.kind ≡ Some s = number-is _ s n in
-    let plain : is_connection e.decision ≡ false = subst (λ (d : Decision). is_connection d ≡ false) (sym fit) (named-no_connection o past e.event.at e.event.kind e.answer s m names) in
-    waits-own o past e s a p w unopened h (touch-free (slot_move e.decision) w.view.slot gives plain) (lives-kept e.decision gives))
+    waits-own o past e s a p w unopened h (named-untouched o past e s w.view m fit names w.known gives) (lives-kept e.decision gives))
     (λ n.
     let comes = comes-for o past e.event.kind e.answer s (target o e.event.kind e.answer) refl (or-number _ _ s (sym (concerns-plain o past e s plain_ends) ∙ h) n) in
     absurd (true≢false (sym (comes-to-port o past e s a p w comes.to comes.target_is (ih comes.to.client comes.to.port comes.held)) ∙ c))))

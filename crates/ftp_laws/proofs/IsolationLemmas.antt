@@ -4,11 +4,12 @@ use Rattle.std.specs.Prelude.{unwrap_or, ◌==◌, Contains, option_to_list, ◌
 use Rattle.std.specs.Bool.{then_some}
 use Rattle.std.specs.Option.{option_map_or, option_and_then, option_map, option_or}
 use Rattle.std.proofs.lemmas.Option.{same_Some}
+use Rattle.std.proofs.lemmas.Bool.{or_parts}
 use Rattle.std.proofs.lemmas.List.Elements.{Contains-push, Contains-append_left, Contains-append_right}
 use Rattle.ftp_options.specs.Modes.{is_control_port}
 use Rattle.ftp_events.specs.declared.event.Answer.TheVariants.{Header}
 use Rattle.ftp_events.specs.declared.event.EventKind.TheVariants as kind
-use Rattle.ftp_events.specs.Isolation.{owner, is_own, foreign_numbers}
+use Rattle.ftp_events.specs.Isolation.{owner, is_own, is_common, foreign_numbers}
 use Rattle.ftp_laws.proofs.Common.{IpAddr, same_ip, Options, is_legacy, Entry, EventKind, Answer, Opening, is_number, past_of, is_refusal, named_session, is_used, new_number, opening_by, opener, Target, target, is_client, gives_hold, granted_port, comes_to, ends_hold, holder, holder_of_target, concerns, opens, history, lane, session, running_job, IsRight, client_log}
 use Rattle.ftp_laws.proofs.SubjectLemmas.{concerns-plain, no-stop, ends-plain}
 use Rattle.ftp_laws.proofs.QuestionLemmas.{opener-other, session-told, history-other}
@@ -60,6 +61,7 @@ pub owner-named :
 owner-named past (kind.Connect s raw local trace) w a n e = cc
 owner-named past (kind.Proxied number raw trace) w a n e = cc
 owner-named past (kind.DataIn number raw port) w a n e = cc
+owner-named past kind.Sweep w a n e = cc
 owner-named past k w a n e = owner-at past a _ n e
 
 -- the owner of a data connection is the client that it comes from
@@ -78,9 +80,36 @@ owner-target o past (kind.Proxied number raw trace) (Header (Ok line)) t e = by_
     by_port false x = ap Some (ap (λ (y : Target). y.client) (same_Some _ _ x))
 owner-target o past k w t e = cc
 
--- an entry of client a, after a past
+-- the owner of an event is client a
+abbrev pub is_owned : List Entry → EventKind → Answer → IpAddr → Bool
+is_owned P k answer a = option_map_or (λ client. same_ip client a) (owner P k answer) false
+
+-- an entry of client a, or of all clients, after a past
 abbrev pub is_kept : List Entry → Entry → IpAddr → Bool
-is_kept P e a = option_map_or (λ client. same_ip client a) (owner P e.event.kind e.answer) false
+is_kept P e a = is_common e.event.kind || is_owned P e.event.kind e.answer a
+
+-- an entry of another client is not client a's
+pub foreign-owner :
+    (P : List Entry) (e : Entry) (a : IpAddr) →
+    is_kept P e a ≡ false → is_owned P e.event.kind e.answer a ≡ false
+foreign-owner P e a f = (or_parts (is_common e.event.kind) (is_owned P e.event.kind e.answer a) f).1
+
+-- an entry that is kept, and is not of all clients, is client a's
+kept-owner :
+    (P : List Entry) (e : Entry) (a : IpAddr) →
+    is_kept P e a ≡ true → is_common e.event.kind ≡ false →
+    is_owned P e.event.kind e.answer a ≡ true
+kept-owner P e a k c = sym (ap (λ b. b || is_owned P e.event.kind e.answer a) c) ∙ k
+
+-- what names a session is not of all clients
+named-own : (k : EventKind) (s : ℕ) → named_session k ≡ Some s → is_common k ≡ false
+named-own kind.Sweep s n = cc
+named-own k s n = refl
+
+-- nor is a data connection
+target-own : (o : Options) (k : EventKind) (answer : Answer) (t : Target) → target o k answer ≡ Some t → is_common k ≡ false
+target-own o kind.Sweep answer t n = cc
+target-own o k answer t n = refl
 
 -- an entry of another client names no session of client a
 pub foreign-name :
@@ -91,7 +120,7 @@ foreign-name P e a s f w = go (is_number (named_session e.event.kind) s) refl
   where
     go : (b : Bool) → is_number (named_session e.event.kind) s ≡ b → b ≡ false
     go false x = refl
-    go true x = sym w ∙ (sym (owner-named P e.event.kind e.answer a s (number-is _ s x)) ∙ f)
+    go true x = sym w ∙ (sym (owner-named P e.event.kind e.answer a s (number-is _ s x)) ∙ foreign-owner P e a f)
 
 -- its target, if it has one, is not client a's
 pub foreign-target :
@@ -99,7 +128,7 @@ pub foreign-target :
     is_kept P e a ≡ false →
     target o e.event.kind e.answer ≡ Some t →
     same_ip t.client a ≡ false
-foreign-target o P e a t f x = subst (λ (y : Option IpAddr). option_map_or (λ client. same_ip client a) y false ≡ false) (owner-target o P e.event.kind e.answer t x) f
+foreign-target o P e a t f x = subst (λ (y : Option IpAddr). option_map_or (λ client. same_ip client a) y false ≡ false) (owner-target o P e.event.kind e.answer t x) (foreign-owner P e a f)
 
 -- the holder of a key of client b is a session of b
 pub holder-of :
@@ -199,7 +228,7 @@ foreign-opens P e a s f w = go (opens e s) refl w
         option_map_or (λ opening. same_ip opening.client a) (unwrap_or (Some x) (opener P s)) false ≡ true →
         true ≡ false
     by_opening None x h = sym h
-    by_opening (Some op) x h = sym h ∙ subst (λ (y : Option IpAddr). option_map_or (λ client. same_ip client a) y false ≡ false) (opening-owner P e.event.kind e.answer op x) f
+    by_opening (Some op) x h = sym h ∙ subst (λ (y : Option IpAddr). option_map_or (λ client. same_ip client a) y false ≡ false) (opening-owner P e.event.kind e.answer op x) (foreign-owner P e a f)
 
     go :
         (b : Bool) → opens e s ≡ b →
@@ -217,7 +246,7 @@ foreign-client P e a f = go (named_session e.event.kind) refl
   where
     go : (n : Option ℕ) → named_session e.event.kind ≡ n → is_client P n a ≡ false
     go None x = refl
-    go (Some s) x = sym (owner-named P e.event.kind e.answer a s x) ∙ f
+    go (Some s) x = sym (owner-named P e.event.kind e.answer a s x) ∙ foreign-owner P e a f
 
 -- an entry of another client comes to no key of client a
 pub foreign-arrival :
@@ -273,7 +302,7 @@ pub kept-name :
     (P : List Entry) (e : Entry) (a : IpAddr) (s : ℕ) →
     is_kept P e a ≡ true →
     named_session e.event.kind ≡ Some s → is_of P s a ≡ true
-kept-name P e a s k n = sym (owner-named P e.event.kind e.answer a s n) ∙ k
+kept-name P e a s k n = sym (owner-named P e.event.kind e.answer a s n) ∙ kept-owner P e a k (named-own e.event.kind s n)
 
 -- what it comes for is a port of client a
 pub kept-target :
@@ -281,7 +310,7 @@ pub kept-target :
     is_kept P e a ≡ true →
     target o e.event.kind e.answer ≡ Some t → t.client ≡ a
 kept-target o P e a t k x =
-    same_ip-equal t.client a (subst (λ (y : Option IpAddr). option_map_or (λ client. same_ip client a) y false ≡ true) (owner-target o P e.event.kind e.answer t x) k)
+    same_ip-equal t.client a (subst (λ (y : Option IpAddr). option_map_or (λ client. same_ip client a) y false ≡ true) (owner-target o P e.event.kind e.answer t x) (kept-owner P e a k (target-own o e.event.kind e.answer t x)))
 
 -- so both pasts have the same holder for it
 pub kept-comes :
@@ -407,5 +436,5 @@ used-alike (e ∷ log) a n c = by_refusal (is_refusal e.decision) refl (is_kept 
     by_refusal true x false y l = rw (y, x) l
     by_refusal false x true y l = rw (y, x) (ap (λ b. is_number (new_number e.event.kind e.decision) n || b) l)
     by_refusal false x false y l =
-        let old : is_number (new_number e.event.kind e.decision) n ≡ false = not_new y x (is_number (new_number e.event.kind e.decision) n) refl in
+        let old : is_number (new_number e.event.kind e.decision) n ≡ false = not_new (foreign-owner (past_of log) e a y) x (is_number (new_number e.event.kind e.decision) n) refl in
         rw (y, x, old) l

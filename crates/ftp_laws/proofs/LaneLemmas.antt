@@ -6,7 +6,7 @@ use Rattle.ftp_base.specs.declared.command.DataChanCmd.{DataChanCmd}
 use Rattle.ftp_base.specs.declared.command.DataChanCmd.TheVariants.{Stor}
 use Rattle.ftp_events.specs.declared.decision.Decision.TheVariants as decision
 use Rattle.ftp_events.specs.declared.decision.Life.TheVariants.{Ends}
-use Rattle.ftp_events.specs.declared.decision.SlotMove.TheVariants.{Awaits, Links, Queues, Finishes}
+use Rattle.ftp_events.specs.declared.decision.SlotMove.TheVariants.{Awaits, Connects, Links, Queues, Finishes}
 use Rattle.ftp_events.specs.declared.event.EventKind.TheVariants as kind
 use Rattle.ftp_events.specs.declared.session.Slot.TheVariants.{Empty, Waits, Linked}
 use Rattle.ftp_events.specs.Text.{unique_name}
@@ -16,8 +16,8 @@ use Rattle.ftp_events.specs.CommandRows.{is_logged_in, if_logged_in, can_queue, 
 use Rattle.ftp_events.specs.Decide.{if_live}
 use Rattle.ftp_laws.proofs.Common.{Life, SlotMove, life, slot_move, empties, moved, new_number, Options, Ticket, Decision, Entry, EventKind, Answer, Pending, Session, Slot, named_session, past_of, concerns, history, Lane, lane_after, queued_in, lane, lives_on, session, running_job, due, IsRight}
 use Rattle.ftp_laws.proofs.SubjectLemmas.{no-stop, named-one, one-concerns}
-use Rattle.ftp_laws.proofs.ClassLemmas.{awaits-is, queues-is, ending-empties, opened-is}
-use Rattle.ftp_laws.proofs.DecisionLemmas.{IsLive}
+use Rattle.ftp_laws.proofs.ClassLemmas.{awaits-is, connects-is, queues-is, ending-empties, opened-is}
+use Rattle.ftp_laws.proofs.DecisionLemmas.{IsLive, connected-live}
 use Rattle.ftp_laws.proofs.GrantLemmas.{granted-free}
 use Rattle.ftp_laws.proofs.QuestionLemmas.{history-other, history-own, session-other, session-own, session_by}
 use Rattle.ftp_laws.proofs.EntryLemmas.{right-past}
@@ -95,6 +95,7 @@ IsBare l = (l.slot ≡ Empty) × (l.pending ≡ None)
 -- the moves that put something into an empty slot
 abbrev pub fills : SlotMove → Bool
 fills (Awaits port) = true
+fills Connects = true
 fills (Queues ticket) = true
 fills _ = false
 
@@ -111,6 +112,7 @@ pub moved-bare :
     fills m ≡ false → IsBare l →
     IsBare (moved m number queued l)
 moved-bare (Awaits port) number queued l f h = cc
+moved-bare Connects number queued l f h = cc
 moved-bare (Queues ticket) number queued l f h = cc
 moved-bare Links number queued l f h = rw (h.0, h.1) (refl, refl)
 moved-bare Finishes number queued l f h = rw (h.0, h.1) (refl, refl)
@@ -135,6 +137,7 @@ filled-live o past at k answer d e f = go (slot_move d) refl f
   where
     go : (m : SlotMove) → slot_move d ≡ m → fills m ≡ true → IsLive o past k
     go (Awaits port) x y = (granted-free o past at k answer port (e ∙ awaits-is d port x)).alive
+    go Connects x y = (connected-live o past at k answer (e ∙ connects-is d x)).alive
     go (Queues ticket) x y =
         let q : IsQueue o past k ticket = queued-live o past at k answer ticket (e ∙ queues-is d ticket x) in
         record { number = q.number; session_then = q.session_then; named = q.named; known = q.known }

@@ -3,7 +3,7 @@ use Rattle.std.proofs.Common.{◌≡◌, refl, sym, ◌∙◌, ap, subst, ℕ, �
 use Rattle.std.specs.Prelude.{◌⊎◌, ◌==◌, count_by}
 use Rattle.std.specs.Option.{option_map_or, option_and_then}
 use Rattle.std.proofs.lemmas.Bool.{or_right, or_parts}
-use Rattle.ftp_events.specs.declared.decision.SlotMove.TheVariants.{Awaits, Links, Queues, Finishes}
+use Rattle.ftp_events.specs.declared.decision.SlotMove.TheVariants.{Awaits, Connects, Links, Queues, Finishes}
 use Rattle.ftp_events.specs.declared.session.Slot.TheVariants.{Empty, Waits, Linked}
 use Rattle.ftp_events.specs.Slot.{startable, started_by}
 use Rattle.ftp_events.specs.History.{Nobody, One, All}
@@ -17,12 +17,13 @@ use Rattle.ftp_laws.proofs.CountLemmas.{IsOnStarts, count-starts, count-nobody}
 use Rattle.ftp_laws.proofs.EntryLemmas.{acted-past}
 use Rattle.ftp_laws.proofs.Cases.{by_test, by_part}
 
--- the move by a connection that is attached
+-- the moves by a connection that is attached, or taken for a PORT
 abbrev pub links : SlotMove → Bool
 links Links = true
+links Connects = true
 links _ = false
 
--- a data connection is attached
+-- a data connection is attached, or taken
 abbrev pub is_attached : Decision → Bool
 is_attached d = links (slot_move d)
 
@@ -103,6 +104,11 @@ started-leaves (Queues ticket) number queued l j e = startable-leaves l.slot que
 started-leaves Finishes number queued l j e = startable-leaves l.slot l.pending None j e
 started-leaves m number queued l j e = cc
 
+-- the link that a PORT leaves alone is the one that comes
+link-made : (number : Option ℕ) (n : ℕ) → link_in (option_map_or Linked number Empty) ≡ Some n → number ≡ Some n
+link-made None n e = cc
+link-made (Some m) n e = e
+
 -- a link after an entry
 pub link-brings :
     (m : SlotMove) (number : Option ℕ) (queued : Option Pending) (l : Lane) (n : ℕ) →
@@ -112,6 +118,7 @@ link-brings Links number queued l n e = with_link-brings Links number l.slot n r
 link-brings (Queues ticket) number queued l n e = inl (lane_of-link l.slot queued l.running n e)
 link-brings Finishes number queued l n e = inl (lane_of-link l.slot l.pending None n e)
 link-brings (Awaits port) number queued l n e = cc
+link-brings Connects number queued l n e = inr (refl, link-made number n e)
 link-brings m number queued l n e = inl (dropped-link (empties m l.slot) l.slot n e)
 
 -- what starts is told by the history
@@ -251,7 +258,7 @@ taken-step o past e n count fit counts acted h =
     unused :
         (is_attached e.decision ≡ true) × (new_number e.event.kind e.decision ≡ Some n) →
         is_used past n ≡ false
-    unused x = new-unused o past e.event.at e.event.kind e.answer e.decision n (sym (ap is_refusal fit) ∙ counts) x.1
+    unused x = new-unused o past e.event.at e.event.kind e.answer e.decision n (sym fit) counts x.1
 
     new : new_number e.event.kind e.decision ≡ Some n → is_used (e ∷ past) n ≡ true
     new x = rw (x, eq-eqb n n refl) refl

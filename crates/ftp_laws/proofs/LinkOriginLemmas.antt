@@ -1,6 +1,6 @@
 -- A transfer starts on a link that was brought to its session.
 use Rattle.std.proofs.Common.{◌≡◌, refl, sym, ◌∙◌, ap, subst, ℕ, ◌≤◌, Bool, true, false, true≢false, List, [], ◌∷◌, Option, Some, None, arith, eqb-true, eq-eqb, inl, inr}
-use Rattle.std.specs.Prelude.{◌==◌, count_by, is_some}
+use Rattle.std.specs.Prelude.{◌⊎◌, ◌==◌, count_by, is_some}
 use Rattle.std.specs.List.{list_any}
 use Rattle.std.specs.Option.{option_or}
 use Rattle.std.proofs.lemmas.Bool.{and_parts, or_right}
@@ -15,7 +15,8 @@ use Rattle.ftp_laws.specs.Jobs.{starts_there, attaches_to, brings_link, has_brou
 use Rattle.ftp_laws.proofs.EntryLemmas.{past-more}
 use Rattle.ftp_laws.proofs.ServiceLemmas.{AttachedOrTurned, attached-comes, connection-goes}
 use Rattle.ftp_laws.proofs.PortLemmas.{target-unnamed}
-use Rattle.ftp_laws.proofs.LaneLemmas.{ended-empty}
+use Rattle.ftp_laws.proofs.DecisionLemmas.{IsLive, IsAccepted, attached_session, connected-live}
+use Rattle.ftp_laws.proofs.LaneLemmas.{ended-empty, named-concern}
 use Rattle.ftp_laws.proofs.CountLemmas.{IsOnStarts, started_in, count-starts, count-nobody}
 use Rattle.ftp_laws.proofs.LinkLemmas.{is_attached, Brings, started-brings, link_of, WasOrComes, link-after}
 use Rattle.ftp_laws.proofs.BalanceLemmas.{one}
@@ -28,22 +29,13 @@ starts_there-on-starts : (s n : ℕ) → IsOnStarts (starts_there s n)
 starts_there-on-starts s n =
     record { plain = λ q. record { closes = λ m. refl; notifies = λ meta what. refl; replies = λ delay r. refl }; completed = λ t b. refl; cancelled = λ t. refl }
 
--- the session that a connection is attached to
-abbrev attached_session : Decision → Option ℕ
-attached_session (decision.Attached s) = Some s
-attached_session _ = None
-
 -- an entry is about the session that its connection is attached to
 attached-subject :
     (o : Options) (past : List Entry) (at : ℕ) (k : EventKind) (answer : Answer) (q : ℕ) →
     due o past at k answer ≡ decision.Attached q →
     option_or (named_session k) (holder_of_target o past k answer) ≡ Some q
 attached-subject o past at k answer q h =
-    by_option (target o k answer)
-    (λ none. absurd (true≢false (sym (attached-comes o past at k answer q h) ∙ ap is_some none)))
-    (λ t w.
-    rw (target-unnamed o k answer t w, w)
-    (goes t (connection-goes o past at k answer (due o past at k answer) t refl (ap is_refusal h) w)))
+    go (attached-comes o past at k answer q h)
   where
     goes :
         (t : Target) → AttachedOrTurned o past (due o past at k answer) t.client t.port →
@@ -51,18 +43,31 @@ attached-subject o past at k answer q h =
     goes t (inl x) = x.2 ∙ ap attached_session (sym x.1 ∙ h)
     goes t (inr x) = let z : decision.Turned ≡ decision.Attached q = sym x ∙ h in cc
 
--- so a connection that is attached is attached to the session that the entry concerns
+    go :
+        (is_some (target o k answer) ≡ true) ⊎ IsAccepted o past k q →
+        option_or (named_session k) (holder_of_target o past k answer) ≡ Some q
+    go (inr x) = rw x.named refl
+    go (inl x) =
+        by_option (target o k answer) (λ none. absurd (true≢false (sym x ∙ ap is_some none)))
+        (λ t w.
+        rw (target-unnamed o k answer t w, w)
+        (goes t (connection-goes o past at k answer (due o past at k answer) t refl (ap is_refusal h) w)))
+
+-- so a connection that is attached is attached to the session that the entry concerns, and one that is taken is taken for it
 attached-own :
     (o : Options) (past : List Entry) (e : Entry) (s : ℕ) →
     e.decision ≡ due o past e.event.at e.event.kind e.answer →
     concerns o past e s ≡ true →
     is_attached e.decision ≡ true →
-    attaches_to s e.decision ≡ true
+    attaches_to s e.event.kind e.decision ≡ true
 attached-own o past e s fit c a = go e.decision refl a
   where
     go :
         (d : Decision) → e.decision ≡ d → is_attached d ≡ true →
-        attaches_to s d ≡ true
+        attaches_to s e.event.kind d ≡ true
+    go decision.PortOk x h =
+        let alive : IsLive o past e.event.kind = (connected-live o past e.event.at e.event.kind e.answer (sym fit ∙ x)).alive in
+        rw alive.named (eq-eqb alive.number s (named-concern o past e alive.number s alive.named c))
     go (decision.Attached q) x h =
         sym (ap (λ m. is_number m s) (attached-subject o past e.event.at e.event.kind e.answer q (sym fit ∙ x))) ∙ (sym (concerns-plain o past e s (ap is_stop x)) ∙ c)
     go d x h = cc

@@ -7,7 +7,7 @@ use Rattle.std.proofs.lemmas.Bool.{and_parts, or_parts}
 use Rattle.ftp_events.specs.declared.event.EventKind.TheVariants as kind
 use Rattle.ftp_events.specs.declared.decision.Decision.TheVariants as decision
 use Rattle.ftp_events.specs.declared.decision.Life.TheVariants.{Opens, Ends}
-use Rattle.ftp_events.specs.declared.decision.SlotMove.TheVariants.{Awaits}
+use Rattle.ftp_events.specs.declared.decision.SlotMove.TheVariants.{Awaits, Connects}
 use Rattle.ftp_events.specs.declared.session.Slot.TheVariants.{Empty, Waits, Linked}
 use Rattle.ftp_events.specs.Slot.{waiting_port}
 use Rattle.ftp_events.specs.Session.{life_by, told_of_life, session_by_history, is_live, next_lane, queued_for, lane_in}
@@ -16,10 +16,9 @@ use Rattle.ftp_events.specs.Classes.{is_stop}
 use Rattle.ftp_laws.proofs.Common.{meant, holder_of_target, Life, SlotMove, life, slot_move, gives_up, moved, new_number, IpAddr, same_ip, Options, is_legacy, Running, Entry, EventKind, Answer, Decision, Pending, Session, Slot, is_number, named_session, is_refusal, past_of, opened_number, opener, Target, target, granted_port, is_client, gives_hold, comes_to, ends_hold, gives_up_hold, holder, subject, concerns, opens, history, Lane, with_link, lane_after, queued_in, lives_on, session, running_job, due, IsRight}
 use Rattle.ftp_laws.proofs.SubjectLemmas.{nobody-concerns, no-stop, subject-plain, concerns-plain, ends-plain, named-concerns, meant-concerns}
 use Rattle.ftp_laws.proofs.ClassLemmas.{awaits-is, opens-is, granted-is, opened-is}
-use Rattle.ftp_laws.proofs.DecisionLemmas.{is_connection, named-no_connection}
 use Rattle.ftp_laws.proofs.GrantLemmas.{IsGrant, granted-free}
 use Rattle.ftp_laws.proofs.QuestionLemmas.{session-own, session-other, session_by, IsTold, session-told}
-use Rattle.ftp_laws.proofs.HoldLemmas.{port-lane, port-kept, touch-free, number-is, or-number, same_ip-equal, WaitsFor, comes-for}
+use Rattle.ftp_laws.proofs.HoldLemmas.{port-lane, port-kept, named-untouched, number-is, or-number, same_ip-equal, WaitsFor, comes-for}
 use Rattle.ftp_laws.proofs.ServiceLemmas.{Arrives, counted-arrives, connection-goes, AttachedOrTurned}
 use Rattle.ftp_laws.proofs.EntryLemmas.{right-past}
 use Rattle.ftp_laws.proofs.Cases.{by_part}
@@ -193,6 +192,11 @@ pub port-opened :
 port-opened k decision.Opened queued pending job s h = refl
 port-opened k _ queued pending job s h = cc
 
+-- nor does one that has the link of a PORT
+port-made : (number : Option ℕ) → waiting_port (option_map_or Linked number Empty) ≡ None
+port-made None = refl
+port-made (Some n) = refl
+
 -- a waiting slot after a move that gives up holds waits for another port
 pub port-given-up :
     (m : SlotMove) (number : Option ℕ) (queued : Option Pending) (l : Lane) (p : ℕ) →
@@ -200,6 +204,7 @@ pub port-given-up :
     waiting_port (moved m number queued l).slot ≡ Some p →
     m ≡ Awaits p
 port-given-up (Awaits port) number queued l p g h = ap Awaits (same_Some _ _ h)
+port-given-up Connects number queued l p g h = let z : None ≡ Some p = sym (port-made number) ∙ h in cc
 port-given-up m number queued l p g h = cc
 
 -- after an entry that is decided as it has to be, whoever waits for a port holds it
@@ -253,8 +258,7 @@ waits-holds-step o past e m fit counts ih a p s w = by_part o past e s opened ow
         let grant : e.decision ≡ decision.Granted p = awaits-is e.decision p (port-given-up (slot_move e.decision) (new_number e.event.kind e.decision) (queued_for e.decision e.event.kind v) (lane_in v (running_job o past s)) p g port) in
         rw (m, grant, n, (session-told o past s v known).opening, client, eq-eqb p p refl) refl
     by_change v known n client port false g =
-        let plain : is_connection e.decision ≡ false = subst (λ (d : Decision). is_connection d ≡ false) (sym fit) (named-no_connection o past e.event.at e.event.kind e.answer s m n) in
-        let kept : waiting_port (next_lane e.event.kind e.decision (running_job o past s) v).slot ≡ waiting_port v.slot = port-kept (slot_move e.decision) (new_number e.event.kind e.decision) (queued_for e.decision e.event.kind v) (lane_in v (running_job o past s)) (touch-free (slot_move e.decision) v.slot g plain) in
+        let kept : waiting_port (next_lane e.event.kind e.decision (running_job o past s) v).slot ≡ waiting_port v.slot = port-kept (slot_move e.decision) (new_number e.event.kind e.decision) (queued_for e.decision e.event.kind v) (lane_in v (running_job o past s)) (named-untouched o past e s v m fit n known g) in
         let held : holder o past a p ≡ Some s = ih a p s (record { view = v; known = known; client = client; port = sym kept ∙ port }) in
         holder-stays-held o past e a p s held (held-ungranted o past e a p s fit held) (rw (named-target o e.event.kind e.answer s n) refl) (ends-plain e s (no-stop e.decision) ∙ rw (n, g, eq-eqb s s refl) refl)
 

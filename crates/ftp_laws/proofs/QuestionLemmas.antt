@@ -36,7 +36,7 @@ opener-other past e s n = rw n refl
 
 -- what an entry makes of a live session, with the job that ran before it
 abbrev pub session_by : ℕ → Entry → Option Running → Session → Session
-session_by s e job v = session_after e.event.kind e.answer e.decision (count_by (is_notice_to s) e.actions) job v
+session_by s e job v = session_after e.event.at e.event.kind e.answer e.decision (count_by (is_notice_to s) e.actions) job v
 
 -- a live session is what its history and its opener tell
 pub record IsTold (s : ℕ) (h : List Entry) (opener : Option Opening) (v : Session) : Type 0 where

@@ -10,7 +10,8 @@ use Rattle.ftp_base.specs.declared.net.SocketAddr.{SocketAddr}
 use Rattle.ftp_base.specs.Net.{is_v6}
 use Rattle.ftp_options.specs.declared.options.ListenerMode.{ListenerMode}
 use Rattle.ftp_options.specs.declared.options.ListenerMode.TheVariants.{Pooled}
-use Rattle.ftp_options.specs.Modes.{is_pooled, is_proxy, is_control_port}
+use Rattle.ftp_options.specs.Host.{lacks_lookup}
+use Rattle.ftp_options.specs.Modes.{is_pooled, is_proxy, is_control_port, is_passive_off}
 use Rattle.ftp_events.specs.declared.action.Action.TheVariants.{Close}
 use Rattle.ftp_events.specs.declared.decision.Decision.TheVariants as decision
 use Rattle.ftp_events.specs.declared.event.Answer.TheVariants.{Header}
@@ -18,7 +19,7 @@ use Rattle.ftp_events.specs.declared.event.EventKind.TheVariants as kind
 use Rattle.ftp_events.specs.Modes.{in_range}
 use Rattle.ftp_events.specs.Board.{first_free_port}
 use Rattle.ftp_events.specs.ConnectionRows.{arrival_row, header_row, holder_row}
-use Rattle.ftp_events.specs.CommandRows.{is_logged_in}
+use Rattle.ftp_events.specs.CommandRows.{is_logged_in, grant_row}
 use Rattle.ftp_events.specs.Acts.{notice_and_reply, farewells}
 use Rattle.ftp_events.specs.Headline.{is_header, is_barred, is_admitted, peer_of, from_one_peer, IsClosed, AttachedByPeer, AttachedOrClosed, GrantedOrFull, AllServed}
 use Rattle.ftp_events.specs.History.{Nobody, One, All}
@@ -26,6 +27,7 @@ use Rattle.ftp_laws.proofs.Common.{Subject, subject_acts, IpAddr, same_ip, Optio
 use Rattle.ftp_laws.proofs.ClassLemmas.{granted-is}
 use Rattle.ftp_laws.proofs.SubjectLemmas.{no-stop, not-all}
 use Rattle.ftp_laws.proofs.QuestionLemmas.{session-told}
+use Rattle.ftp_laws.proofs.DecisionLemmas.{IsAccepted, accepted-known}
 use Rattle.ftp_laws.proofs.GrantLemmas.{granted-free}
 use Rattle.ftp_laws.proofs.HoldLemmas.{WaitsFor, holder-waits}
 use Rattle.ftp_laws.proofs.EntryLemmas.{right-past}
@@ -218,13 +220,14 @@ connection-goes o past at k a d t fit c w =
     let x : Arrives o past k d t = counted-arrives o past at k a d t fit c w in
     subst (λ (y : Decision). AttachedOrTurned o past y t.client t.port) (sym x.row) (arrival-goes o past x.raw t.client t.port)
 
--- only a data connection is attached
+-- only a data connection is attached, or one that came for the session alone
 pub attached-comes :
     (o : Options) (past : List Entry) (at : ℕ) (k : EventKind) (a : Answer) (s : ℕ) →
     due o past at k a ≡ decision.Attached s →
-    is_some (target o k a) ≡ true
-attached-comes o past at (kind.DataIn number raw port) a s h = refl
-attached-comes o past at k a s h = grind arith
+    (is_some (target o k a) ≡ true) ⊎ IsAccepted o past k s
+attached-comes o past at (kind.DataIn number raw port) a s h = inl refl
+attached-comes o past at (kind.Accepted q number raw) a s h = inr (accepted-known o past at q number raw a s h)
+attached-comes o past at k a s h = inl (grind arith)
 
 -- where the ports are pooled the client of a session is its raw peer
 pub opener-raw :
@@ -366,26 +369,33 @@ serves-connection o log e t m r acted x = by_holder (holder o past t.client t.po
 -- an admitted PASV is granted the first free port, or is told that there is none
 pub serves-grant :
     (o : Options) (past : List Entry) (e : Entry) (s word : ℕ) (lookup bound : Option ℕ) (v : Session) →
+    is_legacy o.mode ≡ false →
     e.decision ≡ due o past e.event.at e.event.kind e.answer →
     e.event.kind ≡ kind.Pasv s word lookup bound →
     session o past s ≡ Some v →
     is_admitted o e.event.kind v ≡ true →
     GrantedOrFull o past e v word
-serves-grant o past e s word lookup bound v fit k known admitted =
+serves-grant o past e s word lookup bound v m fit k known admitted =
     go (first_free_port o past v.opening.client word) row
   where
-    login : is_logged_in v.login ≡ true
-    login = subst (λ (x : EventKind). is_admitted o x v ≡ true) k admitted
+    served : Bool
+    served = is_logged_in v.login && not (is_passive_off o.active_passive)
 
-    row : e.decision ≡ option_map_or decision.Granted (first_free_port o past v.opening.client word) decision.Full
-    row = fit ∙ rw (k, known, login) refl
+    shown : (served ≡ true) × (not (lacks_lookup o.host lookup) ≡ true)
+    shown = and_parts served (not (lacks_lookup o.host lookup)) (subst (λ (x : EventKind). is_admitted o x v ≡ true) k admitted)
+
+    parts : (is_logged_in v.login ≡ true) × (not (is_passive_off o.active_passive) ≡ true)
+    parts = and_parts (is_logged_in v.login) (not (is_passive_off o.active_passive)) shown.0
+
+    row : e.decision ≡ option_map_or (grant_row o.host lookup) (first_free_port o past v.opening.client word) decision.Full
+    row = fit ∙ rw (k, known, parts.0, not-true _ parts.1, m) refl
 
     go :
         (f : Option ℕ) →
-        e.decision ≡ option_map_or decision.Granted f decision.Full →
+        e.decision ≡ option_map_or (grant_row o.host lookup) f decision.Full →
         MatchOption f (e.decision ≡ decision.Full) (λ p. e.decision ≡ decision.Granted p)
     go None x = x
-    go (Some p) x = x
+    go (Some p) x = x ∙ rw (not-true _ shown.1) refl
 
 -- where there is no legacy listener, every entry of a right and acted log is served as the headline says
 pub all-served :
@@ -401,6 +411,6 @@ all-served o (e ∷ log) m r a = (
         serves-connection o log e t m r.0 a.1
         (subst (λ (d : Decision). Arrives o (past_of log) e.event.kind d t) (sym r.1) (unbarred-arrives o (past_of log) e.event.at e.event.kind e.answer t w b));
     refusals = λ b. ap is_refusal r.1 ∙ barred-refused o (past_of log) e.event.at e.event.kind e.answer b;
-    grants = λ s word lookup bound v k known admitted. serves-grant o (past_of log) e s word lookup bound v r.1 k known admitted;
+    grants = λ s word lookup bound v k known admitted. serves-grant o (past_of log) e s word lookup bound v m r.1 k known admitted;
   },
 )

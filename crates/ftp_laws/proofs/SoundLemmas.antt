@@ -4,7 +4,7 @@ use Rattle.std.specs.Prelude.{◌≢◌, if◌then◌else◌}
 use Rattle.std.proofs.lemmas.Option.{same_Some}
 use Rattle.ftp_base.specs.declared.command.DataChanCmd.{DataChanCmd}
 use Rattle.ftp_events.specs.declared.decision.Decision.TheVariants as decision
-use Rattle.ftp_events.specs.declared.decision.SlotMove.TheVariants.{Awaits, Links, Queues, Finishes}
+use Rattle.ftp_events.specs.declared.decision.SlotMove.TheVariants.{Awaits, Connects, Links, Queues, Finishes}
 use Rattle.ftp_events.specs.declared.session.Slot.TheVariants.{Empty, Waits, Linked}
 use Rattle.ftp_events.specs.Login.{login_state, user_name, logged_user}
 use Rattle.ftp_events.specs.Words.{total}
@@ -54,6 +54,7 @@ pub all-moved :
     ((t : Ticket) → m ≡ Queues t → (p : Pending) → queued ≡ Some p → Q p) →
     AllOf Q l → AllOf Q (moved m number queued l)
 all-moved Q (Awaits port) number queued l fit h = record { waits = λ p x. let z : None ≡ Some p = x in cc; runs = h.runs }
+all-moved Q Connects number queued l fit h = record { waits = λ p x. let z : None ≡ Some p = x in cc; runs = h.runs }
 all-moved Q Links number queued l fit h = all-lane_of Q (with_link l.slot number) l.pending l.running (record { waits = h.waits; runs = h.runs })
 all-moved Q (Queues t) number queued l fit h = all-lane_of Q l.slot queued l.running (record { waits = fit t refl; runs = h.runs })
 all-moved Q Finishes number queued l fit h =
@@ -141,6 +142,13 @@ after-sound s n k m number queued l fit le h = go m fit
         record {
           placed = λ x. refl;
           behind = λ i p x. cc;
+          earlier = λ p j x. let z : None ≡ Some p = x in cc;
+          counted = record { waits = λ p x. let z : None ≡ Some p = x in cc; runs = more.counted.runs };
+        }
+    go Connects f =
+        record {
+          placed = λ x. refl;
+          behind = λ i p x y. let z : None ≡ Some p = y in cc;
           earlier = λ p j x. let z : None ≡ Some p = x in cc;
           counted = record { waits = λ p x. let z : None ≡ Some p = x in cc; runs = more.counted.runs };
         }

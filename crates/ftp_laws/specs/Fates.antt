@@ -6,7 +6,7 @@ use Rattle.ftp_transfer.specs.declared.job.Ticket.{Ticket}
 use Rattle.ftp_events.specs.declared.action.Action.{Action}
 use Rattle.ftp_events.specs.declared.decision.Decision.{Decision}
 use Rattle.ftp_events.specs.declared.decision.SlotMove.{SlotMove}
-use Rattle.ftp_events.specs.declared.decision.SlotMove.TheVariants.{Empties, EmptiesWaiting, Awaits, Queues}
+use Rattle.ftp_events.specs.declared.decision.SlotMove.TheVariants.{Empties, EmptiesWaiting, Awaits, Connects, Expires, Queues}
 use Rattle.ftp_events.specs.declared.entry.Entry.{Entry}
 use Rattle.ftp_events.specs.Words.{total}
 use Rattle.ftp_events.specs.Classes.{slot_move}
@@ -41,9 +41,11 @@ settles t action = completes t action || cancels t action
 abbrev pub settle_count : Ticket → List Entry → ℕ
 settle_count t log = total (λ e. count_by (settles t) e.actions) log
 
--- the moves that can cancel a transfer: another grant, a connection that is turned away, and the end of the session
+-- the moves that can cancel a transfer: another grant, the connection of a PORT, one that is turned away, a slot that stood too long, and the end of the session
 abbrev pub may_cancel : SlotMove → Bool
 may_cancel (Awaits port) = true
+may_cancel Connects = true
+may_cancel Expires = true
 may_cancel EmptiesWaiting = true
 may_cancel Empties = true
 may_cancel _ = false

@@ -2,7 +2,7 @@
 use Rattle.std.specs.Prelude.{ℕ, ◌≡◌, ◌≢◌, ◌⊎◌, true, List, Some}
 use Rattle.ftp_base.specs.declared.net.IpAddr.{IpAddr}
 use Rattle.ftp_options.specs.declared.options.Options.{Options}
-use Rattle.ftp_events.specs.declared.decision.Decision.TheVariants.{Granted}
+use Rattle.ftp_events.specs.declared.decision.Decision.TheVariants.{Granted, PortOk}
 use Rattle.ftp_events.specs.declared.entry.Entry.{Entry}
 use Rattle.ftp_events.specs.declared.session.Session.{Session}
 use Rattle.ftp_events.specs.declared.session.Slot.TheVariants.{Waits}
@@ -24,10 +24,14 @@ ComesTo o e a p = target o e.event.kind e.answer ≡ Some (record { client = a; 
 abbrev pub GrantsAnother : Entry → ℕ → ℕ → Type 0
 GrantsAnother e s p = (q : ℕ) × (q ≢ p) × (e.decision ≡ Granted q) × (named_session e.event.kind ≡ Some s)
 
+-- the connection of a PORT of session s is taken
+abbrev pub TakesConnection : Entry → ℕ → Type 0
+TakesConnection e s = (named_session e.event.kind ≡ Some s) × (e.decision ≡ PortOk)
+
 -- session s ends by its own event
 abbrev pub EndsSession : Entry → ℕ → Type 0
 EndsSession e s = (named_session e.event.kind ≡ Some s) × (is_ending e.decision ≡ true)
 
 -- what ends the hold of port p that session s has for client a
 abbrev pub EndsHold : Options → Entry → ℕ → IpAddr → ℕ → Type 0
-EndsHold o e s a p = ComesTo o e a p ⊎ (GrantsAnother e s p ⊎ EndsSession e s)
+EndsHold o e s a p = ComesTo o e a p ⊎ (GrantsAnother e s p ⊎ (TakesConnection e s ⊎ EndsSession e s))

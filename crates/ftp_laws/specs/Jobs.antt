@@ -4,10 +4,11 @@ use Rattle.std.specs.List.{list_any}
 use Rattle.ftp_events.specs.declared.action.Action.{Action}
 use Rattle.ftp_events.specs.declared.action.Action.TheVariants.{Start, Completed}
 use Rattle.ftp_events.specs.declared.decision.Decision.{Decision}
-use Rattle.ftp_events.specs.declared.decision.Decision.TheVariants.{Attached}
+use Rattle.ftp_events.specs.declared.decision.Decision.TheVariants.{Attached, PortOk}
 use Rattle.ftp_events.specs.declared.entry.Entry.{Entry}
+use Rattle.ftp_events.specs.declared.event.EventKind.{EventKind}
 use Rattle.ftp_events.specs.Words.{is_number, total}
-use Rattle.ftp_events.specs.Log.{new_number}
+use Rattle.ftp_events.specs.Log.{named_session, new_number}
 
 -- the action starts a transfer of session s
 abbrev pub starts_for : ℕ → Action → Bool
@@ -32,14 +33,15 @@ abbrev pub starts_there : ℕ → ℕ → Action → Bool
 starts_there s n (Start ticket number) = (ticket.session == s) && (number == n)
 starts_there s n _ = false
 
--- the decision attaches a connection to session s
-abbrev pub attaches_to : ℕ → Decision → Bool
-attaches_to s (Attached session) = session == s
-attaches_to s _ = false
+-- a connection is attached to session s, or taken for a PORT of it
+abbrev pub attaches_to : ℕ → EventKind → Decision → Bool
+attaches_to s k (Attached session) = session == s
+attaches_to s k PortOk = is_number (named_session k) s
+attaches_to s k _ = false
 
 -- the entry brings link n to session s
 abbrev pub brings_link : ℕ → ℕ → Entry → Bool
-brings_link s n e = attaches_to s e.decision && is_number (new_number e.event.kind e.decision) n
+brings_link s n e = attaches_to s e.event.kind e.decision && is_number (new_number e.event.kind e.decision) n
 
 -- some entry brought link n to session s
 abbrev pub has_brought : ℕ → ℕ → List Entry → Bool

@@ -1,5 +1,5 @@
 -- What holds of every right log, in plain words.
-use Rattle.std.specs.Prelude.{ℕ, ◌+◌, ◌≡◌, ◌≤◌, ◌<◌, ◌↔◌, ◌⊎◌, List, [], ◌∷◌, map, length, true, false, Some, None, is_some, if◌then◌else◌}
+use Rattle.std.specs.Prelude.{ℕ, ◌+◌, ◌≡◌, ◌≤◌, ◌<◌, ◌↔◌, ◌⊎◌, List, [], ◌∷◌, ◌++◌, map, length, true, false, Some, None, is_some, if◌then◌else◌}
 use Rattle.std.specs.List.{list_any, range_with_len}
 use Rattle.ftp_base.specs.declared.net.IpAddr.{IpAddr}
 use Rattle.ftp_options.specs.declared.options.Options.{Options}
@@ -10,7 +10,7 @@ use Rattle.ftp_events.specs.declared.decision.Decision.TheVariants.{Finished}
 use Rattle.ftp_events.specs.declared.entry.Entry.{Entry}
 use Rattle.ftp_events.specs.declared.event.Answer.{Answer}
 use Rattle.ftp_events.specs.declared.event.Answer.TheVariants.{Done}
-use Rattle.ftp_events.specs.declared.event.EventKind.TheVariants.{End}
+use Rattle.ftp_events.specs.declared.event.EventKind.TheVariants.{End, Sweep}
 use Rattle.ftp_events.specs.declared.event.HubEvent.{HubEvent}
 use Rattle.ftp_events.specs.declared.session.Pending.{Pending}
 use Rattle.ftp_events.specs.declared.session.Running.{Running}
@@ -20,9 +20,9 @@ use Rattle.ftp_events.specs.Board.{holder}
 use Rattle.ftp_events.specs.Fate.{AwaitsConnection, AwaitsEarlierEnd, cancels, settlement, is_running, is_pending, wait, fate}
 use Rattle.ftp_events.specs.Headline.{AllServed}
 use Rattle.ftp_events.specs.History.{concerns}
-use Rattle.ftp_events.specs.Isolation.{client_log, IsApart}
+use Rattle.ftp_events.specs.Isolation.{client_log, IsApart, locks_by_address}
 use Rattle.ftp_events.specs.Log.{past_of, is_refusal}
-use Rattle.ftp_events.specs.Right.{IsRight, IsActed, log_of, events_of, replies}
+use Rattle.ftp_events.specs.Right.{IsRight, IsActed, next_entry, log_of, events_of, replies}
 use Rattle.ftp_events.specs.Running.{running_count}
 use Rattle.ftp_events.specs.Session.{session, running_job, live_count}
 use Rattle.ftp_events.specs.Transfer.{moves_file}
@@ -31,6 +31,7 @@ use Rattle.ftp_laws.specs.Holds.{WaitsOn, EndsHold}
 use Rattle.ftp_laws.specs.Fates.{was_queued, queue_count, settle_count, can_cancel, LosesSlot}
 use Rattle.ftp_laws.specs.Jobs.{started_count, completed_count, starts_there, has_brought}
 use Rattle.ftp_laws.specs.Links.{start_count}
+use Rattle.ftp_laws.specs.Moments.{IsLatest, NeverFalls}
 use Rattle.ftp_laws.specs.Notices.{notices, NoneLoggedOut, LastLoggedOut, HasEnded}
 use Rattle.ftp_laws.specs.Offsets.{TakesRest, EndsWell}
 use Rattle.ftp_laws.specs.Replies.{was_opened}
@@ -67,7 +68,7 @@ HoldsOnePort =
     holder o (past_of log) a p ≡ Some s → holder o (past_of log) b q ≡ Some s →
     (a ≡ b) × (p ≡ q)
 
--- a hold stays, but for a data connection to its key, a grant of another port to its holder, or the closing of its holder
+-- a hold stays, but for a data connection to its key, a grant of another port to its holder, the connection of a PORT of its holder, or the closing of its holder
 abbrev pub HoldsEndOnlySo : Type 0
 HoldsEndOnlySo =
     (o : Options) (log : List Entry) (e : Entry) (a : IpAddr) (p s : ℕ) → is_legacy o.mode ≡ false → IsRight o (e ∷ log) →
@@ -108,16 +109,18 @@ LiveAreNotLoggedOut =
     session o (past_of log) s ≡ Some v →
     NoneLoggedOut (notices log s)
 
--- the entries of a client whose numbers nobody else brings in are a right and acted log by themselves
+-- where failed logins of one address lock no other, the entries of a client whose numbers nobody else brings in are a right and acted log by themselves
 abbrev pub ClientsAreIsolated : Type 0
 ClientsAreIsolated =
-    (o : Options) (log : List Entry) (a : IpAddr) → is_legacy o.mode ≡ false → IsApart log a → IsRight o log → IsActed o log →
+    (o : Options) (log : List Entry) (a : IpAddr) → is_legacy o.mode ≡ false → locks_by_address o.lockout ≡ true →
+    IsApart log a → IsRight o log → IsActed o log →
     IsRight o (client_log log a) × IsActed o (client_log log a)
 
 -- they are what the client's events and answers give with nobody else there
 abbrev pub ClientsAreAsIfAlone : Type 0
 ClientsAreAsIfAlone =
-    (o : Options) (log : List Entry) (a : IpAddr) → is_legacy o.mode ≡ false → IsApart log a → IsRight o log → IsActed o log →
+    (o : Options) (log : List Entry) (a : IpAddr) → is_legacy o.mode ≡ false → locks_by_address o.lockout ≡ true →
+    IsApart log a → IsRight o log → IsActed o log →
     log_of o (events_of (client_log log a)) ≡ client_log log a
 
 -- no link takes two transfers
@@ -173,7 +176,7 @@ SettledOnce =
     (o : Options) (log : List Entry) (t : Ticket) → IsRight o log → IsActed o log →
     settle_count t log ≤ 1
 
--- it is cancelled by another grant, a connection that is turned away or the end of a session alone, where that concerns its session
+-- it is cancelled by another grant, the connection of a PORT, one that is turned away, a slot that stood too long or the end of a session alone, where that concerns its session
 abbrev pub CancelledOnlySo : Type 0
 CancelledOnlySo =
     (o : Options) (log : List Entry) (e : Entry) (t : Ticket) → IsRight o (e ∷ log) → IsActed o (e ∷ log) →
@@ -259,3 +262,12 @@ RepliesFollowOpenings =
     (o : Options) (log : List Entry) (s : ℕ) → IsRight o log → IsActed o log →
     was_opened s log ≡ false →
     replies log s ≡ []
+
+-- where moments never fall a sweep changes nothing: without it the log is right and acted too, and has the same next entry
+abbrev pub SweepsChangeNothing : Type 0
+SweepsChangeNothing =
+    (o : Options) (newer older : List Entry) (e : Entry) → e.event.kind ≡ Sweep →
+    NeverFalls (newer ++ e ∷ older) → IsRight o (newer ++ e ∷ older) → IsActed o (newer ++ e ∷ older) →
+    IsRight o (newer ++ older) × IsActed o (newer ++ older) ×
+    ((event : HubEvent) (answer : Answer) → IsLatest event.at (newer ++ e ∷ older) →
+    next_entry o (newer ++ older) event answer ≡ next_entry o (newer ++ e ∷ older) event answer)

@@ -7,4 +7,5 @@ pub mod Jobs
 pub mod Transfers
 pub mod Census
 pub mod Replies
+pub mod Moments
 pub mod Laws

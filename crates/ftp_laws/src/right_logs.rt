@@ -4,7 +4,7 @@ ghost use Rattle.ftp_laws.specs.Laws.{NoticesAreNumbered, NoticesAreCounted, End
 ghost use Rattle.ftp_laws.specs.Laws.{LinksTakeOneJob, SessionsRunOneJob, StartsOnOwnLink, EndsSetOffset, OffsetsLast};
 ghost use Rattle.ftp_laws.specs.Laws.{QueuedHaveFates, SettledDoNotWait, SettledOnce, QueuedOnce, RunningAreInNoSlot, RunningAreUnsettled, CancelledOnlySo, CancelledWithSlot};
 ghost use Rattle.ftp_laws.specs.Laws.{EarlierEndsAreOfRunning, AwaitedPortsAreHeld, WaitingAreAsQueued, RunningAreAsQueued, RunningAreAsStarted};
-ghost use Rattle.ftp_laws.specs.Laws.{LiveAreCounted, RunningAreCounted, RepliesFollowOpenings};
+ghost use Rattle.ftp_laws.specs.Laws.{LiveAreCounted, RunningAreCounted, RepliesFollowOpenings, SweepsChangeNothing};
 
 /// There is one right and acted log for given events and answers.
 pub fn right_logs_are_determined()
@@ -25,7 +25,8 @@ pub fn holders_wait()
     ensures one_port { HoldsOnePort }
 {}
 
-/// A hold ends only by a data connection, by a grant of another port to its holder, or with its holder.
+/// A hold ends only by a data connection, by a grant of another port to its holder, by the connection of a PORT of its
+/// holder, or with its holder.
 pub fn holds_end()
     ensures only_so { HoldsEndOnlySo }
     ensures each { EachEndsHold }
@@ -49,7 +50,7 @@ pub fn links_take_one_job()
 {}
 
 /// One transfer of a session runs at most: those that were started are those that were completed, and one
-/// more while a job runs. Each starts on a link that was attached to its session.
+/// more while a job runs. Each starts on a link that was attached to its session, or taken for a PORT of it.
 pub fn sessions_run_one_job()
     ensures jobs { SessionsRunOneJob }
     ensures links { StartsOnOwnLink }
@@ -80,8 +81,9 @@ pub fn transfers_are_fixed_when_queued()
     ensures link { RunningAreAsStarted }
 {}
 
-/// A transfer is cancelled exactly where its session loses the slot in which it waits: by another grant,
-/// by a data connection for the session that is turned away while the slot waits, or by the session's end.
+/// A transfer is cancelled exactly where its session loses the slot in which it waits: by another grant, by the
+/// connection of a PORT, by a data connection for the session that is turned away while the slot waits, by a look at a
+/// slot that stood too long, or by the session's end.
 pub fn transfers_are_cancelled_with_their_slot()
     ensures with_slot { CancelledWithSlot }
     ensures only_so { CancelledOnlySo }
@@ -105,10 +107,16 @@ pub fn replies_follow_openings()
     ensures replies { RepliesFollowOpenings }
 {}
 
-/// The entries of one client address are right and acted by themselves. With the headers of the client's own
+/// The entries of one client address, with the sweeps, are right and acted by themselves, where failed logins of one
+/// address lock no other. With the headers of the client's own
 /// connections and the outcomes of its own transfers given, it is granted, attached and refused what it would be
 /// with nobody else there.
 pub fn client_part_is_right_and_acted()
     ensures isolated { ClientsAreIsolated }
     ensures alone { ClientsAreAsIfAlone }
+{}
+
+/// Where moments never fall, forgetting failed logins that are too old changes nothing that is decided or done later.
+pub fn sweeps_change_nothing()
+    ensures sweeps { SweepsChangeNothing }
 {}
