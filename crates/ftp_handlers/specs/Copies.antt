@@ -15,7 +15,7 @@ pub record ListState : Type 0 where
   pub places : ℕ
   pub twice : Bool
 
--- room for the text of any reply
-pub record IsWide (text : TextState) : Type 0 where
-  pub first : 64 ≤ text.room
-  pub second : 64 ≤ text.copy_room
+-- room for a text of so many bytes
+pub record IsWide (width : ℕ) (text : TextState) : Type 0 where
+  pub first : width ≤ text.room
+  pub second : width ≤ text.copy_room

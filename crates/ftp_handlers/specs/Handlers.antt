@@ -1,29 +1,39 @@
 -- What a handler decides on a live session, and what it makes of the board.
 use Rattle.std.proofs.Common.{BuildHasherDefault, FoldHasher}
-use Rattle.std.specs.Prelude.{◌≡◌, ℕ, ◌+◌, ◌-◌, ◌^◌, ◌<◌, ◌==◌, nat_eq, is_some, min, Bool, true, false, List, [], codes, ◌||◌, Option, Some, None, unwrap_or, if◌then◌else◌}
-use Rattle.std.specs.Option.{option_or}
+use Rattle.std.specs.Prelude.{◌≡◌, ℕ, ◌+◌, ◌-◌, ◌^◌, ◌<◌, ◌==◌, nat_eq, is_some, length, min, Bool, true, false, List, [], codes, ◌||◌, ◌&&◌, Option, Some, None, unwrap_or, if◌then◌else◌}
+use Rattle.std.specs.Option.{IfSome, option_or, option_map, option_map_or, option_and_then}
 use Rattle.std.specs.HashMap as map
 use Rattle.ftp_base.specs.declared.error_kind.ErrorKind.{ErrorKind}
+use Rattle.ftp_base.specs.declared.login.AuthAnswer.{AuthAnswer}
+use Rattle.ftp_base.specs.declared.login.AuthAnswer.TheVariants.{BadUser}
 use Rattle.ftp_base.specs.Net.{ipv4}
 use Rattle.ftp_base.specs.Storage.{root}
 use Rattle.ftp_options.specs.declared.options.Options.{Options}
+use Rattle.ftp_options.specs.declared.host.PassiveHost.{PassiveHost}
+use Rattle.ftp_options.specs.declared.host.PassiveHost.TheVariants.{Dns}
+use Rattle.ftp_options.specs.declared.lockout.FailedLoginsPolicy.{FailedLoginsPolicy}
+use Rattle.ftp_lockout.specs.declared.key.LoginKey.{LoginKey}
+use Rattle.ftp_lockout.specs.declared.cache.Failures.{Failures}
+use Rattle.ftp_lockout.specs.Keys.{same_key}
+use Rattle.ftp_lockout.specs.Failures.{Table, failures_of}
 use Rattle.ftp_events.specs.declared.session.Running.{Running}
 use Rattle.ftp_transfer.specs.declared.job.Ticket.{Ticket}
 use Rattle.ftp_transfer.specs.Path.{join_path}
-use Rattle.ftp_switchboard.specs.Board.{Board, holder_at, is_key, still_holder}
+use Rattle.ftp_switchboard.specs.Board.{Board, HasRoom, holder_for, is_key, still_holder}
 use Rattle.ftp_events.specs.declared.event.EventKind.{EventKind}
 use Rattle.ftp_events.specs.declared.event.EventKind.TheVariants as kind
 use Rattle.ftp_events.specs.declared.event.Answer.{Answer}
 use Rattle.ftp_events.specs.declared.event.Answer.TheVariants.{Done}
 use Rattle.ftp_events.specs.declared.decision.Decision.{Decision}
-use Rattle.ftp_events.specs.declared.decision.Decision.TheVariants.{UnknownNumber, Queued, Finished, LoggedIn}
+use Rattle.ftp_events.specs.declared.decision.Decision.TheVariants.{Queued, Finished, LoggedIn, LoginFailed}
 use Rattle.ftp_events.specs.declared.session.Login.{Login}
+use Rattle.ftp_events.specs.declared.session.Login.TheVariants as login
 use Rattle.ftp_events.specs.declared.session.Pending.{Pending}
 use Rattle.ftp_events.specs.declared.session.Session.{Session}
 use Rattle.ftp_events.specs.declared.decision.Life.{Life}
 use Rattle.ftp_events.specs.declared.decision.Life.TheVariants.{Goes, Ends}
 use Rattle.ftp_events.specs.declared.decision.SlotMove.{SlotMove}
-use Rattle.ftp_events.specs.declared.decision.SlotMove.TheVariants.{Keeps, Empties, EmptiesWaiting, Awaits}
+use Rattle.ftp_events.specs.declared.decision.SlotMove.TheVariants.{Keeps, Empties, EmptiesWaiting, Awaits, Connects, Expires}
 use Rattle.ftp_events.specs.Classes.{life, slot_move}
 use Rattle.ftp_events.specs.Log.{named_session}
 use Rattle.ftp_events.specs.Login.{logged_user}
@@ -32,7 +42,10 @@ use Rattle.ftp_events.specs.Session.{queued_for}
 use Rattle.ftp_events.specs.Slot.{Lane}
 use Rattle.ftp_events.specs.Text.{unique_name}
 use Rattle.ftp_events.specs.Transfer.{moves_file}
-use Rattle.ftp_events.specs.LoginRows.{auth_row}
+use Rattle.ftp_events.specs.CommandRows.{Around}
+use Rattle.ftp_events.specs.Lockout.{failures_by, login_key}
+use Rattle.ftp_events.specs.Words.{◌⇒◌∣◌}
+use Rattle.ftp_handlers.specs.declared.auth_done.Refusal.{Refusal}
 use Rattle.ftp_handlers.specs.Rooms.{most_actions}
 
 -- the kinds of the handlers
@@ -60,6 +73,14 @@ abbrev pub is_quit : EventKind → Bool
 is_quit (kind.Quit s) = true
 is_quit _ = false
 
+abbrev pub is_port : EventKind → Bool
+is_port (kind.Port s text number) = true
+is_port _ = false
+
+abbrev pub is_slot_tick : EventKind → Bool
+is_slot_tick (kind.SlotTick s) = true
+is_slot_tick _ = false
+
 -- the kinds that end a live session
 abbrev pub ends_session : EventKind → Bool
 ends_session k = is_closed k || is_quit k
@@ -78,9 +99,9 @@ is_transfer (kind.Transfer s c) = true
 is_transfer (kind.Stou s word) = true
 is_transfer _ = false
 
--- the other kinds that a session sends while it goes on
+-- the other kinds about a session that goes on, but for the connections that come to it
 abbrev pub is_command : EventKind → Bool
-is_command k = is_user k || is_pass k || is_auth k || is_pasv k || is_rest k || is_cwd k
+is_command k = is_user k || is_pass k || is_auth k || is_pasv k || is_port k || is_rest k || is_cwd k || is_slot_tick k
 
 -- how many actions of an event of this kind can need a place
 abbrev pub places_for : EventKind → ℕ
@@ -91,14 +112,31 @@ abbrev pub can_reply : EventKind → Bool
 can_reply (kind.Connect s raw local trace) = false
 can_reply (kind.Proxied number raw trace) = false
 can_reply (kind.DataIn number raw port) = false
+can_reply (kind.Accepted s number raw) = false
 can_reply (kind.Closed s) = false
+can_reply (kind.SlotTick s) = false
+can_reply kind.Sweep = false
 can_reply _ = true
 
 -- the kinds with which a transfer may be dropped whose session goes on
 abbrev pub can_drop : EventKind → Bool
 can_drop (kind.Proxied number raw trace) = true
 can_drop (kind.DataIn number raw port) = true
-can_drop k = is_pasv k
+can_drop (kind.Accepted s number raw) = true
+can_drop (kind.Pasv s word lookup bound) = true
+can_drop (kind.Port s text number) = true
+can_drop (kind.SlotTick s) = true
+can_drop _ = false
+
+-- how many bytes suffice for the text that answers a PASV, also where that shows a name
+abbrev pub passive_width : PassiveHost → Option ℕ → ℕ
+passive_width (Dns name) None = 64 + length name
+passive_width _ _ = 64
+
+-- how many suffice for the text of the reply on an event
+abbrev pub width_for : Options → EventKind → ℕ
+width_for o (kind.Pasv s word lookup bound) = passive_width o.host lookup
+width_for o _ = 64
 
 -- a life that goes on, with a move of the slot that neither starts nor ends a job
 abbrev pub is_quiet : Life → SlotMove → Bool
@@ -106,6 +144,8 @@ is_quiet Goes Keeps = true
 is_quiet Goes Empties = true
 is_quiet Goes EmptiesWaiting = true
 is_quiet Goes (Awaits port) = true
+is_quiet Goes Connects = true
+is_quiet Goes Expires = true
 is_quiet _ _ = false
 
 -- with a decision the session goes on, and no job of it starts or ends
@@ -121,9 +161,65 @@ abbrev pub word_of : EventKind → ℕ
 word_of (kind.Pasv s word lookup bound) = word
 word_of _ = 0
 
--- the holders of a client's ports, by the board
+-- the port that was bound for the session of a PASV alone
+abbrev pub bound_of : EventKind → Option ℕ
+bound_of (kind.Pasv s word lookup bound) = bound
+bound_of _ = None
+
+-- the text of a PORT
+abbrev pub text_of : EventKind → List ℕ
+text_of (kind.Port s text number) = text
+text_of _ = []
+
+-- the number of the connection that was made for a PORT
+abbrev pub made_of : EventKind → Option ℕ
+made_of (kind.Port s text number) = number
+made_of _ = None
+
+-- what was said of a password
+abbrev pub said_of : EventKind → AuthAnswer
+said_of (kind.AuthDone s said) = said
+said_of _ = BadUser
+
+-- the holders of a client's ports, by the board; a client of version 6 holds nothing
 abbrev pub held_for : Board → Session → ℕ → Option ℕ
-held_for board v = holder_at board (ipv4 v.opening.client)
+held_for board v = holder_for board (ipv4 v.opening.client)
+
+-- the failures of a key, by the table
+abbrev pub failures_in : Option Table → LoginKey → Option Failures
+failures_in failures key = option_and_then (λ t. failures_of t key) failures
+
+-- the policy of the table
+abbrev pub policy_in : Option Table → Option FailedLoginsPolicy
+policy_in failures = option_map (λ t. t.policy) failures
+
+-- one more failed login takes no memory
+abbrev pub HasSpare : Option Table → Type 0
+HasSpare failures = IfSome failures (λ t. 0 < t.spare)
+
+-- the table goes by the policy of the options, and one more failed login takes no memory
+pub record CanCount (failures : Option Table) (o : Options) : Type 0 where
+  pub policy : policy_in failures ≡ o.lockout
+  pub spare : HasSpare failures
+
+-- what stands around a command: the holders by the board, the failures by the table, whether its number is used, and the moment
+abbrev pub surroundings : Board → Option Table → Bool → ℕ → Session → Around
+surroundings board failures used at v = record { holders = held_for board v; failures = failures_in failures; used = λ n. used; at = at }
+
+-- the password is out
+abbrev pub is_checking : Login → Bool
+is_checking login.Checking = true
+is_checking _ = false
+
+-- what a command of a session leaves of the failures of a key
+abbrev pub failures_left : FailedLoginsPolicy → Session → LoginKey → EventKind → ℕ → Option Failures → Option Failures
+failures_left p v key (kind.AuthDone s said) at f = is_checking v.login && same_key (login_key p v) key ⇒ failures_by said p at f ∣ f
+failures_left p v key _ at f = f
+
+-- what is decided on a login that is let in, or refused
+abbrev pub login_decision : Option Refusal → Decision
+login_decision None = LoggedIn
+login_decision (Some refusal) = LoginFailed refusal.lock refusal.delay
 
 -- what an event keeps whatever its session is: a new session, or one that may come of it, is in the root, and STOU has a unique name
 abbrev pub kept_alone : EventKind → List ℕ
@@ -141,11 +237,6 @@ kept_by (kind.Quit s) v = logged_user v.login v.name
 kept_by (kind.End ticket) v = logged_user v.login v.name
 kept_by (kind.Cwd s path refusal) v = join_path v.cwd path
 kept_by k v = kept_alone k
-
--- what is decided on a password that was checked
-abbrev pub answered_row : EventKind → Login → Decision
-answered_row (kind.AuthDone s said) login = auth_row said login
-answered_row _ login = UnknownNumber
 
 -- how many notices a decision with this turn of a life sends to its session, with the answer that it is on
 abbrev pub notices_by : Life → Decision → Answer → ℕ
@@ -192,19 +283,33 @@ pub record Starts (old new : Jobs) (s : ℕ) (job : Option Running) : Type 0 whe
   pub jobs : (q : ℕ) → map.get nat_eq new q ≡ (if s == q then option_or job (map.get nat_eq old q) else map.get nat_eq old q)
   pub len : map.hash_map_len new ≡ map.hash_map_len old + (if is_some job then 1 else 0)
 
+-- a client of version 4 can be given a port of the board without more memory
+abbrev pub HasRoomFor : Board → Session → Type 0
+HasRoomFor board v = IfSome (ipv4 v.opening.client) (HasRoom board)
+
 -- the board has the range of the options
 pub record HasRange (board : Board) (o : Options) : Type 0 where
   pub lo : board.lo ≡ o.lo
   pub hi : board.hi ≡ o.hi
 
--- who holds port p for client a after a move of the slot of session s, whose client and waiting port these are
-abbrev pub held_by : SlotMove → ℕ → ℕ → Option ℕ → ℕ → ℕ → Option ℕ → Option ℕ
-held_by (Awaits port) s client waited a p before = if is_key a p client port then Some s else still_holder client waited s a p before
-held_by Empties s client waited a p before = still_holder client waited s a p before
+-- who holds port p for client a once session s, with this client, has given up the port that it waits for
+abbrev pub held_without : ℕ → Option ℕ → Option ℕ → ℕ → ℕ → Option ℕ → Option ℕ
+held_without s client waited a p before = option_map_or (λ c. still_holder c waited s a p before) client before
+
+-- who holds it once that session has taken a port in its place
+abbrev pub held_with : ℕ → ℕ → Option ℕ → Option ℕ → ℕ → ℕ → Option ℕ → Option ℕ
+held_with port s client waited a p before =
+    option_map_or (λ c. if is_key a p c port then Some s else still_holder c waited s a p before) client before
+
+-- who holds it after a move of the slot of that session
+abbrev pub held_by : SlotMove → ℕ → Option ℕ → Option ℕ → ℕ → ℕ → Option ℕ → Option ℕ
+held_by (Awaits port) s client waited a p before = held_with port s client waited a p before
+held_by Empties s client waited a p before = held_without s client waited a p before
+held_by Connects s client waited a p before = held_without s client waited a p before
 held_by _ s client waited a p before = before
 
 -- who holds it after a decision on that session
-abbrev pub held_after : Decision → ℕ → ℕ → Option ℕ → ℕ → ℕ → Option ℕ → Option ℕ
+abbrev pub held_after : Decision → ℕ → Option ℕ → Option ℕ → ℕ → ℕ → Option ℕ → Option ℕ
 held_after d s client waited a p before = held_by (slot_move d) s client waited a p before
 
 -- what the storage said of the directory of a CWD

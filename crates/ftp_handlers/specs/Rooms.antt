@@ -23,6 +23,7 @@ pub record RoomState : Type 0 where
   pub actions : List Action
   pub places : ℕ
   pub twice : Bool
+  pub used : Bool
 
 -- the actions that were put in, in order
 abbrev pub actions_in : RoomState → List Action
@@ -89,10 +90,10 @@ pub record IsReady (room : RoomState) : Type 0 where
   pub text : room.text.items ≡ []
   pub dropped : room.dropped.items ≡ []
 
--- a reply has room for its text
-abbrev pub CanReply : RoomState → Type 0
-CanReply room = IsWide room.text
+-- a reply has room for a text of so many bytes
+abbrev pub CanReply : ℕ → RoomState → Type 0
+CanReply width room = IsWide width room.text
 
 -- so has the reply on a transfer that is dropped
 abbrev pub CanTellDropped : RoomState → Type 0
-CanTellDropped room = IsWide room.dropped
+CanTellDropped room = IsWide 64 room.dropped

@@ -4,7 +4,7 @@ ghost use Rattle.std.specs.Prelude.{◌≡◌, ◌+◌, ◌<◌, ◌≤◌, ◌^
 ghost use Rattle.ftp_base.specs.declared.notice.Notice.TheVariants.{Presence};
 ghost use Rattle.ftp_base.specs.declared.notice.PresenceEvent.TheVariants as presence;
 ghost use Rattle.ftp_base.specs.Net.{ipv4};
-ghost use Rattle.ftp_switchboard.specs.Board.{SameRange, holder_at, still_holder};
+ghost use Rattle.ftp_switchboard.specs.Board.{SameRange, holder_at};
 ghost use Rattle.ftp_events.specs.declared.session.Running.{Running};
 ghost use Rattle.ftp_events.specs.declared.event.Answer.{Answer};
 ghost use Rattle.ftp_events.specs.declared.action.Action.TheVariants as action;
@@ -13,7 +13,7 @@ ghost use Rattle.ftp_events.specs.Login.{logged_user};
 ghost use Rattle.ftp_events.specs.Slot.{waiting_port};
 ghost use Rattle.ftp_events.specs.Acts.{cancellations, closings, link_in, session_acts};
 ghost use Rattle.ftp_handlers.specs.Rooms.{IsReady, actions_in, kept_in, len_in, twice_in};
-ghost use Rattle.ftp_handlers.specs.Handlers.{is_closed, number_of, kept_by, held_after};
+ghost use Rattle.ftp_handlers.specs.Handlers.{is_closed, number_of, kept_by, held_after, held_without};
 
 use crate::pasv::waiting_port;
 use crate::room::Room;
@@ -56,7 +56,7 @@ pub(crate) fn leave(session: &mut Session, number: u64, board: &mut Switchboard,
     ensures actions { session.old.notices + 1 < 2 ^ 64 → actions_in room.new ≡ cancellations number false session.old.pending ++ closings (link_in session.old.slot) ++ action.Notify number (record { username = kept_in room.old; trace_id = record { 0 = session.old.opening.trace }; sequence_number = session.old.notices + 1 }) (Presence presence.LoggedOut) ∷ [] }
     ensures len { len_in room.new ≤ 3 }
     ensures same { room.new ≡ record room.old { actions = room.new.actions; kept = room.new.kept } }
-    ensures holders { (a p : ℕ) → holder_at board.new a p ≡ still_holder (ipv4 session.old.opening.client) (waiting_port session.old.slot) number a p (holder_at board.old a p) }
+    ensures holders { (a p : ℕ) → holder_at board.new a p ≡ held_without number (ipv4 session.old.opening.client) (waiting_port session.old.slot) a p (holder_at board.old a p) }
     ensures range { SameRange board.old board.new }
 {
     release(board, session, number);
@@ -70,16 +70,16 @@ pub(crate) fn leave(session: &mut Session, number: u64, board: &mut Switchboard,
     );
 }
 
-// Frees the port that the session waits for.
-fn release(board: &mut Switchboard, session: &Session, number: u64)
-    ensures holders { (a p : ℕ) → holder_at board.new a p ≡ still_holder (ipv4 session.now.opening.client) (waiting_port session.now.slot) number a p (holder_at board.old a p) }
+/// Frees the port that the session waits for.
+pub(crate) fn release(board: &mut Switchboard, session: &Session, number: u64)
+    ensures holders { (a p : ℕ) → holder_at board.new a p ≡ held_without number (ipv4 session.now.opening.client) (waiting_port session.now.slot) a p (holder_at board.old a p) }
     ensures range { SameRange board.old board.new }
 {
+    let Some(source) = session.opening.client.ipv4() else {
+        return;
+    };
     if let Some(port) = waiting_port(session.slot) {
-        let key = SwitchboardKey {
-            source: session.opening.client.ipv4(),
-            port,
-        };
+        let key = SwitchboardKey { source, port };
         board.release(&key, number);
     }
 }

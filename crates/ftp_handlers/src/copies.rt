@@ -1,16 +1,13 @@
 //! Texts and actions that are written once, or twice so that each can be given to two.
 
-ghost use Rattle.std.specs.Prelude.{◌≡◌, ◌+◌, ◌<◌, ◌≤◌, Bool, IsTrue, true, false, [], ◌∷◌, ◌++◌, List, length, IfOk, vec_capacity, if◌then◌else◌};
+ghost use Rattle.std.specs.Prelude.{◌≡◌, ◌+◌, ◌<◌, ◌≤◌, Bool, IsTrue, true, false, [], ◌∷◌, ◌++◌, List, length, codes, IfOk, vec_len, vec_capacity, if◌then◌else◌};
 ghost use Rattle.ftp_events.specs.Text.{passive_text, offset_text};
 ghost use Rattle.ftp_handlers.specs.Copies.{IsWide};
 
 use ftp_base::Bytes;
-use ftp_events::{Action, Actions, write_offset_text, write_passive_text};
+use ftp_events::{Action, Actions, wording, write_offset_text, write_passive_text};
 use std::alloc::{AllocError, Global};
 use std::marker::Model;
-
-/// No reply's text is longer, in bytes.
-const LONGEST_TEXT: usize = 64;
 
 /// A text's buffer, once or twice.
 #[derive(Drop)]
@@ -27,7 +24,7 @@ impl Model for Text {
 
     ghost Value = { TextState };
 
-    ghost view = { λ t. record { items = t.first.items; room = vec_capacity t.first; copy_room = (if t.twice then vec_capacity t.second else 64); twice = t.twice } };
+    ghost view = { λ t. record { items = t.first.items; room = vec_capacity t.first; copy_room = (if t.twice then vec_capacity t.second else vec_capacity t.first); twice = t.twice } };
 
     ghost invariant = { λ t. t.second.items ≡ (if t.twice then t.first.items else []) };
 }
@@ -45,18 +42,23 @@ impl Text {
         }
     }
 
-    /// Takes memory for the text of any reply, where it is asked for.
-    pub fn with_room(alloc: Global, asked: bool, twice: bool) -> Result<Text, AllocError>
+    /// Takes memory for a text of so many bytes, where it is asked for.
+    pub fn with_room(
+        alloc: Global,
+        asked: bool,
+        width: usize,
+        twice: bool,
+    ) -> Result<Text, AllocError>
         ensures items { IfOk result (λ text. text.items ≡ []) }
-        ensures room { IfOk result (λ text. IsTrue asked → IsWide text) }
+        ensures room { IfOk result (λ text. IsTrue asked → IsWide width text) }
         ensures twice { IfOk result (λ text. text.twice ≡ twice) }
     {
         if !asked {
             return Ok(Text::blank(alloc, twice));
         }
-        let first = Vec::with_capacity(alloc, LONGEST_TEXT)?;
+        let first = Vec::with_capacity(alloc, width)?;
         let second = if twice {
-            Vec::with_capacity(alloc, LONGEST_TEXT)?
+            Vec::with_capacity(alloc, width)?
         } else {
             Vec::new(alloc)
         };
@@ -87,7 +89,7 @@ impl Text {
     /// Writes words.
     pub fn write(&mut self, words: &[u8])
         requires empty { self.old.items ≡ [] }
-        requires wide { IsWide self.old }
+        requires wide { IsWide 64 self.old }
         requires short { length words.now ≤ 64 }
         ensures items { self.new.items ≡ words.now }
         ensures twice { self.new.twice ≡ self.old.twice }
@@ -98,10 +100,23 @@ impl Text {
         }
     }
 
+    /// Writes that a name was not looked up.
+    pub fn write_unresolved(&mut self, name: &[u8])
+        requires empty { self.old.items ≡ [] }
+        requires wide { IsWide (64 + length name.now) self.old }
+        ensures items { self.new.items ≡ codes "Could not resolve DNS address '" ++ name.now ++ codes "'" }
+        ensures twice { self.new.twice ≡ self.old.twice }
+    {
+        put_unresolved(&mut self.first, name);
+        if self.twice {
+            put_unresolved(&mut self.second, name);
+        }
+    }
+
     /// Writes the text of a passive reply.
     pub fn write_passive(&mut self, ip: u32, port: u16)
         requires empty { self.old.items ≡ [] }
-        requires wide { IsWide self.old }
+        requires wide { IsWide 64 self.old }
         ensures items { self.new.items ≡ passive_text ip port }
         ensures twice { self.new.twice ≡ self.old.twice }
     {
@@ -114,7 +129,7 @@ impl Text {
     /// Writes the text that answers a restart offset.
     pub fn write_offset(&mut self, offset: u64)
         requires empty { self.old.items ≡ [] }
-        requires wide { IsWide self.old }
+        requires wide { IsWide 64 self.old }
         ensures items { self.new.items ≡ offset_text offset }
         ensures twice { self.new.twice ≡ self.old.twice }
     {
@@ -124,10 +139,23 @@ impl Text {
         }
     }
 
-    /// Gives the text, and its copy where it was written twice.
+    /// A text and its copy, which is empty where the text is there once.
+    pub fn from_both(first: Bytes, second: Bytes, twice: bool) -> Text
+        requires same { second ≡ (if twice then first else []) }
+        ensures items { result.items ≡ first }
+        ensures twice { result.twice ≡ twice }
+    {
+        Text {
+            first: first.into_vec(),
+            second: second.into_vec(),
+            twice,
+        }
+    }
+
+    /// Gives the text, and its copy, which is empty where the text is there once.
     pub fn into_both(self) -> (Bytes, Bytes)
         ensures first { result.0 ≡ self.items }
-        ensures second { IsTrue self.twice → result.1 ≡ self.items }
+        ensures second { result.1 ≡ (if self.twice then self.items else []) }
     {
         let Text {
             first,
@@ -138,12 +166,23 @@ impl Text {
     }
 }
 
-// Writes words into an empty buffer.
-fn put(text: &mut Vec<u8>, words: &[u8])
+// Writes that a name was not looked up into an empty buffer.
+fn put_unresolved(text: &mut Vec<u8>, name: &[u8])
     requires empty { text.old.items ≡ [] }
-    requires room { 64 ≤ vec_capacity text.old }
-    requires short { length words.now ≤ 64 }
-    ensures { text.new.items ≡ words.now }
+    requires room { 64 + length name.now ≤ vec_capacity text.old }
+    ensures { text.new.items ≡ codes "Could not resolve DNS address '" ++ name.now ++ codes "'" }
+{
+    put(text, wording::UNRESOLVED);
+    put(text, name);
+    put(text, b"'");
+}
+
+// Writes words behind the text.
+fn put(text: &mut Vec<u8>, words: &[u8])
+    requires room { vec_len text.old + length words.now ≤ vec_capacity text.old }
+    ensures items { text.new.items ≡ text.old.items ++ words.now }
+    ensures len { vec_len text.new ≡ vec_len text.old + length words.now }
+    ensures capacity { vec_capacity text.old ≤ vec_capacity text.new }
 {
     match text.extend_from_slice(words) {
         Ok(()) => {}

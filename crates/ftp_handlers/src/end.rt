@@ -28,7 +28,7 @@ pub fn deliver(
     options: &Options,
 )
     requires room { IsReady room.old }
-    requires letters { CanReply room.old }
+    requires letters { CanReply 64 room.old }
     requires kept { kept_in room.old ≡ logged_user session.old.login session.old.name }
     requires path { HasCopy room.old job.job.path }
     ensures session { session.old.notices + 1 < 2 ^ 64 → session.new ≡ with_end (End job.job.ticket) (Done outcome) session.old }
@@ -74,7 +74,7 @@ pub fn deliver(
 fn moved(session: &mut Session, number: u64, what: DataEvent, text: &[u8], room: &mut Room)
     requires places { HasPlaces 2 room.old }
     requires empty { room.old.text.items ≡ [] }
-    requires letters { CanReply room.old }
+    requires letters { CanReply 64 room.old }
     requires short { length text.now ≤ 64 }
     requires path { HasCopy room.old (path_of what) }
     ensures session { session.old.notices + 1 < 2 ^ 64 → session.new ≡ record session.old { offset = 0; notices = session.old.notices + 1 } }

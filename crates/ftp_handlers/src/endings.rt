@@ -7,10 +7,10 @@ ghost use Rattle.ftp_events.specs.declared.session.Running.{Running};
 ghost use Rattle.ftp_events.specs.declared.event.Answer.{Answer};
 ghost use Rattle.ftp_events.specs.Acts.{session_acts};
 ghost use Rattle.ftp_events.specs.Classes.{is_ending};
-ghost use Rattle.ftp_events.specs.CommandRows.{command_row};
+ghost use Rattle.ftp_events.specs.CommandRows.{Around, command_row};
 ghost use Rattle.ftp_events.specs.Slot.{waiting_port};
 ghost use Rattle.ftp_handlers.specs.Rooms.{CanReply, IsReady, actions_in, kept_in, twice_in};
-ghost use Rattle.ftp_handlers.specs.Handlers.{can_reply, ends_session, held_after, held_for, kept_by, number_of, places_for};
+ghost use Rattle.ftp_handlers.specs.Handlers.{can_reply, ends_session, held_after, kept_by, number_of, places_for};
 
 use crate::room::Room;
 use crate::{closed, quit};
@@ -30,10 +30,10 @@ pub fn ending(
     requires of_this_event { IsTrue (ends_session args.now) }
     requires room { IsReady room.old }
     requires places { places_for args.now ≤ room.old.places }
-    requires letters { IsTrue (can_reply args.now) → CanReply room.old }
+    requires letters { IsTrue (can_reply args.now) → CanReply 64 room.old }
     requires kept { kept_in room.old ≡ kept_by args.now session.old }
     ensures ends { IsTrue (is_ending result) }
-    ensures decision { result ≡ command_row options.now (held_for board.old session.old) args.now session.old }
+    ensures decision { (around : Around) → result ≡ command_row options.now around args.now session.old }
     ensures actions { session.old.notices + 1 < 2 ^ 64 → (answer : Answer) (job : Option Running) → actions_in room.new ≡ session_acts options.now (number_of args.now) args.now answer result job (Some session.old) }
     ensures holders { (a p : ℕ) → holder_at board.new a p ≡ held_after result (number_of args.now) (ipv4 session.old.opening.client) (waiting_port session.old.slot) a p (holder_at board.old a p) }
     ensures range { SameRange board.old board.new }

@@ -27,11 +27,15 @@ pub fn copy_kept(alloc: Global, kind: &EventKind, session: &Session) -> Result<B
         EventKind::Connect { .. }
         | EventKind::Proxied { .. }
         | EventKind::DataIn { .. }
+        | EventKind::Accepted { .. }
         | EventKind::Pass { .. }
         | EventKind::Pasv { .. }
+        | EventKind::Port { .. }
         | EventKind::Transfer { .. }
         | EventKind::Stou { .. }
-        | EventKind::Rest { .. } => copy_alone(alloc, kind),
+        | EventKind::Rest { .. }
+        | EventKind::SlotTick { .. }
+        | EventKind::Sweep => copy_alone(alloc, kind),
     }
 }
 

@@ -15,10 +15,12 @@ mod fixed;
 mod login;
 pub mod pass;
 pub mod pasv;
+pub mod port;
 mod putting;
 pub mod quit;
 pub mod rest;
 mod room;
+mod slot_tick;
 pub mod transfer;
 mod user;
 

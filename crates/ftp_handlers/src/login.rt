@@ -14,7 +14,7 @@ use ftp_events::Decision;
 /// Asks for a login before the command.
 pub(crate) fn ask_for_login(session: u64, room: &mut Room) -> Decision
     requires room { IsReady room.old }
-    requires letters { CanReply room.old }
+    requires letters { CanReply 64 room.old }
     ensures decision { result ≡ NotLoggedIn }
     ensures actions { actions_in room.new ≡ action.Reply session 0 (reply.CodeAndMsg code.NotLoggedIn (codes "Please authenticate")) ∷ [] }
     ensures place { HasPlace room.new }

@@ -1,26 +1,38 @@
 //! PASV (RFC 959, section 4.1.2).
 
-ghost use Rattle.std.specs.Prelude.{◌≡◌, ℕ, IsTrue, Option, Some};
+ghost use Rattle.std.specs.Prelude.{◌≡◌, ◌++◌, ◌||◌, ℕ, [], ◌∷◌, codes, not, true, false, IsTrue, Option, Some, IfNone, IfSome};
+ghost use Rattle.std.specs.Option.{option_map_or};
 ghost use Rattle.ftp_base.specs.Net.{ipv4};
-ghost use Rattle.ftp_switchboard.specs.Board.{HasRoom, SameRange, holder_at};
+ghost use Rattle.ftp_base.specs.Ports.{first_free};
+ghost use Rattle.ftp_base.specs.declared.reply.Reply.TheVariants as reply;
+ghost use Rattle.ftp_base.specs.declared.reply.ReplyCode.TheVariants as code;
+ghost use Rattle.ftp_options.specs.Host.{lacks_lookup};
+ghost use Rattle.ftp_options.specs.Modes.{is_legacy};
+ghost use Rattle.ftp_switchboard.specs.Board.{HasRoom, SameRange, holder_at, holder_for};
+ghost use Rattle.ftp_events.specs.declared.action.Action.TheVariants as action;
+ghost use Rattle.ftp_events.specs.declared.decision.Decision.TheVariants as decision;
 ghost use Rattle.ftp_events.specs.declared.session.Running.{Running};
 ghost use Rattle.ftp_events.specs.declared.event.Answer.{Answer};
-ghost use Rattle.ftp_events.specs.CommandRows.{if_logged_in, pasv_row};
+ghost use Rattle.ftp_events.specs.Advertised.{lacks_address};
+ghost use Rattle.ftp_events.specs.CommandRows.{if_logged_in, bound_row, grant_row, pasv_row};
+ghost use Rattle.ftp_events.specs.Modes.{in_range};
+ghost use Rattle.ftp_events.specs.Reply.{lookup_of, passive_reply, unshown};
 ghost use Rattle.ftp_events.specs.Slot.{waiting_port};
 ghost use Rattle.ftp_events.specs.Session.{session_after};
-ghost use Rattle.ftp_events.specs.Acts.{session_acts};
-ghost use Rattle.ftp_handlers.specs.Rooms.{IsReady, CanReply, CanTellDropped, actions_in, twice_in};
-ghost use Rattle.ftp_handlers.specs.Handlers.{is_pasv, goes_on, number_of, word_of, held_for, HasRange, held_after};
+ghost use Rattle.ftp_events.specs.Acts.{reply_acts, session_acts};
+ghost use Rattle.ftp_handlers.specs.Rooms.{IsReady, CanReply, CanTellDropped, HasPlace, actions_in, twice_in};
+ghost use Rattle.ftp_handlers.specs.Handlers.{is_pasv, goes_on, number_of, notices_of, word_of, bound_of, held_for, held_after, held_with, passive_width, width_for, HasRange, HasRoomFor};
 
 use crate::login::ask_for_login;
 use crate::room::Room;
-use ftp_base::ReplyCode;
+use ftp_base::{IpAddr, ReplyCode};
 use ftp_events::{Decision, EventKind, Login, Session, Slot};
-use ftp_options::Options;
+use ftp_options::{Options, PassiveHost};
 use ftp_switchboard::Switchboard;
 use std::mem;
 
-/// Reserves a passive port for the session's client, and advertises it.
+/// Reserves a passive port for the session's client, or takes the one that was bound for the session alone, and
+/// advertises it.
 pub fn handle(
     session: &mut Session,
     args: &EventKind,
@@ -31,21 +43,21 @@ pub fn handle(
 ) -> Decision
     requires of_this_event { IsTrue (is_pasv args.now) }
     requires room { IsReady room.old }
-    requires letters { CanReply room.old }
+    requires letters { CanReply (width_for options.now args.now) room.old }
     requires dropped { CanTellDropped room.old }
-    requires range { HasRange board.old options.now }
-    requires board_room { HasRoom board.old (ipv4 session.old.opening.client) }
+    requires range { is_legacy options.now.mode ≡ false → HasRange board.old options.now }
+    requires board_room { is_legacy options.now.mode ≡ false → HasRoomFor board.old session.old }
     ensures goes_on { IsTrue (goes_on result) }
-    ensures decision { result ≡ if_logged_in session.old (pasv_row options.now (held_for board.old session.old) (word_of args.now)) }
-    ensures session { (answer : Answer) (job : Option Running) → session.new ≡ session_after args.now answer result 0 job session.old }
+    ensures decision { result ≡ if_logged_in session.old (pasv_row options.now (held_for board.old session.old) (word_of args.now) (lookup_of args.now) (bound_of args.now) session.old) }
+    ensures session { (answer : Answer) (job : Option Running) → session.new ≡ session_after at args.now answer result (notices_of result answer) job session.old }
     ensures actions { (answer : Answer) (job : Option Running) → actions_in room.new ≡ session_acts options.now (number_of args.now) args.now answer result job (Some session.old) }
-    ensures holders { (a p : ℕ) → holder_at board.new a p ≡ held_after result (number_of args.now) (ipv4 session.old.opening.client) (waiting_port session.old.slot) a p (holder_at board.old a p) }
+    ensures holders { is_legacy options.now.mode ≡ false → (a p : ℕ) → holder_at board.new a p ≡ held_after result (number_of args.now) (ipv4 session.old.opening.client) (waiting_port session.old.slot) a p (holder_at board.old a p) }
+    ensures alone { is_legacy options.now.mode ≡ true → board.new ≡ board.old }
     ensures range { SameRange board.old board.new }
     ensures twice { twice_in room.new ≡ twice_in room.old }
 {
     let EventKind::Pasv {
         session: number,
-        word,
         ..
     } = args
     else {
@@ -54,24 +66,260 @@ pub fn handle(
     if !matches!(session.login, Login::LoggedIn) {
         return ask_for_login(*number, room);
     }
-    let client = session.opening.client.ipv4();
-    match board.reserve(client, *number, *word, waiting_port(session.slot)) {
-        Err(_) => {
-            room.reply(
-                *number,
-                ReplyCode::CantOpenDataConnection,
-                b"Could not allocate passive port",
-            );
-            Decision::Full
-        }
-        Ok(port) => {
-            room.cancel_and_tell(*number, mem::replace(&mut session.pending, None));
-            room.close_link(session.slot);
-            room.advertise(*number, session.opening.local.ip.ipv4(), port);
-            session.slot = Slot::Waits { port };
-            Decision::Granted { port }
-        }
+    if options.active_passive.is_passive_off() {
+        room.reply(
+            *number,
+            ReplyCode::CommandNotImplemented,
+            b"Passive mode is switched off",
+        );
+        return Decision::ModeOff;
     }
+    if options.mode.is_legacy() {
+        return take_bound(session, args, room, at, options);
+    }
+    take_free(session, args, board, room, at, options)
+}
+
+// Advertises the port that was bound for the session alone.
+fn take_bound(
+    session: &mut Session,
+    args: &EventKind,
+    room: &mut Room,
+    at: u64,
+    options: &Options,
+) -> Decision
+    requires of_this_event { IsTrue (is_pasv args.now) }
+    requires room { IsReady room.old }
+    requires letters { CanReply (width_for options.now args.now) room.old }
+    requires dropped { CanTellDropped room.old }
+    ensures goes_on { IsTrue (goes_on result) }
+    ensures decision { result ≡ bound_row options.now session.old (lookup_of args.now) (bound_of args.now) }
+    ensures session { (answer : Answer) (job : Option Running) → session.new ≡ session_after at args.now answer result (notices_of result answer) job session.old }
+    ensures actions { (answer : Answer) (job : Option Running) → actions_in room.new ≡ session_acts options.now (number_of args.now) args.now answer result job (Some session.old) }
+    ensures twice { twice_in room.new ≡ twice_in room.old }
+{
+    let EventKind::Pasv {
+        session: number,
+        lookup,
+        bound,
+        ..
+    } = args
+    else {
+        unreachable!()
+    };
+    let Some(port) = *bound else {
+        return tell_no_socket(*number, room);
+    };
+    if is_unfit(options, port, session.opening.local.ip) {
+        return tell_no_socket(*number, room);
+    }
+    if options.host.lacks_lookup(*lookup) {
+        return tell_unresolved(*number, &options.host, *lookup, room);
+    }
+    grant(session, args, port, room, at, options)
+}
+
+// Takes the first port that is free for the client, and advertises it.
+fn take_free(
+    session: &mut Session,
+    args: &EventKind,
+    board: &mut Switchboard,
+    room: &mut Room,
+    at: u64,
+    options: &Options,
+) -> Decision
+    requires of_this_event { IsTrue (is_pasv args.now) }
+    requires room { IsReady room.old }
+    requires letters { CanReply (width_for options.now args.now) room.old }
+    requires dropped { CanTellDropped room.old }
+    requires board_room { HasRoomFor board.old session.old }
+    ensures goes_on { IsTrue (goes_on result) }
+    ensures decision { result ≡ option_map_or (grant_row options.now.host (lookup_of args.now)) (first_free (held_for board.old session.old) board.old.lo board.old.hi (word_of args.now)) decision.Full }
+    ensures session { (answer : Answer) (job : Option Running) → session.new ≡ session_after at args.now answer result (notices_of result answer) job session.old }
+    ensures actions { (answer : Answer) (job : Option Running) → actions_in room.new ≡ session_acts options.now (number_of args.now) args.now answer result job (Some session.old) }
+    ensures holders { (a p : ℕ) → holder_at board.new a p ≡ held_after result (number_of args.now) (ipv4 session.old.opening.client) (waiting_port session.old.slot) a p (holder_at board.old a p) }
+    ensures range { SameRange board.old board.new }
+    ensures twice { twice_in room.new ≡ twice_in room.old }
+{
+    let EventKind::Pasv {
+        session: number,
+        word,
+        lookup,
+        ..
+    } = args
+    else {
+        unreachable!()
+    };
+    let client = session.opening.client.ipv4();
+    if options.host.lacks_lookup(*lookup) {
+        if board.free_port(client, *word).is_none() {
+            return tell_full(*number, room);
+        }
+        return tell_unresolved(*number, &options.host, *lookup, room);
+    }
+    match reserve(board, client, *number, *word, waiting_port(session.slot)) {
+        None => tell_full(*number, room),
+        Some(port) => grant(session, args, port, room, at, options),
+    }
+}
+
+// Gives the session the first port that is free for its client, in place of its present one. A client of version 6
+// holds nothing.
+fn reserve(
+    board: &mut Switchboard,
+    client: Option<u32>,
+    number: u64,
+    word: u16,
+    present: Option<u16>,
+) -> Option<u16>
+    requires room { IfSome client (HasRoom board.old) }
+    ensures found { result ≡ first_free (holder_for board.old client) board.old.lo board.old.hi word }
+    ensures holders { IfSome result (λ port. (a p : ℕ) → holder_at board.new a p ≡ held_with port number client present a p (holder_at board.old a p)) }
+    ensures unchanged { IfNone result (board.new ≡ board.old) }
+    ensures range { SameRange board.old board.new }
+{
+    let Some(source) = client else {
+        return board.free_port(None, word);
+    };
+    match board.reserve(source, number, word, present) {
+        Ok(port) => Some(port),
+        Err(_) => None,
+    }
+}
+
+// The slot waits for a connection to the port, which is advertised.
+fn grant(
+    session: &mut Session,
+    args: &EventKind,
+    port: u16,
+    room: &mut Room,
+    at: u64,
+    options: &Options,
+) -> Decision
+    requires of_this_event { IsTrue (is_pasv args.now) }
+    requires looked_up { lacks_lookup options.now.host (lookup_of args.now) ≡ false }
+    requires room { IsReady room.old }
+    requires letters { CanReply (width_for options.now args.now) room.old }
+    requires dropped { CanTellDropped room.old }
+    ensures decision { result ≡ decision.Granted port }
+    ensures session { (answer : Answer) (job : Option Running) → session.new ≡ session_after at args.now answer result (notices_of result answer) job session.old }
+    ensures actions { (answer : Answer) (job : Option Running) → actions_in room.new ≡ session_acts options.now (number_of args.now) args.now answer result job (Some session.old) }
+    ensures twice { twice_in room.new ≡ twice_in room.old }
+{
+    let EventKind::Pasv {
+        session: number,
+        lookup,
+        ..
+    } = args
+    else {
+        unreachable!()
+    };
+    room.cancel_and_tell(*number, mem::replace(&mut session.pending, None));
+    room.close_link(session.slot);
+    let called = session.opening.local.ip;
+    tell_passive(*number, &options.host, called, *lookup, port, room);
+    session.slot = Slot::Waits { port };
+    session.slot_at = at;
+    Decision::Granted { port }
+}
+
+// Tells the client where to connect to, where there is an address to show.
+fn tell_passive(
+    number: u64,
+    host: &PassiveHost,
+    called: IpAddr,
+    lookup: Option<u32>,
+    port: u16,
+    room: &mut Room,
+)
+    requires looked_up { lacks_lookup host.now lookup ≡ false }
+    requires place { HasPlace room.old }
+    requires empty { room.old.text.items ≡ [] }
+    requires letters { CanReply (passive_width host.now lookup) room.old }
+    ensures actions { actions_in room.new ≡ actions_in room.old ++ reply_acts number 0 (passive_reply host.now called lookup port) }
+    ensures same { room.new ≡ record room.old { actions = room.new.actions; text = room.new.text } }
+{
+    match (host, called, lookup) {
+        (PassiveHost::FromConnection, IpAddr::V4(ip), _) => room.advertise(number, ip, port),
+        (PassiveHost::FromConnection, IpAddr::V6(_), _) => tell_none(number, room),
+        (PassiveHost::Ip(ip), _, _) => room.advertise(number, *ip, port),
+        (PassiveHost::Dns(_), _, Some(ip)) => room.advertise(number, ip, port),
+        (PassiveHost::Dns(_), _, None) => unreachable!(),
+    }
+}
+
+// Tells the client that there is no port for it.
+fn tell_full(number: u64, room: &mut Room) -> Decision
+    requires room { IsReady room.old }
+    requires letters { CanReply 64 room.old }
+    ensures decision { result ≡ decision.Full }
+    ensures actions { actions_in room.new ≡ action.Reply number 0 (reply.CodeAndMsg code.CantOpenDataConnection (codes "Could not allocate passive port")) ∷ [] }
+    ensures twice { twice_in room.new ≡ twice_in room.old }
+{
+    room.reply(
+        number,
+        ReplyCode::CantOpenDataConnection,
+        b"Could not allocate passive port",
+    );
+    Decision::Full
+}
+
+// Tells the client that the name that it has to be shown was not looked up.
+fn tell_unresolved(
+    number: u64,
+    host: &PassiveHost,
+    lookup: Option<u32>,
+    room: &mut Room,
+) -> Decision
+    requires unknown { IsTrue (lacks_lookup host.now lookup) }
+    requires room { IsReady room.old }
+    requires letters { CanReply (passive_width host.now lookup) room.old }
+    ensures decision { result ≡ decision.NoLookup }
+    ensures actions { actions_in room.new ≡ reply_acts number 0 (unshown host.now) }
+    ensures twice { twice_in room.new ≡ twice_in room.old }
+{
+    match (host, lookup) {
+        (PassiveHost::Dns(name), None) => {
+            room.tell_unresolved(number, name.as_slice());
+            Decision::NoLookup
+        }
+        _ => unreachable!(),
+    }
+}
+
+// Tells the client that no socket was bound for it.
+fn tell_no_socket(number: u64, room: &mut Room) -> Decision
+    requires room { IsReady room.old }
+    requires letters { CanReply 64 room.old }
+    ensures decision { result ≡ decision.NoSocket }
+    ensures actions { actions_in room.new ≡ action.Reply number 0 (reply.CodeAndMsg code.CantOpenDataConnection (codes "No data connection established")) ∷ [] }
+    ensures twice { twice_in room.new ≡ twice_in room.old }
+{
+    tell_none(number, room);
+    Decision::NoSocket
+}
+
+// Tells the client that there is no connection.
+fn tell_none(number: u64, room: &mut Room)
+    requires place { HasPlace room.old }
+    requires empty { room.old.text.items ≡ [] }
+    requires letters { CanReply 64 room.old }
+    ensures actions { actions_in room.new ≡ actions_in room.old ++ action.Reply number 0 (reply.CodeAndMsg code.CantOpenDataConnection (codes "No data connection established")) ∷ [] }
+    ensures same { room.new ≡ record room.old { actions = room.new.actions; text = room.new.text } }
+{
+    room.reply(
+        number,
+        ReplyCode::CantOpenDataConnection,
+        b"No data connection established",
+    );
+}
+
+// Says whether a port is none of the passive ones, or its client cannot be shown the address that it called.
+fn is_unfit(options: &Options, port: u16, called: IpAddr) -> bool
+    ensures { result ≡ (not (in_range options.now port) || lacks_address options.now.host called) }
+{
+    let is_outside = port < options.lo || port > options.hi;
+    is_outside || matches!(options.host, PassiveHost::FromConnection) && called.is_v6()
 }
 
 /// The port that the slot waits for.

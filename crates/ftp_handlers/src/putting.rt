@@ -116,7 +116,7 @@ impl Room {
         self.dropped.write(b"Datachannel unexpectedly closed");
         let none = Text::blank(self.alloc, self.actions.is_twice());
         let text = mem::replace(&mut self.dropped, none);
-        self.say(session, ReplyCode::ConnectionClosed, text);
+        self.say(session, 0, ReplyCode::ConnectionClosed, text);
     }
 
     /// Tells listeners that the user whom the event tells is here or gone.
@@ -200,18 +200,31 @@ impl Room {
         }
     }
 
-    /// Sends a reply; its text has at most 64 bytes.
+    /// Sends a reply at once; its text has at most 64 bytes.
     pub fn reply(&mut self, session: u64, code: ReplyCode, words: &[u8])
         requires place { HasPlace self.old }
         requires empty { self.old.text.items ≡ [] }
-        requires room { CanReply self.old }
+        requires room { CanReply 64 self.old }
         requires short { length words.now ≤ 64 }
         ensures actions { actions_in self.new ≡ actions_in self.old ++ action.Reply session 0 (reply.CodeAndMsg code words.now) ∷ [] }
         ensures len { len_in self.new ≡ len_in self.old + 1 }
         ensures same { self.new ≡ record self.old { actions = self.new.actions; text = self.new.text } }
     {
+        self.reply_late(session, 0, code, words);
+    }
+
+    /// Sends a reply after a delay in milliseconds; its text has at most 64 bytes.
+    pub fn reply_late(&mut self, session: u64, delay: u32, code: ReplyCode, words: &[u8])
+        requires place { HasPlace self.old }
+        requires empty { self.old.text.items ≡ [] }
+        requires room { CanReply 64 self.old }
+        requires short { length words.now ≤ 64 }
+        ensures actions { actions_in self.new ≡ actions_in self.old ++ action.Reply session delay (reply.CodeAndMsg code words.now) ∷ [] }
+        ensures len { len_in self.new ≡ len_in self.old + 1 }
+        ensures same { self.new ≡ record self.old { actions = self.new.actions; text = self.new.text } }
+    {
         self.text.write(words);
-        self.send(session, code);
+        self.send(session, delay, code);
     }
 
     /// Sends what the event keeps as a reply.
@@ -223,58 +236,70 @@ impl Room {
     {
         let none = Text::blank(self.alloc, self.actions.is_twice());
         let text = mem::replace(&mut self.kept, none);
-        self.say(session, code, text);
+        self.say(session, 0, code, text);
     }
 
     /// Sends the reply that advertises a passive port.
     pub fn advertise(&mut self, session: u64, ip: u32, port: u16)
         requires place { HasPlace self.old }
         requires empty { self.old.text.items ≡ [] }
-        requires room { CanReply self.old }
+        requires room { CanReply 64 self.old }
         ensures actions { actions_in self.new ≡ actions_in self.old ++ action.Reply session 0 (reply.CodeAndMsg code.EnteringPassiveMode (passive_text ip port)) ∷ [] }
         ensures same { self.new ≡ record self.old { actions = self.new.actions; text = self.new.text } }
     {
         self.text.write_passive(ip, port);
-        self.send(session, ReplyCode::EnteringPassiveMode);
+        self.send(session, 0, ReplyCode::EnteringPassiveMode);
+    }
+
+    /// Sends the reply on a name that was not looked up.
+    pub fn tell_unresolved(&mut self, session: u64, name: &[u8])
+        requires place { HasPlace self.old }
+        requires empty { self.old.text.items ≡ [] }
+        requires room { CanReply (64 + length name.now) self.old }
+        ensures actions { actions_in self.new ≡ actions_in self.old ++ action.Reply session 0 (reply.CodeAndMsg code.CantOpenDataConnection (codes "Could not resolve DNS address '" ++ name.now ++ codes "'")) ∷ [] }
+        ensures same { self.new ≡ record self.old { actions = self.new.actions; text = self.new.text } }
+    {
+        self.text.write_unresolved(name);
+        self.send(session, 0, ReplyCode::CantOpenDataConnection);
     }
 
     /// Sends the reply that tells a restart offset.
     pub fn restart(&mut self, session: u64, offset: u64)
         requires place { HasPlace self.old }
         requires empty { self.old.text.items ≡ [] }
-        requires room { CanReply self.old }
+        requires room { CanReply 64 self.old }
         ensures actions { actions_in self.new ≡ actions_in self.old ++ action.Reply session 0 (reply.CodeAndMsg code.FileActionPending (offset_text offset)) ∷ [] }
         ensures same { self.new ≡ record self.old { actions = self.new.actions; text = self.new.text } }
     {
         self.text.write_offset(offset);
-        self.send(session, ReplyCode::FileActionPending);
+        self.send(session, 0, ReplyCode::FileActionPending);
     }
 
     // Sends the text as a reply.
-    fn send(&mut self, session: u64, code: ReplyCode)
+    fn send(&mut self, session: u64, delay: u32, code: ReplyCode)
         requires { HasPlace self.old }
-        ensures actions { actions_in self.new ≡ actions_in self.old ++ action.Reply session 0 (reply.CodeAndMsg code self.old.text.items) ∷ [] }
+        ensures actions { actions_in self.new ≡ actions_in self.old ++ action.Reply session delay (reply.CodeAndMsg code self.old.text.items) ∷ [] }
         ensures len { len_in self.new ≡ len_in self.old + 1 }
         ensures same { self.new ≡ record self.old { actions = self.new.actions; text = self.new.text } }
     {
         let none = Text::blank(self.alloc, self.actions.is_twice());
         let text = mem::replace(&mut self.text, none);
-        self.say(session, code, text);
+        self.say(session, delay, code, text);
     }
 
     // Sends a text as a reply.
     #[inline(always)]
-    fn say(&mut self, session: u64, code: ReplyCode, text: Text)
+    fn say(&mut self, session: u64, delay: u32, code: ReplyCode, text: Text)
         requires place { HasPlace self.old }
         requires equal { text.twice ≡ twice_in self.old }
-        ensures actions { actions_in self.new ≡ actions_in self.old ++ action.Reply session 0 (reply.CodeAndMsg code text.items) ∷ [] }
+        ensures actions { actions_in self.new ≡ actions_in self.old ++ action.Reply session delay (reply.CodeAndMsg code text.items) ∷ [] }
         ensures len { len_in self.new ≡ len_in self.old + 1 }
         ensures same { self.new ≡ record self.old { actions = self.new.actions } }
     {
         let (msg, copy) = text.into_both();
-        let action = reply_action(session, code, msg);
+        let action = reply_action(session, delay, code, msg);
         if self.actions.is_twice() {
-            let copy = reply_action(session, code, copy);
+            let copy = reply_action(session, delay, code, copy);
             self.actions.push_twice(action, copy);
         } else {
             self.actions.push_once(action);
@@ -302,13 +327,13 @@ fn copy_plain(action: &Action) -> Action
     }
 }
 
-// A reply that is sent at once.
-fn reply_action(session: u64, code: ReplyCode, msg: Bytes) -> Action
-    ensures { result ≡ action.Reply session 0 (reply.CodeAndMsg code msg) }
+// A reply that is sent after a delay.
+fn reply_action(session: u64, delay: u32, code: ReplyCode, msg: Bytes) -> Action
+    ensures { result ≡ action.Reply session delay (reply.CodeAndMsg code msg) }
 {
     Action::Reply {
         session,
-        delay: 0,
+        delay,
         reply: Reply::CodeAndMsg { code, msg },
     }
 }

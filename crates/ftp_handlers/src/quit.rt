@@ -30,7 +30,7 @@ pub fn handle(
     requires of_this_event { IsTrue (is_quit args.now) }
     requires room { IsReady room.old }
     requires places { HasPlaces 5 room.old }
-    requires letters { CanReply room.old }
+    requires letters { CanReply 64 room.old }
     requires kept { kept_in room.old ≡ kept_by args.now session.old }
     ensures decision { result ≡ Quit }
     ensures actions { session.old.notices + 1 < 2 ^ 64 → (answer : Answer) (job : Option Running) → actions_in room.new ≡ session_acts options.now (number_of args.now) args.now answer result job (Some session.old) }

@@ -27,10 +27,10 @@ pub fn handle(
 ) -> Decision
     requires of_this_event { IsTrue (is_rest args.now) }
     requires room { IsReady room.old }
-    requires letters { CanReply room.old }
+    requires letters { CanReply 64 room.old }
     ensures goes_on { IsTrue (goes_on result) }
     ensures decision { result ≡ if_logged_in session.old (rest_row options.now) }
-    ensures session { (answer : Answer) (job : Option Running) → session.new ≡ session_after args.now answer result 0 job session.old }
+    ensures session { (answer : Answer) (job : Option Running) → session.new ≡ session_after at args.now answer result 0 job session.old }
     ensures actions { (answer : Answer) (job : Option Running) → actions_in room.new ≡ session_acts options.now (number_of args.now) args.now answer result job (Some session.old) }
     ensures board { board.new ≡ board.old }
     ensures twice { twice_in room.new ≡ twice_in room.old }

@@ -1,16 +1,20 @@
 //! Memory that is taken ahead of a step, and what the event needs in it.
 
-ghost use Rattle.std.specs.Prelude.{◌≡◌, ◌≤◌, true, [], IfOk, IsTrue};
-ghost use Rattle.ftp_handlers.specs.Handlers.{can_drop, can_reply, places_for};
+ghost use Rattle.std.specs.Prelude.{◌≡◌, ◌≤◌, true, [], IfOk, IsTrue, if◌then◌else◌};
+ghost use Rattle.ftp_handlers.specs.Handlers.{can_drop, can_reply, places_for, width_for};
 ghost use Rattle.ftp_handlers.specs.Rooms.{IsReady, CanReply, CanTellDropped, HasCopy, actions_in, job_in, kept_in, most_actions, need_for, need_in, twice_in};
 
 use crate::copies::{ActionList, Text};
 use ftp_base::Bytes;
 use ftp_events::{Actions, EventKind, Pending};
+use ftp_options::{Options, PassiveHost};
 use ftp_transfer::{Job, Ticket};
 use std::alloc::{AllocError, Global};
 use std::marker::Model;
 use std::mem;
+
+/// No text of a reply is longer, in bytes, but for one that shows a host's name.
+const SHORT_TEXT: usize = 64;
 
 /// No event has more actions for one session, but for QUIT, which has one more.
 const MOST_ACTIONS: usize = 4;
@@ -43,6 +47,8 @@ pub struct Room {
     /// The text of the reply on a transfer that is dropped.
     pub(crate) dropped: Text,
     pub(crate) actions: ActionList,
+    /// The number that comes with the event was used before.
+    pub(crate) used: bool,
 }
 
 impl Model for Room {
@@ -51,7 +57,7 @@ impl Model for Room {
 
     ghost Value = { RoomState };
 
-    ghost view = { λ r. record { count = r.count; job = r.job; need = r.need; kept = r.kept; path = r.path; pending = r.pending; text = r.text; dropped = r.dropped; actions = r.actions.items; places = r.actions.places; twice = r.actions.twice } };
+    ghost view = { λ r. record { count = r.count; job = r.job; need = r.need; kept = r.kept; path = r.path; pending = r.pending; text = r.text; dropped = r.dropped; actions = r.actions.items; places = r.actions.places; twice = r.actions.twice; used = r.used } };
 
     ghost invariant = { λ r. (r.kept.twice ≡ r.actions.twice) × (r.text.twice ≡ r.actions.twice) × (r.dropped.twice ≡ r.actions.twice) };
 }
@@ -69,6 +75,8 @@ pub struct Prepared {
     pub header: bool,
     /// The job that is to be run.
     pub job: Option<Job>,
+    /// The number that comes with the event was used before.
+    pub used: bool,
 }
 
 /// What a room has memory for.
@@ -78,7 +86,9 @@ pub struct Extent {
     pub places: usize,
     /// A reply has room for its text.
     pub replies: bool,
-    /// So has the reply on a transfer that is dropped.
+    /// How many bytes that text can have.
+    pub width: usize,
+    /// The reply on a transfer that is dropped has room for its text.
     pub drops: bool,
     /// All is written twice.
     pub twice: bool,
@@ -86,17 +96,23 @@ pub struct Extent {
 
 impl Extent {
     /// What an event of this kind can need, for one entry or for two.
-    pub fn of(kind: &EventKind, twice: bool) -> Extent
+    pub fn of(kind: &EventKind, options: &Options, twice: bool) -> Extent
         ensures places { result.places ≡ places_for kind.now }
         ensures enough { most_actions ≤ result.places }
         ensures replies { result.replies ≡ can_reply kind.now }
+        ensures width { result.width ≡ width_for options.now kind.now }
         ensures drops { result.drops ≡ can_drop kind.now }
         ensures twice { result.twice ≡ twice }
     {
         let (places, replies, drops) = match kind {
-            EventKind::Connect { .. } | EventKind::Closed { .. } => (MOST_ACTIONS, false, false),
-            EventKind::Proxied { .. } | EventKind::DataIn { .. } => (MOST_ACTIONS, false, true),
-            EventKind::Pasv { .. } => (MOST_ACTIONS, true, true),
+            EventKind::Connect { .. } | EventKind::Closed { .. } | EventKind::Sweep => {
+                (MOST_ACTIONS, false, false)
+            }
+            EventKind::Proxied { .. }
+            | EventKind::DataIn { .. }
+            | EventKind::Accepted { .. }
+            | EventKind::SlotTick { .. } => (MOST_ACTIONS, false, true),
+            EventKind::Pasv { .. } | EventKind::Port { .. } => (MOST_ACTIONS, true, true),
             EventKind::Quit { .. } => (MOST_ACTIONS + 1, true, false),
             EventKind::User { .. }
             | EventKind::Pass { .. }
@@ -110,6 +126,7 @@ impl Extent {
         Extent {
             places,
             replies,
+            width: width_for(kind, options),
             drops,
             twice,
         }
@@ -127,7 +144,7 @@ impl Room {
         requires { most_actions ≤ extent.places }
         ensures ready { IfOk result IsReady }
         ensures places { IfOk result (λ room. extent.places ≤ room.places) }
-        ensures letters { IfOk result (λ room. IsTrue extent.replies → CanReply room) }
+        ensures letters { IfOk result (λ room. IsTrue extent.replies → CanReply extent.width room) }
         ensures dropped { IfOk result (λ room. IsTrue extent.drops → CanTellDropped room) }
         ensures twice { IfOk result (λ room. twice_in room ≡ extent.twice) }
         ensures counted { IfOk result (λ room. room.count ≡ count) }
@@ -136,9 +153,10 @@ impl Room {
         ensures pending { IfOk result (λ room. room.pending ≡ prepared.pending) }
         ensures job { IfOk result (λ room. job_in room ≡ prepared.job) }
         ensures need { IfOk result (λ room. need_in room ≡ need_for prepared.header prepared.job) }
+        ensures used { IfOk result (λ room. room.used ≡ prepared.used) }
     {
-        let text = Text::with_room(alloc, extent.replies, extent.twice)?;
-        let dropped = Text::with_room(alloc, extent.drops, extent.twice)?;
+        let text = Text::with_room(alloc, extent.replies, extent.width, extent.twice)?;
+        let dropped = Text::with_room(alloc, extent.drops, SHORT_TEXT, extent.twice)?;
         let actions = ActionList::with_places(alloc, extent.places, extent.twice)?;
         let Prepared {
             kept,
@@ -146,6 +164,7 @@ impl Room {
             pending,
             header,
             job,
+            used,
         } = prepared;
         let kept = Text::of(alloc, kept, extent.twice)?;
         Ok(Room {
@@ -159,6 +178,7 @@ impl Room {
             text,
             dropped,
             actions,
+            used,
         })
     }
 
@@ -175,6 +195,7 @@ impl Room {
             text: _,
             dropped: _,
             actions: _,
+            used: _,
         } = self;
     }
 
@@ -215,6 +236,7 @@ impl Room {
             text: _,
             dropped: _,
             actions,
+            used: _,
         } = self;
         actions.into_actions()
     }
@@ -236,6 +258,7 @@ impl Room {
             text: _,
             dropped: _,
             actions,
+            used: _,
         } = self;
         actions.into_both()
     }
@@ -252,11 +275,20 @@ impl Room {
     // Takes out the name or the path that the event keeps or tells, and its copy.
     pub(crate) fn take_both(&mut self) -> (Bytes, Bytes)
         ensures kept { result.0 ≡ kept_in self.old }
-        ensures copy { IsTrue (twice_in self.old) → result.1 ≡ kept_in self.old }
+        ensures copy { result.1 ≡ (if twice_in self.old then kept_in self.old else []) }
         ensures same { self.new ≡ record self.old { kept = self.new.kept } }
     {
         let none = Text::blank(self.alloc, self.actions.is_twice());
         mem::replace(&mut self.kept, none).into_both()
+    }
+
+    // Puts back the name or the path that the event keeps or tells, and its copy.
+    pub(crate) fn put_both(&mut self, kept: Bytes, copy: Bytes)
+        requires copy { copy ≡ (if twice_in self.old then kept else []) }
+        ensures kept { kept_in self.new ≡ kept }
+        ensures same { self.new ≡ record self.old { kept = self.new.kept } }
+    {
+        self.kept = Text::from_both(kept, copy, self.actions.is_twice());
     }
 
     /// Takes out the transfer that the event asks for.
@@ -276,5 +308,18 @@ fn need_for(header: bool, job: &Option<Job>) -> Need
         _ if header => Need::Header,
         Some(job) => Need::Run(job.ticket),
         None => Need::Nothing,
+    }
+}
+
+// How many bytes suffice for the text of the reply on an event.
+fn width_for(kind: &EventKind, options: &Options) -> usize
+    ensures { result ≡ width_for options.now kind.now }
+{
+    match kind {
+        EventKind::Pasv { lookup: None, .. } => match &options.host {
+            PassiveHost::Dns(name) => SHORT_TEXT + name.as_slice().len(),
+            PassiveHost::FromConnection | PassiveHost::Ip(_) => SHORT_TEXT,
+        },
+        _ => SHORT_TEXT,
     }
 }

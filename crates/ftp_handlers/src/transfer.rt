@@ -28,7 +28,7 @@ pub fn handle(
 ) -> Decision
     requires of_this_event { IsTrue (is_transfer args.now) }
     requires room { IsReady room.old }
-    requires letters { CanReply room.old }
+    requires letters { CanReply 64 room.old }
     requires kept { kept_in room.old ≡ kept_by args.now session.old }
     requires pending { room.old.pending ≡ asked_for args.now session.old }
     ensures decision { IsFew session.old → result ≡ if_logged_in session.old (transfer_row (number_of args.now) session.old) }

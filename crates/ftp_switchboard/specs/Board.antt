@@ -1,5 +1,6 @@
 -- What contracts see of a switchboard: its range, who holds which key, and the room for new holds.
 use Rattle.std.specs.Prelude.{◌≡◌, ℕ, Bool, false, ◌<◌, ◌==◌, ◌&&◌, Option, Some, None, if◌then◌else◌, refl}
+use Rattle.std.specs.Option.{option_and_then}
 use Rattle.std.specs.Coded.{Coded, code_by, coded×, coded_ℕ}
 use Rattle.std.specs.FinMap as finmap
 use Rattle.std.specs.Ordering.{nat_cmp, ordering_then}
@@ -28,6 +29,10 @@ key a p = record { source = a; port = p }
 -- the session that holds the port for the source
 abbrev pub holder_at : Board → ℕ → ℕ → Option ℕ
 holder_at board a p = finmap.get board.held (key a p)
+
+-- the session that holds the port for the source; where there is no source, nobody does
+abbrev pub holder_for : Board → Option ℕ → ℕ → Option ℕ
+holder_for board source p = option_and_then (λ a. holder_at board a p) source
 
 -- the next hold for the source takes no memory
 abbrev pub HasRoom : Board → ℕ → Type 0

@@ -1,6 +1,6 @@
 //! The table of holds: the session at each key.
 
-ghost use Rattle.std.specs.Prelude.{◌≡◌, ◌<◌, ◌≤◌, is_none};
+ghost use Rattle.std.specs.Prelude.{◌≡◌, ◌<◌, ◌≤◌, None, Some, is_none};
 ghost use Rattle.std.specs.FinMap as finmap;
 ghost use Rattle.std.specs.HashMap.{spare};
 ghost use Rattle.ftp_base.specs.Ports.{first_free};
@@ -68,6 +68,16 @@ pub(crate) fn give_up_present(holds: &mut Holds, source: u32, present: Option<u1
     if let Some(port) = present {
         give_up(holds, SwitchboardKey { source, port }, session);
     }
+}
+
+// The port of the word, in a range of which nobody holds any.
+pub(crate) fn port_of(lo: u16, hi: u16, word: u16) -> u16
+    requires in_range { lo ≤ hi }
+    ensures in_range { result ≤ hi }
+    ensures first { first_free (λ p. None) lo hi word ≡ Some result }
+{
+    let count = (hi - lo) as u32 + 1;
+    lo + (word as u32 % count) as u16
 }
 
 // The first port from the word's on, going round once, that nobody holds for the source.

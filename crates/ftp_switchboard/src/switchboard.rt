@@ -3,10 +3,12 @@
 ghost use Rattle.std.specs.Prelude.{◌≡◌, ◌<◌, ◌≤◌, ◌↔◌, ℕ, None, Some, IfErr, IfOk, IsErrOf, IsSome, OnErr, OnOk, is_none, if◌then◌else◌};
 ghost use Rattle.std.specs.FinMap as finmap;
 ghost use Rattle.ftp_base.specs.Ports.{first_free};
-ghost use Rattle.ftp_switchboard.specs.Board.{HasRoom, KeepsRoom, SameHolds, SameRange, holder_at, is_key, key as key_pair, present_released, released, still_holder};
+ghost use Rattle.ftp_switchboard.specs.Board.{HasRoom, KeepsRoom, SameHolds, SameRange, holder_at, holder_for, is_key, key as key_pair, present_released, released, still_holder};
 ghost use Rattle.ftp_switchboard.specs.Pairs.{holder_of_pair, key_of_pair, without};
 
-use crate::holds::{Holds, first_free, give_up, give_up_present, holder_of, is_free, put, take};
+use crate::holds::{
+    Holds, first_free, give_up, give_up_present, holder_of, is_free, port_of, put, take,
+};
 use crate::key::{SwitchboardKey, key_of};
 use ftp_base::SocketAddrPair;
 use std::alloc::{AllocError, Global};
@@ -76,6 +78,17 @@ impl Switchboard {
         ensures { result ≡ holder_at self.now source port }
     {
         holder_of(&self.holds, SwitchboardKey { source, port })
+    }
+
+    /// The first port, from the word's on and round the range once, that nobody holds for the client address. Where
+    /// there is none, as for an IPv6 client, it is the word's port.
+    pub fn free_port(&self, source: Option<u32>, word: u16) -> Option<u16>
+        ensures { result ≡ first_free (holder_for self.now source) self.now.lo self.now.hi word }
+    {
+        match source {
+            Some(source) => first_free(&self.holds, source, self.lo, self.hi, word),
+            None => Some(port_of(self.lo, self.hi, word)),
+        }
     }
 
     /// The session that holds the port that a connection came to, for the address that it came from.
