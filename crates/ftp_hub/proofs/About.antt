@@ -2,7 +2,7 @@
 use Rattle.std.proofs.Common.{◌≡◌, refl, sym, ap, ◌∙◌, subst, ℕ, false, cond, List, ◌∷◌, Option, Some, None}
 use Rattle.std.specs.Prelude.{◌==◌, nat_eq, count_by}
 use Rattle.std.specs.HashMap as map
-use Rattle.ftp_hub.proofs.Common.{Action, Answer, Decision, Entry, Hub, HubEvent, Options, Running, Serves, Session, Stands, Tables, V4, acts, decide, entry, has, holder, holder_at, is_refusal, is_used, live_after, lives_on, next_lane, notices_of, past_of, running_after, running_job, session, session_acts, session_after}
+use Rattle.ftp_hub.proofs.Common.{Action, Answer, Decision, Entry, Hub, HubEvent, LoginKey, Options, Running, Serves, Session, Stands, Tables, V4, acts, decide, entry, failures, failures_in, has, holder, holder_at, is_refusal, is_used, live_after, lives_on, next_lane, notices_of, past_of, running_after, running_job, session, session_acts, session_after}
 use Rattle.ftp_events.specs.Notices.{is_notice_to}
 use Rattle.ftp_events.specs.Acts.{acts_of}
 use Rattle.ftp_laws.proofs.QuestionLemmas.{counting-counts, session_by}
@@ -18,12 +18,13 @@ pub serves-about :
     session old.options (past_of log) s ≡ Some v →
     d ≡ decide old.options log event answer →
     done ≡ session_acts old.options s event.kind answer d (map.get nat_eq old.jobs s) (Some v) →
-    Moved old new event.kind answer d done s v after →
+    Moved old new event answer d done s v after →
     ((q : ℕ) → has new.numbers q ≡ is_used (entry event answer d done ∷ past_of log) q) →
     ((a p : ℕ) → holder_at new.board a p ≡ holder old.options (entry event answer d done ∷ past_of log) (V4 a) p) →
+    ((key : LoginKey) → failures_in new.failures key ≡ failures old.options (entry event answer d done ∷ past_of log) key) →
     Serves old new log event answer d done
 unfolding acts
-serves-about old new log event answer d done s v after st counts about known right acted moved numbers board =
+serves-about old new log event answer d done s v after st counts about known right acted moved numbers board failed =
     record {
       decision = right;
       done = done_are ∙ sym due_acts;
@@ -44,6 +45,7 @@ serves-about old new log event answer d done s v after st counts about known rig
         running = moved.jobs.running ∙ ap (running_after done) st.tables.running;
         numbers = numbers;
         holders = λ a p. board a p ∙ ap (λ (o : Options). holder o (e ∷ past) (V4 a) p) (sym moved.options);
+        failures = λ key. failed key ∙ ap (λ (o : Options). failures o (e ∷ past) key) (sym moved.options);
       });
     }
   where
@@ -62,10 +64,10 @@ serves-about old new log event answer d done s v after st counts about known rig
     done_are : done ≡ session_acts o s event.kind answer d job (Some v)
     done_are = acted ∙ ap (λ (x : Option Running). session_acts o s event.kind answer d x (Some v)) (st.tables.jobs s)
 
-    counted : session_after event.kind answer d (notices_of d answer) (map.get nat_eq old.jobs s) v ≡ session_by s e job v
+    counted : session_after event.at event.kind answer d (notices_of d answer) (map.get nat_eq old.jobs s) v ≡ session_by s e job v
     counted =
-        ap (λ (x : Option Running). session_after event.kind answer d (notices_of d answer) x v) (st.tables.jobs s)
-        ∙ ap (λ c. session_after event.kind answer d c job v) (sym (ap (count_by (is_notice_to s)) done_are ∙ count-session_acts o s event.kind answer d job v))
+        ap (λ (x : Option Running). session_after event.at event.kind answer d (notices_of d answer) x v) (st.tables.jobs s)
+        ∙ ap (λ c. session_after event.at event.kind answer d c job v) (sym (ap (count_by (is_notice_to s)) done_are ∙ count-session_acts o s event.kind answer d job v))
 
     due_acts : acts_of o past e ≡ session_acts o s event.kind answer d job (Some v)
     due_acts = rw (counts, about.subject_is, known) refl

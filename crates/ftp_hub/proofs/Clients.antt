@@ -1,15 +1,15 @@
--- Where sessions share the ports, every client has an address of version 4.
-use Rattle.std.proofs.Common.{◌≡◌, refl, sym, ap, ◌∙◌, subst, ℕ, Bool, true, false, not, cond, ◌&&◌, ◌||◌, List, [], ◌∷◌, Some, Ok}
+-- Where sessions share the ports, every client has an address of version 4; who holds a port waits for it.
+use Rattle.std.proofs.Common.{◌≡◌, refl, sym, ap, ◌∙◌, subst, ℕ, Bool, true, false, not, cond, ◌&&◌, ◌||◌, List, [], ◌∷◌, Some, None, Ok}
 use Rattle.std.proofs.lemmas.Bool.{or_parts}
 use Rattle.std.proofs.lemmas.Option.{same_Some}
 use Rattle.std.specs.Prelude.{unwrap_or}
 use Rattle.std.specs.Bool.{then_some}
-use Rattle.ftp_hub.proofs.Common.{Answer, Decision, Entry, EventKind, IpAddr, IsRight, Options, Session, V4, decide, ipv4, is_refusal, is_used, past_of, session}
+use Rattle.ftp_hub.proofs.Common.{Answer, Decision, Entry, EventKind, Hub, IpAddr, IsRight, Options, Session, Stands, V4, decide, holder, is_legacy, is_refusal, is_used, past_of, session}
 use Rattle.ftp_base.specs.declared.net.IpAddr.TheVariants.{V6}
 use Rattle.ftp_base.specs.Net.{is_v6}
 use Rattle.ftp_options.specs.declared.options.ListenerMode.{ListenerMode}
 use Rattle.ftp_options.specs.declared.options.ListenerMode.TheVariants.{Legacy, Pooled, Proxy}
-use Rattle.ftp_options.specs.Modes.{is_legacy, is_pooled, is_proxy, is_control_port}
+use Rattle.ftp_options.specs.Modes.{is_pooled, is_proxy, is_control_port}
 use Rattle.ftp_events.specs.declared.decision.Decision.TheVariants as decision
 use Rattle.ftp_events.specs.declared.event.Answer.TheVariants.{Header}
 use Rattle.ftp_events.specs.declared.event.EventKind.TheVariants as kind
@@ -21,6 +21,9 @@ use Rattle.ftp_events.specs.Decide.{due}
 use Rattle.ftp_laws.proofs.QuestionLemmas.{session-told}
 use Rattle.ftp_laws.proofs.ClassLemmas.{opened-is}
 use Rattle.ftp_laws.proofs.EntryLemmas.{past-more}
+use Rattle.ftp_laws.proofs.Cases.{by_test}
+use Rattle.ftp_laws.proofs.GrantLemmas.{holder-legacy}
+use Rattle.ftp_laws.proofs.HoldLemmas.{WaitsFor, holder-waits}
 
 -- a connection that is not refused is not misplaced, and its row is no refusal
 pub row-counts :
@@ -86,10 +89,19 @@ opener-v4 o (e ∷ log) s opening m r h =
     by_opening false n x ih = ih x
 
 -- an address that is not of version 6 is one of version 4
-v4-is : (a : IpAddr) → is_v6 a ≡ false → a ≡ V4 (ipv4 a)
-v4-is (V4 a) h = refl
+v4-is : (a : IpAddr) → is_v6 a ≡ false → (n : ℕ) × (a ≡ V4 n)
+v4-is (V4 a) h = (a, refl)
 v4-is (V6 a) h = cc
 
--- a live session's client is the address of its number
-pub client-v4 : (o : Options) (log : List Entry) (s : ℕ) (v : Session) → is_legacy o.mode ≡ false → IsRight o log → session o (past_of log) s ≡ Some v → v.opening.client ≡ V4 (ipv4 v.opening.client)
+-- a live session's client has an address of version 4
+pub client-v4 : (o : Options) (log : List Entry) (s : ℕ) (v : Session) → is_legacy o.mode ≡ false → IsRight o log → session o (past_of log) s ≡ Some v → (n : ℕ) × (v.opening.client ≡ V4 n)
 client-v4 o log s v m r known = v4-is v.opening.client (opener-v4 o log s v.opening m r (session-told o (past_of log) s v known).opening)
+
+-- whoever holds a port is a live session of that client, whose slot waits for it
+pub held-waits : (hub : Hub) (log : List Entry) (a p s : ℕ) → Stands hub log → holder hub.options (past_of log) (V4 a) p ≡ Some s → WaitsFor hub.options (past_of log) s (V4 a) p
+held-waits hub log a p s st held =
+    by_test (is_legacy hub.options.mode)
+    (λ alone.
+    let clash : None ≡ Some s = sym (holder-legacy hub.options (past_of log) (V4 a) p alone) ∙ held in
+    cc)
+    (λ shared. holder-waits hub.options log shared st.right (V4 a) p s held)

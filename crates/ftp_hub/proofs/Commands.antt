@@ -1,15 +1,29 @@
 -- The tables after a command of a session.
-use Rattle.std.proofs.Common.{◌≡◌, refl, sym, ap, ◌∙◌, ℕ, ◌-◌, ◌^◌, ◌<◌, Bool, true, false, cond, List, [], Option, Some, None}
+use Rattle.std.proofs.Common.{◌≡◌, refl, sym, ap, ◌∙◌, ℕ, ◌-◌, ◌^◌, ◌<◌, Bool, true, false, not, cond, ◌||◌, List, [], Option, Some, None}
 use Rattle.std.specs.Prelude.{◌==◌, nat_eq}
 use Rattle.std.specs.Option.{option_and_then, option_map_or}
 use Rattle.std.specs.HashMap as map
-use Rattle.ftp_hub.proofs.Common.{Action, Answer, Decision, Entry, EventKind, Hub, HubEvent, IpAddr, IsFew, Options, Running, Serves, Session, Stands, Tables, V4, decide, holder, holder_at, ipv4, is_refusal, live_after, named_session, past_of, running_job, session, session_acts, waiting_port}
+use Rattle.std.proofs.lemmas.Bool.{not-false, not-true}
+use Rattle.ftp_hub.proofs.Common.{Action, Answer, Decision, Entry, EventKind, Hub, HubEvent, IpAddr, IsFew, LoginKey, Options, Running, Serves, Session, Stands, Tables, V4, decide, failures, failures_in, has, holder, holder_at, ipv4, is_legacy, is_refusal, is_used, live_after, named_session, new_number, past_of, running_job, session, session_acts, waiting_port}
 use Rattle.ftp_events.specs.declared.decision.Decision.TheVariants as decision
 use Rattle.ftp_events.specs.declared.event.EventKind.TheVariants as kind
-use Rattle.ftp_events.specs.CommandRows.{command_row}
-use Rattle.ftp_events.specs.Decide.{if_live, due}
-use Rattle.ftp_handlers.specs.Handlers.{ends_session, held_for, is_command}
+use Rattle.ftp_base.specs.declared.net.IpAddr.TheVariants.{V6}
+use Rattle.ftp_base.specs.declared.net.SocketAddr.{SocketAddr}
+use Rattle.ftp_base.specs.Net.{same_ip}
+use Rattle.ftp_lockout.specs.declared.cache.Failures.{Failures}
+use Rattle.ftp_options.specs.Modes.{is_active_off}
+use Rattle.ftp_switchboard.specs.Board.{holder_for}
+use Rattle.ftp_events.specs.CommandRows.{address_row, command_row, if_logged_in, made_row}
+use Rattle.ftp_events.specs.Decide.{around, if_live, due}
+use Rattle.ftp_events.specs.Text.{port_target}
+use Rattle.ftp_events.specs.Words.{is_number}
+use Rattle.ftp_laws.proofs.Cases.{by_test}
+use Rattle.ftp_handlers.specs.Handlers.{ends_session, held_for, is_auth, is_checking, is_command, is_port, surroundings}
+use Rattle.ftp_hub.specs.Arrivals.{is_accepted}
+use Rattle.ftp_hub.specs.Stands.{used_for}
+use Rattle.ftp_laws.proofs.GrantLemmas.{holder-legacy}
 use Rattle.ftp_hub.proofs.Clients.{client-v4}
+use Rattle.ftp_hub.proofs.Failures.{failures-refused, said-refused}
 use Rattle.ftp_hub.proofs.Refusals.{serves-refusal}
 use Rattle.ftp_hub.proofs.Named.{few-counts, serves-named}
 use Rattle.ftp_hub.proofs.Decisions.{put-back, refusal-leaves}
@@ -21,28 +35,36 @@ abbrev pub is_end : EventKind → Bool
 is_end (kind.End t) = true
 is_end _ = false
 
+-- an event of a session that is neither the end of a transfer nor a connection that comes to it
+pub record IsPlain (k : EventKind) : Type 0 where
+  pub no_end : is_end k ≡ false
+  pub no_link : is_accepted k ≡ false
+
 -- what is due on an event that names a session and is no end of a transfer is the row of its command
-due-row : (o : Options) (past : List Entry) (at : ℕ) (k : EventKind) (answer : Answer) (s : ℕ) → is_end k ≡ false → named_session k ≡ Some s → due o past at k answer ≡ if_live (option_and_then (session o past) (named_session k)) (λ v. command_row o (holder o past v.opening.client) k v)
+due-row : (o : Options) (past : List Entry) (at : ℕ) (k : EventKind) (answer : Answer) (s : ℕ) → is_end k ≡ false → named_session k ≡ Some s → due o past at k answer ≡ if_live (option_and_then (session o past) (named_session k)) (λ v. command_row o (around o past at v) k v)
 due-row o past at (kind.Connect q raw local trace) answer s c n = cc
 due-row o past at (kind.Proxied q raw trace) answer s c n = cc
 due-row o past at (kind.DataIn q raw port) answer s c n = cc
 due-row o past at (kind.End t) answer s c n = cc
+due-row o past at kind.Sweep answer s c n = cc
 due-row o past at k answer s c n = refl
 
 -- so it is that of the session, where it is live
-due-named : (o : Options) (past : List Entry) (at : ℕ) (k : EventKind) (answer : Answer) (s : ℕ) (x : Option Session) → is_end k ≡ false → named_session k ≡ Some s → session o past s ≡ x → due o past at k answer ≡ option_map_or (λ v. command_row o (holder o past v.opening.client) k v) x decision.UnknownNumber
+pub due-named : (o : Options) (past : List Entry) (at : ℕ) (k : EventKind) (answer : Answer) (s : ℕ) (x : Option Session) → is_end k ≡ false → named_session k ≡ Some s → session o past s ≡ x → due o past at k answer ≡ option_map_or (λ v. command_row o (around o past at v) k v) x decision.UnknownNumber
 due-named o past at k answer s x c n known =
     due-row o past at k answer s c n
-    ∙ ap (λ (y : Option Session). if_live y (λ v. command_row o (holder o past v.opening.client) k v)) (ap (option_and_then (session o past)) n ∙ known)
+    ∙ ap (λ (y : Option Session). if_live y (λ v. command_row o (around o past at v) k v)) (ap (option_and_then (session o past)) n ∙ known)
 
--- the kinds of events that are no end of a transfer
-pub command-plain : (k : EventKind) → is_command k ≡ true → is_end k ≡ false
+-- the commands and the ends of sessions are plain
+pub command-plain : (k : EventKind) → is_command k ≡ true → IsPlain k
 command-plain (kind.End t) c = cc
-command-plain _ c = refl
+command-plain (kind.Accepted s n raw) c = cc
+command-plain _ c = record { no_end = refl; no_link = refl }
 
-pub ending-plain : (k : EventKind) → ends_session k ≡ true → is_end k ≡ false
+pub ending-plain : (k : EventKind) → ends_session k ≡ true → IsPlain k
 ending-plain (kind.End t) c = cc
-ending-plain _ c = refl
+ending-plain (kind.Accepted s n raw) c = cc
+ending-plain _ c = record { no_end = refl; no_link = refl }
 
 -- an event that names a session which is not live is refused
 pub serves-unknown : (old new : Hub) (log : List Entry) (event : HubEvent) (answer : Answer) (done : List Action) (s : ℕ) → Stands old log → is_end event.kind ≡ false → named_session event.kind ≡ Some s → map.get nat_eq old.sessions s ≡ None → done ≡ [] → Tables new (past_of log) → Serves old new log event answer decision.UnknownNumber done
@@ -53,21 +75,80 @@ serves-unknown old new log event answer done s st plain named none nothing table
 
 -- the board's holders of a client's ports are those of the log
 held-same : (hub : Hub) (log : List Entry) (s : ℕ) (v : Session) → Stands hub log → session hub.options (past_of log) s ≡ Some v → held_for hub.board v ≡ holder hub.options (past_of log) v.opening.client
-held-same hub log s v st known =
-    let client = client-v4 hub.options log s v hub.shared st.right known in
-    λ i p. (st.tables.holders (ipv4 v.opening.client) p ∙ ap (λ (x : IpAddr). holder hub.options (past_of log) x p) (sym client)) i
+held-same hub log s v st known = λ i p. same p i
+  where
+    alone : (client : IpAddr) (p : ℕ) → is_legacy hub.options.mode ≡ true → holder_for hub.board (ipv4 client) p ≡ holder hub.options (past_of log) client p
+    alone (V4 a) p m = st.tables.holders a p
+    alone (V6 a) p m = sym (holder-legacy hub.options (past_of log) (V6 a) p m)
+
+    same : (p : ℕ) → held_for hub.board v p ≡ holder hub.options (past_of log) v.opening.client p
+    same p =
+        by_test (is_legacy hub.options.mode) (alone v.opening.client p)
+        (λ shared.
+        let client = client-v4 hub.options log s v shared st.right known in
+        ap (λ (x : IpAddr). holder_for hub.board (ipv4 x) p) client.1 ∙ st.tables.holders client.0 p
+        ∙ ap (λ (x : IpAddr). holder hub.options (past_of log) x p) (sym client.1))
+
+-- a connection that was made for a PORT is taken or refused alike by all that say the same of its number
+made-same : (b : Bool) (used : ℕ → Bool) (number : Option ℕ) → b ≡ option_map_or used number false → made_row (λ n. b) number ≡ made_row used number
+made-same b used None h = refl
+made-same b used (Some n) h = ap (λ x. cond x decision.UsedNumber decision.PortOk) h
+
+address-same : (used other : ℕ → Bool) (number : Option ℕ) (v : Session) (to : Option SocketAddr) → made_row used number ≡ made_row other number → address_row used number v to ≡ address_row other number v to
+address-same used other number v None h = refl
+address-same used other number v (Some to) h = ap (λ (d : Decision). cond (same_ip to.ip v.opening.raw.ip) d decision.OtherAddress) h
+
+-- so is a command
+used-same :
+    (o : Options) (holders : ℕ → Option ℕ) (failed : LoginKey → Option Failures) (b : Bool) (used : ℕ → Bool) (at : ℕ) (hub : Hub) (k : EventKind) (v : Session) →
+    is_accepted k ≡ false → (is_port k ≡ true → b ≡ used_for hub k) → ((n : ℕ) → has hub.numbers n ≡ used n) →
+    command_row o (record { holders = holders; failures = failed; used = λ n. b; at = at }) k v ≡ command_row o (record { holders = holders; failures = failed; used = used; at = at }) k v
+used-same o holders failed b used at hub (kind.Accepted s n raw) v plain number numbers = cc
+used-same o holders failed b used at hub (kind.Port s text number) v plain same numbers =
+    ap (λ (d : Decision). if_logged_in v (cond (is_active_off o.active_passive) decision.ModeOff d))
+    (address-same (λ n. b) used number v (port_target text) (made-same b used number (same refl ∙ told number)))
+  where
+    told : (number : Option ℕ) → option_map_or (has hub.numbers) number false ≡ option_map_or used number false
+    told None = refl
+    told (Some n) = numbers n
+used-same o holders failed b used at hub k v plain number numbers = refl
+
+-- a command is decided by the hub's tables as by the log
+pub row-same :
+    (hub : Hub) (log : List Entry) (b : Bool) (at : ℕ) (k : EventKind) (s : ℕ) (v : Session) →
+    Stands hub log → is_accepted k ≡ false → (is_port k ≡ true → b ≡ used_for hub k) → session hub.options (past_of log) s ≡ Some v →
+    command_row hub.options (surroundings hub.board hub.failures b at v) k v ≡ command_row hub.options (around hub.options (past_of log) at v) k v
+row-same hub log b at k s v st plain number known =
+    used-same o (held_for hub.board v) (failures_in hub.failures) b (is_used past) at hub k v plain number st.tables.numbers
+    ∙ ap (λ (x : ℕ → Option ℕ). command_row o (record { holders = x; failures = failures_in hub.failures; used = is_used past; at = at }) k v) (held-same hub log s v st known)
+    ∙ ap (λ (x : LoginKey → Option Failures). command_row o (record { holders = holder o past v.opening.client; failures = x; used = is_used past; at = at }) k v) (λ i key. st.tables.failures key i)
+  where
+    o : Options
+    o = hub.options
+
+    past : List Entry
+    past = past_of log
 
 -- what was decided and done on a live session is what its row wants, and the tables moved so
-pub record Handled (old new : Hub) (event : HubEvent) (answer : Answer) (d : Decision) (done : List Action) (s : ℕ) (v after : Session) : Type 0 where
-  pub row : d ≡ command_row old.options (held_for old.board v) event.kind v
+pub record Handled (old new : Hub) (log : List Entry) (event : HubEvent) (answer : Answer) (d : Decision) (done : List Action) (s : ℕ) (v after : Session) : Type 0 where
+  pub row : d ≡ command_row old.options (around old.options (past_of log) event.at v) event.kind v
   pub acts : done ≡ session_acts old.options s event.kind answer d (map.get nat_eq old.jobs s) (Some v)
-  pub tables : MovedAlone old new event.kind answer d done s v after
+  pub tables : MovedAlone old new event answer d done s v after
+
+-- a command that is refused takes no number
+refused-number : (k : EventKind) (d : Decision) (s : ℕ) → is_accepted k ≡ false → named_session k ≡ Some s → is_refusal d ≡ true → new_number k d ≡ None
+refused-number (kind.Connect q raw local trace) d s c n r = cc
+refused-number (kind.Proxied q raw trace) d s c n r = cc
+refused-number (kind.DataIn q raw port) d s c n r = cc
+refused-number (kind.Accepted q m raw) d s c n r = cc
+refused-number (kind.Port q text number) decision.PortOk s c n r = cc
+refused-number k d s c n r = refl
 
 -- the tables after a command of a live session
 pub serves-command :
     (old new : Hub) (log : List Entry) (event : HubEvent) (answer : Answer) (d : Decision) (done : List Action) (s : ℕ) (v after : Session) →
-    Stands old log → old.count < 2 ^ 64 - 1 → is_end event.kind ≡ false → named_session event.kind ≡ Some s → map.get nat_eq old.sessions s ≡ Some v →
-    (IsFew v → Handled old new event answer d done s v after) →
+    Stands old log → old.count < 2 ^ 64 - 1 → IsPlain event.kind → named_session event.kind ≡ Some s → map.get nat_eq old.sessions s ≡ Some v →
+    (IsFew v → Handled old new log event answer d done s v after) →
     Serves old new log event answer d done
 unfolding decide
 serves-command old new log event answer d done s v after st below plain named there handled = by_refusal (is_refusal d) refl
@@ -75,20 +156,28 @@ serves-command old new log event answer d done s v after st below plain named th
     o : Options
     o = old.options
 
-    known : session o (past_of log) s ≡ Some v
+    past : List Entry
+    past = past_of log
+
+    known : session o past s ≡ Some v
     known = sym (st.tables.sessions s) ∙ there
 
-    h : Handled old new event answer d done s v after
+    h : Handled old new log event answer d done s v after
     h = handled (few-counts old log s v st below known)
 
     right : d ≡ decide o log event answer
-    right = h.row ∙ ap (λ (holders : ℕ → Option ℕ). command_row o holders event.kind v) (held-same old log s v st known) ∙ sym (due-named o (past_of log) event.at event.kind answer s (Some v) plain named known)
+    right = h.row ∙ sym (due-named o past event.at event.kind answer s (Some v) plain.no_end named known)
 
-    m : Moved old new event.kind answer d done s v after
+    m : Moved old new event answer d done s v after
     m = h.tables.moved
 
+    checked : (b : Bool) → is_refusal d ≡ b → is_auth event.kind ≡ true → b ≡ not (is_checking v.login)
+    checked b r said = sym r ∙ ap is_refusal h.row ∙ said-refused o (around o past event.at v) event.kind v said
+
     by_refusal : (b : Bool) → is_refusal d ≡ b → Serves old new log event answer d done
-    by_refusal false counts = serves-named old new log event answer d done s v after st named counts known right h.acts h.tables
+    by_refusal false counts =
+        serves-named old new log event answer d done s v after st named plain.no_link counts known right h.acts h.tables
+        (λ said. not-false (is_checking v.login) (sym (checked false counts said)))
     by_refusal true refused =
         let leaves = refusal-leaves d refused in
         let nothing : done ≡ [] = h.acts ∙ leaves.acts o s event.kind answer (map.get nat_eq old.jobs s) v in
@@ -97,22 +186,30 @@ serves-command old new log event answer d done s v after st below plain named th
           sessions = λ q.
               m.sessions.table q
               ∙ ap (λ b. cond (s == q) (cond b (Some after) None) (map.get nat_eq old.sessions q)) leaves.lives
-              ∙ ap (λ (x : Option Session). cond (s == q) x (map.get nat_eq old.sessions q)) (ap Some (m.session ∙ leaves.session event.kind answer (map.get nat_eq old.jobs s) v) ∙ sym there)
+              ∙ ap (λ (x : Option Session). cond (s == q) x (map.get nat_eq old.sessions q)) (ap Some (m.session ∙ leaves.session event.at event.kind answer (map.get nat_eq old.jobs s) v) ∙ sym there)
               ∙ put-back (map.get nat_eq old.sessions) s q
               ∙ st.tables.sessions q
-              ∙ ap (λ (o : Options). session o (past_of log) q) (sym m.options);
+              ∙ ap (λ (o : Options). session o past q) (sym m.options);
           live = m.sessions.live ∙ unchanged d refused ∙ st.tables.live;
           jobs = λ q.
               m.jobs.table q
               ∙ ap (λ (x : Option Running). cond (s == q) x (map.get nat_eq old.jobs q)) (leaves.runs event.kind (map.get nat_eq old.jobs s) v)
               ∙ put-back (map.get nat_eq old.jobs) s q
               ∙ st.tables.jobs q
-              ∙ ap (λ (o : Options). running_job o (past_of log) q) (sym m.options);
+              ∙ ap (λ (o : Options). running_job o past q) (sym m.options);
           running = m.jobs.running ∙ running-none done (map.hash_map_len old.jobs) nothing ∙ st.tables.running;
-          numbers = λ q. h.tables.numbers q ∙ st.tables.numbers q;
+          numbers = λ q.
+              h.tables.numbers q
+              ∙ ap (λ (n : Option ℕ). is_number n q || has old.numbers q) (refused-number event.kind d s plain.no_link named refused)
+              ∙ st.tables.numbers q;
           holders = λ a p.
-              h.tables.holders a p ∙ leaves.held s (ipv4 v.opening.client) (waiting_port v.slot) a p (holder_at old.board a p) ∙ st.tables.holders a p
-              ∙ ap (λ (o : Options). holder o (past_of log) (V4 a) p) (sym m.options);
+              by_test (is_legacy o.mode) (λ alone. h.tables.alone alone a p)
+              (λ shared. h.tables.holders shared a p ∙ leaves.held s (ipv4 v.opening.client) (waiting_port v.slot) a p (holder_at old.board a p))
+              ∙ st.tables.holders a p
+              ∙ ap (λ (o : Options). holder o past (V4 a) p) (sym m.options);
+          failures = λ key.
+              failures-refused old new past event key v m.options h.tables.failures (st.tables.failures key) (λ said. not-true (is_checking v.login) (sym (checked true refused said)))
+              ∙ ap (λ (o : Options). failures o past key) (sym m.options);
         })
       where
         unchanged : (d : Decision) → is_refusal d ≡ true → live_after d (map.hash_map_len old.sessions) ≡ map.hash_map_len old.sessions

@@ -2,10 +2,11 @@
 use Rattle.std.proofs.Common.{subst, ◌≡◌, refl, sym, ap, ◌∙◌, ℕ, Bool, true, false, not, cond, ◌&&◌, ◌||◌, List, [], ◌∷◌, Option, Some, None, arith}
 use Rattle.std.specs.Prelude.{◌==◌, nat_eq}
 use Rattle.std.specs.HashMap as map
-use Rattle.ftp_hub.proofs.Common.{Action, Answer, Decision, Entry, EventKind, Hub, HubEvent, Jobs, Options, Running, Serves, Session, Stands, Starts, Tables, V4, acts, decide, entry, has, holder, holder_at, is_used, named_session, new_number, past_of, running_after, running_job, same-both, session, session_acts, session_after, starting}
+use Rattle.ftp_hub.proofs.Common.{Action, Answer, Decision, Entry, EventKind, Hub, HubEvent, Jobs, LoginKey, Options, Running, Serves, Session, Stands, Starts, Tables, V4, acts, decide, entry, failures, failures_in, has, holder, holder_at, is_legacy, is_used, named_session, new_number, past_of, running_after, running_job, same-both, session, session_acts, session_after, starting}
 use Rattle.ftp_base.specs.declared.net.SocketAddr.{SocketAddr}
 use Rattle.ftp_base.specs.Net.{same_ip}
 use Rattle.ftp_proxy.specs.declared.error.ProxyError.{ProxyError}
+use Rattle.ftp_lockout.specs.Failures.{Table}
 use Rattle.ftp_switchboard.specs.Board.{is_key}
 use Rattle.ftp_events.specs.declared.action.Action.TheVariants as action
 use Rattle.ftp_events.specs.declared.decision.Decision.TheVariants as decision
@@ -15,82 +16,99 @@ use Rattle.ftp_events.specs.Board.{target}
 use Rattle.ftp_events.specs.History.{Nobody, meant, one_or_nobody, subject}
 use Rattle.ftp_events.specs.Modes.{in_range}
 use Rattle.ftp_events.specs.Running.{running_count}
+use Rattle.ftp_events.specs.Slot.{is_waiting}
+use Rattle.ftp_events.specs.Words.{is_number}
 use Rattle.ftp_events.specs.ConnectionRows.{holder_row}
 use Rattle.ftp_laws.proofs.BalanceLemmas.{no-completion}
 use Rattle.ftp_laws.proofs.QuestionLemmas.{counting-counts, running-other, session-other}
-use Rattle.ftp_laws.proofs.HoldLemmas.{WaitsFor, holder-waits}
+use Rattle.ftp_laws.proofs.HoldLemmas.{WaitsFor}
 use Rattle.ftp_laws.proofs.SubjectLemmas.{no-stop, nobody-concerns, subject-plain}
 use Rattle.ftp_laws.proofs.TableLemmas.{IsAbout, holder-arrived, holder-other, arrival-about, eq-comm}
 use Rattle.ftp_hub.specs.declared.data_links.Arrival.{Arrival}
 use Rattle.ftp_hub.specs.Arrivals.{IsDataLink, arrival_of}
 use Rattle.ftp_hub.proofs.About.{serves-about}
+use Rattle.ftp_laws.proofs.GrantLemmas.{holder-legacy}
+use Rattle.ftp_hub.proofs.Clients.{held-waits}
+use Rattle.ftp_hub.proofs.Commands.{due-named}
+use Rattle.ftp_laws.proofs.LockoutLemmas.{failures-other}
+use Rattle.ftp_hub.proofs.Failures.{linked-other}
 use Rattle.ftp_hub.proofs.Moved.{jobs-start, sessions-stay}
 use Rattle.ftp_hub.proofs.Decisions.{Comes}
 
 turned-comes : Comes decision.Turned
-turned-comes = record { counts = refl; unopened = λ k. refl; no_grant = refl; lives = refl; silent = λ answer. refl; as_many = λ n. refl; unfinished = refl }
+turned-comes = record { counts = refl; unopened = λ k. refl; no_grant = refl; keeps = refl; lives = refl; silent = λ answer. refl; as_many = λ n. refl; unfinished = refl }
 
 attached-comes : (s : ℕ) → Comes (decision.Attached s)
-attached-comes s = record { counts = refl; unopened = λ k. refl; no_grant = refl; lives = refl; silent = λ answer. refl; as_many = λ n. refl; unfinished = refl }
+attached-comes s = record { counts = refl; unopened = λ k. refl; no_grant = refl; keeps = refl; lives = refl; silent = λ answer. refl; as_many = λ n. refl; unfinished = refl }
 
 fault-comes : (fault : ProxyError) → Comes (decision.HeaderFault fault)
-fault-comes fault = record { counts = refl; unopened = λ k. refl; no_grant = refl; lives = refl; silent = λ answer. refl; as_many = λ n. refl; unfinished = refl }
+fault-comes fault = record { counts = refl; unopened = λ k. refl; no_grant = refl; keeps = refl; lives = refl; silent = λ answer. refl; as_many = λ n. refl; unfinished = refl }
 
-arrival-comes : (b c : Bool) (s : ℕ) → Comes (arrival_of b c s)
-arrival-comes true true s = attached-comes s
-arrival-comes true false s = turned-comes
-arrival-comes false c s = turned-comes
+arrival-comes : (welcome : Bool) (s : ℕ) → Comes (arrival_of welcome s)
+arrival-comes true s = attached-comes s
+arrival-comes false s = turned-comes
 
 -- what becomes of a data connection that session s holds the port of
 abbrev pub decided_on : Options → Arrival → Session → ℕ → Decision
-decided_on o a v s = arrival_of (in_range o a.port) (same_ip v.opening.raw.ip a.raw.ip) s
+decided_on o a v s = arrival_of (in_range o a.port && same_ip v.opening.raw.ip a.raw.ip) s
+
+-- the row of such a connection says so
+arrival-row : (ranged same : Bool) (s : ℕ) → cond (not ranged) decision.Turned (cond same (decision.Attached s) decision.Turned) ≡ arrival_of (ranged && same) s
+arrival-row true same s = refl
+arrival-row false same s = refl
 
 -- whichever kind brings a connection of this number, the session is afterwards the same
 pub after-alike :
-    (b c : Bool) (k : EventKind) (n s m port : ℕ) (raw : SocketAddr) (answer : Answer) (job : Option Running) (v : Session) →
+    (b : Bool) (at : ℕ) (k : EventKind) (n s m port : ℕ) (raw : SocketAddr) (answer : Answer) (job : Option Running) (v : Session) →
     ((d : Decision) → new_number k d ≡ Some n) →
-    session_after (kind.DataIn n raw port) answer (arrival_of b c s) m job v ≡ session_after k answer (arrival_of b c s) m job v
-after-alike true true k n s m port raw answer job v brings = rw (brings (decision.Attached s)) refl
-after-alike true false k n s m port raw answer job v brings = refl
-after-alike false c k n s m port raw answer job v brings = refl
+    session_after at (kind.DataIn n raw port) answer (arrival_of b s) m job v ≡ session_after at k answer (arrival_of b s) m job v
+after-alike true at k n s m port raw answer job v brings = rw (brings (decision.Attached s)) refl
+after-alike false at k n s m port raw answer job v brings = refl
 
 -- the same is done
 pub acts-alike :
-    (b c : Bool) (o : Options) (k : EventKind) (n s port : ℕ) (raw : SocketAddr) (answer : Answer) (job : Option Running) (v : Session) →
+    (b : Bool) (o : Options) (k : EventKind) (n s port : ℕ) (raw : SocketAddr) (answer : Answer) (job : Option Running) (v : Session) →
     ((d : Decision) → new_number k d ≡ Some n) →
-    session_acts o s (kind.DataIn n raw port) answer (arrival_of b c s) job (Some v) ≡ session_acts o s k answer (arrival_of b c s) job (Some v)
-acts-alike true true o k n s port raw answer job v brings = rw (no-completion (decision.Attached s) k true refl, brings (decision.Attached s)) refl
-acts-alike true false o k n s port raw answer job v brings = rw (no-completion decision.Turned k true refl, brings decision.Turned) refl
-acts-alike false c o k n s port raw answer job v brings = rw (no-completion decision.Turned k true refl, brings decision.Turned) refl
+    session_acts o s (kind.DataIn n raw port) answer (arrival_of b s) job (Some v) ≡ session_acts o s k answer (arrival_of b s) job (Some v)
+acts-alike true o k n s port raw answer job v brings = rw (no-completion (decision.Attached s) k true refl, brings (decision.Attached s)) refl
+acts-alike false o k n s port raw answer job v brings = rw (no-completion decision.Turned k true refl, brings decision.Turned) refl
 
 -- and the same transfer starts
 pub starting-alike :
-    (b c : Bool) (k : EventKind) (n s port : ℕ) (raw : SocketAddr) (job : Option Running) (v : Session) →
+    (b : Bool) (k : EventKind) (n s port : ℕ) (raw : SocketAddr) (job : Option Running) (v : Session) →
     ((d : Decision) → new_number k d ≡ Some n) →
-    starting (kind.DataIn n raw port) (arrival_of b c s) job v ≡ starting k (arrival_of b c s) job v
-starting-alike true true k n s port raw job v brings = rw (brings (decision.Attached s)) refl
-starting-alike true false k n s port raw job v brings = refl
-starting-alike false c k n s port raw job v brings = refl
+    starting (kind.DataIn n raw port) (arrival_of b s) job v ≡ starting k (arrival_of b s) job v
+starting-alike true k n s port raw job v brings = rw (brings (decision.Attached s)) refl
+starting-alike false k n s port raw job v brings = refl
 
--- a connection that is about no session is closed
-serves-nobody :
-    (old new : Hub) (log : List Entry) (event : HubEvent) (answer : Answer) (d : Decision) (done : List Action) (n : ℕ) →
+-- a connection leaves the failed logins as they are
+pub failed-linked :
+    (old new : Hub) (log : List Entry) (event : HubEvent) (answer : Answer) (d : Decision) (done : List Action) (n : ℕ) (key : LoginKey) →
+    Stands old log → new_number event.kind d ≡ Some n → new.failures ≡ old.failures →
+    failures_in new.failures key ≡ failures old.options (entry event answer d done ∷ past_of log) key
+failed-linked old new log event answer d done n key st brings same =
+    ap (λ (x : Option Table). failures_in x key) same ∙ st.tables.failures key
+    ∙ sym (failures-other old.options (past_of log) (entry event answer d done) key (linked-other event.kind d n brings))
+
+-- what is about no session, and starts and ends no job
+pub serves-nobody :
+    (old new : Hub) (log : List Entry) (event : HubEvent) (answer : Answer) (d : Decision) (done : List Action) →
     Stands old log → Comes d → d ≡ decide old.options log event answer →
     meant old.options (past_of log) (entry event answer d done) ≡ None →
-    refused_link event.kind d ≡ closings (new_number event.kind d) → new_number event.kind d ≡ Some n →
-    done ≡ action.Close n ∷ [] →
+    done ≡ refused_link event.kind d → ((n : ℕ) → running_after done n ≡ n) →
     new.options ≡ old.options →
     ((q : ℕ) → map.get nat_eq new.sessions q ≡ map.get nat_eq old.sessions q) →
     (map.hash_map_len new.sessions ≡ map.hash_map_len old.sessions) →
     new.jobs ≡ old.jobs →
-    ((q : ℕ) → has new.numbers q ≡ ((n == q) || has old.numbers q)) →
+    ((q : ℕ) → has new.numbers q ≡ (is_number (new_number event.kind d) q || has old.numbers q)) →
     ((a p : ℕ) → holder_at new.board a p ≡ holder old.options (entry event answer d done ∷ past_of log) (V4 a) p) →
+    ((key : LoginKey) → failures_in new.failures key ≡ failures old.options (entry event answer d done ∷ past_of log) key) →
     Serves old new log event answer d done
 unfolding acts
-serves-nobody old new log event answer d done n st comes right nobody closed brings closes same table len jobs numbers board =
+serves-nobody old new log event answer d done st comes right nobody closed ran same table len jobs numbers board failed =
     record {
       decision = right;
-      done = closes ∙ sym due_acts;
+      done = closed ∙ sym due_acts;
       tables = subst (Tables new) (sym (counting-counts e log comes.counts)) (record {
         sessions = λ q.
             table q ∙ st.tables.sessions q
@@ -101,9 +119,10 @@ serves-nobody old new log event answer d done n st comes right nobody closed bri
             ap (λ (m : Jobs). map.get nat_eq m q) jobs ∙ st.tables.jobs q
             ∙ sym (running-other o past e q (rw (comes.unopened event.kind) refl) (nobody-concerns o past e q about))
             ∙ ap (λ (o : Options). running_job o (e ∷ past) q) (sym same);
-        running = ap map.hash_map_len jobs ∙ st.tables.running ∙ sym (ap (λ xs. running_after xs (running_count past)) closes ∙ none_ran (running_count past));
-        numbers = λ q. rw brings (numbers q ∙ ap (λ b. (n == q) || b) (st.tables.numbers q));
+        running = ap map.hash_map_len jobs ∙ st.tables.running ∙ sym (ran (running_count past));
+        numbers = λ q. numbers q ∙ ap (λ b. is_number (new_number event.kind d) q || b) (st.tables.numbers q);
         holders = λ a p. board a p ∙ ap (λ (o : Options). holder o (e ∷ past) (V4 a) p) (sym same);
+        failures = λ key. failed key ∙ ap (λ (o : Options). failures o (e ∷ past) key) (sym same);
       });
     }
   where
@@ -119,9 +138,30 @@ serves-nobody old new log event answer d done n st comes right nobody closed bri
     about : subject o past e ≡ Nobody
     about = subject-plain o past e (no-stop d) ∙ ap one_or_nobody nobody
 
-    due_acts : acts_of o past e ≡ action.Close n ∷ []
-    due_acts = rw (comes.counts, about) (closed ∙ ap closings brings)
+    due_acts : acts_of o past e ≡ refused_link event.kind d
+    due_acts = rw (comes.counts, about) refl
 
+-- a connection that is about no session is closed
+serves-closed :
+    (old new : Hub) (log : List Entry) (event : HubEvent) (answer : Answer) (d : Decision) (done : List Action) (n : ℕ) →
+    Stands old log → Comes d → d ≡ decide old.options log event answer →
+    meant old.options (past_of log) (entry event answer d done) ≡ None →
+    refused_link event.kind d ≡ closings (new_number event.kind d) → new_number event.kind d ≡ Some n →
+    done ≡ action.Close n ∷ [] →
+    new.options ≡ old.options →
+    ((q : ℕ) → map.get nat_eq new.sessions q ≡ map.get nat_eq old.sessions q) →
+    (map.hash_map_len new.sessions ≡ map.hash_map_len old.sessions) →
+    new.jobs ≡ old.jobs →
+    ((q : ℕ) → has new.numbers q ≡ ((n == q) || has old.numbers q)) →
+    ((a p : ℕ) → holder_at new.board a p ≡ holder old.options (entry event answer d done ∷ past_of log) (V4 a) p) →
+    new.failures ≡ old.failures →
+    Serves old new log event answer d done
+serves-closed old new log event answer d done n st comes right nobody closed brings closes same table len jobs numbers board failed =
+    serves-nobody old new log event answer d done st comes right nobody (closes ∙ sym (closed ∙ ap closings brings))
+    (λ k. ap (λ xs. running_after xs k) closes ∙ none_ran k) same table len jobs
+    (λ q. numbers q ∙ ap (λ (x : Option ℕ). is_number x q || has old.numbers q) (sym brings))
+    board (λ key. failed-linked old new log event answer d done n key st brings failed)
+  where
     none_ran : (k : ℕ) → running_after (action.Close n ∷ []) k ≡ k
     none_ran k = omega arith
 
@@ -138,10 +178,11 @@ pub serves-faulted :
     new.jobs ≡ old.jobs →
     ((q : ℕ) → has new.numbers q ≡ ((n == q) || has old.numbers q)) →
     ((a p : ℕ) → holder_at new.board a p ≡ holder_at old.board a p) →
+    new.failures ≡ old.failures →
     Serves old new log event answer (decision.HeaderFault fault) done
-serves-faulted old new log event answer fault done n st right nowhere unnamed brings closes same table len jobs numbers board =
-    serves-nobody old new log event answer (decision.HeaderFault fault) done n st (fault-comes fault) right (rw (unnamed, nowhere) refl) refl brings closes same table len jobs numbers
-    (λ a p. board a p ∙ st.tables.holders a p ∙ sym (holder-other old.options (past_of log) (entry event answer (decision.HeaderFault fault) done) (V4 a) p nowhere unnamed refl))
+serves-faulted old new log event answer fault done n st right nowhere unnamed brings closes same table len jobs numbers board failed =
+    serves-closed old new log event answer (decision.HeaderFault fault) done n st (fault-comes fault) right (rw (unnamed, nowhere) refl) refl brings closes same table len jobs numbers
+    (λ a p. board a p ∙ st.tables.holders a p ∙ sym (holder-other old.options (past_of log) (entry event answer (decision.HeaderFault fault) done) (V4 a) p nowhere unnamed refl)) failed
 
 -- who holds a port after a data connection
 holders-arrived :
@@ -168,13 +209,14 @@ pub serves-unheld :
     new.jobs ≡ old.jobs →
     ((q : ℕ) → has new.numbers q ≡ ((arr.number == q) || has old.numbers q)) →
     ((a p : ℕ) → holder_at new.board a p ≡ cond (is_key a p arr.source arr.port) None (holder_at old.board a p)) →
+    new.failures ≡ old.failures →
     Serves old new log event answer decision.Turned done
 unfolding decide
-serves-unheld old new log event answer done arr st link unused nobody closes same table len jobs numbers board =
-    serves-nobody old new log event answer decision.Turned done arr.number st turned-comes
+serves-unheld old new log event answer done arr st link unused nobody closes same table len jobs numbers board failed =
+    serves-closed old new log event answer decision.Turned done arr.number st turned-comes
     (sym (link.row past unused ∙ ap (λ (h : Option ℕ). cond (not (in_range o arr.port)) decision.Turned (holder_row o past arr.raw h)) unheld ∙ same-both (not (in_range o arr.port)) decision.Turned))
     (rw (link.unnamed, link.to) unheld) refl (link.brings decision.Turned) closes same table len jobs numbers
-    (λ a p. board a p ∙ sym (holders-arrived old log event answer decision.Turned done arr a p st link turned-comes))
+    (λ a p. board a p ∙ sym (holders-arrived old log event answer decision.Turned done arr a p st link turned-comes)) failed
   where
     o : Options
     o = old.options
@@ -190,7 +232,7 @@ pub serves-held :
     (old new : Hub) (log : List Entry) (event : HubEvent) (answer : Answer) (done : List Action) (arr : Arrival) (s : ℕ) (v after : Session) →
     Stands old log → IsDataLink old.options event answer arr → is_used (past_of log) arr.number ≡ false →
     holder_at old.board arr.source arr.port ≡ Some s → map.get nat_eq old.sessions s ≡ Some v →
-    after ≡ session_after event.kind answer (decided_on old.options arr v s) 0 (map.get nat_eq old.jobs s) v →
+    after ≡ session_after event.at event.kind answer (decided_on old.options arr v s) 0 (map.get nat_eq old.jobs s) v →
     done ≡ session_acts old.options s event.kind answer (decided_on old.options arr v s) (map.get nat_eq old.jobs s) (Some v) →
     new.options ≡ old.options →
     ((q : ℕ) → map.get nat_eq new.sessions q ≡ cond (s == q) (Some after) (map.get nat_eq old.sessions q)) →
@@ -198,18 +240,20 @@ pub serves-held :
     Starts old.jobs new.jobs s (starting event.kind (decided_on old.options arr v s) (map.get nat_eq old.jobs s) v) →
     ((q : ℕ) → has new.numbers q ≡ ((arr.number == q) || has old.numbers q)) →
     ((a p : ℕ) → holder_at new.board a p ≡ cond (is_key a p arr.source arr.port) None (holder_at old.board a p)) →
+    new.failures ≡ old.failures →
     Serves old new log event answer (decided_on old.options arr v s) done
 unfolding decide
-serves-held old new log event answer done arr s v after st link unused held there after_is acted same table len begins numbers board =
-    serves-about old new log event answer d done s v after st comes.counts about known (sym (link.row past unused ∙ rw (holds, known) refl)) acted
+serves-held old new log event answer done arr s v after st link unused held there after_is acted same table len begins numbers board failed =
+    serves-about old new log event answer d done s v after st comes.counts about known (sym (link.row past unused ∙ rw (holds, known) (arrival-row (in_range o arr.port) (same_ip v.opening.raw.ip arr.raw.ip) s))) acted
     (record {
       options = same;
-      session = after_is ∙ ap (λ c. session_after event.kind answer d c job v) (sym (comes.silent answer));
+      session = after_is ∙ ap (λ c. session_after event.at event.kind answer d c job v) (sym (comes.silent answer));
       sessions = sessions-stay old.sessions new.sessions d s after comes.lives comes.as_many table len;
       jobs = jobs-start old.jobs new.jobs o event.kind answer d done s v comes.unfinished begins acted;
     })
     (λ q. rw (link.brings d) (numbers q ∙ ap (λ b. (arr.number == q) || b) (st.tables.numbers q)))
     (λ a p. board a p ∙ sym (holders-arrived old log event answer d done arr a p st link comes))
+    (λ key. failed-linked old new log event answer d done arr.number key st (link.brings d) failed)
   where
     o : Options
     o = old.options
@@ -224,7 +268,7 @@ serves-held old new log event answer done arr s v after st link unused held ther
     d = decided_on o arr v s
 
     comes : Comes d
-    comes = arrival-comes (in_range o arr.port) (same_ip v.opening.raw.ip arr.raw.ip) s
+    comes = arrival-comes (in_range o arr.port && same_ip v.opening.raw.ip arr.raw.ip) s
 
     holds : holder o past (V4 arr.source) arr.port ≡ Some s
     holds = sym (st.tables.holders arr.source arr.port) ∙ held
@@ -240,6 +284,60 @@ serves-held old new log event answer done arr s v after st link unused held ther
 -- whoever holds a port is live
 pub held-live : (hub : Hub) (log : List Entry) (a p s : ℕ) → Stands hub log → holder_at hub.board a p ≡ Some s → map.get nat_eq hub.sessions s ≡ None → ⊥
 held-live hub log a p s st held none =
-    let w : WaitsFor hub.options (past_of log) s (V4 a) p = holder-waits hub.options log hub.shared st.right (V4 a) p s (sym (st.tables.holders a p) ∙ held) in
+    let w : WaitsFor hub.options (past_of log) s (V4 a) p = held-waits hub log a p s st (sym (st.tables.holders a p) ∙ held) in
     let clash : Some w.view ≡ None = sym w.known ∙ sym (st.tables.sessions s) ∙ none in
     cc
+
+-- a data connection that comes to the listener of session s, where each has its own, goes to it, or is turned away
+pub serves-accepted :
+    (old new : Hub) (log : List Entry) (event : HubEvent) (answer : Answer) (done : List Action) (s n : ℕ) (raw : SocketAddr) (v after : Session) →
+    Stands old log → event.kind ≡ kind.Accepted s n raw → is_legacy old.options.mode ≡ true → is_used (past_of log) n ≡ false →
+    map.get nat_eq old.sessions s ≡ Some v →
+    after ≡ session_after event.at event.kind answer (arrival_of (is_waiting v.slot && same_ip v.opening.raw.ip raw.ip) s) 0 (map.get nat_eq old.jobs s) v →
+    done ≡ session_acts old.options s event.kind answer (arrival_of (is_waiting v.slot && same_ip v.opening.raw.ip raw.ip) s) (map.get nat_eq old.jobs s) (Some v) →
+    new.options ≡ old.options →
+    ((q : ℕ) → map.get nat_eq new.sessions q ≡ cond (s == q) (Some after) (map.get nat_eq old.sessions q)) →
+    (map.hash_map_len new.sessions ≡ map.hash_map_len old.sessions) →
+    Starts old.jobs new.jobs s (starting event.kind (arrival_of (is_waiting v.slot && same_ip v.opening.raw.ip raw.ip) s) (map.get nat_eq old.jobs s) v) →
+    ((q : ℕ) → has new.numbers q ≡ ((n == q) || has old.numbers q)) →
+    ((a p : ℕ) → holder_at new.board a p ≡ holder_at old.board a p) →
+    new.failures ≡ old.failures →
+    Serves old new log event answer (arrival_of (is_waiting v.slot && same_ip v.opening.raw.ip raw.ip) s) done
+unfolding decide
+serves-accepted old new log event answer done s n raw v after st is legacy unused there after_is acted same table len begins numbers board failed =
+    serves-about old new log event answer d done s v after st comes.counts
+    (record { subject_is = subject-plain o past e (no-stop d) ∙ rw named refl; unopened = comes.unopened event.kind }) known
+    (sym (due-named o past event.at event.kind answer s (Some v) (rw is refl) named known ∙ rw (is, legacy, unused) refl)) acted
+    (record {
+      options = same;
+      session = after_is ∙ ap (λ c. session_after event.at event.kind answer d c (map.get nat_eq old.jobs s) v) (sym (comes.silent answer));
+      sessions = sessions-stay old.sessions new.sessions d s after comes.lives comes.as_many table len;
+      jobs = jobs-start old.jobs new.jobs o event.kind answer d done s v comes.unfinished begins acted;
+    })
+    (λ q. rw (brings d) (numbers q ∙ ap (λ b. (n == q) || b) (st.tables.numbers q)))
+    (λ a p. board a p ∙ st.tables.holders a p ∙ holder-legacy o past (V4 a) p legacy ∙ sym (holder-legacy o (e ∷ past) (V4 a) p legacy))
+    (λ key. failed-linked old new log event answer d done n key st (brings d) failed)
+  where
+    o : Options
+    o = old.options
+
+    past : List Entry
+    past = past_of log
+
+    d : Decision
+    d = arrival_of (is_waiting v.slot && same_ip v.opening.raw.ip raw.ip) s
+
+    e : Entry
+    e = entry event answer d done
+
+    comes : Comes d
+    comes = arrival-comes (is_waiting v.slot && same_ip v.opening.raw.ip raw.ip) s
+
+    named : named_session event.kind ≡ Some s
+    named = ap named_session is
+
+    brings : (d : Decision) → new_number event.kind d ≡ Some n
+    brings d = ap (λ (k : EventKind). new_number k d) is
+
+    known : session o past s ≡ Some v
+    known = sym (st.tables.sessions s) ∙ there

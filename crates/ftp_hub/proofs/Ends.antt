@@ -4,7 +4,8 @@ use Rattle.std.specs.Prelude.{◌==◌, nat_eq}
 use Rattle.std.specs.Option.{option_map, option_or}
 use Rattle.std.specs.HashMap as map
 use Rattle.std.proofs.lemmas.Option.{same_Some}
-use Rattle.ftp_hub.proofs.Common.{Action, Answer, Decision, Entry, EventKind, Hub, HubEvent, Jobs, Options, Running, Serves, Session, Stands, Starts, Tables, Ticket, V4, acts, decide, entry, has, history, holder, holder_at, named_session, next_lane, past_of, running_after, running_job, session, session_acts, starting}
+use Rattle.ftp_hub.proofs.Common.{Action, Answer, Decision, Entry, EventKind, Hub, HubEvent, Jobs, Options, Running, Serves, Session, Stands, Starts, Tables, Ticket, V4, acts, decide, entry, failures, failures_in, has, history, holder, holder_at, named_session, next_lane, past_of, running_after, running_job, session, session_acts, starting}
+use Rattle.ftp_lockout.specs.Failures.{Table}
 use Rattle.ftp_transfer.specs.declared.job.Outcome.{Outcome}
 use Rattle.ftp_transfer.specs.Transfer.{suits}
 use Rattle.ftp_events.specs.declared.action.Action.TheVariants as action
@@ -17,7 +18,7 @@ use Rattle.ftp_events.specs.History.{opens, concerns}
 use Rattle.ftp_events.specs.Running.{running_count}
 use Rattle.ftp_events.specs.Slot.{lane}
 use Rattle.ftp_events.specs.Session.{life_by, is_live, session_by_history}
-use Rattle.ftp_events.specs.CommandRows.{is_logged_in, if_logged_in, can_queue, transfer_row, command_row}
+use Rattle.ftp_events.specs.CommandRows.{Around, is_logged_in, if_logged_in, can_queue, transfer_row, command_row}
 use Rattle.ftp_events.specs.EndRows.{end_row}
 use Rattle.ftp_events.specs.Transfer.{same_ticket}
 use Rattle.ftp_laws.proofs.QuestionLemmas.{counting-counts, history-own, running-other, session-other}
@@ -27,26 +28,28 @@ use Rattle.ftp_handlers.specs.Handlers.{is_transfer}
 use Rattle.ftp_laws.proofs.RunningLemmas.{runs-started}
 use Rattle.ftp_hub.proofs.Running.{count-start, running-acts}
 use Rattle.ftp_hub.proofs.Decisions.{Comes}
-use Rattle.ftp_hub.proofs.Commands.{is_end}
+use Rattle.ftp_hub.proofs.Commands.{IsPlain}
+use Rattle.ftp_laws.proofs.LockoutLemmas.{failures-other, tells_failures}
 
 -- ---- transfers that are queued
 
 -- the row of a transfer is that of its session
-pub transfer-row : (o : Options) (holders : ℕ → Option ℕ) (k : EventKind) (s : ℕ) (v : Session) → is_transfer k ≡ true → named_session k ≡ Some s → if_logged_in v (transfer_row s v) ≡ command_row o holders k v
-transfer-row o holders (kind.Transfer q c') s v c n = ap (λ (x : ℕ). if_logged_in v (transfer_row x v)) (sym (same_Some _ _ n))
-transfer-row o holders (kind.Stou q word) s v c n = ap (λ (x : ℕ). if_logged_in v (transfer_row x v)) (sym (same_Some _ _ n))
-transfer-row o holders k s v c n = cc
+pub transfer-row : (o : Options) (a : Around) (k : EventKind) (s : ℕ) (v : Session) → is_transfer k ≡ true → named_session k ≡ Some s → if_logged_in v (transfer_row s v) ≡ command_row o a k v
+transfer-row o a (kind.Transfer q c') s v c n = ap (λ (x : ℕ). if_logged_in v (transfer_row x v)) (sym (same_Some _ _ n))
+transfer-row o a (kind.Stou q word) s v c n = ap (λ (x : ℕ). if_logged_in v (transfer_row x v)) (sym (same_Some _ _ n))
+transfer-row o a k s v c n = cc
 
--- it is no end
-pub transfer-plain : (k : EventKind) → is_transfer k ≡ true → is_end k ≡ false
+-- it is plain
+pub transfer-plain : (k : EventKind) → is_transfer k ≡ true → IsPlain k
 transfer-plain (kind.End t) c = cc
-transfer-plain k c = refl
+transfer-plain (kind.Accepted s n raw) c = cc
+transfer-plain k c = record { no_end = refl; no_link = refl }
 
 -- a job may start with its decision
 transfer-decides : (b c : Bool) (t : Ticket) → Comes (cond b (cond c (decision.Queued t) decision.NoSlot) decision.NotLoggedIn)
-transfer-decides true true t = record { counts = refl; unopened = λ k. refl; no_grant = refl; lives = refl; silent = λ answer. refl; as_many = λ n. refl; unfinished = refl }
-transfer-decides true false t = record { counts = refl; unopened = λ k. refl; no_grant = refl; lives = refl; silent = λ answer. refl; as_many = λ n. refl; unfinished = refl }
-transfer-decides false c t = record { counts = refl; unopened = λ k. refl; no_grant = refl; lives = refl; silent = λ answer. refl; as_many = λ n. refl; unfinished = refl }
+transfer-decides true true t = record { counts = refl; unopened = λ k. refl; no_grant = refl; keeps = refl; lives = refl; silent = λ answer. refl; as_many = λ n. refl; unfinished = refl }
+transfer-decides true false t = record { counts = refl; unopened = λ k. refl; no_grant = refl; keeps = refl; lives = refl; silent = λ answer. refl; as_many = λ n. refl; unfinished = refl }
+transfer-decides false c t = record { counts = refl; unopened = λ k. refl; no_grant = refl; keeps = refl; lives = refl; silent = λ answer. refl; as_many = λ n. refl; unfinished = refl }
 
 pub transfer-comes : (s : ℕ) (v : Session) (d : Decision) → d ≡ if_logged_in v (transfer_row s v) → Comes d
 transfer-comes s v d e = subst Comes (sym e) (transfer-decides (is_logged_in v.login) (can_queue v.slot v.pending) (record { session = s; nr = v.tickets + 1 }))
@@ -90,9 +93,10 @@ pub serves-lost :
     (map.hash_map_len new.jobs ≡ map.hash_map_len old.jobs - 1) →
     ((q : ℕ) → has new.numbers q ≡ has old.numbers q) →
     ((a p : ℕ) → holder_at new.board a p ≡ holder_at old.board a p) →
+    new.failures ≡ old.failures →
     Serves old new log event (Done outcome) decision.Finished done
 unfolding acts
-serves-lost old new log event outcome done t job st k there ticket fits none completes same sessions len jobs fewer numbers board =
+serves-lost old new log event outcome done t job st k there ticket fits none completes same sessions len jobs fewer numbers board failed =
     record {
       decision = finish-due old log event outcome t job st k there ticket fits;
       done = completes ∙ sym (rw (k, gone) refl);
@@ -106,6 +110,10 @@ serves-lost old new log event outcome done t job st k there ticket fits none com
             board a p ∙ st.tables.holders a p
             ∙ sym (holder-named o past e t.session (V4 a) p (record { named = rw k refl; no_target = rw k refl }) refl)
             ∙ ap (λ (o : Options). holder o (e ∷ past) (V4 a) p) (sym same);
+        failures = λ key.
+            ap (λ (x : Option Table). failures_in x key) failed ∙ st.tables.failures key
+            ∙ sym (failures-other o past e key (ap tells_failures k))
+            ∙ ap (λ (o : Options). failures o (e ∷ past) key) (sym same);
       });
     }
   where

@@ -1,5 +1,6 @@
 pub mod Common
 pub mod Counts
+pub mod Failures
 pub mod Moved
 pub mod About
 pub mod Clients
@@ -9,6 +10,7 @@ pub mod Openings
 pub mod Named
 pub mod Decisions
 pub mod DataLinks
+pub mod Sweeps
 pub mod Commands
 pub mod Rows
 pub mod Ends

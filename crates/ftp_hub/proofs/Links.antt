@@ -1,5 +1,5 @@
 -- A session and a job that runs have their links.
-use Rattle.std.proofs.Common.{◌≡◌, refl, sym, ap, ◌∙◌, subst, ℕ, Bool, true, false, not, cond, ◌||◌, List, [], ◌∷◌, Option, Some, None, arith}
+use Rattle.std.proofs.Common.{◌≡◌, refl, sym, ap, ◌∙◌, subst, ℕ, Bool, true, false, not, cond, ◌&&◌, ◌||◌, List, [], ◌∷◌, Option, Some, None}
 use Rattle.std.specs.Prelude.{is_some}
 use Rattle.std.proofs.lemmas.Bool.{or_parts}
 use Rattle.std.proofs.lemmas.Option.{same_Some}
@@ -7,11 +7,11 @@ use Rattle.std.specs.FinMap as table
 use Rattle.std.specs.Ordering.{nat_cmp, eq_by_cmp}
 use Rattle.std.specs.Cmp.{nat_cmp_total}
 use Rattle.std.specs.Option.{option_map_or}
-use Rattle.ftp_hub.proofs.Common.{Answer, Decision, Entry, EventKind, Hub, has, IsRight, Options, Pending, Running, Session, Stands, Ticket, decide, history, is_linked, new_number, past_of, running_job, session}
+use Rattle.ftp_hub.proofs.Common.{Answer, Decision, Entry, EventKind, Hub, has, IsRight, Options, Pending, Running, Session, Stands, Ticket, decide, history, is_linked, is_used, new_number, past_of, running_job, session}
 use Rattle.ftp_base.specs.LinkTable.{Numbered}
 use Rattle.ftp_base.specs.declared.net.SocketAddr.{SocketAddr}
 use Rattle.ftp_base.specs.Net.{is_v6}
-use Rattle.ftp_options.specs.Modes.{is_proxy}
+use Rattle.ftp_options.specs.Modes.{is_pooled, is_proxy}
 use Rattle.ftp_transfer.specs.declared.job.Job.{Job}
 use Rattle.ftp_events.specs.declared.decision.Decision.TheVariants as decision
 use Rattle.ftp_events.specs.declared.event.EventKind.TheVariants as kind
@@ -25,6 +25,7 @@ use Rattle.ftp_events.specs.Slot.{Lane, drops, lane, lane_of, lane_after, queued
 use Rattle.ftp_events.specs.Decide.{due}
 use Rattle.ftp_laws.proofs.EntryLemmas.{past-more, history-more}
 use Rattle.ftp_laws.proofs.LaneLemmas.{ended-empty}
+use Rattle.ftp_laws.proofs.LinkLemmas.{is_attached}
 use Rattle.ftp_laws.proofs.QuestionLemmas.{session-told}
 use Rattle.ftp_hub.specs.Runs.{has_link_of}
 use Rattle.ftp_hub.specs.Stands.{header_for, job_for}
@@ -69,27 +70,46 @@ dropped-linked :
 dropped-linked linked true l h = record { slot = λ n x. cc; running = h.running }
 dropped-linked linked false l h = h
 
+-- so it is with a connection that was made
+made-linked :
+    (linked : ℕ → Bool) (number : Option ℕ) → ((n : ℕ) → number ≡ Some n → linked n ≡ true) →
+    (n : ℕ) → link_in (option_map_or Linked number Empty) ≡ Some n → linked n ≡ true
+made-linked linked None came n x = cc
+made-linked linked (Some m) came n x = came n x
+
 -- so it is after each entry whose connection is linked
 lane_after-linked :
     (linked : ℕ → Bool) (k : EventKind) (d : Decision) (queued : Option Pending) (l : Lane) →
-    ((q n : ℕ) → d ≡ decision.Attached q → new_number k (decision.Attached q) ≡ Some n → linked n ≡ true) →
+    (is_attached d ≡ true → (n : ℕ) → new_number k d ≡ Some n → linked n ≡ true) →
     AreLinked linked l →
     AreLinked linked (lane_after k d queued l)
 lane_after-linked linked k (decision.Granted port) queued l came h = record { slot = λ n x. cc; running = h.running }
+lane_after-linked linked k decision.PortOk queued l came h = record { slot = made-linked linked (new_number k decision.PortOk) (came refl); running = h.running }
 lane_after-linked linked k (decision.Attached q) queued l came h =
     lane_of-linked linked (with_link l.slot (new_number k (decision.Attached q))) l.pending l.running
-    (with_link-linked linked l.slot (new_number k (decision.Attached q)) (λ n x. came q n refl x) h.slot)
+    (with_link-linked linked l.slot (new_number k (decision.Attached q)) (came refl) h.slot)
     h.running
 lane_after-linked linked k (decision.Queued t) queued l came h = lane_of-linked linked l.slot queued l.running h.slot h.running
 lane_after-linked linked k decision.Finished queued l came h = lane_of-linked linked l.slot l.pending None h.slot (λ n x. cc)
 lane_after-linked linked k d queued l came h = dropped-linked linked (drops d l.slot) l h
 
--- only a data connection is attached
-attached-link : (o : Options) (past : List Entry) (at : ℕ) (k : EventKind) (answer : Answer) (q n : ℕ) → due o past at k answer ≡ decision.Attached q → new_number k (decision.Attached q) ≡ Some n → link_number k ≡ Some n
-attached-link o past at (kind.Proxied m raw trace) answer q n d e = e
-attached-link o past at (kind.DataIn m raw port) answer q n d e = e
-attached-link o past at (kind.Connect s raw local trace) answer q n d e = grind arith
-attached-link o past at k answer q n d e = cc
+-- no control connection is attached
+connect-attaches : (misplaced used : Bool) → is_attached (cond misplaced decision.Misplaced (cond used decision.UsedNumber decision.Opened)) ≡ false
+connect-attaches true used = refl
+connect-attaches false true = refl
+connect-attaches false false = refl
+
+-- what is attached, or taken for a PORT, is the connection that comes with the event
+attached-link : (o : Options) (past : List Entry) (at : ℕ) (k : EventKind) (answer : Answer) (d : Decision) (n : ℕ) → d ≡ due o past at k answer → is_attached d ≡ true → new_number k d ≡ Some n → link_number k ≡ Some n
+attached-link o past at (kind.Proxied m raw trace) answer d n is t e = e
+attached-link o past at (kind.DataIn m raw port) answer d n is t e = e
+attached-link o past at (kind.Accepted s m raw) answer d n is t e = e
+attached-link o past at (kind.Port s text m) answer decision.PortOk n is t e = e
+attached-link o past at (kind.Connect s raw local trace) answer d n is t e =
+    let none : is_attached d ≡ false = ap is_attached is ∙ connect-attaches (is_proxy o.mode || (is_pooled o.mode && (is_v6 raw.ip || is_v6 local.ip))) (is_used past s) in
+    let clash : true ≡ false = sym t ∙ none in
+    cc
+attached-link o past at k answer d n is t e = cc
 
 -- where each session and each job has its link, so has what each history tells
 lane-linked :
@@ -160,12 +180,9 @@ links-more o e log old new r has covered keeps =
         let was = lane-linked o log s old r.0 has in
         record { slot = λ n x. keeps n (was.slot n x); running = λ n x. keeps n (was.running n x) }
 
-    came :
-        (q n : ℕ) → e.decision ≡ decision.Attached q →
-        new_number e.event.kind (decision.Attached q) ≡ Some n →
-        is_linked new n ≡ true
-    came q n d x =
-        let link = attached-link o past e.event.at e.event.kind e.answer q n (sym r.1 ∙ d) x in
+    came : is_attached e.decision ≡ true → (n : ℕ) → new_number e.event.kind e.decision ≡ Some n → is_linked new n ≡ true
+    came takes n x =
+        let link = attached-link o past e.event.at e.event.kind e.answer e.decision n r.1 takes x in
         keeps n (sym (ap (λ (number : Option ℕ). option_map_or (is_linked old) number true) link) ∙ covered)
 
     after : (s : ℕ) → AreLinked (is_linked new) (lane (history o (e ∷ past) s))

@@ -1,10 +1,16 @@
 -- What an entry about one live session makes of the tables: a record a table, each with a form for what stays.
-use Rattle.std.proofs.Common.{BuildHasherDefault, FoldHasher, ◌≡◌, sym, ap, ◌∙◌, ℕ, cond, Bool, List, Some, None}
+use Rattle.std.proofs.Common.{BuildHasherDefault, FoldHasher, ◌≡◌, sym, ap, ◌∙◌, ℕ, cond, Bool, ◌||◌, List, Option, Some, None}
 use Rattle.std.specs.Prelude.{◌==◌, nat_eq, true, false}
 use Rattle.std.specs.HashMap as map
-use Rattle.ftp_hub.proofs.Common.{Action, Answer, Decision, EventKind, Hub, Jobs, Options, Session, Starts, has, held_after, holder_at, ipv4, live_after, lives_on, next_lane, notices_of, running_after, session_acts, session_after, starting, waiting_port}
+use Rattle.ftp_hub.proofs.Common.{Action, Answer, Decision, Entry, EventKind, Hub, HubEvent, Jobs, Options, Session, Starts, Tables, failures_in, has, held_after, holder_at, ipv4, is_legacy, live_after, lives_on, new_number, next_lane, notices_of, running_after, session_acts, session_after, starting, waiting_port}
 use Rattle.ftp_laws.proofs.BalanceLemmas.{is_finished}
-use Rattle.ftp_hub.proofs.Decisions.{jobs-idle, jobs-started, running-started}
+use Rattle.ftp_hub.proofs.Decisions.{jobs-idle, jobs-started, put-back, running-started}
+use Rattle.ftp_events.specs.Words.{is_number}
+use Rattle.ftp_lockout.specs.Failures.{Table}
+use Rattle.ftp_numbers.specs.Used.{Used}
+use Rattle.ftp_switchboard.specs.Board.{Board}
+use Rattle.ftp_hub.proofs.Failures.{FailuresMoved}
+use Rattle.ftp_hub.proofs.Refusals.{tables-same}
 use Rattle.ftp_hub.proofs.Running.{IsIdle, running-idle}
 
 -- the live sessions, by number
@@ -22,17 +28,46 @@ pub record JobsMoved (old new : Jobs) (k : EventKind) (d : Decision) (done : Lis
   pub running : map.hash_map_len new ≡ running_after done (map.hash_map_len old)
 
 -- the tables of sessions and jobs moved, with session s as it is due
-pub record Moved (old new : Hub) (k : EventKind) (answer : Answer) (d : Decision) (done : List Action) (s : ℕ) (v after : Session) : Type 0 where
+pub record Moved (old new : Hub) (event : HubEvent) (answer : Answer) (d : Decision) (done : List Action) (s : ℕ) (v after : Session) : Type 0 where
   pub options : new.options ≡ old.options
-  pub session : after ≡ session_after k answer d (notices_of d answer) (map.get nat_eq old.jobs s) v
+  pub session : after ≡ session_after event.at event.kind answer d (notices_of d answer) (map.get nat_eq old.jobs s) v
   pub sessions : SessionsMoved old.sessions new.sessions d s after
-  pub jobs : JobsMoved old.jobs new.jobs k d done s v
+  pub jobs : JobsMoved old.jobs new.jobs event.kind d done s v
 
--- so did that of holds, and no number came
-pub record MovedAlone (old new : Hub) (k : EventKind) (answer : Answer) (d : Decision) (done : List Action) (s : ℕ) (v after : Session) : Type 0 where
-  pub moved : Moved old new k answer d done s v after
-  pub numbers : (q : ℕ) → has new.numbers q ≡ has old.numbers q
-  pub holders : (a p : ℕ) → holder_at new.board a p ≡ held_after d s (ipv4 v.opening.client) (waiting_port v.slot) a p (holder_at old.board a p)
+-- so did those of numbers, of holds and of failed logins
+pub record MovedAlone (old new : Hub) (event : HubEvent) (answer : Answer) (d : Decision) (done : List Action) (s : ℕ) (v after : Session) : Type 0 where
+  pub moved : Moved old new event answer d done s v after
+  pub numbers : (q : ℕ) → has new.numbers q ≡ (is_number (new_number event.kind d) q || has old.numbers q)
+  pub holders : is_legacy old.options.mode ≡ false → (a p : ℕ) → holder_at new.board a p ≡ held_after d s (ipv4 v.opening.client) (waiting_port v.slot) a p (holder_at old.board a p)
+  pub alone : is_legacy old.options.mode ≡ true → (a p : ℕ) → holder_at new.board a p ≡ holder_at old.board a p
+  pub failures : FailuresMoved old new.failures event v
+
+-- a table in which a session is put back is as it was
+pub session-back :
+    (old new : Sessions) (s : ℕ) (v : Session) → map.get nat_eq old s ≡ Some v →
+    ((q : ℕ) → map.get nat_eq new q ≡ cond (s == q) (Some v) (map.get nat_eq old q)) →
+    (q : ℕ) → map.get nat_eq new q ≡ map.get nat_eq old q
+session-back old new s v there table q =
+    table q ∙ ap (λ (x : Option Session). cond (s == q) x (map.get nat_eq old q)) (sym there) ∙ put-back (map.get nat_eq old) s q
+
+-- tables of which that of sessions alone was lent, and answers as before
+pub tables-lent :
+    (old new : Hub) (past : List Entry) →
+    new.options ≡ old.options → ((q : ℕ) → map.get nat_eq new.sessions q ≡ map.get nat_eq old.sessions q) →
+    map.hash_map_len new.sessions ≡ map.hash_map_len old.sessions →
+    new.jobs ≡ old.jobs → new.numbers ≡ old.numbers → new.board ≡ old.board → new.failures ≡ old.failures →
+    Tables old past → Tables new past
+tables-lent old new past options sessions len jobs numbers board failed tables =
+    tables-same old new past options
+    (record {
+      sessions = sessions;
+      live = len;
+      jobs = λ q. ap (λ (m : Jobs). map.get nat_eq m q) jobs;
+      running = ap map.hash_map_len jobs;
+      numbers = λ q. ap (λ (x : Used). has x q) numbers;
+      holders = λ a p. ap (λ (x : Board). holder_at x a p) board;
+      failures = λ key. ap (λ (x : Option Table). failures_in x key) failed;
+    }) tables
 
 -- the session goes on
 pub sessions-stay :

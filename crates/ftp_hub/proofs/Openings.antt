@@ -1,8 +1,8 @@
 -- The tables after a control connection that opens a session.
-use Rattle.std.proofs.Common.{◌≡◌, refl, sym, ap, ◌∙◌, subst, ℕ, ◌+◌, Bool, true, false, cond, ◌||◌, List, [], ◌∷◌, Some, None, eqb-true}
+use Rattle.std.proofs.Common.{◌≡◌, refl, sym, ap, ◌∙◌, subst, ℕ, ◌+◌, Bool, true, false, cond, ◌||◌, List, [], ◌∷◌, Option, Some, None, eqb-true}
 use Rattle.std.specs.Prelude.{◌==◌, nat_eq}
 use Rattle.std.specs.HashMap as map
-use Rattle.ftp_hub.proofs.Common.{Action, Answer, Entry, Hub, HubEvent, Jobs, Options, Serves, Stands, Tables, V4, acts, decide, entry, has, history, holder, holder_at, is_used, past_of, running_job, same-both, session}
+use Rattle.ftp_hub.proofs.Common.{Action, Answer, Entry, Hub, HubEvent, Jobs, Options, Serves, Stands, Tables, V4, acts, decide, entry, failures, failures_in, has, history, holder, holder_at, is_used, past_of, running_job, same-both, session}
 use Rattle.ftp_events.specs.declared.decision.Decision.TheVariants as decision
 use Rattle.ftp_events.specs.declared.session.Opening.{Opening}
 use Rattle.ftp_events.specs.History.{concerns, opens}
@@ -14,6 +14,9 @@ use Rattle.ftp_laws.proofs.TableLemmas.{holder-other}
 use Rattle.ftp_laws.proofs.NotificationLemmas.{unused-opener}
 use Rattle.ftp_laws.proofs.RunningLemmas.{unused-idle}
 use Rattle.ftp_hub.specs.Arrivals.{IsControlLink}
+use Rattle.ftp_lockout.specs.Failures.{Table}
+use Rattle.ftp_laws.proofs.LockoutLemmas.{failures-other}
+use Rattle.ftp_hub.proofs.Failures.{linked-other}
 use Rattle.ftp_hub.proofs.Running.{running-none}
 
 -- an unused number is that of no session
@@ -31,9 +34,10 @@ pub serves-opened :
     new.jobs ≡ old.jobs →
     ((q : ℕ) → has new.numbers q ≡ ((s == q) || has old.numbers q)) →
     ((a p : ℕ) → holder_at new.board a p ≡ holder_at old.board a p) →
+    new.failures ≡ old.failures →
     Serves old new log event answer decision.Opened done
 unfolding decide acts
-serves-opened old new log event answer s opening done st link unused nothing same table len jobs numbers board =
+serves-opened old new log event answer s opening done st link unused nothing same table len jobs numbers board failed =
     record {
       decision = sym (link.row past unused);
       done = rw (link.unnamed, link.for_nobody) nothing;
@@ -44,6 +48,10 @@ serves-opened old new log event answer s opening done st link unused nothing sam
         running = ap map.hash_map_len jobs ∙ st.tables.running ∙ sym (running-none done (running_count past) nothing);
         numbers = λ q. rw (link.brings decision.Opened) (numbers q ∙ ap (λ b. (s == q) || b) (st.tables.numbers q));
         holders = λ a p. board a p ∙ st.tables.holders a p ∙ sym (holder-other o past e (V4 a) p link.for_nobody link.unnamed refl) ∙ ap (λ (o : Options). holder o (e ∷ past) (V4 a) p) (sym same);
+        failures = λ key.
+            ap (λ (x : Option Table). failures_in x key) failed ∙ st.tables.failures key
+            ∙ sym (failures-other o past e key (linked-other event.kind decision.Opened s (link.brings decision.Opened)))
+            ∙ ap (λ (o : Options). failures o (e ∷ past) key) (sym same);
       });
     }
   where

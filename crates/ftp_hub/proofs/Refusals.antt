@@ -1,6 +1,6 @@
 -- Refused events, and tables that give the same answers.
 use Rattle.std.proofs.Common.{◌≡◌, sym, ap, ◌∙◌, subst, ◌+◌, true, List, [], length}
-use Rattle.ftp_hub.proofs.Common.{Action, Answer, Decision, Entry, Hub, HubEvent, IsActed, IsRight, Options, Serves, Stands, Tables, V4, acts, decide, entry, holder, is_refusal, past_of, running_job, session}
+use Rattle.ftp_hub.proofs.Common.{Action, Answer, Decision, Entry, Hub, HubEvent, IsActed, IsRight, Options, Serves, Stands, Tables, V4, acts, decide, entry, failures, holder, is_refusal, past_of, running_job, session}
 use Rattle.ftp_laws.proofs.QuestionLemmas.{counting-refused}
 use Rattle.ftp_hub.specs.Stands.{SameTables, SameAnswers}
 
@@ -30,6 +30,7 @@ same-refused old new log event answer d done same st served refused =
       running = after.running ∙ sym before.running;
       numbers = λ n. after.numbers n ∙ sym (before.numbers n);
       holders = λ a p. after.holders a p ∙ ap (λ o. holder o (past_of log) (V4 a) p) same ∙ sym (before.holders a p);
+      failures = λ key. after.failures key ∙ ap (λ o. failures o (past_of log) key) same ∙ sym (before.failures key);
     }
 
 -- tables that answer every question as before answer as the same past
@@ -42,6 +43,7 @@ tables-same old new past options same tables =
       running = same.running ∙ tables.running;
       numbers = λ n. same.numbers n ∙ tables.numbers n;
       holders = λ a p. same.holders a p ∙ tables.holders a p ∙ ap (λ (o : Options). holder o past (V4 a) p) (sym options);
+      failures = λ key. same.failures key ∙ tables.failures key ∙ ap (λ (o : Options). failures o past key) (sym options);
     }
 
 -- a hub that answers every question as before stands for the same log

@@ -5,7 +5,7 @@ use Rattle.ftp_hub.proofs.Common.{Decision, Pending, live_after, lives_on, new_n
 use Rattle.ftp_events.specs.declared.decision.Life.{Life}
 use Rattle.ftp_events.specs.declared.decision.Life.TheVariants.{Goes, Ends}
 use Rattle.ftp_events.specs.declared.decision.SlotMove.{SlotMove}
-use Rattle.ftp_events.specs.declared.decision.SlotMove.TheVariants.{Keeps, Empties, EmptiesWaiting, Awaits}
+use Rattle.ftp_events.specs.declared.decision.SlotMove.TheVariants.{Keeps, Empties, EmptiesWaiting, Awaits, Connects, Expires}
 use Rattle.ftp_events.specs.Classes.{ends, is_ending, life, slot_move}
 use Rattle.ftp_events.specs.Session.{live_by_life, told_of_life}
 use Rattle.ftp_events.specs.Slot.{Lane, starts_by}
@@ -44,6 +44,8 @@ goes_on-lives d h = go (life d) refl (slot_move d) refl h
     go Goes goes Empties move q = quiet goes Empties move refl (λ n queued l. refl)
     go Goes goes EmptiesWaiting move q = quiet goes EmptiesWaiting move refl (λ n queued l. refl)
     go Goes goes (Awaits port) move q = quiet goes (Awaits port) move refl (λ n queued l. refl)
+    go Goes goes Connects move q = quiet goes Connects move refl (λ n queued l. refl)
+    go Goes goes Expires move q = quiet goes Expires move refl (λ n queued l. refl)
     go l goes m move q = cc
 
 -- a decision that ends the session, and with which no job starts or ends

@@ -1,5 +1,5 @@
 -- Connections that come: which kinds bring them, and what becomes of a data connection that has a holder.
-use Rattle.std.specs.Prelude.{ℕ, ◌≡◌, Bool, true, false, not, ◌||◌, List, Some, None}
+use Rattle.std.specs.Prelude.{ℕ, ◌≡◌, Bool, true, false, ◌||◌, List, Some, None}
 use Rattle.ftp_base.specs.declared.net.IpAddr.TheVariants.{V4}
 use Rattle.ftp_options.specs.declared.options.Options.{Options}
 use Rattle.ftp_events.specs.declared.decision.Decision.{Decision}
@@ -16,9 +16,10 @@ use Rattle.ftp_events.specs.Decide.{due}
 use Rattle.ftp_events.specs.Log.{is_used, named_session, new_number}
 use Rattle.ftp_events.specs.Opening.{opening_by}
 use Rattle.ftp_events.specs.Words.{◌⇒◌∣◌}
+use Rattle.ftp_handlers.specs.Handlers.{is_port}
 use Rattle.ftp_hub.specs.declared.data_links.Arrival.{Arrival}
 
--- the kinds of connections
+-- the kinds of connections that come
 abbrev pub is_connect : EventKind → Bool
 is_connect (kind.Connect s raw local trace) = true
 is_connect _ = false
@@ -31,20 +32,24 @@ abbrev pub is_data : EventKind → Bool
 is_data (kind.DataIn number raw port) = true
 is_data _ = false
 
+abbrev pub is_accepted : EventKind → Bool
+is_accepted (kind.Accepted s number raw) = true
+is_accepted _ = false
+
 -- the kinds that may open a session
 abbrev pub may_open : EventKind → Bool
 may_open k = is_connect k || is_proxied k
 
 -- the kinds that bring a number
 abbrev pub brings_number : EventKind → Bool
-brings_number k = may_open k || is_data k
+brings_number k = may_open k || (is_data k || (is_accepted k || is_port k))
 
 -- the kinds with which a transfer may start
 abbrev pub may_start : EventKind → Bool
 may_start (kind.Transfer s c) = true
 may_start (kind.Stou s word) = true
 may_start (kind.End ticket) = true
-may_start k = is_proxied k || is_data k
+may_start k = is_proxied k || (is_data k || is_accepted k)
 
 -- the event with its answer is a control connection under this number, where that was not used
 pub record IsControlLink (o : Options) (event : HubEvent) (answer : Answer) (number : ℕ) (opening : Opening) : Type 0 where
@@ -63,6 +68,6 @@ pub record IsDataLink (o : Options) (event : HubEvent) (answer : Answer) (arriva
       (past : List Entry) → is_used past arrival.number ≡ false →
       due o past event.at event.kind answer ≡ arrival_row o past arrival.raw (V4 arrival.source) arrival.port
 
--- to session s, where the port is in the range and the peers have one address
-abbrev pub arrival_of : Bool → Bool → ℕ → Decision
-arrival_of in_range same s = not in_range ⇒ Turned ∣ same ⇒ Attached s ∣ Turned
+-- it goes to session s where it is welcome there
+abbrev pub arrival_of : Bool → ℕ → Decision
+arrival_of welcome s = welcome ⇒ Attached s ∣ Turned

@@ -1,11 +1,12 @@
 -- When a hub stands for a log.
-use Rattle.std.specs.Prelude.{◌≡◌, ℕ, ◌+◌, ◌-◌, ◌^◌, ◌<◌, ◌≤◌, [], ◌∷◌, List, length, not, ◌||◌, Option, Some, None, is_some, IsTrue, nat_eq}
+use Rattle.std.specs.Prelude.{◌≡◌, ℕ, ◌+◌, ◌-◌, ◌^◌, ◌<◌, ◌≤◌, [], ◌∷◌, List, length, Bool, false, not, ◌||◌, Option, Some, None, IfSome, is_some, IsTrue, nat_eq}
 use Rattle.std.specs.Option.{option_and_then, option_map_or}
 use Rattle.std.specs.HashMap as map
 use Rattle.ftp_base.specs.declared.net.IpAddr.TheVariants.{V4}
 use Rattle.ftp_base.specs.Net.{ipv4, is_v6}
 use Rattle.ftp_options.specs.declared.options.Options.{Options}
-use Rattle.ftp_options.specs.Modes.{is_proxy}
+use Rattle.ftp_options.specs.Modes.{is_legacy, is_proxy}
+use Rattle.ftp_lockout.specs.declared.key.LoginKey.{LoginKey}
 use Rattle.ftp_transfer.specs.declared.job.Job.{Job}
 use Rattle.ftp_switchboard.specs.Board.{holder_at, HasRoom}
 use Rattle.ftp_numbers.specs.Used.{has, HasSpare}
@@ -20,6 +21,7 @@ use Rattle.ftp_events.specs.declared.session.Pending.{Pending}
 use Rattle.ftp_events.specs.declared.session.Session.{Session}
 use Rattle.ftp_events.specs.Log.{past_of, is_used, named_session}
 use Rattle.ftp_events.specs.Board.{holder}
+use Rattle.ftp_events.specs.Lockout.{failures}
 use Rattle.ftp_events.specs.Session.{session, running_job, live_count}
 use Rattle.ftp_events.specs.Leads.{job_of_ticket}
 use Rattle.ftp_events.specs.Running.{running_count}
@@ -29,7 +31,7 @@ use Rattle.ftp_events.specs.Right.{IsRight, IsActed}
 use Rattle.ftp_events.specs.Words.{◌⇒◌∣◌}
 use Rattle.ftp_hub.specs.declared.hub.Hub.{Hub}
 use Rattle.ftp_handlers.specs.Rooms.{CanReply, CanTellDropped, HasCopy, IsReady, RoomState, kept_in, need_for, need_in}
-use Rattle.ftp_handlers.specs.Handlers.{asked_for, can_drop, can_reply, is_pasv, kept_alone, kept_by, places_for}
+use Rattle.ftp_handlers.specs.Handlers.{CanCount, asked_for, can_drop, can_reply, failures_in, is_auth, is_pasv, is_port, kept_alone, kept_by, places_for, width_for}
 use Rattle.ftp_hub.specs.Arrivals.{brings_number, may_open, may_start}
 
 -- the options that a hub was made from
@@ -47,7 +49,9 @@ pub record Tables (hub : Hub) (past : List Entry) : Type 0 where
   pub jobs : (s : ℕ) → map.get nat_eq hub.jobs s ≡ running_job hub.options past s
   pub running : map.hash_map_len hub.jobs ≡ running_count past
   pub numbers : (n : ℕ) → has hub.numbers n ≡ is_used past n
+  -- where each session has a listener of its own nobody holds a port
   pub holders : (a p : ℕ) → holder_at hub.board a p ≡ holder hub.options past (V4 a) p
+  pub failures : (key : LoginKey) → failures_in hub.failures key ≡ failures hub.options past key
 
 -- the log is right and acted, the tables answer as it does, and its entries were counted
 pub record Stands (hub : Hub) (log : List Entry) : Type 0 where
@@ -80,6 +84,7 @@ pub record SameTables (old new : Hub) : Type 0 where
   pub running : map.hash_map_len new.jobs ≡ map.hash_map_len old.jobs
   pub numbers : (n : ℕ) → has new.numbers n ≡ has old.numbers n
   pub holders : (a p : ℕ) → holder_at new.board a p ≡ holder_at old.board a p
+  pub failures : (key : LoginKey) → failures_in new.failures key ≡ failures_in old.failures key
 
 -- the hub answers every question as before
 pub record SameAnswers (old new : Hub) : Type 0 where
@@ -113,9 +118,14 @@ abbrev pub path_for : Hub → EventKind → List ℕ
 path_for hub (kind.End ticket) = option_map_or (λ r. r.job.path) (map.get nat_eq hub.jobs ticket.session) []
 path_for hub _ = []
 
--- the client of the session that an event names
-abbrev pub client_for : Hub → EventKind → ℕ
-client_for hub k = option_map_or (λ v. ipv4 v.opening.client) (named_in hub k) 0
+-- the address of version 4 that the client of the session has which an event names
+abbrev pub client_for : Hub → EventKind → Option ℕ
+client_for hub k = option_and_then (λ v. ipv4 v.opening.client) (named_in hub k)
+
+-- the number of the connection that was made for a PORT was used
+abbrev pub used_for : Hub → EventKind → Bool
+used_for hub (kind.Port s text number) = option_map_or (has hub.numbers) number false
+used_for hub _ = false
 
 -- the room is of this event and this count, holds what the event needs, and fits this hub
 pub record Fits (room : RoomState) (hub : Hub) (event : HubEvent) : Type 0 where
@@ -123,7 +133,7 @@ pub record Fits (room : RoomState) (hub : Hub) (event : HubEvent) : Type 0 where
   pub counted : room.count ≡ hub.count
   pub ready : IsReady room
   pub places : places_for event.kind ≤ room.places
-  pub letters : IsTrue (can_reply event.kind) → CanReply room
+  pub letters : IsTrue (can_reply event.kind) → CanReply (width_for hub.options event.kind) room
   pub dropped : IsTrue (can_drop event.kind) → CanTellDropped room
   pub kept : kept_in room ≡ kept_for hub event.kind
   pub path : HasCopy room (path_for hub event.kind)
@@ -132,4 +142,6 @@ pub record Fits (room : RoomState) (hub : Hub) (event : HubEvent) : Type 0 where
   pub sessions : IsTrue (may_open event.kind) → 0 < map.spare hub.sessions
   pub jobs : IsTrue (may_start event.kind) → 0 < map.spare hub.jobs
   pub numbers : IsTrue (brings_number event.kind) → HasSpare hub.numbers
-  pub board : IsTrue (is_pasv event.kind) → HasRoom hub.board (client_for hub event.kind)
+  pub used : IsTrue (is_port event.kind) → room.used ≡ used_for hub event.kind
+  pub failures : IsTrue (is_auth event.kind) → CanCount hub.failures hub.options
+  pub board : IsTrue (is_pasv event.kind) → is_legacy hub.options.mode ≡ false → IfSome (client_for hub event.kind) (HasRoom hub.board)

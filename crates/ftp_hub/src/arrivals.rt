@@ -1,12 +1,12 @@
 //! Connections that come: control connections open sessions, data connections go to the session that
 //! holds their port. Behind a proxy the header tells which it is.
 
-ghost use Rattle.std.specs.Prelude.{◌≡◌, ◌<◌, List, ◌||◌, IsTrue, is_some, false, Ok};
+ghost use Rattle.std.specs.Prelude.{◌≡◌, ◌<◌, List, ◌||◌, ◌&&◌, IsTrue, is_some, false, Ok};
 ghost use Rattle.std.specs.HashMap as map;
 ghost use Rattle.ftp_base.specs.Net.{is_v6};
 ghost use Rattle.ftp_base.specs.Storage.{root};
 ghost use Rattle.ftp_numbers.specs.Used.{HasSpare, has};
-ghost use Rattle.ftp_options.specs.Modes.{is_proxy};
+ghost use Rattle.ftp_options.specs.Modes.{is_pooled, is_proxy};
 ghost use Rattle.ftp_events.specs.declared.entry.Entry.{Entry};
 ghost use Rattle.ftp_events.specs.declared.event.Answer.TheVariants.{Header};
 ghost use Rattle.ftp_events.specs.Session.{new_session};
@@ -164,11 +164,12 @@ impl Hub {
         self.bring(room, event, answer, arrival)
     }
 
-    // A control connection that sessions which share the ports cannot use.
+    // A control connection beside the proxy, or one of version 6 where sessions share the ports.
     fn is_misplaced(&self, raw: SocketAddr, local: SocketAddr) -> bool
-        ensures { result ≡ (is_proxy self.now.options.mode || (is_v6 raw.ip || is_v6 local.ip)) }
+        ensures { result ≡ (is_proxy self.now.options.mode || (is_pooled self.now.options.mode && (is_v6 raw.ip || is_v6 local.ip))) }
     {
-        self.options.mode.is_proxy() || raw.ip.is_v6() || local.ip.is_v6()
+        let mode = self.options.mode;
+        mode.is_proxy() || (mode.is_pooled() && (raw.ip.is_v6() || local.ip.is_v6()))
     }
 
     // Opens a session under a number that was not used.
@@ -212,6 +213,7 @@ fn new_session(opening: Opening, cwd: Bytes) -> Session
         cwd,
         offset: 0,
         slot: Slot::Empty,
+        slot_at: 0,
         pending: None,
         tickets: 0,
         notices: 0,

@@ -1,7 +1,8 @@
-//! Data connections: each goes to the session that holds its port for its client.
+//! Data connections: each goes to the session that holds its port for its client, or whose own listener it came to.
 
-ghost use Rattle.std.specs.Prelude.{◌≡◌, ◌<◌, List, false, Some, nat_eq};
+ghost use Rattle.std.specs.Prelude.{◌≡◌, ◌<◌, ◌&&◌, ℕ, List, IsTrue, false, Some, nat_eq};
 ghost use Rattle.std.specs.HashMap as map;
+ghost use Rattle.ftp_base.specs.declared.net.SocketAddr.{SocketAddr};
 ghost use Rattle.ftp_base.specs.Net.{same_ip};
 ghost use Rattle.ftp_numbers.specs.Used.{HasSpare, has};
 ghost use Rattle.ftp_options.specs.declared.options.Options.{Options};
@@ -10,9 +11,9 @@ ghost use Rattle.ftp_events.specs.declared.event.Answer.{Answer};
 ghost use Rattle.ftp_events.specs.declared.event.EventKind.TheVariants.{DataIn};
 ghost use Rattle.ftp_events.specs.Modes.{in_range};
 ghost use Rattle.ftp_events.specs.Session.{session_after};
-ghost use Rattle.ftp_events.specs.Slot.{with_link};
+ghost use Rattle.ftp_events.specs.Slot.{is_waiting, with_link};
 ghost use Rattle.ftp_events.specs.Acts.{session_acts, starting};
-ghost use Rattle.ftp_hub.specs.Arrivals.{IsDataLink, arrival_of};
+ghost use Rattle.ftp_hub.specs.Arrivals.{IsDataLink, arrival_of, is_accepted};
 ghost use Rattle.ftp_handlers.specs.Handlers.{Starts};
 ghost use Rattle.ftp_handlers.specs.Rooms.{CanTellDropped, IsReady, actions_in, twice_in};
 ghost use Rattle.ftp_hub.specs.Stands.{Stands, Serves, SameHead};
@@ -20,7 +21,7 @@ ghost use Rattle.ftp_hub.specs.Stands.{Stands, Serves, SameHead};
 use crate::hub::Hub;
 use crate::jobs::start;
 use ftp_base::SocketAddr;
-use ftp_events::{Answer, Decision, HubEvent, Running, Session, Slot};
+use ftp_events::{Answer, Decision, EventKind, HubEvent, Running, Session, Slot};
 use ftp_handlers::Room;
 use ftp_options::Options;
 use ftp_switchboard::SwitchboardKey;
@@ -70,8 +71,61 @@ impl Hub {
                 room.close(arrival.number);
                 Decision::Turned
             }
-            Some(session) => arrival.come(in_range, holder, session, &mut self.jobs, room),
+            Some(session) => {
+                let welcome = is_welcome(in_range, session, arrival.raw);
+                let number = arrival.number;
+                come(
+                    number,
+                    welcome,
+                    event.at,
+                    holder,
+                    session,
+                    &mut self.jobs,
+                    room,
+                )
+            }
         }
+    }
+
+    // Brings a data connection to the session whose own listener it came to, or turns it away.
+    pub(crate) fn accepted(&mut self, room: &mut Room, event: &HubEvent, answer: Answer) -> Decision
+        requires of_this_event { IsTrue (is_accepted event.now.kind) }
+        requires ready { IsReady room.old }
+        requires dropped { CanTellDropped room.old }
+        requires numbers { HasSpare self.old.numbers }
+        requires jobs { 0 < map.spare self.old.jobs }
+        ensures serves { (log : List Entry) → Stands self.old log → Serves self.old self.new log event.now answer result (actions_in room.new) }
+        ensures head { SameHead self.old self.new }
+        ensures twice { twice_in room.new ≡ twice_in room.old }
+    {
+        let EventKind::Accepted {
+            session: owner,
+            number,
+            raw,
+        } = &event.kind
+        else {
+            unreachable!()
+        };
+        let Some(session) = self.sessions.get_mut(owner) else {
+            return Decision::UnknownNumber;
+        };
+        if !self.options.mode.is_legacy() {
+            return Decision::Misplaced;
+        }
+        if self.numbers.has(*number) {
+            return Decision::UsedNumber;
+        }
+        self.numbers.put(*number);
+        let welcome = is_welcome(is_waiting(session.slot), session, *raw);
+        come(
+            *number,
+            welcome,
+            event.at,
+            *owner,
+            session,
+            &mut self.jobs,
+            room,
+        )
     }
 }
 
@@ -82,38 +136,52 @@ fn in_range(options: &Options, port: u16) -> bool
     options.lo <= port && port <= options.hi
 }
 
-impl Arrival {
-    // Goes to the session where the port is in the range and the peers have one address, or else closes and drops the
-    // slot. What is done and changed is the same behind a proxy and without one.
-    fn come(
-        self,
-        in_range: bool,
-        holder: u64,
-        session: &mut Session,
-        jobs: &mut HashMap<u64, Running>,
-        room: &mut Room,
-    ) -> Decision
-        requires ready { IsReady room.old }
-        requires dropped { CanTellDropped room.old }
-        requires spare { 0 < map.spare jobs.old }
-        ensures decision { result ≡ arrival_of in_range (same_ip session.old.opening.raw.ip self.raw.ip) holder }
-        ensures session { (answer : Answer) → session.new ≡ session_after (DataIn self.number self.raw self.port) answer result 0 (map.get nat_eq jobs.old holder) session.old }
-        ensures actions { (o : Options) (answer : Answer) → actions_in room.new ≡ session_acts o holder (DataIn self.number self.raw self.port) answer result (map.get nat_eq jobs.old holder) (Some session.old) }
-        ensures starts { Starts jobs.old jobs.new holder (starting (DataIn self.number self.raw self.port) result (map.get nat_eq jobs.old holder) session.old) }
-        ensures twice { twice_in room.new ≡ twice_in room.old }
-    {
-        if in_range && session.opening.raw.ip.is_same(self.raw.ip) {
-            session.slot = with_link(session.slot, self.number);
-            start(session, holder, jobs, room);
-            return Decision::Attached { session: holder };
-        }
-        if let Slot::Waits { port: _ } = session.slot {
-            room.cancel_and_tell(holder, mem::replace(&mut session.pending, None));
-            session.slot = Slot::Empty;
-        }
-        room.close(self.number);
-        Decision::Turned
+// Says whether a connection of this peer is welcome to the session: it is awaited, and both came from one address.
+fn is_welcome(awaited: bool, session: &Session, raw: SocketAddr) -> bool
+    ensures { result ≡ (awaited && same_ip session.now.opening.raw.ip raw.ip) }
+{
+    awaited && session.opening.raw.ip.is_same(raw.ip)
+}
+
+// Says whether the slot waits for a connection.
+fn is_waiting(slot: Slot) -> bool
+    ensures { result ≡ is_waiting slot }
+{
+    matches!(slot, Slot::Waits { .. })
+}
+
+// The connection goes to the session where it is welcome there; or else it is closed, and a slot that waits is dropped.
+// What is done and changed is the same whichever way it came.
+fn come(
+    number: u64,
+    welcome: bool,
+    at: u64,
+    holder: u64,
+    session: &mut Session,
+    jobs: &mut HashMap<u64, Running>,
+    room: &mut Room,
+) -> Decision
+    requires ready { IsReady room.old }
+    requires dropped { CanTellDropped room.old }
+    requires spare { 0 < map.spare jobs.old }
+    ensures decision { result ≡ arrival_of welcome holder }
+    ensures session { (raw : SocketAddr) (port : ℕ) (answer : Answer) → session.new ≡ session_after at (DataIn number raw port) answer result 0 (map.get nat_eq jobs.old holder) session.old }
+    ensures actions { (o : Options) (raw : SocketAddr) (port : ℕ) (answer : Answer) → actions_in room.new ≡ session_acts o holder (DataIn number raw port) answer result (map.get nat_eq jobs.old holder) (Some session.old) }
+    ensures starts { (raw : SocketAddr) (port : ℕ) → Starts jobs.old jobs.new holder (starting (DataIn number raw port) result (map.get nat_eq jobs.old holder) session.old) }
+    ensures twice { twice_in room.new ≡ twice_in room.old }
+{
+    if welcome {
+        session.slot = with_link(session.slot, number);
+        session.slot_at = at;
+        start(session, holder, jobs, room);
+        return Decision::Attached { session: holder };
     }
+    if is_waiting(session.slot) {
+        room.cancel_and_tell(holder, mem::replace(&mut session.pending, None));
+        session.slot = Slot::Empty;
+    }
+    room.close(number);
+    Decision::Turned
 }
 
 // A link comes for a slot that waits.

@@ -1,16 +1,20 @@
 //! The tables of the hub, and what can be asked of them.
 
-ghost use Rattle.std.specs.Prelude.{◌≡◌, false};
+ghost use Rattle.std.specs.Prelude.{◌≡◌, None, false};
 ghost use Rattle.ftp_options.specs.Modes.{is_legacy};
+ghost use Rattle.ftp_lockout.specs.declared.key.LoginKey.{LoginKey};
+ghost use Rattle.ftp_handlers.specs.Handlers.{failures_in, policy_in};
 
 use ftp_events::{Running, Session};
+use ftp_lockout::FailedLoginsCache;
 use ftp_numbers::Numbers;
-use ftp_options::Options;
+use ftp_options::{FailedLoginsPolicy, Options};
 use ftp_switchboard::Switchboard;
 use std::alloc::Global;
 use std::collections::HashMap;
 
-/// The sessions that are live, the jobs that run, the numbers that were used, and the passive ports that are held.
+/// The sessions that are live, the jobs that run, the numbers that were used, the passive ports that are held, and the
+/// failed logins.
 #[derive(Drop)]
 pub struct Hub {
     pub(crate) alloc: Global,
@@ -19,28 +23,29 @@ pub struct Hub {
     // The job that runs for a session, which may have ended.
     pub(crate) jobs: HashMap<u64, Running>,
     pub(crate) numbers: Numbers,
+    // Where each session has a listener of its own, nobody holds a port here, and the range is of no use.
     pub(crate) board: Switchboard,
+    // There is a table where failed logins lock at all.
+    pub(crate) failures: Option<FailedLoginsCache>,
     // The count of events that the hub was made with.
     pub(crate) start: u64,
     pub(crate) count: u64,
-    ghost shared: { is_legacy options.mode ≡ false },
-    ghost lo: { board.lo ≡ options.lo },
-    ghost hi: { board.hi ≡ options.hi },
+    ghost lo: { is_legacy options.mode ≡ false → board.lo ≡ options.lo },
+    ghost hi: { is_legacy options.mode ≡ false → board.hi ≡ options.hi },
+    ghost policy: { policy_in failures ≡ options.lockout },
 }
 
 impl Hub {
-    ghost use Rattle.std.specs.Prelude.{◌≡◌, ◌==◌, ◌&&◌, not, [], List, is_some, IsTrue};
+    ghost use Rattle.std.specs.Prelude.{◌≡◌, ◌==◌, ◌&&◌, [], List, is_some};
     ghost use Rattle.ftp_options.specs.declared.options.Options.{Options};
-    ghost use Rattle.ftp_options.specs.Modes.{is_legacy};
     ghost use Rattle.ftp_events.specs.declared.entry.Entry.{Entry};
     ghost use Rattle.ftp_events.specs.Log.{past_of};
     ghost use Rattle.ftp_events.specs.Session.{session, live_count};
     ghost use Rattle.ftp_events.specs.Running.{running_count};
     ghost use Rattle.ftp_hub.specs.Stands.{Stands, options_of, count_of};
 
-    /// A hub to which nothing has happened. So far sessions have to share the passive ports.
+    /// A hub to which nothing has happened.
     pub fn new(alloc: Global, options: Options) -> Hub
-        requires { IsTrue (not (is_legacy options.mode)) }
         ensures stands { Stands result [] }
         ensures options { options_of result ≡ options }
         ensures count { count_of result ≡ 0 }
@@ -50,12 +55,12 @@ impl Hub {
 
     /// A hub that has counted so many events, to try what happens at the end of the count.
     pub fn with_count(alloc: Global, options: Options, count: u64) -> Hub
-        requires { IsTrue (not (is_legacy options.mode)) }
         ensures stands { Stands result [] }
         ensures options { options_of result ≡ options }
         ensures count { count_of result ≡ count }
     {
-        let board = Switchboard::new(alloc, options.lo, options.hi);
+        let board = Switchboard::new(alloc, options.lo.max(1), options.hi.max(1));
+        let failures = no_failures(alloc, options.lockout);
         Hub {
             alloc,
             options,
@@ -63,6 +68,7 @@ impl Hub {
             jobs: HashMap::new(alloc),
             numbers: Numbers::new(alloc),
             board,
+            failures,
             start: count,
             count,
         }
@@ -108,5 +114,16 @@ impl Hub {
         ensures { (log : List Entry) → Stands self.now log → result ≡ is_some (session (options_of self.now) (past_of log) number) }
     {
         self.sessions.contains_key(&number)
+    }
+}
+
+// The table of failed logins, of which there is none yet, where they lock at all.
+fn no_failures(alloc: Global, policy: Option<FailedLoginsPolicy>) -> Option<FailedLoginsCache>
+    ensures policy { policy_in result ≡ policy }
+    ensures none { (key : LoginKey) → failures_in result key ≡ None }
+{
+    match policy {
+        Some(policy) => Some(FailedLoginsCache::new(alloc, policy)),
+        None => None,
     }
 }

@@ -1,6 +1,6 @@
 //! Transfers of a live session: how they are queued, how they start, and how they end.
 
-ghost use Rattle.std.specs.Prelude.{◌≡◌, ◌+◌, ◌<◌, ◌^◌, ◌++◌, IsTrue, None, Some, nat_eq};
+ghost use Rattle.std.specs.Prelude.{◌≡◌, ◌+◌, ◌<◌, ◌^◌, ◌++◌, ℕ, IsTrue, None, Some, nat_eq};
 ghost use Rattle.std.specs.HashMap as map;
 ghost use Rattle.ftp_events.specs.declared.event.Answer.{Answer};
 ghost use Rattle.ftp_events.specs.declared.event.Answer.TheVariants.{Done};
@@ -65,12 +65,12 @@ pub(crate) fn queue(
     requires of_this_event { IsTrue (is_transfer event.now.kind) }
     requires named { named_session event.now.kind ≡ Some number }
     requires room { IsReady room.old }
-    requires letters { CanReply room.old }
+    requires letters { CanReply 64 room.old }
     requires kept { kept_in room.old ≡ kept_by event.now.kind session.old }
     requires pending { room.old.pending ≡ asked_for event.now.kind session.old }
     requires spare { 0 < map.spare jobs.old }
     ensures decision { IsFew session.old → result ≡ if_logged_in session.old (transfer_row number session.old) }
-    ensures session { IsFew session.old → (answer : Answer) → session.new ≡ session_after event.now.kind answer result 0 (map.get nat_eq jobs.old number) session.old }
+    ensures session { IsFew session.old → (answer : Answer) → session.new ≡ session_after event.now.at event.now.kind answer result 0 (map.get nat_eq jobs.old number) session.old }
     ensures actions { IsFew session.old → (answer : Answer) → actions_in room.new ≡ session_acts options.now number event.now.kind answer result (map.get nat_eq jobs.old number) (Some session.old) }
     ensures starts { IsFew session.old → Starts jobs.old jobs.new number (starting event.now.kind result (map.get nat_eq jobs.old number) session.old) }
     ensures board { board.new ≡ board.old }
@@ -93,12 +93,12 @@ pub(crate) fn finish(
     options: &Options,
 )
     requires room { IsReady room.old }
-    requires letters { CanReply room.old }
+    requires letters { CanReply 64 room.old }
     requires kept { kept_in room.old ≡ logged_user session.old.login session.old.name }
     requires path { HasCopy room.old job.job.path }
     requires spare { 0 < map.spare jobs.old }
     requires ended { map.get nat_eq jobs.old job.job.ticket.session ≡ None }
-    ensures session { session.old.notices + 1 < 2 ^ 64 → session.new ≡ session_after (End job.job.ticket) (Done outcome) Finished (notices_of Finished (Done outcome)) (Some job) session.old }
+    ensures session { session.old.notices + 1 < 2 ^ 64 → (at : ℕ) → session.new ≡ session_after at (End job.job.ticket) (Done outcome) Finished (notices_of Finished (Done outcome)) (Some job) session.old }
     ensures actions { session.old.notices + 1 < 2 ^ 64 → actions_in room.new ≡ session_acts options.now job.job.ticket.session (End job.job.ticket) (Done outcome) Finished (Some job) (Some session.old) }
     ensures starts { Starts jobs.old jobs.new job.job.ticket.session (starting (End job.job.ticket) Finished (Some job) session.old) }
     ensures twice { twice_in room.new ≡ twice_in room.old }

@@ -1,16 +1,16 @@
 //! All memory that a step can need, taken before it.
 
-ghost use Rattle.std.specs.Prelude.{◌≡◌, ◌-◌, ◌^◌, ◌<◌, ◌≤◌, ◌↔◌, is_some, IfErr, IfOk, OnOk, IsErrOf, IsTrue};
+ghost use Rattle.std.specs.Prelude.{◌≡◌, ◌-◌, ◌^◌, ◌<◌, ◌≤◌, ◌↔◌, false, nat_eq, is_some, IfErr, IfOk, IfSome, OnOk, IsErrOf, IsTrue};
 ghost use Rattle.std.specs.Option.{option_copied};
 ghost use Rattle.std.specs.HashMap as map;
-ghost use Rattle.ftp_base.specs.Net.{ipv4};
 ghost use Rattle.ftp_numbers.specs.Used.{HasSpare};
+ghost use Rattle.ftp_options.specs.Modes.{is_legacy};
 ghost use Rattle.ftp_switchboard.specs.Board.{HasRoom};
 ghost use Rattle.ftp_events.specs.Leads.{job_of_ticket};
-ghost use Rattle.ftp_handlers.specs.Handlers.{can_drop, can_reply, is_pasv, places_for};
+ghost use Rattle.ftp_handlers.specs.Handlers.{CanCount, can_drop, can_reply, is_auth, is_pasv, is_port, places_for, width_for};
 ghost use Rattle.ftp_handlers.specs.Rooms.{CanReply, CanTellDropped, HasCopy, IsReady, job_in, kept_in, need_for, need_in, twice_in};
 ghost use Rattle.ftp_hub.specs.Arrivals.{brings_number, may_open, may_start};
-ghost use Rattle.ftp_hub.specs.Stands.{Fits, SameAnswers, count_of, named_in, kept_for, pending_for, header_for, job_for, client_for, path_for};
+ghost use Rattle.ftp_hub.specs.Stands.{Fits, SameAnswers, count_of, named_in, kept_for, pending_for, header_for, job_for, client_for, path_for, used_for};
 
 use crate::hub::Hub;
 use ftp_base::Bytes;
@@ -85,7 +85,8 @@ impl Hub {
         ensures sessions { OnOk result (IsTrue (may_open kind.now) → 0 < map.spare self.new.sessions) }
         ensures jobs { OnOk result (IsTrue (may_start kind.now) → 0 < map.spare self.new.jobs) }
         ensures numbers { OnOk result (IsTrue (brings_number kind.now) → HasSpare self.new.numbers) }
-        ensures board { OnOk result (IsTrue (is_pasv kind.now) → HasRoom self.new.board (client_for self.old kind.now)) }
+        ensures failures { OnOk result (IsTrue (is_auth kind.now) → CanCount self.new.failures self.new.options) }
+        ensures board { OnOk result (IsTrue (is_pasv kind.now) → is_legacy self.old.options.mode ≡ false → IfSome (client_for self.old kind.now) (HasRoom self.new.board)) }
         ensures same { SameAnswers self.old self.new }
     {
         match kind {
@@ -98,24 +99,30 @@ impl Hub {
                 self.jobs.reserve(1)?;
                 self.numbers.make_room()
             }
-            EventKind::DataIn { .. } => {
+            EventKind::DataIn { .. } | EventKind::Accepted { .. } => {
                 self.jobs.reserve(1)?;
                 self.numbers.make_room()
             }
             EventKind::Transfer { .. } | EventKind::Stou { .. } | EventKind::End { .. } => {
                 self.jobs.reserve(1)
             }
-            EventKind::Pasv { .. } => {
-                let client = self.client_of(kind);
-                self.board.reserve_room(client)
-            }
+            EventKind::Pasv { .. } => match self.client_of(kind) {
+                Some(client) if !self.options.mode.is_legacy() => self.board.reserve_room(client),
+                _ => Ok(()),
+            },
+            EventKind::Port { .. } => self.numbers.make_room(),
+            EventKind::AuthDone { .. } => match &mut self.failures {
+                Some(failures) => failures.room(),
+                None => Ok(()),
+            },
             EventKind::User { .. }
             | EventKind::Pass { .. }
-            | EventKind::AuthDone { .. }
             | EventKind::Rest { .. }
             | EventKind::Cwd { .. }
             | EventKind::Closed { .. }
-            | EventKind::Quit { .. } => Ok(()),
+            | EventKind::Quit { .. }
+            | EventKind::SlotTick { .. }
+            | EventKind::Sweep => Ok(()),
         }
     }
 
@@ -126,27 +133,25 @@ impl Hub {
         self.sessions.get(&kind.named_session()?)
     }
 
-    // The client of the session that an event names.
-    fn client_of(&self, kind: &EventKind) -> u32
+    // The address of version 4 that the client of the session has which an event names.
+    fn client_of(&self, kind: &EventKind) -> Option<u32>
         ensures { result ≡ client_for self.now kind.now }
     {
-        match self.named(kind) {
-            Some(session) => session.opening.client.ipv4(),
-            None => 0,
-        }
+        self.named(kind)?.opening.client.ipv4()
     }
 
     // Memory for the texts and the actions of an event, and what it keeps, asks for or runs.
     fn take_room(&self, kind: &EventKind, twice: bool) -> Result<Room, PrepareError>
         ensures ready { IfOk result IsReady }
         ensures places { IfOk result (λ room. places_for kind.now ≤ room.places) }
-        ensures letters { IfOk result (λ room. IsTrue (can_reply kind.now) → CanReply room) }
+        ensures letters { IfOk result (λ room. IsTrue (can_reply kind.now) → CanReply (width_for self.now.options kind.now) room) }
         ensures dropped { IfOk result (λ room. IsTrue (can_drop kind.now) → CanTellDropped room) }
         ensures kept { IfOk result (λ room. kept_in room ≡ kept_for self.now kind.now) }
         ensures pending { IfOk result (λ room. room.pending ≡ pending_for self.now kind.now) }
         ensures job { IfOk result (λ room. job_in room ≡ job_for self.now kind.now) }
         ensures need { IfOk result (λ room. need_in room ≡ need_for (is_some (header_for self.now kind.now)) (job_for self.now kind.now)) }
         ensures counted { IfOk result (λ room. room.count ≡ self.now.count) }
+        ensures used { IfOk result (λ room. IsTrue (is_port kind.now) → room.used ≡ used_for self.now kind.now) }
         ensures full { IfErr result (λ error. error ≡ PrepareError.OutOfMemory) }
         ensures path { IfOk result (λ room. HasCopy room (path_for self.now kind.now)) }
         ensures twice { IfOk result (λ room. twice_in room ≡ twice) }
@@ -160,8 +165,10 @@ impl Hub {
             pending,
             header: self.needs_header(kind),
             job: self.copy_job(kind)?,
+            used: self.is_used(kind),
         };
-        Ok(Room::new(self.alloc, self.count, prepared, Extent::of(kind, twice))?)
+        let extent = Extent::of(kind, &self.options, twice);
+        Ok(Room::new(self.alloc, self.count, prepared, extent)?)
     }
 
     // The name or the path that an event keeps or tells.
@@ -217,6 +224,19 @@ impl Hub {
             EventKind::Proxied { number, raw, .. } => {
                 self.options.mode.is_proxy() && !raw.ip.is_v6() && !self.numbers.has(*number)
             }
+            _ => false,
+        }
+    }
+
+    // Says whether the number of the connection that was made for a PORT was used.
+    fn is_used(&self, kind: &EventKind) -> bool
+        ensures { result ≡ used_for self.now kind.now }
+    {
+        match kind {
+            EventKind::Port {
+                number: Some(number),
+                ..
+            } => self.numbers.has(*number),
             _ => false,
         }
     }

@@ -1,22 +1,26 @@
 //! One event: what is decided, how the tables change, and what is done.
 
-ghost use Rattle.std.specs.Prelude.{◌≡◌, ◌+◌, ◌-◌, ◌∷◌, List, IsTrue, true, Some, IsSomeAnd, nat_eq};
+ghost use Rattle.std.specs.Prelude.{◌≡◌, ◌+◌, ◌-◌, ◌<◌, ◌^◌, ◌∷◌, ◌||◌, ℕ, List, IsTrue, true, Some, IsSomeAnd, nat_eq};
 ghost use Rattle.ftp_transfer.specs.Transfer.{suits};
 ghost use Rattle.ftp_events.specs.declared.event.Answer.TheVariants.{Done};
-ghost use Rattle.ftp_events.specs.declared.event.EventKind.TheVariants.{End};
+ghost use Rattle.ftp_events.specs.declared.event.EventKind.TheVariants.{End, Sweep};
 ghost use Rattle.std.specs.HashMap as map;
+ghost use Rattle.ftp_switchboard.specs.Board.{HasRoom};
+ghost use Rattle.ftp_numbers.specs.Used.{HasSpare, has};
 ghost use Rattle.ftp_events.specs.declared.entry.Entry.{Entry};
-ghost use Rattle.ftp_events.specs.Log.{is_refusal, named_session};
+ghost use Rattle.ftp_events.specs.Log.{is_refusal, named_session, new_number};
 ghost use Rattle.ftp_events.specs.Right.{next_entry};
-ghost use Rattle.ftp_handlers.specs.Handlers.{ends_session, is_command, is_transfer};
-ghost use Rattle.ftp_handlers.specs.Rooms.{actions_in, twice_in};
-ghost use Rattle.ftp_hub.specs.Stands.{Stands, Serves, SameHead, SameTables, Fits, entry, options_of, count_of};
+ghost use Rattle.ftp_events.specs.Words.{is_number};
+ghost use Rattle.ftp_handlers.specs.Handlers.{ends_session, is_command, is_port, is_transfer};
+ghost use Rattle.ftp_handlers.specs.Rooms.{IsReady, actions_in, kept_in, twice_in};
+ghost use Rattle.ftp_hub.specs.Stands.{Stands, Serves, SameHead, SameTables, Fits, entry, options_of, count_of, kept_for, client_for};
 
 use crate::hub::Hub;
 use crate::jobs::{finish, queue};
 use crate::tables::take;
 use ftp_events::{Answer, Decision, Entry, EventKind, HubEvent};
 use ftp_handlers::{Room, command, ending};
+use ftp_numbers::Numbers;
 use ftp_transfer::{Outcome, Ticket};
 
 impl Hub {
@@ -67,12 +71,15 @@ impl Hub {
             EventKind::Connect { .. } => self.connect(room, event, answer),
             EventKind::Proxied { .. } => self.proxied(room, event, answer),
             EventKind::DataIn { .. } => self.data_in(room, event, answer),
+            EventKind::Accepted { .. } => self.accepted(room, event, answer),
             EventKind::User { session, .. }
             | EventKind::Pass { session }
             | EventKind::AuthDone { session, .. }
             | EventKind::Pasv { session, .. }
+            | EventKind::Port { session, .. }
             | EventKind::Rest { session, .. }
-            | EventKind::Cwd { session, .. } => self.command(room, event, answer, *session),
+            | EventKind::Cwd { session, .. }
+            | EventKind::SlotTick { session } => self.command(room, event, answer, *session),
             EventKind::Transfer { session, .. } | EventKind::Stou { session, .. } => {
                 self.transfer(room, event, answer, *session)
             }
@@ -80,7 +87,22 @@ impl Hub {
             EventKind::Closed { session } | EventKind::Quit { session } => self.close(
                 room, event, answer, *session,
             ),
+            EventKind::Sweep => self.sweep(room, event, answer),
         }
+    }
+
+    // Failed logins that are too old are forgotten.
+    fn sweep(&mut self, room: &mut Room, event: &HubEvent, answer: Answer) -> Decision
+        requires fits { Fits room.old self.old event.now }
+        requires of_this_event { event.now.kind ≡ Sweep }
+        ensures serves { (log : List Entry) → Stands self.old log → Serves self.old self.new log event.now answer result (actions_in room.new) }
+        ensures head { SameHead self.old self.new }
+        ensures twice { twice_in room.new ≡ twice_in room.old }
+    {
+        if let Some(failures) = &mut self.failures {
+            failures.sweep(event.at);
+        }
+        Decision::Swept
     }
 
     // A command of a session that goes on.
@@ -100,14 +122,19 @@ impl Hub {
     {
         match self.sessions.get_mut(&number) {
             None => Decision::UnknownNumber,
-            Some(session) => command(
-                session,
-                &event.kind,
-                &mut self.board,
-                room,
-                event.at,
-                &self.options,
-            ),
+            Some(session) => {
+                let decision = command(
+                    session,
+                    &event.kind,
+                    &mut self.board,
+                    &mut self.failures,
+                    room,
+                    event.at,
+                    &self.options,
+                );
+                use_number(&mut self.numbers, &event.kind, decision);
+                decision
+            }
         }
     }
 
@@ -209,5 +236,23 @@ impl Hub {
             Some(session) => finish(session, job, outcome, &mut self.jobs, room, &self.options),
         }
         Decision::Finished
+    }
+}
+
+// A number that comes with a command is used from now on, where the decision takes it: that of a PORT.
+fn use_number(numbers: &mut Numbers, kind: &EventKind, decision: Decision)
+    requires of_this_event { IsTrue (is_command kind.now) }
+    requires room { IsTrue (is_port kind.now) → HasSpare numbers.old }
+    ensures { (n : ℕ) → has numbers.new n ≡ (is_number (new_number kind.now decision) n || has numbers.old n) }
+{
+    if let (
+        EventKind::Port {
+            number: Some(number),
+            ..
+        },
+        Decision::PortOk,
+    ) = (kind, decision)
+    {
+        numbers.put(*number);
     }
 }

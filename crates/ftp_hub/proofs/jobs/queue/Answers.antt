@@ -12,7 +12,7 @@ use Rattle.ftp_hub.proofs.jobs.queue.Goals as goal
 
 -- nothing is queued: the session is told, and otherwise it is as it was
 record Refuses (d : Decision) : Type 0 where
-  session : (k : EventKind) (answer : Answer) (job : Option Running) (v : Session) → with_queued k d v ≡ session_after k answer d 0 job v
+  session : (at : ℕ) (k : EventKind) (answer : Answer) (job : Option Running) (v : Session) → with_queued k d v ≡ session_after at k answer d 0 job v
   acts : (o : Options) (s : ℕ) (k : EventKind) (answer : Answer) (job : Option Running) (v : Session) → notice_and_reply o s k answer d job v ≡ session_acts o s k answer d job (Some v)
   starts : (k : EventKind) (job : Option Running) (v : Session) → starting k d job v ≡ None
 
@@ -21,10 +21,10 @@ no-notice : (k : EventKind) (d : Decision) (v : Session) → with_queued k d v �
 no-notice k d v = λ i. record (with_queued k d v) { notices = sym (add-zero v.notices) i }
 
 refuses-login : Refuses decision.NotLoggedIn
-refuses-login = record { session = λ k answer job v. no-notice k decision.NotLoggedIn v; acts = λ o s k answer job v. rw (no-completion decision.NotLoggedIn k true refl) refl; starts = λ k job v. refl }
+refuses-login = record { session = λ at k answer job v. no-notice k decision.NotLoggedIn v; acts = λ o s k answer job v. rw (no-completion decision.NotLoggedIn k true refl) refl; starts = λ k job v. refl }
 
 refuses-slot : Refuses decision.NoSlot
-refuses-slot = record { session = λ k answer job v. no-notice k decision.NoSlot v; acts = λ o s k answer job v. rw (no-completion decision.NoSlot k true refl) refl; starts = λ k job v. refl }
+refuses-slot = record { session = λ at k answer job v. no-notice k decision.NoSlot v; acts = λ o s k answer job v. rw (no-completion decision.NoSlot k true refl) refl; starts = λ k job v. refl }
 
 -- a transfer is queued or refused
 refuses-by : (logged free : Bool) (t : Ticket) (d : Decision) → d ≡ cond logged (cond free (decision.Queued t) decision.NoSlot) decision.NotLoggedIn → ((x : Ticket) → d ≡ decision.Queued x → ⊥) → Refuses d
@@ -44,7 +44,7 @@ returns-in_default c =
     let job : Option Running = map.get nat_eq c.args.jobs.now c.args.number in
     record {
       decision = row;
-      session = λ few answer. c.handle-decision.ensures.session few ∙ (refuses few).session k answer job v;
+      session = λ few answer. c.handle-decision.ensures.session few ∙ (refuses few).session c.args.event.now.at k answer job v;
       actions = λ few answer.
           c.handle-decision.ensures.actions answer job
           ∙ ap (λ n. notice_and_reply c.args.options.now n k answer d job v) number

@@ -1,34 +1,43 @@
-use Rattle.std.proofs.Common.{◌≡◌, refl, sym, ap, ◌∙◌, ℕ, Option, Some, None, cond}
+use Rattle.std.proofs.Common.{◌≡◌, refl, sym, ap, ◌∙◌, ℕ, true, false, ◌||◌, Option, Some, None, cond}
 use Rattle.std.specs.Prelude.{nat_eq, ◌==◌, unwrap_or}
 use Rattle.std.specs.HashMap as map
 use Rattle.std.proofs.Common.{arith, ◌-◌}
-use Rattle.ftp_hub.proofs.Common.{Decision, Running, Session, held_after, holder_at, ipv4, notices_of, past_of, session_acts, session_after, waiting_port}
-use Rattle.ftp_handlers.specs.Handlers.{number_of}
-use Rattle.ftp_hub.proofs.Refusals.{tables-same}
+use Rattle.ftp_hub.proofs.Common.{Decision, EventKind, Running, Session, V4, has, held_after, holder_at, ipv4, new_number, notices_of, past_of, session_acts, session_after, waiting_port}
+use Rattle.ftp_events.specs.declared.event.EventKind.TheVariants as kind
+use Rattle.ftp_events.specs.Decide.{around}
+use Rattle.ftp_events.specs.Words.{is_number}
+use Rattle.ftp_handlers.specs.Handlers.{ends_session, is_auth, number_of}
 use Rattle.ftp_hub.proofs.Decisions.{put-back}
 use Rattle.ftp_hub.proofs.Commands.{serves-unknown, serves-command, ending-plain}
+use Rattle.ftp_laws.proofs.GrantLemmas.{holder-legacy}
+use Rattle.ftp_hub.proofs.Failures.{failures-stay}
+use Rattle.ftp_hub.proofs.Named.{ends-none}
 use Rattle.ftp_hub.proofs.Rows.{EndsLife, ending-ends}
-use Rattle.ftp_hub.proofs.Moved.{jobs-stay}
+use Rattle.ftp_hub.proofs.Moved.{jobs-stay, tables-lent}
 use Rattle.ftp_hub.proofs.hub.Hub.close.Goals as goal
+
+-- an ending brings no number, and says nothing of a password
+ending-number : (k : EventKind) (d : Decision) → ends_session k ≡ true → new_number k d ≡ None
+ending-number (kind.Quit s) d e = refl
+ending-number (kind.Closed s) d e = refl
+ending-number _ d e = cc
+
+ending-unsaid : (k : EventKind) → ends_session k ≡ true → is_auth k ≡ false
+ending-unsaid (kind.AuthDone s said) e = cc
+ending-unsaid _ e = refl
 
 -- a session that is not live
 pub returns-in_default-clause-serves : goal.returns-in_default-clause-serves
 returns-in_default-clause-serves c log st =
     let none : map.get nat_eq c.args.self.now.sessions c.args.number ≡ None = sym c.take.ensures.value ∙ c.in_default.is in
     let len : map.hash_map_len c.take.new.table ≡ map.hash_map_len c.args.self.now.sessions = omega (arith, rw c.in_default.is at c.take.ensures.len) in
-    serves-unknown c.args.self.now _ log c.args.event.now c.args.answer _ c.args.number st (ending-plain _ c.requires.of_this_event) c.requires.named none c.requires.fits.ready.actions
-    (tables-same c.args.self.now _ (past_of log) refl
-    (record {
-      sessions = λ q.
-          c.take.ensures.updates q
-          ∙ ap (λ (x : Option Session). cond (c.args.number == q) x (map.get nat_eq c.args.self.now.sessions q)) (sym none)
-          ∙ put-back (map.get nat_eq c.args.self.now.sessions) c.args.number q;
-      live = len;
-      jobs = λ q. refl;
-      running = refl;
-      numbers = λ q. refl;
-      holders = λ a p. refl;
-    }) st.tables)
+    serves-unknown c.args.self.now _ log c.args.event.now c.args.answer _ c.args.number st (ending-plain _ c.requires.of_this_event).no_end c.requires.named none c.requires.fits.ready.actions
+    (tables-lent c.args.self.now _ (past_of log) refl
+    (λ q.
+    c.take.ensures.updates q
+    ∙ ap (λ (x : Option Session). cond (c.args.number == q) x (map.get nat_eq c.args.self.now.sessions q)) (sym none)
+    ∙ put-back (map.get nat_eq c.args.self.now.sessions) c.args.number q)
+    len refl refl refl refl st.tables)
 
 -- the end of a live session
 pub returns-clause-serves : goal.returns-clause-serves
@@ -40,14 +49,15 @@ returns-clause-serves c log st =
     let there : map.get nat_eq c.args.self.now.sessions c.args.number ≡ Some v = sym c.take.ensures.value ∙ c.in-Some.is in
     let leaves : EndsLife d = ending-ends d c.ending.ensures.ends in
     let job : Option Running = map.get nat_eq c.args.self.now.jobs c.args.number in
-    let after : Session = session_after k c.args.answer d (notices_of d c.args.answer) job v in
+    let after : Session = session_after c.args.event.now.at k c.args.answer d (notices_of d c.args.answer) job v in
     let len : map.hash_map_len c.take.new.table ≡ map.hash_map_len c.args.self.now.sessions - 1 = omega (arith, rw c.in-Some.is at c.take.ensures.len) in
     let number : number_of k ≡ c.args.number = ap (λ (n : Option ℕ). unwrap_or n 0) c.requires.named in
+    let after_board : (a p : ℕ) → holder_at c.ending.new.board a p ≡ held_after d c.args.number (ipv4 v.opening.client) (waiting_port v.slot) a p (holder_at c.args.self.now.board a p) = λ a p. c.ending.ensures.holders a p ∙ ap (λ n. held_after d n (ipv4 v.opening.client) (waiting_port v.slot) a p (holder_at c.args.self.now.board a p)) number in
     serves-command c.args.self.now _ log c.args.event.now c.args.answer d _ c.args.number v after st c.requires.fits.below (ending-plain _ c.requires.of_this_event) c.requires.named there
     (λ few.
     let acts = c.ending.ensures.actions few.notices c.args.answer job ∙ ap (λ n. session_acts o n k c.args.answer d job (Some v)) number in
     record {
-      row = c.ending.ensures.decision;
+      row = c.ending.ensures.decision (around o (past_of log) c.args.event.now.at v);
       acts = acts;
       tables = record {
         moved = record {
@@ -59,7 +69,13 @@ returns-clause-serves c log st =
           };
           jobs = jobs-stay c.args.self.now.jobs o c.args.number k c.args.answer d _ c.args.number v leaves.idle acts;
         };
-        numbers = λ q. refl;
-        holders = λ a p. c.ending.ensures.holders a p ∙ ap (λ n. held_after d n (ipv4 v.opening.client) (waiting_port v.slot) a p (holder_at c.args.self.now.board a p)) number;
+        numbers = λ q. ap (λ (n : Option ℕ). is_number n q || has c.args.self.now.numbers q) (sym (ending-number k d c.requires.of_this_event));
+        holders = λ shared a p. after_board a p;
+        alone = λ alone a p.
+            let before : holder_at c.args.self.now.board a p ≡ None = st.tables.holders a p ∙ holder-legacy o (past_of log) (V4 a) p alone in
+            after_board a p
+            ∙ ap (held_after d c.args.number (ipv4 v.opening.client) (waiting_port v.slot) a p) before
+            ∙ ends-none d c.args.number (ipv4 v.opening.client) (waiting_port v.slot) a p c.ending.ensures.ends ∙ sym before;
+        failures = failures-stay c.args.self.now c.args.event.now v (ending-unsaid k c.requires.of_this_event);
       };
     })

@@ -1,7 +1,8 @@
-use Rattle.std.proofs.Common.{◌≡◌, refl, sym, ap, ◌∙◌, Bool, true, false, not, Some, None}
+use Rattle.std.proofs.Common.{◌≡◌, refl, sym, ap, ◌∙◌, true, false, Some, None}
 use Rattle.std.specs.Prelude.{nat_eq}
 use Rattle.std.specs.Option.{option_copied}
 use Rattle.std.specs.HashMap as map
+use Rattle.std.proofs.lemmas.Bool.{not-false, not-true}
 use Rattle.ftp_hub.proofs.Common.{Answer, Running}
 use Rattle.ftp_transfer.specs.declared.job.Job.{Job}
 use Rattle.ftp_transfer.specs.declared.job.Outcome.{Outcome}
@@ -15,15 +16,6 @@ use Rattle.ftp_hub.proofs.Refusals.{serves-refused}
 use Rattle.ftp_hub.proofs.Ends.{end-due}
 use Rattle.ftp_hub.proofs.hub.Hub.end.Goals as goal
 
--- what is denied is false, and what is not denied true
-denied : (b : Bool) → true ≡ not b → b ≡ false
-denied false e = refl
-denied true e = cc
-
-kept : (b : Bool) → false ≡ not b → b ≡ true
-kept true e = refl
-kept false e = cc
-
 -- no job runs for the session
 pub returns-in_default-clause-serves : goal.returns-in_default-clause-serves
 returns-in_default-clause-serves c log st =
@@ -36,7 +28,7 @@ pub returns-then-ne-clause-serves : goal.returns-then-ne-clause-serves
 returns-then-ne-clause-serves c log st =
     let job : Running = c.in-Some.job.now in
     let there : map.get nat_eq c.args.self.now.jobs c.args.ticket.session ≡ Some job = sym c.get.ensures.value ∙ ap option_copied c.in-Some.is in
-    let other : same_ticket job.job.ticket c.args.ticket ≡ false = denied (same_ticket job.job.ticket c.args.ticket) c.if-ne.ensures in
+    let other : same_ticket job.job.ticket c.args.ticket ≡ false = not-true _ (sym c.if-ne.ensures) in
     serves-refused c.args.self.now log c.args.event.now c.args.answer decision.UnknownNumber _ st
     (sym (end-due c.args.self.now log c.args.event.now c.args.answer c.args.ticket (Some job) st c.requires.of_this_event there ∙ rw other refl)) refl c.requires.fits.ready.actions
 
@@ -51,7 +43,7 @@ pub returns-in_default-answer-clause-serves : goal.returns-in_default-answer-cla
 returns-in_default-answer-clause-serves c log st =
     let job : Running = c.in-Some.job.now in
     let there : map.get nat_eq c.args.self.now.jobs c.args.ticket.session ≡ Some job = sym c.get.ensures.value ∙ ap option_copied c.in-Some.is in
-    let same : same_ticket job.job.ticket c.args.ticket ≡ true = kept (same_ticket job.job.ticket c.args.ticket) c.if-ne.ensures in
+    let same : same_ticket job.job.ticket c.args.ticket ≡ true = not-false _ (sym c.if-ne.ensures) in
     serves-refused c.args.self.now log c.args.event.now c.args.answer decision.NotExpected _ st
     (sym (end-due c.args.self.now log c.args.event.now c.args.answer c.args.ticket (Some job) st c.requires.of_this_event there ∙ rw same (unrun job.job c.args.answer c.in_default-answer.not-Done))) refl c.requires.fits.ready.actions
 
@@ -60,7 +52,7 @@ pub returns-then-not-suits-clause-serves : goal.returns-then-not-suits-clause-se
 returns-then-not-suits-clause-serves c log st =
     let job : Running = c.in-Some.job.now in
     let there : map.get nat_eq c.args.self.now.jobs c.args.ticket.session ≡ Some job = sym c.get.ensures.value ∙ ap option_copied c.in-Some.is in
-    let same : same_ticket job.job.ticket c.args.ticket ≡ true = kept (same_ticket job.job.ticket c.args.ticket) c.if-ne.ensures in
+    let same : same_ticket job.job.ticket c.args.ticket ≡ true = not-false _ (sym c.if-ne.ensures) in
     let unfit : suits c.in-Done.outcome.result job.job.command ≡ false = sym c.if-not-suits.ensures in
     serves-refused c.args.self.now log c.args.event.now c.args.answer decision.NotExpected _ st
     (sym (end-due c.args.self.now log c.args.event.now c.args.answer c.args.ticket (Some job) st c.requires.of_this_event there ∙ ap (λ (x : Answer). end_row c.args.ticket x (Some job)) c.in-Done.is ∙ rw (same, unfit) refl)) refl c.requires.fits.ready.actions

@@ -22,4 +22,4 @@ returns-clause-due c log st =
 pub returns-clause-refused : goal.returns-clause-refused
 returns-clause-refused c log st refused =
     let same = same-refused c.args.self.now c.serve-decision.new.self log c.args.event.now c.args.answer c.serve-decision.result (actions_in c.serve-decision.new.room) c.serve-decision.ensures.head.options st (c.serve-decision.ensures.serves log st) refused in
-    record { sessions = same.sessions; live = same.live; jobs = same.jobs; running = same.running; numbers = same.numbers; holders = same.holders }
+    record { sessions = same.sessions; live = same.live; jobs = same.jobs; running = same.running; numbers = same.numbers; holders = same.holders; failures = same.failures }

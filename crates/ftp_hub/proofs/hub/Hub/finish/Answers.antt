@@ -1,12 +1,16 @@
-use Rattle.std.proofs.Common.{◌≡◌, refl, sym, ap, ◌∙◌, subst, ℕ, ◌+◌, ◌-◌, ◌++◌, true, false, Option, Some, [], ◌∷◌, cond, arith}
+use Rattle.std.proofs.Common.{◌≡◌, refl, sym, ap, ◌∙◌, subst, ℕ, ◌+◌, ◌-◌, ◌++◌, ◌||◌, true, false, Option, Some, [], ◌∷◌, cond, arith}
 use Rattle.std.specs.Prelude.{nat_eq, ◌==◌, IsSomeAnd}
 use Rattle.std.specs.HashMap as map
-use Rattle.ftp_hub.proofs.Common.{Answer, EventKind, IsFew, Jobs, Running, Session, Starts, Ticket, named_session, next_lane, notices_of, running_after, session_acts, session_after, starting}
+use Rattle.ftp_hub.proofs.Common.{Answer, EventKind, IsFew, Jobs, Running, Session, Starts, Ticket, has, named_session, new_number, next_lane, notices_of, running_after, session_acts, session_after, starting}
 use Rattle.ftp_transfer.specs.Transfer.{suits}
 use Rattle.ftp_events.specs.declared.action.Action.TheVariants as action
 use Rattle.ftp_events.specs.declared.decision.Decision.TheVariants as decision
 use Rattle.ftp_events.specs.declared.event.Answer.TheVariants.{Done}
 use Rattle.ftp_events.specs.declared.event.EventKind.TheVariants as kind
+use Rattle.ftp_events.specs.Words.{is_number}
+use Rattle.ftp_handlers.specs.Handlers.{is_auth}
+use Rattle.ftp_hub.specs.Arrivals.{is_accepted}
+use Rattle.ftp_hub.proofs.Failures.{failures-stay}
 use Rattle.ftp_hub.proofs.Named.{few-counts, serves-named}
 use Rattle.ftp_hub.proofs.Ends.{finish-due, jobs-finished, running-finished, serves-lost}
 use Rattle.ftp_hub.proofs.hub.Hub.finish.Goals as goal
@@ -26,13 +30,14 @@ returns-in-None-clause-serves c log st =
     serves-lost c.args.self.now _ log c.args.event.now c.args.outcome _ t job st c.requires.of_this_event there known.0 known.1
     (sym c.in-None.ensures.value) (c.complete.ensures.actions ∙ ap (λ xs. xs ++ action.Completed t false ∷ []) c.requires.fits.ready.actions) refl
     (λ q. ap (λ (m : map.HashMap ℕ Session _). map.get nat_eq m q) c.get_mut.follows.holds-at-none) (ap map.hash_map_len c.get_mut.follows.holds-at-none)
-    c.take.ensures.updates fewer (λ q. refl) (λ a p. refl)
+    c.take.ensures.updates fewer (λ q. refl) (λ a p. refl) refl
 
 -- a live session
 pub returns-in-Some-get_mut-clause-serves : goal.returns-in-Some-get_mut-clause-serves
 returns-in-Some-get_mut-clause-serves c log st =
     let t : Ticket = c.args.ticket in
     let s = t.session in
+    let at = c.args.event.now.at in
     let o = c.args.self.now.options in
     let k : EventKind = c.args.event.now.kind in
     let a : Answer = Done c.args.outcome in
@@ -49,15 +54,15 @@ returns-in-Some-get_mut-clause-serves c log st =
     let acts = c.finish.ensures.actions few.notices ∙ ap (λ (x : Ticket). session_acts o x.session (kind.End job.job.ticket) a decision.Finished (Some job) (Some v)) known.0 in
     let fewer : map.hash_map_len c.take.new.table + 1 ≡ map.hash_map_len jobs = omega (arith, rw c.in-Some.is at c.take.ensures.len) in
     let begins : Starts c.take.new.table c.finish.new.jobs s (starting (kind.End job.job.ticket) decision.Finished (Some job) v) = subst (λ (x : Ticket). Starts c.take.new.table c.finish.new.jobs x.session (starting (kind.End job.job.ticket) decision.Finished (Some job) v)) known.0 c.finish.ensures.starts in
-    serves-named c.args.self.now _ log c.args.event.now a decision.Finished _ s v c.finish.new.session st named refl
+    serves-named c.args.self.now _ log c.args.event.now a decision.Finished _ s v c.finish.new.session st named (ap is_accepted c.requires.of_this_event) refl
     (sym (st.tables.sessions s) ∙ there) (finish-due c.args.self.now log c.args.event.now c.args.outcome t job st c.requires.of_this_event there_job known.0 known.1)
     (acts ∙ ap (λ (x : EventKind). session_acts o s x a decision.Finished (Some job) (Some v)) kind_is ∙ ap (λ (x : Option Running). session_acts o s k a decision.Finished x (Some v)) (sym there_job))
     (record {
       moved = record {
         options = refl;
         session =
-            c.finish.ensures.session few.notices ∙ ap (λ (x : EventKind). session_after x a decision.Finished (notices_of decision.Finished a) (Some job) v) kind_is
-            ∙ ap (λ (x : Option Running). session_after k a decision.Finished (notices_of decision.Finished a) x v) (sym there_job);
+            c.finish.ensures.session few.notices at ∙ ap (λ (x : EventKind). session_after at x a decision.Finished (notices_of decision.Finished a) (Some job) v) kind_is
+            ∙ ap (λ (x : Option Running). session_after at k a decision.Finished (notices_of decision.Finished a) x v) (sym there_job);
         sessions = record { table = (lent.3 (rw there refl)).0; live = lent.2 };
         jobs = record {
           table = λ q.
@@ -67,6 +72,11 @@ returns-in-Some-get_mut-clause-serves c log st =
           running = running-finished o s job.job.ticket a job v jobs c.take.new.table c.finish.new.jobs fewer begins ∙ ap (λ xs. running_after xs (map.hash_map_len jobs)) (sym acts);
         };
       };
-      numbers = λ q. refl;
-      holders = λ a p. refl;
+      numbers = λ q. ap (λ (n : Option ℕ). is_number n q || has c.args.self.now.numbers q) (sym (ap (λ (x : EventKind). new_number x decision.Finished) c.requires.of_this_event));
+      holders = λ shared a p. refl;
+      alone = λ alone a p. refl;
+      failures = failures-stay c.args.self.now c.args.event.now v (ap is_auth c.requires.of_this_event);
     })
+    (λ said.
+    let clash : true ≡ false = sym said ∙ ap is_auth c.requires.of_this_event in
+    cc)

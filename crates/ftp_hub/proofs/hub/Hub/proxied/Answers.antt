@@ -42,7 +42,7 @@ returns-in-Header-Err-clause-serves c log st =
     (rw (c.in-Proxied.is, header, sym c.if-not-is_proxy.ensures, sym c.if-is_v6.ensures, unused) refl)
     (rw (c.in-Proxied.is, header) refl) (rw c.in-Proxied.is refl) (rw c.in-Proxied.is refl)
     (rw (c.close.ensures.actions, c.requires.ready.actions) refl)
-    refl (λ q. refl) refl refl c.put.ensures (λ a p. refl)
+    refl (λ q. refl) refl refl c.put.ensures (λ a p. refl) refl
 
 -- nothing else is a header
 headless :

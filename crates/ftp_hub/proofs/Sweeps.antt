@@ -1,0 +1,80 @@
+-- The tables after a sweep of the failed logins.
+use Rattle.std.proofs.Common.{◌≡◌, refl, sym, ap, ◌∙◌, ℕ, List, [], ◌∷◌, Option, Some, None, arith}
+use Rattle.std.specs.Prelude.{nat_eq}
+use Rattle.std.specs.HashMap as map
+use Rattle.ftp_hub.proofs.Common.{Action, Answer, Entry, EventKind, Hub, HubEvent, LoginKey, Options, Serves, Stands, V4, decide, entry, failures, failures_in, has, holder_at, past_of, running_after}
+use Rattle.std.proofs.lemmas.Option.{same_Some}
+use Rattle.ftp_lockout.specs.Failures.{Table, failures_of, swept}
+use Rattle.ftp_numbers.specs.Used.{Used}
+use Rattle.ftp_options.specs.declared.lockout.FailedLoginsPolicy.{FailedLoginsPolicy}
+use Rattle.ftp_switchboard.specs.Board.{Board}
+use Rattle.ftp_events.specs.declared.decision.Decision.TheVariants as decision
+use Rattle.ftp_events.specs.declared.event.EventKind.TheVariants as kind
+use Rattle.ftp_events.specs.Lockout.{failures_after}
+use Rattle.ftp_laws.proofs.Cases.{by_option}
+use Rattle.ftp_laws.proofs.LockoutLemmas.{failures-entry, failures-off}
+use Rattle.ftp_laws.proofs.TableLemmas.{holder-other}
+use Rattle.ftp_handlers.specs.Handlers.{policy_in}
+use Rattle.ftp_hub.proofs.DataLinks.{serves-nobody}
+use Rattle.ftp_hub.proofs.Decisions.{Comes}
+use Rattle.ftp_hub.proofs.Failures.{unlocked}
+
+swept-comes : Comes decision.Swept
+swept-comes = record { counts = refl; unopened = λ k. refl; no_grant = refl; keeps = refl; lives = refl; silent = λ answer. refl; as_many = λ n. refl; unfinished = refl }
+
+-- what is swept from the table, where there is one
+pub swept-table :
+    (hub : Hub) (t new : Table) (at : ℕ) → hub.failures ≡ Some t →
+    ((key : LoginKey) → failures_of new key ≡ swept t.policy at (failures_of t key)) →
+    (p : FailedLoginsPolicy) → hub.options.lockout ≡ Some p → (key : LoginKey) →
+    failures_of new key ≡ swept p at (failures_in hub.failures key)
+swept-table hub t new at there sweeps p locks key =
+    let policy : t.policy ≡ p = same_Some _ _ (sym (ap policy_in there) ∙ hub.policy ∙ locks) in
+    sweeps key
+    ∙ ap (λ (x : FailedLoginsPolicy). swept x at (failures_of t key)) policy
+    ∙ ap (λ (x : Option Table). swept p at (failures_in x key)) (sym there)
+
+pub swept-none :
+    (hub : Hub) (at : ℕ) → hub.failures ≡ None →
+    (p : FailedLoginsPolicy) → hub.options.lockout ≡ Some p → (key : LoginKey) →
+    failures_in hub.failures key ≡ swept p at (failures_in hub.failures key)
+swept-none hub at none p locks key =
+    let clash : None ≡ Some p = sym (ap policy_in none) ∙ hub.policy ∙ locks in
+    cc
+
+-- a sweep changes the failed logins alone
+pub serves-swept :
+    (old new : Hub) (log : List Entry) (event : HubEvent) (answer : Answer) (done : List Action) →
+    Stands old log → event.kind ≡ kind.Sweep → done ≡ [] →
+    new.options ≡ old.options → new.sessions ≡ old.sessions → new.jobs ≡ old.jobs → new.numbers ≡ old.numbers → new.board ≡ old.board →
+    ((p : FailedLoginsPolicy) → old.options.lockout ≡ Some p → (key : LoginKey) → failures_in new.failures key ≡ swept p event.at (failures_in old.failures key)) →
+    Serves old new log event answer decision.Swept done
+unfolding decide
+serves-swept old new log event answer done st is nothing same sessions jobs numbers board failed =
+    serves-nobody old new log event answer decision.Swept done st swept-comes (rw is refl) (rw is refl) nothing
+    (λ n. ap (λ xs. running_after xs n) nothing ∙ none_ran n) same
+    (λ q. ap (λ m. map.get nat_eq m q) sessions) (ap map.hash_map_len sessions) jobs
+    (λ q. rw is (ap (λ (x : Used). has x q) numbers))
+    (λ a p.
+    ap (λ (x : Board). holder_at x a p) board ∙ st.tables.holders a p
+    ∙ sym (holder-other o past e (V4 a) p (rw is refl) (rw is refl) refl))
+    (λ key.
+    by_option o.lockout
+    (λ off. unlocked new key (ap (λ (o : Options). o.lockout) same ∙ off) ∙ sym (failures-off o (e ∷ past) key off))
+    (λ p locks.
+    failed p locks key
+    ∙ ap (swept p event.at) (st.tables.failures key)
+    ∙ sym (ap (λ (k : EventKind). failures_after o p past key k event.at (failures o past key)) is)
+    ∙ sym (failures-entry o p past e key locks)))
+  where
+    o : Options
+    o = old.options
+
+    past : List Entry
+    past = past_of log
+
+    e : Entry
+    e = entry event answer decision.Swept done
+
+    none_ran : (n : ℕ) → running_after [] n ≡ n
+    none_ran n = omega arith
