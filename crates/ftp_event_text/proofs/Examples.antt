@@ -1,5 +1,5 @@
 -- Worked examples: lines as they are spelled, and lines that spell nothing.
-use Rattle.std.proofs.Common.{◌≡◌, ℕ, true, false, List, [], ◌∷◌, ◌++◌, Some, None, refl}
+use Rattle.std.proofs.Common.{◌≡◌, ℕ, List, [], ◌∷◌, ◌++◌, Some, None, refl}
 use Rattle.std.specs.Prelude.{codes}
 use Rattle.std.specs.Fmt.{digits}
 use Rattle.ftp_base.specs.declared.fault.LinkFault.TheVariants as link
@@ -11,7 +11,6 @@ use Rattle.ftp_base.specs.declared.notice.Notice.TheVariants as notice
 use Rattle.ftp_base.specs.declared.notice.PresenceEvent.TheVariants as presence
 use Rattle.ftp_base.specs.declared.reply.Reply.TheVariants as reply
 use Rattle.ftp_base.specs.declared.reply.ReplyCode.TheVariants as code
-use Rattle.ftp_options.specs.declared.options.ListenerMode.TheVariants.{Pooled}
 use Rattle.ftp_events.specs.declared.action.Action.TheVariants as action
 use Rattle.ftp_events.specs.declared.decision.Decision.TheVariants as decision
 use Rattle.ftp_events.specs.declared.entry.Entry.{Entry}
@@ -25,7 +24,7 @@ use Rattle.ftp_event_text.specs.Events.{event_line}
 use Rattle.ftp_event_text.specs.Setup.{item_line, sent_line, file_line}
 use Rattle.ftp_event_text.specs.Printing.{print}
 use Rattle.ftp_event_text.specs.EventReading.{event_of, read_as}
-use Rattle.ftp_event_text.specs.SetupReading.{restart_at, mode_of, mode_at, options_at, storage_at, dir_at, file_at, link_at, item_of}
+use Rattle.ftp_event_text.specs.SetupReading.{storage_at, dir_at, file_at, link_at, item_of}
 
 abbrev client : SocketAddr
 client = record { ip = V4 167772161; port = 4000 }
@@ -169,10 +168,6 @@ pub bad-no_path : bad (codes "0 cwd 1 ok")
 unfolding event_of word_value read_as number_at word_at text_field digits
 bad-no_path = refl
 
-pub bad-range : item_of (codes "options pooled 50001 50000 connection passive 600 off restart") ≡ None
-unfolding item_of options_at mode_at mode_of restart_at number_at small_at word_at digits
-bad-range = refl
-
 pub bad-odd_digits : item_of (codes "link 11 1 - 480") ≡ None
 unfolding item_of link_at number_at small_at hex_field hex_of hex_from word_at calls_field list_of digits
 bad-odd_digits = refl
@@ -204,14 +199,6 @@ read-empty_name = refl
 pub read-directory : event_of (codes "0 cwd 1 ok closed") ≡ Some (happens (kind.Cwd 1 (codes "closed") None))
 unfolding event_of word_value read_as number_at word_at text_field text_from digits
 read-directory = refl
-
-pub read-options : item_of (codes "options pooled 50000 50001 connection passive 600 off restart") ≡ Some (item.Options Pooled 50000 50001 600 true)
-unfolding item_of options_at mode_at mode_of restart_at number_at small_at word_at digits
-read-options = refl
-
-pub read-norestart : item_of (codes "options pooled 1 2 connection passive 3 off norestart") ≡ Some (item.Options Pooled 1 2 3 false)
-unfolding item_of options_at mode_at mode_of restart_at number_at small_at word_at digits
-read-norestart = refl
 
 pub read-storage : item_of (codes "storage 16 1,12") ≡ Some (item.Storage 16 (1 ∷ 12 ∷ []))
 unfolding item_of storage_at number_at word_at calls_field list_of each_of call_of digits

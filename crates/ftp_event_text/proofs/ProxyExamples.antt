@@ -1,10 +1,9 @@
--- Worked examples of connections behind a proxy: as they are printed, and the lines of their set-up and of their events.
-use Rattle.std.proofs.Common.{◌≡◌, ℕ, ◌+◌, ◌^◌, true, List, [], ◌∷◌, ◌++◌, Some, None, refl}
+-- Worked examples of connections behind a proxy: as they are printed, and the lines of their events.
+use Rattle.std.proofs.Common.{◌≡◌, ℕ, ◌+◌, ◌^◌, List, [], ◌∷◌, ◌++◌, Some, None, refl}
 use Rattle.std.specs.Prelude.{codes, Result, Ok, Err}
 use Rattle.std.specs.Fmt.{digits}
 use Rattle.ftp_base.specs.declared.net.IpAddr.TheVariants.{V4, V6}
 use Rattle.ftp_base.specs.declared.net.SocketAddr.{SocketAddr}
-use Rattle.ftp_options.specs.declared.options.ListenerMode.TheVariants.{Proxy}
 use Rattle.ftp_proxy.specs.declared.error.ProxyError.{ProxyError}
 use Rattle.ftp_proxy.specs.declared.error.ProxyError.TheVariants as fault
 use Rattle.ftp_proxy.specs.declared.error.ReadError.TheVariants.{UnexpectedEof, Fault}
@@ -17,15 +16,11 @@ use Rattle.ftp_events.specs.declared.entry.Entry.{Entry}
 use Rattle.ftp_events.specs.declared.event.Answer.TheVariants as answer
 use Rattle.ftp_events.specs.declared.event.EventKind.TheVariants as kind
 use Rattle.ftp_events.specs.declared.event.HubEvent.{HubEvent}
-use Rattle.ftp_event_text.specs.declared.setup.Item.{Item}
-use Rattle.ftp_event_text.specs.declared.setup.Item.TheVariants as item
 use Rattle.ftp_text.specs.Fields.{hex_digits}
 use Rattle.ftp_text.specs.Reading.{number_at, small_at, dotted_at, address_at, ipv4_at, word_value, word_at}
 use Rattle.ftp_event_text.specs.Events.{event_line}
-use Rattle.ftp_event_text.specs.Setup.{item_line}
 use Rattle.ftp_event_text.specs.Printing.{print, answer_line, decision_line}
 use Rattle.ftp_event_text.specs.EventReading.{event_of, read_as}
-use Rattle.ftp_event_text.specs.SetupReading.{restart_at, mode_of, mode_at, options_at, item_of}
 
 -- the proxy 10.9.9.9
 abbrev proxy : SocketAddr
@@ -85,45 +80,3 @@ read-proxied = refl
 pub bad-no_trace : event_of (codes "3 proxied 1 10.9.9.9:33000") ≡ None
 unfolding event_of word_value read_as number_at small_at dotted_at ipv4_at address_at word_at digits
 bad-no_trace = refl
-
--- ---- the line of the options
-
-abbrev options : ℕ → Item
-options port = item.Options (Proxy port) 50000 50001 600 true
-
-pub options_line : item_line (options 2121) ≡ codes "options proxy:2121 50000 50001 connection passive 600 off restart"
-unfolding digits
-options_line = refl
-
-pub read-options : item_of (codes "options proxy:2121 50000 50001 connection passive 600 off restart") ≡ Some (options 2121)
-unfolding item_of options_at mode_at mode_of restart_at number_at small_at word_at digits
-read-options = refl
-
--- the control port may be 0, and one of the passive ports
-pub read-port_zero : item_of (codes "options proxy:0 50000 50001 connection passive 600 off restart") ≡ Some (options 0)
-unfolding item_of options_at mode_at mode_of restart_at number_at small_at word_at digits
-read-port_zero = refl
-
-pub read-port_in_range : item_of (codes "options proxy:50001 50000 50001 connection passive 600 off restart") ≡ Some (options 50001)
-unfolding item_of options_at mode_at mode_of restart_at number_at small_at word_at digits
-read-port_in_range = refl
-
-abbrev bad : List ℕ → Type 0
-bad line = item_of line ≡ None
-
-pub bad-port : bad (codes "options proxy:65536 50000 50001 connection passive 600 off restart")
-unfolding item_of options_at mode_at mode_of restart_at number_at small_at word_at digits
-bad-port = refl
-
-pub bad-leading_zero : bad (codes "options proxy:02121 50000 50001 connection passive 600 off restart")
-unfolding item_of options_at mode_at mode_of restart_at number_at small_at word_at digits
-bad-leading_zero = refl
-
--- the passive ports do not begin at 0
-pub bad-range : bad (codes "options proxy:2121 0 50001 connection passive 600 off restart")
-unfolding item_of options_at mode_at mode_of restart_at number_at small_at word_at digits
-bad-range = refl
-
-pub bad-own_listeners : bad (codes "options legacy 50000 50001 connection passive 600 off restart")
-unfolding item_of options_at mode_at mode_of restart_at number_at small_at word_at digits
-bad-own_listeners = refl

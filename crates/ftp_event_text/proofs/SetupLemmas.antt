@@ -1,17 +1,12 @@
 -- Each line of a script is read exactly.
-use Rattle.std.proofs.Common.{◌≡◌, ℕ, ◌^◌, ◌<◌, ◌≤◌, Bool, true, false, cond, ◌&&◌, eqb, leb, List, [], ◌∷◌, ◌++◌, length, Option, Some, None, refl, sym, ap, subst, ◌∙◌, arith}
+use Rattle.std.proofs.Common.{◌≡◌, ℕ, ◌^◌, ◌<◌, Bool, true, false, cond, eqb, List, [], ◌∷◌, ◌++◌, length, Option, Some, None, refl, sym, ap, subst, ◌∙◌, arith}
 use Rattle.std.specs.Prelude.{codes, Result, Ok, Err, IfOk, IsErrOf}
 use Rattle.std.specs.Fmt.{decimal}
 use Rattle.std.specs.Char.{is_ascii_digit}
-use Rattle.std.specs.Str.{bytes_eq}
-use Rattle.std.proofs.lemmas.Fmt.{decimal_nonempty, digits_decimal}
-use Rattle.std.proofs.lemmas.Bool.{eqb-true, leb-true, le-leb, and_parts}
-use Rattle.std.proofs.lemmas.Bool.Decides.{nat_tests}
+use Rattle.std.proofs.lemmas.Fmt.{decimal_nonempty}
+use Rattle.std.proofs.lemmas.Bool.{eqb-true, leb-true, le-leb}
 use Rattle.std.proofs.lemmas.Option.{cond_some, none-some}
 use Rattle.std.proofs.lemmas.List.{append-nil, nil_from_length, length-append}
-use Rattle.std.proofs.lemmas.Slice.Eq.{bytes_eq-Decides}
-use Rattle.ftp_options.specs.declared.options.ListenerMode.{ListenerMode}
-use Rattle.ftp_options.specs.declared.options.ListenerMode.TheVariants.{Legacy, Pooled, Proxy}
 use Rattle.ftp_events.specs.declared.event.HubEvent.{HubEvent}
 use Rattle.ftp_text.specs.declared.fault.LineFault.{LineFault}
 use Rattle.ftp_text.specs.declared.fault.LineFault.TheVariants as fault
@@ -20,83 +15,35 @@ use Rattle.ftp_event_text.specs.declared.setup.Item.TheVariants as item
 use Rattle.ftp_base.specs.declared.fault.LinkFault.{LinkFault}
 use Rattle.ftp_text.specs.Fields.{field, number, hex_text, escape, listed, link_call_text, IsText, AreCalls}
 use Rattle.ftp_event_text.specs.Events.{kind_fields, event_line, IsEvent}
-use Rattle.ftp_event_text.specs.Setup.{is_skipped, mode_text, restart_text, item_line, is_absolute, IsMode, IsItem, IsItemOf}
-use Rattle.ftp_text.specs.Reading.{◌>>=◌, Reader, Gives, pair, tested, begins, behind_text, all_of, number_field, hex_field, text_field, find_word, word_value, calls_field, call_of}
+use Rattle.ftp_event_text.specs.Options.{listening_fields, rule_fields, IsListening, AreRules}
+use Rattle.ftp_event_text.specs.OptionsReading.{Listening, listening_at, Rules, rules_at}
+use Rattle.ftp_event_text.specs.Setup.{is_skipped, item_line, is_absolute, IsItem, IsItemOf}
+use Rattle.ftp_text.specs.Reading.{◌>>=◌, Reader, Gives, pair, tested, begins, behind_text, number_field, hex_field, text_field, calls_field, call_of}
 use Rattle.ftp_event_text.specs.EventReading.{event_of}
-use Rattle.ftp_event_text.specs.SetupReading.{is_range, moves, control_port_at, mode_of, mode_at, ports_at, restarts, restart_at, idle_at, link_calls_at, options_at, storage_at, dir_at, is_placed, file_at, link_at, whole, item_of}
-use Rattle.ftp_text.proofs.Exact.{Ends, IsNil, NoDigit, IsExact, Pass, is_word_byte, passes_true, bind_ok, some_is, digits_pass, small_exact, all_of-takes, all_of-again, word_exact, table_exact, pair_exact, made_takes, made_again, behind_text_exact, before_text_exact, tested_exact}
-use Rattle.ftp_text.proofs.Numerals.{own}
-use Rattle.ftp_text.proofs.Lists.{pass-more, pass-append}
+use Rattle.ftp_event_text.specs.SetupReading.{moves, link_calls_at, options_at, storage_at, dir_at, is_placed, file_at, link_at, whole, item_of}
+use Rattle.ftp_text.proofs.Exact.{Ends, IsNil, IsExact, bind_ok, some_is, pair_exact, made_takes, made_again, behind_text_exact, tested_exact}
 use Rattle.ftp_text.proofs.Values.{begins_decimal, text_exact}
 use Rattle.ftp_text.proofs.HexTexts.{hex_exact}
 use Rattle.ftp_event_text.proofs.EventLemmas.{event_takes, event_again}
+use Rattle.ftp_event_text.proofs.OptionsLemmas.{listening_exact, rules_exact}
 use Rattle.ftp_text.proofs.FieldLemmas.{number_is, small_is, calls_is, link_calls_is}
-
-abbrev Any : List ℕ → Type 0
-Any rest = Unit {0}
 
 -- an item that a line spells
 abbrev IsSpelled : Item → Type 0
 IsSpelled item.Skip = ⊥
 IsSpelled _ = Unit {0}
 
-restart_found : (v : Bool) → find_word restart_text restarts (restart_text v) ≡ Some v
-restart_found true = refl
-restart_found false = refl
+abbrev OptionsFields : Type 0
+OptionsFields = Listening × Rules
 
-restart_is : IsExact (λ (v : Bool). field (restart_text v)) (λ v. Unit {0}) Ends restart_at
-unfolding restart_at word_value
-restart_is = table_exact restart_text restarts refl restart_found
+abbrev options_item : OptionsFields → Item
+options_item x = item.Options x.0.0 x.0.1.0 x.0.1.1 x.1.0 x.1.1.0 x.1.1.1.0 x.1.1.1.1.0 x.1.1.1.1.1
 
--- the control port of a proxy behind its word
-abbrev proxy_text : ℕ → List ℕ
-proxy_text port = codes "proxy:" ++ decimal port
-
-proxy_exact : IsExact proxy_text (λ port. port < 2 ^ 16) NoDigit control_port_at
-proxy_exact = behind_text_exact (codes "proxy:") (small_exact (2 ^ 16) (omega arith))
-
-digit_word : (b : ℕ) → is_ascii_digit b ≡ true → is_word_byte b ≡ true
-digit_word b h = grind (arith, nat_tests)
-
-mode_passes : (m : ListenerMode) → IsMode m → Pass is_word_byte (mode_text m)
-mode_passes Legacy fits = absurd fits
-mode_passes Pooled fits = passes_true is_word_byte (codes "pooled") refl
-mode_passes (Proxy port) fits =
-    pass-append is_word_byte (codes "proxy:") (decimal port) (passes_true is_word_byte (codes "proxy:") refl)
-    (pass-more is_ascii_digit is_word_byte digit_word (decimal port) (digits_pass (decimal port) (digits_decimal own port (omega (arith, fits)))))
-
-mode_takes : (w : List ℕ) (m : ListenerMode) → mode_of w ≡ Some m → (mode_text m ≡ w) × IsMode m
-unfolding mode_of
-mode_takes w m e = cases (bytes_eq w (codes "pooled")) refl e where
-  cases : (b : Bool) → bytes_eq w (codes "pooled") ≡ b → cond b (Some Pooled) (all_of control_port_at w >>= λ port. Some (Proxy port)) ≡ Some m → (mode_text m ≡ w) × IsMode m
-  cases true is e = subst (λ (x : ListenerMode). (mode_text x ≡ w) × IsMode x) (some_is Pooled m e) (sym ((bytes_eq-Decides w (codes "pooled")).0 is), tt)
-  cases false is e =
-      let first = bind_ok (all_of control_port_at w) (λ port. Some (Proxy port)) m e in
-      subst (λ (x : ListenerMode). (mode_text x ≡ w) × IsMode x) (some_is (Proxy first.0) m first.2) (all_of-takes proxy_exact w first.0 first.1)
-
-mode_again : (m : ListenerMode) → IsMode m → mode_of (mode_text m) ≡ Some m
-unfolding mode_of
-mode_again Legacy fits = absurd fits
-mode_again Pooled fits = refl
-mode_again (Proxy port) fits = rw (all_of-again proxy_exact port fits tt) refl
-
-mode_is : IsExact (λ (m : ListenerMode). field (mode_text m)) IsMode Ends mode_at
-unfolding mode_at
-mode_is = word_exact mode_text IsMode mode_of mode_passes mode_takes mode_again
-
--- the options, as a mode, three numbers and a word
-options_exact : IsExact (λ (x : ListenerMode × ((ℕ × ℕ) × (ℕ × Bool))). codes "options" ++ (field (mode_text x.0) ++ (((number x.1.0.0 ++ number x.1.0.1) ++ codes " connection passive") ++ ((number x.1.1.0 ++ codes " off") ++ field (restart_text x.1.1.1)))))
-    (λ (x : ListenerMode × ((ℕ × ℕ) × (ℕ × Bool))). IsMode x.0 × ((((x.1.0.0 < 2 ^ 16) × (x.1.0.1 < 2 ^ 16)) × ((x.1.1.0 < 2 ^ 32) × Unit {0})) × (is_range x.1 ≡ true))) Ends
-    (behind_text (codes "options") (pair mode_at (tested is_range (pair ports_at idle_at))))
-options_exact =
-    behind_text_exact (codes "options")
-    (pair_exact mode_is
-    (tested_exact is_range
-    (pair_exact
-    (before_text_exact {V = Any} (codes " connection passive") (pair_exact (small_is (2 ^ 16) (omega arith)) (small_is (2 ^ 16) (omega arith)) (λ y rest h. refl)) (λ rest h. refl))
-    (pair_exact (before_text_exact {V = Any} (codes " off") (small_is (2 ^ 32) (omega arith)) (λ rest h. refl)) restart_is (λ y rest h. tt))
-    (λ y rest h. tt)))
-    (λ y rest h. refl))
+-- the options, as who listens and what else the sessions go by
+options_exact : IsExact (λ (x : OptionsFields). codes "options" ++ (listening_fields x.0.0 x.0.1.0 x.0.1.1 ++ rule_fields x.1.0 x.1.1.0 x.1.1.1.0 x.1.1.1.1.0 x.1.1.1.1.1))
+    (λ (x : OptionsFields). IsListening x.0.0 x.0.1.0 x.0.1.1 × AreRules x.1.0 x.1.1.1.0 x.1.1.1.1.0) Ends
+    (behind_text (codes "options") (pair listening_at rules_at))
+options_exact = behind_text_exact (codes "options") (pair_exact listening_exact rules_exact (λ y rest h. refl))
 
 -- the storage, as a number and the calls that fail
 storage_exact : IsExact (λ (x : ℕ × List ℕ). codes "storage" ++ (number x.0 ++ field (listed decimal x.1)))
@@ -129,12 +76,6 @@ link_exact =
     hex_exact
     (λ y rest h. refl)))
 
-range_true : (lo hi : ℕ) → leb 1 lo && leb lo hi ≡ true → (1 ≤ lo) × (lo ≤ hi)
-range_true lo hi e = let b = and_parts (leb 1 lo) (leb lo hi) e in (leb-true _ _ b.0, leb-true _ _ b.1)
-
-true_range : (lo hi : ℕ) → 1 ≤ lo → lo ≤ hi → leb 1 lo && leb lo hi ≡ true
-true_range lo hi some le = rw (le-leb 1 lo some, le-leb lo hi le) refl
-
 -- what a reader of lines finds is an item that the line spells
 abbrev Takes : Reader Item → Type 0
 Takes read = (line : List ℕ) (y : Item × List ℕ) → read line ≡ Some y → (line ≡ item_line y.0 ++ y.1) × (IsItem y.0 × IsSpelled y.0)
@@ -142,8 +83,7 @@ Takes read = (line : List ℕ) (y : Item × List ℕ) → read line ≡ Some y �
 options_takes : Takes options_at
 unfolding options_at
 options_takes line y e =
-    made_takes options_exact (λ x. item.Options x.0 x.1.0.0 x.1.0.1 x.1.1.0 x.1.1.1) item_line (λ i. IsItem i × IsSpelled i) [] (λ x. refl)
-    (λ x f. let r = range_true x.1.0.0 x.1.0.1 f.1.1 in ((f.0, r.0, r.1, f.1.0.0.1, f.1.0.1.0), tt)) line y e
+    made_takes options_exact options_item item_line (λ i. IsItem i × IsSpelled i) [] (λ x. refl) (λ x f. (f, tt)) line y e
 
 storage_takes : Takes storage_at
 unfolding storage_at
@@ -167,7 +107,7 @@ link_takes line y e =
 
 spelled_is : (line : List ℕ) (i : Item) → IsSpelled i → item_line i ≡ line → IsItem i → IsItemOf line i
 spelled_is line item.Skip s e f = absurd s
-spelled_is line (item.Options mode lo hi idle restart) s e f = (e, f)
+spelled_is line (item.Options mode lo hi host active idle lockout restart) s e f = (e, f)
 spelled_is line (item.Storage max fails) s e f = (e, f)
 spelled_is line (item.Dir path) s e f = (e, f)
 spelled_is line (item.File bytes path) s e f = (e, f)
@@ -191,12 +131,9 @@ IsRead i = item_of (item_line i) ≡ Some i
 read_whole : (read : Reader Item) (i : Item) → read (item_line i ++ []) ≡ Some (i, []) → whole (read (item_line i)) ≡ Some i
 read_whole read i e = ap whole (ap read (sym (append-nil (item_line i))) ∙ e)
 
-options_again : (mode : ListenerMode) (lo hi idle : ℕ) (restart : Bool) → IsItem (item.Options mode lo hi idle restart) → IsRead (item.Options mode lo hi idle restart)
+options_again : (x : OptionsFields) → IsItem (options_item x) → IsRead (options_item x)
 unfolding item_of options_at
-options_again mode lo hi idle restart f =
-    let x : ListenerMode × ((ℕ × ℕ) × (ℕ × Bool)) = (mode, ((lo, hi), (idle, restart))) in
-    read_whole options_at (item.Options mode lo hi idle restart)
-    (made_again options_exact (λ y. item.Options y.0 y.1.0.0 y.1.0.1 y.1.1.0 y.1.1.1) x [] (f.0, (((omega (arith, f.2, f.3), f.3), (f.4, tt)), true_range lo hi f.1 f.2)) tt)
+options_again x f = read_whole options_at (options_item x) (made_again options_exact options_item x [] f tt)
 
 storage_again : (max : ℕ) (fails : List ℕ) → IsItem (item.Storage max fails) → IsRead (item.Storage max fails)
 unfolding item_of storage_at
@@ -269,7 +206,9 @@ item_takes line i e = item_cases (is_skipped line) (begins 111 line) (begins 115
 pub item_again : (line : List ℕ) (i : Item) → IsItemOf line i → item_of line ≡ Some i
 unfolding item_of
 item_again line item.Skip p = rw p refl
-item_again line (item.Options mode lo hi idle restart) p = ap item_of (sym p.0) ∙ options_again mode lo hi idle restart p.1
+item_again line (item.Options mode lo hi host active idle lockout restart) p =
+    let x : OptionsFields = ((mode, (lo, hi)), (host, (active, (idle, (lockout, restart))))) in
+    ap item_of (sym p.0) ∙ options_again x p.1
 item_again line (item.Storage max fails) p = ap item_of (sym p.0) ∙ storage_again max fails p.1
 item_again line (item.Dir path) p = ap item_of (sym p.0) ∙ dir_again path p.1
 item_again line (item.File bytes path) p = ap item_of (sym p.0) ∙ file_again bytes path p.1

@@ -13,9 +13,9 @@ use Rattle.ftp_text.specs.Reading.{◌>>=◌, Reader, made, number_at, word_valu
 -- all words of events
 abbrev pub event_words : List EventWord
 event_words =
-    word.Connect ∷ word.Proxied ∷ word.Data ∷ word.User ∷ word.Pass ∷ word.Auth ∷ word.Pasv
-    ∷ word.Retr ∷ word.Stor ∷ word.Appe ∷ word.List ∷ word.Nlst ∷ word.Mlsd ∷ word.Stou
-    ∷ word.Rest ∷ word.Cwd ∷ word.Closed ∷ word.Quit ∷ word.End ∷ []
+    word.Connect ∷ word.Proxied ∷ word.Data ∷ word.Accepted ∷ word.User ∷ word.Pass ∷ word.Auth ∷ word.Pasv
+    ∷ word.Port ∷ word.Retr ∷ word.Stor ∷ word.Appe ∷ word.List ∷ word.Nlst ∷ word.Mlsd ∷ word.Stou
+    ∷ word.Rest ∷ word.Cwd ∷ word.Closed ∷ word.Quit ∷ word.Slot ∷ word.End ∷ word.Sweep ∷ []
 
 -- the word of an event
 abbrev pub event_word_field : Reader EventWord
@@ -26,10 +26,12 @@ abbrev pub maker : (w : EventWord) → Takes (form w) EventKind
 maker word.Connect = kind.Connect
 maker word.Proxied = kind.Proxied
 maker word.Data = kind.DataIn
+maker word.Accepted = kind.Accepted
 maker word.User = kind.User
 maker word.Pass = kind.Pass
 maker word.Auth = kind.AuthDone
 maker word.Pasv = kind.Pasv
+maker word.Port = λ s number text. kind.Port s text number
 maker word.Retr = λ s path. kind.Transfer s (command.Retr path)
 maker word.Stor = λ s path. kind.Transfer s (command.Stor path)
 maker word.Appe = λ s path. kind.Transfer s (command.Appe path)
@@ -41,7 +43,9 @@ maker word.Rest = kind.Rest
 maker word.Cwd = λ s refusal path. kind.Cwd s path refusal
 maker word.Closed = kind.Closed
 maker word.Quit = kind.Quit
+maker word.Slot = kind.SlotTick
 maker word.End = λ t. kind.End (record { session = t.0; nr = t.1 })
+maker word.Sweep = kind.Sweep
 
 -- the event of a word and the values behind it
 abbrev pub kind_of : (w : EventWord) → Values (form w) → EventKind

@@ -7,17 +7,19 @@ use Rattle.ftp_events.specs.declared.event.HubEvent.{HubEvent}
 use Rattle.ftp_event_text.specs.declared.word.EventWord.{EventWord}
 use Rattle.ftp_event_text.specs.declared.word.EventWord.TheVariants as word
 use Rattle.ftp_text.specs.Fields.{field}
-use Rattle.ftp_text.specs.Forms.{Form, Last, Text, MaybeText, ◌▸◌, Number, Port, Address, Ticket, Answer, Refusal, HexWord, MaybeIp, MaybePort, Values, all_spelled, AllFit, Takes, gather}
+use Rattle.ftp_text.specs.Forms.{Form, Nothing, Last, Text, MaybeText, ◌▸◌, Number, Port, Address, Ticket, Answer, Refusal, HexWord, MaybeIp, MaybePort, MaybeNumber, Values, all_spelled, AllFit, Takes, gather}
 
 -- the word of each kind of event
 abbrev pub event_word_text : EventWord → List ℕ
 event_word_text word.Connect = codes "connect"
 event_word_text word.Proxied = codes "proxied"
 event_word_text word.Data = codes "data"
+event_word_text word.Accepted = codes "accepted"
 event_word_text word.User = codes "user"
 event_word_text word.Pass = codes "pass"
 event_word_text word.Auth = codes "auth"
 event_word_text word.Pasv = codes "pasv"
+event_word_text word.Port = codes "port"
 event_word_text word.Retr = codes "retr"
 event_word_text word.Stor = codes "stor"
 event_word_text word.Appe = codes "appe"
@@ -29,17 +31,21 @@ event_word_text word.Rest = codes "rest"
 event_word_text word.Cwd = codes "cwd"
 event_word_text word.Closed = codes "closed"
 event_word_text word.Quit = codes "quit"
+event_word_text word.Slot = codes "slot"
 event_word_text word.End = codes "end"
+event_word_text word.Sweep = codes "sweep"
 
 -- the form of each line: what stands behind its word
 abbrev pub form : EventWord → Form
 form word.Connect = Number ▸ Address ▸ Address ▸ Last Number
 form word.Proxied = Number ▸ Address ▸ Last Number
 form word.Data = Number ▸ Address ▸ Last Port
+form word.Accepted = Number ▸ Number ▸ Last Address
 form word.User = Number ▸ Text
 form word.Pass = Last Number
 form word.Auth = Number ▸ Last Answer
 form word.Pasv = Number ▸ Port ▸ MaybeIp ▸ Last MaybePort
+form word.Port = Number ▸ MaybeNumber ▸ Text
 form word.Retr = Number ▸ Text
 form word.Stor = Number ▸ Text
 form word.Appe = Number ▸ Text
@@ -51,7 +57,9 @@ form word.Rest = Number ▸ Last Number
 form word.Cwd = Number ▸ Refusal ▸ Text
 form word.Closed = Last Number
 form word.Quit = Last Number
+form word.Slot = Last Number
 form word.End = Last Ticket
+form word.Sweep = Nothing
 
 -- what a line says: its word, and the values of its form
 abbrev pub Told : Type 0
@@ -66,10 +74,12 @@ abbrev pub told : EventKind → Told
 told (kind.Connect s raw local trace) = say word.Connect s raw local trace
 told (kind.Proxied n raw trace) = say word.Proxied n raw trace
 told (kind.DataIn n raw port) = say word.Data n raw port
+told (kind.Accepted s n raw) = say word.Accepted s n raw
 told (kind.User s name) = say word.User s name
 told (kind.Pass s) = say word.Pass s
 told (kind.AuthDone s answer) = say word.Auth s answer
 told (kind.Pasv s random lookup bound) = say word.Pasv s random lookup bound
+told (kind.Port s text number) = say word.Port s number text
 told (kind.Transfer s (command.Retr path)) = say word.Retr s path
 told (kind.Transfer s (command.Stor path)) = say word.Stor s path
 told (kind.Transfer s (command.Appe path)) = say word.Appe s path
@@ -81,7 +91,9 @@ told (kind.Rest s offset) = say word.Rest s offset
 told (kind.Cwd s path refusal) = say word.Cwd s refusal path
 told (kind.Closed s) = say word.Closed s
 told (kind.Quit s) = say word.Quit s
+told (kind.SlotTick s) = say word.Slot s
 told (kind.End t) = say word.End (t.session, t.nr)
+told kind.Sweep = say word.Sweep
 
 -- the word as a field
 abbrev pub word_field : EventWord → List ℕ

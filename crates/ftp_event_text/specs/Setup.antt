@@ -1,36 +1,22 @@
 -- The lines of a script: what is skipped, the set-up lines, and the events. And the lines behind the log.
-use Rattle.std.specs.Prelude.{◌≡◌, ℕ, ◌^◌, ◌<◌, ◌≤◌, ◌==◌, Bool, true, false, List, [], ◌∷◌, ◌++◌, codes, decimal}
-use Rattle.ftp_options.specs.declared.options.ListenerMode.{ListenerMode}
-use Rattle.ftp_options.specs.declared.options.ListenerMode.TheVariants.{Legacy, Pooled, Proxy}
+use Rattle.std.specs.Prelude.{◌≡◌, ℕ, ◌^◌, ◌<◌, ◌≤◌, ◌==◌, Bool, true, List, [], ◌∷◌, ◌++◌, codes, decimal}
 use Rattle.ftp_event_text.specs.declared.setup.Item.{Item}
 use Rattle.ftp_event_text.specs.declared.setup.Item.TheVariants as item
 use Rattle.ftp_text.specs.Fields.{field, number, hex_text, escape, listed, link_call_text, IsText, AreCalls}
 use Rattle.ftp_text.specs.Reading.{begins}
 use Rattle.ftp_event_text.specs.Events.{event_line, IsEvent}
+use Rattle.ftp_event_text.specs.Options.{listening_fields, rule_fields, IsListening, AreRules}
 
 -- a line that is skipped: it is empty or a comment
 abbrev pub is_skipped : List ℕ → Bool
 is_skipped [] = true
 is_skipped (c ∷ line) = c == 35
 
--- who listens for data connections: all sessions share the listeners, or a proxy does, with its control port; listeners of
--- each session's own have no line
-abbrev pub mode_text : ListenerMode → List ℕ
-mode_text Legacy = []
-mode_text Pooled = codes "pooled"
-mode_text (Proxy port) = codes "proxy:" ++ decimal port
-
--- whether transfers can begin at a restart offset
-abbrev pub restart_text : Bool → List ℕ
-restart_text true = codes "restart"
-restart_text false = codes "norestart"
-
 -- the line of an item; of what is skipped, one of many
 abbrev pub item_line : Item → List ℕ
 item_line item.Skip = []
-item_line (item.Options mode lo hi idle restart) =
-    codes "options"
-    ++ (field (mode_text mode) ++ (((number lo ++ number hi) ++ codes " connection passive") ++ ((number idle ++ codes " off") ++ field (restart_text restart))))
+item_line (item.Options mode lo hi host active idle lockout restart) =
+    codes "options" ++ (listening_fields mode lo hi ++ rule_fields host active idle lockout restart)
 item_line (item.Storage max fails) = codes "storage" ++ (number max ++ field (listed decimal fails))
 item_line (item.Dir path) = codes "dir" ++ field (escape path)
 item_line (item.File bytes path) = codes "file" ++ (field (hex_text bytes) ++ field (escape path))
@@ -42,17 +28,11 @@ item_line (item.Event e) = event_line e
 abbrev pub is_absolute : List ℕ → Bool
 is_absolute path = begins 47 path
 
--- the mode has a line, and its port fits its type
-abbrev pub IsMode : ListenerMode → Type 0
-IsMode Legacy = ⊥
-IsMode Pooled = Unit {0}
-IsMode (Proxy port) = port < 2 ^ 16
-
--- the mode has a line, the ports are a range without 0, a call moves 1 to 65,536 bytes, the calls that fail rise from 1 on,
+-- the options build, a call moves 1 to 65,536 bytes, the calls that fail rise from 1 on,
 -- paths are absolute, and all lies in the ranges of the types
 abbrev pub IsItem : Item → Type 0
 IsItem item.Skip = Unit {0}
-IsItem (item.Options mode lo hi idle restart) = IsMode mode × (1 ≤ lo) × (lo ≤ hi) × (hi < 2 ^ 16) × (idle < 2 ^ 32)
+IsItem (item.Options mode lo hi host active idle lockout restart) = IsListening mode lo hi × AreRules host idle lockout
 IsItem (item.Storage max fails) = (max < 2 ^ 64) × AreCalls (λ call. call) fails
 IsItem (item.Dir path) = IsText path × (is_absolute path ≡ true)
 IsItem (item.File bytes path) = IsText bytes × IsText path × (is_absolute path ≡ true)

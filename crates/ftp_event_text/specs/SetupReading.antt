@@ -1,56 +1,22 @@
 -- Reading a line of a script.
-use Rattle.std.specs.Prelude.{ℕ, ◌^◌, ◌==◌, ◌&&◌, nat_le, Bool, true, false, List, [], ◌∷◌, length, codes, Option, Some, None, if◌then◌else◌}
-use Rattle.std.specs.Str.{bytes_eq}
-use Rattle.ftp_options.specs.declared.options.ListenerMode.{ListenerMode}
-use Rattle.ftp_options.specs.declared.options.ListenerMode.TheVariants.{Pooled, Proxy}
+use Rattle.std.specs.Prelude.{ℕ, ◌==◌, nat_le, Bool, List, length, codes, Option, Some, None, if◌then◌else◌}
 use Rattle.ftp_event_text.specs.declared.setup.Item.{Item}
 use Rattle.ftp_event_text.specs.declared.setup.Item.TheVariants as item
 use Rattle.ftp_base.specs.declared.fault.LinkFault.{LinkFault}
-use Rattle.ftp_text.specs.Reading.{◌>>=◌, Reader, pair, made, tested, begins, behind_text, before_text, all_of, small_at, small_field, number_field, hex_field, text_field, word_as, find_word, calls_field, call_of, link_call_of}
+use Rattle.ftp_text.specs.Reading.{◌>>=◌, Reader, pair, made, tested, begins, behind_text, small_field, number_field, hex_field, text_field, calls_field, call_of, link_call_of}
 use Rattle.ftp_event_text.specs.EventReading.{event_of}
-use Rattle.ftp_event_text.specs.Setup.{is_skipped, is_absolute, restart_text}
-
--- the ports are a range without 0
-abbrev pub is_range : (ℕ × ℕ) × (ℕ × Bool) → Bool
-is_range x = nat_le 1 x.0.0 && nat_le x.0.0 x.0.1
+use Rattle.ftp_event_text.specs.Setup.{is_skipped, is_absolute}
+use Rattle.ftp_event_text.specs.OptionsReading.{listening_at, rules_at}
 
 -- a call moves bytes
 abbrev pub moves : ((ℕ × ℕ) × List (ℕ × LinkFault)) × List ℕ → Bool
 moves x = nat_le 1 x.0.0.1
 
--- the control port of a proxy
-abbrev pub control_port_at : Reader ℕ
-control_port_at = behind_text (codes "proxy:") (small_at (2 ^ 16))
-
--- the mode that all of a word spells
-unfoldable pub mode_of : List ℕ → Option ListenerMode
-mode_of w = if bytes_eq w (codes "pooled") then Some Pooled else (all_of control_port_at w >>= λ port. Some (Proxy port))
-
--- the mode
-unfoldable pub mode_at : Reader ListenerMode
-mode_at bytes = word_as mode_of bytes
-
--- the two ports and what stands behind them
-abbrev pub ports_at : Reader (ℕ × ℕ)
-ports_at bytes = before_text (codes " connection passive") (pair (small_field (2 ^ 16)) (small_field (2 ^ 16))) bytes
-
--- both words on restart offsets
-abbrev pub restarts : List Bool
-restarts = true ∷ false ∷ []
-
--- whether transfers can begin at a restart offset
-unfoldable pub restart_at : Reader Bool
-restart_at bytes = word_as (find_word restart_text restarts) bytes
-
--- the idle time and what stands behind it
-abbrev pub idle_at : Reader (ℕ × Bool)
-idle_at bytes = pair (before_text (codes " off") (small_field (2 ^ 32))) restart_at bytes
-
 -- the line of the options
 unfoldable pub options_at : Reader Item
 options_at =
-    made (λ x. item.Options x.0 x.1.0.0 x.1.0.1 x.1.1.0 x.1.1.1)
-    (behind_text (codes "options") (pair mode_at (tested is_range (pair ports_at idle_at))))
+    made (λ x. item.Options x.0.0 x.0.1.0 x.0.1.1 x.1.0 x.1.1.0 x.1.1.1.0 x.1.1.1.1.0 x.1.1.1.1.1)
+    (behind_text (codes "options") (pair listening_at rules_at))
 
 -- the line of the storage
 unfoldable pub storage_at : Reader Item

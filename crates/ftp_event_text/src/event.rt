@@ -57,6 +57,7 @@ fn fields(alloc: Global, word: EventWord, bytes: &[u8]) -> Result<(EventKind, &[
         EventWord::Connect => connect(bytes),
         EventWord::Proxied => proxied(bytes),
         EventWord::Data => data_in(bytes),
+        EventWord::Accepted => accepted(bytes),
         EventWord::User => Ok(made(
             on_text(alloc, bytes)?,
             |(session, name)| EventKind::User { session, name },
@@ -64,6 +65,7 @@ fn fields(alloc: Global, word: EventWord, bytes: &[u8]) -> Result<(EventKind, &[
         EventWord::Pass => Ok(made(number(bytes)?, |session| EventKind::Pass { session })),
         EventWord::Auth => auth(bytes),
         EventWord::Pasv => pasv(bytes),
+        EventWord::Port => port(alloc, bytes),
         EventWord::Retr => Ok(transfer(on_text(alloc, bytes)?, |path| DataChanCmd::Retr { path })),
         EventWord::Stor => Ok(transfer(on_text(alloc, bytes)?, |path| DataChanCmd::Stor { path })),
         EventWord::Appe => Ok(transfer(on_text(alloc, bytes)?, |path| DataChanCmd::Appe { path })),
@@ -84,7 +86,9 @@ fn fields(alloc: Global, word: EventWord, bytes: &[u8]) -> Result<(EventKind, &[
         EventWord::Cwd => cwd(alloc, bytes),
         EventWord::Closed => Ok(made(number(bytes)?, |session| EventKind::Closed { session })),
         EventWord::Quit => Ok(made(number(bytes)?, |session| EventKind::Quit { session })),
+        EventWord::Slot => Ok(made(number(bytes)?, |session| EventKind::SlotTick { session })),
         EventWord::End => end(bytes),
+        EventWord::Sweep => Ok((EventKind::Sweep, bytes)),
     }
 }
 
@@ -175,6 +179,21 @@ fn data_in(bytes: &[u8]) -> Result<(EventKind, &[u8]), LineFault>
 }
 
 #[tactic(auto, unfolding(crate::specs::EventReading::read_as))]
+fn accepted(bytes: &[u8]) -> Result<(EventKind, &[u8]), LineFault>
+    ensures { Gives (λ x. (x.0, x.1.now)) result (fields_at word.Accepted bytes.now) }
+{
+    let (session, rest) = number(bytes)?;
+    let (number, rest) = field::number(rest)?;
+    let (raw, rest) = field::address(rest)?;
+    let kind = EventKind::Accepted {
+        session,
+        number,
+        raw,
+    };
+    Ok((kind, rest))
+}
+
+#[tactic(auto, unfolding(crate::specs::EventReading::read_as))]
 fn auth(bytes: &[u8]) -> Result<(EventKind, &[u8]), LineFault>
     ensures { Gives (λ x. (x.0, x.1.now)) result (fields_at word.Auth bytes.now) }
 {
@@ -196,6 +215,21 @@ fn pasv(bytes: &[u8]) -> Result<(EventKind, &[u8]), LineFault>
         word,
         lookup,
         bound,
+    };
+    Ok((kind, rest))
+}
+
+#[tactic(auto, unfolding(crate::specs::EventReading::read_as))]
+fn port(alloc: Global, bytes: &[u8]) -> Result<(EventKind, &[u8]), LineFault>
+    ensures { Gives (λ x. (x.0, x.1.now)) result (fields_at word.Port bytes.now) }
+{
+    let (session, rest) = number(bytes)?;
+    let (number, rest) = field::optional_number(rest)?;
+    let (text, rest) = field::text_to_end(alloc, rest)?;
+    let kind = EventKind::Port {
+        session,
+        text,
+        number,
     };
     Ok((kind, rest))
 }

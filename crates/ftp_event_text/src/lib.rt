@@ -5,6 +5,7 @@
 #![tactic(auto)]
 
 mod event;
+mod options;
 mod printing;
 mod setup;
 mod word;

@@ -120,8 +120,15 @@ fn decision_text(decision: Decision) -> &'static [u8]
         Decision::LoggedIn => b"loggedin",
         Decision::LoginFailed { lock: _, delay: _ } => b"loginfailed",
         Decision::NotLoggedIn => b"notloggedin",
+        Decision::ModeOff => b"modeoff",
         Decision::Full => b"full",
+        Decision::NoLookup => b"nolookup",
         Decision::Granted { port: _ } => b"granted",
+        Decision::NoSocket => b"nosocket",
+        Decision::BadAddress => b"badaddress",
+        Decision::OtherAddress => b"otheraddress",
+        Decision::NoConnection => b"noconnection",
+        Decision::PortOk => b"portok",
         Decision::NoSlot => b"noslot",
         Decision::Queued { ticket: _ } => b"queued",
         Decision::Finished => b"finished",
@@ -131,6 +138,9 @@ fn decision_text(decision: Decision) -> &'static [u8]
         Decision::CwdOk => b"cwdok",
         Decision::Closed => b"closed",
         Decision::Quit => b"quit",
+        Decision::Early => b"early",
+        Decision::SlotDropped => b"slotdropped",
+        Decision::Swept => b"swept",
     }
 }
 

@@ -1,35 +1,38 @@
 //! The lines of a script, and the lines behind the log.
 
-ghost use Rattle.std.specs.Prelude.{◌≡◌, ◌++◌, ◌^◌, ◌<◌, ℕ, true, IfOk, OnOk, IsErrOf, Some};
+ghost use Rattle.std.specs.Prelude.{◌≡◌, ◌++◌, ◌<◌, IfOk, OnOk, IsErrOf, Some};
 ghost use Rattle.ftp_text.specs.declared.fault.LineFault.TheVariants as fault;
 ghost use Rattle.ftp_event_text.specs.declared.setup.Item.{Item};
-ghost use Rattle.ftp_event_text.specs.Setup.{is_skipped, restart_text, is_absolute, IsItemOf, sent_line, file_line};
-ghost use Rattle.ftp_text.specs.Reading.{Gives, find_word};
-ghost use Rattle.ftp_event_text.specs.SetupReading.{ports_at, restarts, restart_at, idle_at, mode_of, mode_at, options_at, storage_at, dir_at, file_at, link_calls_at, link_at, whole, item_of};
+ghost use Rattle.ftp_event_text.specs.Setup.{is_skipped, is_absolute, IsItemOf, sent_line, file_line};
+ghost use Rattle.ftp_text.specs.Reading.{Gives};
+ghost use Rattle.ftp_event_text.specs.SetupReading.{options_at, storage_at, dir_at, file_at, link_calls_at, link_at, whole, item_of};
 
 use crate::event::read_event;
+use crate::options::{listening, rules};
 use ftp_base::{Bytes, LinkFault};
 use ftp_events::HubEvent;
-use ftp_options::ListenerMode;
+use ftp_options::{ActivePassiveMode, FailedLoginsPolicy, ListenerMode, PassiveHost};
 use ftp_text::field::{self, literal};
 use ftp_text::writing::{put, put_byte, put_hex_bytes, put_number, put_text_field};
 use ftp_text::{FailingCalls, LineFault, failing_calls};
 use std::alloc::{AllocError, Global};
-
-const RESTARTS: [bool; 2] = [true, false];
 
 /// What a line of a script says.
 #[derive(Drop)]
 pub enum Item {
     /// Nothing: the line is empty or a comment.
     Skip,
-    /// Who listens, the passive ports, both included, and an idle time in seconds. Transfers can begin at a restart
+    /// Who listens, the passive ports, both included, the host that a passive reply advertises, which commands open
+    /// data connections, an idle time in seconds, and when failed logins lock. Transfers can begin at a restart
     /// offset, or cannot.
     Options {
         mode: ListenerMode,
         lo: u16,
         hi: u16,
+        host: PassiveHost,
+        active: ActivePassiveMode,
         idle: u32,
+        lockout: Option<FailedLoginsPolicy>,
         restart: bool,
     },
     /// A storage whose files have at most `max` bytes, of whose calls these fail.
@@ -81,7 +84,7 @@ fn item_in(alloc: Global, line: &[u8]) -> Result<Item, LineFault>
         return Ok(Item::Skip);
     }
     match line {
-        [b'o', ..] => whole(options(line)?),
+        [b'o', ..] => whole(options(alloc, line)?),
         [b's', ..] => whole(storage(alloc, line)?),
         [b'd', ..] => whole(dir(alloc, line)?),
         [b'f', ..] => whole(file(alloc, line)?),
@@ -112,94 +115,23 @@ fn whole(read: (Item, &[u8])) -> Result<Item, LineFault>
 }
 
 #[tactic(auto, unfolding(crate::specs::SetupReading::options_at))]
-fn options(bytes: &[u8]) -> Result<(Item, &[u8]), LineFault>
+fn options(alloc: Global, bytes: &[u8]) -> Result<(Item, &[u8]), LineFault>
     ensures { Gives (λ x. (x.0, x.1.now)) result (options_at bytes.now) }
 {
     let rest = literal(b"options", bytes)?;
-    let (mode, rest) = mode(rest)?;
-    let ((lo, hi), rest) = ports(rest)?;
-    let ((idle, restart), rest) = idle(rest)?;
-    if lo < 1 || hi < lo {
-        return Err(LineFault::Bad);
-    }
+    let ((mode, (lo, hi)), rest) = listening(rest)?;
+    let ((host, (active, (idle, (lockout, restart)))), rest) = rules(alloc, rest)?;
     let item = Item::Options {
         mode,
-        lo: lo as u16,
-        hi: hi as u16,
-        idle: idle as u32,
+        lo,
+        hi,
+        host,
+        active,
+        idle,
+        lockout,
         restart,
     };
     Ok((item, rest))
-}
-
-#[tactic(auto, unfolding(crate::specs::SetupReading::mode_at))]
-fn mode(bytes: &[u8]) -> Result<(ListenerMode, &[u8]), LineFault>
-    ensures { Gives (λ x. (x.0, x.1.now)) result (mode_at bytes.now) }
-{
-    let (word, rest) = field::word(bytes)?;
-    let found = mode_of(word)?;
-    Ok((found, rest))
-}
-
-#[tactic(auto, unfolding(crate::specs::SetupReading::mode_of))]
-fn mode_of(word: &[u8]) -> Result<ListenerMode, LineFault>
-    ensures { Gives (λ x. x) result (mode_of word.now) }
-{
-    if word == b"pooled".as_slice() {
-        return Ok(ListenerMode::Pooled);
-    }
-    let (control_port, rest) = field::port_here(literal(b"proxy:", word)?)?;
-    if rest.is_empty() {
-        Ok(ListenerMode::Proxy { control_port })
-    } else {
-        Err(LineFault::Bad)
-    }
-}
-
-fn ports(bytes: &[u8]) -> Result<((u64, u64), &[u8]), LineFault>
-    ensures read { Gives (λ x. (x.0, x.1.now)) result (ports_at bytes.now) }
-    ensures limit { IfOk result (λ x. (x.0.0 < 2 ^ 16) × (x.0.1 < 2 ^ 16)) }
-{
-    let (lo, rest) = field::small(65536, bytes)?;
-    let (hi, rest) = field::small(65536, rest)?;
-    let rest = literal(b" connection passive", rest)?;
-    Ok(((lo, hi), rest))
-}
-
-fn idle(bytes: &[u8]) -> Result<((u64, bool), &[u8]), LineFault>
-    ensures read { Gives (λ x. (x.0, x.1.now)) result (idle_at bytes.now) }
-    ensures limit { IfOk result (λ x. x.0.0 < 2 ^ 32) }
-{
-    let (idle, rest) = field::small(4294967296, bytes)?;
-    let rest = literal(b" off", rest)?;
-    let (restart, rest) = restart(rest)?;
-    Ok(((idle, restart), rest))
-}
-
-#[tactic(auto, unfolding(crate::specs::SetupReading::restart_at))]
-fn restart(bytes: &[u8]) -> Result<(bool, &[u8]), LineFault>
-    ensures { Gives (λ x. (x.0, x.1.now)) result (restart_at bytes.now) }
-{
-    let (text, rest) = field::word(bytes)?;
-    match restart_of(text) {
-        Some(restart) => Ok((restart, rest)),
-        None => Err(LineFault::Bad),
-    }
-}
-
-fn restart_of(text: &[u8]) -> Option<bool>
-    ensures { result ≡ find_word restart_text restarts text.now }
-{
-    RESTARTS
-        .iter()
-        .copied()
-        .find(|restart| restart_text(*restart) == text)
-}
-
-fn restart_text(restart: bool) -> &'static [u8]
-    ensures { result.now ≡ restart_text restart }
-{
-    if restart { b"restart" } else { b"norestart" }
 }
 
 #[tactic(auto, unfolding(crate::specs::SetupReading::storage_at))]

@@ -11,10 +11,12 @@ pub enum EventWord {
     Connect,
     Proxied,
     Data,
+    Accepted,
     User,
     Pass,
     Auth,
     Pasv,
+    Port,
     Retr,
     Stor,
     Appe,
@@ -26,17 +28,21 @@ pub enum EventWord {
     Cwd,
     Closed,
     Quit,
+    Slot,
     End,
+    Sweep,
 }
 
-const EVENT_WORDS: [EventWord; 19] = [
+const EVENT_WORDS: [EventWord; 23] = [
     EventWord::Connect,
     EventWord::Proxied,
     EventWord::Data,
+    EventWord::Accepted,
     EventWord::User,
     EventWord::Pass,
     EventWord::Auth,
     EventWord::Pasv,
+    EventWord::Port,
     EventWord::Retr,
     EventWord::Stor,
     EventWord::Appe,
@@ -48,7 +54,9 @@ const EVENT_WORDS: [EventWord; 19] = [
     EventWord::Cwd,
     EventWord::Closed,
     EventWord::Quit,
+    EventWord::Slot,
     EventWord::End,
+    EventWord::Sweep,
 ];
 
 impl Word for EventWord {
@@ -61,10 +69,12 @@ impl Word for EventWord {
             EventWord::Connect => b"connect",
             EventWord::Proxied => b"proxied",
             EventWord::Data => b"data",
+            EventWord::Accepted => b"accepted",
             EventWord::User => b"user",
             EventWord::Pass => b"pass",
             EventWord::Auth => b"auth",
             EventWord::Pasv => b"pasv",
+            EventWord::Port => b"port",
             EventWord::Retr => b"retr",
             EventWord::Stor => b"stor",
             EventWord::Appe => b"appe",
@@ -76,7 +86,9 @@ impl Word for EventWord {
             EventWord::Cwd => b"cwd",
             EventWord::Closed => b"closed",
             EventWord::Quit => b"quit",
+            EventWord::Slot => b"slot",
             EventWord::End => b"end",
+            EventWord::Sweep => b"sweep",
         }
     }
 

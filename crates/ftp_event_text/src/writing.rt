@@ -7,12 +7,13 @@ ghost use Rattle.ftp_text.specs.Fields.{number, field, escape, optional_text};
 ghost use Rattle.ftp_event_text.specs.Events.{word_field, kind_fields, event_line};
 
 use crate::word::EventWord;
-use ftp_base::{Bytes, DataChanCmd, ErrorKind, SocketAddr};
+use ftp_base::{AuthAnswer, Bytes, DataChanCmd, ErrorKind, SocketAddr};
 use ftp_events::{EventKind, HubEvent};
 use ftp_text::Word;
 use ftp_text::writing::{
     put_address, put_answer, put_decimal, put_field, put_hex_word, put_number, put_optional_dotted,
-    put_optional_port, put_optional_text, put_refusal, put_text_field, put_ticket,
+    put_optional_number, put_optional_port, put_optional_text, put_refusal, put_text_field,
+    put_ticket,
 };
 use ftp_transfer::Ticket;
 use std::alloc::AllocError;
@@ -37,23 +38,25 @@ fn put_kind(out: &mut Vec<u8>, kind: &EventKind) -> Result<(), AllocError>
         } => put_connect(out, *session, *raw, *local, *trace),
         EventKind::Proxied { number, raw, trace } => put_proxied(out, *number, *raw, *trace),
         EventKind::DataIn { number, raw, port } => put_data_in(out, *number, *raw, *port),
-        EventKind::User { session, name } => put_named(
-            out,
-            EventWord::User,
-            *session,
-            name.as_slice(),
-        ),
+        EventKind::Accepted {
+            session,
+            number,
+            raw,
+        } => put_accepted(out, *session, *number, *raw),
+        EventKind::User { session, name } => put_named(out, EventWord::User, *session, name),
         EventKind::Pass { session } => put_numbered(out, EventWord::Pass, *session),
-        EventKind::AuthDone { session, answer } => {
-            put_numbered(out, EventWord::Auth, *session)?;
-            put_answer(out, *answer)
-        }
+        EventKind::AuthDone { session, answer } => put_auth(out, *session, *answer),
         EventKind::Pasv {
             session,
             word,
             lookup,
             bound,
         } => put_pasv(out, *session, *word, *lookup, *bound),
+        EventKind::Port {
+            session,
+            text,
+            number,
+        } => put_port(out, *session, text, *number),
         EventKind::Transfer { session, command } => put_transfer(out, *session, command),
         EventKind::Stou { session, word } => put_stou(out, *session, *word),
         EventKind::Rest { session, offset } => put_rest(out, *session, *offset),
@@ -61,10 +64,12 @@ fn put_kind(out: &mut Vec<u8>, kind: &EventKind) -> Result<(), AllocError>
             session,
             path,
             refusal,
-        } => put_cwd(out, *session, path.as_slice(), *refusal),
+        } => put_cwd(out, *session, path, *refusal),
         EventKind::Closed { session } => put_numbered(out, EventWord::Closed, *session),
         EventKind::Quit { session } => put_numbered(out, EventWord::Quit, *session),
+        EventKind::SlotTick { session } => put_numbered(out, EventWord::Slot, *session),
         EventKind::End { ticket } => put_end(out, *ticket),
+        EventKind::Sweep => put_field(out, EventWord::Sweep.text()),
     }
 }
 
@@ -104,6 +109,26 @@ fn put_data_in(out: &mut Vec<u8>, number: u64, raw: SocketAddr, port: u16) -> Re
     put_number(out, u64::from(port))
 }
 
+fn put_accepted(
+    out: &mut Vec<u8>,
+    session: u64,
+    number: u64,
+    raw: SocketAddr,
+) -> Result<(), AllocError>
+    ensures { OnOk result (out.new.items ≡ out.old.items ++ kind_fields (kind.Accepted session number raw)) }
+{
+    put_numbered(out, EventWord::Accepted, session)?;
+    put_number(out, number)?;
+    put_address(out, raw)
+}
+
+fn put_auth(out: &mut Vec<u8>, session: u64, answer: AuthAnswer) -> Result<(), AllocError>
+    ensures { OnOk result (out.new.items ≡ out.old.items ++ kind_fields (kind.AuthDone session answer)) }
+{
+    put_numbered(out, EventWord::Auth, session)?;
+    put_answer(out, answer)
+}
+
 fn put_pasv(
     out: &mut Vec<u8>,
     session: u64,
@@ -119,13 +144,26 @@ fn put_pasv(
     put_optional_port(out, bound)
 }
 
+fn put_port(
+    out: &mut Vec<u8>,
+    session: u64,
+    text: &Bytes,
+    number: Option<u64>,
+) -> Result<(), AllocError>
+    ensures { OnOk result (out.new.items ≡ out.old.items ++ kind_fields (kind.Port session text.now number)) }
+{
+    put_numbered(out, EventWord::Port, session)?;
+    put_optional_number(out, number)?;
+    put_text_field(out, text.as_slice())
+}
+
 fn put_transfer(out: &mut Vec<u8>, session: u64, command: &DataChanCmd) -> Result<(), AllocError>
     ensures { OnOk result (out.new.items ≡ out.old.items ++ kind_fields (kind.Transfer session command.now)) }
 {
     match command {
-        DataChanCmd::Retr { path } => put_named(out, EventWord::Retr, session, path.as_slice()),
-        DataChanCmd::Stor { path } => put_named(out, EventWord::Stor, session, path.as_slice()),
-        DataChanCmd::Appe { path } => put_named(out, EventWord::Appe, session, path.as_slice()),
+        DataChanCmd::Retr { path } => put_named(out, EventWord::Retr, session, path),
+        DataChanCmd::Stor { path } => put_named(out, EventWord::Stor, session, path),
+        DataChanCmd::Appe { path } => put_named(out, EventWord::Appe, session, path),
         DataChanCmd::List { options: _, path } => put_listing(
             out,
             EventWord::List,
@@ -154,14 +192,14 @@ fn put_rest(out: &mut Vec<u8>, session: u64, offset: u64) -> Result<(), AllocErr
 fn put_cwd(
     out: &mut Vec<u8>,
     session: u64,
-    path: &[u8],
+    path: &Bytes,
     refusal: Option<ErrorKind>,
 ) -> Result<(), AllocError>
     ensures { OnOk result (out.new.items ≡ out.old.items ++ kind_fields (kind.Cwd session path.now refusal)) }
 {
     put_numbered(out, EventWord::Cwd, session)?;
     put_refusal(out, refusal)?;
-    put_text_field(out, path)
+    put_text_field(out, path.as_slice())
 }
 
 fn put_end(out: &mut Vec<u8>, ticket: Ticket) -> Result<(), AllocError>
@@ -180,11 +218,11 @@ fn put_numbered(out: &mut Vec<u8>, word: EventWord, n: u64) -> Result<(), AllocE
 }
 
 // The word of an event, the number that it is about, and a text.
-fn put_named(out: &mut Vec<u8>, word: EventWord, n: u64, text: &[u8]) -> Result<(), AllocError>
+fn put_named(out: &mut Vec<u8>, word: EventWord, n: u64, text: &Bytes) -> Result<(), AllocError>
     ensures { OnOk result (out.new.items ≡ out.old.items ++ (word_field word ++ number n ++ field (escape text.now))) }
 {
     put_numbered(out, word, n)?;
-    put_text_field(out, text)
+    put_text_field(out, text.as_slice())
 }
 
 // The word of an event, the number that it is about, and a text or none.

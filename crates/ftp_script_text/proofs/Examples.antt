@@ -8,12 +8,18 @@ use Rattle.std.specs.Cmp.Lexicographic.{slice_cmp, nat_list_cmp_total}
 use Rattle.ftp_base.specs.declared.net.IpAddr.TheVariants.{V4}
 use Rattle.ftp_base.specs.Storage.{Files}
 use Rattle.ftp_base.specs.Storage as storage
-use Rattle.ftp_options.specs.declared.options.ListenerMode.TheVariants.{Pooled, Proxy}
+use Rattle.ftp_options.specs.declared.host.PassiveHost.TheVariants.{FromConnection}
+use Rattle.ftp_options.specs.declared.options.ActivePassiveMode.TheVariants.{PassiveOnly, ActiveAndPassive}
+use Rattle.ftp_options.specs.declared.options.ListenerMode.{ListenerMode}
+use Rattle.ftp_options.specs.declared.options.ListenerMode.TheVariants.{Legacy, Pooled, Proxy}
+use Rattle.ftp_events.specs.declared.event.EventKind.{EventKind}
 use Rattle.ftp_events.specs.declared.event.EventKind.TheVariants as kind
-use Rattle.ftp_text.specs.Reading.{number_at, small_at, dotted_at, address_at, ipv4_at, hex_of, hex_from, hex_field, word_value, word_at, text_field, text_from, calls_field, call_of, list_of, each_of}
+use Rattle.ftp_text.specs.Reading.{number_at, small_at, dotted_at, address_at, ipv4_at, hex_of, hex_from, hex_field, optional_field, word_value, word_at, text_field, text_from, calls_field, call_of, list_of, each_of}
+use Rattle.ftp_event_text.specs.declared.setup.Item.{Item}
 use Rattle.ftp_event_text.specs.declared.setup.Item.TheVariants as item
 use Rattle.ftp_event_text.specs.EventReading.{event_of, read_as}
-use Rattle.ftp_event_text.specs.SetupReading.{restart_at, mode_of, mode_at, options_at, storage_at, dir_at, file_at, link_at, item_of}
+use Rattle.ftp_event_text.specs.OptionsReading.{mode_of, mode_at, listening_at, host_of, host_at, active_at, lockout_of, lockout_at, restart_at, rules_at}
+use Rattle.ftp_event_text.specs.SetupReading.{options_at, storage_at, dir_at, file_at, link_at, item_of}
 use Rattle.ftp_script_text.specs.Script.{IsScriptOf}
 use Rattle.ftp_script_text.proofs.Reading.{script_from, script_read}
 
@@ -23,35 +29,75 @@ options = codes "options pooled 50000 50001 connection passive 600 off restart\n
 abbrev proxy_options : List ℕ
 proxy_options = codes "options proxy:2121 50000 50001 connection passive 600 off restart\n"
 
+abbrev own_options : List ℕ
+own_options = codes "options legacy 0 50001 connection both 600 off restart\n"
+
+-- options by which the clients connect
+abbrev passive : ListenerMode → Item
+passive mode = item.Options mode 50000 50001 FromConnection PassiveOnly 600 None true
+
+-- options by which each session has a listener of its own, and either side connects
+abbrev own : Item
+own = item.Options Legacy 0 50001 FromConnection ActiveAndPassive 600 None true
+
+abbrev happens : EventKind → Item
+happens k = item.Event (record { at = 0; kind = k })
+
 -- the last line lacks its line feed
-pub script-whole : IsScriptOf (options ++ codes "link 11 65536 - .\n0 pass 1") (item.Options Pooled 50000 50001 600 true ∷ item.Link 11 65536 [] [] ∷ item.Event (record { at = 0; kind = kind.Pass 1 }) ∷ []) None
-unfolding script_from item_of options_at mode_at mode_of restart_at link_at calls_field list_of event_of word_value read_as number_at small_at hex_field hex_of word_at digits
+pub script-whole : IsScriptOf (options ++ codes "link 11 65536 - .\n0 pass 1") (passive Pooled ∷ item.Link 11 65536 [] [] ∷ happens (kind.Pass 1) ∷ []) None
+unfolding script_from item_of options_at listening_at mode_at mode_of rules_at host_at host_of active_at lockout_at lockout_of restart_at link_at calls_field list_of event_of word_value read_as number_at small_at hex_field hex_of word_at digits
 script-whole = script_read refl
 
--- skipped lines are counted, and an event needs the options
-pub script-no_options : IsScriptOf (codes "# a comment\n\n0 pass 1\n") (item.Skip ∷ item.Skip ∷ []) (Some 3)
+-- skipped lines are counted, and an event needs no options
+pub script-no_options : IsScriptOf (codes "# a comment\n\n0 pass 1\n") (item.Skip ∷ item.Skip ∷ happens (kind.Pass 1) ∷ []) None
 unfolding script_from item_of event_of word_value read_as number_at small_at word_at digits
 script-no_options = script_read refl
 
 -- the options come before the links
 pub script-late_options : IsScriptOf (codes "# a comment\nlink 11 65536 - .\n" ++ options) (item.Skip ∷ item.Link 11 65536 [] [] ∷ []) (Some 3)
-unfolding script_from item_of options_at mode_at mode_of restart_at link_at calls_field list_of number_at small_at hex_field hex_of word_at digits
+unfolding script_from item_of options_at listening_at mode_at mode_of rules_at host_at host_of active_at lockout_at lockout_of restart_at link_at calls_field list_of number_at small_at hex_field hex_of word_at digits
 script-late_options = script_read refl
 
+-- and before the events
+pub script-options_behind_event : IsScriptOf (codes "0 pass 1\n" ++ options) (happens (kind.Pass 1) ∷ []) (Some 2)
+unfolding script_from item_of options_at listening_at mode_at mode_of rules_at host_at host_of active_at lockout_at lockout_of restart_at event_of word_value read_as number_at small_at word_at digits
+script-options_behind_event = script_read refl
+
 -- a data connection needs its link
-pub script-no_link : IsScriptOf (options ++ codes "0 data 11 10.0.0.1:4001 50000\n") (item.Options Pooled 50000 50001 600 true ∷ []) (Some 2)
-unfolding script_from item_of options_at mode_at mode_of restart_at event_of word_value read_as address_at ipv4_at dotted_at number_at small_at word_at digits
+pub script-no_link : IsScriptOf (options ++ codes "0 data 11 10.0.0.1:4001 50000\n") (passive Pooled ∷ []) (Some 2)
+unfolding script_from item_of options_at listening_at mode_at mode_of rules_at host_at host_of active_at lockout_at lockout_of restart_at event_of word_value read_as address_at ipv4_at dotted_at number_at small_at word_at digits
 script-no_link = script_read refl
 
 -- and so does a connection behind a proxy
-pub script-no_proxied_link : IsScriptOf (proxy_options ++ codes "link 11 65536 - .\n0 proxied 12 10.9.9.9:33000 1\n") (item.Options (Proxy 2121) 50000 50001 600 true ∷ item.Link 11 65536 [] [] ∷ []) (Some 3)
-unfolding script_from item_of options_at mode_at mode_of restart_at link_at calls_field list_of event_of word_value read_as address_at ipv4_at dotted_at number_at small_at hex_field hex_of word_at digits
+pub script-no_proxied_link : IsScriptOf (proxy_options ++ codes "link 11 65536 - .\n0 proxied 12 10.9.9.9:33000 1\n") (passive (Proxy 2121) ∷ item.Link 11 65536 [] [] ∷ []) (Some 3)
+unfolding script_from item_of options_at listening_at mode_at mode_of rules_at host_at host_of active_at lockout_at lockout_of restart_at link_at calls_field list_of event_of word_value read_as address_at ipv4_at dotted_at number_at small_at hex_field hex_of word_at digits
 script-no_proxied_link = script_read refl
 
 -- with its link it is an event
-pub script-proxied : IsScriptOf (proxy_options ++ codes "link 11 65536 - .\n0 proxied 11 10.9.9.9:33000 1\n") (item.Options (Proxy 2121) 50000 50001 600 true ∷ item.Link 11 65536 [] [] ∷ item.Event (record { at = 0; kind = kind.Proxied 11 (record { ip = V4 168364297; port = 33000 }) 1 }) ∷ []) None
-unfolding script_from item_of options_at mode_at mode_of restart_at link_at calls_field list_of event_of word_value read_as address_at ipv4_at dotted_at number_at small_at hex_field hex_of word_at digits
+pub script-proxied : IsScriptOf (proxy_options ++ codes "link 11 65536 - .\n0 proxied 11 10.9.9.9:33000 1\n") (passive (Proxy 2121) ∷ item.Link 11 65536 [] [] ∷ happens (kind.Proxied 11 (record { ip = V4 168364297; port = 33000 }) 1) ∷ []) None
+unfolding script_from item_of options_at listening_at mode_at mode_of rules_at host_at host_of active_at lockout_at lockout_of restart_at link_at calls_field list_of event_of word_value read_as address_at ipv4_at dotted_at number_at small_at hex_field hex_of word_at digits
 script-proxied = script_read refl
+
+-- a connection to the listener of one session needs its link
+pub script-no_accepted_link : IsScriptOf (own_options ++ codes "0 accepted 1 11 10.0.0.1:4001\n") (own ∷ []) (Some 2)
+unfolding script_from item_of options_at listening_at mode_at mode_of rules_at host_at host_of active_at lockout_at lockout_of restart_at event_of word_value read_as address_at ipv4_at dotted_at number_at small_at word_at digits
+script-no_accepted_link = script_read refl
+
+-- and so does one that was made for a PORT
+pub script-no_port_link : IsScriptOf (own_options ++ codes "0 port 1 11 10,0,0,1,15,161\n") (own ∷ []) (Some 2)
+unfolding script_from item_of options_at listening_at mode_at mode_of rules_at host_at host_of active_at lockout_at lockout_of restart_at event_of word_value read_as optional_field number_at small_at word_at text_field text_from digits
+script-no_port_link = script_read refl
+
+-- with their links they are events, and a PORT without a connection is one without a link
+pub script-own : IsScriptOf (own_options ++ codes "link 11 1 - .\n0 port 1 - x\n0 port 1 11 x\n0 slot 1\n0 sweep\n")
+    (own ∷ item.Link 11 1 [] [] ∷ happens (kind.Port 1 (codes "x") None) ∷ happens (kind.Port 1 (codes "x") (Some 11)) ∷ happens (kind.SlotTick 1) ∷ happens kind.Sweep ∷ []) None
+unfolding script_from item_of options_at listening_at mode_at mode_of rules_at host_at host_of active_at lockout_at lockout_of restart_at link_at calls_field list_of event_of word_value read_as optional_field number_at small_at hex_field hex_of word_at text_field text_from digits
+script-own = script_read refl
+
+pub script-accepted : IsScriptOf (own_options ++ codes "link 11 1 - .\n0 accepted 1 11 10.0.0.1:4001\n")
+    (own ∷ item.Link 11 1 [] [] ∷ happens (kind.Accepted 1 11 (record { ip = V4 167772161; port = 4001 })) ∷ []) None
+unfolding script_from item_of options_at listening_at mode_at mode_of rules_at host_at host_of active_at lockout_at lockout_of restart_at link_at calls_field list_of event_of word_value read_as address_at ipv4_at dotted_at number_at small_at hex_field hex_of word_at digits
+script-accepted = script_read refl
 
 pub script-nil : IsScriptOf [] [] None
 unfolding script_from
@@ -111,6 +157,6 @@ pub script-slashes : IsScriptOf (codes "dir //x\n") (item.Dir (codes "//x") ∷ 
 unfolding script_from item_of dir_at text_field text_from
 script-slashes = script_read (rw (none (codes "//x")) refl)
 
-pub script-late_dir : IsScriptOf (options ++ codes "0 pass 1\ndir /a\n") (item.Options Pooled 50000 50001 600 true ∷ item.Event (record { at = 0; kind = kind.Pass 1 }) ∷ []) (Some 3)
-unfolding script_from item_of options_at mode_at mode_of restart_at dir_at event_of word_value read_as number_at small_at word_at text_field text_from digits
+pub script-late_dir : IsScriptOf (options ++ codes "0 pass 1\ndir /a\n") (passive Pooled ∷ happens (kind.Pass 1) ∷ []) (Some 3)
+unfolding script_from item_of options_at listening_at mode_at mode_of rules_at host_at host_of active_at lockout_at lockout_of restart_at dir_at event_of word_value read_as number_at small_at word_at text_field text_from digits
 script-late_dir = script_read refl

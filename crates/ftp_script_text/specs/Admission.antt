@@ -7,14 +7,13 @@ use Rattle.ftp_text.specs.declared.fault.LineFault.{LineFault}
 use Rattle.ftp_text.specs.declared.fault.LineFault.TheVariants as fault
 use Rattle.ftp_event_text.specs.declared.setup.Item.{Item}
 use Rattle.ftp_script_text.specs.declared.admission.Admission.{Admission}
-use Rattle.ftp_script_text.specs.Script.{says, has_options, has_stored, has_link, may_stand, ComesNext}
+use Rattle.ftp_script_text.specs.Script.{says, has_stored, has_link, may_stand, ComesNext}
 use Rattle.ftp_script_text.specs.SetUp.{storage_in, has_event}
 
--- what is kept of these items: whether one says something, is the options, is an event, or sets up a part of the storage, how
+-- what is kept of these items: whether one says something, is an event, or sets up a part of the storage, how
 -- long a file may be, and which links there are
 pub record Remembers (a : Admission) (before : List Item) : Type 0 where
   pub begun : a.begun ≡ list_any says before
-  pub options : a.has_options ≡ has_options before
   pub event : a.has_event ≡ has_event before
   pub stored : a.has_stored ≡ has_stored before
   pub longest : a.max_file ≡ (storage_in before).max_file

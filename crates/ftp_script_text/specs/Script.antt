@@ -9,11 +9,6 @@ use Rattle.ftp_event_text.specs.declared.setup.Item.TheVariants as item
 use Rattle.ftp_event_text.specs.Setup.{IsItemOf}
 use Rattle.ftp_script_text.specs.SetUp.{storage_in, has_event}
 
--- whether the item is the options
-abbrev pub is_options : Item → Bool
-is_options (item.Options mode lo hi idle restart) = true
-is_options _ = false
-
 -- whether the item is the link of this number
 abbrev pub is_link : ℕ → Item → Bool
 is_link n (item.Link m chunk fails bytes) = n == m
@@ -31,10 +26,6 @@ abbrev pub says : Item → Bool
 says item.Skip = false
 says _ = true
 
--- whether the options are among these items
-abbrev pub has_options : List Item → Bool
-has_options items = list_any is_options items
-
 -- whether the link of this number is among these items
 abbrev pub has_link : ℕ → List Item → Bool
 has_link n items = list_any (is_link n) items
@@ -49,16 +40,16 @@ is_free before path = is_none (directory_refusal (storage_in before).files path)
 
 -- whether the line of an item may stand behind the lines of these: the options are the first that says something, the
 -- storage comes before any directory, file and event, directories and files have a free path and come before any event, a
--- file is no longer than the storage allows, a link has a new number, and an event comes behind the options and its link
+-- file is no longer than the storage allows, a link has a new number, and an event comes behind its link
 abbrev pub may_stand : List Item → Item → Bool
 may_stand before item.Skip = true
-may_stand before (item.Options mode lo hi idle restart) = not (list_any says before)
+may_stand before (item.Options mode lo hi host active idle lockout restart) = not (list_any says before)
 may_stand before (item.Storage max fails) = not (has_event before) && not (has_stored before)
 may_stand before (item.Dir path) = not (has_event before) && is_free before path
 may_stand before (item.File bytes path) =
     not (has_event before) && (is_free before path && nat_le (length bytes) (storage_in before).max_file)
 may_stand before (item.Link n chunk fails bytes) = not (has_link n before)
-may_stand before (item.Event e) = has_options before && is_covered (λ n. has_link n before) e.kind
+may_stand before (item.Event e) = is_covered (λ n. has_link n before) e.kind
 
 -- the line is that of the item and may stand behind the lines of these: it is no longer than any line, and up to its end the
 -- source has given no more bytes than any script has

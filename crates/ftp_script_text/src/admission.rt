@@ -1,9 +1,12 @@
 //! Which lines may follow those that were read.
 
-ghost use Rattle.std.specs.Prelude.{◌≡◌, ◌&&◌, not, ℕ, ◌≤◌, Bool, List, [], IfOk, OnOk};
+ghost use Rattle.std.specs.Prelude.{◌≡◌, ◌&&◌, not, ℕ, ◌≤◌, Bool, List, [], Option, IfOk, OnOk};
 ghost use Rattle.std.specs.Ordering.{nat_cmp};
 ghost use Rattle.std.specs.BTreeSet.{contains};
 ghost use Rattle.ftp_base.specs.declared.fault.LinkFault.{LinkFault};
+ghost use Rattle.ftp_options.specs.declared.host.PassiveHost.{PassiveHost};
+ghost use Rattle.ftp_options.specs.declared.lockout.FailedLoginsPolicy.{FailedLoginsPolicy};
+ghost use Rattle.ftp_options.specs.declared.options.ActivePassiveMode.{ActivePassiveMode};
 ghost use Rattle.ftp_options.specs.declared.options.ListenerMode.{ListenerMode};
 ghost use Rattle.ftp_event_text.specs.declared.setup.Item.{Item};
 ghost use Rattle.ftp_event_text.specs.declared.setup.Item.TheVariants as item;
@@ -29,12 +32,11 @@ pub const LONGEST_SCRIPT: usize = 16_777_216;
 /// No file is longer, in bytes, where no line says otherwise.
 pub const MAX_FILE: u64 = 16_777_216;
 
-/// What is kept of the lines of a script: whether one said something, whether the options came, an event, or a part of
-/// the storage, how long a file may be, and the numbers of the links.
+/// What is kept of the lines of a script: whether one said something, whether an event came, or a part of the storage,
+/// how long a file may be, and the numbers of the links.
 #[derive(Drop)]
 pub struct Admission {
     begun: bool,
-    has_options: bool,
     has_event: bool,
     has_stored: bool,
     max_file: u64,
@@ -48,7 +50,6 @@ impl Admission {
     {
         Admission {
             begun: false,
-            has_options: false,
             has_event: false,
             has_stored: false,
             max_file: MAX_FILE,
@@ -113,13 +114,13 @@ impl Admission {
 
     // The options, where nothing was said.
     fn let_options_in(&mut self) -> Result<(), LineFault>
-        ensures { (before : List Item) (mode : ListenerMode) (lo hi idle : ℕ) (restart : Bool) → Remembers self.old before → LetsIn before (item.Options mode lo hi idle restart) result self.new }
+        ensures { (before : List Item) (mode : ListenerMode) (lo hi : ℕ) (host : PassiveHost) (active : ActivePassiveMode) (idle : ℕ) (lockout : Option FailedLoginsPolicy) (restart : Bool) →
+            Remembers self.old before → LetsIn before (item.Options mode lo hi host active idle lockout restart) result self.new }
     {
         if self.begun {
             return Err(LineFault::Bad);
         }
         self.begun = true;
-        self.has_options = true;
         Ok(())
     }
 
@@ -172,11 +173,11 @@ impl Admission {
         !self.has_event && storage.directory_refusal(path).is_none()
     }
 
-    // An event, where the options came and the connection that comes with it is linked.
+    // An event, where the connection that comes with it is linked.
     fn let_event_in(&mut self, event: &HubEvent) -> Result<(), LineFault>
         ensures { (before : List Item) → Remembers self.old before → LetsIn before (item.Event event.now) result self.new }
     {
-        if !self.has_options || !self.covers(&event.kind) {
+        if !self.covers(&event.kind) {
             return Err(LineFault::Bad);
         }
         self.begun = true;

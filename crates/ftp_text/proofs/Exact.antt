@@ -1,5 +1,5 @@
 -- What a reader finds is what is spelled at the front, and what is spelled is read again: the two laws, for each way to put readers together.
-use Rattle.std.proofs.Common.{◌≡◌, ℕ, ◌^◌, ◌<◌, ◌≤◌, Bool, true, false, not, cond, ◌&&◌, eqb, ltb, List, [], ◌∷◌, ◌++◌, length, take, drop, Option, Some, None, refl, sym, ap, subst, ◌∙◌, append_assoc, arith}
+use Rattle.std.proofs.Common.{◌≡◌, ℕ, suc, ◌+◌, ◌^◌, ◌<◌, ◌≤◌, Bool, true, false, not, cond, ◌&&◌, eqb, ltb, List, [], ◌∷◌, ◌++◌, length, take, drop, Option, Some, None, refl, sym, ap, subst, ◌∙◌, append_assoc, arith}
 use Rattle.std.specs.List.{prefix_len, position_or_len}
 use Rattle.std.specs.Char.{is_ascii_digit}
 use Rattle.std.specs.Fmt.{decimal}
@@ -64,6 +64,14 @@ after_again c rest = let e : eqb c c ≡ true = grind (arith, nat_tests) in rw e
 -- fewer may follow
 pub exact_weaker : {A : Type 0} {s : A → List ℕ} {F : A → Type 0} {W V : List ℕ → Type 0} {r : List ℕ → Option (A × List ℕ)} → IsExact s F W r → ((rest : List ℕ) → V rest → W rest) → IsExact s F V r
 exact_weaker a h = record { takes = a.takes; again = λ x rest fits follows. a.again x rest fits (h rest follows) }
+
+-- another way to say which values fit
+pub exact_fits : {A : Type 0} {s : A → List ℕ} {F G : A → Type 0} {W : List ℕ → Type 0} {r : List ℕ → Option (A × List ℕ)} → IsExact s F W r →
+    ((x : A) → F x → G x) → ((x : A) → G x → F x) → IsExact s G W r
+exact_fits a forth back = record {
+  takes = λ bytes x e. let t = a.takes bytes x e in (t.0, forth x.0 t.1);
+  again = λ x rest fits follows. a.again x rest (back x fits) follows;
+}
 
 -- a field and another
 pub pair_exact : {A B : Type 0} {sa : A → List ℕ} {sb : B → List ℕ} {Fa : A → Type 0} {Fb : B → Type 0} {Wa Wb : List ℕ → Type 0} {ra : List ℕ → Option (A × List ℕ)} {rb : List ℕ → Option (B × List ℕ)} →
@@ -205,14 +213,24 @@ pub Stops-from_ends : (rest : List ℕ) → Ends rest → Stops is_word_byte res
 Stops-from_ends [] h = tt
 Stops-from_ends (c ∷ rest) h = rw h refl
 
-pub word_takes : (bytes : List ℕ) (x : List ℕ × List ℕ) → word_at bytes ≡ Some x → bytes ≡ 32 ∷ x.0 ++ x.1
+-- the bytes up to the first that does not pass
+front_passes : (test : ℕ → Bool) (bytes : List ℕ) → Pass test (take (prefix_len test bytes) bytes)
+front_passes test [] = tt
+front_passes test (c ∷ bytes) = cases (front_passes test bytes) (test c) refl where
+  cases : Pass test (take (prefix_len test bytes) bytes) → (b : Bool) → test c ≡ b → Pass test (take (cond b (1 + prefix_len test bytes) 0) (c ∷ bytes))
+  cases more true p =
+      let next : suc (prefix_len test bytes) ≡ 1 + prefix_len test bytes = omega arith in
+      subst (λ (n : ℕ). Pass test (take n (c ∷ bytes))) next (p, more)
+  cases more false p = tt
+
+pub word_takes : (bytes : List ℕ) (x : List ℕ × List ℕ) → word_at bytes ≡ Some x → (bytes ≡ 32 ∷ x.0 ++ x.1) × Pass is_word_byte x.0
 unfolding word_at
 word_takes bytes x e =
     let first = bind_ok (after 32 bytes) (λ rest. Some (take (position_or_len is_space rest) rest, drop (position_or_len is_space rest) rest)) x e in
     let k = position_or_len is_space first.0 in
     let whole : List ℕ × List ℕ = (take k first.0, drop k first.0) in
-    subst (λ (y : List ℕ × List ℕ). bytes ≡ 32 ∷ y.0 ++ y.1) (some_is whole x first.2)
-    (after_ok 32 bytes first.0 first.1 ∙ ap (λ (t : List ℕ). 32 ∷ t) (sym (take-append-drop k first.0)))
+    subst (λ (y : List ℕ × List ℕ). (bytes ≡ 32 ∷ y.0 ++ y.1) × Pass is_word_byte y.0) (some_is whole x first.2)
+    (after_ok 32 bytes first.0 first.1 ∙ ap (λ (t : List ℕ). 32 ∷ t) (sym (take-append-drop k first.0)), front_passes is_word_byte first.0)
 
 pub word_again : (w rest : List ℕ) → Pass is_word_byte w → Ends rest → word_at (32 ∷ w ++ rest) ≡ Some (w, rest)
 unfolding word_at
@@ -232,17 +250,18 @@ find_takes text (u ∷ table) w v e = found text u w (find_word text table w) v 
 -- a word that spells a value
 pub word_exact : {V : Type 0} (text : V → List ℕ) (Fits : V → Type 0) (value : List ℕ → Option V) →
     ((v : V) → Fits v → Pass is_word_byte (text v)) →
-    ((w : List ℕ) (v : V) → value w ≡ Some v → (text v ≡ w) × Fits v) →
+    ((w : List ℕ) (v : V) → Pass is_word_byte w → value w ≡ Some v → (text v ≡ w) × Fits v) →
     ((v : V) → Fits v → value (text v) ≡ Some v) →
     IsExact (λ (v : V). 32 ∷ text v) Fits Ends (word_as value)
 word_exact {V} text Fits value pass takes again = record {
   takes = λ bytes x e.
       let first = bind_ok (word_at bytes) (λ w. value w.0 >>= λ v. Some (v, w.1)) x e in
       let second = bind_ok (value first.0.0) (λ v. Some (v, first.0.1)) x first.2 in
-      let t = takes first.0.0 second.0 second.1 in
+      let word = word_takes bytes first.0 first.1 in
+      let t = takes first.0.0 second.0 word.1 second.1 in
       let whole : V × List ℕ = (second.0, first.0.1) in
       subst (λ (y : V × List ℕ). (bytes ≡ (32 ∷ text y.0) ++ y.1) × Fits y.0) (some_is whole x second.2)
-      (word_takes bytes first.0 first.1 ∙ ap (λ (t : List ℕ). 32 ∷ t ++ first.0.1) (sym t.0), t.1);
+      (word.0 ∙ ap (λ (t : List ℕ). 32 ∷ t ++ first.0.1) (sym t.0), t.1);
   again = λ v rest fits follows. rw (word_again (text v) rest (pass v fits) follows, again v fits) refl;
 }
 
@@ -282,7 +301,7 @@ pub table_exact : {V : Type 0} (text : V → List ℕ) (table : List V) →
 unfolding word_value
 table_exact text table all finds =
     word_exact text (λ v. Unit {0}) (find_word text table) (λ v fits. find_passes is_word_byte text table (text v) v all (finds v))
-    (λ w v e. (find_takes text table w v e, tt)) (λ v fits. finds v)
+    (λ w v pass e. (find_takes text table w v e, tt)) (λ v fits. finds v)
 
 -- ---- a value or a hyphen
 
@@ -322,7 +341,7 @@ optional_exact {A} {s} {F} {W} {r} a plain = record {
 -- ---- texts that stand in every line of a form
 
 -- what stands behind a text
-literal_takes : (text bytes rest : List ℕ) → literal_at text bytes ≡ Some rest → bytes ≡ text ++ rest
+pub literal_takes : (text bytes rest : List ℕ) → literal_at text bytes ≡ Some rest → bytes ≡ text ++ rest
 literal_takes text bytes rest e =
     let p = cond_some (bytes_eq (take (length text) bytes) text) (drop (length text) bytes) rest e in
     sym (take-append-drop (length text) bytes) ∙ ap (λ (x : List ℕ). x ++ drop (length text) bytes) ((bytes_eq-Decides _ _).0 p.0) ∙ ap (λ (x : List ℕ). text ++ x) p.1

@@ -47,6 +47,9 @@ refusal_found _ = refl
 pub refusal_is : IsExact (λ (v : Option ErrorKind). field (refusal_text v)) (λ v. Unit {0}) Ends refusal_field
 refusal_is = table_exact refusal_text refusals refl refusal_found
 
+pub optional_number_is : IsExact (optional decimal) (Each IsNumber) Ends (optional_field number_at)
+optional_number_is = exact_weaker (optional_exact number_exact (λ n rest lt. begins_decimal 45 n rest refl lt)) NoDigit-from_ends
+
 pub optional_port_is : IsExact (optional decimal) (Each (λ n. n < 2 ^ 16)) Ends (optional_field (small_at (2 ^ 16)))
 optional_port_is = exact_weaker (optional_exact (small_exact (2 ^ 16) (omega arith)) (λ n rest lt. begins_decimal 45 n rest refl (omega (arith, lt)))) NoDigit-from_ends
 

@@ -2,10 +2,10 @@
 use Rattle.std.proofs.Common.{ℕ, List, [], ◌++◌, Some, refl, sym, ap, subst, append_assoc}
 use Rattle.std.specs.Fmt.{decimal}
 use Rattle.ftp_text.specs.Fields.{dotted}
-use Rattle.ftp_text.specs.Forms.{Shape, Number, Port, Address, Ticket, Answer, Refusal, HexWord, MaybeIp, MaybePort, Form, Nothing, Last, Text, MaybeText, ◌▸◌, Value, spelled, Fits, reads, Values, all_spelled, AllFit, all_read}
+use Rattle.ftp_text.specs.Forms.{Shape, Number, Port, Address, Ticket, Answer, Refusal, HexWord, MaybeIp, MaybePort, MaybeNumber, Form, Nothing, Last, Text, MaybeText, ◌▸◌, Value, spelled, Fits, reads, Values, all_spelled, AllFit, all_read}
 use Rattle.ftp_text.proofs.Exact.{Ends, IsNil, Ends-from_nil, IsExact, exact_weaker, pair_exact, some_is}
 use Rattle.ftp_text.proofs.Values.{text_exact, optional_text_exact}
-use Rattle.ftp_text.proofs.FieldLemmas.{number_is, port_is, address_is, ticket_is, answer_is, refusal_is, optional_port_is, optional_dotted_is, optional_starts, optional_text_starts, hex_word_is}
+use Rattle.ftp_text.proofs.FieldLemmas.{number_is, port_is, address_is, ticket_is, answer_is, refusal_is, optional_number_is, optional_port_is, optional_dotted_is, optional_starts, optional_text_starts, hex_word_is}
 
 shape_exact : (f : Shape) → IsExact (spelled f) (Fits f) Ends (reads f)
 shape_exact Number = number_is
@@ -17,11 +17,13 @@ shape_exact Refusal = refusal_is
 shape_exact HexWord = hex_word_is
 shape_exact MaybeIp = optional_dotted_is
 shape_exact MaybePort = optional_port_is
+shape_exact MaybeNumber = optional_number_is
 
 -- a field begins with its space
 shape_starts : (f : Shape) (v : Value f) (rest : List ℕ) → Ends (spelled f v ++ rest)
 shape_starts MaybeIp v rest = optional_starts dotted v rest
 shape_starts MaybePort v rest = optional_starts decimal v rest
+shape_starts MaybeNumber v rest = optional_starts decimal v rest
 shape_starts Number v rest = refl
 shape_starts Port v rest = refl
 shape_starts Address v rest = refl

@@ -192,7 +192,7 @@ hex_of_again (b ∷ bytes) fits =
     let n : bytes_eq digits (codes ".") ≡ false = no_dot (digit_glyph false (b / 16)) (digit_glyph false (b % 16)) (flat_map hex_byte bytes) (bytes_eq digits (codes ".")) refl in
     ap (λ d. cond d (Some []) (hex_from None digits)) n ∙ from_again (b ∷ bytes) fits
 
-glyph_passes : (n : ℕ) → n < 16 → is_word_byte (digit_glyph false n) ≡ true
+pub glyph_passes : (n : ℕ) → n < 16 → is_word_byte (digit_glyph false n) ≡ true
 glyph_passes n lt = grind (arith, nat_tests)
 
 pairs_pass : (bytes : List ℕ) → IsText bytes → Pass is_word_byte (flat_map hex_byte bytes)
@@ -205,4 +205,4 @@ hex_passes (b ∷ bytes) fits = pairs_pass (b ∷ bytes) fits
 
 pub hex_exact : IsExact (λ (bytes : List ℕ). 32 ∷ hex_text bytes) IsText Ends hex_field
 unfolding hex_field
-hex_exact = word_exact hex_text IsText hex_of hex_passes hex_of_takes hex_of_again
+hex_exact = word_exact hex_text IsText hex_of hex_passes (λ w bytes pass e. hex_of_takes w bytes e) hex_of_again

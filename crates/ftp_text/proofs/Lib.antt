@@ -3,6 +3,7 @@ pub mod Hex
 pub mod Texts
 pub mod HexTexts
 pub mod Exact
+pub mod Names
 pub mod Values
 pub mod FieldLemmas
 pub mod TraceLemmas

@@ -1,10 +1,11 @@
 -- Values with commas between them.
-use Rattle.std.proofs.Common.{◌≡◌, ℕ, ◌+◌, ◌<◌, Bool, true, false, not, ◌&&◌, cond, All, List, [], ◌∷◌, ◌++◌, map, length, get_or, take, drop, Bor, Option, Some, None, refl, sym, ap, subst, ◌∙◌, arith, append_assoc}
+use Rattle.std.proofs.Common.{◌≡◌, ℕ, ◌+◌, ◌<◌, Bool, true, false, not, ◌&&◌, cond, eqb, All, List, [], ◌∷◌, ◌++◌, map, length, get_or, take, drop, Bor, Option, Some, None, refl, sym, ap, subst, ◌∙◌, arith, append_assoc}
 use Rattle.std.specs.Prelude.{codes}
 use Rattle.std.specs.List.{slice_split, position_or_len, join_with_byte, AllByRecursion}
 use Rattle.std.specs.Option.{option_map_or}
 use Rattle.std.specs.Str.{bytes_eq}
 use Rattle.std.proofs.lemmas.Bool.{and_parts}
+use Rattle.std.proofs.lemmas.Bool.Decides.{nat_tests}
 use Rattle.std.proofs.lemmas.List.{append-nil, get_or_default}
 use Rattle.std.proofs.lemmas.List.Sums.{position_or_len_is}
 use Rattle.std.proofs.lemmas.List.Splits.{slice_split_at, slice_split_none, slice_split_first, join_with_byte-slice_split, length-slice_split}
@@ -80,6 +81,17 @@ each-done value front (Some left) all none h = absurd (none left refl)
 
 -- ---- exactness
 
+-- what begins otherwise is another word
+pub not_begun : (c : ℕ) (others w : List ℕ) → begins c w ≡ false → bytes_eq w (c ∷ others) ≡ false
+not_begun c others w h = cases (bytes_eq w (c ∷ others)) refl where
+  cases : (b : Bool) → bytes_eq w (c ∷ others) ≡ b → bytes_eq w (c ∷ others) ≡ false
+  cases false e = e
+  cases true e =
+      let is : w ≡ c ∷ others = (bytes_eq-Decides w (c ∷ others)).0 e in
+      let f : eqb c c ≡ false = ap (begins c) (sym is) ∙ h in
+      let t : eqb c c ≡ true = grind (arith, nat_tests) in
+      absurd cc
+
 -- a byte of a value between commas, in a field
 abbrev pub is_inner : ℕ → Bool
 is_inner b = is_word_byte b && not (is_comma b)
@@ -102,6 +114,10 @@ pass-more test other more (b ∷ w) h = (more b h.0, pass-more test other more w
 pub pass-append : (test : ℕ → Bool) (a b : List ℕ) → Pass test a → Pass test b → Pass test (a ++ b)
 pass-append test [] b p q = q
 pass-append test (c ∷ a) b p q = (p.0, pass-append test a b p.1 q)
+
+pub pass-parts : (test : ℕ → Bool) (a b : List ℕ) → Pass test (a ++ b) → Pass test a × Pass test b
+pass-parts test [] b p = (tt, p)
+pass-parts test (c ∷ a) b p = let q = pass-parts test a b p.1 in ((p.0, q.0), q.1)
 
 without_commas : (w : List ℕ) → Pass is_inner w → All (λ b. is_comma b ≡ false) w
 without_commas [] h = All-nil (λ b. is_comma b ≡ false)
@@ -153,11 +169,8 @@ module _ {A : Type 0} (spell : A → List ℕ) (Fits : A → Type 0) (value : Li
     list_again starts again [] fits = refl
     list_again starts again (x ∷ xs) fits =
         let w = join_with_byte 44 (map spell (x ∷ xs)) in
-        ap (λ b. cond b (Some []) (each_of value (slice_split is_comma w))) (no_hyphen w (joined_starts starts x xs fits) (bytes_eq w (codes "-")) refl)
-        ∙ ap (each_of value) (split_joined x xs fits) ∙ each_again again (x ∷ xs) fits where
-          no_hyphen : (w : List ℕ) → begins 45 w ≡ false → (b : Bool) → bytes_eq w (codes "-") ≡ b → b ≡ false
-          no_hyphen w h false e = refl
-          no_hyphen w h true e = let is : w ≡ codes "-" = (bytes_eq-Decides w (codes "-")).0 e in let f : begins 45 (codes "-") ≡ false = ap (begins 45) (sym is) ∙ h in absurd cc
+        ap (λ b. cond b (Some []) (each_of value (slice_split is_comma w))) (not_begun 45 [] w (joined_starts starts x xs fits))
+        ∙ ap (each_of value) (split_joined x xs fits) ∙ each_again again (x ∷ xs) fits
 
     list_takes : ((w : List ℕ) (x : A) → value w ≡ Some x → (spell x ≡ w) × Fits x) →
         (w : List ℕ) (xs : List A) → list_of value w ≡ Some xs → (listed spell xs ≡ w) × AllByRecursion Fits xs
@@ -176,4 +189,4 @@ module _ {A : Type 0} (spell : A → List ℕ) (Fits : A → Type 0) (value : Li
         ((w : List ℕ) (x : A) → value w ≡ Some x → (spell x ≡ w) × Fits x) →
         ((x : A) → Fits x → value (spell x) ≡ Some x) →
         IsExact (λ (xs : List A). 32 ∷ listed spell xs) (AllByRecursion Fits) Ends (word_as (list_of value))
-    listed_exact starts takes again = word_exact (listed spell) (AllByRecursion Fits) (list_of value) listed_passes (list_takes takes) (list_again starts again)
+    listed_exact starts takes again = word_exact (listed spell) (AllByRecursion Fits) (list_of value) listed_passes (λ w xs pass e. list_takes takes w xs e) (list_again starts again)

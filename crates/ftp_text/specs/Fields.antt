@@ -1,7 +1,7 @@
 -- How the fields of a line are spelled: each value has one spelling.
 --
 -- A field begins with the one space that stands before it, and a text is the last field of its line.
-use Rattle.std.specs.Prelude.{◌≡◌, ℕ, zero, suc, ◌/◌, ◌%◌, ◌^◌, ◌<◌, ◌==◌, ◌&&◌, not, nat_le, Bool, true, false, List, [], ◌∷◌, ◌++◌, map, codes, decimal, Option, Some, None, if◌then◌else◌}
+use Rattle.std.specs.Prelude.{◌≡◌, ℕ, zero, suc, ◌/◌, ◌%◌, ◌^◌, ◌<◌, ◌≢◌, ◌==◌, ◌&&◌, not, nat_le, Bool, true, false, List, [], ◌∷◌, ◌++◌, map, codes, decimal, Option, Some, None, if◌then◌else◌}
 use Rattle.std.specs.List.{flat_map, join_with_byte, AllByRecursion}
 use Rattle.std.specs.Fmt.{digit_glyph}
 use Rattle.std.specs.Int.{w32, to_be_bytes}
@@ -140,6 +140,10 @@ listed spell (x ∷ xs) = join_with_byte 44 (map spell (x ∷ xs))
 -- the bytes are bytes
 abbrev pub IsText : List ℕ → Type 0
 IsText text = AllByRecursion (λ b. b < 256) text
+
+-- the bytes are bytes, and none is a space
+abbrev pub IsName : List ℕ → Type 0
+IsName name = AllByRecursion (λ b. (b < 256) × (b ≢ 32)) name
 
 -- the address fits its type
 abbrev pub IsIp : IpAddr → Type 0

@@ -6,7 +6,7 @@ use Rattle.ftp_base.specs.declared.net.SocketAddr.{SocketAddr}
 use Rattle.ftp_base.specs.declared.login.AuthAnswer.{AuthAnswer}
 use Rattle.ftp_base.specs.declared.error_kind.ErrorKind.{ErrorKind}
 use Rattle.ftp_text.specs.Fields.{field, number, dotted, address_text, optional, optional_text, ticket, escape, hex_digits, answer_text, refusal_text, IsAddress, IsNumber, IsText, Each}
-use Rattle.ftp_text.specs.Reading.{Reader, pair, number_field, small_field, small_at, dotted_at, address_field, optional_field, ticket_field, hex_word_field, answer_field, refusal_field, text_field, optional_text_field}
+use Rattle.ftp_text.specs.Reading.{Reader, pair, number_at, number_field, small_field, small_at, dotted_at, address_field, optional_field, ticket_field, hex_word_field, answer_field, refusal_field, text_field, optional_text_field}
 
 -- what a field holds
 pub data Shape : Type 0 where
@@ -19,6 +19,7 @@ pub data Shape : Type 0 where
   HexWord : Shape
   MaybeIp : Shape
   MaybePort : Shape
+  MaybeNumber : Shape
 
 infixr 5 ◌▸◌
 -- what stands behind the word of a line: nothing, a last field, a text to the end of the line, a text or nothing, or a field
@@ -43,6 +44,7 @@ Value Refusal = Option ErrorKind
 Value HexWord = ℕ
 Value MaybeIp = Option ℕ
 Value MaybePort = Option ℕ
+Value MaybeNumber = Option ℕ
 
 -- how a field is spelled
 abbrev pub spelled : (f : Shape) → Value f → List ℕ
@@ -55,6 +57,7 @@ spelled Refusal refusal = field (refusal_text refusal)
 spelled HexWord n = field (hex_digits 32 n)
 spelled MaybeIp ip = optional dotted ip
 spelled MaybePort port = optional decimal port
+spelled MaybeNumber n = optional decimal n
 
 -- the value lies in the range of its type
 abbrev pub Fits : (f : Shape) → Value f → Type 0
@@ -67,6 +70,7 @@ Fits Refusal refusal = Unit {0}
 Fits HexWord n = n < 2 ^ 128
 Fits MaybeIp ip = Each (λ n. n < 2 ^ 32) ip
 Fits MaybePort port = Each (λ n. n < 2 ^ 16) port
+Fits MaybeNumber n = Each IsNumber n
 
 -- the value of a field, and the bytes behind it
 abbrev pub reads : (f : Shape) → Reader (Value f)
@@ -79,6 +83,7 @@ reads Refusal = refusal_field
 reads HexWord = hex_word_field
 reads MaybeIp = optional_field dotted_at
 reads MaybePort = optional_field (small_at (2 ^ 16))
+reads MaybeNumber = optional_field number_at
 
 -- ---- a form
 

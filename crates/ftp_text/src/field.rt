@@ -7,7 +7,7 @@ ghost use Rattle.std.specs.Str.Parse.{AllDigits, digits_value};
 ghost use Rattle.ftp_text.specs.Reading.{Gives, after, literal_at, is_space, numeral, number_at, small_at, dotted_at, port_at_colon, ipv4_at, hex_numeral, hex_word_at, ipv6_at, address_at, number_field, small_field, address_field, optional_field, text_field, optional_text_field, ticket_field, hex_word_field, word_at, hex_field, word_value};
 
 use crate::fault::LineFault;
-use crate::text::{self, nibble};
+use crate::text::{self, nibble, whole_text};
 use crate::word::{Word, find};
 use ftp_base::{Bytes, IpAddr, SocketAddr};
 use std::alloc::Global;
@@ -94,8 +94,9 @@ pub fn number_here(bytes: &[u8]) -> Result<(u64, &[u8]), LineFault>
     Ok((n, rest))
 }
 
+/// The number below the limit whose digits stand at the front.
 #[tactic(auto, unfolding(crate::specs::Reading::small_at))]
-fn small_here(limit: u64, bytes: &[u8]) -> Result<(u64, &[u8]), LineFault>
+pub fn small_here(limit: u64, bytes: &[u8]) -> Result<(u64, &[u8]), LineFault>
     ensures read { Gives (λ x. (x.0, x.1.now)) result (small_at limit bytes.now) }
     ensures limit { IfOk result (λ x. x.0 < limit) }
 {
@@ -107,9 +108,9 @@ fn small_here(limit: u64, bytes: &[u8]) -> Result<(u64, &[u8]), LineFault>
     }
 }
 
-// Four numbers joined by dots, as one number.
+/// The IPv4 address that stands at the front: four numbers joined by dots, as one number.
 #[tactic(auto, unfolding(crate::specs::Reading::dotted_at))]
-fn dotted(bytes: &[u8]) -> Result<(u32, &[u8]), LineFault>
+pub fn dotted_here(bytes: &[u8]) -> Result<(u32, &[u8]), LineFault>
     ensures { Gives (λ x. (x.0, x.1.now)) result (dotted_at bytes.now) }
 {
     let (a, rest) = small_here(256, bytes)?;
@@ -140,7 +141,7 @@ fn port_at_colon(bytes: &[u8]) -> Result<(u16, &[u8]), LineFault>
 fn ipv4(bytes: &[u8]) -> Result<(SocketAddr, &[u8]), LineFault>
     ensures { Gives (λ x. (x.0, x.1.now)) result (ipv4_at bytes.now) }
 {
-    let (ip, rest) = dotted(bytes)?;
+    let (ip, rest) = dotted_here(bytes)?;
     let (port, rest) = port_at_colon(rest)?;
     let ip = IpAddr::V4(ip);
     Ok((SocketAddr { ip, port }, rest))
@@ -225,6 +226,20 @@ pub fn address(bytes: &[u8]) -> Result<(SocketAddr, &[u8]), LineFault>
     address_here(after(b' ', bytes)?)
 }
 
+/// A number of 64 bits that may be missing.
+#[tactic(auto, unfolding(crate::specs::Reading::optional_field))]
+pub fn optional_number(bytes: &[u8]) -> Result<(Option<u64>, &[u8]), LineFault>
+    ensures { Gives (λ x. (x.0, x.1.now)) result (optional_field number_at bytes.now) }
+{
+    match after(b' ', bytes)? {
+        [b'-', rest @ ..] => Ok((None, rest)),
+        rest => {
+            let (n, rest) = number_here(rest)?;
+            Ok((Some(n), rest))
+        }
+    }
+}
+
 /// A port that may be missing.
 #[tactic(auto, unfolding(crate::specs::Reading::optional_field))]
 pub fn optional_port(bytes: &[u8]) -> Result<(Option<u16>, &[u8]), LineFault>
@@ -247,7 +262,7 @@ pub fn optional_dotted(bytes: &[u8]) -> Result<(Option<u32>, &[u8]), LineFault>
     match after(b' ', bytes)? {
         [b'-', rest @ ..] => Ok((None, rest)),
         rest => {
-            let (ip, rest) = dotted(rest)?;
+            let (ip, rest) = dotted_here(rest)?;
             Ok((Some(ip), rest))
         }
     }
@@ -258,7 +273,7 @@ pub fn optional_dotted(bytes: &[u8]) -> Result<(Option<u32>, &[u8]), LineFault>
 pub fn text_to_end(alloc: Global, bytes: &[u8]) -> Result<(Bytes, &[u8]), LineFault>
     ensures { Gives (λ x. (x.0, x.1.now)) result (text_field bytes.now) }
 {
-    let text = text::text(alloc, after(b' ', bytes)?)?;
+    let text = whole_text(alloc, after(b' ', bytes)?)?;
     Ok((text, &[]))
 }
 

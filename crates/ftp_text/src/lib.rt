@@ -13,4 +13,5 @@ pub mod writing;
 
 pub use calls::{CallText, FailingCalls, failing_calls};
 pub use fault::LineFault;
+pub use text::whole_text;
 pub use word::Word;

@@ -65,7 +65,7 @@ fn text_byte(bytes: &[u8]) -> Result<(u8, &[u8]), LineFault>
 }
 
 /// The text that all of the bytes spell.
-pub fn text(alloc: Global, bytes: &[u8]) -> Result<Bytes, LineFault>
+pub fn whole_text(alloc: Global, bytes: &[u8]) -> Result<Bytes, LineFault>
     ensures { Gives (λ x. x) result (text_of bytes.now) }
 {
     let mut out = Vec::with_capacity(alloc, bytes.len())?;

@@ -208,14 +208,21 @@ pub fn put_optional_dotted(out: &mut Vec<u8>, ip: Option<u32>) -> Result<(), All
     }
 }
 
-/// Writes a port, or a hyphen for none.
-pub fn put_optional_port(out: &mut Vec<u8>, n: Option<u16>) -> Result<(), AllocError>
+/// Writes a number, or a hyphen for none.
+pub fn put_optional_number(out: &mut Vec<u8>, n: Option<u64>) -> Result<(), AllocError>
     ensures { OnOk result (out.new.items ≡ out.old.items ++ optional decimal n) }
 {
     match n {
         None => put(out, b" -"),
-        Some(n) => put_number(out, u64::from(n)),
+        Some(n) => put_number(out, n),
     }
+}
+
+/// Writes a port, or a hyphen for none.
+pub fn put_optional_port(out: &mut Vec<u8>, n: Option<u16>) -> Result<(), AllocError>
+    ensures { OnOk result (out.new.items ≡ out.old.items ++ optional decimal n) }
+{
+    put_optional_number(out, n.map(u64::from))
 }
 
 /// Writes a space and what an authenticator says.
