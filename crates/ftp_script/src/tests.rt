@@ -1,5 +1,6 @@
 //! Whole scripts, with the lines that are written for them.
 
+mod options;
 mod proxied;
 mod transcripts;
 mod transfers;
@@ -129,6 +130,26 @@ fn a_proxy_tells_the_client_of_each_connection(rt: HostRuntime) -> Result<(), Fa
 }
 
 #[test]
+fn each_option_means_something(rt: HostRuntime) -> Result<(), Fail> {
+    for text in [
+        options::LOCKED,
+        options::LOCKED_AND_SWEPT,
+        options::NAMED_HOST,
+        options::FIXED_HOST,
+        options::OWN_SOCKET,
+        options::ACCEPTED,
+        options::VERSION_SIX,
+        options::CONNECTED,
+        options::ACTIVE,
+        options::PASSIVE,
+        options::DEFAULTS,
+    ] {
+        replay(&rt, rt.alloc(), text, 65536)?;
+    }
+    Ok(())
+}
+
+#[test]
 fn a_transfer_is_run_at_its_end(rt: HostRuntime) -> Result<(), Fail> {
     let login = transcripts::LOGIN;
     for (set_up, said) in [
@@ -208,8 +229,8 @@ const BAD_LINES: [&str; 50] = [
 ];
 
 /// Lines that are bad where they are the first.
-const BAD_FIRST: [&str; 25] = [
-    "0 pass 1",
+const BAD_FIRST: [&str; 29] = [
+    "options legacy 50001 50000 connection passive 600 off restart",
     "options pooled 50001 50000 connection passive 600 off restart",
     "options pooled 0 50000 connection passive 600 off restart",
     "options pooled 50000 65536 connection passive 600 off restart",
@@ -219,6 +240,10 @@ const BAD_FIRST: [&str; 25] = [
     "options proxy 50000 50001 connection passive 600 off restart",
     "options proxy:65536 50000 50001 connection passive 600 off restart",
     "options proxy:2121 0 50001 connection passive 600 off restart",
+    "options pooled 50000 50001 ip:10.0.0 passive 600 off restart",
+    "options pooled 50000 50001 connection none 600 off restart",
+    "options pooled 50000 50001 connection passive 600 3:120 restart",
+    "options pooled 50000 50001 connection passive 600 4294967296:120:both restart",
     "storage 5",
     "storage 5 0",
     "storage 5 2,1",
@@ -281,14 +306,25 @@ fn a_line_may_be_bad_where_it_stands(rt: HostRuntime) -> Result<(), Fail> {
 }
 
 #[test]
-fn links_and_files_need_no_options_and_stand_behind_them(rt: HostRuntime) -> Result<(), Fail> {
+fn options_stand_before_all_else(rt: HostRuntime) -> Result<(), Fail> {
     for (script, status, printed) in [
         ("link 11 5 - .", Status::Done, "link 11 sent .\n"),
         ("storage 0 1\nfile . /a", Status::Done, "file . /a\n"),
+        ("0 pass 1", Status::Done, "> 0 pass 1\n= unknown\n"),
         (
             "link 11 5 - .\noptions pooled 50000 50001 connection passive 600 off restart",
             Status::BadLine(2),
             "bad line 2\n",
+        ),
+        (
+            "0 pass 1\noptions pooled 50000 50001 connection passive 600 off restart",
+            Status::BadLine(2),
+            "> 0 pass 1\n= unknown\nbad line 2\n",
+        ),
+        (
+            "options legacy 0 65535 connection passive 600 off restart",
+            Status::Done,
+            "",
         ),
     ] {
         compare(&rt, rt.alloc(), script, status, printed)?;

@@ -1,5 +1,7 @@
 -- What one more item changes of what the items ask for.
-use Rattle.std.proofs.Common.{◌≡◌, ℕ, Bool, true, false, cond, ◌||◌, List, [], ◌∷◌, ◌++◌, Option, Some, None, is_some, refl, ap, ◌∙◌, nat_eq}
+use Rattle.std.proofs.Common.{◌≡◌, ℕ, ◌*◌, Bool, true, false, cond, ◌||◌, List, [], ◌∷◌, ◌++◌, Option, Some, None, is_some, refl, ap, ◌∙◌, nat_eq}
+use Rattle.std.specs.List.{list_any}
+use Rattle.std.specs.Option.{option_or}
 use Rattle.std.specs.Prelude.{filter_map}
 use Rattle.std.specs.Ordering.{nat_cmp, eq_by_cmp}
 use Rattle.std.specs.Cmp.{nat_cmp_total, unsigned_tied}
@@ -10,12 +12,17 @@ use Rattle.std.proofs.lemmas.List.Elements.{filter_map-append}
 use Rattle.std.proofs.lemmas.List.Sums.{fold-append}
 use Rattle.ftp_base.specs.declared.fault.LinkFault.{LinkFault}
 use Rattle.ftp_base.specs.Memory.{LinkState}
+use Rattle.ftp_options.specs.declared.host.PassiveHost.{PassiveHost}
+use Rattle.ftp_options.specs.declared.lockout.FailedLoginsPolicy.{FailedLoginsPolicy}
+use Rattle.ftp_options.specs.declared.options.ActivePassiveMode.{ActivePassiveMode}
+use Rattle.ftp_options.specs.declared.options.ListenerMode.{ListenerMode}
+use Rattle.ftp_options.specs.Builder.{defaults}
 use Rattle.ftp_options.specs.Settings.{Settings}
 use Rattle.ftp_event_text.specs.declared.setup.Item.{Item}
 use Rattle.ftp_event_text.specs.declared.setup.Item.TheVariants as item
-use Rattle.ftp_script_text.specs.Script.{has_options, has_link}
-use Rattle.ftp_script_run.specs.Items.{event_in, events_in, options_in, new_link, link_in, links_in}
-use Rattle.ftp_script_text.specs.SetUp.{new_storage, set_up, storage_in}
+use Rattle.ftp_script_text.specs.Script.{says, has_link}
+use Rattle.ftp_script_run.specs.Items.{event_in, events_in, features_of, options_in, new_link, link_in, links_in}
+use Rattle.ftp_script_text.specs.SetUp.{has_event, new_storage, set_up, storage_in}
 
 -- ---- events
 
@@ -24,37 +31,45 @@ events_in-append items more = filter_map-append event_in items more
 
 -- ---- options
 
--- options that are set stay
-pub options_in-some : (items more : List Item) (s : Settings) → options_in items ≡ Some s → options_in (items ++ more) ≡ Some s
-options_in-some [] more s h = absurd cc
-options_in-some (item.Skip ∷ items) more s h = options_in-some items more s h
-options_in-some (item.Options mode lo hi idle restart ∷ items) more s h = h
-options_in-some (item.Storage max fails ∷ items) more s h = options_in-some items more s h
-options_in-some (item.Dir path ∷ items) more s h = options_in-some items more s h
-options_in-some (item.File bytes path ∷ items) more s h = options_in-some items more s h
-options_in-some (item.Link n chunk fails bytes ∷ items) more s h = options_in-some items more s h
-options_in-some (item.Event e ∷ items) more s h = options_in-some items more s h
+-- an item that sets none
+pub options_in-other : (items : List Item) (i : Item) → options_in (i ∷ []) ≡ defaults → options_in (items ++ i ∷ []) ≡ options_in items
+options_in-other [] i none = none
+options_in-other (item.Skip ∷ items) i none = options_in-other items i none
+options_in-other (item.Options mode lo hi host active idle lockout restart ∷ items) i none = refl
+options_in-other (item.Storage max fails ∷ items) i none = options_in-other items i none
+options_in-other (item.Dir path ∷ items) i none = options_in-other items i none
+options_in-other (item.File bytes path ∷ items) i none = options_in-other items i none
+options_in-other (item.Link n chunk fails bytes ∷ items) i none = options_in-other items i none
+options_in-other (item.Event e ∷ items) i none = options_in-other items i none
 
--- where none are set, the later items may set them
-pub options_in-none : (items more : List Item) → options_in items ≡ None → options_in (items ++ more) ≡ options_in more
-options_in-none [] more h = refl
-options_in-none (item.Skip ∷ items) more h = options_in-none items more h
-options_in-none (item.Options mode lo hi idle restart ∷ items) more h = absurd cc
-options_in-none (item.Storage max fails ∷ items) more h = options_in-none items more h
-options_in-none (item.Dir path ∷ items) more h = options_in-none items more h
-options_in-none (item.File bytes path ∷ items) more h = options_in-none items more h
-options_in-none (item.Link n chunk fails bytes ∷ items) more h = options_in-none items more h
-options_in-none (item.Event e ∷ items) more h = options_in-none items more h
+-- the rules of an options line, on a builder on which is set who listens
+pub options_in-line : (mode : ListenerMode) (lo hi : ℕ) (host : PassiveHost) (active : ActivePassiveMode) (idle : ℕ) (lockout : Option FailedLoginsPolicy) (restart : Bool) (listens rules : Settings) →
+    listens ≡ record defaults { mode = mode; lo = lo; hi = hi } →
+    rules ≡ record listens { host = host; active_passive = active; idle_ms = idle * 1000; lockout = option_or lockout listens.lockout; features = features_of restart } →
+    rules ≡ options_in (item.Options mode lo hi host active idle lockout restart ∷ [])
+options_in-line mode lo hi host active idle lockout restart listens rules set more =
+    more
+    ∙ ap (λ (s : Settings). record s { host = host; active_passive = active; idle_ms = idle * 1000; lockout = option_or lockout s.lockout; features = features_of restart }) set
+    ∙ ap (λ (l : Option FailedLoginsPolicy). record defaults { mode = mode; lo = lo; hi = hi; host = host; active_passive = active; idle_ms = idle * 1000; lockout = l; features = features_of restart }) (or-none lockout) where
+      or-none : {X : Type 0} (o : Option X) → option_or o None ≡ o
+      or-none None = refl
+      or-none (Some x) = refl
 
-pub has_options-is : (items : List Item) → has_options items ≡ is_some (options_in items)
-has_options-is [] = refl
-has_options-is (item.Skip ∷ items) = has_options-is items
-has_options-is (item.Options mode lo hi idle restart ∷ items) = refl
-has_options-is (item.Storage max fails ∷ items) = has_options-is items
-has_options-is (item.Dir path ∷ items) = has_options-is items
-has_options-is (item.File bytes path ∷ items) = has_options-is items
-has_options-is (item.Link n chunk fails bytes ∷ items) = has_options-is items
-has_options-is (item.Event e ∷ items) = has_options-is items
+-- what is set and what happened, where nothing was said
+pub record IsUnsaid (items : List Item) : Type 0 where
+  pub no_event : has_event items ≡ false
+  pub first : (more : List Item) → options_in (items ++ more) ≡ options_in more
+
+-- where nothing was said, no options are set, and nothing happened
+pub unsaid : (items : List Item) → list_any says items ≡ false → IsUnsaid items
+unsaid [] h = record { no_event = refl; first = λ more. refl }
+unsaid (item.Skip ∷ items) h = let behind = unsaid items h in record { no_event = behind.no_event; first = behind.first }
+unsaid (item.Options mode lo hi host active idle lockout restart ∷ items) h = cc
+unsaid (item.Storage max fails ∷ items) h = cc
+unsaid (item.Dir path ∷ items) h = cc
+unsaid (item.File bytes path ∷ items) h = cc
+unsaid (item.Link n chunk fails bytes ∷ items) h = cc
+unsaid (item.Event e ∷ items) h = cc
 
 -- ---- links
 
@@ -71,7 +86,7 @@ found n entries = map.find nat_cmp n entries
 has_link-found : (n : ℕ) (items : List Item) → is_some (map.find nat_cmp n (link_entries items)) ≡ has_link n items
 has_link-found n [] = refl
 has_link-found n (item.Skip ∷ items) = has_link-found n items
-has_link-found n (item.Options mode lo hi idle restart ∷ items) = has_link-found n items
+has_link-found n (item.Options mode lo hi host active idle lockout restart ∷ items) = has_link-found n items
 has_link-found n (item.Storage max fails ∷ items) = has_link-found n items
 has_link-found n (item.Dir path ∷ items) = has_link-found n items
 has_link-found n (item.File bytes path ∷ items) = has_link-found n items

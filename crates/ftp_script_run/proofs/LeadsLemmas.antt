@@ -259,7 +259,7 @@ ListStays-read v number given old new read = by read.header refl where
 LinkFalls-same : {S L : Type 0} (v : Views S L) (l : L) → LinkFalls v l l
 LinkFalls-same v l = record { limit = omega arith; list = ListStays-same (v.link_calls l) }
 
-pub LimitsFall-same : {S L : Type 0} (v : Views S L) (x : Outside S L) → LimitsFall v x x
+LimitsFall-same : {S L : Type 0} (v : Views S L) (x : Outside S L) → LimitsFall v x x
 LimitsFall-same v x =
     record { storage = omega arith; links = λ n after there. (after, there, LinkFalls-same v after) }
 

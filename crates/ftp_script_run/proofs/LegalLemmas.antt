@@ -37,7 +37,7 @@ events-more items log event e same events =
 no_events : (items : List Item) → has_event items ≡ false → events_in items ≡ []
 no_events [] h = refl
 no_events (item.Skip ∷ items) h = no_events items h
-no_events (item.Options mode lo hi idle restart ∷ items) h = no_events items h
+no_events (item.Options mode lo hi host active idle lockout restart ∷ items) h = no_events items h
 no_events (item.Storage max fails ∷ items) h = no_events items h
 no_events (item.Dir path ∷ items) h = no_events items h
 no_events (item.File bytes path ∷ items) h = no_events items h

@@ -4,6 +4,7 @@ use Rattle.std.specs.FinMap as map
 use Rattle.ftp_base.specs.declared.fault.LinkFault.{LinkFault}
 use Rattle.ftp_base.specs.LinkTable.{Numbered}
 use Rattle.ftp_base.specs.Memory.{LinkState}
+use Rattle.ftp_options.specs.Builder.{defaults}
 use Rattle.ftp_options.specs.Settings.{Settings}
 use Rattle.ftp_events.specs.declared.event.HubEvent.{HubEvent}
 use Rattle.ftp_event_text.specs.declared.setup.Item.{Item}
@@ -23,11 +24,20 @@ abbrev pub features_of : Bool → ℕ
 features_of true = 1
 features_of false = 0
 
--- the options, where they are set; the idle time is in milliseconds
-abbrev pub options_in : List Item → Option Settings
-options_in [] = None
-options_in (item.Options mode lo hi idle restart ∷ items) =
-    Some (record { mode = mode; lo = lo; hi = hi; idle_ms = idle * 1000; features = features_of restart })
+-- the settings that an options line asks for, whose idle time is in seconds; else those of a builder on which nothing was set
+abbrev pub options_in : List Item → Settings
+options_in [] = defaults
+options_in (item.Options mode lo hi host active idle lockout restart ∷ items) =
+    record defaults {
+      mode = mode;
+      lo = lo;
+      hi = hi;
+      host = host;
+      active_passive = active;
+      idle_ms = idle * 1000;
+      lockout = lockout;
+      features = features_of restart;
+    }
 options_in (_ ∷ items) = options_in items
 
 -- a link that gives these bytes, on which no call was made, and of whose calls these fail

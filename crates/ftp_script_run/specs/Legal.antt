@@ -1,5 +1,5 @@
 -- The legal log of a script's items, the newest entry first, and what it does to their storage and links.
-use Rattle.std.specs.Prelude.{ℕ, ◌≡◌, ◌≤◌, List, [], map as map_list, reverse, Some, MatchOption}
+use Rattle.std.specs.Prelude.{ℕ, ◌≡◌, ◌≤◌, List, [], map as map_list, reverse, Some}
 use Rattle.std.specs.FinMap as map
 use Rattle.ftp_base.specs.LinkTable.{Numbered}
 use Rattle.ftp_base.specs.Memory.{LinkState, fault_limit, link_fault_limit}
@@ -50,16 +50,9 @@ pub record IsDue (settings : Settings) (log : List Entry) (old new : Outside Mem
   pub acted : IsActed options log
   pub led : Leads memory_views options [] log old new
 
--- without options nothing was run
-pub record IsIdle (log : List Entry) (old new : Outside MemoryState LinkState) : Type 0 where
-  pub empty : log ≡ []
-  pub same : new ≡ old
-
 -- the entries are those of the script's events, in their order; all that they say is due, and leaves these links and this
 -- storage, of which no more calls failed than the script lists
 pub record IsLegal (items : List Item) (log : List Entry) (links : Numbered LinkState) (storage : MemoryState) : Type 0 where
   pub events : map_list (λ (e : Entry). e.event) (reverse log) ≡ events_in items
-  pub due :
-      MatchOption (options_in items) (IsIdle log (start_of items) (record { storage = storage; links = links }))
-      (λ settings. IsDue settings log (start_of items) (record { storage = storage; links = links }))
+  pub due : IsDue (options_in items) log (start_of items) (record { storage = storage; links = links })
   pub listed : FailsAsListed (start_of items) (record { storage = storage; links = links })

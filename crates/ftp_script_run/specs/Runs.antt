@@ -1,5 +1,5 @@
 -- What a run keeps while it goes on.
-use Rattle.std.specs.Prelude.{◌≡◌, ℕ, ◌⊎◌, true, List, [], ◌∷◌, ◌++◌, map, reverse, Option, Some, None, IfSome}
+use Rattle.std.specs.Prelude.{◌≡◌, ℕ, ◌⊎◌, true, List, [], ◌∷◌, ◌++◌, map, reverse, Option, IfSome}
 use Rattle.ftp_base.specs.Memory.{LinkState}
 use Rattle.ftp_base.specs.MemoryStorage.{MemoryState}
 use Rattle.ftp_base.specs.Outside.{Writes}
@@ -17,7 +17,7 @@ use Rattle.ftp_script_text.specs.Script.{may_stand}
 use Rattle.ftp_script_text.specs.ScriptReader.{Follows, HasRead}
 use Rattle.ftp_script_run.specs.declared.run.Run.{Run}
 use Rattle.ftp_script_run.specs.Items.{events_in, options_in}
-use Rattle.ftp_script_run.specs.Legal.{memory_views, start_of, IsIdle}
+use Rattle.ftp_script_run.specs.Legal.{memory_views, start_of}
 use Rattle.ftp_script_run.specs.Outcome.{log_lines}
 
 -- the storage and the links of a run
@@ -26,20 +26,15 @@ outside run = record { storage = run.storage; links = run.links }
 
 -- a hub with the options of the items stands for the log, whose slots and jobs have their links and whose ended jobs were run
 pub record HasRun (hub : Hub) (items : List Item) (log : List Entry) (now : Outside MemoryState LinkState) : Type 0 where
-  pub options : options_in items ≡ Some (settings_of (options_of hub))
+  pub options : settings_of (options_of hub) ≡ options_in items
   pub stands : Stands hub log
   pub has_links : HasLinks (options_of hub) (past_of log) now.links
   pub led : Leads memory_views (options_of hub) [] log (start_of items) now
 
--- there is such a hub since the options came; before nothing was run
-abbrev pub HasHub : Option Hub → List Item → List Entry → Outside MemoryState LinkState → Type 0
-HasHub None items log now = (options_in items ≡ None) × IsIdle log (start_of items) now
-HasHub (Some hub) items log now = HasRun hub items log now
-
 -- what is kept of these items and their log
 pub record Keeps (run : Run) (items : List Item) (log : List Entry) : Type 0 where
   pub events : map (λ (e : Entry). e.event) (reverse log) ≡ events_in items
-  pub hub : HasHub run.hub items log (outside run)
+  pub hub : HasRun run.hub items log (outside run)
 
 -- the item is lawful, and may stand behind the items that are kept
 abbrev pub MayTake : Run → Item → Type 0

@@ -1,18 +1,19 @@
 //! A run of a script, item by item.
 
-ghost use Rattle.std.specs.Prelude.{◌≡◌, ◌≤◌, ◌<◌, ◌∷◌, ◌++◌, [], List, true, is_some, IsTrue, Some, None, IfOk, IfErr, OnOk, OnErr, IsErrOf};
+ghost use Rattle.std.specs.Prelude.{◌≡◌, ◌≤◌, ◌<◌, ◌*◌, ◌∷◌, ◌++◌, [], List, true, None, IfOk, IfErr, OnOk, OnErr, IsErrOf};
+ghost use Rattle.std.specs.Option.{option_or};
 ghost use Rattle.ftp_base.specs.declared.fault.Failed.TheVariants.{Fault, Memory};
 ghost use Rattle.ftp_base.specs.Outside.{HasRisen, Writes};
 ghost use Rattle.ftp_events.specs.declared.entry.Entry.{Entry};
 ghost use Rattle.ftp_stream.specs.Writing.{WritesFront};
 ghost use Rattle.ftp_event_text.specs.declared.setup.Item.{Item};
 ghost use Rattle.ftp_event_text.specs.declared.setup.Item.TheVariants as item;
-ghost use Rattle.ftp_script_run.specs.Items.{features_of, options_in};
+ghost use Rattle.ftp_script_run.specs.Items.{features_of};
 ghost use Rattle.ftp_script_run.specs.Left.{end_lines};
 ghost use Rattle.ftp_script_run.specs.Outcome.{log_lines, bad_line};
 ghost use Rattle.ftp_script_run.specs.Runs.{Keeps, MayTake, Takes, IsTaken, IsPartlyTaken};
-ghost use Rattle.ftp_options.specs.Builder.{settings_of};
-ghost use Rattle.ftp_event_text.specs.Setup.{IsItem, IsMode};
+ghost use Rattle.ftp_options.specs.Builder.{refusal, settings_of};
+ghost use Rattle.ftp_hub.specs.Stands.{Stands, options_of};
 ghost use Rattle.ftp_script_text.specs.Script.{may_stand};
 
 use crate::printing::{print_bad_line, print_entry, print_files, print_links};
@@ -23,16 +24,18 @@ use ftp_base::{
 use ftp_event_text::Item;
 use ftp_events::{Entry, HubEvent};
 use ftp_hub::{Hub, run_event};
-use ftp_options::{ListenerMode, Options, ServerBuilder};
+use ftp_options::{
+    ActivePassiveMode, FailedLoginsPolicy, ListenerMode, Options, PassiveHost, ServerBuilder,
+};
 use ftp_script_text::MAX_FILE;
 use ftp_text::FailingCalls;
 use std::alloc::Global;
 
-/// The hub since the options came, the storage, and the links. Of events and entries nothing is kept here.
+/// The hub, the storage, and the links. Of events and entries nothing is kept here.
 #[derive(Drop)]
 pub struct Run {
     alloc: Global,
-    hub: Option<Hub>,
+    hub: Hub,
     storage: MemoryStorage,
     links: LinkTable<MemoryLink>,
     // The text that is written next.
@@ -46,7 +49,7 @@ impl Run {
     {
         Run {
             alloc,
-            hub: None,
+            hub: Hub::new(alloc, built(ServerBuilder::new(alloc))),
             storage: MemoryStorage::new(alloc, MAX_FILE, Vec::new(alloc)),
             links: LinkTable::new(alloc),
             text: Vec::new(alloc),
@@ -78,10 +81,16 @@ impl Run {
                 mode,
                 lo,
                 hi,
+                host,
+                active,
                 idle,
+                lockout,
                 restart,
             } => {
-                self.start(mode, lo, hi, idle, restart);
+                let mut builder = ServerBuilder::new(self.alloc);
+                set_listening(&mut builder, mode, lo, hi);
+                set_rules(&mut builder, host, active, idle, lockout, restart);
+                self.start(builder);
                 Ok(())
             }
             Item::Storage { max, fails } => {
@@ -100,12 +109,14 @@ impl Run {
         }
     }
 
-    // Makes the hub.
-    fn start(&mut self, mode: ListenerMode, lo: u16, hi: u16, idle: u32, restart: bool)
-        requires { MayTake self.old (item.Options mode lo hi idle restart) }
-        ensures { Takes self.old (item.Options mode lo hi idle restart) self.new [] }
+    // Makes the hub anew, as the builder says.
+    fn start(&mut self, builder: ServerBuilder)
+        requires { refusal builder ≡ None }
+        ensures fresh { Stands self.new.hub [] }
+        ensures set { settings_of (options_of self.new.hub) ≡ builder.settings }
+        ensures others { self.new ≡ record self.old { hub = self.new.hub } }
     {
-        self.hub = Some(Hub::new(self.alloc, built(mode, lo, hi, idle, restart)));
+        self.hub = Hub::new(self.alloc, built(builder));
     }
 
     // Makes the storage, which has no files yet.
@@ -180,10 +191,7 @@ impl Run {
         ensures due { IfOk result (λ e. Takes self.old (item.Event event) self.new (e ∷ [])) }
         ensures only_memory { IfErr result (λ e. e ≡ Memory) }
     {
-        let Some(hub) = &mut self.hub else {
-            unreachable!()
-        };
-        match run_event(hub, &mut self.storage, &mut self.links, event) {
+        match run_event(&mut self.hub, &mut self.storage, &mut self.links, event) {
             Ok(entry) => Ok(entry),
             Err(_) => Err(Failed::Memory),
         }
@@ -226,32 +234,56 @@ fn want_of_memory(error: StoreError) -> Failed
     }
 }
 
-// The options of an options line. The idle time is in seconds.
-fn built(mode: ListenerMode, lo: u16, hi: u16, idle: u32, restart: bool) -> Options
-    requires { IsItem (item.Options mode lo hi idle restart) }
-    ensures { Some (settings_of result) ≡ options_in (item.Options mode lo hi idle restart ∷ []) }
+// The options that the builder gives.
+fn built(builder: ServerBuilder) -> Options
+    requires { refusal builder ≡ None }
+    ensures { settings_of result ≡ builder.settings }
 {
-    let mut builder = ServerBuilder::new();
-    set_mode(&mut builder, mode);
-    builder.passive_ports(lo, hi);
-    builder.idle_session_timeout(u64::from(idle));
-    builder.storage_features(features(restart));
     match builder.build() {
         Ok(built) => built.options,
         Err(_) => unreachable!(),
     }
 }
 
-// Sets the mode, which is one that has a line.
-fn set_mode(builder: &mut ServerBuilder, mode: ListenerMode)
-    requires { IsMode mode }
-    ensures { builder.new ≡ record builder.old { mode = mode } }
+// Sets who listens, on a builder on which no mode was set.
+fn set_listening(builder: &mut ServerBuilder, mode: ListenerMode, lo: u16, hi: u16)
+    requires { builder.old.settings.mode ≡ ListenerMode.Legacy }
+    ensures { builder.new ≡ record builder.old { settings = record builder.old.settings { mode = mode; lo = lo; hi = hi } } }
 {
     match mode {
-        ListenerMode::Legacy => unreachable!(),
+        ListenerMode::Legacy => {}
         ListenerMode::Pooled => builder.pooled_listener_mode(),
         ListenerMode::Proxy { control_port } => builder.proxy_protocol_mode(control_port),
     }
+    builder.passive_ports(lo, hi);
+}
+
+// Sets what else the sessions go by. The idle time is in seconds.
+fn set_rules(
+    builder: &mut ServerBuilder,
+    host: PassiveHost,
+    active: ActivePassiveMode,
+    idle: u32,
+    lockout: Option<FailedLoginsPolicy>,
+    restart: bool,
+)
+    ensures { builder.new ≡ record builder.old {
+      settings = record builder.old.settings {
+        host = host;
+        active_passive = active;
+        idle_ms = idle * 1000;
+        lockout = option_or lockout builder.old.settings.lockout;
+        features = features_of restart;
+      };
+    } }
+{
+    builder.passive_host(host);
+    builder.active_passive_mode(active);
+    builder.idle_session_timeout(u64::from(idle));
+    if let Some(policy) = lockout {
+        builder.failed_logins_policy(policy);
+    }
+    builder.storage_features(features(restart));
 }
 
 // What the storage can do, where transfers can begin at a restart offset or not.

@@ -1,9 +1,5 @@
-use Rattle.std.proofs.Common.{Some, refl}
-use Rattle.ftp_script_run.proofs.RunLemmas.{no_hub, covered, keeps-event}
+use Rattle.ftp_script_run.proofs.RunLemmas.{covered, keeps-event}
 use Rattle.ftp_script_run.proofs.run.Run.step.Goals as goal
-
-pub unreachable-requires : goal.unreachable-requires
-unreachable-requires c = no_hub c.args.self.now c.args.event c.requires c.in_default.is
 
 pub run_event-requires : goal.run_event-requires
 run_event-requires c = record { covered = covered c.args.self.now c.args.event c.requires }
@@ -11,5 +7,5 @@ run_event-requires c = record { covered = covered c.args.self.now c.args.event c
 pub returns-in-Ok-clause-due : goal.returns-in-Ok-clause-due
 returns-in-Ok-clause-due c = λ items log kept may.
     keeps-event c.args.self.now
-    (record { alloc = c.args.self.now.alloc; hub = Some c.run_event.new.hub; storage = c.run_event.new.storage; links = c.run_event.new.links; text = c.args.self.now.text })
-    items log c.args.event c.in-Ok.entry c.in-Some.hub c.run_event.new.hub c.in-Some.is refl c.run_event.ensures.options c.in-Ok.ensures.event (c.in-Ok.ensures.stands log) (c.in-Ok.ensures.leads log) c.run_event.ensures.linked may kept
+    (record { alloc = c.args.self.now.alloc; hub = c.run_event.new.hub; storage = c.run_event.new.storage; links = c.run_event.new.links; text = c.args.self.now.text })
+    items log c.args.event c.in-Ok.entry c.run_event.ensures.options c.in-Ok.ensures.event (c.in-Ok.ensures.stands log) (c.in-Ok.ensures.leads log) c.run_event.ensures.linked may kept

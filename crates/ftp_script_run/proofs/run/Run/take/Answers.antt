@@ -1,10 +1,13 @@
-use Rattle.std.proofs.Common.{◌≡◌, true, inl, List, [], ◌∷◌, ◌++◌, refl, sym, subst}
+use Rattle.std.proofs.Common.{◌≡◌, ◌∙◌, true, inl, List, [], ◌∷◌, ◌++◌, ap, refl, sym, subst}
+use Rattle.std.proofs.lemmas.Bool.{not-true}
+use Rattle.ftp_options.specs.Settings.{Draft}
 use Rattle.ftp_events.specs.declared.entry.Entry.{Entry}
 use Rattle.ftp_event_text.specs.declared.setup.Item.{Item}
 use Rattle.ftp_script_text.specs.Script.{may_stand}
-use Rattle.ftp_script_run.specs.Runs.{Keeps, IsTaken}
+use Rattle.ftp_script_run.specs.Runs.{Keeps, IsTaken, outside}
 use Rattle.ftp_script_run.proofs.Written.{writes-nil, on_ok-then, on_err}
-use Rattle.ftp_script_run.proofs.RunLemmas.{keeps-skip}
+use Rattle.ftp_script_run.proofs.ItemLemmas.{options_in-line}
+use Rattle.ftp_script_run.proofs.RunLemmas.{keeps-options, keeps-skip}
 use Rattle.ftp_script_run.proofs.run.Run.take.Goals as goal
 
 pub returns-in-Skip-clause-took : goal.returns-in-Skip-clause-took
@@ -49,3 +52,22 @@ pub returns-in-Link-clause-front : goal.returns-in-Link-clause-front
 returns-in-Link-clause-front g c =
     on_err c.link.result
     (λ items log kept may. inl refl)
+
+pub returns-in-Options-clause-took : goal.returns-in-Options-clause-took
+returns-in-Options-clause-took g c =
+    let run = c.args.self.now in
+    let later = c.start.new.self in
+    let i = c.in-Options in
+    let set =
+    options_in-line i.mode i.lo i.hi i.host i.active i.idle i.lockout i.restart _ _
+    (ap (λ (d : Draft _). d.settings) c.set_listening.ensures ∙ ap (λ (d : Draft _). record d.settings { mode = i.mode; lo = i.lo; hi = i.hi }) c.new-builder.ensures)
+    (ap (λ (d : Draft _). d.settings) c.set_rules.ensures) in
+    let written = g.K.Sink.written c.args.sink.now in
+    subst (λ (i : Item). (items : List Item) (log : List Entry) → Keeps run items log → may_stand items i ≡ true → IsTaken later (items ++ i ∷ []) log written written) (sym c.in-Options.is)
+    (λ items log kept may. (
+      [],
+      keeps-options run later items log _ refl refl refl (not-true _ may)
+          (c.start.ensures.set ∙ set)
+          c.start.ensures.fresh (ap outside c.start.ensures.others) kept,
+      writes-nil written,
+    ))
