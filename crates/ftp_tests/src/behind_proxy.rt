@@ -1,12 +1,9 @@
 //! A hub behind a proxy, event by event, by headers that were read elsewhere.
 
-ghost use Rattle.std.specs.Prelude.{IfOk, IsTrue, not};
-ghost use Rattle.ftp_options.specs.Modes.{is_legacy};
-
-use crate::values::{CLIENT, PASV};
-use ftp_base::{AuthAnswer, Bytes, IpAddr, SocketAddr};
-use ftp_events::{Answer, Decision, EventKind, HubEvent};
-use ftp_hub::{Hub, PrepareError};
+use crate::values::{CLIENT, PASV, act, log_in};
+use ftp_base::{IpAddr, SocketAddr};
+use ftp_events::{Answer, Decision, EventKind};
+use ftp_hub::Hub;
 use ftp_options::{Options, ServerBuilder};
 use ftp_proxy::{ProxyError, ProxyHeader};
 use std::alloc::Global;
@@ -18,22 +15,11 @@ const PROXY: u32 = 0x0a09_0909;
 /// The port of the proxy that opens sessions.
 const CONTROL: u16 = 2121;
 
-fn options() -> Result<Options, Fail>
-    ensures { IfOk result (λ o. IsTrue (not (is_legacy o.mode))) }
-{
-    let mut builder = ServerBuilder::new();
+fn options(alloc: Global) -> Result<Options, Fail> {
+    let mut builder = ServerBuilder::new(alloc);
     builder.proxy_protocol_mode(CONTROL);
     builder.passive_ports(50000, 50001);
     Ok(builder.build().ok().ok_or("not built")?.options)
-}
-
-/// What is decided on an event.
-fn act(hub: &mut Hub, kind: EventKind, answer: Answer) -> Result<Decision, PrepareError> {
-    let event = HubEvent { at: 0, kind };
-    match hub.prepare(&event) {
-        Ok(room) => Ok(hub.step(room, event, answer).decision),
-        Err(error) => Err(error),
-    }
 }
 
 /// A connection that comes from the proxy at an address.
@@ -62,34 +48,11 @@ fn header(port: u16) -> Answer {
     }))
 }
 
-/// Session 1 is opened by its header, and logs in.
-fn logged_in(alloc: Global) -> Result<Hub, Fail> {
-    let session = 1;
-    let name = Bytes::from_slice(alloc, b"ann")?;
-    let good = AuthAnswer::Good;
-    let mut hub = Hub::new(alloc, options()?);
-    for (kind, answer) in [
-        (passed_on(session, PROXY), header(CONTROL)),
-        (EventKind::User { session, name }, Answer::None),
-        (EventKind::Pass { session }, Answer::None),
-        (
-            EventKind::AuthDone {
-                session,
-                answer: good,
-            },
-            Answer::None,
-        ),
-    ] {
-        act(&mut hub, kind, answer).ok().ok_or("not prepared")?;
-    }
-    Ok(hub)
-}
-
 #[test]
 fn a_header_decides_what_its_connection_is(rt: HostRuntime) -> Result<(), Fail> {
     let alloc = rt.alloc();
     let error = ProxyError::CrlfError;
-    let mut hub = Hub::new(alloc, options()?);
+    let mut hub = Hub::new(alloc, options(alloc)?);
     for (number, answer, decision) in [
         (1, Answer::None, Decision::NotExpected),
         (1, Answer::Header(Err(error)), Decision::HeaderFault(error)),
@@ -105,7 +68,9 @@ fn a_header_decides_what_its_connection_is(rt: HostRuntime) -> Result<(), Fail> 
 
 #[test]
 fn a_data_connection_comes_from_the_proxy_of_its_session(rt: HostRuntime) -> Result<(), Fail> {
-    let mut hub = logged_in(rt.alloc())?;
+    let alloc = rt.alloc();
+    let mut hub = Hub::new(alloc, options(alloc)?);
+    log_in(&mut hub, alloc, passed_on(1, PROXY), header(CONTROL))?;
     for (number, proxy, decision) in [
         (11, PROXY + 1, Decision::Turned),
         (12, PROXY, Decision::Attached { session: 1 }),

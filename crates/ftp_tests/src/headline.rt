@@ -1,6 +1,6 @@
 //! A caller of the headline.
 
-ghost use Rattle.std.specs.Prelude.{IfOk, IsTrue, not};
+ghost use Rattle.std.specs.Prelude.{◌≡◌, false, IfOk, IsTrue};
 ghost use Rattle.std.specs.List.{list_all};
 ghost use Rattle.ftp_options.specs.Modes.{is_legacy};
 ghost use Rattle.ftp_events.specs.Covers.{is_covered};
@@ -21,7 +21,7 @@ pub fn run_all<S: Storage, L: Link>(
     links: &mut LinkTable<L>,
     events: &[HubEvent],
 ) -> Result<Log, RunError>
-    requires shared { IsTrue (not (is_legacy options.mode)) }
+    requires shared { is_legacy options.mode ≡ false }
     requires covered { IsTrue (list_all (λ e. is_covered (is_linked links.old) e.kind) events.now) }
     ensures headline { IfOk result (λ log. Headline options events.now log.entries) }
 {

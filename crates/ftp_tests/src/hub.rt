@@ -1,26 +1,17 @@
 //! Runs with ample memory, and at the end of the count of events.
 
-ghost use Rattle.std.specs.Prelude.{IfOk, IsTrue, not};
-ghost use Rattle.ftp_options.specs.Modes.{is_legacy};
-
 use crate::headline::run_all;
-use crate::values::{CLIENT, CONNECT, PASV};
+use crate::values::{AUTH, CLIENT, CONNECT, PASV, pooled};
 use ftp_base::{
-    AuthAnswer, Bytes, DataChanCmd, IpAddr, LinkTable, MemoryLink, MemoryStorage, Reply, SocketAddr,
+    Bytes, DataChanCmd, IpAddr, LinkTable, MemoryLink, MemoryStorage, Reply, SocketAddr,
 };
 use ftp_events::{Action, Answer, Decision, EventKind, HubEvent, Log};
 use ftp_hub::{Hub, PrepareError, RunError, Twin, covers, run_events};
-use ftp_options::{Options, ServerBuilder};
 use ftp_transfer::Ticket;
 use std::alloc::{AllocError, Global};
 use std::test::Fail;
 
 const TICKET: Ticket = Ticket { session: 1, nr: 1 };
-
-const AUTH: EventKind = EventKind::AuthDone {
-    session: 1,
-    answer: AuthAnswer::Good,
-};
 
 /// A data connection from an address.
 fn arrival(number: u64, ip: u32) -> EventKind {
@@ -85,19 +76,10 @@ fn links(alloc: Global) -> Result<LinkTable<MemoryLink>, Fail> {
     Ok(links)
 }
 
-fn options() -> Result<Options, Fail>
-    ensures { IfOk result (λ o. IsTrue (not (is_legacy o.mode))) }
-{
-    let mut builder = ServerBuilder::new();
-    builder.pooled_listener_mode();
-    builder.passive_ports(50000, 50001);
-    Ok(builder.build().ok().ok_or("not built")?.options)
-}
-
 #[test]
 fn a_client_takes_a_file_and_another_is_turned_away(rt: HostRuntime) -> Result<(), Fail> {
     let alloc = rt.alloc();
-    let options = options()?;
+    let options = pooled(alloc)?;
     let events = events(alloc)?;
     let mut storage = storage(alloc)?;
     let mut links = links(alloc)?;
@@ -131,7 +113,7 @@ fn a_client_takes_a_file_and_another_is_turned_away(rt: HostRuntime) -> Result<(
 #[test]
 fn each_entry_is_given_twice_and_the_job_with_its_start(rt: HostRuntime) -> Result<(), Fail> {
     let alloc = rt.alloc();
-    let mut hub = Hub::new(alloc, options()?);
+    let mut hub = Hub::new(alloc, pooled(alloc)?);
     let mut links = Vec::new(alloc);
     for event in events(alloc)? {
         let Twin { kept, told, job } = twice(&mut hub, event).ok().ok_or("not prepared")?;
@@ -173,7 +155,7 @@ fn a_connection_without_a_link_is_not_covered(rt: HostRuntime) -> Result<(), Fai
 #[test]
 fn no_event_runs_at_the_end_of_the_count(rt: HostRuntime) -> Result<(), Fail> {
     let alloc = rt.alloc();
-    let options = options()?;
+    let options = pooled(alloc)?;
     let pass = [HubEvent {
         at: 0,
         kind: EventKind::Pass { session: 1 },

@@ -15,6 +15,8 @@ mod hub;
 #[cfg(test)]
 mod laws;
 #[cfg(test)]
+mod legacy;
+#[cfg(test)]
 mod links;
 #[cfg(test)]
 mod lockout;

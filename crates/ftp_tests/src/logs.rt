@@ -1,23 +1,12 @@
 //! Events and logs that are put together by hand.
 
-use crate::values::{CLIENT, CONNECT, PASV};
+use crate::values::{CLIENT, CONNECT, PASV, pooled};
 use ftp_base::{Bytes, Reply, ReplyCode};
 use ftp_events::{
     Action, Actions, Answer, Decision, Entry, EventKind, HubEvent, Log, holder_of, replies_of,
 };
-use ftp_options::{ActivePassiveMode, ListenerMode, Options, PassiveHost};
 use std::alloc::Global;
 use std::test::Fail;
-
-const OPTIONS: Options = Options {
-    mode: ListenerMode::Pooled,
-    lo: 50000,
-    hi: 50001,
-    host: PassiveHost::FromConnection,
-    active_passive: ActivePassiveMode::PassiveOnly,
-    idle_ms: 600_000,
-    features: 1,
-};
 
 /// Puts an entry without actions to the log.
 fn push(log: &mut Log, kind: EventKind, decision: Decision, alloc: Global) -> Result<(), Fail> {
@@ -51,17 +40,18 @@ fn granted(alloc: Global) -> Result<Log, Fail> {
 #[test]
 fn a_log_tells_who_holds_a_port(rt: HostRuntime) -> Result<(), Fail> {
     let alloc = rt.alloc();
+    let options = pooled(alloc)?;
     let mut log = granted(alloc)?;
-    assert_eq!(rt; holder_of(&OPTIONS, &log, CLIENT, 50001), Some(1));
-    assert_eq!(rt; holder_of(&OPTIONS, &log, CLIENT, 50000), None);
-    assert_eq!(rt; holder_of(&OPTIONS, &log, CLIENT + 1, 50001), None);
+    assert_eq!(rt; holder_of(&options, &log, CLIENT, 50001), Some(1));
+    assert_eq!(rt; holder_of(&options, &log, CLIENT, 50000), None);
+    assert_eq!(rt; holder_of(&options, &log, CLIENT + 1, 50001), None);
     push(
         &mut log,
         EventKind::Closed { session: 1 },
         Decision::Closed,
         alloc,
     )?;
-    assert_eq!(rt; holder_of(&OPTIONS, &log, CLIENT, 50001), None);
+    assert_eq!(rt; holder_of(&options, &log, CLIENT, 50001), None);
     Ok(())
 }
 

@@ -1,7 +1,9 @@
 //! What is printed: replies, numbers, paths and times.
 
-use ftp_base::{Bytes, ControlChanMsg, Meta, Reply, ReplyCode, TraceId};
-use ftp_events::{make_pasv_reply, reply_of};
+use ftp_base::{
+    Bytes, ControlChanMsg, IpAddr, Meta, PortAllocationError, Reply, ReplyCode, SocketAddr, TraceId,
+};
+use ftp_events::{make_pasv_reply, port_target, reply_of};
 use ftp_options::PassiveHost;
 use ftp_transfer::{HumanDuration, format_facts, join_path};
 use std::test::Fail;
@@ -20,15 +22,44 @@ fn a_reply_ends_in_cr_lf(rt: HostRuntime) -> Result<(), Fail> {
     Ok(())
 }
 
+/// The address 127.0.0.1.
+const LOOPBACK: u32 = 0x7f00_0001;
+
 // RFC 959, section 4.1.2: h1,h2,h3,h4,p1,p2, and 50000 is 195 * 256 + 80.
 #[test]
 fn a_passive_reply_shows_six_numbers(rt: HostRuntime) -> Result<(), Fail> {
     let ip = u32::from_be_bytes([10, 0, 0, 9]);
-    let reply = make_pasv_reply(rt.alloc(), &PassiveHost::FromConnection, ip, None, 50000)?;
-    assert_eq!(rt;
-        reply.encode(rt.alloc())?.as_slice(),
-        b"227 Entering Passive Mode (10,0,0,9,195,80)\r\n".as_slice()
-    );
+    for (host, line) in [
+        (
+            PassiveHost::FromConnection,
+            b"227 Entering Passive Mode (10,0,0,9,195,80)\r\n".as_slice(),
+        ),
+        (
+            PassiveHost::Ip(LOOPBACK),
+            b"227 Entering Passive Mode (127,0,0,1,195,80)\r\n",
+        ),
+    ] {
+        let reply = make_pasv_reply(rt.alloc(), &host, ip, None, 50000)?;
+        assert_eq!(rt; reply.encode(rt.alloc())?.as_slice(), line);
+    }
+    Ok(())
+}
+
+// And 30000 is 117 * 256 + 48.
+#[test]
+fn six_numbers_are_an_address(rt: HostRuntime) -> Result<(), Fail> {
+    let target = SocketAddr {
+        ip: IpAddr::V4(LOOPBACK),
+        port: 30000,
+    };
+    for (text, found) in [
+        (b"127,0,0,1,117,48".as_slice(), Some(target)),
+        (b"127,0,0,1,117", None),
+        (b"127,0,0,1,117,48,1", None),
+        (b"127,0,0,1,x,48", None),
+    ] {
+        assert_eq!(rt; port_target(text), found);
+    }
     Ok(())
 }
 
@@ -98,5 +129,16 @@ fn a_file_tells_its_type_and_size_and_a_directory_its_type(rt: HostRuntime) -> R
         let text = format_facts(rt.alloc(), &Meta { is_dir, len })?;
         assert_eq!(rt; text.as_slice(), facts);
     }
+    Ok(())
+}
+
+#[test]
+fn a_port_that_is_not_given_is_told(rt: HostRuntime) -> Result<(), Fail> {
+    let alloc = rt.alloc();
+    let e = PortAllocationError;
+    assert_eq!(rt;
+        format!(in alloc; "{e}")?.as_str(),
+        "Could not allocate port"
+    );
     Ok(())
 }
