@@ -1,5 +1,9 @@
 pub mod Net
 pub mod Reply
+pub mod Message
+pub mod Listener
+pub mod Login
+pub mod Edge
 pub mod Trace
 pub mod Outside
 pub mod Ports

@@ -1,17 +1,24 @@
-//! The values that all crates share, and the traits of the outside: sources, sinks, links and storages.
+//! The values that all crates share, and the traits of the outside: sources, sinks, links, storages, the control
+//! connection, the edge of the system, authenticators and listeners.
 //!
-//! Each trait counts its faults, so that a caller's contract can tell a fault from a made-up answer.
+//! What can fail counts its faults, so that a caller's contract can tell a fault from a made-up answer.
 //! Begin with `outside`.
 #![tactic(auto)]
 
+mod authenticator;
 mod bytes;
 mod calls;
 mod chunk;
+mod coming;
 mod command;
+mod control;
+mod edge;
 mod error_kind;
 mod fault;
 mod link_table;
+mod listener;
 mod login;
+mod memory_edge;
 mod memory_link;
 mod memory_sink;
 mod memory_source;
@@ -26,13 +33,18 @@ mod reply;
 mod storage;
 mod trace;
 
+pub use authenticator::{Authenticator, SameAnswer};
 pub use bytes::Bytes;
 pub use calls::{FailingCall, rise};
 pub use command::DataChanCmd;
+pub use control::Control;
+pub use edge::Edge;
 pub use error_kind::ErrorKind;
 pub use fault::{Failed, LinkFault};
 pub use link_table::{InsertError, LinkTable};
+pub use listener::{DataListener, NopListener, PresenceListener};
 pub use login::{AuthAnswer, LockState, SessionState};
+pub use memory_edge::MemoryEdge;
 pub use memory_link::MemoryLink;
 pub use memory_sink::MemorySink;
 pub use memory_source::MemorySource;
