@@ -1,10 +1,11 @@
 -- The words of the program.
-use Rattle.std.specs.Prelude.{◌≡◌, ℕ, ◌^◌, ◌<◌, List, [], ◌∷◌, Option, Some, None, codes, decimal, if◌then◌else◌}
+use Rattle.std.specs.Prelude.{◌≡◌, ℕ, ◌^◌, ◌<◌, IsTrue, List, [], ◌∷◌, Option, Some, None, codes, decimal, if◌then◌else◌}
 use Rattle.std.specs.Str.{bytes_eq}
 use Rattle.ftp_bench.specs.declared.command.Kind.{Kind}
 use Rattle.ftp_bench.specs.declared.command.Kind.TheVariants.{Retr, Stor, Copy}
 use Rattle.ftp_bench.specs.declared.command.Command.{Command}
-use Rattle.ftp_bench.specs.declared.command.Command.TheVariants.{Help, Version, Move}
+use Rattle.ftp_bench.specs.declared.command.Search.{Search}
+use Rattle.ftp_bench.specs.declared.command.Command.TheVariants.{Help, Version, Move, Reserve}
 
 -- what a word says is moved
 abbrev pub kind_of : List ℕ → Option Kind
@@ -20,9 +21,15 @@ command_of word =
 abbrev pub IsNumber : ℕ → List ℕ → ℕ → Type 0
 IsNumber limit word n = (word ≡ decimal n) × (n < limit)
 
+-- the words ask for the held ports from one on and below another, the word, and so many rounds
+abbrev pub AsksSearch : List ℕ → List ℕ → List ℕ → List ℕ → Search → Type 0
+AsksSearch first end word rounds search =
+    IsNumber (2 ^ 16) first search.first × IsNumber (2 ^ 16) end search.end × IsNumber (2 ^ 16) word search.word × IsNumber (2 ^ 16) rounds search.rounds
+
 -- the words behind the program's name ask for the command
 abbrev pub Asks : List (List ℕ) → Command → Type 0
 Asks (word ∷ []) command = command_of word ≡ Some command
 Asks (kind ∷ mebibytes ∷ rounds ∷ []) (Move load) =
     (kind_of kind ≡ Some load.kind) × IsNumber (2 ^ 8) mebibytes load.mebibytes × IsNumber (2 ^ 16) rounds load.rounds
+Asks (name ∷ first ∷ end ∷ word ∷ rounds ∷ []) (Reserve search) = IsTrue (bytes_eq name (codes "reserve")) × AsksSearch first end word rounds search
 Asks _ _ = ⊥

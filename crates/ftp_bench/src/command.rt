@@ -2,7 +2,8 @@
 
 ghost use Rattle.std.specs.Prelude.{◌≡◌, ℕ, map, string_bytes, IfSome, IsNone};
 ghost use Rattle.ftp_bench.specs.declared.command.Command.{Command};
-ghost use Rattle.ftp_bench.specs.Words.{command_of, kind_of, IsNumber, Asks};
+ghost use Rattle.ftp_bench.specs.declared.command.Search.{Search};
+ghost use Rattle.ftp_bench.specs.Words.{command_of, kind_of, IsNumber, Asks, AsksSearch};
 
 /// What is moved.
 #[derive(Clone, Copy, Debug, PartialEq, Eq)]
@@ -20,11 +21,22 @@ pub struct Load {
     pub rounds: u16,
 }
 
+/// Reservations of a client that holds the ports from one on and below another. Each begins at the word, and gives up
+/// the port of the one before.
+#[derive(Clone, Copy, Debug, PartialEq, Eq)]
+pub struct Search {
+    pub first: u16,
+    pub end: u16,
+    pub word: u16,
+    pub rounds: u16,
+}
+
 #[derive(Clone, Copy, Debug, PartialEq, Eq)]
 pub enum Command {
     Help,
     Version,
     Move(Load),
+    Reserve(Search),
 }
 
 impl Kind {
@@ -43,6 +55,21 @@ impl Kind {
     }
 }
 
+impl Search {
+    /// What four words ask for, where they are numbers.
+    fn of(first: &str, end: &str, word: &str, rounds: &str) -> Option<Search>
+        ensures found { IfSome result (AsksSearch first.now end.now word.now rounds.now) }
+        ensures none { IsNone result → (search : Search) → AsksSearch first.now end.now word.now rounds.now search → ⊥ }
+    {
+        Some(Search {
+            first: number(first, 1 << 16)? as u16,
+            end: number(end, 1 << 16)? as u16,
+            word: number(word, 1 << 16)? as u16,
+            rounds: number(rounds, 1 << 16)? as u16,
+        })
+    }
+}
+
 impl Command {
     /// What the words behind the program's name ask for, where they are a command.
     pub fn of(words: &[String]) -> Option<Command>
@@ -56,6 +83,18 @@ impl Command {
                 mebibytes: number(mebibytes.as_str(), 1 << 8)? as u8,
                 rounds: number(rounds.as_str(), 1 << 16)? as u16,
             })),
+            [name, first, end, word, rounds] => {
+                if name.as_bytes() != b"reserve".as_slice() {
+                    return None;
+                }
+                let search = Search::of(
+                    first.as_str(),
+                    end.as_str(),
+                    word.as_str(),
+                    rounds.as_str(),
+                )?;
+                Some(Command::Reserve(search))
+            }
             _ => None,
         }
     }

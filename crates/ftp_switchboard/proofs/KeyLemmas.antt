@@ -18,7 +18,7 @@ pub key_cmp-total : IsTotalOrder key_cmp
 key_cmp-total = then_total (on_total (λ k. k.source) nat_cmp_total) (on_total (λ k. k.port) nat_cmp_total)
 
 -- Keys that compare alike are one.
-key_cmp-exact : IsAntisymmetric key_cmp
+pub key_cmp-exact : IsAntisymmetric key_cmp
 key_cmp-exact a b h = ap (λ (p : ℕ × ℕ). record { source = p.0; port = p.1 }) (exact_pairs nat_cmp nat_cmp exact_unsigned exact_unsigned (a.source, a.port) (b.source, b.port) h)
 
 is_eq-ordering_then : (r s : Ordering) → is_eq (ordering_then r s) ≡ (is_eq r && is_eq s)

@@ -1,8 +1,10 @@
 -- What contracts see of a switchboard: its range, who holds which key, and the room for new holds.
-use Rattle.std.specs.Prelude.{◌≡◌, ℕ, Bool, false, ◌<◌, ◌==◌, ◌&&◌, Option, Some, None, if◌then◌else◌, refl}
+use Rattle.std.specs.Prelude.{◌≡◌, ℕ, Bool, false, ◌+◌, ◌-◌, ◌/◌, ◌<◌, ◌==◌, ◌&&◌, ◌≢◌, nat_eq, List, Option, unwrap_or, Some, None, if◌then◌else◌, refl}
 use Rattle.std.specs.Option.{option_and_then}
-use Rattle.std.specs.Coded.{Coded, code_by, coded×, coded_ℕ}
+use Rattle.std.specs.Coded.{Coded, code_by, coded×, coded_ℕ, coded_list}
+use Rattle.std.specs.BTreeSet.{BTreeSet, contains}
 use Rattle.std.specs.FinMap as finmap
+use Rattle.std.specs.Map.{lookup}
 use Rattle.std.specs.Ordering.{nat_cmp, ordering_then}
 use Rattle.std.specs.declared.cmp.Ordering.{Ordering}
 use Rattle.ftp_switchboard.specs.declared.key.SwitchboardKey.{SwitchboardKey}
@@ -15,16 +17,25 @@ key_cmp k l = ordering_then (nat_cmp k.source l.source) (nat_cmp k.port l.port)
 abbrev pub Held : Type 0
 Held = finmap.FinMap key_cmp ℕ
 
--- the range, what is held, and for how many new holds there is room
+-- how many more holds take no memory, of each source that has some, and how many sources that have none can have one
+pub record Room : Type 0 where
+  pub rows : List (ℕ × ℕ)
+  pub new : ℕ
+
+-- the range, what is held, and the room for new holds
 pub record Board : Type 0 where
   pub lo : ℕ
   pub hi : ℕ
   pub held : Held
-  pub room : ℕ
+  pub room : Room
 
 -- the key of a source and a port
 abbrev pub key : ℕ → ℕ → SwitchboardKey
 key a p = record { source = a; port = p }
+
+-- how many words of 64 bits have a bit for each port of a range: its n ports by 64, rounded up
+abbrev pub words_for : ℕ → ℕ → ℕ
+words_for lo hi = let n = (hi - lo) + 1 in (n + 63) / 64
 
 -- the session that holds the port for the source
 abbrev pub holder_at : Board → ℕ → ℕ → Option ℕ
@@ -34,13 +45,21 @@ holder_at board a p = finmap.get board.held (key a p)
 abbrev pub holder_for : Board → Option ℕ → ℕ → Option ℕ
 holder_for board source p = option_and_then (λ a. holder_at board a p) source
 
+-- how many more holds of the source take no memory
+abbrev pub places_for : Room → ℕ → ℕ
+places_for room source = unwrap_or (lookup (nat_eq source) room.rows) room.new
+
 -- the next hold for the source takes no memory
 abbrev pub HasRoom : Board → ℕ → Type 0
-HasRoom board source = 0 < board.room
+HasRoom board source = 0 < places_for board.room source
 
 -- room that was there is there still
 abbrev pub KeepsRoom : Board → Board → Type 0
 KeepsRoom old new = (source : ℕ) → HasRoom old source → HasRoom new source
+
+-- room that was there for other sources is there still
+abbrev pub KeepsOtherRoom : ℕ → Board → Board → Type 0
+KeepsOtherRoom source old new = (other : ℕ) → other ≢ source → HasRoom old other → HasRoom new other
 
 -- the range stays
 pub record SameRange (old new : Board) : Type 0 where
@@ -76,6 +95,11 @@ abbrev pub still_holder : ℕ → Option ℕ → ℕ → ℕ → ℕ → Option 
 still_holder source None session a p holder = holder
 still_holder source (Some port) session a p holder = if is_key a p source port && is_of session holder then None else holder
 
+-- the holder that is left once only live sessions hold
+abbrev pub holder_among : BTreeSet ℕ → Option ℕ → Option ℕ
+holder_among live None = None
+holder_among live (Some session) = if contains nat_cmp live session then Some session else None
+
 -- a key is stored as its two numbers
 abbrev pub key_code : Coded SwitchboardKey
 key_code =
@@ -83,11 +107,18 @@ key_code =
     (λ p. record { source = p.0; port = p.1 })
     (λ _. refl)
 
+-- room is stored as its two fields
+abbrev pub room_code : Coded Room
+room_code =
+    code_by (List (ℕ × ℕ) × ℕ) (coded× (coded_list (coded× coded_ℕ coded_ℕ)) coded_ℕ) (λ r. (r.rows, r.new))
+    (λ p. record { rows = p.0; new = p.1 })
+    (λ _. refl)
+
 -- a board is stored as its four fields
 abbrev pub board_code : Coded Board
 board_code =
-    code_by ((ℕ × ℕ) × (Held × ℕ))
-    (coded× (coded× coded_ℕ coded_ℕ) (coded× (finmap.code key_code coded_ℕ) coded_ℕ))
+    code_by ((ℕ × ℕ) × (Held × Room))
+    (coded× (coded× coded_ℕ coded_ℕ) (coded× (finmap.code key_code coded_ℕ) room_code))
     (λ b. ((b.lo, b.hi), (b.held, b.room)))
     (λ p. record { lo = p.0.0; hi = p.0.1; held = p.1.0; room = p.1.1 })
     (λ _. refl)

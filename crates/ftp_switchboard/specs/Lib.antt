@@ -1,3 +1,5 @@
+pub mod Bits
 pub mod Board
-pub mod Holds
+pub mod Inside
 pub mod Pairs
+pub mod Rows

@@ -5,7 +5,7 @@ use Rattle.ftp_base.specs.declared.net.IpAddr.{IpAddr}
 use Rattle.ftp_base.specs.declared.net.IpAddr.TheVariants.{V4, V6}
 use Rattle.ftp_base.specs.declared.net.SocketAddrPair.{SocketAddrPair}
 use Rattle.ftp_switchboard.specs.declared.key.SwitchboardKey.{SwitchboardKey}
-use Rattle.ftp_switchboard.specs.Board.{Board, Held, key}
+use Rattle.ftp_switchboard.specs.Board.{Board, Held, KeepsOtherRoom, KeepsRoom, key}
 
 -- the key of an address and a port; an IPv6 address has none
 abbrev pub key_from : IpAddr → ℕ → Option SwitchboardKey
@@ -29,3 +29,8 @@ holder_of_pair board c = holder_of board (key_of_pair c)
 abbrev pub without : Held → Option SwitchboardKey → Held
 without held None = held
 without held (Some k) = finmap.remove held k
+
+-- room that was there for other sources than the key's is there still
+abbrev pub KeepsRoomBut : Option SwitchboardKey → Board → Board → Type 0
+KeepsRoomBut None old new = KeepsRoom old new
+KeepsRoomBut (Some k) old new = KeepsOtherRoom k.source old new

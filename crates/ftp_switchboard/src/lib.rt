@@ -4,9 +4,14 @@
 //! Begin with `Switchboard`.
 #![tactic(auto)]
 
-mod holds;
 mod key;
+mod looks;
+mod ports;
+mod row;
+mod rows;
+mod search;
 mod switchboard;
 
 pub use key::SwitchboardKey;
+pub use looks::Looks;
 pub use switchboard::{Switchboard, SwitchboardError};

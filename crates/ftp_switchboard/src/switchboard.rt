@@ -1,18 +1,22 @@
 //! Who holds which port for which client.
 
-ghost use Rattle.std.specs.Prelude.{◌≡◌, ◌<◌, ◌≤◌, ◌↔◌, ℕ, None, Some, IfErr, IfOk, IsErrOf, IsSome, OnErr, OnOk, is_none, if◌then◌else◌};
+ghost use Rattle.std.specs.Prelude.{◌≡◌, ◌+◌, ◌-◌, ◌<◌, ◌≤◌, ◌↔◌, ℕ, None, Some, IfErr, IfOk, IsErrOf, IsSome, OnErr, OnOk, if◌then◌else◌};
 ghost use Rattle.std.specs.FinMap as finmap;
 ghost use Rattle.ftp_base.specs.Ports.{first_free};
-ghost use Rattle.ftp_switchboard.specs.Board.{HasRoom, KeepsRoom, SameHolds, SameRange, holder_at, holder_for, is_key, key as key_pair, present_released, released, still_holder};
-ghost use Rattle.ftp_switchboard.specs.Pairs.{holder_of_pair, key_of_pair, without};
+ghost use Rattle.ftp_switchboard.specs.Board.{HasRoom, KeepsOtherRoom, KeepsRoom, SameHolds, SameRange, holder_among, holder_at, holder_for, is_key, key as key_pair, present_released, released, still_holder, words_for};
+ghost use Rattle.ftp_switchboard.specs.Pairs.{KeepsRoomBut, holder_of_pair, key_of_pair, without};
 
-use crate::holds::{
-    Holds, first_free, give_up, give_up_present, holder_of, is_free, port_of, put, take,
-};
 use crate::key::{SwitchboardKey, key_of};
+use crate::looks::Looks;
+use crate::ports::Range;
+use crate::row::Row;
+use crate::rows::{
+    Rows, free_port_of, give_up, give_up_present, keep_sessions, locate, make_room, port_of, put,
+    take,
+};
 use ftp_base::SocketAddrPair;
 use std::alloc::{AllocError, Global};
-use std::collections::HashMap;
+use std::collections::{BTreeSet, HashMap};
 use std::marker::Model;
 use thiserror::Error;
 
@@ -29,34 +33,36 @@ pub enum SwitchboardError {
 
 /// The ports of a range, and the sessions that hold them, each for one client address.
 ///
-/// Look-ups, claims and releases take constant time on average. A reservation takes
-/// time that grows with the run of ports, from the word's on, that the client address holds.
+/// A client address with holds has a row: a bit for each port of the range, and its ports with their sessions, in order
+/// of ports. A search for a free port looks at each word of 64 bits once and at its first one twice at most. A port is
+/// found by halving.
 #[derive(Drop)]
 pub struct Switchboard {
-    lo: u16,
-    hi: u16,
-    holds: Holds,
+    range: Range,
+    rows: Rows,
+    spare: Option<Row>,
+    alloc: Global,
 }
 
 impl Model for Switchboard {
     ghost use Rattle.std.specs.Prelude.{◌≤◌};
-    ghost use Rattle.std.specs.HashMap.{spare};
     ghost use Rattle.ftp_switchboard.specs.Board.{Board, board_code};
 
     ghost Value = { Board };
 
     ghost coded = { board_code };
 
-    ghost use Rattle.ftp_switchboard.specs.Holds.{held_by};
+    ghost use Rattle.ftp_switchboard.specs.Inside.{IsInside};
+    ghost use Rattle.ftp_switchboard.specs.Rows.{held_by, room_of};
 
     ghost view = { λ b. record {
-      lo = b.lo;
-      hi = b.hi;
-      held = held_by b.holds;
-      room = spare b.holds;
+      lo = b.range.lo;
+      hi = b.range.hi;
+      held = held_by b.rows;
+      room = room_of b.rows b.spare;
     } };
 
-    ghost invariant = { λ b. record { from_one : 1 ≤ b.lo; range : b.lo ≤ b.hi } };
+    ghost invariant = { λ b. IsInside b.range b.rows b.spare };
 }
 
 impl Switchboard {
@@ -67,9 +73,10 @@ impl Switchboard {
         ensures free { result.held ≡ finmap.empty }
     {
         Switchboard {
-            lo,
-            hi,
-            holds: HashMap::new(alloc),
+            range: Range { lo, hi },
+            rows: HashMap::new(alloc),
+            spare: None,
+            alloc,
         }
     }
 
@@ -77,17 +84,21 @@ impl Switchboard {
     pub fn holder(&self, source: u32, port: u16) -> Option<u64>
         ensures { result ≡ holder_at self.now source port }
     {
-        holder_of(&self.holds, SwitchboardKey { source, port })
+        let key = SwitchboardKey { source, port };
+        let (_, session) = locate(&self.rows, key, &mut Looks::new())?;
+        Some(session)
     }
 
     /// The first port, from the word's on and round the range once, that nobody holds for the client address. Where
     /// there is none, as for an IPv6 client, it is the word's port.
-    pub fn free_port(&self, source: Option<u32>, word: u16) -> Option<u16>
-        ensures { result ≡ first_free (holder_for self.now source) self.now.lo self.now.hi word }
+    pub fn free_port(&self, source: Option<u32>, word: u16, looks: &mut Looks) -> Option<u16>
+        requires looks { looks.old ≤ u64.MAX - 1059 }
+        ensures free { result ≡ first_free (holder_for self.now source) self.now.lo self.now.hi word }
+        ensures looks { (looks.old ≤ looks.new) × (looks.new ≤ looks.old + (words_for self.now.lo self.now.hi + 1)) }
     {
         match source {
-            Some(source) => first_free(&self.holds, source, self.lo, self.hi, word),
-            None => Some(port_of(self.lo, self.hi, word)),
+            Some(source) => free_port_of(&self.rows, self.range, source, word, looks),
+            None => Some(port_of(self.range, word)),
         }
     }
 
@@ -106,7 +117,13 @@ impl Switchboard {
         ensures same { SameHolds self.old self.new }
         ensures room { KeepsRoom self.old self.new }
     {
-        self.holds.reserve(1)
+        make_room(
+            &mut self.rows,
+            &mut self.spare,
+            self.range,
+            source,
+            self.alloc,
+        )
     }
 
     /// Gives this port to the session, unless it is held.
@@ -125,25 +142,36 @@ impl Switchboard {
         ensures range { SameRange self.old self.new }
         ensures unchanged { OnErr result (self.new ≡ self.old) }
     {
-        if !is_free(&self.holds, key) {
+        if self.holder(key.source, key.port).is_some() {
             return Err(SwitchboardError::EntryNotAvailable);
         }
-        put(&mut self.holds, key, session);
+        let looks = &mut Looks::new();
+        put(
+            &mut self.rows,
+            &mut self.spare,
+            self.range,
+            key,
+            session,
+            looks,
+        );
         Ok(())
     }
 
     /// Gives the session the first port, from the word's on and round the range once, that nobody
     /// holds for the client address. Its present port is then free for others.
     ///
-    /// The word's port is `lo + word % n`, for a range of n ports.
+    /// The word's port is `lo + word % n`, for a range of n ports. The looks are those at the words once round, and two
+    /// searches among the ports that are held.
     pub fn reserve(
         &mut self,
         source: u32,
         session: u64,
         word: u16,
         present: Option<u16>,
+        looks: &mut Looks,
     ) -> Result<u16, SwitchboardError>
         requires room { HasRoom self.old source }
+        requires looks { looks.old ≤ u64.MAX - 1059 }
         ensures granted { IfOk result (λ port.
             first_free (holder_at self.old source) self.old.lo self.old.hi word ≡ Some port) }
         ensures held { IfOk result (λ port. self.new.held ≡
@@ -158,24 +186,57 @@ impl Switchboard {
             (first_free (holder_at self.old source) self.old.lo self.old.hi word ≡ None) }
         ensures only_max_retries { IfErr result (λ e. e ≡ SwitchboardError.MaxRetriesError) }
 
+        ensures looks { (looks.old ≤ looks.new) × (looks.new ≤ looks.old + (words_for self.old.lo self.old.hi + 35)) }
         ensures range { SameRange self.old self.new }
         ensures unchanged { OnErr result (self.new ≡ self.old) }
     {
-        let Some(port) = first_free(&self.holds, source, self.lo, self.hi, word) else {
+        let Some(port) = free_port_of(&self.rows, self.range, source, word, looks) else {
             return Err(SwitchboardError::MaxRetriesError);
         };
-        give_up_present(&mut self.holds, source, present, session);
-        put(&mut self.holds, SwitchboardKey { source, port }, session);
+        let key = SwitchboardKey { source, port };
+        put(
+            &mut self.rows,
+            &mut self.spare,
+            self.range,
+            key,
+            session,
+            looks,
+        );
+        give_up_present(
+            &mut self.rows,
+            &mut self.spare,
+            self.range,
+            key,
+            present,
+            session,
+            looks,
+        );
         Ok(port)
+    }
+
+    /// Frees every key. It takes no memory.
+    pub fn clear(&mut self)
+        ensures free { self.new.held ≡ finmap.empty }
+        ensures range { SameRange self.old self.new }
+    {
+        self.rows.clear();
     }
 
     /// Frees the key where the session holds it.
     pub fn release(&mut self, key: &SwitchboardKey, session: u64)
         ensures held { self.new.held ≡ released self.old.held key.now session }
         ensures range { SameRange self.old self.new }
-        ensures room { KeepsRoom self.old self.new }
+        ensures room { KeepsOtherRoom key.now.source self.old self.new }
     {
-        give_up(&mut self.holds, *key, session);
+        let looks = &mut Looks::new();
+        give_up(
+            &mut self.rows,
+            &mut self.spare,
+            self.range,
+            *key,
+            session,
+            looks,
+        );
     }
 
     /// Frees the key, and gives the session that held it.
@@ -183,9 +244,11 @@ impl Switchboard {
         ensures holder { result ≡ holder_at self.old key.now.source key.now.port }
         ensures held { self.new.held ≡ finmap.remove self.old.held key.now }
         ensures range { SameRange self.old self.new }
-        ensures room { KeepsRoom self.old self.new }
+        ensures room { KeepsOtherRoom key.now.source self.old self.new }
     {
-        take(&mut self.holds, *key)
+        let (place, session) = locate(&self.rows, *key, &mut Looks::new())?;
+        take(&mut self.rows, &mut self.spare, self.range, *key, place);
+        Some(session)
     }
 
     /// Frees the port that a connection came to, for the address that it came from, and gives the
@@ -194,9 +257,17 @@ impl Switchboard {
         ensures holder { result ≡ holder_of_pair self.old c.now }
         ensures held { self.new.held ≡ without self.old.held (key_of_pair c.now) }
         ensures range { SameRange self.old self.new }
-        ensures room { KeepsRoom self.old self.new }
+        ensures room { KeepsRoomBut (key_of_pair c.now) self.old self.new }
     {
         let key = key_of(c)?;
         self.unregister_by_key(&key)
+    }
+
+    /// Frees what is held by sessions that are not among the live ones. It takes no memory.
+    pub fn scavenge(&mut self, live: &BTreeSet<u64>)
+        ensures holders { (a p : ℕ) → holder_at self.new a p ≡ holder_among live.now (holder_at self.old a p) }
+        ensures range { SameRange self.old self.new }
+    {
+        keep_sessions(&mut self.rows, self.range, live);
     }
 }
