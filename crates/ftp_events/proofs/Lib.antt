@@ -1,3 +1,9 @@
 pub mod PortTexts
 pub mod Script
+mod CountLemmas
+mod DeliveryLemmas
 mod Examples
+mod Exact
+mod Equal
+mod EndingExamples
+mod CountExamples

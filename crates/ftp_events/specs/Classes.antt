@@ -1,7 +1,7 @@
 -- The classes of decisions: what one makes of a session's life, and what of its slot. All that is said of lives and slots is said of these.
 use Rattle.std.specs.Prelude.{Bool, true, false}
 use Rattle.ftp_events.specs.declared.decision.Decision.{Decision}
-use Rattle.ftp_events.specs.declared.decision.Decision.TheVariants.{Opened, Quit, Closed, Granted, PortOk, SlotDropped, Attached, Queued, Finished, Turned}
+use Rattle.ftp_events.specs.declared.decision.Decision.TheVariants.{Opened, Quit, Closed, TimedOut, Stopped, Granted, PortOk, SlotDropped, Aborted, Attached, Queued, Finished, Turned}
 use Rattle.ftp_events.specs.declared.decision.Life.{Life}
 use Rattle.ftp_events.specs.declared.decision.Life.TheVariants.{Goes, Opens, Ends}
 use Rattle.ftp_events.specs.declared.decision.SlotMove.{SlotMove}
@@ -12,6 +12,8 @@ abbrev pub life : Decision → Life
 life Opened = Opens
 life Quit = Ends
 life Closed = Ends
+life TimedOut = Ends
+life Stopped = Ends
 life _ = Goes
 
 -- what a life that takes this turn does to the slot: an ending drops what is in it
@@ -24,6 +26,7 @@ abbrev pub slot_move : Decision → SlotMove
 slot_move (Granted port) = Awaits port
 slot_move PortOk = Connects
 slot_move SlotDropped = Expires
+slot_move Aborted = Empties
 slot_move (Attached session) = Links
 slot_move (Queued ticket) = Queues ticket
 slot_move Finished = Finishes
@@ -35,12 +38,13 @@ abbrev pub ends : Life → Bool
 ends Ends = true
 ends _ = false
 
--- a decision that ends the session which the event names
+-- a decision that ends a session: the one that the event names, or every live one
 abbrev pub is_ending : Decision → Bool
 is_ending d = ends (life d)
 
 -- a decision that ends every live session
 abbrev pub is_stop : Decision → Bool
+is_stop Stopped = true
 is_stop _ = false
 
 -- the moves that replace or drop the slot, whatever it has, and so end a hold

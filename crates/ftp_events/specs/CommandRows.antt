@@ -1,7 +1,8 @@
 -- What is decided on the commands of a session.
-use Rattle.std.specs.Prelude.{ℕ, ◌+◌, ◌-◌, Bool, true, false, not, ◌&&◌, ◌||◌, nat_le, List, Option, Some, None}
+use Rattle.std.specs.Prelude.{ℕ, ◌+◌, ◌-◌, Bool, true, false, not, ◌&&◌, ◌||◌, nat_le, nat_lt, List, Option, Some, None}
 use Rattle.std.specs.Option.{option_and_then, option_map_or}
 use Rattle.ftp_base.specs.declared.error_kind.ErrorKind.{ErrorKind}
+use Rattle.ftp_base.specs.declared.message.ControlChanMsg.{ControlChanMsg}
 use Rattle.ftp_base.specs.declared.net.SocketAddr.{SocketAddr}
 use Rattle.ftp_base.specs.Net.{same_ip}
 use Rattle.ftp_base.specs.Ports.{first_free}
@@ -13,7 +14,7 @@ use Rattle.ftp_options.specs.Features.{has_restart}
 use Rattle.ftp_options.specs.Modes.{is_legacy, is_passive_off, is_active_off}
 use Rattle.ftp_options.specs.Host.{lacks_lookup}
 use Rattle.ftp_events.specs.declared.decision.Decision.{Decision}
-use Rattle.ftp_events.specs.declared.decision.Decision.TheVariants.{UnknownNumber, UsedNumber, Misplaced, Turned, Attached, NotLoggedIn, ModeOff, Full, NoLookup, NoSocket, Granted, BadAddress, OtherAddress, NoConnection, PortOk, SlotDropped, Early, NoSlot, Queued, NoRestart, RestOk, CwdRefused, CwdOk, Quit, Closed}
+use Rattle.ftp_events.specs.declared.decision.Decision.TheVariants.{UnknownNumber, UsedNumber, Misplaced, NotExpected, Turned, Attached, NotLoggedIn, ModeOff, Full, NoLookup, NoSocket, Granted, BadAddress, OtherAddress, NoConnection, PortOk, Aborted, NothingToAbort, Told, SlotDropped, Early, Waited, TimedOut, NoSlot, Queued, NoRestart, RestOk, CwdRefused, CwdOk, Quit, Closed}
 use Rattle.ftp_events.specs.declared.event.EventKind.{EventKind}
 use Rattle.ftp_events.specs.declared.event.EventKind.TheVariants as kind
 use Rattle.ftp_events.specs.declared.session.Login.{Login}
@@ -25,6 +26,7 @@ use Rattle.ftp_events.specs.declared.session.Slot.TheVariants.{Empty, Waits, Lin
 use Rattle.ftp_events.specs.Words.{◌⇒◌∣◌}
 use Rattle.ftp_events.specs.Modes.{in_range}
 use Rattle.ftp_events.specs.Advertised.{lacks_address}
+use Rattle.ftp_events.specs.Message.{is_for_control}
 use Rattle.ftp_events.specs.Slot.{is_waiting}
 use Rattle.ftp_events.specs.Text.{port_target}
 use Rattle.ftp_events.specs.Lockout.{login_key}
@@ -110,11 +112,37 @@ slot_limit o _ pending = None
 abbrev pub slot_row : Options → ℕ → Session → Decision
 slot_row o at v = option_map_or (λ limit. nat_le limit (at - v.slot_at)) (slot_limit o v.slot v.pending) false ⇒ SlotDropped ∣ Early
 
--- what a command is decided by beside its session: the holders of the client's ports, the failures of each key, the numbers that were used, and the moment
+-- the slot has nothing
+abbrev pub is_empty : Slot → Bool
+is_empty Empty = true
+is_empty _ = false
+
+-- the slot has a link
+abbrev pub is_linked : Slot → Bool
+is_linked (Linked number) = true
+is_linked _ = false
+
+-- ABOR: there is something to drop
+abbrev pub abor_row : Session → Decision
+abor_row v = is_empty v.slot ⇒ NothingToAbort ∣ Aborted
+
+-- a message for the client: only the control layer's own are told
+abbrev pub internal_row : ControlChanMsg → Decision
+internal_row message = is_for_control message ⇒ Told ∣ NotExpected
+
+-- a look at the idle time: a session is at work where a job runs or its slot has a link; the time is 0 where moments fall
+abbrev pub idle_row : Options → Bool → ℕ → Session → Decision
+idle_row o runs at v =
+    nat_lt (at - v.active_at) o.idle_ms ⇒ Early
+    ∣ runs || is_linked v.slot ⇒ Waited
+    ∣ TimedOut
+
+-- what a command is decided by beside its session: the holders of the client's ports, the failures of each key, the numbers that were used, whether a job of the session runs, and the moment
 pub record Around : Type 0 where
   pub holders : ℕ → Option ℕ
   pub failures : LoginKey → Option Failures
   pub used : ℕ → Bool
+  pub runs : Bool
   pub at : ℕ
 
 -- the failures of the key of a session's login
@@ -135,5 +163,8 @@ command_row o a (kind.Rest s offset) v = if_logged_in v (rest_row o)
 command_row o a (kind.Cwd s path refusal) v = if_logged_in v (cwd_row refusal)
 command_row o a (kind.Quit s) v = Quit
 command_row o a (kind.Closed s) v = Closed
+command_row o a (kind.Abor s) v = if_logged_in v (abor_row v)
+command_row o a (kind.Internal s message) v = internal_row message
 command_row o a (kind.SlotTick s) v = slot_row o a.at v
+command_row o a (kind.IdleTick s) v = idle_row o a.runs a.at v
 command_row o a _ v = UnknownNumber

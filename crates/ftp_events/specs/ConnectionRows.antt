@@ -13,15 +13,16 @@ use Rattle.ftp_events.specs.declared.decision.Decision.{Decision}
 use Rattle.ftp_events.specs.declared.decision.Decision.TheVariants.{UsedNumber, Misplaced, NotExpected, Opened, Turned, HeaderFault, Attached}
 use Rattle.ftp_events.specs.Words.{◌⇒◌∣◌}
 use Rattle.ftp_events.specs.Modes.{in_range}
-use Rattle.ftp_events.specs.Log.{is_used}
+use Rattle.ftp_events.specs.Log.{is_used, is_stopped}
 use Rattle.ftp_events.specs.Board.{holder}
 use Rattle.ftp_events.specs.Session.{session}
 
--- a control connection: behind a proxy none comes by itself
+-- a control connection: behind a proxy none comes by itself, and after a stop none is served
 abbrev pub connect_row : Options → List Entry → ℕ → SocketAddr → SocketAddr → Decision
 connect_row o past number raw local =
     is_proxy o.mode || (is_pooled o.mode && (is_v6 raw.ip || is_v6 local.ip)) ⇒ Misplaced
     ∣ is_used past number ⇒ UsedNumber
+    ∣ is_stopped past ⇒ Turned
     ∣ Opened
 
 -- a data connection goes to the holder of its key, where the raw peers have one address
@@ -42,6 +43,7 @@ abbrev pub data_row : Options → List Entry → ℕ → SocketAddr → ℕ → 
 data_row o past number raw port =
     not (is_pooled o.mode) || is_v6 raw.ip ⇒ Misplaced
     ∣ is_used past number ⇒ UsedNumber
+    ∣ is_stopped past ⇒ Turned
     ∣ arrival_row o past raw raw.ip port
 
 -- a connection behind a proxy, by its header: to the control port it opens a session, to any other it is a data connection
@@ -58,4 +60,5 @@ abbrev pub proxied_row : Options → List Entry → ℕ → SocketAddr → Answe
 proxied_row o past number raw answer =
     not (is_proxy o.mode) || is_v6 raw.ip ⇒ Misplaced
     ∣ is_used past number ⇒ UsedNumber
+    ∣ is_stopped past ⇒ Turned
     ∣ header_row o past raw answer

@@ -1,5 +1,5 @@
 -- What a right log promises for data connections and for ports, where sessions share the ports.
-use Rattle.std.specs.Prelude.{ℕ, ◌≡◌, Bool, true, false, not, ◌&&◌, ◌||◌, List, [], ◌∷◌, Contains, ⊤, IsTrue, Option, Some, None, MatchOption, Ok, Err}
+use Rattle.std.specs.Prelude.{ℕ, ◌≡◌, Bool, true, false, not, ◌&&◌, ◌||◌, List, [], ◌∷◌, Contains, ⊤, IsTrue, Option, Some, None, MatchOption, Ok, Err, is_some}
 use Rattle.std.specs.Option.{option_map_or}
 use Rattle.ftp_base.specs.declared.net.SocketAddr.{SocketAddr}
 use Rattle.ftp_base.specs.Net.{same_ip, is_v6}
@@ -14,7 +14,7 @@ use Rattle.ftp_events.specs.declared.event.EventKind.TheVariants.{Proxied, DataI
 use Rattle.ftp_events.specs.declared.event.Answer.{Answer}
 use Rattle.ftp_events.specs.declared.event.Answer.TheVariants.{Header}
 use Rattle.ftp_events.specs.declared.session.Session.{Session}
-use Rattle.ftp_events.specs.Log.{past_of, is_refusal, is_used, new_number}
+use Rattle.ftp_events.specs.Log.{past_of, is_refusal, is_used, is_stopped, new_number}
 use Rattle.ftp_events.specs.Opening.{opener}
 use Rattle.ftp_events.specs.Board.{Target, target, holder, first_free_port}
 use Rattle.ftp_events.specs.Session.{session}
@@ -26,11 +26,11 @@ is_header (Header (Ok line)) = not (is_v6 line.source.ip || is_v6 line.destinati
 is_header (Header (Err fault)) = true
 is_header _ = false
 
--- a connection that is refused: one of another mode, from an address of version 6, under a used number, or behind a proxy without a header
+-- a connection that is refused: one of another mode, from an address of version 6, under a used number, or behind a proxy without a header, of which none is read after a stop
 abbrev pub is_barred : Options → List Entry → EventKind → Answer → Bool
 is_barred o past (DataIn number raw port) answer = (not (is_pooled o.mode) || is_v6 raw.ip) || is_used past number
 is_barred o past (Proxied number raw trace) answer =
-    ((not (is_proxy o.mode) || is_v6 raw.ip) || is_used past number) || not (is_header answer)
+    ((not (is_proxy o.mode) || is_v6 raw.ip) || is_used past number) || (not (is_stopped past) && not (is_header answer))
 is_barred o past _ answer = false
 
 -- a PASV of a logged in session, where passive mode is on and there is an address to show
@@ -74,6 +74,8 @@ pub record IsServed (o : Options) (past : List Entry) (e : Entry) : Type 0 where
       (t : Target) → target o e.event.kind e.answer ≡ Some t → is_barred o past e.event.kind e.answer ≡ false →
       AttachedOrClosed o past e t
   pub refusals : is_barred o past e.event.kind e.answer ≡ true → is_refusal e.decision ≡ true
+  pub after_stop :
+      is_stopped past ≡ true → is_some (peer_of e.event.kind) ≡ true → is_barred o past e.event.kind e.answer ≡ false → IsClosed e
   pub grants :
       (s word : ℕ) (lookup bound : Option ℕ) (v : Session) → e.event.kind ≡ Pasv s word lookup bound →
       session o past s ≡ Some v → IsTrue (is_admitted o e.event.kind v) →

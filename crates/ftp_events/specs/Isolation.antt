@@ -8,7 +8,7 @@ use Rattle.ftp_options.specs.declared.lockout.FailedLoginsBlock.TheVariants.{Use
 use Rattle.ftp_options.specs.declared.lockout.FailedLoginsPolicy.{FailedLoginsPolicy}
 use Rattle.ftp_events.specs.declared.entry.Entry.{Entry}
 use Rattle.ftp_events.specs.declared.event.EventKind.{EventKind}
-use Rattle.ftp_events.specs.declared.event.EventKind.TheVariants.{Connect, Proxied, DataIn, Sweep}
+use Rattle.ftp_events.specs.declared.event.EventKind.TheVariants.{Connect, Proxied, DataIn, Sweep, Scavenge, Shutdown}
 use Rattle.ftp_events.specs.declared.event.Answer.{Answer}
 use Rattle.ftp_events.specs.declared.event.Answer.TheVariants.{Header}
 use Rattle.ftp_events.specs.declared.decision.Decision.TheVariants.{PortOk}
@@ -29,6 +29,8 @@ is_own log e a = option_map_or (λ client. same_ip client a) (owner (past_of log
 -- the events that concern every client
 abbrev pub is_common : EventKind → Bool
 is_common Sweep = true
+is_common Scavenge = true
+is_common Shutdown = true
 is_common _ = false
 
 -- the entries that belong to client a, with those that concern every client

@@ -29,7 +29,7 @@ use Rattle.ftp_events.specs.declared.event.EventKind.{EventKind}
 use Rattle.ftp_events.specs.declared.event.EventKind.TheVariants.{Proxied, End}
 use Rattle.ftp_events.specs.Acts.{link_in, slot_of}
 use Rattle.ftp_events.specs.Words.{◌⇒◌∣◌}
-use Rattle.ftp_events.specs.Log.{past_of, is_used}
+use Rattle.ftp_events.specs.Log.{past_of, is_used, is_stopped}
 use Rattle.ftp_events.specs.Session.{session, running_job}
 use Rattle.ftp_events.specs.Transfer.{same_ticket}
 
@@ -93,9 +93,10 @@ abbrev pub job_to_run : Options → List Entry → EventKind → Option Job
 job_to_run o past (End ticket) = job_of_ticket (running_job o past ticket.session) ticket
 job_to_run o past _ = None
 
--- the connection whose header an event is to be decided by: that of a proxy, where the event is not refused without it
+-- the connection whose header an event is to be decided by: that of a proxy, where the event is not refused or turned away without it
 abbrev pub header_to_read : Options → List Entry → EventKind → Option ℕ
-header_to_read o past (Proxied number raw trace) = (not (is_proxy o.mode) || is_v6 raw.ip) || is_used past number ⇒ None ∣ Some number
+header_to_read o past (Proxied number raw trace) =
+    ((not (is_proxy o.mode) || is_v6 raw.ip) || is_used past number) || is_stopped past ⇒ None ∣ Some number
 header_to_read o past _ = None
 
 -- the header was read from this link, nothing behind its line was taken, and nothing else moved

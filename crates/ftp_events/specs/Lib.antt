@@ -30,3 +30,7 @@ pub mod Fate
 pub mod Headline
 pub mod Isolation
 pub mod Leads
+pub mod Delivery
+pub mod Statuses
+pub mod Tallies
+pub mod Counts

@@ -3,11 +3,12 @@ use Rattle.std.specs.Prelude.{ℕ, Bool, true, false, not, List, filter, Option,
 use Rattle.std.specs.List.{list_any}
 use Rattle.ftp_events.specs.declared.entry.Entry.{Entry}
 use Rattle.ftp_events.specs.declared.event.EventKind.{EventKind}
-use Rattle.ftp_events.specs.declared.event.EventKind.TheVariants.{Connect, Proxied, DataIn, Accepted, User, Pass, AuthDone, Pasv, Port, Transfer, Stou, Rest, Cwd, SlotTick, End}
+use Rattle.ftp_events.specs.declared.event.EventKind.TheVariants.{Connect, Proxied, DataIn, Accepted, User, Pass, AuthDone, Pasv, Port, Transfer, Stou, Rest, Cwd, Abor, Internal, SlotTick, IdleTick, End}
 use Rattle.ftp_events.specs.declared.event.EventKind.TheVariants as kind
 use Rattle.ftp_events.specs.declared.decision.Decision.{Decision}
 use Rattle.ftp_events.specs.declared.decision.Decision.TheVariants.{UnknownNumber, UsedNumber, Misplaced, NotExpected, PortOk}
 use Rattle.ftp_events.specs.Words.{is_number}
+use Rattle.ftp_events.specs.Classes.{is_stop}
 
 -- a log as callers see it: the entries, the newest first, and how many more need no memory
 pub record LogState : Type 0 where
@@ -54,13 +55,21 @@ named_session (Cwd session path refusal) = Some session
 named_session (End ticket) = Some ticket.session
 named_session (kind.Quit session) = Some session
 named_session (kind.Closed session) = Some session
+named_session (Abor session) = Some session
+named_session (Internal session message) = Some session
 named_session (SlotTick session) = Some session
+named_session (IdleTick session) = Some session
 named_session _ = None
 
--- the event has a name, an address, a path or a command, so that its copy takes memory
+-- a stop has ended every session, and no other is opened
+abbrev pub is_stopped : List Entry → Bool
+is_stopped past = list_any (λ e. is_stop e.decision) past
+
+-- the event has a name, an address, a path, a command or a message, so that its copy takes memory
 abbrev pub has_text : EventKind → Bool
 has_text (User session name) = true
 has_text (Port session text number) = true
 has_text (Transfer session command) = true
 has_text (Cwd session path refusal) = true
+has_text (Internal session message) = true
 has_text _ = false

@@ -18,7 +18,7 @@ use Rattle.ftp_events.specs.declared.event.EventKind.TheVariants as kind
 use Rattle.ftp_events.specs.declared.event.Answer.{Answer}
 use Rattle.ftp_events.specs.declared.event.Answer.TheVariants.{Done}
 use Rattle.ftp_events.specs.declared.decision.Decision.{Decision}
-use Rattle.ftp_events.specs.declared.decision.Decision.TheVariants.{BadSequence, NeedPass, Reauth, LoggedIn, LoginFailed, NotLoggedIn, ModeOff, Full, NoLookup, NoSocket, Granted, BadAddress, OtherAddress, NoConnection, PortOk, NoSlot, Queued, NoRestart, RestOk, CwdRefused, CwdOk, Finished, Quit}
+use Rattle.ftp_events.specs.declared.decision.Decision.TheVariants.{BadSequence, NeedPass, Reauth, LoggedIn, LoginFailed, NotLoggedIn, ModeOff, Full, NoLookup, NoSocket, Granted, BadAddress, OtherAddress, NoConnection, PortOk, NoSlot, Queued, NoRestart, RestOk, CwdRefused, CwdOk, Finished, Aborted, NothingToAbort, Told, Quit, TimedOut}
 use Rattle.ftp_events.specs.declared.session.Login.{Login}
 use Rattle.ftp_events.specs.declared.session.Login.TheVariants as login
 use Rattle.ftp_events.specs.declared.session.Session.{Session}
@@ -79,6 +79,7 @@ abbrev pub message_for : Session → Option Running → EventKind → Answer →
 message_for v job k answer LoggedIn = Some (message.AuthSuccess (unwrap_or v.name []) (trace_of v.opening.trace))
 message_for v job k answer (LoginFailed lock delay) = Some message.AuthFailed
 message_for v job k (Done outcome) Finished = Some (message_of_outcome (path_of_job job) outcome outcome.result)
+message_for v job (kind.Internal session given) answer Told = Some given
 message_for v job k answer CwdOk = Some message.CwdSuccess
 message_for v job k answer (CwdRefused refusal) = Some (message.StorageError refusal)
 message_for v job k answer _ = None
@@ -102,6 +103,9 @@ reply_for o v m k NoSlot = reply.CodeAndMsg code.CantOpenDataConnection (codes "
 reply_for o v m k (Queued ticket) = reply.CodeAndMsg code.FileStatusOkay (queued_text k)
 reply_for o v m k RestOk = reply.CodeAndMsg code.FileActionPending (restart_text k)
 reply_for o v m k NoRestart = reply.CodeAndMsg code.CommandNotImplemented (codes "Not supported by the selected storage back-end.")
+reply_for o v m k Aborted = reply.CodeAndMsg code.ClosingDataConnection (codes "Closed data channel")
+reply_for o v m k NothingToAbort = reply.CodeAndMsg code.ClosingDataConnection (codes "Data channel already closed")
+reply_for o v m k TimedOut = reply.CodeAndMsg code.ClosingControlConnection (codes "Session timed out. Closing control connection")
 reply_for o v m k Quit = reply.CodeAndMsg code.ClosingControlConnection (codes "Bye!")
 reply_for o v (Some m) k _ = reply_of m
 reply_for o v None k _ = reply.None

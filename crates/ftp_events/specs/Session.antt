@@ -23,7 +23,7 @@ use Rattle.ftp_events.specs.Login.{login_by, name_by, login_state, user_name, lo
 use Rattle.ftp_events.specs.Notices.{notice_count}
 use Rattle.ftp_events.specs.Place.{cwd_after, cwd, offset_by, offset, is_queued, ticket_count}
 use Rattle.ftp_events.specs.Slot.{Lane, lane_after, lane, queued_by}
-use Rattle.ftp_events.specs.Ages.{slot_at_by, slot_at}
+use Rattle.ftp_events.specs.Ages.{slot_at_by, slot_at, active_at_by, active_at}
 
 -- what a turn of a life says of it
 abbrev pub told_of_life : Life → Option Bool
@@ -50,6 +50,7 @@ session_by_history s h opening =
       offset = offset h;
       slot = (lane h).slot;
       slot_at = slot_at h;
+      active_at = active_at h;
       pending = (lane h).pending;
       tickets = ticket_count h;
       notices = notice_count s h;
@@ -109,6 +110,7 @@ session_after at k answer d sent job v =
       offset = unwrap_or (offset_by d k answer) v.offset;
       slot = (next_lane k d job v).slot;
       slot_at = unwrap_or (slot_at_by d at) v.slot_at;
+      active_at = unwrap_or (active_at_by k d at) v.active_at;
       pending = (next_lane k d job v).pending;
       tickets = v.tickets + (if is_queued d then 1 else 0);
       notices = v.notices + sent;
@@ -129,6 +131,7 @@ abbrev pub live_count : List Entry → ℕ
 live_count [] = 0
 live_count (e ∷ past) = live_after e.decision (live_count past)
 
--- a session when it is opened
-abbrev pub new_session : Opening → Session
-new_session opening = record { opening = opening; login = login.New; name = None; cwd = root; offset = 0; slot = Empty; slot_at = 0; pending = None; tickets = 0; notices = 0 }
+-- a session when it is opened, at a moment
+abbrev pub new_session : ℕ → Opening → Session
+new_session at opening =
+    record { opening = opening; login = login.New; name = None; cwd = root; offset = 0; slot = Empty; slot_at = 0; active_at = at; pending = None; tickets = 0; notices = 0 }

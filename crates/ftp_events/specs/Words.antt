@@ -16,6 +16,11 @@ abbrev pub total : {A : Type 0} → (A → ℕ) → List A → ℕ
 total tells [] = 0
 total tells (x ∷ xs) = total tells xs + tells x
 
+-- the sum of what the items tell, each after those that come before it
+abbrev pub total_after : {A : Type 0} → (List A → A → ℕ) → List A → ℕ
+total_after tells [] = 0
+total_after tells (x ∷ xs) = total_after tells xs + tells xs x
+
 -- it is there, and is n
 abbrev pub is_number : Option ℕ → ℕ → Bool
 is_number None n = false

@@ -4,7 +4,7 @@ use ftp_base::{EventMeta, Notice, Reply};
 use ftp_transfer::Ticket;
 use std::marker::Model;
 
-#[derive(Drop)]
+#[derive(PartialEq, Eq, Drop)]
 pub enum Action {
     /// The transfer has ended; the session is told of it where it is live.
     Completed {
@@ -51,6 +51,28 @@ impl Model for Actions {
     ghost Value = { List Action };
 
     ghost view = { λ a. a.items.items };
+}
+
+impl PartialEq for Actions {
+    ghost use Rattle.std.specs.Cmp.{partial_equiv_from_equiv};
+    ghost use Rattle.std.specs.Cmp.Lexicographic.{pointwise, lists_equiv};
+    ghost use Rattle.ftp_events.specs.contracts.action.ActionPartialEq.TheImpl.{ghosts};
+    ghost use Rattle.ftp_events.specs.contracts.action.ActionEq.TheImpl.Laws.{laws-law};
+
+    ghost eq = { pointwise ghosts.eq };
+
+    ghost laws = { partial_equiv_from_equiv (lists_equiv laws-law) };
+
+    fn eq(&self, other: &Actions) -> bool {
+        self.items.as_slice() == other.items.as_slice()
+    }
+}
+
+impl Eq for Actions {
+    ghost use Rattle.std.specs.Cmp.Lexicographic.{lists_equiv};
+    ghost use Rattle.ftp_events.specs.contracts.action.ActionEq.TheImpl.Laws.{laws-law};
+
+    ghost laws = { lists_equiv laws-law };
 }
 
 impl Actions {

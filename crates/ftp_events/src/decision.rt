@@ -1,7 +1,7 @@
 //! What the server decides on an event, and the classes of that.
 
 ghost use Rattle.std.specs.Prelude.{◌≡◌};
-ghost use Rattle.ftp_events.specs.Classes.{life, slot_move, gives_up};
+ghost use Rattle.ftp_events.specs.Classes.{life, is_stop, slot_move, gives_up};
 
 use ftp_base::{ErrorKind, LockState};
 use ftp_proxy::ProxyError;
@@ -66,16 +66,30 @@ pub enum Decision {
     CwdRefused(ErrorKind),
     /// The working directory has changed.
     CwdOk,
-    /// The slot may stand on.
+    /// What the slot had is dropped.
+    Aborted,
+    /// The slot had nothing.
+    NothingToAbort,
+    /// The client is told the message.
+    Told,
+    /// The slot may stand on, or the session be idle for longer.
     Early,
+    /// The session is at work, and its idle time begins again.
+    Waited,
     /// The slot stood for too long, and what it had is dropped.
     SlotDropped,
     /// Failed logins that were too old are forgotten.
     Swept,
+    /// No port is held for a session that has ended.
+    Scavenged,
     /// The session has ended by its own wish.
     Quit,
     /// The session has ended with its control connection.
     Closed,
+    /// The session was idle for too long, and has ended.
+    TimedOut,
+    /// Every session has ended, and no other will be opened.
+    Stopped,
 }
 
 /// What a decision makes of the life of the session that it is about.
@@ -119,9 +133,17 @@ impl Decision {
     {
         match self {
             Decision::Opened => Life::Opens,
-            Decision::Quit | Decision::Closed => Life::Ends,
+            Decision::Quit | Decision::Closed | Decision::TimedOut | Decision::Stopped =>
+                Life::Ends,
             _ => Life::Goes,
         }
+    }
+
+    /// Says whether it ends every live session.
+    pub fn is_stop(self) -> bool
+        ensures { result ≡ is_stop self }
+    {
+        matches!(self, Decision::Stopped)
     }
 
     /// What it makes of the session's slot.
@@ -132,6 +154,7 @@ impl Decision {
             Decision::Granted { port } => SlotMove::Awaits { port },
             Decision::PortOk => SlotMove::Connects,
             Decision::SlotDropped => SlotMove::Expires,
+            Decision::Aborted => SlotMove::Empties,
             Decision::Attached { .. } => SlotMove::Links,
             Decision::Queued { ticket } => SlotMove::Queues { ticket },
             Decision::Finished => SlotMove::Finishes,

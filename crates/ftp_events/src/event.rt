@@ -4,13 +4,13 @@ ghost use Rattle.std.specs.Prelude.{◌≡◌, false, IfOk};
 ghost use Rattle.ftp_events.specs.Covers.{link_number};
 ghost use Rattle.ftp_events.specs.Log.{named_session, has_text};
 
-use ftp_base::{AuthAnswer, Bytes, DataChanCmd, ErrorKind, SocketAddr};
+use ftp_base::{AuthAnswer, Bytes, ControlChanMsg, DataChanCmd, ErrorKind, SocketAddr};
 use ftp_proxy::{ProxyError, ProxyHeader};
 use ftp_transfer::{Outcome, Ticket};
 use std::alloc::{AllocError, Global};
 
 /// What happens to the server.
-#[derive(Drop)]
+#[derive(PartialEq, Eq, Drop)]
 pub enum EventKind {
     /// A control connection came from `raw` to `local`.
     Connect {
@@ -99,16 +99,33 @@ pub enum EventKind {
     Closed {
         session: u64,
     },
+    /// ABOR (RFC 959, section 4.1.3), before the transfer has begun.
+    Abor {
+        session: u64,
+    },
+    /// What the control layer has for the client: an answer to a line, or what the storage did.
+    Internal {
+        session: u64,
+        message: ControlChanMsg,
+    },
     /// A look at how long the session's slot has stood.
     SlotTick {
         session: u64,
     },
+    /// A look at how long the session has been idle.
+    IdleTick {
+        session: u64,
+    },
     /// Failed logins that are too old are forgotten.
     Sweep,
+    /// Ports that are held for sessions that have ended are freed, of which there are none.
+    Scavenge,
+    /// Every session is to end, and no other is to be opened.
+    Shutdown,
 }
 
 /// An event, at a moment in milliseconds.
-#[derive(Drop)]
+#[derive(PartialEq, Eq, Drop)]
 pub struct HubEvent {
     pub at: u64,
     pub kind: EventKind,
@@ -143,12 +160,17 @@ impl EventKind {
             | EventKind::Cwd { session, .. }
             | EventKind::Quit { session }
             | EventKind::Closed { session }
-            | EventKind::SlotTick { session } => Some(*session),
+            | EventKind::Abor { session }
+            | EventKind::Internal { session, .. }
+            | EventKind::SlotTick { session }
+            | EventKind::IdleTick { session } => Some(*session),
             EventKind::End { ticket } => Some(ticket.session),
             EventKind::Connect { .. }
             | EventKind::Proxied { .. }
             | EventKind::DataIn { .. }
-            | EventKind::Sweep => None,
+            | EventKind::Sweep
+            | EventKind::Scavenge
+            | EventKind::Shutdown => None,
         }
     }
 
@@ -195,6 +217,10 @@ impl EventKind {
                 session: *session,
                 path: path.copy(alloc)?,
                 refusal: *refusal,
+            }),
+            EventKind::Internal { session, message } => Ok(EventKind::Internal {
+                session: *session,
+                message: message.copy(alloc)?,
             }),
             _ => Ok(self.copy_numbers()),
         }
@@ -246,8 +272,12 @@ impl EventKind {
                 number,
                 raw,
             },
+            EventKind::Abor { session } => EventKind::Abor { session },
             EventKind::SlotTick { session } => EventKind::SlotTick { session },
+            EventKind::IdleTick { session } => EventKind::IdleTick { session },
             EventKind::Sweep => EventKind::Sweep,
+            EventKind::Scavenge => EventKind::Scavenge,
+            EventKind::Shutdown => EventKind::Shutdown,
             _ => unreachable!(),
         }
     }

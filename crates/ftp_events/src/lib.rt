@@ -5,24 +5,34 @@
 #![tactic(auto)]
 
 mod action;
+mod copies;
+mod counters;
+mod counting;
 mod decision;
+mod delivery;
 mod entry;
 mod event;
 mod log;
 mod port_text;
 mod questions;
 mod session;
+mod status;
+mod tallies;
 mod text;
 pub mod wording;
 
 pub use action::{Action, Actions};
+pub use counters::Counters;
 pub use decision::{Decision, Life, SlotMove};
+pub use delivery::deliver;
 pub use entry::Entry;
 pub use event::{Answer, EventKind, HubEvent};
 pub use log::Log;
 pub use port_text::port_target;
 pub use questions::{holder_of, replies_of};
 pub use session::{Login, Opening, Pending, Running, Session, Slot};
+pub use status::{CommandWord, Ended, Status7};
 pub use text::{
-    make_pasv_reply, refusal, reply_of, unique_name, write_offset_text, write_passive_text,
+    make_pasv_reply, refusal, reply_of, unique_name, words_of, write_offset_text,
+    write_passive_text,
 };

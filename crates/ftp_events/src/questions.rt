@@ -234,11 +234,12 @@ fn target(options: &Options, kind: &EventKind, answer: Answer) -> Option<SocketA
 fn ends_hold(e: &Entry, session: u64) -> bool
     ensures { result ≡ ends_hold e.now session }
 {
-    e.event.kind.named_session() == Some(session) && e.decision.slot_move().gives_up()
+    e.decision.is_stop()
+        || (e.event.kind.named_session() == Some(session) && e.decision.slot_move().gives_up())
 }
 
-// Says whether the decision is one of the four refusals.
-fn is_refusal(decision: Decision) -> bool
+/// Says whether the decision is one of the four refusals.
+pub(crate) fn is_refusal(decision: Decision) -> bool
     ensures { result ≡ is_refusal decision }
 {
     matches!(

@@ -100,6 +100,8 @@ pub struct Session {
     pub slot: Slot,
     /// The moment from which the slot's age counts, in milliseconds.
     pub slot_at: u64,
+    /// The moment from which the idle time counts, in milliseconds.
+    pub active_at: u64,
     /// The transfer that waits in the slot.
     pub pending: Option<Pending>,
     /// How many transfers were queued.

@@ -1,10 +1,10 @@
 //! The texts of replies.
 
-ghost use Rattle.std.specs.Prelude.{◌≡◌, ◌+◌, ◌≤◌, ◌<◌, ◌^◌, ◌++◌, [], ◌∷◌, length, decimal, IfOk};
+ghost use Rattle.std.specs.Prelude.{◌≡◌, true, ◌+◌, ◌≤◌, ◌<◌, ◌^◌, ◌++◌, [], ◌∷◌, length, decimal, IfOk};
 ghost use Rattle.std.specs.Vec.{vec_len, vec_capacity};
 ghost use Rattle.ftp_base.specs.declared.reply.Reply.TheVariants as reply;
 ghost use Rattle.ftp_events.specs.Text.{passive_text, passive_numbers, offset_text, unique_name};
-ghost use Rattle.ftp_events.specs.Message.{reply_of, reply_of_kind};
+ghost use Rattle.ftp_events.specs.Message.{is_of_change, is_worded, reply_of, reply_of_kind};
 ghost use Rattle.ftp_events.specs.Reply.{passive_reply, unshown};
 ghost use Rattle.ftp_base.specs.declared.net.IpAddr.TheVariants.{V4};
 ghost use Rattle.ftp_options.specs.declared.host.PassiveHost.TheVariants.{Dns};
@@ -24,21 +24,66 @@ pub fn reply_of(alloc: Global, message: &ControlChanMsg) -> Result<Reply, AllocE
     ensures { IfOk result (λ reply. reply ≡ reply_of message.now) }
 {
     let (code, msg) = match message {
-        ControlChanMsg::AuthSuccess { .. } => (ReplyCode::UserLoggedIn, wording::LOGGED_IN),
-        ControlChanMsg::AuthFailed => (ReplyCode::NotLoggedIn, wording::AUTH_FAILED),
-        ControlChanMsg::CwdSuccess => (ReplyCode::FileActionOkay, wording::CWD_CHANGED),
-        ControlChanMsg::StorageError(kind) => refusal(*kind),
+        ControlChanMsg::CommandChannelReply(reply) => return reply.copy(alloc),
+        ControlChanMsg::ExitControlLoop
+        | ControlChanMsg::SecureControlChannel
+        | ControlChanMsg::PlaintextControlChannel => return Ok(Reply::None),
+        ControlChanMsg::MkDirSuccess { path } => (ReplyCode::DirCreated, path.as_slice()),
+        _ => words_of(message),
+    };
+    let msg = Bytes::from_slice(alloc, msg)?;
+    Ok(Reply::CodeAndMsg { code, msg })
+}
+
+/// The code and the words that answer a message which has words for its reply.
+pub fn words_of(message: &ControlChanMsg) -> (ReplyCode, &'static [u8])
+    requires { is_worded message.now ≡ true }
+    ensures reply { reply.CodeAndMsg result.0 result.1.now ≡ reply_of message.now }
+    ensures short { length result.1.now ≤ 64 }
+{
+    match message {
+        ControlChanMsg::PermissionDenied => (ReplyCode::FileError, b"Permision denied"),
+        ControlChanMsg::NotFound => (ReplyCode::FileError, b"File not found"),
         ControlChanMsg::SentData { .. } => (ReplyCode::ClosingDataConnection, wording::SENT),
         ControlChanMsg::WrittenData { .. } => (ReplyCode::ClosingDataConnection, wording::WRITTEN),
+        ControlChanMsg::ConnectionReset => (ReplyCode::ConnectionClosed, wording::BROKEN_OFF),
+        ControlChanMsg::DataConnectionClosedAfterStor => (
+            ReplyCode::FileActionOkay,
+            b"unFTP holds your data for you",
+        ),
         ControlChanMsg::WriteFailed => (ReplyCode::TransientFileError, wording::WRITE_FAILED),
         ControlChanMsg::DirectorySuccessfullyListed => (
             ReplyCode::ClosingDataConnection,
             wording::LISTED,
         ),
-        ControlChanMsg::CommandChannelReply(reply) => return reply.copy(alloc),
-    };
-    let msg = Bytes::from_slice(alloc, msg)?;
-    Ok(Reply::CodeAndMsg { code, msg })
+        ControlChanMsg::DirectoryListFailure => (
+            ReplyCode::ClosingDataConnection,
+            b"Failed to list the directory",
+        ),
+        ControlChanMsg::CwdSuccess => (ReplyCode::FileActionOkay, wording::CWD_CHANGED),
+        ControlChanMsg::AuthSuccess { .. } => (ReplyCode::UserLoggedIn, wording::LOGGED_IN),
+        ControlChanMsg::AuthFailed => (ReplyCode::NotLoggedIn, wording::AUTH_FAILED),
+        ControlChanMsg::StorageError(kind) => refusal(*kind),
+        _ => change_words(message),
+    }
+}
+
+// The code and the words on what was changed in the storage, or could not be.
+fn change_words(message: &ControlChanMsg) -> (ReplyCode, &'static [u8])
+    requires { is_of_change message.now ≡ true }
+    ensures reply { reply.CodeAndMsg result.0 result.1.now ≡ reply_of message.now }
+    ensures short { length result.1.now ≤ 64 }
+{
+    match message {
+        ControlChanMsg::DelFileSuccess { .. } | ControlChanMsg::RmDirSuccess { .. } => (
+            ReplyCode::FileActionOkay,
+            b"Successfully removed",
+        ),
+        ControlChanMsg::RenameSuccess { .. } => (ReplyCode::FileActionOkay, b"Renamed"),
+        ControlChanMsg::DelFail => (ReplyCode::TransientFileError, b"Failed to delete the file"),
+        ControlChanMsg::MkdirFail => (ReplyCode::FileError, b"Failed to create directory"),
+        _ => unreachable!(),
+    }
 }
 
 /// The code and the text that answer a refusal by the storage.

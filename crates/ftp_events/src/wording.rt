@@ -21,5 +21,8 @@ pub const LISTED: &[u8] = b"Listed the directory";
 /// The text on a listing that could not be sent.
 pub const WRITE_FAILED: &[u8] = b"Failed to write file";
 
+/// The text on a transfer whose data connection has broken off, or will not come.
+pub const BROKEN_OFF: &[u8] = b"Datachannel unexpectedly closed";
+
 /// The text on a name that was not looked up, before that name and a closing quote.
 pub const UNRESOLVED: &[u8] = b"Could not resolve DNS address '";
