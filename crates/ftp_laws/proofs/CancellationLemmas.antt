@@ -8,13 +8,16 @@ use Rattle.ftp_events.specs.declared.decision.SlotMove.TheVariants.{Empties, Emp
 use Rattle.ftp_events.specs.Fate.{cancels}
 use Rattle.ftp_events.specs.History.{Nobody, One, All}
 use Rattle.ftp_laws.proofs.Common.{Subject, Options, Ticket, Action, Decision, Entry, Pending, Session, Slot, is_refusal, past_of, subject, concerns, history, slot_move, SlotMove, empties, drops, lane, session, running_job, acts, acts_of, stays, slot_of, pending_in, starting, IsRight, IsActed, is_pending}
-use Rattle.ftp_laws.proofs.SubjectLemmas.{no-stop, concerned, one-concerns, not-all}
+use Rattle.ftp_laws.proofs.SubjectLemmas.{one-concerns, stop-concerns, all-stop}
 use Rattle.ftp_laws.specs.Fates.{may_cancel, can_cancel, LosesSlot}
 use Rattle.ftp_laws.proofs.TicketLemmas.{same_ticket-equal}
 use Rattle.ftp_laws.proofs.QuestionLemmas.{session-told}
 use Rattle.ftp_laws.proofs.CountLemmas.{IsOnTransfers, count-about, count-nobody, count-completions, CountsTest, counts-any}
 use Rattle.ftp_laws.proofs.BalanceLemmas.{one, IsOnCancelled, count-start_acts, count-drop_acts-own}
 use Rattle.ftp_laws.proofs.SoundLemmas.{sound}
+use Rattle.ftp_laws.proofs.LiveLemmas.{live_sessions-ascending}
+use Rattle.ftp_laws.proofs.PartLemmas.{count-concern}
+use Rattle.ftp_laws.proofs.AccountLemmas.{stop-other}
 
 -- what some item passes is counted
 pub any-counted : (p : Action → Bool) (xs : List Action) → list_any p xs ≡ true → 1 ≤ count_by p xs
@@ -52,6 +55,27 @@ cancels-about o past e t s counts acted about =
     omega (
       arith,
       count-about (cancels t) o past e s (cancels-on-transfers t s) counts acted about,
+      count-completions (cancels t) e.event.kind e.decision (stays e.decision v) (λ ticket k. refl),
+      count-drop_acts-own t (cancels t) s (stays e.decision v) e.decision (slot_of v) (pending_in v) (cancels-on-cancelled t),
+      count-start_acts t (cancels t) (option_and_then (starting e.event.kind e.decision (running_job o past s)) v) (cancels-on-cancelled t),
+    )
+
+-- so does an entry that concerns the transfer's session, also one that concerns every session
+cancels-here :
+    (o : Options) (log : List Entry) (e : Entry) (t : Ticket) → IsRight o log →
+    is_refusal e.decision ≡ false →
+    e.actions ≡ acts_of o (past_of log) e →
+    concerns o (past_of log) e t.session ≡ true →
+    count_by (cancels t) e.actions
+    ≡ cond (drops e.decision (slot_of (session o (past_of log) t.session))) (one (is_pending t (pending_in (session o (past_of log) t.session)))) 0
+cancels-here o log e t r counts acted c =
+    let past : List Entry = past_of log in
+    let s : ℕ = t.session in
+    let v : Option Session = session o past s in
+    omega (
+      arith,
+      count-concern o past e counts acted (cancels t) s (cancels-on-transfers t s) c (live_sessions-ascending o log r)
+          (λ about q n. stop-other (cancels t) o past e t q counts acted (cancels-on-cancelled t) about (sound o log q r) n),
       count-completions (cancels t) e.event.kind e.decision (stays e.decision v) (λ ticket k. refl),
       count-drop_acts-own t (cancels t) s (stays e.decision v) e.decision (slot_of v) (pending_in v) (cancels-on-cancelled t),
       count-start_acts t (cancels t) (option_and_then (starting e.event.kind e.decision (running_job o past s)) v) (cancels-on-cancelled t),
@@ -125,11 +149,23 @@ cancelled-loses o log e t r a h = by_refusal (is_refusal e.decision) refl
         let known : session o past t.session ≡ Some v = subst (λ (n : ℕ). session o past n ≡ Some v) own y in
         (one-concerns o past e s t.session x ∙ eq-eqb s t.session own, subst (IsLost e t) (sym known) l)
 
+    by_known :
+        (v : Option Session) → session o (past_of log) t.session ≡ v →
+        concerns o (past_of log) e t.session ≡ true →
+        (drops e.decision (slot_of v) ≡ true) × (is_pending t (pending_in v) ≡ true) →
+        LosesSlot o (past_of log) e t
+    by_known None y c l = let z : false ≡ true = l.1 in cc
+    by_known (Some v) y c l = (c, subst (IsLost e t) (sym y) l)
+
     by_subject :
         is_refusal e.decision ≡ false → (s : Subject) →
         subject o (past_of log) e ≡ s →
         LosesSlot o (past_of log) e t
-    by_subject counts All x = absurd (not-all o past e (no-stop e.decision) x)
+    by_subject counts All x =
+        let v : Option Session = session o past t.session in
+        let c : concerns o past e t.session ≡ true = stop-concerns o past e t.session (all-stop o past e x) in
+        by_known v refl c
+        (lost-both (drops e.decision (slot_of v)) (is_pending t (pending_in v)) (omega (arith, counted, cancels-here o log e t r.0 counts a.1 c)))
     by_subject counts Nobody x = absurd (omega (arith, counted, count-nobody (cancels t) o past e (λ m. refl) a.1 x))
     by_subject counts (One s) x =
         let v : Option Session = session o past s in
@@ -147,10 +183,10 @@ cancelled-loses o log e t r a h = by_refusal (is_refusal e.decision) refl
 -- where it loses that, the transfer is cancelled
 pub loses-cancelled :
     (o : Options) (log : List Entry) (e : Entry) (t : Ticket) →
-    IsActed o (e ∷ log) → LosesSlot o (past_of log) e t →
+    IsRight o log → IsActed o (e ∷ log) → LosesSlot o (past_of log) e t →
     list_any (cancels t) e.actions ≡ true
 unfolding acts
-loses-cancelled o log e t a l = by_session (session o past t.session) refl l.1
+loses-cancelled o log e t r a l = by_session (session o past t.session) refl l.1
   where
     past : List Entry
     past = past_of log
@@ -162,8 +198,7 @@ loses-cancelled o log e t a l = by_session (session o past t.session) refl l.1
         list_any (cancels t) e.actions ≡ true
     by_session None y m = absurd m
     by_session (Some v) y m =
-        let about : subject o past e ≡ One t.session = concerned o past e t.session (no-stop e.decision) l.0 in
-        let count = cancels-about o past e t t.session (drops-counts e.decision v.slot m.0) a.1 about in
+        let count = cancels-here o log e t r (drops-counts e.decision v.slot m.0) a.1 l.0 in
         let lost : cond (drops e.decision (slot_of (session o past t.session))) (one (is_pending t (pending_in (session o past t.session)))) 0 ≡ 1 = rw (y, m.0, m.1) refl in
         counted-any (cancels t) e.actions (omega (arith, count, lost))
 
@@ -172,7 +207,7 @@ pub cancelled-with-slot :
     (o : Options) (log : List Entry) (e : Entry) (t : Ticket) →
     IsRight o (e ∷ log) → IsActed o (e ∷ log) →
     (list_any (cancels t) e.actions ≡ true) ↔ LosesSlot o (past_of log) e t
-cancelled-with-slot o log e t r a = (cancelled-loses o log e t r a, loses-cancelled o log e t a)
+cancelled-with-slot o log e t r a = (cancelled-loses o log e t r a, loses-cancelled o log e t r.0 a)
 
 -- a transfer is cancelled by a decision that can, of an entry that concerns its session
 pub cancelled-so :

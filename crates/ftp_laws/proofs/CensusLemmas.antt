@@ -9,14 +9,17 @@ use Rattle.ftp_events.specs.declared.decision.Life.TheVariants.{Opens, Ends}
 use Rattle.ftp_events.specs.declared.decision.SlotMove.TheVariants.{Finishes}
 use Rattle.ftp_events.specs.declared.event.Answer.TheVariants.{Header}
 use Rattle.ftp_events.specs.declared.event.EventKind.TheVariants as kind
+use Rattle.ftp_events.specs.Classes.{is_stop}
 use Rattle.ftp_events.specs.Words.{total}
-use Rattle.ftp_events.specs.History.{Nobody, One}
+use Rattle.ftp_events.specs.History.{Nobody, One, All}
 use Rattle.ftp_events.specs.Running.{ended, started, running_count}
 use Rattle.ftp_events.specs.Session.{live_count, live_by_life}
-use Rattle.ftp_laws.proofs.Common.{Life, SlotMove, life, ends, slot_move, Options, Ticket, Action, Running, Answer, Decision, Entry, EventKind, Pending, Session, Opening, past_of, named_session, opened_number, opening_by, subject, concerns, opens, history, Lane, queued_in, lane, lives_on, session, running_job, due, acts_of, completions, stays, start_acts, slot_of, pending_in, IsRight, IsActed}
+use Rattle.ftp_laws.proofs.Common.{Life, SlotMove, life, ends, slot_move, Options, Ticket, Action, Running, Answer, Decision, Entry, EventKind, Pending, Session, Opening, past_of, named_session, opened_number, opening_by, subject, concerns, opens, history, Lane, queued_in, lane, lives_on, session, running_job, due, acts_of, is_refusal, completions, stays, start_acts, slot_of, pending_in, IsRight, IsActed}
 use Rattle.ftp_laws.specs.Census.{IsCensus}
 use Rattle.ftp_laws.specs.Jobs.{starts_for, completes_for}
-use Rattle.ftp_laws.proofs.SubjectLemmas.{by_subject, no-stop, named-one, one-concerns, one-own, nobody-concerns}
+use Rattle.ftp_laws.proofs.SubjectLemmas.{by_subject, named-one, one-concerns, one-own, nobody-concerns}
+use Rattle.ftp_laws.proofs.StopLemmas.{session-stopped}
+use Rattle.ftp_laws.proofs.PartLemmas.{count-stop-idle}
 use Rattle.ftp_laws.proofs.ClassLemmas.{opens-is, finishes-is, opened-is}
 use Rattle.ftp_laws.proofs.DecisionLemmas.{IsLive}
 use Rattle.ftp_laws.proofs.EndingLemmas.{ending-live}
@@ -136,19 +139,26 @@ live-step :
     e.decision ≡ due o past e.event.at e.event.kind e.answer →
     HasCensus (live_in o past) (live_count past) →
     HasCensus (live_in o (e ∷ past)) (live_count (e ∷ past))
-live-step o past e fit h = go (life e.decision) refl
+live-step o past e fit h = by_test (is_stop e.decision) stopped (λ plain. go plain (life e.decision) refl)
   where
-    counted : (l : Life) → life e.decision ≡ l → live_count (e ∷ past) ≡ live_by_life l (live_count past)
-    counted l x = ap (λ b. cond b 0 (live_by_life (life e.decision) (live_count past))) (no-stop e.decision) ∙ ap (λ y. live_by_life y (live_count past)) x
+    stopped : is_stop e.decision ≡ true → HasCensus (live_in o (e ∷ past)) (live_count (e ∷ past))
+    stopped n = (
+      [],
+      λ s. sym (ap (λ (v : Option Session). one (is_some v)) (session-stopped o past e s n)),
+      ap (λ b. cond b 0 (live_by_life (life e.decision) (live_count past))) n,
+    )
+
+    counted : is_stop e.decision ≡ false → (l : Life) → life e.decision ≡ l → live_count (e ∷ past) ≡ live_by_life l (live_count past)
+    counted plain l x = ap (λ b. cond b 0 (live_by_life (life e.decision) (live_count past))) plain ∙ ap (λ y. live_by_life y (live_count past)) x
 
     unopened : (q : ℕ) → life e.decision ≢ Opens → opens e q ≡ false
     unopened q other = by_test (opens e q) (λ n. absurd (other (ap life (opened-is e.event.kind e.decision q n)))) (λ n. n)
 
-    ending : life e.decision ≡ Ends → HasCensus (live_in o (e ∷ past)) (live_count (e ∷ past))
-    ending x =
-        let alive : IsLive o past e.event.kind = ending-live o past e.event.at e.event.kind e.answer (no-stop (due o past e.event.at e.event.kind e.answer)) (ap (λ d. ends (life d)) (sym fit) ∙ ap ends x) in
+    ending : is_stop e.decision ≡ false → life e.decision ≡ Ends → HasCensus (live_in o (e ∷ past)) (live_count (e ∷ past))
+    ending plain x =
+        let alive : IsLive o past e.event.kind = ending-live o past e.event.at e.event.kind e.answer (ap is_stop (sym fit) ∙ plain) (ap (λ d. ends (life d)) (sym fit) ∙ ap ends x) in
         let s : ℕ = alive.number in
-        let about : subject o past e ≡ One s = named-one o past e s (no-stop e.decision) alive.named in
+        let about : subject o past e ≡ One s = named-one o past e s plain alive.named in
         let here : opens e s ≡ false = unopened s (λ y. let z : Ends ≡ Opens = sym x ∙ y in cc) in
         let dies : lives_on e.decision ≡ false = rw x refl in
         let before : live_in o past s ≡ true = ap is_some alive.known in
@@ -156,10 +166,10 @@ live-step o past e fit h = go (life e.decision) refl
         let after : live_in o (e ∷ past) s ≡ false = ap is_some gone in
         let more = recount (live_in o past) (live_in o (e ∷ past)) s h.0 h.1
         (λ q k. ap is_some (session-other o past e q (unopened q (λ y. let z : Ends ≡ Opens = sym x ∙ y in cc)) (one-concerns o past e s q about ∙ k))) in
-        (more.0, more.1, omega (arith, counted Ends x, h.2, more.2, ap one before, ap one after))
+        (more.0, more.1, omega (arith, counted plain Ends x, h.2, more.2, ap one before, ap one after))
 
-    opening : life e.decision ≡ Opens → HasCensus (live_in o (e ∷ past)) (live_count (e ∷ past))
-    opening x =
+    opening : is_stop e.decision ≡ false → life e.decision ≡ Opens → HasCensus (live_in o (e ∷ past)) (live_count (e ∷ past))
+    opening plain x =
         let d : e.decision ≡ decision.Opened = opens-is e.decision x in
         let known = opening-known e.event.kind e.answer (opening-tells o past e.event.at e.event.kind e.answer (sym fit ∙ d)) in
         let s : ℕ = known.0 in
@@ -171,7 +181,7 @@ live-step o past e fit h = go (life e.decision) refl
         let after : live_in o (e ∷ past) s ≡ true = opened-live o past e s known.1 number d known.3 in
         let more = recount (live_in o past) (live_in o (e ∷ past)) s h.0 h.1
         (λ q k. ap is_some (session-other o past e q (rw number k) (nobody-concerns o past e q about))) in
-        (more.0, more.1, omega (arith, counted Opens x, h.2, more.2, ap one before, ap one after))
+        (more.0, more.1, omega (arith, counted plain Opens x, h.2, more.2, ap one before, ap one after))
 
     same : life e.decision ≢ Opens → lives_on e.decision ≡ true → (s : ℕ) → live_in o (e ∷ past) s ≡ live_in o past s
     same x l s =
@@ -186,12 +196,12 @@ live-step o past e fit h = go (life e.decision) refl
         ap is_some stays_live ∙ sym (ap is_some y)))
         (λ n c. ap is_some (session-other o past e s n c))
 
-    go : (l : Life) → life e.decision ≡ l → HasCensus (live_in o (e ∷ past)) (live_count (e ∷ past))
-    go Opens x = opening x
-    go Ends x = ending x
-    go l x =
+    go : is_stop e.decision ≡ false → (l : Life) → life e.decision ≡ l → HasCensus (live_in o (e ∷ past)) (live_count (e ∷ past))
+    go plain Opens x = opening plain x
+    go plain Ends x = ending plain x
+    go plain l x =
         let kept = same (λ y. let z : l ≡ Opens = sym x ∙ y in cc) (rw x refl) in
-        (h.0, λ s. h.1 s ∙ ap one (sym (kept s)), counted l x ∙ h.2)
+        (h.0, λ s. h.1 s ∙ ap one (sym (kept s)), counted plain l x ∙ h.2)
 
 -- in every right log the count of live sessions is that of a census of them
 pub live-counted :
@@ -241,6 +251,20 @@ ends-counted xs = total-counts ended is_completed one_each xs
     one_each (action.Completed ticket delivered) = refl
     one_each _ = refl
 
+-- a stop starts and ends no job
+pub running_count-stopped :
+    (o : Options) (past : List Entry) (e : Entry) →
+    is_refusal e.decision ≡ false → e.actions ≡ acts_of o past e → subject o past e ≡ All →
+    running_count (e ∷ past) ≡ running_count past
+running_count-stopped o past e counts acted about =
+    omega (
+      arith,
+      starts-counted e.actions,
+      ends-counted e.actions,
+      count-stop-idle o past e counts acted is_start start-on-starts.plain (λ t. refl) about,
+      count-stop-idle o past e counts acted is_completed completed-on-transfers (λ t. refl) about,
+    )
+
 -- of completions two tests that agree on the job's end count the same
 completions-alike :
     (p q : Action → Bool) (k : EventKind) (d : Decision) (b : Bool) →
@@ -286,7 +310,9 @@ running-step :
     e.actions ≡ acts_of o (past_of log) e →
     HasCensus (running_in o (past_of log)) (running_count (past_of log)) →
     HasCensus (running_in o (e ∷ past_of log)) (running_count (e ∷ past_of log))
-running-step o log e comes acted h = by_subject o past e (no-stop e.decision) nobody about
+running-step o log e comes acted h =
+    by_subject o past e (λ x. idle (λ p on cancelled. count-nobody p o past e (on 0).closes acted x)) about
+    (λ x. idle (λ p on cancelled. count-stop-idle o past e comes.counts acted p on cancelled x))
   where
     past : List Entry
     past = past_of log
@@ -297,14 +323,15 @@ running-step o log e comes acted h = by_subject o past e (no-stop e.decision) no
     counted : running_count (e ∷ past) ≡ running_count past - count_by is_completed e.actions + count_by is_start e.actions
     counted = rw (starts-counted e.actions, ends-counted e.actions) refl
 
-    nobody : subject o past e ≡ Nobody → HasCensus (running_in o (e ∷ past)) (running_count (e ∷ past))
-    nobody x =
-        let none : (p : Action → Bool) → ((n : ℕ) → p (action.Close n) ≡ false) → count_by p e.actions ≡ 0 = λ p closes. count-nobody p o past e closes acted x in
+    idle :
+        ((p : Action → Bool) → ((q : ℕ) → IsOnTransfers q p) → ((t : Ticket) → p (action.Cancelled t) ≡ false) → count_by p e.actions ≡ 0) →
+        HasCensus (running_in o (e ∷ past)) (running_count (e ∷ past))
+    idle none =
         let kept : (s : ℕ) → running_in o (e ∷ past) s ≡ running_in o past s =
-        λ s. one-same _ _ (omega (arith, balanced s, none (starts_for s) (λ m. refl), none (completes_for s) (λ m. refl))) in (
+        λ s. one-same _ _ (omega (arith, balanced s, none (starts_for s) (starts_for-on-starts s).plain (λ t. refl), none (completes_for s) (completes_for-on-transfers s) (λ t. refl))) in (
           h.0,
           λ s. h.1 s ∙ ap one (sym (kept s)),
-          omega (arith, counted, h.2, none is_start (λ m. refl), none is_completed (λ m. refl)),
+          omega (arith, counted, h.2, none is_start start-on-starts.plain (λ t. refl), none is_completed completed-on-transfers (λ t. refl)),
         )
 
     only_completions :
@@ -335,7 +362,7 @@ running-step o log e comes acted h = by_subject o past e (no-stop e.decision) no
         only_completions (completes_for q) q x (completes_for-on-transfers q q) (λ t. refl) (λ j. completes_for-start_acts q j) in
         let alike : count_by is_completed (completions e.event.kind e.decision staying) ≡ count_by (completes_for q) (completions e.event.kind e.decision staying) =
         completions-alike is_completed (completes_for q) e.event.kind e.decision staying
-        (λ t k. sym (ap (λ m. m == q) (named-concern o past e t.session q (ap named_session k) c) ∙ eq-eqb q q refl)) in
+        (λ t k. sym (ap (λ m. m == q) (named-concern o past e t.session q comes.fit (ap named_session k) c) ∙ eq-eqb q q refl)) in
         let ran = completed-ran e.event.kind e.decision staying (queued_in (history o past q) e) (lane (history o past q)) (entry-fit o past e q comes.fit c) in
         let more = recount (running_in o past) (running_in o (e ∷ past)) q h.0 h.1 (λ s k. ap is_some (others s k)) in (
           more.0,

@@ -1,9 +1,11 @@
 -- What a class, or a question on a decision, tells of the decision: here alone the laws go back from the one to the other.
-use Rattle.std.proofs.Common.{◌≡◌, refl, ap, ℕ, true, eqb-true}
+use Rattle.std.proofs.Common.{◌≡◌, refl, ap, ℕ, true, false, eqb-true, inl, inr}
+use Rattle.std.specs.Prelude.{◌⊎◌}
 use Rattle.ftp_events.specs.declared.decision.Decision.TheVariants as decision
 use Rattle.ftp_events.specs.declared.decision.Life.TheVariants.{Opens, Ends}
 use Rattle.ftp_events.specs.declared.decision.SlotMove.TheVariants.{Empties, Awaits, Connects, Expires, Queues, Finishes}
-use Rattle.ftp_laws.proofs.Common.{Decision, EventKind, Life, Ticket, is_number, opened_number, granted_port, life, ends, is_ending, slot_move, gives_up}
+use Rattle.ftp_events.specs.Classes.{is_stop}
+use Rattle.ftp_laws.proofs.Common.{Decision, is_refusal, EventKind, Life, Ticket, is_number, opened_number, granted_port, life, ends, is_ending, slot_move, gives_up}
 use Rattle.ftp_laws.specs.Fates.{queues}
 use Rattle.ftp_laws.proofs.TicketLemmas.{same_ticket-equal}
 
@@ -42,10 +44,23 @@ pub ending-empties : (d : Decision) → life d ≡ Ends → slot_move d ≡ Empt
 ending-empties decision.Closed h = refl
 ending-empties d h = cc
 
--- a slot that is emptied, whatever it has, is that of a session that ends
-pub empties-ends : (d : Decision) → slot_move d ≡ Empties → is_ending d ≡ true
-empties-ends decision.Closed h = refl
-empties-ends d h = cc
+-- a slot that is emptied, whatever it has, is that of a session that ends, or is dropped by an ABOR
+pub empties-is : (d : Decision) → slot_move d ≡ Empties → (d ≡ decision.Aborted) ⊎ (is_ending d ≡ true)
+empties-is decision.Aborted h = inl refl
+empties-is decision.Quit h = inr refl
+empties-is decision.Closed h = inr refl
+empties-is decision.TimedOut h = inr refl
+empties-is decision.Stopped h = inr refl
+empties-is d h = cc
+
+-- a stop is decided as one
+pub stop-is : (d : Decision) → is_stop d ≡ true → d ≡ decision.Stopped
+stop-is decision.Stopped h = refl
+stop-is d h = cc
+
+-- and is no refusal
+pub stop-counts : (d : Decision) → is_stop d ≡ true → is_refusal d ≡ false
+stop-counts d h = ap is_refusal (stop-is d h)
 
 -- an ending gives the slot up
 pub ending-gives_up : (d : Decision) → is_ending d ≡ true → gives_up (slot_move d) ≡ true

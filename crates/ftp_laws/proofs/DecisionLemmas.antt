@@ -15,6 +15,7 @@ use Rattle.ftp_events.specs.ConnectionRows.{arrival_row, header_row}
 use Rattle.ftp_events.specs.CommandRows.{is_logged_in, if_logged_in, port_row, address_row, made_row, accepted_row, slot_limit, slot_row}
 use Rattle.ftp_events.specs.Decide.{if_live}
 use Rattle.ftp_events.specs.Slot.{is_waiting}
+use Rattle.ftp_events.specs.Log.{is_stopped}
 use Rattle.ftp_events.specs.Text.{port_target}
 use Rattle.ftp_laws.proofs.Common.{SlotMove, slot_move, Options, is_legacy, Entry, EventKind, Answer, Decision, Pending, Session, Slot, is_number, named_session, is_refusal, is_used, new_number, due, opened_number, session}
 use Rattle.ftp_laws.proofs.ClassLemmas.{opened-is}
@@ -212,11 +213,11 @@ pub new-unused :
     new_number k d ≡ Some n →
     is_used past n ≡ false
 new-unused o past at (kind.Connect s raw local trace) answer d n u c e =
-    ap (is_used past) (sym (same_Some s n e)) ∙ row-unused (is_proxy o.mode || (is_pooled o.mode && (is_v6 raw.ip || is_v6 local.ip))) (is_used past s) decision.Opened (ap is_refusal u ∙ c)
+    ap (is_used past) (sym (same_Some s n e)) ∙ row-unused (is_proxy o.mode || (is_pooled o.mode && (is_v6 raw.ip || is_v6 local.ip))) (is_used past s) (cond (is_stopped past) decision.Turned decision.Opened) (ap is_refusal u ∙ c)
 new-unused o past at (kind.Proxied number raw trace) answer d n u c e =
-    ap (is_used past) (sym (same_Some number n e)) ∙ row-unused (not (is_proxy o.mode) || is_v6 raw.ip) (is_used past number) (header_row o past raw answer) (ap is_refusal u ∙ c)
+    ap (is_used past) (sym (same_Some number n e)) ∙ row-unused (not (is_proxy o.mode) || is_v6 raw.ip) (is_used past number) (cond (is_stopped past) decision.Turned (header_row o past raw answer)) (ap is_refusal u ∙ c)
 new-unused o past at (kind.DataIn number raw port) answer d n u c e =
-    ap (is_used past) (sym (same_Some number n e)) ∙ row-unused (not (is_pooled o.mode) || is_v6 raw.ip) (is_used past number) (arrival_row o past raw raw.ip port) (ap is_refusal u ∙ c)
+    ap (is_used past) (sym (same_Some number n e)) ∙ row-unused (not (is_pooled o.mode) || is_v6 raw.ip) (is_used past number) (cond (is_stopped past) decision.Turned (arrival_row o past raw raw.ip port)) (ap is_refusal u ∙ c)
 new-unused o past at (kind.Accepted s number raw) answer d n u c e =
     ap (is_used past) (sym (same_Some number n e)) ∙ by_session (session o past s) (ap is_refusal u ∙ c)
   where

@@ -6,6 +6,7 @@ use Rattle.ftp_base.specs.Net.{same_ip, is_v6}
 use Rattle.ftp_transfer.specs.Transfer.{suits}
 use Rattle.ftp_options.specs.Modes.{is_pooled, is_proxy, is_control_port}
 use Rattle.ftp_events.specs.Classes.{is_stop}
+use Rattle.ftp_events.specs.Log.{is_stopped}
 use Rattle.ftp_events.specs.Transfer.{same_ticket}
 use Rattle.ftp_events.specs.Modes.{in_range}
 use Rattle.ftp_events.specs.declared.decision.Decision.TheVariants as decision
@@ -29,10 +30,11 @@ none-cond false x y h j = j
 
 -- no connection ends one whose row does not
 new-none :
-    (strange used : Bool) (row : Decision) → EndsNone row →
-    EndsNone (cond strange decision.Misplaced (cond used decision.UsedNumber row))
-new-none strange used row h =
-    none-cond strange decision.Misplaced _ (record { none = refl }) (none-cond used decision.UsedNumber row (record { none = refl }) h)
+    (strange used stopped : Bool) (row : Decision) → EndsNone row →
+    EndsNone (cond strange decision.Misplaced (cond used decision.UsedNumber (cond stopped decision.Turned row)))
+new-none strange used stopped row h =
+    none-cond strange decision.Misplaced _ (record { none = refl })
+    (none-cond used decision.UsedNumber _ (record { none = refl }) (none-cond stopped decision.Turned row (record { none = refl }) h))
 
 -- that of a data connection does not
 arrival-none : (o : Options) (past : List Entry) (raw : SocketAddr) (a : IpAddr) (port : ℕ) → EndsNone (arrival_row o past raw a port)
@@ -80,13 +82,15 @@ pub ending-live :
     is_stop (due o past at k answer) ≡ false → ends (life (due o past at k answer)) ≡ true → IsLive o past k
 ending-live o past at (kind.Connect s raw local trace) answer plain h =
     let strange : Bool = is_proxy o.mode || (is_pooled o.mode && (is_v6 raw.ip || is_v6 local.ip)) in
-    absurd (true≢false (sym h ∙ (new-none strange (is_used past s) decision.Opened (record { none = refl })).none))
+    absurd (true≢false (sym h ∙ (new-none strange (is_used past s) (is_stopped past) decision.Opened (record { none = refl })).none))
 ending-live o past at (kind.Proxied number raw trace) answer plain h =
     let strange : Bool = not (is_proxy o.mode) || is_v6 raw.ip in
-    absurd (true≢false (sym h ∙ (new-none strange (is_used past number) (header_row o past raw answer) (header-none o past raw answer)).none))
+    absurd (true≢false (sym h ∙ (new-none strange (is_used past number) (is_stopped past) (header_row o past raw answer) (header-none o past raw answer)).none))
 ending-live o past at (kind.DataIn number raw port) answer plain h =
     let strange : Bool = not (is_pooled o.mode) || is_v6 raw.ip in
-    absurd (true≢false (sym h ∙ (new-none strange (is_used past number) (arrival_row o past raw raw.ip port) (arrival-none o past raw raw.ip port)).none))
+    absurd (true≢false (sym h ∙ (new-none strange (is_used past number) (is_stopped past) (arrival_row o past raw raw.ip port) (arrival-none o past raw raw.ip port)).none))
 ending-live o past at (kind.End t) answer plain h = absurd (true≢false (sym h ∙ (end-none t answer (running_job o past t.session)).none))
 ending-live o past at kind.Sweep answer plain h = cc
-ending-live o past at k answer plain h = row-live o past k (named_session k) (λ v. command_row o (around o past at v) k v) refl h
+ending-live o past at kind.Scavenge answer plain h = cc
+ending-live o past at kind.Shutdown answer plain h = cc
+ending-live o past at k answer plain h = row-live o past k (named_session k) (λ v. command_row o (around o past at k v) k v) refl h

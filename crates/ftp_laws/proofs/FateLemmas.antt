@@ -10,13 +10,16 @@ use Rattle.ftp_events.specs.declared.session.Slot.TheVariants.{Empty, Waits, Lin
 use Rattle.ftp_events.specs.Place.{is_queued, ticket_count}
 use Rattle.ftp_events.specs.Fate.{Fate, CompletedAt, CancelledAt, AwaitsConnection, AwaitsItsEnd, AwaitsEarlierEnd, completes, cancels, settlement, is_running, in_slot, wait, fate}
 use Rattle.ftp_events.specs.Acts.{slot_of}
+use Rattle.ftp_events.specs.Session.{live_sessions}
 use Rattle.ftp_events.specs.History.{Nobody}
 use Rattle.ftp_laws.proofs.Common.{Options, Ticket, Action, Decision, Entry, Pending, Session, Slot, is_number, is_refusal, past_of, is_used, new_number, subject, concerns, opens, history, Lane, queued_in, lane, session, running_job, due, acts_of, stays, pending_in, IsRight, IsActed, is_pending, Running}
+use Rattle.ftp_laws.specs.Census.{IsAscending}
 use Rattle.ftp_laws.specs.Fates.{queues, was_queued, queue_count, settles, settle_count}
 use Rattle.ftp_laws.proofs.TicketLemmas.{same_ticket-refl}
 use Rattle.ftp_laws.proofs.ClassLemmas.{opened-is}
 use Rattle.ftp_laws.proofs.QuestionLemmas.{history-other, history-own, lane-opened}
 use Rattle.ftp_laws.proofs.HoldLemmas.{opened-fresh}
+use Rattle.ftp_laws.proofs.LiveLemmas.{live_sessions-ascending}
 use Rattle.ftp_laws.proofs.PortLemmas.{opened-nobody}
 use Rattle.ftp_laws.proofs.LaneLemmas.{IsBare, ended-empty}
 use Rattle.ftp_laws.proofs.CountLemmas.{count-nobody, CountsTest, counts-one, counts-or, counts-same, counts-any}
@@ -105,15 +108,17 @@ pub accounted-own :
     opens e t.session ≡ false →
     concerns o past e t.session ≡ true →
     (session o past t.session ≡ None → IsBare (lane (history o past t.session))) →
+    ((s : ℕ) → IsSound s (history o past s)) →
+    IsAscending (live_sessions o past) →
     IsAccounted o past t settled queued →
     IsAccounted o (e ∷ past) t (settled + count_by (settles t) e.actions) (queued + one (queues t e.decision))
-accounted-own o past e t settled queued fit counts acted n c bare h =
+accounted-own o past e t settled queued fit counts acted n c bare own ascends h =
     record {
       balance = omega (
         arith,
         h.balance,
         ap (λ (x : List Entry). carried t (lane x)) longer,
-        settles-here o past e t counts acted c bare,
+        settles-here o past e t counts acted c bare own ascends,
         lane-balance t t.session (stays e.decision (session o past t.session)) e.event.kind e.decision (queued_in (history o past t.session) e) (lane (history o past t.session)) (entry-fit o past e t.session fit c),
       );
       fresh = λ x. unused (or_parts (is_number (new_number e.event.kind e.decision) t.session) (is_used past t.session) x).1 (queues t e.decision) refl;
@@ -173,7 +178,7 @@ accounted o log t r a =
     (λ log e comes a acted h.
     by_part o (past_of log) e t.session
     (λ n. accounted-opened o (past_of log) e t (settle_count t log) (queue_count t log) comes.fit acted n h)
-    (λ n c. accounted-own o (past_of log) e t (settle_count t log) (queue_count t log) comes.fit comes.counts acted n c (ended-empty o log t.session comes.right) h)
+    (λ n c. accounted-own o (past_of log) e t (settle_count t log) (queue_count t log) comes.fit comes.counts acted n c (ended-empty o log t.session comes.right) (λ s. sound o log s comes.right) (live_sessions-ascending o log comes.right) h)
     (λ n c. accounted-other o (past_of log) e t (settle_count t log) (queue_count t log) comes.fit comes.counts acted n c (λ s. sound o log s comes.right) h)) log r a
 
 -- a test that one of two holds is passed in a list where one of both is

@@ -4,16 +4,20 @@ use Rattle.std.specs.Prelude.{◌≢◌, ◌⊎◌, ◌==◌}
 use Rattle.std.specs.Option.{option_map_or}
 use Rattle.std.proofs.lemmas.Option.{same_Some}
 use Rattle.std.proofs.lemmas.Bool.{and_parts}
+use Rattle.ftp_events.specs.declared.decision.Decision.TheVariants as decision
 use Rattle.ftp_events.specs.declared.decision.SlotMove.TheVariants.{Empties, Awaits, Connects}
+use Rattle.ftp_events.specs.Classes.{is_stop}
 use Rattle.ftp_events.specs.declared.session.Slot.TheVariants.{Empty, Waits, Linked}
 use Rattle.ftp_events.specs.Slot.{waiting_port}
-use Rattle.ftp_laws.proofs.Common.{SlotMove, slot_move, gives_up, IpAddr, same_ip, Options, is_legacy, Entry, Session, Slot, is_number, named_session, is_refusal, past_of, Target, target, is_client, gives_hold, comes_to, ends_hold, gives_up_hold, holder, due, decide, IsRight}
-use Rattle.ftp_laws.proofs.SubjectLemmas.{no-stop, ends-plain, named-ends}
-use Rattle.ftp_laws.specs.Holds.{WaitsOn, ComesTo, GrantsAnother, TakesConnection, EndsSession, EndsHold}
-use Rattle.ftp_laws.proofs.ClassLemmas.{awaits-is, connects-is, empties-ends, ending-gives_up}
+use Rattle.ftp_laws.proofs.Common.{SlotMove, slot_move, gives_up, is_ending, IpAddr, same_ip, Options, is_legacy, Entry, Session, Slot, is_number, named_session, is_refusal, past_of, Target, target, is_client, gives_hold, comes_to, ends_hold, gives_up_hold, holder, due, decide, IsRight}
+use Rattle.ftp_laws.proofs.SubjectLemmas.{ends-plain, named-ends}
+use Rattle.ftp_laws.proofs.StopLemmas.{holder-stopped}
+use Rattle.ftp_laws.specs.Holds.{WaitsOn, ComesTo, GrantsAnother, TakesConnection, DropsSlot, EndsSession, EndsHold}
+use Rattle.ftp_laws.proofs.ClassLemmas.{awaits-is, connects-is, empties-is, ending-gives_up, stop-is}
 use Rattle.ftp_laws.proofs.QuestionLemmas.{counting-counts}
 use Rattle.ftp_laws.proofs.HoldLemmas.{WaitsFor, holder-waits, same_ip-equal, same_ip-refl, number-is}
 use Rattle.ftp_laws.proofs.PortLemmas.{named-target, held-ungranted, client-known}
+use Rattle.ftp_laws.proofs.Cases.{by_test}
 
 -- the slot that waits for a port
 pub slot-waits : (slot : Slot) (p : ℕ) → waiting_port slot ≡ Some p → slot ≡ Waits p
@@ -71,16 +75,20 @@ pub ends-in-words :
     WaitsFor o past s a p →
     named_session e.event.kind ≡ Some s →
     gives_up_hold e.decision ≡ true →
-    GrantsAnother e s p ⊎ (TakesConnection e s ⊎ EndsSession e s)
+    GrantsAnother e s p ⊎ (TakesConnection e s ⊎ (DropsSlot e s ⊎ EndsSession e s))
 ends-in-words o past e a p s m fit ungranted w n g = by_move (slot_move e.decision) refl g
   where
     client : is_client past (Some s) a ≡ true
     client = client-known o past s w.view a w.known ∙ w.client
 
+    dropped : (e.decision ≡ decision.Aborted) ⊎ (is_ending e.decision ≡ true) → DropsSlot e s ⊎ EndsSession e s
+    dropped (inl x) = inl (n, x)
+    dropped (inr x) = inr (n, x)
+
     by_move :
         (x : SlotMove) → slot_move e.decision ≡ x →
         gives_up x ≡ true →
-        GrantsAnother e s p ⊎ (TakesConnection e s ⊎ EndsSession e s)
+        GrantsAnother e s p ⊎ (TakesConnection e s ⊎ (DropsSlot e s ⊎ EndsSession e s))
     by_move (Awaits q) x h = inl (q, other, awaits-is e.decision q x, n)
       where
         other : q ≢ p
@@ -88,7 +96,7 @@ ends-in-words o past e a p s m fit ungranted w n g = by_move (slot_move e.decisi
             let gives : gives_hold o past e a p ≡ true = rw (m, awaits-is e.decision q x, n, client, same, eq-eqb p p refl) refl in
             true≢false (sym gives ∙ ungranted)
     by_move Connects x h = inr (inl (n, connects-is e.decision x))
-    by_move Empties x h = inr (inr (n, empties-ends e.decision x))
+    by_move Empties x h = inr (inr (dropped (empties-is e.decision x)))
     by_move d x h = cc
 
 -- a hold stays, or ends for one of the reasons
@@ -109,13 +117,17 @@ holds-end-step o past e a p s m fit w held = by_arrival (comes_to o e a p) refl
         (holder o (e ∷ past) a p ≡ Some s) ⊎ ((holder o (e ∷ past) a p ≡ None) × EndsHold o e s a p)
     by_end c false x = inl (rw (ungranted, c, held, x) refl)
     by_end c true x =
-        let parts = and_parts (is_number (named_session e.event.kind) s) (gives_up_hold e.decision) (sym (ends-plain e s (no-stop e.decision)) ∙ x) in
-        inr (rw (ungranted, c, held, x) refl, inr (ends-in-words o past e a p s m fit ungranted w (number-is _ s parts.0) parts.1))
+        inr (rw (ungranted, c, held, x) refl, by_test (is_stop e.decision) (λ n. inl (stop-is e.decision n)) (λ n. inr (named n)))
+      where
+        named : is_stop e.decision ≡ false → ComesTo o e a p ⊎ (GrantsAnother e s p ⊎ (TakesConnection e s ⊎ (DropsSlot e s ⊎ EndsSession e s)))
+        named n =
+            let parts = and_parts (is_number (named_session e.event.kind) s) (gives_up_hold e.decision) (sym (ends-plain e s n) ∙ x) in
+            inr (ends-in-words o past e a p s m fit ungranted w (number-is _ s parts.0) parts.1)
 
     by_arrival :
         (b : Bool) → comes_to o e a p ≡ b →
         (holder o (e ∷ past) a p ≡ Some s) ⊎ ((holder o (e ∷ past) a p ≡ None) × EndsHold o e s a p)
-    by_arrival true c = inr (rw (ungranted, c) refl, inl (comes-in-words o e a p c))
+    by_arrival true c = inr (rw (ungranted, c) refl, inr (inl (comes-in-words o e a p c)))
     by_arrival false c = by_end c (ends_hold e s) refl
 
 -- a hold stays in every right log, or ends for one of the reasons
@@ -141,10 +153,12 @@ pub each-ends :
     gives_hold o past e a p ≡ false →
     holder o past a p ≡ Some s → EndsHold o e s a p →
     holder o (e ∷ past) a p ≡ None
-each-ends o past e a p s g held (inl x) = rw (g, x, same_ip-refl a, eq-eqb p p refl) refl
-each-ends o past e a p s g held (inr (inl x)) = rw (g, named-target o e.event.kind e.answer s x.3, held, named-ends e s x.3 (ap gives_up_hold x.2)) refl
-each-ends o past e a p s g held (inr (inr (inl x))) = rw (g, named-target o e.event.kind e.answer s x.0, held, named-ends e s x.0 (ap gives_up_hold x.1)) refl
-each-ends o past e a p s g held (inr (inr (inr x))) = rw (g, named-target o e.event.kind e.answer s x.0, held, named-ends e s x.0 (ending-gives_up e.decision x.1)) refl
+each-ends o past e a p s g held (inl x) = holder-stopped o past e a p (ap is_stop x)
+each-ends o past e a p s g held (inr (inl x)) = rw (g, x, same_ip-refl a, eq-eqb p p refl) refl
+each-ends o past e a p s g held (inr (inr (inl x))) = rw (g, named-target o e.event.kind e.answer s x.3, held, named-ends e s x.3 (ap gives_up_hold x.2)) refl
+each-ends o past e a p s g held (inr (inr (inr (inl x)))) = rw (g, named-target o e.event.kind e.answer s x.0, held, named-ends e s x.0 (ap gives_up_hold x.1)) refl
+each-ends o past e a p s g held (inr (inr (inr (inr (inl x))))) = rw (g, named-target o e.event.kind e.answer s x.0, held, named-ends e s x.0 (ap gives_up_hold x.1)) refl
+each-ends o past e a p s g held (inr (inr (inr (inr (inr x))))) = rw (g, named-target o e.event.kind e.answer s x.0, held, named-ends e s x.0 (ending-gives_up e.decision x.1)) refl
 
 -- so it is in every right log, where the entry is not refused
 pub holds-ended :

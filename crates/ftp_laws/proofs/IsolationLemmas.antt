@@ -1,20 +1,23 @@
 -- What the log tells of a client's sessions and ports, the client's part of the log tells too.
-use Rattle.std.proofs.Common.{◌≡◌, refl, sym, ◌∙◌, ap, subst, ℕ, Bool, true, false, true≢false, not, ◌&&◌, ◌||◌, cond, List, [], ◌∷◌, Option, Some, None, Ok, eqb-true}
-use Rattle.std.specs.Prelude.{unwrap_or, ◌==◌, Contains, option_to_list, ◌++◌}
+use Rattle.std.proofs.Common.{◌≡◌, refl, sym, ◌∙◌, ap, subst, ℕ, Bool, true, false, true≢false, not, ◌&&◌, ◌||◌, cond, List, [], ◌∷◌, Option, Some, None, Ok}
+use Rattle.std.specs.Prelude.{unwrap_or, ◌==◌}
 use Rattle.std.specs.Bool.{then_some}
 use Rattle.std.specs.Option.{option_map_or, option_and_then, option_map, option_or}
 use Rattle.std.proofs.lemmas.Option.{same_Some}
 use Rattle.std.proofs.lemmas.Bool.{or_parts}
-use Rattle.std.proofs.lemmas.List.Elements.{Contains-push, Contains-append_left, Contains-append_right}
 use Rattle.ftp_options.specs.Modes.{is_control_port}
 use Rattle.ftp_events.specs.declared.event.Answer.TheVariants.{Header}
 use Rattle.ftp_events.specs.declared.event.EventKind.TheVariants as kind
-use Rattle.ftp_events.specs.Isolation.{owner, is_own, is_common, foreign_numbers}
-use Rattle.ftp_laws.proofs.Common.{IpAddr, same_ip, Options, is_legacy, Entry, EventKind, Answer, Opening, is_number, past_of, is_refusal, named_session, is_used, new_number, opening_by, opener, Target, target, is_client, gives_hold, granted_port, comes_to, ends_hold, holder, holder_of_target, concerns, opens, history, lane, session, running_job, IsRight, client_log}
-use Rattle.ftp_laws.proofs.SubjectLemmas.{concerns-plain, no-stop, ends-plain}
+use Rattle.ftp_events.specs.Classes.{is_stop}
+use Rattle.ftp_events.specs.Log.{is_stopped}
+use Rattle.ftp_events.specs.Isolation.{owner, is_common}
+use Rattle.ftp_laws.proofs.Common.{IpAddr, same_ip, Options, is_legacy, Entry, EventKind, Answer, Opening, is_number, past_of, is_refusal, named_session, opening_by, opener, Target, target, is_client, gives_hold, granted_port, comes_to, ends_hold, holder, holder_of_target, concerns, opens, history, lane, session, running_job, due, decide, IsRight, client_log}
+use Rattle.ftp_laws.proofs.SubjectLemmas.{concerns-plain, ends-plain}
+use Rattle.ftp_laws.proofs.StopLemmas.{stop-kind}
 use Rattle.ftp_laws.proofs.QuestionLemmas.{opener-other, session-told, history-other}
 use Rattle.ftp_laws.proofs.HoldLemmas.{WaitsFor, holder-waits, same_ip-equal, same_ip-refl, number-is}
 use Rattle.ftp_laws.proofs.TableLemmas.{and-zero, same-both}
+use Rattle.ftp_laws.proofs.Cases.{by_test}
 
 -- the session is one of client a
 abbrev pub is_of : List Entry → ℕ → IpAddr → Bool
@@ -62,6 +65,8 @@ owner-named past (kind.Connect s raw local trace) w a n e = cc
 owner-named past (kind.Proxied number raw trace) w a n e = cc
 owner-named past (kind.DataIn number raw port) w a n e = cc
 owner-named past kind.Sweep w a n e = cc
+owner-named past kind.Scavenge w a n e = cc
+owner-named past kind.Shutdown w a n e = cc
 owner-named past k w a n e = owner-at past a _ n e
 
 -- the owner of a data connection is the client that it comes from
@@ -104,11 +109,15 @@ kept-owner P e a k c = sym (ap (λ b. b || is_owned P e.event.kind e.answer a) c
 -- what names a session is not of all clients
 named-own : (k : EventKind) (s : ℕ) → named_session k ≡ Some s → is_common k ≡ false
 named-own kind.Sweep s n = cc
+named-own kind.Scavenge s n = cc
+named-own kind.Shutdown s n = cc
 named-own k s n = refl
 
 -- nor is a data connection
 target-own : (o : Options) (k : EventKind) (answer : Answer) (t : Target) → target o k answer ≡ Some t → is_common k ≡ false
 target-own o kind.Sweep answer t n = cc
+target-own o kind.Scavenge answer t n = cc
+target-own o kind.Shutdown answer t n = cc
 target-own o k answer t n = refl
 
 -- an entry of another client names no session of client a
@@ -189,15 +198,28 @@ pub or-number-false :
 or-number-false None b s x y = y
 or-number-false (Some n) b s x y = x
 
+-- an entry of another client is no stop
+foreign-plain :
+    (o : Options) (P : List Entry) (e : Entry) (a : IpAddr) →
+    e.decision ≡ due o P e.event.at e.event.kind e.answer → is_kept P e a ≡ false →
+    is_stop e.decision ≡ false
+foreign-plain o P e a fit f =
+    by_test (is_stop e.decision)
+    (λ n.
+    let common : is_common e.event.kind ≡ true = ap is_common (stop-kind o P e fit n) in
+    absurd (true≢false (sym common ∙ (or_parts (is_common e.event.kind) (is_owned P e.event.kind e.answer a) f).0)))
+    (λ n. n)
+
 -- so an entry of another client concerns no session of client a
 pub foreign-concerns :
     (o : Options) (log : List Entry) (e : Entry) (a : IpAddr) (s : ℕ) →
     is_legacy o.mode ≡ false → IsRight o log →
+    e.decision ≡ due o (past_of log) e.event.at e.event.kind e.answer →
     is_kept (past_of log) e a ≡ false →
     is_of (past_of log) s a ≡ true →
     concerns o (past_of log) e s ≡ false
-foreign-concerns o log e a s m r f w =
-    concerns-plain o (past_of log) e s (no-stop e.decision) ∙
+foreign-concerns o log e a s m r fit f w =
+    concerns-plain o (past_of log) e s (foreign-plain o (past_of log) e a fit f) ∙
     or-number-false (named_session e.event.kind) (holder_of_target o (past_of log) e.event.kind e.answer) s (foreign-name (past_of log) e a s f w) (foreign-comes o log e a s m r f w)
 
 -- whoever opens a session owns the entry
@@ -265,9 +287,10 @@ foreign-arrival o P e a p f = go (target o e.event.kind e.answer) refl
 pub foreign-holder :
     (o : Options) (log : List Entry) (e : Entry) (a : IpAddr) (p : ℕ) →
     is_legacy o.mode ≡ false → IsRight o log →
+    e.decision ≡ due o (past_of log) e.event.at e.event.kind e.answer →
     is_kept (past_of log) e a ≡ false →
     holder o (e ∷ past_of log) a p ≡ holder o (past_of log) a p
-foreign-holder o log e a p m r f = rw (gift, foreign-arrival o (past_of log) e a p f) (go (holder o (past_of log) a p) refl)
+foreign-holder o log e a p m r fit f = rw (gift, foreign-arrival o (past_of log) e a p f) (go (holder o (past_of log) a p) refl)
   where
     gift : gives_hold o (past_of log) e a p ≡ false
     gift = rw (foreign-client (past_of log) e a f, and-zero (is_number (granted_port e.decision) p), and-zero (not (is_legacy o.mode))) refl
@@ -277,21 +300,22 @@ foreign-holder o log e a p m r f = rw (gift, foreign-arrival o (past_of log) e a
         cond (option_map_or (ends_hold e) h false) None h ≡ h
     go None x = same-both (option_map_or (ends_hold e) None false) None
     go (Some h) x =
-        let ends : ends_hold e h ≡ false = ends-plain e h (no-stop e.decision) ∙ rw (foreign-name (past_of log) e a h f (holder-of o log a p h m r x)) refl in
+        let ends : ends_hold e h ≡ false = ends-plain e h (foreign-plain o (past_of log) e a fit f) ∙ rw (foreign-name (past_of log) e a h f (holder-of o log a p h m r x)) refl in
         ap (λ b. cond b None (Some h)) ends
 
 -- an entry of another client leaves the two pasts alike
 pub alike-foreign :
     (o : Options) (log K : List Entry) (e : Entry) (a : IpAddr) →
     is_legacy o.mode ≡ false → IsRight o log →
+    e.decision ≡ due o (past_of log) e.event.at e.event.kind e.answer →
     is_kept (past_of log) e a ≡ false →
     Alike o (past_of log) K a →
     Alike o (e ∷ past_of log) K a
-alike-foreign o log K e a m r f l =
+alike-foreign o log K e a m r fit f l =
     record {
       openers = λ s w. l.openers s (before s w) ∙ sym (opener-other (past_of log) e s (foreign-opens (past_of log) e a s f w));
-      histories = λ s w. l.histories s (before s w) ∙ sym (history-other o (past_of log) e s (foreign-opens (past_of log) e a s f w) (foreign-concerns o log e a s m r f (before s w)));
-      holders = λ p. l.holders p ∙ sym (foreign-holder o log e a p m r f);
+      histories = λ s w. l.histories s (before s w) ∙ sym (history-other o (past_of log) e s (foreign-opens (past_of log) e a s f w) (foreign-concerns o log e a s m r fit f (before s w)));
+      holders = λ p. l.holders p ∙ sym (foreign-holder o log e a p m r fit f);
     }
   where
     before : (s : ℕ) → is_of (e ∷ past_of log) s a ≡ true → is_of (past_of log) s a ≡ true
@@ -372,6 +396,7 @@ pub alike :
     (o : Options) (log : List Entry) (a : IpAddr) →
     is_legacy o.mode ≡ false → IsRight o log →
     Alike o (past_of log) (past_of (client_log log a)) a
+unfolding decide
 alike o [] a m r = alike-empty o a
 alike o (e ∷ log) a m r = by_refusal (is_refusal e.decision) refl (is_kept (past_of log) e a) refl (alike o log a m r.0)
   where
@@ -383,58 +408,22 @@ alike o (e ∷ log) a m r = by_refusal (is_refusal e.decision) refl (is_kept (pa
     by_refusal true x true y l = rw (y, x) l
     by_refusal true x false y l = rw (y, x) l
     by_refusal false x true y l = rw (y, x) (alike-kept o (past_of log) (past_of (client_log log a)) e a y l)
-    by_refusal false x false y l = rw (y, x) (alike-foreign o log (past_of (client_log log a)) e a m r.0 y l)
+    by_refusal false x false y l = rw (y, x) (alike-foreign o log (past_of (client_log log a)) e a m r.0 r.1 y l)
 
--- a number that is there is in the list of it
-pub number-in : (n : Option ℕ) (m : ℕ) → is_number n m ≡ true → Contains (option_to_list n) m
-number-in None m h = absurd (true≢false (sym h))
-number-in (Some k) m h = subst (λ (j : ℕ). Contains (k ∷ []) j) (eqb-true k m h) (Contains-push [] k)
-
--- what an entry of others brought in is a foreign number
-pub foreign-grows :
-    (e : Entry) (log : List Entry) (a : IpAddr) (n : ℕ) →
-    is_own log e a ≡ false → is_refusal e.decision ≡ false →
-    is_number (new_number e.event.kind e.decision) n ≡ true →
-    Contains (foreign_numbers (e ∷ log) a) n
-foreign-grows e log a n o c h = rw (o, c) (Contains-append_left (option_to_list (new_number e.event.kind e.decision)) (foreign_numbers log a) n (number-in _ n h))
-
--- and stays one
-pub foreign-stays :
-    (e : Entry) (log : List Entry) (a : IpAddr) (n : ℕ) →
-    Contains (foreign_numbers log a) n →
-    Contains (foreign_numbers (e ∷ log) a) n
-foreign-stays e log a n h = go (is_own log e a || is_refusal e.decision)
+-- a stop is in both or in neither
+pub stopped-alike :
+    (o : Options) (log : List Entry) (a : IpAddr) → IsRight o log →
+    is_stopped (past_of (client_log log a)) ≡ is_stopped (past_of log)
+unfolding decide
+stopped-alike o [] a r = refl
+stopped-alike o (e ∷ log) a r = by_refusal (is_refusal e.decision) refl (is_kept (past_of log) e a) refl (stopped-alike o log a r.0)
   where
-    go :
-        (b : Bool) →
-        Contains (cond b (foreign_numbers log a) (option_to_list (new_number e.event.kind e.decision) ++ foreign_numbers log a)) n
-    go true = h
-    go false = Contains-append_right (option_to_list (new_number e.event.kind e.decision)) (foreign_numbers log a) n h
-
--- a number that nobody else brought in is used in both or in neither
-pub used-alike :
-    (log : List Entry) (a : IpAddr) (n : ℕ) →
-    ¬ Contains (foreign_numbers log a) n →
-    is_used (past_of (client_log log a)) n ≡ is_used (past_of log) n
-used-alike [] a n c = refl
-used-alike (e ∷ log) a n c = by_refusal (is_refusal e.decision) refl (is_kept (past_of log) e a) refl (used-alike log a n (λ h. c (foreign-stays e log a n h)))
-  where
-    not_new :
-        is_own log e a ≡ false →
-        is_refusal e.decision ≡ false → (b : Bool) →
-        is_number (new_number e.event.kind e.decision) n ≡ b →
-        b ≡ false
-    not_new o x false y = refl
-    not_new o x true y = absurd (c (foreign-grows e log a n o x y))
-
     by_refusal :
         (b : Bool) → is_refusal e.decision ≡ b →
-        (k : Bool) → is_kept (past_of log) e a ≡ k →
-        is_used (past_of (client_log log a)) n ≡ is_used (past_of log) n →
-        is_used (past_of (client_log (e ∷ log) a)) n ≡ is_used (past_of (e ∷ log)) n
+        (c : Bool) → is_kept (past_of log) e a ≡ c →
+        is_stopped (past_of (client_log log a)) ≡ is_stopped (past_of log) →
+        is_stopped (past_of (client_log (e ∷ log) a)) ≡ is_stopped (past_of (e ∷ log))
     by_refusal true x true y l = rw (y, x) l
     by_refusal true x false y l = rw (y, x) l
-    by_refusal false x true y l = rw (y, x) (ap (λ b. is_number (new_number e.event.kind e.decision) n || b) l)
-    by_refusal false x false y l =
-        let old : is_number (new_number e.event.kind e.decision) n ≡ false = not_new (foreign-owner (past_of log) e a y) x (is_number (new_number e.event.kind e.decision) n) refl in
-        rw (y, x, old) l
+    by_refusal false x true y l = rw (y, x) (ap (λ b. is_stop e.decision || b) l)
+    by_refusal false x false y l = rw (y, x, foreign-plain o (past_of log) e a r.1 y) l

@@ -6,9 +6,11 @@ use Rattle.ftp_events.specs.declared.decision.SlotMove.TheVariants.{Links, Queue
 use Rattle.ftp_events.specs.declared.event.EventKind.TheVariants as kind
 use Rattle.ftp_events.specs.declared.session.Slot.TheVariants.{Empty, Waits, Linked}
 use Rattle.ftp_events.specs.Slot.{startable, started_by}
-use Rattle.ftp_events.specs.History.{Nobody, One}
+use Rattle.ftp_events.specs.Classes.{is_stop}
+use Rattle.ftp_events.specs.History.{Nobody, One, All}
 use Rattle.ftp_laws.proofs.Common.{SlotMove, slot_move, moved, starts_by, Options, Running, Ticket, Decision, Entry, EventKind, Pending, Session, Slot, is_refusal, past_of, named_session, new_number, subject, concerns, opens, history, Lane, with_link, lane_after, queued_in, lane, session, running_job, due, acts_of, completions, stays, slot_of, pending_in, start_acts, starting, IsRight, IsActed}
-use Rattle.ftp_laws.proofs.SubjectLemmas.{by_subject, concerned, one-concerns, one-own, named-one, no-stop}
+use Rattle.ftp_laws.proofs.SubjectLemmas.{by_subject, concerned, one-concerns, one-own, named-one, not-all, other-plain, stop-all}
+use Rattle.ftp_laws.proofs.StopLemmas.{running-stopped}
 use Rattle.ftp_laws.specs.Jobs.{starts_for, completes_for, started_count, completed_count}
 use Rattle.ftp_laws.proofs.ClassLemmas.{finishes-is}
 use Rattle.ftp_laws.proofs.QuestionLemmas.{history-own, running-other, lane-opened}
@@ -19,10 +21,11 @@ use Rattle.ftp_laws.proofs.RunningLemmas.{runs-started, running-after, unused-id
 use Rattle.ftp_laws.proofs.CountLemmas.{IsOnTransfers, IsOnStarts, started_in, count-completions, count-drop_acts, count-about, count-starts, count-nobody}
 use Rattle.ftp_laws.proofs.LinkLemmas.{starting-told}
 use Rattle.ftp_laws.proofs.BalanceLemmas.{one, finishes, no-completion, IsFit}
+use Rattle.ftp_laws.proofs.PartLemmas.{count-stop-idle}
 use Rattle.ftp_laws.proofs.AccountLemmas.{entry-fit}
 use Rattle.ftp_laws.proofs.SoundLemmas.{sound, entry-sound}
 use Rattle.ftp_laws.proofs.EntryLemmas.{acted-past}
-use Rattle.ftp_laws.proofs.Cases.{by_part}
+use Rattle.ftp_laws.proofs.Cases.{by_test, by_part}
 
 -- the test on the starts of a session is one on starts
 pub starts_for-on-starts : (s : ℕ) → IsOnStarts (starts_for s)
@@ -172,7 +175,8 @@ pub jobs-balance :
     is_refusal e.decision ≡ false →
     e.actions ≡ acts_of o (past_of log) e →
     IsBalanced o (past_of log) e s
-jobs-balance o log e s r fit counts acted = by_part o (past_of log) e s opened own other
+jobs-balance o log e s r fit counts acted =
+    by_test (is_stop e.decision) (λ n. stopped (stop-all o (past_of log) e n) n) (λ n. by_part o (past_of log) e s opened (own n) other)
   where
     past : List Entry
     past = past_of log
@@ -200,13 +204,22 @@ jobs-balance o log e s r fit counts acted = by_part o (past_of log) e s opened o
       count-nobody (completes_for s) o past e (λ m. refl) acted about,
     )
 
+    stopped : subject o past e ≡ All → is_stop e.decision ≡ true → IsBalanced o past e s
+    stopped about n =
+        omega (
+          arith,
+          count-stop-idle o past e counts acted (starts_for s) (starts_for-on-starts s).plain (λ t. refl) about,
+          count-stop-idle o past e counts acted (completes_for s) (completes_for-on-transfers s) (λ t. refl) about,
+          ap (λ (j : Option Running). one (is_some j)) (running-stopped o past e s n),
+        )
+
     ends-other : concerns o past e s ≡ false → (ticket : Ticket) → e.event.kind ≡ kind.End ticket → (ticket.session == s) ≡ false
-    ends-other c ticket k = sym (one-concerns o past e ticket.session s (named-one o past e ticket.session (no-stop e.decision) (ap named_session k))) ∙ c
+    ends-other c ticket k = sym (one-concerns o past e ticket.session s (named-one o past e ticket.session (other-plain o past e s c) (ap named_session k))) ∙ c
 
     other : opens e s ≡ false → concerns o past e s ≡ false → IsBalanced o past e s
     other n c =
         let kept = ap (λ (j : Option Running). one (is_some j)) (running-other o past e s n c) in
-        by_subject o past e (no-stop e.decision) (λ about. omega (arith, (silent about).0, (silent about).1, kept))
+        by_subject o past e (λ about. omega (arith, (silent about).0, (silent about).1, kept))
         (λ q about.
         let others : (q == s) ≡ false = sym (one-concerns o past e q s about) ∙ c in
         let about_q : concerns o past e q ≡ true = one-own o past e q about in
@@ -218,10 +231,11 @@ jobs-balance o log e s r fit counts acted = by_part o (past_of log) e s opened o
           count-completions (completes_for s) e.event.kind e.decision (stays e.decision (session o past q)) (ends-other c),
           kept,
         ))
+        (λ about. absurd (not-all o past e (other-plain o past e s c) about))
 
-    own : opens e s ≡ false → concerns o past e s ≡ true → IsBalanced o past e s
-    own n c =
-        let about : subject o past e ≡ One s = concerned o past e s (no-stop e.decision) c in
+    own : is_stop e.decision ≡ false → opens e s ≡ false → concerns o past e s ≡ true → IsBalanced o past e s
+    own plain n c =
+        let about : subject o past e ≡ One s = concerned o past e s plain c in
         omega (
           arith,
           starts s about,
@@ -230,7 +244,7 @@ jobs-balance o log e s r fit counts acted = by_part o (past_of log) e s opened o
           completes s about,
           running-balance s e.event.kind e.decision (stays e.decision (session o past s)) (queued_in (history o past s) e) (lane (history o past s))
               (entry-fit o past e s fit c)
-              (λ ticket k. named-concern o past e ticket.session s (ap named_session k) c),
+              (λ ticket k. named-concern o past e ticket.session s fit (ap named_session k) c),
           ap (λ (h : List Entry). one (is_some (lane h).running)) (history-own o past e s n c),
         )
 

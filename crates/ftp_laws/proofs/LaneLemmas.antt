@@ -15,7 +15,8 @@ use Rattle.ftp_events.specs.Session.{told_of_life}
 use Rattle.ftp_events.specs.CommandRows.{is_logged_in, if_logged_in, can_queue, transfer_row}
 use Rattle.ftp_events.specs.Decide.{if_live}
 use Rattle.ftp_laws.proofs.Common.{Life, SlotMove, life, slot_move, empties, moved, new_number, Options, Ticket, Decision, Entry, EventKind, Answer, Pending, Session, Slot, named_session, past_of, concerns, history, Lane, lane_after, queued_in, lane, lives_on, session, running_job, due, IsRight}
-use Rattle.ftp_laws.proofs.SubjectLemmas.{no-stop, named-one, one-concerns}
+use Rattle.ftp_laws.proofs.SubjectLemmas.{named-one, one-concerns}
+use Rattle.ftp_laws.proofs.StopLemmas.{named-plain}
 use Rattle.ftp_laws.proofs.ClassLemmas.{awaits-is, connects-is, queues-is, ending-empties, opened-is}
 use Rattle.ftp_laws.proofs.DecisionLemmas.{IsLive, connected-live}
 use Rattle.ftp_laws.proofs.GrantLemmas.{granted-free}
@@ -84,9 +85,11 @@ queued-live o past at k answer t e = grind arith
 -- an entry that names a session and concerns one is about that one
 pub named-concern :
     (o : Options) (past : List Entry) (e : Entry) (n s : ℕ) →
+    e.decision ≡ due o past e.event.at e.event.kind e.answer →
     named_session e.event.kind ≡ Some n →
     concerns o past e s ≡ true → n ≡ s
-named-concern o past e n s named c = eqb-true n s (sym (one-concerns o past e n s (named-one o past e n (no-stop e.decision) named)) ∙ c)
+named-concern o past e n s fit named c =
+    eqb-true n s (sym (one-concerns o past e n s (named-one o past e n (named-plain o past e n fit named) named)) ∙ c)
 
 -- nothing is in the slot
 abbrev pub IsBare : Lane → Type 0
@@ -168,7 +171,7 @@ ended-step o past e s fit ih none =
     unfilled x c false f = refl
     unfilled x c true f =
         let alive : IsLive o past e.event.kind = filled-live o past e.event.at e.event.kind e.answer e.decision (sym fit) f in
-        let known : session o past s ≡ Some alive.session_then = subst (λ (n : ℕ). session o past n ≡ Some alive.session_then) (named-concern o past e alive.number s alive.named c) alive.known in
+        let known : session o past s ≡ Some alive.session_then = subst (λ (n : ℕ). session o past n ≡ Some alive.session_then) (named-concern o past e alive.number s fit alive.named c) alive.known in
         let z : None ≡ Some alive.session_then = sym x ∙ known in
         cc
 

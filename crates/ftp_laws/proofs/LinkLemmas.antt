@@ -5,12 +5,14 @@ use Rattle.std.specs.Option.{option_map_or, option_and_then}
 use Rattle.std.proofs.lemmas.Bool.{or_right, or_parts}
 use Rattle.ftp_events.specs.declared.decision.SlotMove.TheVariants.{Awaits, Connects, Links, Queues, Finishes}
 use Rattle.ftp_events.specs.declared.session.Slot.TheVariants.{Empty, Waits, Linked}
+use Rattle.ftp_events.specs.Classes.{is_stop}
 use Rattle.ftp_events.specs.Slot.{startable, started_by}
 use Rattle.ftp_events.specs.History.{Nobody, One, All}
 use Rattle.ftp_laws.proofs.Common.{Subject, SlotMove, slot_move, empties, moved, starts_by, Options, Running, Decision, Entry, Pending, Session, Slot, is_number, is_refusal, past_of, is_used, new_number, subject, concerns, opens, history, Lane, with_link, lane_of, queued_in, lane, session, running_job, due, acts_of, link_in, start_acts, starting, IsRight, IsActed}
-use Rattle.ftp_laws.proofs.SubjectLemmas.{no-stop, concerned, one-own, one-same, not-all}
+use Rattle.ftp_laws.proofs.SubjectLemmas.{concerned, one-own, one-same}
 use Rattle.ftp_laws.specs.Links.{starts_on, start_count}
-use Rattle.ftp_laws.proofs.ClassLemmas.{opened-is}
+use Rattle.ftp_laws.proofs.ClassLemmas.{opened-is, stop-is}
+use Rattle.ftp_laws.proofs.PartLemmas.{count-stop-idle}
 use Rattle.ftp_laws.proofs.DecisionLemmas.{new-unused}
 use Rattle.ftp_laws.proofs.QuestionLemmas.{history-other, history-own, session-told}
 use Rattle.ftp_laws.proofs.CountLemmas.{IsOnStarts, count-starts, count-nobody}
@@ -26,6 +28,13 @@ links _ = false
 -- a data connection is attached, or taken
 abbrev pub is_attached : Decision → Bool
 is_attached d = links (slot_move d)
+
+-- which no stop is
+attached-plain : (d : Decision) → is_attached d ≡ true → is_stop d ≡ false
+attached-plain d a =
+    by_test (is_stop d)
+    (λ n. let z : false ≡ true = sym (ap is_attached (stop-is d n)) ∙ a in cc)
+    (λ n. n)
 
 -- the link n is in the slot, or comes for it
 abbrev pub Brings : SlotMove → Option ℕ → Slot → ℕ → Type 0
@@ -186,7 +195,9 @@ starts-entry o past e n counts acted = by_subject (subject o past e) refl
     by_subject :
         (s : Subject) → subject o past e ≡ s →
         StartsOrNot o past e n
-    by_subject All about = absurd (not-all o past e (no-stop e.decision) about)
+    by_subject All about =
+        let on : IsOnStarts (starts_on n) = starts-on-starts n in
+        inl (count-stop-idle o past e counts acted (starts_on n) on.plain on.cancelled about)
     by_subject Nobody about = inl (count-nobody (starts_on n) o past e (λ m. refl) acted about)
     by_subject (One s) about =
         by_session s (session o past s) about refl
@@ -309,7 +320,7 @@ taken-step o past e n count fit counts acted h =
     still_one s t (inl x) (inl y) = h.one s t x y
     still_one s t (inl x) (inr y) = absurd (true≢false (sym (h.linked s x).0 ∙ unused y.1))
     still_one s t (inr x) (inl y) = absurd (true≢false (sym (h.linked t y).0 ∙ unused x.1))
-    still_one s t (inr x) (inr y) = one-same o past e s t (concerned o past e s (no-stop e.decision) x.0) (concerned o past e t (no-stop e.decision) y.0)
+    still_one s t (inr x) (inr y) = one-same o past e s t (concerned o past e s (attached-plain e.decision x.1.0) x.0) (concerned o past e t (attached-plain e.decision y.1.0) y.0)
 
     still_none :
         (s : ℕ) → link_of o (e ∷ past) s ≡ Some n →
@@ -329,7 +340,7 @@ taken-step o past e n count fit counts acted h =
             s ≡ st.number
         by_link (inl i) (inl j) = h.one s st.number i j
         by_link (inl i) (inr j) = absurd (true≢false (sym (h.linked s i).0 ∙ unused j))
-        by_link (inr i) j = one-same o past e s st.number (concerned o past e s (no-stop e.decision) i.0) st.about
+        by_link (inr i) j = one-same o past e s st.number (concerned o past e s (attached-plain e.decision i.1.0) i.0) st.about
 
 -- in every right and acted log a link takes one job at most
 pub taken-once :

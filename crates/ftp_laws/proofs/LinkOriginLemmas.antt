@@ -10,7 +10,8 @@ use Rattle.ftp_events.specs.declared.decision.Decision.TheVariants as decision
 use Rattle.ftp_events.specs.History.{Nobody, One, All}
 use Rattle.ftp_events.specs.Classes.{is_stop}
 use Rattle.ftp_laws.proofs.Common.{Subject, slot_move, Options, Running, Action, Decision, Entry, Answer, EventKind, is_number, is_refusal, past_of, named_session, new_number, Target, target, holder, holder_of_target, subject, concerns, history, queued_in, lane, due, decide, acts, start_acts, IsRight, IsActed}
-use Rattle.ftp_laws.proofs.SubjectLemmas.{no-stop, one-own, not-all, concerns-plain}
+use Rattle.ftp_laws.proofs.SubjectLemmas.{one-own, concerns-plain}
+use Rattle.ftp_laws.proofs.PartLemmas.{count-stop-idle}
 use Rattle.ftp_laws.specs.Jobs.{starts_there, attaches_to, brings_link, has_brought}
 use Rattle.ftp_laws.proofs.EntryLemmas.{past-more}
 use Rattle.ftp_laws.proofs.ServiceLemmas.{AttachedOrTurned, attached-comes, connection-goes}
@@ -67,7 +68,7 @@ attached-own o past e s fit c a = go e.decision refl a
         attaches_to s e.event.kind d ≡ true
     go decision.PortOk x h =
         let alive : IsLive o past e.event.kind = (connected-live o past e.event.at e.event.kind e.answer (sym fit ∙ x)).alive in
-        rw alive.named (eq-eqb alive.number s (named-concern o past e alive.number s alive.named c))
+        rw alive.named (eq-eqb alive.number s (named-concern o past e alive.number s fit alive.named c))
     go (decision.Attached q) x h =
         sym (ap (λ m. is_number m s) (attached-subject o past e.event.at e.event.kind e.answer q (sym fit ∙ x))) ∙ (sym (concerns-plain o past e s (ap is_stop x)) ∙ c)
     go d x h = cc
@@ -154,7 +155,9 @@ starts-on-own o log e s n r a h = by_refusal (is_refusal e.decision) refl
         is_refusal e.decision ≡ false → (q : Subject) →
         subject o past e ≡ q →
         has_brought s n (e ∷ log) ≡ true
-    by_subject counts All about = absurd (not-all o past e (no-stop e.decision) about)
+    by_subject counts All about =
+        let on : IsOnStarts (starts_there s n) = starts_there-on-starts s n in
+        absurd (omega (arith, counted, count-stop-idle o past e counts a.1 (starts_there s n) on.plain on.cancelled about))
     by_subject counts Nobody about = absurd (omega (arith, counted, count-nobody (starts_there s n) o past e (λ m. refl) a.1 about))
     by_subject counts (One q) about =
         by_job q (one-own o past e q about) (started_in o past e q) refl

@@ -1,10 +1,8 @@
 -- A right and acted log is the one that its events and answers give.
-use Rattle.std.proofs.Common.{◌≡◌, refl, sym, ◌∙◌, ap, true, false, List, [], ◌∷◌}
+use Rattle.std.proofs.Common.{◌≡◌, refl, sym, ◌∙◌, ap, List, [], ◌∷◌}
 use Rattle.ftp_events.specs.declared.event.HubEvent.{HubEvent}
 use Rattle.ftp_events.specs.Right.{with_decision, next_entry, log_of, events_of}
-use Rattle.ftp_events.specs.Isolation.{IsApart, locks_by_address}
-use Rattle.ftp_laws.proofs.Common.{IpAddr, Options, is_legacy, Action, Entry, Answer, decide, acts, IsRight, IsActed, client_log}
-use Rattle.ftp_laws.proofs.ClientLemmas.{client-right}
+use Rattle.ftp_laws.proofs.Common.{Options, Action, Entry, Answer, decide, acts, IsRight, IsActed}
 
 -- the actions of an entry do not hang on the actions that it has
 pub acts-bare :
@@ -46,13 +44,3 @@ pub log_of-right :
     IsRight o (log_of o xs) × IsActed o (log_of o xs)
 log_of-right o [] = (tt, tt)
 log_of-right o (x ∷ xs) = right-next_entry o (log_of o xs) x.0 x.1 (log_of-right o xs)
-
--- a client's part of a log is the one that its events and answers give
-pub log_of-client_log :
-    (o : Options) (log : List Entry) (a : IpAddr) →
-    is_legacy o.mode ≡ false → locks_by_address o.lockout ≡ true →
-    IsApart log a → IsRight o log → IsActed o log →
-    log_of o (events_of (client_log log a)) ≡ client_log log a
-log_of-client_log o log a m locks apart r d =
-    let part = client-right o log a m locks apart r d in
-    log_of-events_of o (client_log log a) part.0 part.1

@@ -1,6 +1,6 @@
 -- What an entry tells of a session.
-use Rattle.std.proofs.Common.{◌≡◌, refl, sym, ◌∙◌, ap, ℕ, ◌+◌, Bool, true, false, cond, List, [], ◌∷◌, ◌++◌, length, Option, Some, None, arith, eqb-true, append-nil}
-use Rattle.std.specs.Prelude.{◌==◌, count_by, filter_map, unwrap_or}
+use Rattle.std.proofs.Common.{◌≡◌, refl, sym, ◌∙◌, ap, ap₂, ℕ, ◌+◌, Bool, true, false, cond, List, [], ◌∷◌, ◌++◌, length, Option, Some, None, arith, eqb-true, eq-eqb, append-nil}
+use Rattle.std.specs.Prelude.{◌==◌, count_by, filter_map, is_some, unwrap_or}
 use Rattle.std.specs.Option.{option_map_or, option_and_then}
 use Rattle.std.proofs.lemmas.List.Elements.{filter_map-append}
 use Rattle.std.proofs.lemmas.List.Recursion.{is_count_by}
@@ -12,11 +12,15 @@ use Rattle.ftp_events.specs.declared.action.Action.TheVariants as action
 use Rattle.ftp_events.specs.declared.decision.Decision.TheVariants as decision
 use Rattle.ftp_events.specs.Login.{login_by, logged_user}
 use Rattle.ftp_events.specs.Notices.{is_notice_to}
+use Rattle.ftp_events.specs.Session.{live_sessions}
 use Rattle.ftp_events.specs.Reply.{message_for, reply_for, delay_of}
 use Rattle.ftp_events.specs.Acts.{session_acts, notice_and_reply, notifications, reply_acts, notice_for, presence_for, farewells}
 use Rattle.ftp_events.specs.History.{Nobody, One, All}
-use Rattle.ftp_laws.proofs.Common.{Subject, subject_acts, is_ending, Options, Running, Action, Decision, Entry, EventKind, Answer, Pending, Session, Slot, is_refusal, new_number, subject, concerns, drops, session, running_job, acts_of, completions, cancellations, stays, drop_acts, pending_in, start_acts, starting, link_in, closings, refused_link, slot_of}
-use Rattle.ftp_laws.proofs.SubjectLemmas.{no-stop, nobody-concerns, one-concerns, not-all}
+use Rattle.ftp_laws.proofs.Common.{Subject, subject_acts, is_ending, Options, Running, Action, Decision, Entry, EventKind, Answer, Pending, Session, Slot, is_refusal, new_number, subject, concerns, drops, session, running_job, acts_of, acts_for, completions, cancellations, stays, drop_acts, pending_in, start_acts, starting, link_in, closings, refused_link, slot_of}
+use Rattle.ftp_laws.proofs.SubjectLemmas.{nobody-concerns, one-concerns, stop-concerns, all-stop}
+use Rattle.ftp_laws.proofs.LiveLemmas.{live_sessions-has}
+use Rattle.ftp_laws.proofs.PartLemmas.{taken-parts-one}
+use Rattle.ftp_laws.specs.Census.{IsAscending}
 use Rattle.ftp_laws.specs.Notices.{notice_to}
 use Rattle.ftp_laws.proofs.TableLemmas.{same-both}
 use Rattle.ftp_laws.proofs.Cases.{by_completion}
@@ -165,8 +169,9 @@ pub notices-entry :
     (o : Options) (past : List Entry) (e : Entry) (s : ℕ) →
     is_refusal e.decision ≡ false →
     e.actions ≡ acts_of o past e →
+    IsAscending (live_sessions o past) →
     filter_map (notice_to s) e.actions ≡ cond (concerns o past e s) (told_in o past e s) []
-notices-entry o past e s counts acted = ap (filter_map (notice_to s)) done ∙ go (subject o past e) refl
+notices-entry o past e s counts acted ascends = ap (filter_map (notice_to s)) done ∙ go (subject o past e) refl
   where
     done : e.actions ≡ subject_acts o past e (subject o past e)
     done = acted ∙ rw counts refl
@@ -177,11 +182,25 @@ notices-entry o past e s counts acted = ap (filter_map (notice_to s)) done ∙ g
     by_number t true x = ap (told_in o past e) (eqb-true t s x)
     by_number t false x = refl
 
+    part : (t : ℕ) → filter_map (notice_to s) (acts_for o past e t) ≡ cond (t == s) (told_in o past e t) []
+    part t = notices-session_acts o s t e.event.kind e.answer e.decision (running_job o past t) (session o past t)
+
+    own : filter_map (notice_to s) (acts_for o past e s) ≡ told_in o past e s
+    own = part s ∙ ap (λ b. cond b (told_in o past e s) []) (eq-eqb s s refl)
+
+    known : (v : Option Session) → cond (is_some v) (told_by e.event.kind e.answer e.decision (running_job o past s) v) [] ≡ told_by e.event.kind e.answer e.decision (running_job o past s) v
+    known None = refl
+    known (Some v) = refl
+
     go :
         (x : Subject) → subject o past e ≡ x →
         filter_map (notice_to s) (subject_acts o past e x) ≡ cond (concerns o past e s) (told_in o past e s) []
-    go All h = absurd (not-all o past e (no-stop e.decision) h)
+    go All h =
+        taken-parts-one (notice_to s) (acts_for o past e) s (live_sessions o past) ascends
+        (λ t n. part t ∙ ap (λ b. cond b (told_in o past e t) []) n)
+        ∙ (ap₂ (λ b ns. cond b ns []) (live_sessions-has o past s) own
+        ∙ (known (session o past s) ∙ ap (λ b. cond b (told_in o past e s) []) (sym (stop-concerns o past e s (all-stop o past e h)))))
     go Nobody h = notices-refused_link s e.event.kind e.decision ∙ ap (λ b. cond b (told_in o past e s) []) (sym (nobody-concerns o past e s h))
     go (One t) h =
-        notices-session_acts o s t e.event.kind e.answer e.decision (running_job o past t) (session o past t) ∙
+        part t ∙
         (by_number t (t == s) refl ∙ ap (λ b. cond b (told_in o past e s) []) (sym (one-concerns o past e t s h)))

@@ -2,28 +2,28 @@
 use Rattle.std.proofs.Common.{◌≡◌, refl, sym, ◌∙◌, ap, ap₂, subst, ℕ, zero, suc, ◌+◌, Bool, true, false, true≢false, cond, List, [], ◌∷◌, ◌++◌, map, length, Option, Some, None, arith, append-nil, length-append, inl, inr}
 use Rattle.std.specs.Prelude.{◌⊎◌, count_by, filter_map, unwrap_or}
 use Rattle.std.specs.List.{range_with_len}
+use Rattle.std.specs.Option.{option_and_then, option_map}
 use Rattle.std.proofs.lemmas.Option.{same_Some}
 use Rattle.std.proofs.lemmas.List.{map-append}
 use Rattle.std.proofs.lemmas.List.Folds.{list_any-append}
 use Rattle.ftp_base.specs.declared.notice.Notice.{Notice}
 use Rattle.ftp_base.specs.declared.notice.Notice.TheVariants.{Presence, Data}
-use Rattle.ftp_base.specs.declared.notice.DataEvent.TheVariants.{Got, Put}
+use Rattle.ftp_base.specs.declared.message.ControlChanMsg.{ControlChanMsg}
+use Rattle.ftp_base.specs.declared.notice.DataEvent.{DataEvent}
 use Rattle.ftp_base.specs.declared.notice.PresenceEvent.TheVariants as presence
-use Rattle.ftp_transfer.specs.declared.job.Completion.{Completion}
-use Rattle.ftp_transfer.specs.declared.job.Completion.TheVariants as result
-use Rattle.ftp_transfer.specs.declared.job.Outcome.{Outcome}
 use Rattle.ftp_events.specs.declared.decision.Decision.TheVariants as decision
 use Rattle.ftp_events.specs.declared.decision.Life.TheVariants.{Ends}
-use Rattle.ftp_events.specs.declared.event.Answer.TheVariants as answer
 use Rattle.ftp_events.specs.Notices.{is_notice_to}
-use Rattle.ftp_events.specs.Session.{session_by_history, told_of_life}
-use Rattle.ftp_events.specs.Message.{message_of_outcome}
-use Rattle.ftp_events.specs.Reply.{path_of_job, message_for}
+use Rattle.ftp_events.specs.Session.{session_by_history, told_of_life, live_sessions}
+use Rattle.ftp_events.specs.Message.{notice_of}
+use Rattle.ftp_events.specs.Reply.{message_for}
 use Rattle.ftp_events.specs.Acts.{notice_for, presence_of}
 use Rattle.ftp_events.specs.History.{Nobody}
 use Rattle.ftp_laws.proofs.Common.{Life, life, Options, Running, Decision, Entry, EventKind, Answer, Opening, Session, past_of, is_refusal, is_used, opener, subject, concerns, opens, history, lives_on, session, running_job, due, acts_of, IsRight, IsActed}
 use Rattle.ftp_laws.proofs.ClassLemmas.{opened-is}
 use Rattle.ftp_laws.proofs.SubjectLemmas.{nobody-concerns}
+use Rattle.ftp_laws.proofs.LiveLemmas.{live_sessions-ascending}
+use Rattle.ftp_laws.specs.Census.{IsAscending}
 use Rattle.ftp_laws.specs.Notices.{notice_to, notices, is_logged_out, NoneLoggedOut, LastLoggedOut, HasEnded}
 use Rattle.ftp_laws.proofs.QuestionLemmas.{session-own, session-other, session_by, session-told, opener-other}
 use Rattle.ftp_laws.proofs.HoldLemmas.{opener-used, opened-fresh}
@@ -143,16 +143,15 @@ abbrev pub TellsOn : ℕ → List (ℕ × Notice) → Type 0
 TellsOn n told =
     (told ≡ []) ⊎ ((what : Notice) × (is_logged_out what ≡ false) × (told ≡ (n + 1, what) ∷ []))
 
--- what is told of the end of a job
-pub told_by-finished :
-    (path : List ℕ) (outcome : Outcome) (n : ℕ) (c : Completion) →
-    TellsOn n (under n (notice_for (Some (message_of_outcome path outcome c)) None))
-told_by-finished path outcome n result.Sent = inr (Data (Got path outcome.bytes), refl, refl)
-told_by-finished path outcome n result.Written = inr (Data (Put path outcome.bytes), refl, refl)
-told_by-finished path outcome n result.Listed = inl refl
-told_by-finished path outcome n result.WriteFailed = inl refl
-told_by-finished path outcome n (result.Refused kind) = inl refl
-told_by-finished path outcome n result.OutOfMemory = inl refl
+-- what a message notifies by itself
+pub told_by-message :
+    (n : ℕ) (m : Option ControlChanMsg) →
+    TellsOn n (under n (notice_for m None))
+told_by-message n m = go (option_and_then notice_of m)
+  where
+    go : (x : Option DataEvent) → TellsOn n (under n (option_map Data x))
+    go None = inl refl
+    go (Some x) = inr (Data x, refl, refl)
 
 -- what is told of a session that goes on living
 pub told_by-lives :
@@ -167,8 +166,7 @@ told_by-lives k a d job v l = go (life d) k a d l
         TellsOn v.notices (under v.notices (notice_for (message_for v job k a d) (presence_of x d)))
     go Ends k a d l = cc
     go x k a decision.LoggedIn l = inr (Presence presence.LoggedIn, refl, refl)
-    go x k (answer.Done outcome) decision.Finished l = told_by-finished (path_of_job job) outcome v.notices outcome.result
-    go x k a d l = inl refl
+    go x k a d l = told_by-message v.notices (message_for v job k a d)
 
 -- and of one that ends
 pub told_by-ends :
@@ -242,9 +240,10 @@ pub told-step :
     (o : Options) (past : List Entry) (e : Entry) (s : ℕ) (told : List (ℕ × Notice)) →
     e.decision ≡ due o past e.event.at e.event.kind e.answer →
     is_refusal e.decision ≡ false →
-    e.actions ≡ acts_of o past e → IsToldOf o past s told →
+    e.actions ≡ acts_of o past e → IsAscending (live_sessions o past) →
+    IsToldOf o past s told →
     IsToldOf o (e ∷ past) s (told ++ filter_map (notice_to s) e.actions)
-told-step o past e s told fit counts acted h =
+told-step o past e s told fit counts acted ascends h =
     by_part o past e s opened
     (λ n c.
     by_option (session o past s)
@@ -253,7 +252,7 @@ told-step o past e s told fit counts acted h =
     (λ n c. subst (IsToldOf o (e ∷ past) s) (nothing (entry ∙ rw c refl)) (told-other o past e s told n c h))
   where
     entry : filter_map (notice_to s) e.actions ≡ cond (concerns o past e s) (told_in o past e s) []
-    entry = notices-entry o past e s counts acted
+    entry = notices-entry o past e s counts acted ascends
 
     nothing :
         filter_map (notice_to s) e.actions ≡ [] →
@@ -278,4 +277,4 @@ pub told-log :
 told-log o log s r a =
     acted-past o (λ log past. IsToldOf o past s (notices log s)) (told-empty o s)
     (λ log e none refused h. subst (IsToldOf o (past_of log) s) (sym (ap (λ xs. notices log s ++ filter_map (notice_to s) xs) none ∙ append-nil (notices log s))) h)
-    (λ log e comes a acted h. told-step o (past_of log) e s (notices log s) comes.fit comes.counts acted h) log r a
+    (λ log e comes a acted h. told-step o (past_of log) e s (notices log s) comes.fit comes.counts acted (live_sessions-ascending o log comes.right) h) log r a

@@ -99,12 +99,12 @@ offset-lasts o log e s v w r known after = by_refusal (is_refusal e.decision) re
         (w.offset ≡ v.offset) ⊎ (TakesRest e s ⊎ EndsWell e s)
     by_case c x (inl none) = inl (ap (λ (u : Session). u.offset) (sym x) ∙ rw none refl)
     by_case c x (inr (inl i)) =
-        let own : i.0 ≡ s = named-concern o past e i.0 s (ap named_session i.2) c in
+        let own : i.0 ≡ s = named-concern o past e i.0 s r.1 (ap named_session i.2) c in
         inr (inl (i.1, i.2 ∙ ap (λ q. Rest q i.1) own, i.3))
     by_case c x (inr (inr i)) =
         let end : IsEnd o past e.event.kind = finished-known o past e.event.at e.event.kind e.answer (sym r.1 ∙ i.2) in
         let named : named_session e.event.kind ≡ Some end.ticket.session = ap named_session end.kind_is in
-        let own : end.ticket.session ≡ s = named-concern o past e end.ticket.session s named c in
+        let own : end.ticket.session ≡ s = named-concern o past e end.ticket.session s r.1 named c in
         inr (inr (i.0, named ∙ ap Some own, i.1, i.2, i.3))
 
     by_concern :

@@ -14,8 +14,9 @@ use Rattle.ftp_events.specs.Session.{life_by, told_of_life, session_by_history, 
 use Rattle.ftp_events.specs.History.{Nobody, one_or_nobody}
 use Rattle.ftp_events.specs.Classes.{is_stop}
 use Rattle.ftp_laws.proofs.Common.{meant, holder_of_target, Life, SlotMove, life, slot_move, gives_up, moved, new_number, IpAddr, same_ip, Options, is_legacy, Running, Entry, EventKind, Answer, Decision, Pending, Session, Slot, is_number, named_session, is_refusal, past_of, opened_number, opener, Target, target, granted_port, is_client, gives_hold, comes_to, ends_hold, gives_up_hold, holder, subject, concerns, opens, history, Lane, with_link, lane_after, queued_in, lives_on, session, running_job, due, IsRight}
-use Rattle.ftp_laws.proofs.SubjectLemmas.{nobody-concerns, no-stop, subject-plain, concerns-plain, ends-plain, named-concerns, meant-concerns}
+use Rattle.ftp_laws.proofs.SubjectLemmas.{nobody-concerns, subject-plain, concerns-plain, ends-plain, named-concerns, meant-concerns}
 use Rattle.ftp_laws.proofs.ClassLemmas.{awaits-is, opens-is, granted-is, opened-is}
+use Rattle.ftp_laws.proofs.StopLemmas.{named-plain, lives-plain}
 use Rattle.ftp_laws.proofs.GrantLemmas.{IsGrant, granted-free}
 use Rattle.ftp_laws.proofs.QuestionLemmas.{session-own, session-other, session_by, IsTold, session-told}
 use Rattle.ftp_laws.proofs.HoldLemmas.{port-lane, port-kept, named-untouched, number-is, or-number, same_ip-equal, WaitsFor, comes-for}
@@ -260,19 +261,19 @@ waits-holds-step o past e m fit counts ih a p s w = by_part o past e s opened ow
     by_change v known n client port false g =
         let kept : waiting_port (next_lane e.event.kind e.decision (running_job o past s) v).slot ≡ waiting_port v.slot = port-kept (slot_move e.decision) (new_number e.event.kind e.decision) (queued_for e.decision e.event.kind v) (lane_in v (running_job o past s)) (named-untouched o past e s v m fit n known g) in
         let held : holder o past a p ≡ Some s = ih a p s (record { view = v; known = known; client = client; port = sym kept ∙ port }) in
-        holder-stays-held o past e a p s held (held-ungranted o past e a p s fit held) (rw (named-target o e.event.kind e.answer s n) refl) (ends-plain e s (no-stop e.decision) ∙ rw (n, g, eq-eqb s s refl) refl)
+        holder-stays-held o past e a p s held (held-ungranted o past e a p s fit held) (rw (named-target o e.event.kind e.answer s n) refl) (ends-plain e s (named-plain o past e s fit n) ∙ rw (n, g, eq-eqb s s refl) refl)
 
     by_name :
         (v : Session) → session o past s ≡ Some v →
-        concerns o past e s ≡ true →
+        is_stop e.decision ≡ false → concerns o past e s ≡ true →
         same_ip v.opening.client a ≡ true →
         waiting_port (next_lane e.event.kind e.decision (running_job o past s) v).slot ≡ Some p →
         (b : Bool) →
         is_number (named_session e.event.kind) s ≡ b →
         holder o (e ∷ past) a p ≡ Some s
-    by_name v known c client port true n = by_change v known (number-is _ s n) client port (gives_up_hold e.decision) refl
-    by_name v known c client port false n =
-        let comes = comes-for o past e.event.kind e.answer s (target o e.event.kind e.answer) refl (or-number _ _ s (sym (concerns-plain o past e s (no-stop e.decision)) ∙ c) n) in
+    by_name v known plain c client port true n = by_change v known (number-is _ s n) client port (gives_up_hold e.decision) refl
+    by_name v known plain c client port false n =
+        let comes = comes-for o past e.event.kind e.answer s (target o e.event.kind e.answer) refl (or-number _ _ s (sym (concerns-plain o past e s plain) ∙ c) n) in
         let none = port-arrived o past e.event.at e.event.kind e.answer e.decision comes.to (queued_for e.decision e.event.kind v) (lane_in v (running_job o past s)) fit counts comes.target_is in
         let z : None ≡ Some p = sym none ∙ port in
         cc
@@ -287,7 +288,7 @@ waits-holds-step o past e m fit counts ih a p s w = by_part o past e s opened ow
         let x : IsAfter o past e s w.view = session-before o past e s w.view fit n c w.known in
         let client : same_ip x.before.opening.client a ≡ true = subst (λ (v : Session). same_ip v.opening.client a ≡ true) (sym x.after) w.client in
         let port : waiting_port (next_lane e.event.kind e.decision (running_job o past s) x.before).slot ≡ Some p = subst (λ (v : Session). waiting_port v.slot ≡ Some p) (sym x.after) w.port in
-        by_name x.before x.known c client port (is_number (named_session e.event.kind) s) refl
+        by_name x.before x.known (lives-plain e.decision x.lives) c client port (is_number (named_session e.event.kind) s) refl
 
     opened : opens e s ≡ true → holder o (e ∷ past) a p ≡ Some s
     opened n =

@@ -1,5 +1,5 @@
 -- Logs that show why the laws have their premises.
-use Rattle.std.proofs.Common.{◌≡◌, refl, ℕ, List, [], ◌∷◌, ◌++◌, map, reverse, Option, Some, None}
+use Rattle.std.proofs.Common.{◌≡◌, refl, ap, ℕ, List, [], ◌∷◌, ◌++◌, length, map, reverse, Option, Some, None, arith}
 use Rattle.std.specs.Prelude.{codes, take, drop}
 use Rattle.ftp_base.specs.declared.login.AuthAnswer.TheVariants.{Good, Refused}
 use Rattle.ftp_base.specs.declared.login.LockState.TheVariants.{AlreadyLocked}
@@ -13,7 +13,7 @@ use Rattle.ftp_events.specs.declared.decision.Decision.TheVariants as decision
 use Rattle.ftp_events.specs.declared.event.EventKind.TheVariants as kind
 use Rattle.ftp_events.specs.declared.session.Login.TheVariants.{LoggedIn}
 use Rattle.ftp_events.specs.declared.session.Slot.TheVariants.{Waits}
-use Rattle.ftp_events.specs.Right.{log_of}
+use Rattle.ftp_events.specs.Right.{log_of, events_of}
 use Rattle.ftp_events.proofs.Script.{Event, everything, ip, addr, two_ports, own_ports, event, opened, login, a1, a2}
 use Rattle.ftp_laws.proofs.Common.{IpAddr, Options, Entry, Session, holder, past_of, IsRight, client_log}
 use Rattle.ftp_laws.specs.Holds.{WaitsOn}
@@ -70,6 +70,7 @@ pooled-needed law = nobody (holder own_ports (past_of waiting) a1 50000) refl (l
           offset = 0;
           slot = Waits 50000;
           slot_at = 1;
+          active_at = 1;
           pending = None;
           tickets = 0;
           notices = 1;
@@ -89,3 +90,18 @@ not_acted =
 acted-needed : IsRight two_ports (not_acted ∷ []) × (map (λ n. n.0) (notices (not_acted ∷ []) 1) ≡ 7 ∷ [])
 unfolding everything
 acted-needed = ((tt, refl), refl)
+
+-- two clients, and a stop
+abbrev stopped_log : List Entry
+stopped_log = log_of two_ports (event 1 kind.Shutdown ∷ opened 2 a2 ∷ opened 1 a1 ∷ [])
+
+-- after a stop a client's part is not what its events and answers give: the stop names the other client's session too
+before-stop-needed : ¬ (log_of two_ports (events_of (client_log stopped_log a1)) ≡ client_log stopped_log a1)
+unfolding everything
+before-stop-needed h =
+    let c : 2 ∷ 0 ∷ [] ≡ 4 ∷ 0 ∷ [] = ap (λ (log : List Entry). map (λ (e : Entry). length e.actions) log) h in
+    absurd (omega (arith, ap first c))
+  where
+    first : List ℕ → ℕ
+    first [] = 0
+    first (n ∷ ns) = n

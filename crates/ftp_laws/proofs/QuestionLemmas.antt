@@ -1,11 +1,14 @@
 -- How each question changes with an entry.
-use Rattle.std.proofs.Common.{◌≡◌, refl, sym, ◌∙◌, ap, subst, ℕ, Bool, true, false, cond, List, ◌∷◌, Option, Some, None, [], eq-eqb}
-use Rattle.std.specs.Prelude.{count_by}
+use Rattle.std.proofs.Common.{◌≡◌, refl, sym, ◌∙◌, ap, subst, ℕ, Bool, true, false, not, ◌&&◌, cond, List, ◌∷◌, Option, Some, None, [], eq-eqb}
+use Rattle.std.specs.Prelude.{count_by, unwrap_or}
+use Rattle.std.specs.Bool.{then_some}
+use Rattle.std.proofs.lemmas.Bool.{or_right}
 use Rattle.std.proofs.lemmas.Option.{same_Some}
 use Rattle.std.specs.Option.{option_map}
 use Rattle.ftp_events.specs.declared.decision.Decision.TheVariants.{Opened}
 use Rattle.ftp_events.specs.declared.session.Slot.TheVariants.{Empty}
 use Rattle.ftp_events.specs.Notices.{is_notice_to}
+use Rattle.ftp_events.specs.Ages.{is_activity, active_at_by}
 use Rattle.ftp_events.specs.Session.{session_after, is_live, session_by_history, next_lane, new_session}
 use Rattle.ftp_laws.proofs.Common.{Options, Running, Entry, Session, Opening, is_refusal, past_of, opened_number, opening_by, opener, concerns, opens, history, lane, lives_on, session, running_job, Lane}
 use Rattle.ftp_laws.proofs.ClassLemmas.{opened-is}
@@ -131,5 +134,8 @@ module _ (o : Options) (past : List Entry) (e : Entry) where
       e.decision ≡ Opened →
       opening_by e.event.kind e.answer ≡ Some opening →
       e.actions ≡ [] →
-      session o (e ∷ past) s ≡ Some (new_session opening)
-  session-opened s opening n d b a = rw (n, eq-eqb s s refl, d, b, a) refl
+      session o (e ∷ past) s ≡ Some (new_session e.event.at opening)
+  session-opened s opening n d b a =
+      let begun : unwrap_or (active_at_by e.event.kind Opened e.event.at) 0 ≡ e.event.at =
+      ap (λ x. unwrap_or (then_some x e.event.at) 0) (or_right (is_activity e.event.kind && not (is_refusal Opened)) true refl) in
+      rw (n, eq-eqb s s refl, d, b, a) (ap (λ at. Some (record (new_session e.event.at opening) { active_at = at })) begun)

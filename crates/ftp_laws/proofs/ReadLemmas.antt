@@ -1,7 +1,7 @@
 -- What is decided and done on an event hangs on what it reads of the past alone.
 use Rattle.std.proofs.Common.{◌≡◌, refl, ◌∙◌, ap, ap₂, ℕ, Bool, true, false, not, ◌||◌, cond, List, [], ◌∷◌, Option, Some, None, Ok, Err}
-use Rattle.std.specs.Prelude.{Contains}
-use Rattle.std.specs.Option.{option_and_then, option_or}
+use Rattle.std.specs.Prelude.{Contains, is_some}
+use Rattle.std.specs.Option.{option_and_then, option_map_or, option_or}
 use Rattle.std.proofs.lemmas.List.Elements.{Contains-push, Contains-append_right}
 use Rattle.ftp_base.specs.declared.login.AuthAnswer.{AuthAnswer}
 use Rattle.ftp_base.specs.declared.net.SocketAddr.{SocketAddr}
@@ -16,14 +16,14 @@ use Rattle.ftp_events.specs.LoginRows.{auth_row}
 use Rattle.ftp_events.specs.CommandRows.{if_logged_in, address_row, command_row, own_failures}
 use Rattle.ftp_events.specs.Text.{port_target}
 use Rattle.ftp_events.specs.EndRows.{end_row}
-use Rattle.ftp_events.specs.Decide.{if_live, around}
+use Rattle.ftp_events.specs.Decide.{if_live, is_at_work, around}
+use Rattle.ftp_events.specs.Log.{is_stopped}
 use Rattle.ftp_events.specs.Lockout.{failures}
 use Rattle.ftp_events.specs.Acts.{session_acts}
 use Rattle.ftp_events.specs.Isolation.{numbers_in}
 use Rattle.ftp_events.specs.Classes.{is_stop}
 use Rattle.ftp_events.specs.History.{Nobody, One, All, one_or_nobody}
-use Rattle.ftp_laws.proofs.Common.{Subject, subject_acts, IpAddr, Options, Answer, Decision, Entry, EventKind, Session, Target, is_refusal, is_used, named_session, target, holder, holder_of_target, subject, session, running_job, due, acts_of}
-use Rattle.ftp_laws.proofs.SubjectLemmas.{no-stop, not-all}
+use Rattle.ftp_laws.proofs.Common.{Subject, subject_acts, IpAddr, Options, Running, Answer, Decision, Entry, EventKind, Session, Target, is_refusal, is_used, named_session, target, holder, holder_of_target, subject, session, running_job, due, acts_of}
 
 -- both pasts have the same holder of a key, and tell the same of that session
 pub record HeldAlike (o : Options) (P K : List Entry) (a : IpAddr) (p : ℕ) : Type 0 where
@@ -34,6 +34,7 @@ pub record HeldAlike (o : Options) (P K : List Entry) (a : IpAddr) (p : ℕ) : T
 pub record ReadsAlike (o : Options) (P K : List Entry) (at : ℕ) (k : EventKind) (answer : Answer) : Type 0 where
   pub numbers : (n : ℕ) → Contains (numbers_in k) n → is_used K n ≡ is_used P n
   pub sessions : (s : ℕ) → named_session k ≡ Some s → session o K s ≡ session o P s
+  pub stopped : is_stopped K ≡ is_stopped P
   pub jobs : (s : ℕ) → named_session k ≡ Some s → running_job o K s ≡ running_job o P s
   pub targets : (t : Target) → target o k answer ≡ Some t → HeldAlike o P K t.client t.port
   pub holders :
@@ -94,18 +95,33 @@ rows-same o P K (Some s) f g sessions same = rw (sessions s refl) (go (session o
     go None x = refl
     go (Some v) x = same s v refl x
 
+-- the session that an event names is at work in both pasts or in neither
+work-same :
+    (o : Options) (P K : List Entry) (k : EventKind) →
+    ((s : ℕ) → named_session k ≡ Some s → running_job o K s ≡ running_job o P s) →
+    is_at_work o K k ≡ is_at_work o P k
+work-same o P K k jobs = go (named_session k) refl
+  where
+    go :
+        (n : Option ℕ) → named_session k ≡ n →
+        option_map_or (λ s. is_some (running_job o K s)) n false ≡ option_map_or (λ s. is_some (running_job o P s)) n false
+    go None x = refl
+    go (Some s) x = ap (λ (j : Option Running). is_some j) (jobs s x)
+
 -- the same is decided on the event in both pasts
 pub due-same :
     (o : Options) (P K : List Entry) (at : ℕ) (k : EventKind) (answer : Answer) →
     ReadsAlike o P K at k answer →
     due o K at k answer ≡ due o P at k answer
-due-same o P K at (kind.Connect s raw local trace) answer reads = rw (reads.numbers s (Contains-push [] s)) refl
+due-same o P K at (kind.Connect s raw local trace) answer reads = rw (reads.numbers s (Contains-push [] s), reads.stopped) refl
 due-same o P K at (kind.Proxied number raw trace) answer reads =
-    rw (reads.numbers number (Contains-push [] number), header-same o P K number raw trace answer reads.targets) refl
+    rw (reads.numbers number (Contains-push [] number), reads.stopped, header-same o P K number raw trace answer reads.targets) refl
 due-same o P K at (kind.DataIn number raw port) answer reads =
-    rw (reads.numbers number (Contains-push [] number), arrival-same o P K raw raw.ip port (reads.targets _ refl)) refl
+    rw (reads.numbers number (Contains-push [] number), reads.stopped, arrival-same o P K raw raw.ip port (reads.targets _ refl)) refl
 due-same o P K at (kind.End ticket) answer reads = ap (end_row ticket answer) (reads.jobs ticket.session refl)
 due-same o P K at kind.Sweep answer reads = refl
+due-same o P K at kind.Scavenge answer reads = refl
+due-same o P K at kind.Shutdown answer reads = refl
 due-same o P K at (kind.Accepted s number raw) answer reads =
     rows-same o P K (Some s) _ _ reads.sessions (λ q v n x. rw (reads.numbers number (Contains-append_right (s ∷ []) (number ∷ []) number (Contains-push [] number))) refl)
 due-same o P K at (kind.Port s text None) answer reads = rows-same o P K (Some s) _ _ reads.sessions (λ q v n x. refl)
@@ -116,16 +132,19 @@ due-same o P K at (kind.Port s text (Some number)) answer reads =
     (address-same (is_used K) (is_used P) number v (port_target text) (reads.numbers number (Contains-append_right (s ∷ []) (number ∷ []) number (Contains-push [] number)))))
 due-same o P K at (kind.AuthDone s said) answer reads = rows-same o P K (Some s) _ _ reads.sessions (λ q v n x. reads.passwords q v said n x)
 due-same o P K at k answer reads =
-    rows-same o P K (named_session k) (λ v. command_row o (around o K at v) k v) (λ v. command_row o (around o P at v) k v) reads.sessions
-    (λ s v n x. ap (λ (h : ℕ → Option ℕ). command_row o (record { holders = h; failures = failures o P; used = is_used P; at = at }) k v) (λ i p. reads.holders s v n x p i))
+    rows-same o P K (named_session k) (λ v. command_row o (around o K at k v) k v) (λ v. command_row o (around o P at k v) k v) reads.sessions
+    (λ s v n x.
+    ap₂ (λ (h : ℕ → Option ℕ) (b : Bool). command_row o (record { holders = h; failures = failures o P; used = is_used P; runs = b; at = at }) k v)
+    (λ i p. reads.holders s v n x p i) (work-same o P K k reads.jobs))
 
--- the same is done because of an entry that is about the same session in both pasts, of which both tell the same
+-- the same is done because of an entry that is about the same sessions in both pasts, of which both tell the same
 pub acts-same :
     (o : Options) (P K : List Entry) (e : Entry) →
     holder_of_target o K e.event.kind e.answer ≡ holder_of_target o P e.event.kind e.answer →
     ((s : ℕ) → subject o P e ≡ One s → (session o K s ≡ session o P s) × (running_job o K s ≡ running_job o P s)) →
+    (subject o P e ≡ All → subject_acts o K e All ≡ subject_acts o P e All) →
     acts_of o K e ≡ acts_of o P e
-acts-same o P K e comes tells =
+acts-same o P K e comes tells all =
     ap (cond (is_refusal e.decision) [])
     (ap (subject_acts o K e) same ∙ go (subject o P e) refl)
   where
@@ -133,6 +152,6 @@ acts-same o P K e comes tells =
     same = ap (λ h. cond (is_stop e.decision) All (one_or_nobody (option_or (named_session e.event.kind) h))) comes
 
     go : (s : Subject) → subject o P e ≡ s → subject_acts o K e s ≡ subject_acts o P e s
-    go All x = absurd (not-all o P e (no-stop e.decision) x)
+    go All x = all x
     go Nobody x = refl
     go (One s) x = ap₂ (session_acts o s e.event.kind e.answer e.decision) (tells s x).1 (tells s x).0

@@ -5,16 +5,17 @@ use Rattle.std.proofs.lemmas.Bool.{or_parts}
 use Rattle.std.proofs.lemmas.List.Sums.{sum_by-cons}
 use Rattle.ftp_events.specs.declared.action.Action.TheVariants as action
 use Rattle.ftp_events.specs.Acts.{session_acts, farewells}
-use Rattle.ftp_events.specs.History.{One}
+use Rattle.ftp_events.specs.History.{One, All}
 use Rattle.ftp_events.specs.Right.{reply_to, replies}
 use Rattle.ftp_laws.proofs.Common.{Options, Ticket, Action, Running, Answer, Decision, Entry, EventKind, Session, is_refusal, is_ending, past_of, subject, concerns, opens, session, running_job, drops, acts_for, acts_of, completions, refused_link, drop_acts, start_acts, stays, slot_of, pending_in, IsRight, IsActed}
 use Rattle.ftp_events.specs.declared.session.Slot.TheVariants.{Empty}
 use Rattle.ftp_laws.specs.Replies.{was_opened}
-use Rattle.ftp_laws.proofs.SubjectLemmas.{by_subject, no-stop}
+use Rattle.ftp_laws.proofs.SubjectLemmas.{by_subject}
 use Rattle.ftp_laws.proofs.QuestionLemmas.{session-other}
 use Rattle.ftp_laws.proofs.PortLemmas.{session-before}
 use Rattle.ftp_laws.proofs.CountLemmas.{IsOnTransfers, started_in, count-append, count-about, count-completions, count-drop_acts, count-refused_link, count-nobody}
 use Rattle.ftp_laws.proofs.BalanceLemmas.{one}
+use Rattle.ftp_laws.proofs.PartLemmas.{count-stop-none, count-stop_acts}
 use Rattle.ftp_laws.proofs.EntryLemmas.{Comes, acted-past}
 use Rattle.ftp_laws.proofs.Cases.{by_test, by_option}
 
@@ -73,16 +74,29 @@ entry-silent :
     session o past s ≡ None →
     count_by (is_reply_to s) e.actions ≡ 0
 entry-silent o past e s counts acted none =
-    by_subject o past e (no-stop e.decision) (λ about. count-nobody (is_reply_to s) o past e (λ m. refl) acted about)
+    by_subject o past e (λ about. count-nobody (is_reply_to s) o past e (λ m. refl) acted about)
     (λ q about. by_test (q == s) (own q about) (other q about))
+    (λ about. count-stop-none o past e counts acted (is_reply_to s) about (λ q. by_test (q == s) (part-own q) (part-other q about)))
   where
+    part-own : (q : ℕ) → (q == s) ≡ true → count_by (is_reply_to s) (acts_for o past e q) ≡ 0
+    part-own q k =
+        let gone : session o past q ≡ None = ap (session o past) (eqb-true q s k) ∙ none in
+        (ap (λ (v : Option Session). count_by (is_reply_to s) (session_acts o q e.event.kind e.answer e.decision (running_job o past q) v)) gone
+        ∙ unlive-silent (is_reply_to s) o q e.event.kind e.answer e.decision (running_job o past q) (λ m. refl) (λ t b. refl))
+
     own : (q : ℕ) → subject o past e ≡ One q → (q == s) ≡ true → count_by (is_reply_to s) e.actions ≡ 0
     own q about k =
-        let gone : session o past q ≡ None = ap (session o past) (eqb-true q s k) ∙ none in
         let done : e.actions ≡ acts_for o past e q = acted ∙ rw (counts, about) refl in
-        ap (count_by (is_reply_to s)) done
-        ∙ (ap (λ (v : Option Session). count_by (is_reply_to s) (session_acts o q e.event.kind e.answer e.decision (running_job o past q) v)) gone
-        ∙ unlive-silent (is_reply_to s) o q e.event.kind e.answer e.decision (running_job o past q) (λ m. refl) (λ t b. refl))
+        ap (count_by (is_reply_to s)) done ∙ part-own q k
+
+    on : (q : ℕ) → (q == s) ≡ false → IsOnTransfers q (is_reply_to s)
+    on q k = record { closes = λ m. refl; notifies = λ meta what. refl; replies = λ delay r. k }
+
+    part-other : (q : ℕ) → subject o past e ≡ All → (q == s) ≡ false → count_by (is_reply_to s) (acts_for o past e q) ≡ 0
+    part-other q about k =
+        let v : Option Session = session o past q in
+        count-stop_acts o past e counts acted (is_reply_to s) q (on q k) about
+        ∙ count-drop_acts (is_reply_to s) q (stays e.decision v) e.decision (slot_of v) (pending_in v) (on q k) (λ t. refl)
 
     started : (job : Option Running) → count_by (is_reply_to s) (start_acts job) ≡ 0
     started None = refl
@@ -91,7 +105,7 @@ entry-silent o past e s counts acted none =
     other : (q : ℕ) → subject o past e ≡ One q → (q == s) ≡ false → count_by (is_reply_to s) e.actions ≡ 0
     other q about k =
         let v : Option Session = session o past q in
-        let test : IsOnTransfers q (is_reply_to s) = record { closes = λ m. refl; notifies = λ meta what. refl; replies = λ delay r. k } in
+        let test : IsOnTransfers q (is_reply_to s) = on q k in
         omega (
           arith,
           count-about (is_reply_to s) o past e q test counts acted about,

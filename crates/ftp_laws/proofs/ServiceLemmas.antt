@@ -1,6 +1,6 @@
 -- Every right and acted log serves its data connections and its PASVs as promised.
-use Rattle.std.proofs.Common.{◌≡◌, refl, sym, ◌∙◌, ap, subst, ℕ, Bool, true, false, true≢false, not, ◌&&◌, ◌||◌, cond, List, [], ◌∷◌, ◌++◌, Option, Some, None, Ok, Err, inl, inr, arith}
-use Rattle.std.specs.Prelude.{◌⊎◌, Contains, MatchOption, is_some, unwrap_or}
+use Rattle.std.proofs.Common.{◌≡◌, refl, sym, ◌∙◌, ap, subst, ℕ, Bool, true, false, true≢false, not, ◌&&◌, ◌||◌, cond, List, [], ◌++◌, Option, Some, None, Ok, Err, inl, inr, arith}
+use Rattle.std.specs.Prelude.{◌⊎◌, Contains, is_some, unwrap_or}
 use Rattle.std.specs.Bool.{then_some}
 use Rattle.std.specs.Option.{option_map_or, option_and_then}
 use Rattle.std.proofs.lemmas.Bool.{and_parts, or_parts, or_from, not-true, not-false}
@@ -10,27 +10,27 @@ use Rattle.ftp_base.specs.declared.net.SocketAddr.{SocketAddr}
 use Rattle.ftp_base.specs.Net.{is_v6}
 use Rattle.ftp_options.specs.declared.options.ListenerMode.{ListenerMode}
 use Rattle.ftp_options.specs.declared.options.ListenerMode.TheVariants.{Pooled}
-use Rattle.ftp_options.specs.Host.{lacks_lookup}
-use Rattle.ftp_options.specs.Modes.{is_pooled, is_proxy, is_control_port, is_passive_off}
+use Rattle.ftp_options.specs.Modes.{is_pooled, is_proxy, is_control_port}
 use Rattle.ftp_events.specs.declared.action.Action.TheVariants.{Close}
 use Rattle.ftp_events.specs.declared.decision.Decision.TheVariants as decision
 use Rattle.ftp_events.specs.declared.event.Answer.TheVariants.{Header}
 use Rattle.ftp_events.specs.declared.event.EventKind.TheVariants as kind
+use Rattle.ftp_events.specs.Classes.{is_stop}
+use Rattle.ftp_events.specs.Log.{is_stopped}
+use Rattle.ftp_events.specs.Words.{◌⇒◌∣◌}
 use Rattle.ftp_events.specs.Modes.{in_range}
-use Rattle.ftp_events.specs.Board.{first_free_port}
 use Rattle.ftp_events.specs.ConnectionRows.{arrival_row, header_row, holder_row}
-use Rattle.ftp_events.specs.CommandRows.{is_logged_in, grant_row}
 use Rattle.ftp_events.specs.Acts.{notice_and_reply, farewells}
-use Rattle.ftp_events.specs.Headline.{is_header, is_barred, is_admitted, peer_of, from_one_peer, IsClosed, AttachedByPeer, AttachedOrClosed, GrantedOrFull, AllServed}
+use Rattle.ftp_events.specs.Headline.{is_header, is_barred, peer_of}
 use Rattle.ftp_events.specs.History.{Nobody, One, All}
-use Rattle.ftp_laws.proofs.Common.{Subject, subject_acts, IpAddr, same_ip, Options, is_legacy, Running, Action, Decision, Entry, EventKind, Answer, Opening, Session, is_number, past_of, is_refusal, is_used, new_number, named_session, opened_number, opening_by, opener, Target, target, granted_port, is_client, gives_hold, comes_to, ends_hold, holder, subject, session, running_job, due, decide, acts, acts_of, acts_for, completions, stays, drop_acts, slot_of, pending_in, refused_link, start_acts, starting, IsRight, IsActed}
+use Rattle.ftp_laws.proofs.Common.{Subject, subject_acts, IpAddr, same_ip, Options, is_legacy, Running, Action, Decision, Entry, EventKind, Answer, Opening, Session, is_number, past_of, is_refusal, is_used, new_number, named_session, opened_number, opening_by, opener, Target, target, granted_port, is_client, gives_hold, comes_to, ends_hold, holder, subject, session, running_job, due, acts_of, acts_for, completions, stays, drop_acts, slot_of, pending_in, refused_link, start_acts, starting, IsRight}
 use Rattle.ftp_laws.proofs.ClassLemmas.{granted-is}
-use Rattle.ftp_laws.proofs.SubjectLemmas.{no-stop, not-all}
-use Rattle.ftp_laws.proofs.QuestionLemmas.{session-told}
+use Rattle.ftp_laws.proofs.SubjectLemmas.{not-all}
 use Rattle.ftp_laws.proofs.DecisionLemmas.{IsAccepted, accepted-known}
 use Rattle.ftp_laws.proofs.GrantLemmas.{granted-free}
-use Rattle.ftp_laws.proofs.HoldLemmas.{WaitsFor, holder-waits}
+use Rattle.ftp_laws.proofs.HoldLemmas.{WaitsFor}
 use Rattle.ftp_laws.proofs.EntryLemmas.{right-past}
+use Rattle.ftp_laws.proofs.Cases.{by_test}
 
 -- a new connection that is turned away is closed
 pub closes-link :
@@ -72,7 +72,7 @@ turned-closes o past e n d w = subst (λ (xs : List Action). Contains xs (Close 
     go :
         (s : Subject) → subject o past e ≡ s →
         Contains (subject_acts o past e s) (Close n)
-    go All h = absurd (not-all o past e (no-stop e.decision) h)
+    go All h = absurd (not-all o past e (ap is_stop d) h)
     go Nobody h = subst (λ (x : Decision). Contains (refused_link e.event.kind x) (Close n)) (sym d) closed
     go (One s) h = acts-close o past e s n (subst (λ (x : Decision). Contains (refused_link e.event.kind x) (Close n)) (sym d) closed)
 
@@ -127,12 +127,14 @@ pub barred-refused :
     is_refusal (due o past at k a) ≡ true
 barred-refused o past at (kind.DataIn number raw port) a b =
     let strange : Bool = not (is_pooled o.mode) || is_v6 raw.ip in
-    row-refused strange (is_used past number) (arrival_row o past raw raw.ip port)
+    row-refused strange (is_used past number) _
     (λ x y. absurd (true≢false (sym b ∙ or_from strange (is_used past number) x y)))
 barred-refused o past at (kind.Proxied number raw trace) a b =
     let strange : Bool = not (is_proxy o.mode) || is_v6 raw.ip in
-    row-refused strange (is_used past number) (header_row o past raw a)
-    (λ x y. headless-refused o past raw a (sym (ap (λ z. z || not (is_header a)) (or_from strange (is_used past number) x y)) ∙ b))
+    row-refused strange (is_used past number) _
+    (λ x y.
+    let parts = and_parts (not (is_stopped past)) (not (is_header a)) (sym (ap (λ z. z || (not (is_stopped past) && not (is_header a))) (or_from strange (is_used past number) x y)) ∙ b) in
+    rw (not-true _ parts.0) (headless-refused o past raw a parts.1))
 barred-refused o past at k a b = cc
 
 -- no proxy is where the ports are pooled
@@ -147,7 +149,7 @@ pub record Arrives (o : Options) (past : List Entry) (k : EventKind) (d : Decisi
   pub new : (x : Decision) → new_number k x ≡ Some number
   pub peer : peer_of k ≡ Some raw
   pub direct : is_pooled o.mode ≡ true → raw.ip ≡ t.client
-  pub row : d ≡ arrival_row o past raw t.client t.port
+  pub row : d ≡ (is_stopped past ⇒ decision.Turned ∣ arrival_row o past raw t.client t.port)
 
 -- the decision on it is that of its row
 pub unbarred-arrives :
@@ -172,14 +174,17 @@ unbarred-arrives o past at (kind.Proxied number raw trace) (Header (Ok line)) t 
     v6 : Bool
     v6 = is_v6 line.source.ip || is_v6 line.destination.ip
 
-    parts : ((strange || is_used past number) ≡ false) × (not (not v6) ≡ false)
-    parts = or_parts (strange || is_used past number) (not (not v6)) b
+    parts : ((strange || is_used past number) ≡ false) × ((not (is_stopped past) && not (not v6)) ≡ false)
+    parts = or_parts (strange || is_used past number) (not (is_stopped past) && not (not v6)) b
 
     fresh : (strange ≡ false) × (is_used past number ≡ false)
     fresh = or_parts strange (is_used past number) parts.0
 
     proxied : is_pooled o.mode ≡ true → ⊥
     proxied x = true≢false (sym (not-false _ (or_parts (not (is_proxy o.mode)) (is_v6 raw.ip) fresh.0).0) ∙ pooled-unproxied o.mode x)
+
+    headed : is_stopped past ≡ false → not (not v6) ≡ false
+    headed z = sym (ap (λ y. not y && not (not v6)) z) ∙ parts.1
 
     by_port :
         (c : Bool) → is_control_port o.mode line.destination.port ≡ c →
@@ -194,7 +199,7 @@ unbarred-arrives o past at (kind.Proxied number raw trace) (Header (Ok line)) t 
           new = λ z. refl;
           peer = refl;
           direct = λ z. absurd (proxied z);
-          row = rw (fresh.0, fresh.1, not-true _ (not-false _ parts.1), x) refl;
+          row = rw (fresh.0, fresh.1) (by_test (is_stopped past) (λ z. rw z refl) (λ z. rw (z, not-true _ (not-false _ (headed z)), x) refl));
         })
 unbarred-arrives o past at k a t w b = cc
 
@@ -218,7 +223,13 @@ pub connection-goes :
     AttachedOrTurned o past d t.client t.port
 connection-goes o past at k a d t fit c w =
     let x : Arrives o past k d t = counted-arrives o past at k a d t fit c w in
-    subst (λ (y : Decision). AttachedOrTurned o past y t.client t.port) (sym x.row) (arrival-goes o past x.raw t.client t.port)
+    subst (λ (y : Decision). AttachedOrTurned o past y t.client t.port) (sym x.row) (go x (is_stopped past))
+  where
+    go :
+        (x : Arrives o past k d t) (b : Bool) →
+        AttachedOrTurned o past (cond b decision.Turned (arrival_row o past x.raw t.client t.port)) t.client t.port
+    go x true = inr refl
+    go x false = arrival-goes o past x.raw t.client t.port
 
 -- only a data connection is attached, or one that came for the session alone
 pub attached-comes :
@@ -317,100 +328,3 @@ arrival_row-unheld o past raw a p held = go (in_range o p)
         cond (not b) decision.Turned (holder_row o past raw (holder o past a p)) ≡ decision.Turned
     go true = rw held refl
     go false = refl
-
--- so a data connection is attached to the holder or closed, and closed where there is none
-pub serves-connection :
-    (o : Options) (log : List Entry) (e : Entry) (t : Target) →
-    is_legacy o.mode ≡ false → IsRight o log →
-    e.actions ≡ acts_of o (past_of log) e →
-    Arrives o (past_of log) e.event.kind e.decision t →
-    AttachedOrClosed o (past_of log) e t
-serves-connection o log e t m r acted x = by_holder (holder o past t.client t.port) refl
-  where
-    past : List Entry
-    past = past_of log
-
-    closed : e.decision ≡ decision.Turned → IsClosed e
-    closed turned = (
-      x.number,
-      turned,
-      x.new decision.Turned,
-      subst (λ (xs : List Action). Contains xs (Close x.number)) (sym acted) (turned-closes o past e x.number turned (x.new decision.Turned)),
-    )
-
-    by_mode :
-        (s : ℕ) (w : WaitsFor o past s t.client t.port) →
-        e.decision ≡ cond (same_ip w.view.opening.raw.ip x.raw.ip) (decision.Attached s) decision.Turned →
-        (b : Bool) → is_pooled o.mode ≡ b →
-        AttachedByPeer o past e s
-    by_mode s w row true pooled =
-        let own : w.view.opening.client ≡ w.view.opening.raw.ip = opener-raw o log pooled r s w.view.opening (session-told o past s w.view w.known).opening in
-        let peer : same_ip w.view.opening.raw.ip x.raw.ip ≡ true = rw (sym own, x.direct pooled) w.client in
-        record {
-          attached = λ y. row ∙ rw peer refl;
-          closed = λ y. absurd (true≢false (sym (rw pooled refl) ∙ y));
-        }
-    by_mode s w row false pooled =
-        let peer : from_one_peer o past e.event.kind s ≡ same_ip w.view.opening.raw.ip x.raw.ip = rw (pooled, x.peer, (session-told o past s w.view w.known).opening) refl in
-        record {
-          attached = λ y. row ∙ rw (sym peer ∙ y) refl;
-          closed = λ y. closed (row ∙ rw (sym peer ∙ y) refl);
-        }
-
-    by_holder :
-        (h : Option ℕ) →
-        holder o past t.client t.port ≡ h →
-        MatchOption h (IsClosed e) (AttachedByPeer o past e)
-    by_holder None h = closed (x.row ∙ arrival_row-unheld o past x.raw t.client t.port h)
-    by_holder (Some s) h =
-        let w : WaitsFor o past s t.client t.port = holder-waits o log m r t.client t.port s h in
-        by_mode s w (x.row ∙ arrival_row-held o log m r x.raw t.client t.port s w h) (is_pooled o.mode) refl
-
--- an admitted PASV is granted the first free port, or is told that there is none
-pub serves-grant :
-    (o : Options) (past : List Entry) (e : Entry) (s word : ℕ) (lookup bound : Option ℕ) (v : Session) →
-    is_legacy o.mode ≡ false →
-    e.decision ≡ due o past e.event.at e.event.kind e.answer →
-    e.event.kind ≡ kind.Pasv s word lookup bound →
-    session o past s ≡ Some v →
-    is_admitted o e.event.kind v ≡ true →
-    GrantedOrFull o past e v word
-serves-grant o past e s word lookup bound v m fit k known admitted =
-    go (first_free_port o past v.opening.client word) row
-  where
-    served : Bool
-    served = is_logged_in v.login && not (is_passive_off o.active_passive)
-
-    shown : (served ≡ true) × (not (lacks_lookup o.host lookup) ≡ true)
-    shown = and_parts served (not (lacks_lookup o.host lookup)) (subst (λ (x : EventKind). is_admitted o x v ≡ true) k admitted)
-
-    parts : (is_logged_in v.login ≡ true) × (not (is_passive_off o.active_passive) ≡ true)
-    parts = and_parts (is_logged_in v.login) (not (is_passive_off o.active_passive)) shown.0
-
-    row : e.decision ≡ option_map_or (grant_row o.host lookup) (first_free_port o past v.opening.client word) decision.Full
-    row = fit ∙ rw (k, known, parts.0, not-true _ parts.1, m) refl
-
-    go :
-        (f : Option ℕ) →
-        e.decision ≡ option_map_or (grant_row o.host lookup) f decision.Full →
-        MatchOption f (e.decision ≡ decision.Full) (λ p. e.decision ≡ decision.Granted p)
-    go None x = x
-    go (Some p) x = x ∙ rw (not-true _ shown.1) refl
-
--- where there is no legacy listener, every entry of a right and acted log is served as the headline says
-pub all-served :
-    (o : Options) (log : List Entry) →
-    is_legacy o.mode ≡ false → IsRight o log →
-    IsActed o log → AllServed o log
-unfolding decide acts
-all-served o [] m r a = tt
-all-served o (e ∷ log) m r a = (
-  all-served o log m r.0 a.0,
-  record {
-    connections = λ t w b.
-        serves-connection o log e t m r.0 a.1
-        (subst (λ (d : Decision). Arrives o (past_of log) e.event.kind d t) (sym r.1) (unbarred-arrives o (past_of log) e.event.at e.event.kind e.answer t w b));
-    refusals = λ b. ap is_refusal r.1 ∙ barred-refused o (past_of log) e.event.at e.event.kind e.answer b;
-    grants = λ s word lookup bound v k known admitted. serves-grant o (past_of log) e s word lookup bound v m r.1 k known admitted;
-  },
-)

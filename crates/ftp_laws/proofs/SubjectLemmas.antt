@@ -1,14 +1,11 @@
 -- Whom an entry is about.
 use Rattle.std.proofs.Common.{◌≡◌, refl, sym, ◌∙◌, ap, ℕ, ◌&&◌, ◌||◌, Bool, true, false, cond, List, Option, Some, None, eqb-true, eq-eqb}
 use Rattle.std.specs.Prelude.{◌≢◌, ◌==◌}
-use Rattle.std.proofs.lemmas.Bool.{or_right}
+use Rattle.std.proofs.lemmas.Bool.{or_right, or_parts}
 use Rattle.ftp_events.specs.Classes.{is_stop}
 use Rattle.ftp_events.specs.History.{Nobody, One, All, one_or_nobody, meant}
-use Rattle.ftp_laws.proofs.Common.{Subject, Options, Decision, Entry, is_number, named_session, gives_up_hold, ends_hold, concerns, subject}
-
--- no decision is a stop yet: what cites this goes by one session at a time, and says nothing of a stop
-pub no-stop : (d : Decision) → is_stop d ≡ false
-no-stop d = refl
+use Rattle.ftp_laws.proofs.Common.{Subject, Options, Entry, is_number, named_session, gives_up_hold, ends_hold, concerns, subject}
+use Rattle.ftp_laws.proofs.Cases.{by_test}
 
 -- of an entry after a past
 module _ (o : Options) (past : List Entry) (e : Entry) where
@@ -30,8 +27,24 @@ module _ (o : Options) (past : List Entry) (e : Entry) where
       go None x = cc
       go (Some m) x = cc
 
+  -- a stop is
+  pub stop-all : is_stop e.decision ≡ true → subject o past e ≡ All
+  stop-all n = ap (λ b. cond b All (one_or_nobody (meant o past e))) n
+
+  -- and nothing else is
+  pub all-stop : subject o past e ≡ All → is_stop e.decision ≡ true
+  all-stop h = by_test (is_stop e.decision) (λ n. n) (λ n. absurd (not-all n h))
+
+  -- a stop concerns every session
+  pub stop-concerns : (s : ℕ) → is_stop e.decision ≡ true → concerns o past e s ≡ true
+  stop-concerns s n = ap (λ b. b || is_number (meant o past e) s) n
+
+  -- so what does not concern a session is none
+  pub other-plain : (s : ℕ) → concerns o past e s ≡ false → is_stop e.decision ≡ false
+  other-plain s c = (or_parts (is_stop e.decision) (is_number (meant o past e) s) c).0
+
   -- what is about one session is no stop
-  one-plain : (s : ℕ) → subject o past e ≡ One s → is_stop e.decision ≡ false
+  pub one-plain : (s : ℕ) → subject o past e ≡ One s → is_stop e.decision ≡ false
   one-plain s h = go (is_stop e.decision) h
     where
       go : (b : Bool) → cond b All (one_or_nobody (meant o past e)) ≡ One s → b ≡ false
@@ -112,15 +125,16 @@ pub named-ends :
 named-ends e s named g =
     or_right (is_stop e.decision) (is_number (named_session e.event.kind) s && gives_up_hold e.decision) (rw (named, g, eq-eqb s s refl) refl)
 
--- an entry is about nobody, or about one session
+-- an entry is about nobody, about one session, or about all
 pub by_subject :
-    {C : Type 0} (o : Options) (past : List Entry) (e : Entry) → is_stop e.decision ≡ false →
+    {C : Type 0} (o : Options) (past : List Entry) (e : Entry) →
     (subject o past e ≡ Nobody → C) →
     ((s : ℕ) → subject o past e ≡ One s → C) →
+    (subject o past e ≡ All → C) →
     C
-by_subject {C = C} o past e n none one = go (subject o past e) refl
+by_subject {C = C} o past e none one all = go (subject o past e) refl
   where
     go : (x : Subject) → subject o past e ≡ x → C
     go Nobody h = none h
     go (One s) h = one s h
-    go All h = absurd (not-all o past e n h)
+    go All h = all h

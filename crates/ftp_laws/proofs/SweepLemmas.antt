@@ -1,6 +1,6 @@
 -- Without an entry that sweeps, a log whose moments never fall decides and does the same.
 use Rattle.std.proofs.Common.{◌≡◌, refl, sym, ◌∙◌, ap, ℕ, ◌≤◌, Bool, true, false, cond, List, [], ◌∷◌, ◌++◌, Option, Some, None, arith}
-use Rattle.std.specs.Option.{option_map_or, option_and_then}
+use Rattle.std.specs.Option.{option_and_then}
 use Rattle.ftp_base.specs.declared.login.AuthAnswer.{AuthAnswer}
 use Rattle.ftp_base.specs.declared.login.AuthAnswer.TheVariants as password
 use Rattle.ftp_options.specs.declared.lockout.FailedLoginsPolicy.{FailedLoginsPolicy}
@@ -10,69 +10,27 @@ use Rattle.ftp_lockout.specs.Failures.{swept, one_more, let_in}
 use Rattle.ftp_events.specs.declared.decision.Decision.TheVariants as decision
 use Rattle.ftp_events.specs.declared.event.EventKind.TheVariants as kind
 use Rattle.ftp_events.specs.declared.event.HubEvent.{HubEvent}
+use Rattle.ftp_events.specs.Classes.{is_stop}
 use Rattle.ftp_events.specs.CommandRows.{own_failures}
 use Rattle.ftp_events.specs.LoginRows.{auth_row}
 use Rattle.ftp_events.specs.Lockout.{login_key, is_login_for, failures_by, failures_after, tally, failures}
 use Rattle.ftp_events.specs.Right.{with_decision, next_entry}
-use Rattle.ftp_laws.proofs.Common.{IpAddr, Options, Action, Answer, Decision, Entry, EventKind, Opening, Session, Target, same_ip, named_session, granted_port, past_of, is_refusal, is_used, is_number, opens, opened_number, opener, is_client, target, holder, holder_of_target, history, lane, session, running_job, due, decide, acts, acts_of, IsRight, IsActed}
+use Rattle.ftp_laws.proofs.Common.{Options, Action, Answer, Decision, Entry, EventKind, Session, named_session, new_number, granted_port, past_of, is_refusal, opened_number, target, session, due, decide, acts, acts_of, IsRight, IsActed}
 use Rattle.ftp_laws.specs.Moments.{IsLatest, NeverFalls}
-use Rattle.ftp_laws.proofs.QuestionLemmas.{opener-other, history-other}
-use Rattle.ftp_laws.proofs.TableLemmas.{holder-other}
-use Rattle.ftp_laws.proofs.ReadLemmas.{due-same, acts-same}
+use Rattle.ftp_laws.proofs.SameLemmas.{TellSame, decided-same, done-same, AreSame, same-told, same-more, IsForNobody, nobody-same}
 use Rattle.ftp_laws.proofs.LockoutLemmas.{failures-tally, let_in-swept, one_more-swept, swept-later, password-swept}
 
--- two pasts tell the same but for failures
-record AreSame (o : Options) (P K : List Entry) : Type 0 where
-  openers : (s : ℕ) → opener K s ≡ opener P s
-  histories : (s : ℕ) → history o K s ≡ history o P s
-  holders : (a : IpAddr) (p : ℕ) → holder o K a p ≡ holder o P a p
-  numbers : (n : ℕ) → is_used K n ≡ is_used P n
-
--- of two such pasts
-module _ (o : Options) (P K : List Entry) (same : AreSame o P K) where
-  -- they have the same sessions
-  sessions-same : (s : ℕ) → session o K s ≡ session o P s
-  sessions-same s = rw (same.openers s, same.histories s) refl
-
-  -- and the same jobs
-  jobs-same : (s : ℕ) → running_job o K s ≡ running_job o P s
-  jobs-same s = ap (λ h. (lane h).running) (same.histories s)
-
-  -- an event comes for the same holder
-  comes-same : (k : EventKind) (answer : Answer) → holder_of_target o K k answer ≡ holder_of_target o P k answer
-  comes-same k answer = go (target o k answer)
-    where
-      go : (t : Option Target) → option_and_then (λ t. holder o K t.client t.port) t ≡ option_and_then (λ t. holder o P t.client t.port) t
-      go None = refl
-      go (Some t) = same.holders t.client t.port
-
-  -- a session has the same client
-  client-same : (n : Option ℕ) (a : IpAddr) → is_client K n a ≡ is_client P n a
-  client-same None a = refl
-  client-same (Some s) a = ap (λ (x : Option Opening). option_map_or (λ opening. same_ip opening.client a) x false) (same.openers s)
-
-  -- with one more entry they still tell the same
-  same-more : (e : Entry) → AreSame o (e ∷ P) (e ∷ K)
-  same-more e =
-      record {
-        openers = λ s. rw (same.openers s) refl;
-        histories = λ s. rw (comes-same e.event.kind e.answer, same.histories s) refl;
-        holders = λ a p. rw (client-same (named_session e.event.kind) a, same.holders a p) refl;
-        numbers = λ n. rw (same.numbers n) refl;
-      }
-
--- but for failures a past tells the same without it
-sweep-same : (o : Options) (past : List Entry) (e : Entry) → e.event.kind ≡ kind.Sweep → e.decision ≡ decision.Swept → AreSame o (e ∷ past) past
-sweep-same o past e k d =
+-- a sweep is for nobody
+sweep-nobody : (e : Entry) → e.event.kind ≡ kind.Sweep → e.decision ≡ decision.Swept → IsForNobody e
+sweep-nobody e k d =
     record {
-      openers = λ s. sym (opener-other past e s (unopened s));
-      histories = λ s. sym (history-other o past e s (unopened s) (rw k refl));
-      holders = λ a p. sym (holder-other o past e a p (ap (λ x. target o x e.answer) k) (ap named_session k) (ap granted_port d));
-      numbers = λ n. rw k refl;
+      unnamed = ap named_session k;
+      untargeted = λ o. ap (λ x. target o x e.answer) k;
+      unnumbered = ap (λ x. new_number x e.decision) k;
+      unopened = ap (opened_number e.event.kind) d;
+      ungranted = ap granted_port d;
+      plain = ap is_stop d;
     }
-  where
-    unopened : (s : ℕ) → opens e s ≡ false
-    unopened s = ap (λ x. is_number x s) (ap (opened_number e.event.kind) d)
 
 -- of the failures of a key, which differ by a sweep at the moment, an event leaves such as differ by a sweep at any later moment
 after-swept :
@@ -139,26 +97,17 @@ module _ (o : Options) (log rest : List Entry) (u : AreUnswept o log rest) where
           rw (failures-tally o p K (login_key p v) y, failures-tally o p P (login_key p v) y)
           (password-swept p at (tally o p K (login_key p v)) (tally o p P (login_key p v)) said v.login (u.failed p (login_key p v) at l))
 
-  -- the same is decided
-  decided-same :
-      (at : ℕ) (k : EventKind) (answer : Answer) → IsLatest at log →
-      due o K at k answer ≡ due o P at k answer
-  decided-same at k answer l =
-      due-same o P K at k answer
-      (record {
-        numbers = λ n c. u.same.numbers n;
-        sessions = λ s n. sessions-same o P K u.same s;
-        jobs = λ s n. jobs-same o P K u.same s;
-        targets = λ t x. record { holders = u.same.holders t.client t.port; sessions = λ s h. sessions-same o P K u.same s };
-        holders = λ s v n x p. u.same.holders v.opening.client p;
-        passwords = λ s v said n x. passwords-same at v said l;
-      })
+  -- they tell the same
+  told : TellSame o P K
+  told = same-told o P K u.same
+
+  -- so the same is decided
+  swept-decides : (at : ℕ) (k : EventKind) (answer : Answer) → IsLatest at log → due o K at k answer ≡ due o P at k answer
+  swept-decides at k answer l = decided-same o P K told at k answer (λ v said. passwords-same at v said l)
 
   -- and done
-  done-same : (e : Entry) → acts_of o K e ≡ acts_of o P e
-  done-same e =
-      acts-same o P K e (comes-same o P K u.same e.event.kind e.answer)
-      (λ s x. (sessions-same o P K u.same s, jobs-same o P K u.same s))
+  swept-does : (e : Entry) → acts_of o K e ≡ acts_of o P e
+  swept-does e = done-same o P K told e
 
 -- with the entry that is due next they are such logs too
 unswept-more :
@@ -176,10 +125,10 @@ unswept-more o log rest e l right acted u = go (is_refusal e.decision) refl
     K = past_of rest
 
     still_right : IsRight o (e ∷ rest)
-    still_right = (u.right, right ∙ sym (decided-same o log rest u e.event.at e.event.kind e.answer l))
+    still_right = (u.right, right ∙ sym (swept-decides o log rest u e.event.at e.event.kind e.answer l))
 
     still_acted : IsActed o (e ∷ rest)
-    still_acted = (u.acted, acted ∙ sym (done-same o log rest u e))
+    still_acted = (u.acted, acted ∙ sym (swept-does o log rest u e))
 
     go : (b : Bool) → is_refusal e.decision ≡ b → AreUnswept o (e ∷ log) (e ∷ rest)
     go true x =
@@ -191,10 +140,10 @@ unswept-more o log rest e l right acted u = go (is_refusal e.decision) refl
         }
     go false x =
         record {
-          same = rw x (same-more o P K u.same e);
+          same = rw x (same-more o P K e u.same);
           failed = λ p key at le.
               rw x
-              (after-swept o p P K key e.event.kind e.event.at at (tally o p P key) (tally o p K key) le (sessions-same o P K u.same)
+              (after-swept o p P K key e.event.kind e.event.at at (tally o p P key) (tally o p K key) le (same-told o P K u.same).sessions
               (u.failed p key e.event.at l));
           right = still_right;
           acted = still_acted;
@@ -210,7 +159,7 @@ unswept o [] older e k n r a =
     let d : e.decision ≡ decision.Swept = r.1 ∙ rw k refl in
     let counts : is_refusal e.decision ≡ false = ap is_refusal d in
     record {
-      same = rw counts (sweep-same o (past_of older) e k d);
+      same = rw counts (nobody-same o (past_of older) e (sweep-nobody e k d));
       failed = λ p key at le. rw (counts, k) (sym (swept-later p e.event.at at (tally o p (past_of older) key) le));
       right = r.0;
       acted = a.0;
@@ -242,6 +191,6 @@ sweeps-nothing o newer older e k n r a = (u.right, u.acted, λ event answer l. n
         next_entry o rest event answer ≡ next_entry o log event answer
     next event answer l =
         let d : Decision = decide o log event answer in
-        ap (with_decision o rest event answer) (decided-same o log rest u event.at event.kind answer l) ∙
+        ap (with_decision o rest event answer) (swept-decides o log rest u event.at event.kind answer l) ∙
         ap (λ (xs : List Action). record { event = event; answer = answer; decision = d; actions = xs })
-        (done-same o log rest u (record { event = event; answer = answer; decision = d; actions = [] }))
+        (swept-does o log rest u (record { event = event; answer = answer; decision = d; actions = [] }))

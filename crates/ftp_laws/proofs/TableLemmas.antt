@@ -4,10 +4,11 @@ use Rattle.std.specs.Prelude.{◌==◌}
 use Rattle.std.specs.Option.{option_map_or}
 use Rattle.std.proofs.Math.Bool.{and_comm}
 use Rattle.ftp_events.specs.declared.decision.Decision.TheVariants.{Granted}
+use Rattle.ftp_events.specs.Classes.{is_stop}
 use Rattle.ftp_events.specs.Session.{next_lane}
 use Rattle.ftp_events.specs.History.{One, one_or_nobody}
 use Rattle.ftp_laws.proofs.Common.{IpAddr, same_ip, Options, is_legacy, Entry, Session, is_number, named_session, opened_number, Target, target, granted_port, gives_hold, ends_hold, gives_up_hold, holder, subject, concerns, opens, lives_on, session, running_job}
-use Rattle.ftp_laws.proofs.SubjectLemmas.{one-concerns, no-stop, ends-plain, subject-plain}
+use Rattle.ftp_laws.proofs.SubjectLemmas.{one-concerns, ends-plain, subject-plain}
 use Rattle.ftp_laws.proofs.QuestionLemmas.{session-own, session-other, session_by, session-told, running-own, running-other}
 
 -- an entry about session s, which opens no session
@@ -15,10 +16,11 @@ pub record IsAbout (o : Options) (past : List Entry) (e : Entry) (s : ℕ) : Typ
   pub subject_is : subject o past e ≡ One s
   pub unopened : opened_number e.event.kind e.decision ≡ None
 
--- an entry that names session s, and is no data connection
+-- an entry that names session s, and is no data connection and no stop
 pub record IsNamed (o : Options) (e : Entry) (s : ℕ) : Type 0 where
   pub named : named_session e.event.kind ≡ Some s
   pub no_target : target o e.event.kind e.answer ≡ None
+  pub plain : is_stop e.decision ≡ false
 
 -- nothing holds together with what is false
 pub and-zero : (b : Bool) → (b && false) ≡ false
@@ -47,23 +49,24 @@ pub given-up :
     cond (option_map_or (ends_hold e) before false) None before ≡ cond (gives_up_hold e.decision && is_number before s) None before
 given-up o e s n None = sym (same-both (gives_up_hold e.decision && false) None)
 given-up o e s n (Some h) =
-    let ends : ends_hold e h ≡ (gives_up_hold e.decision && (h == s)) = ends-plain e h (no-stop e.decision) ∙ rw (n.named, eq-comm s h) (and_comm (h == s) (gives_up_hold e.decision)) in
+    let ends : ends_hold e h ≡ (gives_up_hold e.decision && (h == s)) = ends-plain e h n.plain ∙ rw (n.named, eq-comm s h) (and_comm (h == s) (gives_up_hold e.decision)) in
     ap (λ b. cond b None (Some h)) ends
 
--- a data connection
+-- a data connection, which is no stop
 pub record IsArrival (o : Options) (e : Entry) (t : Target) : Type 0 where
   pub to : target o e.event.kind e.answer ≡ Some t
   pub unnamed : named_session e.event.kind ≡ None
   pub no_grant : granted_port e.decision ≡ None
+  pub plain : is_stop e.decision ≡ false
 
--- an entry that names nobody ends no hold by itself
+-- an entry that names nobody and is no stop ends no hold by itself
 pub unnamed-ends :
     (e : Entry) (before : Option ℕ) →
-    named_session e.event.kind ≡ None →
+    named_session e.event.kind ≡ None → is_stop e.decision ≡ false →
     cond (option_map_or (ends_hold e) before false) None before ≡ before
-unnamed-ends e None n = same-both (option_map_or (ends_hold e) None false) None
-unnamed-ends e (Some h) n =
-    let ends : ends_hold e h ≡ false = ends-plain e h (no-stop e.decision) ∙ rw n refl in
+unnamed-ends e None n plain = same-both (option_map_or (ends_hold e) None false) None
+unnamed-ends e (Some h) n plain =
+    let ends : ends_hold e h ≡ false = ends-plain e h plain ∙ rw n refl in
     ap (λ b. cond b None (Some h)) ends
 
 -- of an entry after a past
@@ -137,14 +140,14 @@ module _ (o : Options) (past : List Entry) (e : Entry) where
       opened_number e.event.kind e.decision ≡ None →
       holder o past t.client t.port ≡ Some s →
       IsAbout o past e s
-  arrival-about t s n u h = record { subject_is = subject-plain o past e (no-stop e.decision) ∙ rw (n.unnamed, n.to) (ap one_or_nobody h); unopened = u }
+  arrival-about t s n u h = record { subject_is = subject-plain o past e n.plain ∙ rw (n.unnamed, n.to) (ap one_or_nobody h); unopened = u }
 
   -- the holders after a data connection: its key is free, whatever was decided
   pub holder-arrived :
       (t : Target) (a : IpAddr) (p : ℕ) →
       IsArrival o e t →
       holder o (e ∷ past) a p ≡ cond (same_ip t.client a && (t.port == p)) None (holder o past a p)
-  holder-arrived t a p n = rw (no-gift a p n.no_grant, n.to) (ap (cond (same_ip t.client a && (t.port == p)) None) (unnamed-ends e (holder o past a p) n.unnamed))
+  holder-arrived t a p n = rw (no-gift a p n.no_grant, n.to) (ap (cond (same_ip t.client a && (t.port == p)) None) (unnamed-ends e (holder o past a p) n.unnamed n.plain))
 
   -- the holders after any other entry
   pub holder-other :
@@ -152,5 +155,6 @@ module _ (o : Options) (past : List Entry) (e : Entry) where
       target o e.event.kind e.answer ≡ None →
       named_session e.event.kind ≡ None →
       granted_port e.decision ≡ None →
+      is_stop e.decision ≡ false →
       holder o (e ∷ past) a p ≡ holder o past a p
-  holder-other a p t n g = rw (no-gift a p g, t) (unnamed-ends e (holder o past a p) n)
+  holder-other a p t n g plain = rw (no-gift a p g, t) (unnamed-ends e (holder o past a p) n plain)

@@ -9,6 +9,7 @@ use Rattle.std.proofs.lemmas.Option.{same_Some}
 use Rattle.ftp_events.specs.declared.action.Action.TheVariants as action
 use Rattle.ftp_events.specs.declared.decision.Decision.TheVariants as decision
 use Rattle.ftp_events.specs.declared.decision.SlotMove.TheVariants.{Links, Queues, Finishes}
+use Rattle.ftp_events.specs.Classes.{is_stop}
 use Rattle.ftp_events.specs.Fate.{is_running}
 use Rattle.ftp_events.specs.History.{Nobody, One}
 use Rattle.ftp_events.specs.Login.{logged_user}
@@ -18,15 +19,18 @@ use Rattle.ftp_laws.proofs.Common.{SlotMove, slot_move, moved, starts_by, Option
 use Rattle.ftp_laws.specs.Fates.{settles, settle_count, queue_count}
 use Rattle.ftp_laws.specs.Transfers.{transfer_of, WasQueuedSo, starts_it, was_started}
 use Rattle.ftp_laws.proofs.TicketLemmas.{same_ticket-equal, same_ticket-refl}
-use Rattle.ftp_laws.proofs.SubjectLemmas.{by_subject, concerned, no-stop, one-own}
+use Rattle.ftp_laws.proofs.SubjectLemmas.{by_subject, concerned, one-own}
+use Rattle.ftp_laws.proofs.StopLemmas.{running-stopped}
 use Rattle.ftp_laws.proofs.ClassLemmas.{queues-is}
 use Rattle.ftp_laws.proofs.QuestionLemmas.{history-other, history-own, running-other, session-told, lane-opened, empty_lane}
 use Rattle.ftp_laws.proofs.HoldLemmas.{opened-fresh}
+use Rattle.ftp_laws.proofs.LiveLemmas.{live_sessions-ascending}
 use Rattle.ftp_laws.proofs.PortLemmas.{opened-nobody}
 use Rattle.ftp_laws.proofs.LaneLemmas.{IsQueue, queued-live, named-concern, ended-empty}
 use Rattle.ftp_laws.proofs.RunningLemmas.{runs-started, running-after, unused-idle}
 use Rattle.ftp_laws.proofs.CountLemmas.{IsOnStarts, started_in, count-starts, count-nobody}
 use Rattle.ftp_laws.proofs.BalanceLemmas.{one, finishes, settles-completions}
+use Rattle.ftp_laws.proofs.PartLemmas.{count-stop-idle}
 use Rattle.ftp_laws.proofs.SoundLemmas.{AllOf, all-wider, all-moved, queue-as, sound}
 use Rattle.ftp_laws.proofs.AccountLemmas.{slot-told, entry-fit, settles-here}
 use Rattle.ftp_laws.proofs.FateLemmas.{IsAccounted, accounted, running-carried}
@@ -51,7 +55,7 @@ queued-here o past e s t p fit c m made =
     let d : e.decision ≡ decision.Queued t = queues-is e.decision t m in
     let q : IsQueue o past e.event.kind t = queued-live o past e.event.at e.event.kind e.answer t (sym fit ∙ d) in
     let v : Session = q.session_then in
-    let own : q.number ≡ s = named-concern o past e q.number s q.named c in
+    let own : q.number ≡ s = named-concern o past e q.number s fit q.named c in
     let known : session o past s ≡ Some v = subst (λ (n : ℕ). session o past n ≡ Some v) own q.known in
     let told = (session-told o past s v known).told in
     let is = same_Some _ _ (sym made ∙ queue-as (history o past s) e t q.command d q.asked) in
@@ -178,11 +182,14 @@ starts-run :
     list_any (starts_it t n) e.actions ≡ true →
     RunsOn o (e ∷ past_of log) t n
 starts-run o log e t n a h =
-    by_subject o past e (no-stop e.decision)
+    by_subject o past e
     (λ about. absurd (omega (arith, any-counted (starts_it t n) e.actions h, count-nobody (starts_it t n) o past e (λ m. refl) a.acted about)))
     (λ q about.
     by_job q about (started_in o past e q) refl
     (omega (arith, any-counted (starts_it t n) e.actions h, count-starts (starts_it t n) o past e q (starts_it-on-starts t n) a.comes.counts a.acted about)))
+    (λ about.
+    let on : IsOnStarts (starts_it t n) = starts_it-on-starts t n in
+    absurd (omega (arith, any-counted (starts_it t n) e.actions h, count-stop-idle o past e a.comes.counts a.acted (starts_it t n) on.plain on.cancelled about)))
   where
     past : List Entry
     past = past_of log
@@ -242,7 +249,7 @@ runs-on o log e t n a x = by_part o past e s opened own (λ m c. inl (x.0, runni
         let ran : is_running t l.running ≡ true = rw (x.1, x.2) (same_ticket-refl t) in
         inr (omega (
           arith,
-          settles-here o past e t a.comes.counts a.acted c (ended-empty o log s a.comes.right),
+          settles-here o past e t a.comes.counts a.acted c (ended-empty o log s a.comes.right) (λ q. sound o log q a.comes.right) (live_sessions-ascending o log a.comes.right),
           settles-completions t e.event.kind e.decision (stays e.decision (session o past s)) queued l (entry-fit o past e s a.comes.fit c),
           ap (λ b. cond b (one (is_running t l.running)) 0) f,
           ap one ran,
@@ -264,7 +271,9 @@ run-started :
     (o : Options) (log : List Entry) (e : Entry) (s : ℕ) (r : Running) → Acts o log e →
     running_job o (e ∷ past_of log) s ≡ Some r →
     (list_any (starts_it r.job.ticket r.job.number) e.actions ≡ true) ⊎ (running_job o (past_of log) s ≡ Some r)
-run-started o log e s r a h = by_part o past e s opened own (λ m c. inr (sym (running-other o past e s m c) ∙ h))
+run-started o log e s r a h =
+    by_test (is_stop e.decision) (λ n. inr (sym (running-stopped o past e s n) ∙ h))
+    (λ n. by_part o past e s opened (own n) (λ m c. inr (sym (running-other o past e s m c) ∙ h)))
   where
     past : List Entry
     past = past_of log
@@ -284,8 +293,10 @@ run-started o log e s r a h = by_part o past e s opened own (λ m c. inr (sym (r
         counted-any test e.actions
         (omega (arith, count-starts test o past e s (starts_it-on-starts r.job.ticket r.job.number) a.comes.counts a.acted about, ap (λ (j : Option Running). count_by test (start_acts j)) x, one_start))
 
-    own : opens e s ≡ false → concerns o past e s ≡ true → (list_any test e.actions ≡ true) ⊎ (running_job o past s ≡ Some r)
-    own m c =
+    own :
+        is_stop e.decision ≡ false → opens e s ≡ false → concerns o past e s ≡ true →
+        (list_any test e.actions ≡ true) ⊎ (running_job o past s ≡ Some r)
+    own plain m c =
         go
         (runs-after (slot_move e.decision) (new_number e.event.kind e.decision) (queued_in (history o past s) e) (lane (history o past s)) r
         (sym (ap (λ (x : List Entry). (lane x).running) (history-own o past e s m c)) ∙ h))
@@ -295,7 +306,7 @@ run-started o log e s r a h = by_part o past e s opened own (λ m c. inr (sym (r
             ⊎ ((lane (history o past s)).running ≡ Some r) →
             (list_any test e.actions ≡ true) ⊎ (running_job o past s ≡ Some r)
         go (inl x) =
-            inl (starts (concerned o past e s (no-stop e.decision) c) (starting-history o past e s (ended-empty o log s a.comes.right) ∙ x))
+            inl (starts (concerned o past e s plain c) (starting-history o past e s (ended-empty o log s a.comes.right) ∙ x))
         go (inr x) = inr x
 
 -- in every right and acted log

@@ -41,7 +41,7 @@ settles t action = completes t action || cancels t action
 abbrev pub settle_count : Ticket → List Entry → ℕ
 settle_count t log = total (λ e. count_by (settles t) e.actions) log
 
--- the moves that can cancel a transfer: another grant, the connection of a PORT, one that is turned away, a slot that stood too long, and the end of the session
+-- the moves that can cancel a transfer: another grant, the connection of a PORT, one that is turned away, a slot that stood too long, an ABOR, and the end of the session
 abbrev pub may_cancel : SlotMove → Bool
 may_cancel (Awaits port) = true
 may_cancel Connects = true

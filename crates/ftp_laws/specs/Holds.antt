@@ -2,7 +2,7 @@
 use Rattle.std.specs.Prelude.{ℕ, ◌≡◌, ◌≢◌, ◌⊎◌, true, List, Some}
 use Rattle.ftp_base.specs.declared.net.IpAddr.{IpAddr}
 use Rattle.ftp_options.specs.declared.options.Options.{Options}
-use Rattle.ftp_events.specs.declared.decision.Decision.TheVariants.{Granted, PortOk}
+use Rattle.ftp_events.specs.declared.decision.Decision.TheVariants.{Granted, PortOk, Aborted, Stopped}
 use Rattle.ftp_events.specs.declared.entry.Entry.{Entry}
 use Rattle.ftp_events.specs.declared.session.Session.{Session}
 use Rattle.ftp_events.specs.declared.session.Slot.TheVariants.{Waits}
@@ -28,10 +28,19 @@ GrantsAnother e s p = (q : ℕ) × (q ≢ p) × (e.decision ≡ Granted q) × (n
 abbrev pub TakesConnection : Entry → ℕ → Type 0
 TakesConnection e s = (named_session e.event.kind ≡ Some s) × (e.decision ≡ PortOk)
 
--- session s ends by its own event
+-- an ABOR of session s drops its slot
+abbrev pub DropsSlot : Entry → ℕ → Type 0
+DropsSlot e s = (named_session e.event.kind ≡ Some s) × (e.decision ≡ Aborted)
+
+-- session s ends by its own event, or by a look at its idle time
 abbrev pub EndsSession : Entry → ℕ → Type 0
 EndsSession e s = (named_session e.event.kind ≡ Some s) × (is_ending e.decision ≡ true)
 
+-- every session ends
+abbrev pub Stops : Entry → Type 0
+Stops e = e.decision ≡ Stopped
+
 -- what ends the hold of port p that session s has for client a
 abbrev pub EndsHold : Options → Entry → ℕ → IpAddr → ℕ → Type 0
-EndsHold o e s a p = ComesTo o e a p ⊎ (GrantsAnother e s p ⊎ (TakesConnection e s ⊎ EndsSession e s))
+EndsHold o e s a p =
+    Stops e ⊎ (ComesTo o e a p ⊎ (GrantsAnother e s p ⊎ (TakesConnection e s ⊎ (DropsSlot e s ⊎ EndsSession e s))))

@@ -1,32 +1,35 @@
 -- What holds of every right log, in plain words.
 use Rattle.std.specs.Prelude.{ℕ, ◌+◌, ◌≡◌, ◌≤◌, ◌<◌, ◌↔◌, ◌⊎◌, List, [], ◌∷◌, ◌++◌, map, length, true, false, Some, None, is_some, if◌then◌else◌}
-use Rattle.std.specs.List.{list_any, range_with_len}
+use Rattle.std.specs.List.{flat_map, list_any, range_with_len}
 use Rattle.ftp_base.specs.declared.net.IpAddr.{IpAddr}
 use Rattle.ftp_options.specs.declared.options.Options.{Options}
 use Rattle.ftp_options.specs.Modes.{is_legacy}
 use Rattle.ftp_transfer.specs.declared.job.Outcome.{Outcome}
 use Rattle.ftp_transfer.specs.declared.job.Ticket.{Ticket}
-use Rattle.ftp_events.specs.declared.decision.Decision.TheVariants.{Finished}
+use Rattle.ftp_events.specs.declared.decision.Decision.TheVariants.{Finished, Stopped}
 use Rattle.ftp_events.specs.declared.entry.Entry.{Entry}
 use Rattle.ftp_events.specs.declared.event.Answer.{Answer}
 use Rattle.ftp_events.specs.declared.event.Answer.TheVariants.{Done}
-use Rattle.ftp_events.specs.declared.event.EventKind.TheVariants.{End, Sweep}
+use Rattle.ftp_events.specs.declared.event.EventKind.{EventKind}
+use Rattle.ftp_events.specs.declared.event.EventKind.TheVariants.{End, Sweep, Scavenge}
 use Rattle.ftp_events.specs.declared.event.HubEvent.{HubEvent}
 use Rattle.ftp_events.specs.declared.session.Pending.{Pending}
 use Rattle.ftp_events.specs.declared.session.Running.{Running}
 use Rattle.ftp_events.specs.declared.session.Session.{Session}
-use Rattle.ftp_events.specs.Acts.{pending_in}
+use Rattle.ftp_events.specs.Acts.{pending_in, acts_for}
 use Rattle.ftp_events.specs.Board.{holder}
 use Rattle.ftp_events.specs.Fate.{AwaitsConnection, AwaitsEarlierEnd, cancels, settlement, is_running, is_pending, wait, fate}
-use Rattle.ftp_events.specs.Headline.{AllServed}
+use Rattle.ftp_events.specs.Headline.{AllServed, IsClosed}
 use Rattle.ftp_events.specs.History.{concerns}
 use Rattle.ftp_events.specs.Isolation.{client_log, IsApart, locks_by_address}
-use Rattle.ftp_events.specs.Log.{past_of, is_refusal}
+use Rattle.ftp_events.specs.Leads.{header_to_read}
+use Rattle.ftp_events.specs.Log.{past_of, is_refusal, is_stopped, named_session, new_number}
 use Rattle.ftp_events.specs.Right.{IsRight, IsActed, next_entry, log_of, events_of, replies}
 use Rattle.ftp_events.specs.Running.{running_count}
-use Rattle.ftp_events.specs.Session.{session, running_job, live_count}
+use Rattle.ftp_events.specs.Session.{session, running_job, live_count, live_sessions}
 use Rattle.ftp_events.specs.Transfer.{moves_file}
-use Rattle.ftp_laws.specs.Census.{IsCensus}
+use Rattle.ftp_laws.specs.Alone.{IsActedButStops, SameServed}
+use Rattle.ftp_laws.specs.Census.{IsCensus, IsAscending, has}
 use Rattle.ftp_laws.specs.Holds.{WaitsOn, EndsHold}
 use Rattle.ftp_laws.specs.Fates.{was_queued, queue_count, settle_count, can_cancel, LosesSlot}
 use Rattle.ftp_laws.specs.Jobs.{started_count, completed_count, starts_there, has_brought}
@@ -35,6 +38,7 @@ use Rattle.ftp_laws.specs.Moments.{IsLatest, NeverFalls}
 use Rattle.ftp_laws.specs.Notices.{notices, NoneLoggedOut, LastLoggedOut, HasEnded}
 use Rattle.ftp_laws.specs.Offsets.{TakesRest, EndsWell}
 use Rattle.ftp_laws.specs.Replies.{was_opened}
+use Rattle.ftp_laws.specs.Stops.{parting}
 use Rattle.ftp_laws.specs.Transfers.{transfer_of, WasQueuedSo, was_started}
 
 -- whatever happens and is answered, there is a right and acted log of it
@@ -68,7 +72,8 @@ HoldsOnePort =
     holder o (past_of log) a p ≡ Some s → holder o (past_of log) b q ≡ Some s →
     (a ≡ b) × (p ≡ q)
 
--- a hold stays, but for a data connection to its key, a grant of another port to its holder, the connection of a PORT of its holder, or the closing of its holder
+-- a hold stays, but for a data connection to its key, a grant of another port to its holder, the connection of a PORT of its holder,
+-- an ABOR of its holder, the end of its holder, or a stop
 abbrev pub HoldsEndOnlySo : Type 0
 HoldsEndOnlySo =
     (o : Options) (log : List Entry) (e : Entry) (a : IpAddr) (p s : ℕ) → is_legacy o.mode ≡ false → IsRight o (e ∷ log) →
@@ -109,18 +114,26 @@ LiveAreNotLoggedOut =
     session o (past_of log) s ≡ Some v →
     NoneLoggedOut (notices log s)
 
--- where failed logins of one address lock no other, the entries of a client whose numbers nobody else brings in are a right and acted log by themselves
+-- where failed logins of one address lock no other, the entries of a client whose numbers nobody else brings in are a right log by themselves,
+-- and acted but for a Shutdown, which names every session
 abbrev pub ClientsAreIsolated : Type 0
 ClientsAreIsolated =
     (o : Options) (log : List Entry) (a : IpAddr) → is_legacy o.mode ≡ false → locks_by_address o.lockout ≡ true →
     IsApart log a → IsRight o log → IsActed o log →
-    IsRight o (client_log log a) × IsActed o (client_log log a)
+    IsRight o (client_log log a) × IsActedButStops o (client_log log a)
 
--- they are what the client's events and answers give with nobody else there
+-- they serve what the client's events and answers give with nobody else there: the same decisions, and the same actions but for a Shutdown
+abbrev pub ClientsAreServedAlone : Type 0
+ClientsAreServedAlone =
+    (o : Options) (log : List Entry) (a : IpAddr) → is_legacy o.mode ≡ false → locks_by_address o.lockout ≡ true →
+    IsApart log a → IsRight o log → IsActed o log →
+    SameServed (log_of o (events_of (client_log log a))) (client_log log a)
+
+-- before any stop they are just that
 abbrev pub ClientsAreAsIfAlone : Type 0
 ClientsAreAsIfAlone =
     (o : Options) (log : List Entry) (a : IpAddr) → is_legacy o.mode ≡ false → locks_by_address o.lockout ≡ true →
-    IsApart log a → IsRight o log → IsActed o log →
+    IsApart log a → IsRight o log → IsActed o log → is_stopped (past_of log) ≡ false →
     log_of o (events_of (client_log log a)) ≡ client_log log a
 
 -- no link takes two transfers
@@ -176,7 +189,8 @@ SettledOnce =
     (o : Options) (log : List Entry) (t : Ticket) → IsRight o log → IsActed o log →
     settle_count t log ≤ 1
 
--- it is cancelled by another grant, the connection of a PORT, one that is turned away, a slot that stood too long or the end of a session alone, where that concerns its session
+-- it is cancelled by another grant, the connection of a PORT, one that is turned away, a slot that stood too long, an ABOR, or the end of a session alone,
+-- where that concerns its session, as a stop concerns every session
 abbrev pub CancelledOnlySo : Type 0
 CancelledOnlySo =
     (o : Options) (log : List Entry) (e : Entry) (t : Ticket) → IsRight o (e ∷ log) → IsActed o (e ∷ log) →
@@ -262,6 +276,66 @@ RepliesFollowOpenings =
     (o : Options) (log : List Entry) (s : ℕ) → IsRight o log → IsActed o log →
     was_opened s log ≡ false →
     replies log s ≡ []
+
+-- after a stop no session is live, and nobody holds a port
+abbrev pub NothingIsLeft : Type 0
+NothingIsLeft =
+    (o : Options) (log : List Entry) → IsRight o log → is_stopped (past_of log) ≡ true →
+    ((s : ℕ) → session o (past_of log) s ≡ None) × ((a : IpAddr) (p : ℕ) → holder o (past_of log) a p ≡ None)
+
+-- a new connection that comes then and is not refused is turned away and closed
+abbrev pub NewcomersAreClosed : Type 0
+NewcomersAreClosed =
+    (o : Options) (log : List Entry) (e : Entry) → IsRight o (e ∷ log) → IsActed o (e ∷ log) → is_stopped (past_of log) ≡ true →
+    is_some (new_number e.event.kind e.decision) ≡ true → is_refusal e.decision ≡ false →
+    IsClosed e
+
+-- nothing is decided for a session then but the end of a job that ran
+abbrev pub OnlyEndsAreServed : Type 0
+OnlyEndsAreServed =
+    (o : Options) (log : List Entry) (e : Entry) (s : ℕ) → IsRight o (e ∷ log) → is_stopped (past_of log) ≡ true →
+    named_session e.event.kind ≡ Some s → is_refusal e.decision ≡ false →
+    e.decision ≡ Finished
+
+-- another stop does nothing then
+abbrev pub StopsAgainDoNothing : Type 0
+StopsAgainDoNothing =
+    (o : Options) (log : List Entry) (e : Entry) → IsRight o log → IsActed o (e ∷ log) → is_stopped (past_of log) ≡ true →
+    e.decision ≡ Stopped →
+    e.actions ≡ []
+
+-- and no header is read
+abbrev pub NoHeaderIsRead : Type 0
+NoHeaderIsRead =
+    (o : Options) (log : List Entry) (k : EventKind) → is_stopped (past_of log) ≡ true →
+    header_to_read o (past_of log) k ≡ None
+
+-- a stop does its part for each live session, one after the other
+abbrev pub StopsPartWithAll : Type 0
+StopsPartWithAll =
+    (o : Options) (log : List Entry) (e : Entry) → IsActed o (e ∷ log) → e.decision ≡ Stopped →
+    e.actions ≡ flat_map (acts_for o (past_of log) e) (live_sessions o (past_of log))
+
+-- these ascend, and are the sessions that are live
+abbrev pub LiveAreInOrder : Type 0
+LiveAreInOrder =
+    (o : Options) (log : List Entry) → IsRight o log →
+    IsAscending (live_sessions o (past_of log)) × ((s : ℕ) → has (live_sessions o (past_of log)) s ≡ is_some (session o (past_of log) s))
+
+-- a session's part is that its transfer is cancelled, its link closed, its logout told, and its own connection closed
+abbrev pub PartingsAreTheSame : Type 0
+PartingsAreTheSame =
+    (o : Options) (log : List Entry) (e : Entry) (s : ℕ) (v : Session) → IsRight o (e ∷ log) → e.decision ≡ Stopped →
+    session o (past_of log) s ≡ Some v →
+    acts_for o (past_of log) e s ≡ parting s v
+
+-- a scavenging changes nothing: without it the log is right and acted too, and has the same next entry
+abbrev pub ScavengesChangeNothing : Type 0
+ScavengesChangeNothing =
+    (o : Options) (newer older : List Entry) (e : Entry) → e.event.kind ≡ Scavenge →
+    IsRight o (newer ++ e ∷ older) → IsActed o (newer ++ e ∷ older) →
+    IsRight o (newer ++ older) × IsActed o (newer ++ older) ×
+    ((event : HubEvent) (answer : Answer) → next_entry o (newer ++ older) event answer ≡ next_entry o (newer ++ e ∷ older) event answer)
 
 -- where moments never fall a sweep changes nothing: without it the log is right and acted too, and has the same next entry
 abbrev pub SweepsChangeNothing : Type 0

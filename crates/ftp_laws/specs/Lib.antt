@@ -8,4 +8,6 @@ pub mod Transfers
 pub mod Census
 pub mod Replies
 pub mod Moments
+pub mod Alone
+pub mod Stops
 pub mod Laws

@@ -1,10 +1,11 @@
 //! The laws of right logs. The functions do nothing: their clauses are the laws.
 ghost use Rattle.ftp_laws.specs.Laws.{RightLogsExist, RightLogsAreDetermined, RightLogsServe, HoldersWait, HoldsOnePort, HoldsEndOnlySo, EachEndsHold};
-ghost use Rattle.ftp_laws.specs.Laws.{NoticesAreNumbered, NoticesAreCounted, EndedAreLoggedOut, LiveAreNotLoggedOut, ClientsAreIsolated, ClientsAreAsIfAlone};
+ghost use Rattle.ftp_laws.specs.Laws.{NoticesAreNumbered, NoticesAreCounted, EndedAreLoggedOut, LiveAreNotLoggedOut, ClientsAreIsolated, ClientsAreServedAlone, ClientsAreAsIfAlone};
 ghost use Rattle.ftp_laws.specs.Laws.{LinksTakeOneJob, SessionsRunOneJob, StartsOnOwnLink, EndsSetOffset, OffsetsLast};
 ghost use Rattle.ftp_laws.specs.Laws.{QueuedHaveFates, SettledDoNotWait, SettledOnce, QueuedOnce, RunningAreInNoSlot, RunningAreUnsettled, CancelledOnlySo, CancelledWithSlot};
 ghost use Rattle.ftp_laws.specs.Laws.{EarlierEndsAreOfRunning, AwaitedPortsAreHeld, WaitingAreAsQueued, RunningAreAsQueued, RunningAreAsStarted};
-ghost use Rattle.ftp_laws.specs.Laws.{LiveAreCounted, RunningAreCounted, RepliesFollowOpenings, SweepsChangeNothing};
+ghost use Rattle.ftp_laws.specs.Laws.{NothingIsLeft, NewcomersAreClosed, OnlyEndsAreServed, StopsAgainDoNothing, NoHeaderIsRead, StopsPartWithAll, LiveAreInOrder, PartingsAreTheSame};
+ghost use Rattle.ftp_laws.specs.Laws.{LiveAreCounted, RunningAreCounted, RepliesFollowOpenings, SweepsChangeNothing, ScavengesChangeNothing};
 
 /// There is one right and acted log for given events and answers.
 pub fn right_logs_are_determined()
@@ -25,8 +26,8 @@ pub fn holders_wait()
     ensures one_port { HoldsOnePort }
 {}
 
-/// A hold ends only by a data connection, by a grant of another port to its holder, by the connection of a PORT of its
-/// holder, or with its holder.
+/// A hold ends only by a data connection, by a grant of another port to its holder, by the connection of a PORT or an
+/// ABOR of its holder, with its holder, or by a stop.
 pub fn holds_end()
     ensures only_so { HoldsEndOnlySo }
     ensures each { EachEndsHold }
@@ -83,7 +84,7 @@ pub fn transfers_are_fixed_when_queued()
 
 /// A transfer is cancelled exactly where its session loses the slot in which it waits: by another grant, by the
 /// connection of a PORT, by a data connection for the session that is turned away while the slot waits, by a look at a
-/// slot that stood too long, or by the session's end.
+/// slot that stood too long, by an ABOR, or by the session's end, alone or with all others.
 pub fn transfers_are_cancelled_with_their_slot()
     ensures with_slot { CancelledWithSlot }
     ensures only_so { CancelledOnlySo }
@@ -107,16 +108,39 @@ pub fn replies_follow_openings()
     ensures replies { RepliesFollowOpenings }
 {}
 
-/// The entries of one client address, with the sweeps, are right and acted by themselves, where failed logins of one
-/// address lock no other. With the headers of the client's own
-/// connections and the outcomes of its own transfers given, it is granted, attached and refused what it would be
-/// with nobody else there.
+/// The entries of one client address, with those that concern every client, are right by themselves, where failed
+/// logins of one address lock no other, and acted but for a Shutdown, whose actions name every session. With the
+/// headers of the client's own connections and the outcomes of its own transfers given, it is granted, attached,
+/// refused and told what it would be with nobody else there.
 pub fn client_part_is_right_and_acted()
     ensures isolated { ClientsAreIsolated }
+    ensures served { ClientsAreServedAlone }
     ensures alone { ClientsAreAsIfAlone }
 {}
 
 /// Where moments never fall, forgetting failed logins that are too old changes nothing that is decided or done later.
 pub fn sweeps_change_nothing()
     ensures sweeps { SweepsChangeNothing }
+{}
+
+/// After a stop no session is live, nobody holds a port, and nothing is opened, attached, granted or read: what comes
+/// is turned away and closed, or refused, and only the jobs that ran still end.
+pub fn stops_last()
+    ensures left { NothingIsLeft }
+    ensures newcomers { NewcomersAreClosed }
+    ensures ends { OnlyEndsAreServed }
+    ensures again { StopsAgainDoNothing }
+    ensures headers { NoHeaderIsRead }
+{}
+
+/// A stop parts with each live session, in order of their numbers.
+pub fn stops_part_with_all()
+    ensures parts { StopsPartWithAll }
+    ensures in_order { LiveAreInOrder }
+    ensures each { PartingsAreTheSame }
+{}
+
+/// Looking for what is held for no session changes nothing that is decided or done later.
+pub fn scavenges_change_nothing()
+    ensures scavenges { ScavengesChangeNothing }
 {}

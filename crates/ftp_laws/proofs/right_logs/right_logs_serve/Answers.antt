@@ -1,4 +1,4 @@
-use Rattle.ftp_laws.proofs.ServiceLemmas.{all-served}
+use Rattle.ftp_laws.proofs.HeadlineLemmas.{all-served}
 use Rattle.ftp_laws.proofs.right_logs.right_logs_serve.Goals as goal
 
 pub returns : goal.returns
