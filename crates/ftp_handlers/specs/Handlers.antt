@@ -4,6 +4,8 @@ use Rattle.std.specs.Prelude.{◌≡◌, ℕ, ◌+◌, ◌-◌, ◌^◌, ◌<◌
 use Rattle.std.specs.Option.{IfSome, option_or, option_map, option_map_or, option_and_then}
 use Rattle.std.specs.HashMap as map
 use Rattle.ftp_base.specs.declared.error_kind.ErrorKind.{ErrorKind}
+use Rattle.ftp_base.specs.declared.message.ControlChanMsg.{ControlChanMsg}
+use Rattle.ftp_base.specs.declared.message.ControlChanMsg.TheVariants.{ExitControlLoop}
 use Rattle.ftp_base.specs.declared.login.AuthAnswer.{AuthAnswer}
 use Rattle.ftp_base.specs.declared.login.AuthAnswer.TheVariants.{BadUser}
 use Rattle.ftp_base.specs.Net.{ipv4}
@@ -26,6 +28,7 @@ use Rattle.ftp_events.specs.declared.event.Answer.{Answer}
 use Rattle.ftp_events.specs.declared.event.Answer.TheVariants.{Done}
 use Rattle.ftp_events.specs.declared.decision.Decision.{Decision}
 use Rattle.ftp_events.specs.declared.decision.Decision.TheVariants.{Queued, Finished, LoggedIn, LoginFailed}
+use Rattle.ftp_events.specs.declared.decision.Decision.TheVariants as decision
 use Rattle.ftp_events.specs.declared.session.Login.{Login}
 use Rattle.ftp_events.specs.declared.session.Login.TheVariants as login
 use Rattle.ftp_events.specs.declared.session.Pending.{Pending}
@@ -37,6 +40,7 @@ use Rattle.ftp_events.specs.declared.decision.SlotMove.TheVariants.{Keeps, Empti
 use Rattle.ftp_events.specs.Classes.{life, slot_move}
 use Rattle.ftp_events.specs.Log.{named_session}
 use Rattle.ftp_events.specs.Login.{logged_user}
+use Rattle.ftp_events.specs.Message.{is_for_control, notice_of, reply_of}
 use Rattle.ftp_events.specs.Place.{offset_by, is_queued}
 use Rattle.ftp_events.specs.Session.{queued_for}
 use Rattle.ftp_events.specs.Slot.{Lane}
@@ -46,6 +50,7 @@ use Rattle.ftp_events.specs.CommandRows.{Around}
 use Rattle.ftp_events.specs.Lockout.{failures_by, login_key}
 use Rattle.ftp_events.specs.Words.{◌⇒◌∣◌}
 use Rattle.ftp_handlers.specs.declared.auth_done.Refusal.{Refusal}
+use Rattle.ftp_handlers.specs.declared.telling.Told.{Told}
 use Rattle.ftp_handlers.specs.Rooms.{most_actions}
 
 -- the kinds of the handlers
@@ -81,9 +86,13 @@ abbrev pub is_slot_tick : EventKind → Bool
 is_slot_tick (kind.SlotTick s) = true
 is_slot_tick _ = false
 
--- the kinds that end a live session
+abbrev pub is_idle_tick : EventKind → Bool
+is_idle_tick (kind.IdleTick s) = true
+is_idle_tick _ = false
+
+-- the kinds that end a live session, or can
 abbrev pub ends_session : EventKind → Bool
-ends_session k = is_closed k || is_quit k
+ends_session k = is_closed k || is_quit k || is_idle_tick k
 
 abbrev pub is_rest : EventKind → Bool
 is_rest (kind.Rest s offset) = true
@@ -93,29 +102,41 @@ abbrev pub is_cwd : EventKind → Bool
 is_cwd (kind.Cwd s path refusal) = true
 is_cwd _ = false
 
+abbrev pub is_abor : EventKind → Bool
+is_abor (kind.Abor s) = true
+is_abor _ = false
+
+abbrev pub is_internal : EventKind → Bool
+is_internal (kind.Internal s message) = true
+is_internal _ = false
+
 -- RETR, STOR, APPE, LIST, NLST, MLSD and STOU
 abbrev pub is_transfer : EventKind → Bool
 is_transfer (kind.Transfer s c) = true
 is_transfer (kind.Stou s word) = true
 is_transfer _ = false
 
--- the other kinds about a session that goes on, but for the connections that come to it
+-- the other kinds about a session that goes on, but for the connections that come to it and a look at its idle time
 abbrev pub is_command : EventKind → Bool
-is_command k = is_user k || is_pass k || is_auth k || is_pasv k || is_port k || is_rest k || is_cwd k || is_slot_tick k
+is_command k =
+    is_user k || is_pass k || is_auth k || is_pasv k || is_port k || is_rest k || is_cwd k || is_abor k || is_internal k || is_slot_tick k
 
--- how many actions of an event of this kind can need a place
+-- how many actions of an event of this kind can need a place, but for those of a stop
 abbrev pub places_for : EventKind → ℕ
-places_for k = most_actions + (if is_quit k then 1 else 0)
+places_for k = most_actions + (if is_quit k || is_idle_tick k then 1 else 0)
 
--- the kinds that a reply answers
+-- the kinds that a reply answers whose text is written when it is sent
 abbrev pub can_reply : EventKind → Bool
 can_reply (kind.Connect s raw local trace) = false
 can_reply (kind.Proxied number raw trace) = false
 can_reply (kind.DataIn number raw port) = false
 can_reply (kind.Accepted s number raw) = false
 can_reply (kind.Closed s) = false
+can_reply (kind.Internal s message) = false
 can_reply (kind.SlotTick s) = false
 can_reply kind.Sweep = false
+can_reply kind.Scavenge = false
+can_reply kind.Shutdown = false
 can_reply _ = true
 
 -- the kinds with which a transfer may be dropped whose session goes on
@@ -125,6 +146,7 @@ can_drop (kind.DataIn number raw port) = true
 can_drop (kind.Accepted s number raw) = true
 can_drop (kind.Pasv s word lookup bound) = true
 can_drop (kind.Port s text number) = true
+can_drop (kind.Abor s) = true
 can_drop (kind.SlotTick s) = true
 can_drop _ = false
 
@@ -202,9 +224,10 @@ pub record CanCount (failures : Option Table) (o : Options) : Type 0 where
   pub policy : policy_in failures ≡ o.lockout
   pub spare : HasSpare failures
 
--- what stands around a command: the holders by the board, the failures by the table, whether its number is used, and the moment
-abbrev pub surroundings : Board → Option Table → Bool → ℕ → Session → Around
-surroundings board failures used at v = record { holders = held_for board v; failures = failures_in failures; used = λ n. used; at = at }
+-- what stands around a command: the holders by the board, the failures by the table, whether its number is used and a job of its session runs, and the moment
+abbrev pub surroundings : Board → Option Table → Bool → Bool → ℕ → Session → Around
+surroundings board failures used runs at v =
+    record { holders = held_for board v; failures = failures_in failures; used = λ n. used; runs = runs; at = at }
 
 -- the password is out
 abbrev pub is_checking : Login → Bool
@@ -235,19 +258,33 @@ kept_by (kind.AuthDone s said) v = unwrap_or v.name (codes "unknown")
 kept_by (kind.Closed s) v = logged_user v.login v.name
 kept_by (kind.Quit s) v = logged_user v.login v.name
 kept_by (kind.End ticket) v = logged_user v.login v.name
+kept_by (kind.Internal s message) v = logged_user v.login v.name
+kept_by (kind.IdleTick s) v = logged_user v.login v.name
 kept_by (kind.Cwd s path refusal) v = join_path v.cwd path
 kept_by k v = kept_alone k
 
--- how many notices a decision with this turn of a life sends to its session, with the answer that it is on
-abbrev pub notices_by : Life → Decision → Answer → ℕ
-notices_by Ends d answer = 1
-notices_by _ LoggedIn answer = 1
-notices_by _ Finished (Done outcome) = if moves_file outcome.result then 1 else 0
-notices_by _ d answer = 0
+-- what an event tells: the reply to its client and what listeners are told, of a message that is the control layer's own
+abbrev pub telling_for : EventKind → Option Told
+telling_for (kind.Internal s message) =
+    is_for_control message ⇒ Some (record { reply = reply_of message; notice = notice_of message }) ∣ None
+telling_for _ = None
 
--- how many a decision sends
-abbrev pub notices_of : Decision → Answer → ℕ
-notices_of d answer = notices_by (life d) d answer
+-- the message of an event
+abbrev pub message_of : EventKind → ControlChanMsg
+message_of (kind.Internal s message) = message
+message_of _ = ExitControlLoop
+
+-- how many notices a decision with this turn of a life sends to its session, with the event and the answer that it is on
+abbrev pub notices_by : Life → Decision → EventKind → Answer → ℕ
+notices_by Ends d k answer = 1
+notices_by _ LoggedIn k answer = 1
+notices_by _ decision.Told (kind.Internal s message) answer = if is_some (notice_of message) then 1 else 0
+notices_by _ Finished k (Done outcome) = if moves_file outcome.result then 1 else 0
+notices_by _ d k answer = 0
+
+-- how many a decision on an event sends
+abbrev pub notices_of : EventKind → Decision → Answer → ℕ
+notices_of k d answer = notices_by (life d) d k answer
 
 -- a session has so few notices and transfers that one more of each can be counted
 pub record IsFew (v : Session) : Type 0 where
@@ -262,13 +299,15 @@ next_ticket s v = record { session = s; nr = min (v.tickets + 1) (2 ^ 64 - 1) }
 abbrev pub asked_for : EventKind → Session → Option Pending
 asked_for k v = queued_for (Queued (next_ticket (number_of k) v)) k v
 
--- a session with the transfer that is queued, before it starts
-abbrev pub with_queued : EventKind → Decision → Session → Session
-with_queued k d v = record v { pending = option_or (queued_for d k v) v.pending; tickets = v.tickets + (if is_queued d then 1 else 0) }
+-- a session at a moment with the transfer that is queued, before it starts
+abbrev pub with_queued : ℕ → EventKind → Decision → Session → Session
+with_queued at k d v =
+    record v { active_at = at; pending = option_or (queued_for d k v) v.pending; tickets = v.tickets + (if is_queued d then 1 else 0) }
 
--- a session that is told of the end of its transfer, before another starts
-abbrev pub with_end : EventKind → Answer → Session → Session
-with_end k answer v = record v { offset = unwrap_or (offset_by Finished k answer) v.offset; notices = v.notices + notices_of Finished answer }
+-- a session that is told at a moment of the end of its transfer, before another starts
+abbrev pub with_end : ℕ → EventKind → Answer → Session → Session
+with_end at k answer v =
+    record v { offset = unwrap_or (offset_by Finished k answer) v.offset; active_at = at; notices = v.notices + notices_of k Finished answer }
 
 -- a session with another slot and transfer
 abbrev pub with_lane : Session → Lane → Session

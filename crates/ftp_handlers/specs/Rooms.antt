@@ -1,14 +1,13 @@
 -- What a room holds.
-use Rattle.std.specs.Prelude.{◌≡◌, ℕ, ◌+◌, ◌<◌, ◌≤◌, List, [], length, Bool, IsTrue, true, false, Option, Some, None}
-use Rattle.ftp_base.specs.declared.notice.DataEvent.{DataEvent}
-use Rattle.ftp_base.specs.declared.notice.DataEvent.TheVariants.{Got, Put}
+use Rattle.std.specs.Prelude.{◌≡◌, ℕ, ◌+◌, ◌*◌, ◌<◌, ◌≤◌, List, [], length, Bool, IsTrue, true, false, Option, Some, None}
 use Rattle.ftp_transfer.specs.declared.job.Job.{Job}
 use Rattle.ftp_events.specs.declared.action.Action.{Action}
 use Rattle.ftp_events.specs.declared.action.Action.TheVariants as action
 use Rattle.ftp_events.specs.declared.session.Pending.{Pending}
+use Rattle.ftp_handlers.specs.declared.telling.Told.{Told}
 use Rattle.ftp_handlers.specs.declared.room.Need.{Need}
 use Rattle.ftp_handlers.specs.declared.room.Need.TheVariants.{Nothing, Header, Run}
-use Rattle.ftp_handlers.specs.Copies.{IsWide, TextState}
+use Rattle.ftp_handlers.specs.Copies.{IsWide, Leaver, TextState}
 
 -- what contracts see of a room
 pub record RoomState : Type 0 where
@@ -18,6 +17,8 @@ pub record RoomState : Type 0 where
   pub kept : TextState
   pub path : List ℕ
   pub pending : Option Pending
+  pub telling : Option Told
+  pub leavers : List Leaver
   pub text : TextState
   pub dropped : TextState
   pub actions : List Action
@@ -55,6 +56,14 @@ need_for false (Some job) = Run job.ticket
 abbrev pub kept_in : RoomState → List ℕ
 kept_in room = room.kept.items
 
+-- what the event tells, where it is a message
+abbrev pub telling_in : RoomState → Option Told
+telling_in room = room.telling
+
+-- the sessions that a stop still has to end, in order
+abbrev pub leavers_in : RoomState → List Leaver
+leavers_in room = room.leavers
+
 -- one more action has a place
 abbrev pub HasPlace : RoomState → Type 0
 HasPlace room = len_in room < room.places
@@ -63,9 +72,13 @@ HasPlace room = len_in room < room.places
 abbrev pub HasPlaces : ℕ → RoomState → Type 0
 HasPlaces n room = len_in room + n ≤ room.places
 
--- no event has more actions for one session, but for QUIT, which has one more
+-- no event has more actions for one session, but for QUIT and the end of an idle session, which have one more
 abbrev pub most_actions : ℕ
 most_actions = 4
+
+-- the actions of all who still have to leave have places
+abbrev pub HasLeave : RoomState → Type 0
+HasLeave room = HasPlaces (most_actions * length (leavers_in room)) room
 
 -- where all is put in twice, there is a copy of this path
 abbrev pub HasCopy : RoomState → List ℕ → Type 0
@@ -76,11 +89,6 @@ abbrev pub is_plain : Action → Bool
 is_plain (action.Notify session meta what) = false
 is_plain (action.Reply session delay reply) = false
 is_plain _ = true
-
--- the path of a notice
-abbrev pub path_of : DataEvent → List ℕ
-path_of (Got path bytes) = path
-path_of (Put path bytes) = path
 
 -- nothing was put in, and the actions of one session have places
 pub record IsReady (room : RoomState) : Type 0 where

@@ -54,7 +54,7 @@ pub(crate) fn handle(
     requires count { CanCount failures.old options.now }
     ensures goes_on { IsTrue (goes_on result) }
     ensures decision { result ≡ auth_row options.now.lockout at (own_failures options.now (failures_in failures.old) session.old) (said_of args.now) session.old.login }
-    ensures session { session.old.notices + 1 < 2 ^ 64 → (answer : Answer) (job : Option Running) → session.new ≡ session_after at args.now answer result (notices_of result answer) job session.old }
+    ensures session { session.old.notices + 1 < 2 ^ 64 → (answer : Answer) (job : Option Running) → session.new ≡ session_after at args.now answer result (notices_of args.now result answer) job session.old }
     ensures actions { session.old.notices + 1 < 2 ^ 64 → (answer : Answer) (job : Option Running) → actions_in room.new ≡ session_acts options.now (number_of args.now) args.now answer result job (Some session.old) }
     ensures failures { (p : FailedLoginsPolicy) → options.now.lockout ≡ Some p → (key : LoginKey) → failures_in failures.new key ≡ failures_left p session.old key args.now at (failures_in failures.old key) }
     ensures policy { policy_in failures.new ≡ policy_in failures.old }
@@ -71,6 +71,7 @@ pub(crate) fn handle(
     if !matches!(session.login, Login::Checking) {
         return Decision::NotExpected;
     }
+    session.active_at = at;
     if let Some(refusal) = weigh(failures, *answer, session, room, at) {
         session.login = Login::New;
         room.reply_late(

@@ -12,7 +12,7 @@ ghost use Rattle.ftp_events.specs.declared.decision.Decision.TheVariants as deci
 ghost use Rattle.ftp_events.specs.Login.{logged_user};
 ghost use Rattle.ftp_events.specs.Slot.{waiting_port};
 ghost use Rattle.ftp_events.specs.Acts.{cancellations, closings, link_in, session_acts};
-ghost use Rattle.ftp_handlers.specs.Rooms.{IsReady, actions_in, kept_in, len_in, twice_in};
+ghost use Rattle.ftp_handlers.specs.Rooms.{HasPlaces, IsReady, actions_in, kept_in, len_in, twice_in};
 ghost use Rattle.ftp_handlers.specs.Handlers.{is_closed, number_of, kept_by, held_after, held_without};
 
 use crate::pasv::waiting_port;
@@ -60,6 +60,17 @@ pub(crate) fn leave(session: &mut Session, number: u64, board: &mut Switchboard,
     ensures range { SameRange board.old board.new }
 {
     release(board, session, number);
+    depart(session, number, room);
+}
+
+/// Cancels the transfer that waits for a session that ends, closes its link, and tells listeners.
+pub(crate) fn depart(session: &mut Session, number: u64, room: &mut Room)
+    requires places { HasPlaces 3 room.old }
+    requires kept { kept_in room.old ≡ logged_user session.old.login session.old.name }
+    ensures actions { session.old.notices + 1 < 2 ^ 64 → actions_in room.new ≡ actions_in room.old ++ cancellations number false session.old.pending ++ closings (link_in session.old.slot) ++ action.Notify number (record { username = kept_in room.old; trace_id = record { 0 = session.old.opening.trace }; sequence_number = session.old.notices + 1 }) (Presence presence.LoggedOut) ∷ [] }
+    ensures len { len_in room.new ≤ len_in room.old + 3 }
+    ensures same { room.new ≡ record room.old { actions = room.new.actions; kept = room.new.kept } }
+{
     room.cancel(number, mem::replace(&mut session.pending, None));
     room.close_link(session.slot);
     room.notify_presence(

@@ -1,6 +1,6 @@
 //! The commands of a session that goes on.
 
-ghost use Rattle.std.specs.Prelude.{◌≡◌, ◌+◌, ◌<◌, ◌^◌, ℕ, true, false, IsTrue, Option, Some};
+ghost use Rattle.std.specs.Prelude.{◌≡◌, ◌+◌, ◌<◌, ◌^◌, ℕ, true, false, IsTrue, Bool, Option, Some};
 ghost use Rattle.ftp_base.specs.Net.{ipv4};
 ghost use Rattle.ftp_options.specs.declared.lockout.FailedLoginsPolicy.{FailedLoginsPolicy};
 ghost use Rattle.ftp_options.specs.Modes.{is_legacy};
@@ -12,15 +12,15 @@ ghost use Rattle.ftp_events.specs.CommandRows.{command_row};
 ghost use Rattle.ftp_events.specs.Slot.{waiting_port};
 ghost use Rattle.ftp_events.specs.Session.{session_after};
 ghost use Rattle.ftp_events.specs.Acts.{session_acts};
-ghost use Rattle.ftp_handlers.specs.Rooms.{IsReady, CanReply, CanTellDropped, actions_in, kept_in, twice_in};
-ghost use Rattle.ftp_handlers.specs.Handlers.{can_drop, can_reply, is_auth, is_command, is_pasv, goes_on, number_of, kept_by, notices_of, surroundings, failures_in, failures_left, policy_in, width_for, CanCount, HasRange, HasRoomFor, held_after};
+ghost use Rattle.ftp_handlers.specs.Rooms.{IsReady, CanReply, CanTellDropped, actions_in, kept_in, telling_in, twice_in};
+ghost use Rattle.ftp_handlers.specs.Handlers.{can_drop, can_reply, is_auth, is_command, is_pasv, goes_on, number_of, kept_by, notices_of, surroundings, telling_for, failures_in, failures_left, policy_in, width_for, CanCount, HasRange, HasRoomFor, held_after};
 
 use crate::room::Room;
-use crate::{auth_done, cwd, pass, pasv, port, rest, slot_tick, user};
+use crate::{abor, auth_done, cwd, internal, pass, pasv, port, rest, slot_tick, user};
 use ftp_events::{Decision, EventKind, Session};
 use ftp_lockout::FailedLoginsCache;
 use ftp_options::Options;
-use ftp_switchboard::Switchboard;
+use ftp_switchboard::{Looks, Switchboard};
 
 /// Hands a command of a live session, or a look at its slot, to its handler.
 pub fn command(
@@ -37,12 +37,13 @@ pub fn command(
     requires letters { IsTrue (can_reply args.now) → CanReply (width_for options.now args.now) room.old }
     requires dropped { IsTrue (can_drop args.now) → CanTellDropped room.old }
     requires kept { kept_in room.old ≡ kept_by args.now session.old }
+    requires telling { telling_in room.old ≡ telling_for args.now }
     requires count { IsTrue (is_auth args.now) → CanCount failures.old options.now }
     requires range { is_legacy options.now.mode ≡ false → HasRange board.old options.now }
     requires board_room { IsTrue (is_pasv args.now) → is_legacy options.now.mode ≡ false → HasRoomFor board.old session.old }
     ensures goes_on { IsTrue (goes_on result) }
-    ensures decision { result ≡ command_row options.now (surroundings board.old failures.old room.old.used at session.old) args.now session.old }
-    ensures session { session.old.notices + 1 < 2 ^ 64 → (answer : Answer) (job : Option Running) → session.new ≡ session_after at args.now answer result (notices_of result answer) job session.old }
+    ensures decision { (runs : Bool) → result ≡ command_row options.now (surroundings board.old failures.old room.old.used runs at session.old) args.now session.old }
+    ensures session { session.old.notices + 1 < 2 ^ 64 → (answer : Answer) (job : Option Running) → session.new ≡ session_after at args.now answer result (notices_of args.now result answer) job session.old }
     ensures actions { session.old.notices + 1 < 2 ^ 64 → (answer : Answer) (job : Option Running) → actions_in room.new ≡ session_acts options.now (number_of args.now) args.now answer result job (Some session.old) }
     ensures failures { (p : FailedLoginsPolicy) → options.now.lockout ≡ Some p → (key : LoginKey) → failures_in failures.new key ≡ failures_left p session.old key args.now at (failures_in failures.old key) }
     ensures policy { policy_in failures.new ≡ policy_in failures.old }
@@ -58,10 +59,15 @@ pub fn command(
         EventKind::AuthDone { .. } => {
             auth_done::handle(session, args, board, failures, room, at, options)
         }
-        EventKind::Pasv { .. } => pasv::handle(session, args, board, room, at, options),
+        EventKind::Pasv { .. } => {
+            let looks = &mut Looks::new();
+            pasv::handle(session, args, board, room, at, options, looks)
+        }
         EventKind::Port { .. } => port::handle(session, args, board, room, at, options),
         EventKind::Rest { .. } => rest::handle(session, args, board, room, at, options),
         EventKind::Cwd { .. } => cwd::handle(session, args, board, room, at, options),
+        EventKind::Abor { .. } => abor::handle(session, args, board, room, at, options),
+        EventKind::Internal { .. } => internal::handle(session, args, board, room, at, options),
         EventKind::SlotTick { .. } => slot_tick::handle(session, args, board, room, at, options),
         _ => unreachable!(),
     }

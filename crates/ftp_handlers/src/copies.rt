@@ -263,6 +263,13 @@ impl ActionList {
         self.second.push_reserved(copy);
     }
 
+    /// The actions in order.
+    pub fn as_slice(&self) -> &[Action]
+        ensures { result.now ≡ self.now.items }
+    {
+        self.first.as_slice()
+    }
+
     /// Gives the actions.
     pub fn into_actions(self) -> Actions
         ensures { result ≡ self.items }

@@ -44,6 +44,7 @@ pub fn handle(
     else {
         unreachable!()
     };
+    session.active_at = at;
     if !matches!(session.login, Login::LoggedIn) {
         return ask_for_login(*number, room);
     }

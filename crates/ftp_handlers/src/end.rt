@@ -1,6 +1,6 @@
 //! The ends of transfers (RFC 959, section 5.4).
 
-ghost use Rattle.std.specs.Prelude.{◌≡◌, ◌+◌, ◌<◌, ◌≤◌, ◌^◌, [], ◌∷◌, ◌++◌, length, true, Some};
+ghost use Rattle.std.specs.Prelude.{◌≡◌, ◌+◌, ◌<◌, ◌≤◌, ◌^◌, [], ◌∷◌, ◌++◌, length, IsTrue, true, Some};
 ghost use Rattle.ftp_base.specs.declared.notice.Notice.TheVariants.{Data};
 ghost use Rattle.ftp_base.specs.declared.reply.Reply.TheVariants as reply;
 ghost use Rattle.ftp_base.specs.declared.reply.ReplyCode.TheVariants as code;
@@ -10,7 +10,7 @@ ghost use Rattle.ftp_events.specs.declared.event.Answer.TheVariants.{Done};
 ghost use Rattle.ftp_events.specs.declared.event.EventKind.TheVariants.{End};
 ghost use Rattle.ftp_events.specs.Acts.{notice_and_reply};
 ghost use Rattle.ftp_events.specs.Login.{logged_user};
-ghost use Rattle.ftp_handlers.specs.Rooms.{IsReady, CanReply, HasCopy, HasPlace, HasPlaces, actions_in, kept_in, len_in, path_of, twice_in};
+ghost use Rattle.ftp_handlers.specs.Rooms.{IsReady, CanReply, HasCopy, HasPlace, HasPlaces, actions_in, kept_in, len_in, twice_in};
 ghost use Rattle.ftp_handlers.specs.Handlers.{with_end};
 
 use crate::room::Room;
@@ -25,13 +25,14 @@ pub fn deliver(
     job: Running,
     outcome: Outcome,
     room: &mut Room,
+    at: u64,
     options: &Options,
 )
     requires room { IsReady room.old }
     requires letters { CanReply 64 room.old }
     requires kept { kept_in room.old ≡ logged_user session.old.login session.old.name }
     requires path { HasCopy room.old job.job.path }
-    ensures session { session.old.notices + 1 < 2 ^ 64 → session.new ≡ with_end (End job.job.ticket) (Done outcome) session.old }
+    ensures session { session.old.notices + 1 < 2 ^ 64 → session.new ≡ with_end at (End job.job.ticket) (Done outcome) session.old }
     ensures actions { session.old.notices + 1 < 2 ^ 64 → actions_in room.new ≡ action.Completed job.job.ticket true ∷ notice_and_reply options.now job.job.ticket.session (End job.job.ticket) (Done outcome) Finished (Some job) session.old }
     ensures slot { session.new.slot ≡ session.old.slot }
     ensures pending { session.new.pending ≡ session.old.pending }
@@ -40,6 +41,7 @@ pub fn deliver(
 {
     let job = job.job;
     let number = job.ticket.session;
+    session.active_at = at;
     room.complete(job.ticket, true);
     match outcome.result {
         Completion::Sent => {
@@ -47,14 +49,22 @@ pub fn deliver(
                 path: job.path,
                 bytes: outcome.bytes,
             };
-            moved(session, number, what, wording::SENT, room);
+            let copy = DataEvent::Got {
+                path: room.take_path(),
+                bytes: outcome.bytes,
+            };
+            moved(session, number, what, copy, wording::SENT, room);
         }
         Completion::Written => {
             let what = DataEvent::Put {
                 path: job.path,
                 bytes: outcome.bytes,
             };
-            moved(session, number, what, wording::WRITTEN, room);
+            let copy = DataEvent::Put {
+                path: room.take_path(),
+                bytes: outcome.bytes,
+            };
+            moved(session, number, what, copy, wording::WRITTEN, room);
         }
         Completion::Listed => {
             room.reply(number, ReplyCode::ClosingDataConnection, wording::LISTED);
@@ -71,21 +81,34 @@ pub fn deliver(
 }
 
 // A file was moved: no restart offset is left, listeners are told, and then the session.
-fn moved(session: &mut Session, number: u64, what: DataEvent, text: &[u8], room: &mut Room)
+fn moved(
+    session: &mut Session,
+    number: u64,
+    what: DataEvent,
+    copy: DataEvent,
+    text: &[u8],
+    room: &mut Room,
+)
     requires places { HasPlaces 2 room.old }
     requires empty { room.old.text.items ≡ [] }
     requires letters { CanReply 64 room.old }
     requires short { length text.now ≤ 64 }
-    requires path { HasCopy room.old (path_of what) }
+    requires equal { IsTrue (twice_in room.old) → copy ≡ what }
     ensures session { session.old.notices + 1 < 2 ^ 64 → session.new ≡ record session.old { offset = 0; notices = session.old.notices + 1 } }
     ensures actions { session.old.notices + 1 < 2 ^ 64 → actions_in room.new ≡ actions_in room.old ++ action.Notify number (record { username = kept_in room.old; trace_id = record { 0 = session.old.opening.trace }; sequence_number = session.old.notices + 1 }) (Data what) ∷ action.Reply number 0 (reply.CodeAndMsg code.ClosingDataConnection text.now) ∷ [] }
     ensures slot { session.new.slot ≡ session.old.slot }
     ensures pending { session.new.pending ≡ session.old.pending }
     ensures len { len_in room.new ≡ len_in room.old + 2 }
-    ensures same { room.new ≡ record room.old { actions = room.new.actions; kept = room.new.kept; path = room.new.path; text = room.new.text } }
+    ensures same { room.new ≡ record room.old { actions = room.new.actions; kept = room.new.kept; text = room.new.text } }
 {
     session.offset = 0;
     session.notices = session.notices.saturating_add(1);
-    room.notify_data(number, session.opening.trace, session.notices, what);
+    room.notify_data(
+        number,
+        session.opening.trace,
+        session.notices,
+        what,
+        Some(copy),
+    );
     room.reply(number, ReplyCode::ClosingDataConnection, text);
 }

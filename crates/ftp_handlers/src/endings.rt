@@ -13,12 +13,12 @@ ghost use Rattle.ftp_handlers.specs.Rooms.{CanReply, IsReady, actions_in, kept_i
 ghost use Rattle.ftp_handlers.specs.Handlers.{can_reply, ends_session, held_after, kept_by, number_of, places_for};
 
 use crate::room::Room;
-use crate::{closed, quit};
+use crate::{closed, quit, timed_out};
 use ftp_events::{Decision, EventKind, Session};
 use ftp_options::Options;
 use ftp_switchboard::Switchboard;
 
-/// Hands the end of a live session to its handler.
+/// Hands the end of a live session to its handler: by its connection, by its wish, or since it was idle for too long.
 pub fn ending(
     session: &mut Session,
     args: &EventKind,
@@ -33,7 +33,7 @@ pub fn ending(
     requires letters { IsTrue (can_reply args.now) → CanReply 64 room.old }
     requires kept { kept_in room.old ≡ kept_by args.now session.old }
     ensures ends { IsTrue (is_ending result) }
-    ensures decision { (around : Around) → result ≡ command_row options.now around args.now session.old }
+    ensures decision { (around : Around) → IsTrue (is_ending (command_row options.now around args.now session.old)) → result ≡ command_row options.now around args.now session.old }
     ensures actions { session.old.notices + 1 < 2 ^ 64 → (answer : Answer) (job : Option Running) → actions_in room.new ≡ session_acts options.now (number_of args.now) args.now answer result job (Some session.old) }
     ensures holders { (a p : ℕ) → holder_at board.new a p ≡ held_after result (number_of args.now) (ipv4 session.old.opening.client) (waiting_port session.old.slot) a p (holder_at board.old a p) }
     ensures range { SameRange board.old board.new }
@@ -42,6 +42,7 @@ pub fn ending(
     match args {
         EventKind::Closed { .. } => closed::handle(session, args, board, room, at, options),
         EventKind::Quit { .. } => quit::handle(session, args, board, room, at, options),
+        EventKind::IdleTick { .. } => timed_out::handle(session, args, board, room, at, options),
         _ => unreachable!(),
     }
 }

@@ -20,9 +20,11 @@ pub fn copy_kept(alloc: Global, kind: &EventKind, session: &Session) -> Result<B
     match kind {
         EventKind::User { name, .. } => name.copy(alloc),
         EventKind::AuthDone { .. } => known_name(alloc, session),
-        EventKind::Closed { .. } | EventKind::Quit { .. } | EventKind::End { .. } => {
-            copy_user(alloc, session)
-        }
+        EventKind::Closed { .. }
+        | EventKind::Quit { .. }
+        | EventKind::End { .. }
+        | EventKind::Internal { .. }
+        | EventKind::IdleTick { .. } => copy_user(alloc, session),
         EventKind::Cwd { path, .. } => join_path(alloc, &session.cwd, path),
         EventKind::Connect { .. }
         | EventKind::Proxied { .. }
@@ -34,8 +36,11 @@ pub fn copy_kept(alloc: Global, kind: &EventKind, session: &Session) -> Result<B
         | EventKind::Transfer { .. }
         | EventKind::Stou { .. }
         | EventKind::Rest { .. }
+        | EventKind::Abor { .. }
         | EventKind::SlotTick { .. }
-        | EventKind::Sweep => copy_alone(alloc, kind),
+        | EventKind::Sweep
+        | EventKind::Scavenge
+        | EventKind::Shutdown => copy_alone(alloc, kind),
     }
 }
 
@@ -51,8 +56,8 @@ pub fn copy_alone(alloc: Global, kind: &EventKind) -> Result<Bytes, AllocError>
     }
 }
 
-// Who is logged in, or `unknown`.
-fn copy_user(alloc: Global, session: &Session) -> Result<Bytes, AllocError>
+/// Who is logged in, or `unknown`.
+pub(crate) fn copy_user(alloc: Global, session: &Session) -> Result<Bytes, AllocError>
     ensures { IfOk result (λ user. user ≡ logged_user session.now.login session.now.name) }
 {
     match session.login {

@@ -4,6 +4,7 @@
 //! A handler promises the decision of its row, the session and the actions that follow. Begin with `command`.
 #![tactic(auto)]
 
+pub mod abor;
 mod auth_done;
 pub mod closed;
 mod commands;
@@ -12,6 +13,9 @@ pub mod cwd;
 pub mod end;
 mod endings;
 mod fixed;
+mod idle_time;
+mod internal;
+mod leavers;
 mod login;
 pub mod pass;
 pub mod pasv;
@@ -21,6 +25,9 @@ pub mod quit;
 pub mod rest;
 mod room;
 mod slot_tick;
+mod stops;
+mod telling;
+mod timed_out;
 pub mod transfer;
 mod user;
 
@@ -56,4 +63,8 @@ pub mod stou {
 pub use commands::command;
 pub use endings::ending;
 pub use fixed::{copy_alone, copy_kept, fix_transfer};
+pub use idle_time::idle_tick;
+pub use leavers::Leavers;
 pub use room::{Extent, Need, Prepared, Room};
+pub use stops::stop;
+pub use telling::{Telling, Told, copy_telling};

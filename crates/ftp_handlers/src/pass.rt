@@ -37,6 +37,7 @@ pub fn handle(
     let EventKind::Pass { session: number } = args else {
         unreachable!()
     };
+    session.active_at = at;
     match session.login {
         Login::New => {
             room.reply(

@@ -1,6 +1,6 @@
 //! PASV (RFC 959, section 4.1.2).
 
-ghost use Rattle.std.specs.Prelude.{◌≡◌, ◌++◌, ◌||◌, ℕ, [], ◌∷◌, codes, not, true, false, IsTrue, Option, Some, IfNone, IfSome};
+ghost use Rattle.std.specs.Prelude.{◌≡◌, ◌++◌, ◌||◌, ◌+◌, ◌-◌, ◌≤◌, ℕ, [], ◌∷◌, codes, not, true, false, IsTrue, Option, None, Some, IfNone, IfSome};
 ghost use Rattle.std.specs.Option.{option_map_or};
 ghost use Rattle.ftp_base.specs.Net.{ipv4};
 ghost use Rattle.ftp_base.specs.Ports.{first_free};
@@ -8,10 +8,11 @@ ghost use Rattle.ftp_base.specs.declared.reply.Reply.TheVariants as reply;
 ghost use Rattle.ftp_base.specs.declared.reply.ReplyCode.TheVariants as code;
 ghost use Rattle.ftp_options.specs.Host.{lacks_lookup};
 ghost use Rattle.ftp_options.specs.Modes.{is_legacy};
-ghost use Rattle.ftp_switchboard.specs.Board.{HasRoom, SameRange, holder_at, holder_for};
+ghost use Rattle.ftp_switchboard.specs.Board.{HasRoom, SameRange, holder_at, holder_for, words_for};
 ghost use Rattle.ftp_events.specs.declared.action.Action.TheVariants as action;
 ghost use Rattle.ftp_events.specs.declared.decision.Decision.TheVariants as decision;
 ghost use Rattle.ftp_events.specs.declared.session.Running.{Running};
+ghost use Rattle.ftp_events.specs.declared.session.Slot.TheVariants.{Waits};
 ghost use Rattle.ftp_events.specs.declared.event.Answer.{Answer};
 ghost use Rattle.ftp_events.specs.Advertised.{lacks_address};
 ghost use Rattle.ftp_events.specs.CommandRows.{if_logged_in, bound_row, grant_row, pasv_row};
@@ -28,11 +29,13 @@ use crate::room::Room;
 use ftp_base::{IpAddr, ReplyCode};
 use ftp_events::{Decision, EventKind, Login, Session, Slot};
 use ftp_options::{Options, PassiveHost};
-use ftp_switchboard::Switchboard;
+use ftp_switchboard::{Looks, Switchboard};
 use std::mem;
 
 /// Reserves a passive port for the session's client, or takes the one that was bound for the session alone, and
 /// advertises it.
+///
+/// The looks are those of the reservation.
 pub fn handle(
     session: &mut Session,
     args: &EventKind,
@@ -40,6 +43,7 @@ pub fn handle(
     room: &mut Room,
     at: u64,
     options: &Options,
+    looks: &mut Looks,
 ) -> Decision
     requires of_this_event { IsTrue (is_pasv args.now) }
     requires room { IsReady room.old }
@@ -47,12 +51,14 @@ pub fn handle(
     requires dropped { CanTellDropped room.old }
     requires range { is_legacy options.now.mode ≡ false → HasRange board.old options.now }
     requires board_room { is_legacy options.now.mode ≡ false → HasRoomFor board.old session.old }
+    requires looks { looks.old ≤ u64.MAX - 1059 }
     ensures goes_on { IsTrue (goes_on result) }
     ensures decision { result ≡ if_logged_in session.old (pasv_row options.now (held_for board.old session.old) (word_of args.now) (lookup_of args.now) (bound_of args.now) session.old) }
-    ensures session { (answer : Answer) (job : Option Running) → session.new ≡ session_after at args.now answer result (notices_of result answer) job session.old }
+    ensures session { (answer : Answer) (job : Option Running) → session.new ≡ session_after at args.now answer result (notices_of args.now result answer) job session.old }
     ensures actions { (answer : Answer) (job : Option Running) → actions_in room.new ≡ session_acts options.now (number_of args.now) args.now answer result job (Some session.old) }
     ensures holders { is_legacy options.now.mode ≡ false → (a p : ℕ) → holder_at board.new a p ≡ held_after result (number_of args.now) (ipv4 session.old.opening.client) (waiting_port session.old.slot) a p (holder_at board.old a p) }
     ensures alone { is_legacy options.now.mode ≡ true → board.new ≡ board.old }
+    ensures looks { (looks.old ≤ looks.new) × (looks.new ≤ looks.old + (words_for board.old.lo board.old.hi + 35)) }
     ensures range { SameRange board.old board.new }
     ensures twice { twice_in room.new ≡ twice_in room.old }
 {
@@ -64,9 +70,11 @@ pub fn handle(
         unreachable!()
     };
     if !matches!(session.login, Login::LoggedIn) {
+        session.active_at = at;
         return ask_for_login(*number, room);
     }
     if options.active_passive.is_passive_off() {
+        session.active_at = at;
         room.reply(
             *number,
             ReplyCode::CommandNotImplemented,
@@ -77,7 +85,7 @@ pub fn handle(
     if options.mode.is_legacy() {
         return take_bound(session, args, room, at, options);
     }
-    take_free(session, args, board, room, at, options)
+    take_free(session, args, board, room, at, options, looks)
 }
 
 // Advertises the port that was bound for the session alone.
@@ -94,7 +102,7 @@ fn take_bound(
     requires dropped { CanTellDropped room.old }
     ensures goes_on { IsTrue (goes_on result) }
     ensures decision { result ≡ bound_row options.now session.old (lookup_of args.now) (bound_of args.now) }
-    ensures session { (answer : Answer) (job : Option Running) → session.new ≡ session_after at args.now answer result (notices_of result answer) job session.old }
+    ensures session { (answer : Answer) (job : Option Running) → session.new ≡ session_after at args.now answer result (notices_of args.now result answer) job session.old }
     ensures actions { (answer : Answer) (job : Option Running) → actions_in room.new ≡ session_acts options.now (number_of args.now) args.now answer result job (Some session.old) }
     ensures twice { twice_in room.new ≡ twice_in room.old }
 {
@@ -107,6 +115,7 @@ fn take_bound(
     else {
         unreachable!()
     };
+    session.active_at = at;
     let Some(port) = *bound else {
         return tell_no_socket(*number, room);
     };
@@ -127,17 +136,20 @@ fn take_free(
     room: &mut Room,
     at: u64,
     options: &Options,
+    looks: &mut Looks,
 ) -> Decision
     requires of_this_event { IsTrue (is_pasv args.now) }
     requires room { IsReady room.old }
     requires letters { CanReply (width_for options.now args.now) room.old }
     requires dropped { CanTellDropped room.old }
     requires board_room { HasRoomFor board.old session.old }
+    requires looks { looks.old ≤ u64.MAX - 1059 }
     ensures goes_on { IsTrue (goes_on result) }
     ensures decision { result ≡ option_map_or (grant_row options.now.host (lookup_of args.now)) (first_free (held_for board.old session.old) board.old.lo board.old.hi (word_of args.now)) decision.Full }
-    ensures session { (answer : Answer) (job : Option Running) → session.new ≡ session_after at args.now answer result (notices_of result answer) job session.old }
+    ensures session { (answer : Answer) (job : Option Running) → session.new ≡ session_after at args.now answer result (notices_of args.now result answer) job session.old }
     ensures actions { (answer : Answer) (job : Option Running) → actions_in room.new ≡ session_acts options.now (number_of args.now) args.now answer result job (Some session.old) }
     ensures holders { (a p : ℕ) → holder_at board.new a p ≡ held_after result (number_of args.now) (ipv4 session.old.opening.client) (waiting_port session.old.slot) a p (holder_at board.old a p) }
+    ensures looks { (looks.old ≤ looks.new) × (looks.new ≤ looks.old + (words_for board.old.lo board.old.hi + 35)) }
     ensures range { SameRange board.old board.new }
     ensures twice { twice_in room.new ≡ twice_in room.old }
 {
@@ -150,14 +162,16 @@ fn take_free(
     else {
         unreachable!()
     };
+    session.active_at = at;
     let client = session.opening.client.ipv4();
     if options.host.lacks_lookup(*lookup) {
-        if board.free_port(client, *word).is_none() {
+        if board.free_port(client, *word, looks).is_none() {
             return tell_full(*number, room);
         }
         return tell_unresolved(*number, &options.host, *lookup, room);
     }
-    match reserve(board, client, *number, *word, waiting_port(session.slot)) {
+    let present = waiting_port(session.slot);
+    match reserve(board, client, *number, *word, present, looks) {
         None => tell_full(*number, room),
         Some(port) => grant(session, args, port, room, at, options),
     }
@@ -171,17 +185,20 @@ fn reserve(
     number: u64,
     word: u16,
     present: Option<u16>,
+    looks: &mut Looks,
 ) -> Option<u16>
     requires room { IfSome client (HasRoom board.old) }
+    requires looks { looks.old ≤ u64.MAX - 1059 }
     ensures found { result ≡ first_free (holder_for board.old client) board.old.lo board.old.hi word }
     ensures holders { IfSome result (λ port. (a p : ℕ) → holder_at board.new a p ≡ held_with port number client present a p (holder_at board.old a p)) }
     ensures unchanged { IfNone result (board.new ≡ board.old) }
+    ensures looks { (looks.old ≤ looks.new) × (looks.new ≤ looks.old + (words_for board.old.lo board.old.hi + 35)) }
     ensures range { SameRange board.old board.new }
 {
     let Some(source) = client else {
-        return board.free_port(None, word);
+        return board.free_port(None, word, looks);
     };
-    match board.reserve(source, number, word, present) {
+    match board.reserve(source, number, word, present, looks) {
         Ok(port) => Some(port),
         Err(_) => None,
     }
@@ -202,7 +219,7 @@ fn grant(
     requires letters { CanReply (width_for options.now args.now) room.old }
     requires dropped { CanTellDropped room.old }
     ensures decision { result ≡ decision.Granted port }
-    ensures session { (answer : Answer) (job : Option Running) → session.new ≡ session_after at args.now answer result (notices_of result answer) job session.old }
+    ensures session { session.new ≡ record session.old { slot = Waits port; slot_at = at; pending = None } }
     ensures actions { (answer : Answer) (job : Option Running) → actions_in room.new ≡ session_acts options.now (number_of args.now) args.now answer result job (Some session.old) }
     ensures twice { twice_in room.new ≡ twice_in room.old }
 {

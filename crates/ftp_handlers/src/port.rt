@@ -42,7 +42,7 @@ pub fn handle(
     requires dropped { CanTellDropped room.old }
     ensures goes_on { IsTrue (goes_on result) }
     ensures decision { result ≡ if_logged_in session.old (port_row options.now (λ n. room.old.used) (text_of args.now) (made_of args.now) session.old) }
-    ensures session { (answer : Answer) (job : Option Running) → session.new ≡ session_after at args.now answer result (notices_of result answer) job session.old }
+    ensures session { (answer : Answer) (job : Option Running) → session.new ≡ session_after at args.now answer result (notices_of args.now result answer) job session.old }
     ensures actions { (answer : Answer) (job : Option Running) → actions_in room.new ≡ session_acts options.now (number_of args.now) args.now answer result job (Some session.old) }
     ensures holders { is_legacy options.now.mode ≡ false → (a p : ℕ) → holder_at board.new a p ≡ held_after result (number_of args.now) (ipv4 session.old.opening.client) (waiting_port session.old.slot) a p (holder_at board.old a p) }
     ensures alone { is_legacy options.now.mode ≡ true → board.new ≡ board.old }
@@ -57,6 +57,7 @@ pub fn handle(
     else {
         unreachable!()
     };
+    let active_at = mem::replace(&mut session.active_at, at);
     if !matches!(session.login, Login::LoggedIn) {
         return ask_for_login(*number, room);
     }
@@ -85,6 +86,8 @@ pub fn handle(
         return Decision::NoConnection;
     };
     if room.used {
+        // A refusal is no activity.
+        session.active_at = active_at;
         return Decision::UsedNumber;
     }
     connect(session, *number, made, board, room, at, options)

@@ -1,13 +1,13 @@
 //! What a step puts into its room: actions, notices and replies.
 
-ghost use Rattle.std.specs.Prelude.{◌≡◌, ◌+◌, ◌<◌, ◌≤◌, true, false, [], ◌∷◌, ◌++◌, length, codes, IsTrue};
+ghost use Rattle.std.specs.Prelude.{◌≡◌, ◌+◌, ◌<◌, ◌≤◌, true, false, [], ◌∷◌, ◌++◌, length, codes, IsTrue, Some};
 ghost use Rattle.ftp_base.specs.declared.notice.Notice.TheVariants.{Presence, Data};
 ghost use Rattle.ftp_base.specs.declared.reply.Reply.TheVariants as reply;
 ghost use Rattle.ftp_base.specs.declared.reply.ReplyCode.TheVariants as code;
 ghost use Rattle.ftp_events.specs.declared.action.Action.TheVariants as action;
-ghost use Rattle.ftp_events.specs.Acts.{cancellations, closings, link_in};
+ghost use Rattle.ftp_events.specs.Acts.{cancellations, closings, link_in, reply_acts};
 ghost use Rattle.ftp_events.specs.Text.{passive_text, offset_text};
-ghost use Rattle.ftp_handlers.specs.Rooms.{CanReply, CanTellDropped, HasCopy, HasPlace, HasPlaces, actions_in, is_plain, kept_in, len_in, path_of, twice_in};
+ghost use Rattle.ftp_handlers.specs.Rooms.{CanReply, CanTellDropped, HasPlace, HasPlaces, actions_in, is_plain, kept_in, len_in, twice_in};
 
 use crate::copies::Text;
 use crate::room::Room;
@@ -137,43 +137,43 @@ impl Room {
             trace,
             sequence_number,
             Notice::Presence(what),
-            Notice::Presence(what),
+            Some(Notice::Presence(what)),
         );
     }
 
-    /// Tells listeners what the user whom the event tells has moved.
-    pub fn notify_data(&mut self, session: u64, trace: u64, sequence_number: u64, what: DataEvent)
+    /// Tells listeners what the user whom the event tells has done to a file or a directory.
+    pub fn notify_data(
+        &mut self,
+        session: u64,
+        trace: u64,
+        sequence_number: u64,
+        what: DataEvent,
+        copy: Option<DataEvent>,
+    )
         requires place { HasPlace self.old }
-        requires path { HasCopy self.old (path_of what) }
+        requires equal { IsTrue (twice_in self.old) → copy ≡ Some what }
         ensures actions { actions_in self.new ≡ actions_in self.old ++ action.Notify session (record { username = kept_in self.old; trace_id = record { 0 = trace }; sequence_number = sequence_number }) (Data what) ∷ [] }
         ensures len { len_in self.new ≡ len_in self.old + 1 }
-        ensures same { self.new ≡ record self.old { actions = self.new.actions; kept = self.new.kept; path = self.new.path } }
+        ensures same { self.new ≡ record self.old { actions = self.new.actions; kept = self.new.kept } }
     {
-        let none = Bytes::from_vec(Vec::new(self.alloc));
-        let path = mem::replace(&mut self.path, none);
-        let copy = match &what {
-            DataEvent::Got { path: _, bytes } => DataEvent::Got {
-                path,
-                bytes: *bytes,
-            },
-            DataEvent::Put { path: _, bytes } => DataEvent::Put {
-                path,
-                bytes: *bytes,
-            },
+        let copy = match copy {
+            Some(copy) => Some(Notice::Data(copy)),
+            None => None,
         };
-        self.notify(
-            session,
-            trace,
-            sequence_number,
-            Notice::Data(what),
-            Notice::Data(copy),
-        );
+        self.notify(session, trace, sequence_number, Notice::Data(what), copy);
     }
 
     // Tells listeners.
-    fn notify(&mut self, session: u64, trace: u64, sequence_number: u64, what: Notice, copy: Notice)
+    fn notify(
+        &mut self,
+        session: u64,
+        trace: u64,
+        sequence_number: u64,
+        what: Notice,
+        copy: Option<Notice>,
+    )
         requires place { HasPlace self.old }
-        requires equal { IsTrue (twice_in self.old) → copy ≡ what }
+        requires equal { IsTrue (twice_in self.old) → copy ≡ Some what }
         ensures actions { actions_in self.new ≡ actions_in self.old ++ action.Notify session (record { username = kept_in self.old; trace_id = record { 0 = trace }; sequence_number = sequence_number }) what ∷ [] }
         ensures len { len_in self.new ≡ len_in self.old + 1 }
         ensures same { self.new ≡ record self.old { actions = self.new.actions; kept = self.new.kept } }
@@ -185,19 +185,50 @@ impl Room {
             meta: meta_once,
             what,
         };
-        if self.actions.is_twice() {
-            let meta_copy = meta(username_copy, trace, sequence_number);
-            self.actions.push_twice(
-                action,
-                Action::Notify {
-                    session,
-                    meta: meta_copy,
-                    what: copy,
-                },
-            );
-        } else {
+        if !self.actions.is_twice() {
             self.actions.push_once(action);
+            return;
         }
+        let Some(what) = copy else { unreachable!() };
+        let meta_copy = meta(username_copy, trace, sequence_number);
+        self.actions.push_twice(
+            action,
+            Action::Notify {
+                session,
+                meta: meta_copy,
+                what,
+            },
+        );
+    }
+
+    /// Sends a reply as it is, where there is one.
+    pub fn answer(&mut self, session: u64, reply: Reply, copy: Reply)
+        requires place { HasPlace self.old }
+        requires equal { IsTrue (twice_in self.old) → copy ≡ reply }
+        ensures actions { actions_in self.new ≡ actions_in self.old ++ reply_acts session 0 reply }
+        ensures len { len_in self.new ≤ len_in self.old + 1 }
+        ensures same { self.new ≡ record self.old { actions = self.new.actions } }
+    {
+        if let Reply::None = &reply {
+            return;
+        }
+        let action = Action::Reply {
+            session,
+            delay: 0,
+            reply,
+        };
+        if !self.actions.is_twice() {
+            self.actions.push_once(action);
+            return;
+        }
+        self.actions.push_twice(
+            action,
+            Action::Reply {
+                session,
+                delay: 0,
+                reply: copy,
+            },
+        );
     }
 
     /// Sends a reply at once; its text has at most 64 bytes.

@@ -1,12 +1,14 @@
 //! Memory that is taken ahead of a step, and what the event needs in it.
 
-ghost use Rattle.std.specs.Prelude.{◌≡◌, ◌≤◌, true, [], IfOk, IsTrue, if◌then◌else◌};
+ghost use Rattle.std.specs.Prelude.{◌≡◌, ◌+◌, ◌*◌, ◌≤◌, ◌∷◌, ◌↔◌, true, [], IfOk, IfNone, IfSome, IsNone, IsTrue, None, Some, if◌then◌else◌};
 ghost use Rattle.ftp_handlers.specs.Handlers.{can_drop, can_reply, places_for, width_for};
-ghost use Rattle.ftp_handlers.specs.Rooms.{IsReady, CanReply, CanTellDropped, HasCopy, actions_in, job_in, kept_in, most_actions, need_for, need_in, twice_in};
+ghost use Rattle.ftp_handlers.specs.Rooms.{IsReady, CanReply, CanTellDropped, HasCopy, actions_in, HasLeave, job_in, kept_in, leavers_in, most_actions, need_for, need_in, telling_in, twice_in};
 
 use crate::copies::{ActionList, Text};
+use crate::leavers::Leavers;
+use crate::telling::{Telling, Told};
 use ftp_base::Bytes;
-use ftp_events::{Actions, EventKind, Pending};
+use ftp_events::{Action, Actions, EventKind, Pending};
 use ftp_options::{Options, PassiveHost};
 use ftp_transfer::{Job, Ticket};
 use std::alloc::{AllocError, Global};
@@ -16,7 +18,7 @@ use std::mem;
 /// No text of a reply is longer, in bytes, but for one that shows a host's name.
 const SHORT_TEXT: usize = 64;
 
-/// No event has more actions for one session, but for QUIT, which has one more.
+/// No event has more actions for one session, but for QUIT and the end of an idle session, which have one more.
 const MOST_ACTIONS: usize = 4;
 
 /// What has to be done outside before the step.
@@ -42,6 +44,10 @@ pub struct Room {
     pub(crate) path: Bytes,
     /// The transfer that the event asks for.
     pub(crate) pending: Option<Pending>,
+    /// What the event tells, where it is a message.
+    pub(crate) telling: Telling,
+    /// The sessions that a stop still has to end.
+    pub(crate) leavers: Leavers,
     /// The text of the reply.
     pub(crate) text: Text,
     /// The text of the reply on a transfer that is dropped.
@@ -57,9 +63,9 @@ impl Model for Room {
 
     ghost Value = { RoomState };
 
-    ghost view = { λ r. record { count = r.count; job = r.job; need = r.need; kept = r.kept; path = r.path; pending = r.pending; text = r.text; dropped = r.dropped; actions = r.actions.items; places = r.actions.places; twice = r.actions.twice; used = r.used } };
+    ghost view = { λ r. record { count = r.count; job = r.job; need = r.need; kept = r.kept; path = r.path; pending = r.pending; telling = r.telling.told; leavers = r.leavers.items; text = r.text; dropped = r.dropped; actions = r.actions.items; places = r.actions.places; twice = r.actions.twice; used = r.used } };
 
-    ghost invariant = { λ r. (r.kept.twice ≡ r.actions.twice) × (r.text.twice ≡ r.actions.twice) × (r.dropped.twice ≡ r.actions.twice) };
+    ghost invariant = { λ r. (r.kept.twice ≡ r.actions.twice) × (r.text.twice ≡ r.actions.twice) × (r.dropped.twice ≡ r.actions.twice) × (r.telling.twice ≡ r.actions.twice) × (r.leavers.twice ≡ r.actions.twice) };
 }
 
 /// What is looked up for an event before its step.
@@ -71,6 +77,10 @@ pub struct Prepared {
     pub path: Bytes,
     /// The transfer that the event asks for.
     pub pending: Option<Pending>,
+    /// What the event tells, where it is a message.
+    pub telling: Telling,
+    /// The sessions that a stop ends, in order.
+    pub leavers: Leavers,
     /// The header of the connection that the event brings is to be read.
     pub header: bool,
     /// The job that is to be run.
@@ -105,15 +115,20 @@ impl Extent {
         ensures twice { result.twice ≡ twice }
     {
         let (places, replies, drops) = match kind {
-            EventKind::Connect { .. } | EventKind::Closed { .. } | EventKind::Sweep => {
-                (MOST_ACTIONS, false, false)
-            }
+            EventKind::Connect { .. }
+            | EventKind::Closed { .. }
+            | EventKind::Internal { .. }
+            | EventKind::Sweep
+            | EventKind::Scavenge
+            | EventKind::Shutdown => (MOST_ACTIONS, false, false),
             EventKind::Proxied { .. }
             | EventKind::DataIn { .. }
             | EventKind::Accepted { .. }
             | EventKind::SlotTick { .. } => (MOST_ACTIONS, false, true),
-            EventKind::Pasv { .. } | EventKind::Port { .. } => (MOST_ACTIONS, true, true),
-            EventKind::Quit { .. } => (MOST_ACTIONS + 1, true, false),
+            EventKind::Pasv { .. } | EventKind::Port { .. } | EventKind::Abor { .. } => {
+                (MOST_ACTIONS, true, true)
+            }
+            EventKind::Quit { .. } | EventKind::IdleTick { .. } => (MOST_ACTIONS + 1, true, false),
             EventKind::User { .. }
             | EventKind::Pass { .. }
             | EventKind::AuthDone { .. }
@@ -134,16 +149,19 @@ impl Extent {
 }
 
 impl Room {
-    /// Takes memory for the step on an event at a count of events.
+    /// Takes memory for the step on an event at a count of events, with places for the actions of all who leave.
     pub fn new(
         alloc: Global,
         count: u64,
         prepared: Prepared,
         extent: Extent,
     ) -> Result<Room, AllocError>
-        requires { most_actions ≤ extent.places }
+        requires places { most_actions ≤ extent.places }
+        requires telling { prepared.telling.twice ≡ extent.twice }
+        requires leavers { prepared.leavers.twice ≡ extent.twice }
         ensures ready { IfOk result IsReady }
         ensures places { IfOk result (λ room. extent.places ≤ room.places) }
+        ensures leave { IfOk result HasLeave }
         ensures letters { IfOk result (λ room. IsTrue extent.replies → CanReply extent.width room) }
         ensures dropped { IfOk result (λ room. IsTrue extent.drops → CanTellDropped room) }
         ensures twice { IfOk result (λ room. twice_in room ≡ extent.twice) }
@@ -151,17 +169,22 @@ impl Room {
         ensures kept { IfOk result (λ room. kept_in room ≡ prepared.kept) }
         ensures path { IfOk result (λ room. room.path ≡ prepared.path) }
         ensures pending { IfOk result (λ room. room.pending ≡ prepared.pending) }
+        ensures telling { IfOk result (λ room. telling_in room ≡ prepared.telling.told) }
+        ensures leavers { IfOk result (λ room. leavers_in room ≡ prepared.leavers.items) }
         ensures job { IfOk result (λ room. job_in room ≡ prepared.job) }
         ensures need { IfOk result (λ room. need_in room ≡ need_for prepared.header prepared.job) }
         ensures used { IfOk result (λ room. room.used ≡ prepared.used) }
     {
         let text = Text::with_room(alloc, extent.replies, extent.width, extent.twice)?;
         let dropped = Text::with_room(alloc, extent.drops, SHORT_TEXT, extent.twice)?;
-        let actions = ActionList::with_places(alloc, extent.places, extent.twice)?;
+        let places = places_with(extent.places, prepared.leavers.len())?;
+        let actions = ActionList::with_places(alloc, places, extent.twice)?;
         let Prepared {
             kept,
             path,
             pending,
+            telling,
+            leavers,
             header,
             job,
             used,
@@ -175,6 +198,8 @@ impl Room {
             kept,
             path,
             pending,
+            telling,
+            leavers,
             text,
             dropped,
             actions,
@@ -192,6 +217,8 @@ impl Room {
             kept: _,
             path: _,
             pending: _,
+            telling: _,
+            leavers: _,
             text: _,
             dropped: _,
             actions: _,
@@ -211,6 +238,13 @@ impl Room {
         ensures { result ≡ need_in self.now }
     {
         self.need
+    }
+
+    /// The actions that were put in so far, in order.
+    pub fn actions(&self) -> &[Action]
+        ensures { result.now ≡ actions_in self.now }
+    {
+        self.actions.as_slice()
     }
 
     /// The job of the transfer that is to be run. It is given once.
@@ -233,6 +267,8 @@ impl Room {
             kept: _,
             path: _,
             pending: _,
+            telling: _,
+            leavers: _,
             text: _,
             dropped: _,
             actions,
@@ -255,6 +291,8 @@ impl Room {
             kept: _,
             path: _,
             pending: _,
+            telling: _,
+            leavers: _,
             text: _,
             dropped: _,
             actions,
@@ -291,6 +329,37 @@ impl Room {
         self.kept = Text::from_both(kept, copy, self.actions.is_twice());
     }
 
+    /// Takes out what the event tells, and its copy, which is nothing where all is written once.
+    pub(crate) fn take_telling(&mut self) -> Option<(Told, Told)>
+        ensures none { IsNone result ↔ (telling_in self.old ≡ None) }
+        ensures first { IfSome result (λ both. telling_in self.old ≡ Some both.0) }
+        ensures second { IfSome result (λ both. IsTrue (twice_in self.old) → both.1 ≡ both.0) }
+        ensures same { self.new ≡ record self.old { telling = self.new.telling } }
+    {
+        let none = Telling::none(self.actions.is_twice());
+        mem::replace(&mut self.telling, none).into_both()
+    }
+
+    /// Takes out the next session that a stop ends: its number. Its user is what the event tells from now on.
+    pub fn take_leaver(&mut self) -> Option<u64>
+        ensures none { IfNone result (leavers_in self.old ≡ []) }
+        ensures first { IfSome result (λ number. leavers_in self.old ≡ record { session = number; user = kept_in self.new } ∷ leavers_in self.new) }
+        ensures same { self.new ≡ record self.old { leavers = self.new.leavers; kept = self.new.kept } }
+    {
+        let (number, user) = self.leavers.take()?;
+        self.kept = user;
+        Some(number)
+    }
+
+    /// Takes out the copy of the path of the job that ends, which is there where all is written twice.
+    pub(crate) fn take_path(&mut self) -> Bytes
+        ensures path { result ≡ self.old.path }
+        ensures same { self.new ≡ record self.old { path = self.new.path } }
+    {
+        let none = Bytes::from_vec(Vec::new(self.alloc));
+        mem::replace(&mut self.path, none)
+    }
+
     /// Takes out the transfer that the event asks for.
     pub fn take_pending(&mut self) -> Option<Pending>
         ensures pending { result ≡ self.old.pending }
@@ -308,6 +377,17 @@ fn need_for(header: bool, job: &Option<Job>) -> Need
         _ if header => Need::Header,
         Some(job) => Need::Run(job.ticket),
         None => Need::Nothing,
+    }
+}
+
+// How many actions have places, with those of all who leave.
+fn places_with(places: usize, leavers: usize) -> Result<usize, AllocError>
+    ensures { IfOk result (λ sum. sum ≡ places + most_actions * leavers) }
+{
+    let leaving = leavers.checked_mul(MOST_ACTIONS);
+    match leaving.and_then(|leaving| leaving.checked_add(places)) {
+        Some(sum) => Ok(sum),
+        None => Err(AllocError),
     }
 }
 

@@ -32,7 +32,7 @@ pub fn handle(
     requires kept { kept_in room.old ≡ kept_by args.now session.old }
     requires pending { room.old.pending ≡ asked_for args.now session.old }
     ensures decision { IsFew session.old → result ≡ if_logged_in session.old (transfer_row (number_of args.now) session.old) }
-    ensures session { IsFew session.old → session.new ≡ with_queued args.now result session.old }
+    ensures session { IsFew session.old → session.new ≡ with_queued at args.now result session.old }
     ensures actions { (answer : Answer) (job : Option Running) → actions_in room.new ≡ notice_and_reply options.now (number_of args.now) args.now answer result job session.old }
     ensures place { HasPlace room.new }
     ensures board { board.new ≡ board.old }
@@ -43,6 +43,7 @@ pub fn handle(
         EventKind::Stou { session, .. } => *session,
         _ => unreachable!(),
     };
+    session.active_at = at;
     if !matches!(session.login, Login::LoggedIn) {
         return ask_for_login(number, room);
     }

@@ -42,6 +42,7 @@ pub(crate) fn handle(
     else {
         unreachable!()
     };
+    session.active_at = at;
     match session.login {
         Login::New | Login::Named => {
             session.login = Login::Named;
