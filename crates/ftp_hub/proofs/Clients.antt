@@ -17,6 +17,7 @@ use Rattle.ftp_events.specs.declared.session.Opening.{Opening}
 use Rattle.ftp_events.specs.Opening.{opening_by, opener}
 use Rattle.ftp_events.specs.History.{opens}
 use Rattle.ftp_events.specs.ConnectionRows.{arrival_row, header_row}
+use Rattle.ftp_events.specs.Log.{is_stopped}
 use Rattle.ftp_events.specs.Decide.{due}
 use Rattle.ftp_laws.proofs.QuestionLemmas.{session-told}
 use Rattle.ftp_laws.proofs.ClassLemmas.{opened-is}
@@ -33,6 +34,16 @@ pub row-counts :
 row-counts true used row h = cc
 row-counts false true row h = cc
 row-counts false false row h = (refl, h)
+
+-- where one opens a session, there was no stop
+row-opened :
+    (strange used stopped : Bool) (row : Decision) →
+    cond strange decision.Misplaced (cond used decision.UsedNumber (cond stopped decision.Turned row)) ≡ decision.Opened →
+    (strange ≡ false) × (row ≡ decision.Opened)
+row-opened true used stopped row h = cc
+row-opened false true stopped row h = cc
+row-opened false false true row h = cc
+row-opened false false false row h = (refl, h)
 
 -- a header by which a connection is not refused has no address of version 6
 pub header-counts :
@@ -53,18 +64,18 @@ misplaced-shared (Proxy port) v6 shared = refl
 -- what an entry that opens a session tells of its client
 told-v4 :
     (o : Options) (past : List Entry) (at : ℕ) (k : EventKind) (answer : Answer) (opening : Opening) →
-    is_legacy o.mode ≡ false → is_refusal (due o past at k answer) ≡ false → opening_by k answer ≡ Some opening →
+    is_legacy o.mode ≡ false → due o past at k answer ≡ decision.Opened → opening_by k answer ≡ Some opening →
     is_v6 opening.client ≡ false
 told-v4 o past at (kind.Connect s raw local trace) answer opening m d t =
     let v6 : Bool = is_v6 raw.ip || is_v6 local.ip in
-    let placed = (row-counts (is_proxy o.mode || (is_pooled o.mode && v6)) (is_used past s) decision.Opened d).0 in
+    let placed = (row-opened (is_proxy o.mode || (is_pooled o.mode && v6)) (is_used past s) (is_stopped past) decision.Opened d).0 in
     let v4 = (or_parts (is_proxy o.mode) v6 (sym (misplaced-shared o.mode v6 m) ∙ placed)).1 in
     subst (λ (x : Opening). is_v6 x.client ≡ false) (same_Some _ _ t) (or_parts (is_v6 raw.ip) (is_v6 local.ip) v4).0
 told-v4 o past at (kind.Proxied n raw trace) (Header (Ok line)) opening m d t =
-    let row = (row-counts (not (is_proxy o.mode) || is_v6 raw.ip) (is_used past n) (header_row o past raw (Header (Ok line))) d).1 in
+    let row = (row-opened (not (is_proxy o.mode) || is_v6 raw.ip) (is_used past n) (is_stopped past) (header_row o past raw (Header (Ok line))) d).1 in
     let v6 : Bool = is_v6 line.source.ip || is_v6 line.destination.ip in
     let arrival = arrival_row o past raw line.source.ip line.destination.port in
-    let v4 = header-counts v6 (is_control_port o.mode line.destination.port) arrival row in
+    let v4 = header-counts v6 (is_control_port o.mode line.destination.port) arrival (ap is_refusal row) in
     subst (λ (x : Opening). is_v6 x.client ≡ false) (same_Some _ _ t) (or_parts (is_v6 line.source.ip) (is_v6 line.destination.ip) v4).0
 told-v4 o past at k answer opening m d t = cc
 
@@ -85,7 +96,7 @@ opener-v4 o (e ∷ log) s opening m r h =
         unwrap_or (then_some b (opening_by e.event.kind e.answer)) (opener past s) ≡ Some opening →
         (opener past s ≡ Some opening → is_v6 opening.client ≡ false) →
         is_v6 opening.client ≡ false
-    by_opening true n x ih = told-v4 o past e.event.at e.event.kind e.answer opening m (ap is_refusal (sym r.1 ∙ opened-is e.event.kind e.decision s n)) x
+    by_opening true n x ih = told-v4 o past e.event.at e.event.kind e.answer opening m (sym r.1 ∙ opened-is e.event.kind e.decision s n) x
     by_opening false n x ih = ih x
 
 -- an address that is not of version 6 is one of version 4

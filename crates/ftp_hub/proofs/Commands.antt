@@ -1,6 +1,6 @@
 -- The tables after a command of a session.
 use Rattle.std.proofs.Common.{◌≡◌, refl, sym, ap, ◌∙◌, ℕ, ◌-◌, ◌^◌, ◌<◌, Bool, true, false, not, cond, ◌||◌, List, [], Option, Some, None}
-use Rattle.std.specs.Prelude.{◌==◌, nat_eq}
+use Rattle.std.specs.Prelude.{◌==◌, is_some, nat_eq}
 use Rattle.std.specs.Option.{option_and_then, option_map_or}
 use Rattle.std.specs.HashMap as map
 use Rattle.std.proofs.lemmas.Bool.{not-false, not-true}
@@ -14,7 +14,7 @@ use Rattle.ftp_lockout.specs.declared.cache.Failures.{Failures}
 use Rattle.ftp_options.specs.Modes.{is_active_off}
 use Rattle.ftp_switchboard.specs.Board.{holder_for}
 use Rattle.ftp_events.specs.CommandRows.{address_row, command_row, if_logged_in, made_row}
-use Rattle.ftp_events.specs.Decide.{around, if_live, due}
+use Rattle.ftp_events.specs.Decide.{around, if_live, is_at_work, due}
 use Rattle.ftp_events.specs.Text.{port_target}
 use Rattle.ftp_events.specs.Words.{is_number}
 use Rattle.ftp_laws.proofs.Cases.{by_test}
@@ -41,19 +41,21 @@ pub record IsPlain (k : EventKind) : Type 0 where
   pub no_link : is_accepted k ≡ false
 
 -- what is due on an event that names a session and is no end of a transfer is the row of its command
-due-row : (o : Options) (past : List Entry) (at : ℕ) (k : EventKind) (answer : Answer) (s : ℕ) → is_end k ≡ false → named_session k ≡ Some s → due o past at k answer ≡ if_live (option_and_then (session o past) (named_session k)) (λ v. command_row o (around o past at v) k v)
+due-row : (o : Options) (past : List Entry) (at : ℕ) (k : EventKind) (answer : Answer) (s : ℕ) → is_end k ≡ false → named_session k ≡ Some s → due o past at k answer ≡ if_live (option_and_then (session o past) (named_session k)) (λ v. command_row o (around o past at k v) k v)
 due-row o past at (kind.Connect q raw local trace) answer s c n = cc
 due-row o past at (kind.Proxied q raw trace) answer s c n = cc
 due-row o past at (kind.DataIn q raw port) answer s c n = cc
 due-row o past at (kind.End t) answer s c n = cc
 due-row o past at kind.Sweep answer s c n = cc
+due-row o past at kind.Scavenge answer s c n = cc
+due-row o past at kind.Shutdown answer s c n = cc
 due-row o past at k answer s c n = refl
 
 -- so it is that of the session, where it is live
-pub due-named : (o : Options) (past : List Entry) (at : ℕ) (k : EventKind) (answer : Answer) (s : ℕ) (x : Option Session) → is_end k ≡ false → named_session k ≡ Some s → session o past s ≡ x → due o past at k answer ≡ option_map_or (λ v. command_row o (around o past at v) k v) x decision.UnknownNumber
+pub due-named : (o : Options) (past : List Entry) (at : ℕ) (k : EventKind) (answer : Answer) (s : ℕ) (x : Option Session) → is_end k ≡ false → named_session k ≡ Some s → session o past s ≡ x → due o past at k answer ≡ option_map_or (λ v. command_row o (around o past at k v) k v) x decision.UnknownNumber
 due-named o past at k answer s x c n known =
     due-row o past at k answer s c n
-    ∙ ap (λ (y : Option Session). if_live y (λ v. command_row o (around o past at v) k v)) (ap (option_and_then (session o past)) n ∙ known)
+    ∙ ap (λ (y : Option Session). if_live y (λ v. command_row o (around o past at k v) k v)) (ap (option_and_then (session o past)) n ∙ known)
 
 -- the commands and the ends of sessions are plain
 pub command-plain : (k : EventKind) → is_command k ≡ true → IsPlain k
@@ -72,6 +74,14 @@ unfolding decide
 serves-unknown old new log event answer done s st plain named none nothing tables =
     serves-refusal old new log event answer decision.UnknownNumber done st
     (sym (due-named old.options (past_of log) event.at event.kind answer s None plain named (sym (st.tables.sessions s) ∙ none))) refl nothing tables
+
+-- a job of the session that is named runs by the table as by the log
+pub at-work :
+    (hub : Hub) (log : List Entry) (k : EventKind) (s : ℕ) → Stands hub log → named_session k ≡ Some s →
+    is_at_work hub.options (past_of log) k ≡ is_some (map.get nat_eq hub.jobs s)
+at-work hub log k s st named =
+    ap (λ (n : Option ℕ). option_map_or (λ s. is_some (running_job hub.options (past_of log) s)) n false) named
+    ∙ ap is_some (sym (st.tables.jobs s))
 
 -- the board's holders of a client's ports are those of the log
 held-same : (hub : Hub) (log : List Entry) (s : ℕ) (v : Session) → Stands hub log → session hub.options (past_of log) s ≡ Some v → held_for hub.board v ≡ holder hub.options (past_of log) v.opening.client
@@ -100,28 +110,28 @@ address-same used other number v (Some to) h = ap (λ (d : Decision). cond (same
 
 -- so is a command
 used-same :
-    (o : Options) (holders : ℕ → Option ℕ) (failed : LoginKey → Option Failures) (b : Bool) (used : ℕ → Bool) (at : ℕ) (hub : Hub) (k : EventKind) (v : Session) →
+    (o : Options) (holders : ℕ → Option ℕ) (failed : LoginKey → Option Failures) (b : Bool) (used : ℕ → Bool) (runs : Bool) (at : ℕ) (hub : Hub) (k : EventKind) (v : Session) →
     is_accepted k ≡ false → (is_port k ≡ true → b ≡ used_for hub k) → ((n : ℕ) → has hub.numbers n ≡ used n) →
-    command_row o (record { holders = holders; failures = failed; used = λ n. b; at = at }) k v ≡ command_row o (record { holders = holders; failures = failed; used = used; at = at }) k v
-used-same o holders failed b used at hub (kind.Accepted s n raw) v plain number numbers = cc
-used-same o holders failed b used at hub (kind.Port s text number) v plain same numbers =
+    command_row o (record { holders = holders; failures = failed; used = λ n. b; runs = runs; at = at }) k v ≡ command_row o (record { holders = holders; failures = failed; used = used; runs = runs; at = at }) k v
+used-same o holders failed b used runs at hub (kind.Accepted s n raw) v plain number numbers = cc
+used-same o holders failed b used runs at hub (kind.Port s text number) v plain same numbers =
     ap (λ (d : Decision). if_logged_in v (cond (is_active_off o.active_passive) decision.ModeOff d))
     (address-same (λ n. b) used number v (port_target text) (made-same b used number (same refl ∙ told number)))
   where
     told : (number : Option ℕ) → option_map_or (has hub.numbers) number false ≡ option_map_or used number false
     told None = refl
     told (Some n) = numbers n
-used-same o holders failed b used at hub k v plain number numbers = refl
+used-same o holders failed b used runs at hub k v plain number numbers = refl
 
 -- a command is decided by the hub's tables as by the log
 pub row-same :
     (hub : Hub) (log : List Entry) (b : Bool) (at : ℕ) (k : EventKind) (s : ℕ) (v : Session) →
     Stands hub log → is_accepted k ≡ false → (is_port k ≡ true → b ≡ used_for hub k) → session hub.options (past_of log) s ≡ Some v →
-    command_row hub.options (surroundings hub.board hub.failures b at v) k v ≡ command_row hub.options (around hub.options (past_of log) at v) k v
+    command_row hub.options (surroundings hub.board hub.failures b (is_at_work hub.options (past_of log) k) at v) k v ≡ command_row hub.options (around hub.options (past_of log) at k v) k v
 row-same hub log b at k s v st plain number known =
-    used-same o (held_for hub.board v) (failures_in hub.failures) b (is_used past) at hub k v plain number st.tables.numbers
-    ∙ ap (λ (x : ℕ → Option ℕ). command_row o (record { holders = x; failures = failures_in hub.failures; used = is_used past; at = at }) k v) (held-same hub log s v st known)
-    ∙ ap (λ (x : LoginKey → Option Failures). command_row o (record { holders = holder o past v.opening.client; failures = x; used = is_used past; at = at }) k v) (λ i key. st.tables.failures key i)
+    used-same o (held_for hub.board v) (failures_in hub.failures) b (is_used past) runs at hub k v plain number st.tables.numbers
+    ∙ ap (λ (x : ℕ → Option ℕ). command_row o (record { holders = x; failures = failures_in hub.failures; used = is_used past; runs = runs; at = at }) k v) (held-same hub log s v st known)
+    ∙ ap (λ (x : LoginKey → Option Failures). command_row o (record { holders = holder o past v.opening.client; failures = x; used = is_used past; runs = runs; at = at }) k v) (λ i key. st.tables.failures key i)
   where
     o : Options
     o = hub.options
@@ -129,9 +139,12 @@ row-same hub log b at k s v st plain number known =
     past : List Entry
     past = past_of log
 
+    runs : Bool
+    runs = is_at_work o past k
+
 -- what was decided and done on a live session is what its row wants, and the tables moved so
 pub record Handled (old new : Hub) (log : List Entry) (event : HubEvent) (answer : Answer) (d : Decision) (done : List Action) (s : ℕ) (v after : Session) : Type 0 where
-  pub row : d ≡ command_row old.options (around old.options (past_of log) event.at v) event.kind v
+  pub row : d ≡ command_row old.options (around old.options (past_of log) event.at event.kind v) event.kind v
   pub acts : done ≡ session_acts old.options s event.kind answer d (map.get nat_eq old.jobs s) (Some v)
   pub tables : MovedAlone old new event answer d done s v after
 
@@ -172,7 +185,7 @@ serves-command old new log event answer d done s v after st below plain named th
     m = h.tables.moved
 
     checked : (b : Bool) → is_refusal d ≡ b → is_auth event.kind ≡ true → b ≡ not (is_checking v.login)
-    checked b r said = sym r ∙ ap is_refusal h.row ∙ said-refused o (around o past event.at v) event.kind v said
+    checked b r said = sym r ∙ ap is_refusal h.row ∙ said-refused o (around o past event.at event.kind v) event.kind v said
 
     by_refusal : (b : Bool) → is_refusal d ≡ b → Serves old new log event answer d done
     by_refusal false counts =
@@ -210,6 +223,7 @@ serves-command old new log event answer d done s v after st below plain named th
           failures = λ key.
               failures-refused old new past event key v m.options h.tables.failures (st.tables.failures key) (λ said. not-true (is_checking v.login) (sym (checked true refused said)))
               ∙ ap (λ (o : Options). failures o past key) (sym m.options);
+          stopped = h.tables.stopped ∙ st.tables.stopped;
         })
       where
         unchanged : (d : Decision) → is_refusal d ≡ true → live_after d (map.hash_map_len old.sessions) ≡ map.hash_map_len old.sessions

@@ -12,6 +12,8 @@ use Rattle.ftp_events.specs.declared.action.Action.TheVariants as action
 use Rattle.ftp_events.specs.declared.decision.Decision.TheVariants as decision
 use Rattle.ftp_events.specs.declared.event.EventKind.TheVariants as kind
 use Rattle.ftp_events.specs.Acts.{acts_of, closings, refused_link}
+use Rattle.ftp_events.specs.Ages.{is_activity}
+use Rattle.ftp_events.specs.Log.{is_stopped}
 use Rattle.ftp_events.specs.Board.{target}
 use Rattle.ftp_events.specs.History.{Nobody, meant, one_or_nobody, subject}
 use Rattle.ftp_events.specs.Modes.{in_range}
@@ -22,7 +24,7 @@ use Rattle.ftp_events.specs.ConnectionRows.{holder_row}
 use Rattle.ftp_laws.proofs.BalanceLemmas.{no-completion}
 use Rattle.ftp_laws.proofs.QuestionLemmas.{counting-counts, running-other, session-other}
 use Rattle.ftp_laws.proofs.HoldLemmas.{WaitsFor}
-use Rattle.ftp_laws.proofs.SubjectLemmas.{no-stop, nobody-concerns, subject-plain}
+use Rattle.ftp_laws.proofs.SubjectLemmas.{nobody-concerns, subject-plain}
 use Rattle.ftp_laws.proofs.TableLemmas.{IsAbout, holder-arrived, holder-other, arrival-about, eq-comm}
 use Rattle.ftp_hub.specs.declared.data_links.Arrival.{Arrival}
 use Rattle.ftp_hub.specs.Arrivals.{IsDataLink, arrival_of}
@@ -35,14 +37,14 @@ use Rattle.ftp_hub.proofs.Failures.{linked-other}
 use Rattle.ftp_hub.proofs.Moved.{jobs-start, sessions-stay}
 use Rattle.ftp_hub.proofs.Decisions.{Comes}
 
-turned-comes : Comes decision.Turned
-turned-comes = record { counts = refl; unopened = λ k. refl; no_grant = refl; keeps = refl; lives = refl; silent = λ answer. refl; as_many = λ n. refl; unfinished = refl }
+pub turned-comes : Comes decision.Turned
+turned-comes = record { counts = refl; plain = refl; unopened = λ k. refl; no_grant = refl; keeps = refl; lives = refl; silent = λ k answer. refl; as_many = λ n. refl; unfinished = refl }
 
 attached-comes : (s : ℕ) → Comes (decision.Attached s)
-attached-comes s = record { counts = refl; unopened = λ k. refl; no_grant = refl; keeps = refl; lives = refl; silent = λ answer. refl; as_many = λ n. refl; unfinished = refl }
+attached-comes s = record { counts = refl; plain = refl; unopened = λ k. refl; no_grant = refl; keeps = refl; lives = refl; silent = λ k answer. refl; as_many = λ n. refl; unfinished = refl }
 
 fault-comes : (fault : ProxyError) → Comes (decision.HeaderFault fault)
-fault-comes fault = record { counts = refl; unopened = λ k. refl; no_grant = refl; keeps = refl; lives = refl; silent = λ answer. refl; as_many = λ n. refl; unfinished = refl }
+fault-comes fault = record { counts = refl; plain = refl; unopened = λ k. refl; no_grant = refl; keeps = refl; lives = refl; silent = λ k answer. refl; as_many = λ n. refl; unfinished = refl }
 
 arrival-comes : (welcome : Bool) (s : ℕ) → Comes (arrival_of welcome s)
 arrival-comes true s = attached-comes s
@@ -57,13 +59,21 @@ arrival-row : (ranged same : Bool) (s : ℕ) → cond (not ranged) decision.Turn
 arrival-row true same s = refl
 arrival-row false same s = refl
 
+-- a connection that comes is no activity
+link-idle : (k : EventKind) (n : ℕ) → new_number k decision.Turned ≡ Some n → is_activity k ≡ false
+link-idle (kind.Connect s raw local trace) n brings = refl
+link-idle (kind.Proxied m raw trace) n brings = refl
+link-idle (kind.DataIn m raw port) n brings = refl
+link-idle (kind.Accepted s m raw) n brings = refl
+link-idle k n brings = cc
+
 -- whichever kind brings a connection of this number, the session is afterwards the same
 pub after-alike :
     (b : Bool) (at : ℕ) (k : EventKind) (n s m port : ℕ) (raw : SocketAddr) (answer : Answer) (job : Option Running) (v : Session) →
     ((d : Decision) → new_number k d ≡ Some n) →
     session_after at (kind.DataIn n raw port) answer (arrival_of b s) m job v ≡ session_after at k answer (arrival_of b s) m job v
-after-alike true at k n s m port raw answer job v brings = rw (brings (decision.Attached s)) refl
-after-alike false at k n s m port raw answer job v brings = refl
+after-alike true at k n s m port raw answer job v brings = rw (link-idle k n (brings decision.Turned), brings (decision.Attached s)) refl
+after-alike false at k n s m port raw answer job v brings = rw (link-idle k n (brings decision.Turned)) refl
 
 -- the same is done
 pub acts-alike :
@@ -103,9 +113,10 @@ pub serves-nobody :
     ((q : ℕ) → has new.numbers q ≡ (is_number (new_number event.kind d) q || has old.numbers q)) →
     ((a p : ℕ) → holder_at new.board a p ≡ holder old.options (entry event answer d done ∷ past_of log) (V4 a) p) →
     ((key : LoginKey) → failures_in new.failures key ≡ failures old.options (entry event answer d done ∷ past_of log) key) →
+    new.stopped ≡ old.stopped →
     Serves old new log event answer d done
 unfolding acts
-serves-nobody old new log event answer d done st comes right nobody closed ran same table len jobs numbers board failed =
+serves-nobody old new log event answer d done st comes right nobody closed ran same table len jobs numbers board failed stopped =
     record {
       decision = right;
       done = closed ∙ sym due_acts;
@@ -123,6 +134,7 @@ serves-nobody old new log event answer d done st comes right nobody closed ran s
         numbers = λ q. numbers q ∙ ap (λ b. is_number (new_number event.kind d) q || b) (st.tables.numbers q);
         holders = λ a p. board a p ∙ ap (λ (o : Options). holder o (e ∷ past) (V4 a) p) (sym same);
         failures = λ key. failed key ∙ ap (λ (o : Options). failures o (e ∷ past) key) (sym same);
+        stopped = stopped ∙ st.tables.stopped ∙ sym (ap (λ b. b || is_stopped past) comes.plain);
       });
     }
   where
@@ -136,13 +148,13 @@ serves-nobody old new log event answer d done st comes right nobody closed ran s
     e = entry event answer d done
 
     about : subject o past e ≡ Nobody
-    about = subject-plain o past e (no-stop d) ∙ ap one_or_nobody nobody
+    about = subject-plain o past e comes.plain ∙ ap one_or_nobody nobody
 
     due_acts : acts_of o past e ≡ refused_link event.kind d
     due_acts = rw (comes.counts, about) refl
 
 -- a connection that is about no session is closed
-serves-closed :
+pub serves-closed :
     (old new : Hub) (log : List Entry) (event : HubEvent) (answer : Answer) (d : Decision) (done : List Action) (n : ℕ) →
     Stands old log → Comes d → d ≡ decide old.options log event answer →
     meant old.options (past_of log) (entry event answer d done) ≡ None →
@@ -154,13 +166,13 @@ serves-closed :
     new.jobs ≡ old.jobs →
     ((q : ℕ) → has new.numbers q ≡ ((n == q) || has old.numbers q)) →
     ((a p : ℕ) → holder_at new.board a p ≡ holder old.options (entry event answer d done ∷ past_of log) (V4 a) p) →
-    new.failures ≡ old.failures →
+    new.failures ≡ old.failures → new.stopped ≡ old.stopped →
     Serves old new log event answer d done
-serves-closed old new log event answer d done n st comes right nobody closed brings closes same table len jobs numbers board failed =
+serves-closed old new log event answer d done n st comes right nobody closed brings closes same table len jobs numbers board failed stopped =
     serves-nobody old new log event answer d done st comes right nobody (closes ∙ sym (closed ∙ ap closings brings))
     (λ k. ap (λ xs. running_after xs k) closes ∙ none_ran k) same table len jobs
     (λ q. numbers q ∙ ap (λ (x : Option ℕ). is_number x q || has old.numbers q) (sym brings))
-    board (λ key. failed-linked old new log event answer d done n key st brings failed)
+    board (λ key. failed-linked old new log event answer d done n key st brings failed) stopped
   where
     none_ran : (k : ℕ) → running_after (action.Close n ∷ []) k ≡ k
     none_ran k = omega arith
@@ -178,11 +190,11 @@ pub serves-faulted :
     new.jobs ≡ old.jobs →
     ((q : ℕ) → has new.numbers q ≡ ((n == q) || has old.numbers q)) →
     ((a p : ℕ) → holder_at new.board a p ≡ holder_at old.board a p) →
-    new.failures ≡ old.failures →
+    new.failures ≡ old.failures → new.stopped ≡ old.stopped →
     Serves old new log event answer (decision.HeaderFault fault) done
-serves-faulted old new log event answer fault done n st right nowhere unnamed brings closes same table len jobs numbers board failed =
+serves-faulted old new log event answer fault done n st right nowhere unnamed brings closes same table len jobs numbers board failed stopped =
     serves-closed old new log event answer (decision.HeaderFault fault) done n st (fault-comes fault) right (rw (unnamed, nowhere) refl) refl brings closes same table len jobs numbers
-    (λ a p. board a p ∙ st.tables.holders a p ∙ sym (holder-other old.options (past_of log) (entry event answer (decision.HeaderFault fault) done) (V4 a) p nowhere unnamed refl)) failed
+    (λ a p. board a p ∙ st.tables.holders a p ∙ sym (holder-other old.options (past_of log) (entry event answer (decision.HeaderFault fault) done) (V4 a) p nowhere unnamed refl refl)) failed stopped
 
 -- who holds a port after a data connection
 holders-arrived :
@@ -192,7 +204,7 @@ holders-arrived :
 holders-arrived hub log event answer d done arr a p st link comes =
     let before : Option ℕ = holder hub.options (past_of log) (V4 a) p in
     holder-arrived hub.options (past_of log) (entry event answer d done) (record { client = V4 arr.source; port = arr.port }) (V4 a) p
-    (record { to = link.to; unnamed = link.unnamed; no_grant = comes.no_grant })
+    (record { to = link.to; plain = comes.plain; unnamed = link.unnamed; no_grant = comes.no_grant })
     ∙ ap (λ b. cond (b && (arr.port == p)) None before) (eq-comm arr.source a)
     ∙ ap (λ b. cond ((a == arr.source) && b) None before) (eq-comm arr.port p)
     ∙ ap (λ (x : Option ℕ). cond (is_key a p arr.source arr.port) None x) (sym (st.tables.holders a p))
@@ -200,7 +212,7 @@ holders-arrived hub log event answer d done arr a p st link comes =
 -- a data connection that has no holder is turned away
 pub serves-unheld :
     (old new : Hub) (log : List Entry) (event : HubEvent) (answer : Answer) (done : List Action) (arr : Arrival) →
-    Stands old log → IsDataLink old.options event answer arr → is_used (past_of log) arr.number ≡ false →
+    Stands old log → IsDataLink old.options event answer arr → is_used (past_of log) arr.number ≡ false → old.stopped ≡ false →
     holder_at old.board arr.source arr.port ≡ None →
     done ≡ action.Close arr.number ∷ [] →
     new.options ≡ old.options →
@@ -209,14 +221,14 @@ pub serves-unheld :
     new.jobs ≡ old.jobs →
     ((q : ℕ) → has new.numbers q ≡ ((arr.number == q) || has old.numbers q)) →
     ((a p : ℕ) → holder_at new.board a p ≡ cond (is_key a p arr.source arr.port) None (holder_at old.board a p)) →
-    new.failures ≡ old.failures →
+    new.failures ≡ old.failures → new.stopped ≡ old.stopped →
     Serves old new log event answer decision.Turned done
 unfolding decide
-serves-unheld old new log event answer done arr st link unused nobody closes same table len jobs numbers board failed =
+serves-unheld old new log event answer done arr st link unused going nobody closes same table len jobs numbers board failed stopped =
     serves-closed old new log event answer decision.Turned done arr.number st turned-comes
-    (sym (link.row past unused ∙ ap (λ (h : Option ℕ). cond (not (in_range o arr.port)) decision.Turned (holder_row o past arr.raw h)) unheld ∙ same-both (not (in_range o arr.port)) decision.Turned))
+    (sym (link.row past unused (sym st.tables.stopped ∙ going) ∙ ap (λ (h : Option ℕ). cond (not (in_range o arr.port)) decision.Turned (holder_row o past arr.raw h)) unheld ∙ same-both (not (in_range o arr.port)) decision.Turned))
     (rw (link.unnamed, link.to) unheld) refl (link.brings decision.Turned) closes same table len jobs numbers
-    (λ a p. board a p ∙ sym (holders-arrived old log event answer decision.Turned done arr a p st link turned-comes)) failed
+    (λ a p. board a p ∙ sym (holders-arrived old log event answer decision.Turned done arr a p st link turned-comes)) failed stopped
   where
     o : Options
     o = old.options
@@ -230,7 +242,7 @@ serves-unheld old new log event answer done arr st link unused nobody closes sam
 -- a data connection that has a holder goes to it, or is turned away where the peers differ
 pub serves-held :
     (old new : Hub) (log : List Entry) (event : HubEvent) (answer : Answer) (done : List Action) (arr : Arrival) (s : ℕ) (v after : Session) →
-    Stands old log → IsDataLink old.options event answer arr → is_used (past_of log) arr.number ≡ false →
+    Stands old log → IsDataLink old.options event answer arr → is_used (past_of log) arr.number ≡ false → old.stopped ≡ false →
     holder_at old.board arr.source arr.port ≡ Some s → map.get nat_eq old.sessions s ≡ Some v →
     after ≡ session_after event.at event.kind answer (decided_on old.options arr v s) 0 (map.get nat_eq old.jobs s) v →
     done ≡ session_acts old.options s event.kind answer (decided_on old.options arr v s) (map.get nat_eq old.jobs s) (Some v) →
@@ -240,20 +252,20 @@ pub serves-held :
     Starts old.jobs new.jobs s (starting event.kind (decided_on old.options arr v s) (map.get nat_eq old.jobs s) v) →
     ((q : ℕ) → has new.numbers q ≡ ((arr.number == q) || has old.numbers q)) →
     ((a p : ℕ) → holder_at new.board a p ≡ cond (is_key a p arr.source arr.port) None (holder_at old.board a p)) →
-    new.failures ≡ old.failures →
+    new.failures ≡ old.failures → new.stopped ≡ old.stopped →
     Serves old new log event answer (decided_on old.options arr v s) done
 unfolding decide
-serves-held old new log event answer done arr s v after st link unused held there after_is acted same table len begins numbers board failed =
-    serves-about old new log event answer d done s v after st comes.counts about known (sym (link.row past unused ∙ rw (holds, known) (arrival-row (in_range o arr.port) (same_ip v.opening.raw.ip arr.raw.ip) s))) acted
+serves-held old new log event answer done arr s v after st link unused going held there after_is acted same table len begins numbers board failed stopped =
+    serves-about old new log event answer d done s v after st comes.counts about known (sym (link.row past unused (sym st.tables.stopped ∙ going) ∙ rw (holds, known) (arrival-row (in_range o arr.port) (same_ip v.opening.raw.ip arr.raw.ip) s))) acted
     (record {
       options = same;
-      session = after_is ∙ ap (λ c. session_after event.at event.kind answer d c job v) (sym (comes.silent answer));
+      session = after_is ∙ ap (λ c. session_after event.at event.kind answer d c job v) (sym (comes.silent event.kind answer));
       sessions = sessions-stay old.sessions new.sessions d s after comes.lives comes.as_many table len;
       jobs = jobs-start old.jobs new.jobs o event.kind answer d done s v comes.unfinished begins acted;
     })
     (λ q. rw (link.brings d) (numbers q ∙ ap (λ b. (arr.number == q) || b) (st.tables.numbers q)))
     (λ a p. board a p ∙ sym (holders-arrived old log event answer d done arr a p st link comes))
-    (λ key. failed-linked old new log event answer d done arr.number key st (link.brings d) failed)
+    (λ key. failed-linked old new log event answer d done arr.number key st (link.brings d) failed) stopped
   where
     o : Options
     o = old.options
@@ -279,7 +291,7 @@ serves-held old new log event answer done arr s v after st link unused held ther
     about : IsAbout o past (entry event answer d done) s
     about =
         arrival-about o past (entry event answer d done) (record { client = V4 arr.source; port = arr.port }) s
-        (record { to = link.to; unnamed = link.unnamed; no_grant = comes.no_grant }) (comes.unopened event.kind) holds
+        (record { to = link.to; plain = comes.plain; unnamed = link.unnamed; no_grant = comes.no_grant }) (comes.unopened event.kind) holds
 
 -- whoever holds a port is live
 pub held-live : (hub : Hub) (log : List Entry) (a p s : ℕ) → Stands hub log → holder_at hub.board a p ≡ Some s → map.get nat_eq hub.sessions s ≡ None → ⊥
@@ -301,22 +313,22 @@ pub serves-accepted :
     Starts old.jobs new.jobs s (starting event.kind (arrival_of (is_waiting v.slot && same_ip v.opening.raw.ip raw.ip) s) (map.get nat_eq old.jobs s) v) →
     ((q : ℕ) → has new.numbers q ≡ ((n == q) || has old.numbers q)) →
     ((a p : ℕ) → holder_at new.board a p ≡ holder_at old.board a p) →
-    new.failures ≡ old.failures →
+    new.failures ≡ old.failures → new.stopped ≡ old.stopped →
     Serves old new log event answer (arrival_of (is_waiting v.slot && same_ip v.opening.raw.ip raw.ip) s) done
 unfolding decide
-serves-accepted old new log event answer done s n raw v after st is legacy unused there after_is acted same table len begins numbers board failed =
+serves-accepted old new log event answer done s n raw v after st is legacy unused there after_is acted same table len begins numbers board failed stopped =
     serves-about old new log event answer d done s v after st comes.counts
-    (record { subject_is = subject-plain o past e (no-stop d) ∙ rw named refl; unopened = comes.unopened event.kind }) known
+    (record { subject_is = subject-plain o past e comes.plain ∙ rw named refl; unopened = comes.unopened event.kind }) known
     (sym (due-named o past event.at event.kind answer s (Some v) (rw is refl) named known ∙ rw (is, legacy, unused) refl)) acted
     (record {
       options = same;
-      session = after_is ∙ ap (λ c. session_after event.at event.kind answer d c (map.get nat_eq old.jobs s) v) (sym (comes.silent answer));
+      session = after_is ∙ ap (λ c. session_after event.at event.kind answer d c (map.get nat_eq old.jobs s) v) (sym (comes.silent event.kind answer));
       sessions = sessions-stay old.sessions new.sessions d s after comes.lives comes.as_many table len;
       jobs = jobs-start old.jobs new.jobs o event.kind answer d done s v comes.unfinished begins acted;
     })
     (λ q. rw (brings d) (numbers q ∙ ap (λ b. (n == q) || b) (st.tables.numbers q)))
     (λ a p. board a p ∙ st.tables.holders a p ∙ holder-legacy o past (V4 a) p legacy ∙ sym (holder-legacy o (e ∷ past) (V4 a) p legacy))
-    (λ key. failed-linked old new log event answer d done n key st (brings d) failed)
+    (λ key. failed-linked old new log event answer d done n key st (brings d) failed) stopped
   where
     o : Options
     o = old.options

@@ -47,9 +47,9 @@ transfer-plain k c = record { no_end = refl; no_link = refl }
 
 -- a job may start with its decision
 transfer-decides : (b c : Bool) (t : Ticket) → Comes (cond b (cond c (decision.Queued t) decision.NoSlot) decision.NotLoggedIn)
-transfer-decides true true t = record { counts = refl; unopened = λ k. refl; no_grant = refl; keeps = refl; lives = refl; silent = λ answer. refl; as_many = λ n. refl; unfinished = refl }
-transfer-decides true false t = record { counts = refl; unopened = λ k. refl; no_grant = refl; keeps = refl; lives = refl; silent = λ answer. refl; as_many = λ n. refl; unfinished = refl }
-transfer-decides false c t = record { counts = refl; unopened = λ k. refl; no_grant = refl; keeps = refl; lives = refl; silent = λ answer. refl; as_many = λ n. refl; unfinished = refl }
+transfer-decides true true t = record { counts = refl; plain = refl; unopened = λ k. refl; no_grant = refl; keeps = refl; lives = refl; silent = λ k answer. refl; as_many = λ n. refl; unfinished = refl }
+transfer-decides true false t = record { counts = refl; plain = refl; unopened = λ k. refl; no_grant = refl; keeps = refl; lives = refl; silent = λ k answer. refl; as_many = λ n. refl; unfinished = refl }
+transfer-decides false c t = record { counts = refl; plain = refl; unopened = λ k. refl; no_grant = refl; keeps = refl; lives = refl; silent = λ k answer. refl; as_many = λ n. refl; unfinished = refl }
 
 pub transfer-comes : (s : ℕ) (v : Session) (d : Decision) → d ≡ if_logged_in v (transfer_row s v) → Comes d
 transfer-comes s v d e = subst Comes (sym e) (transfer-decides (is_logged_in v.login) (can_queue v.slot v.pending) (record { session = s; nr = v.tickets + 1 }))
@@ -93,10 +93,10 @@ pub serves-lost :
     (map.hash_map_len new.jobs ≡ map.hash_map_len old.jobs - 1) →
     ((q : ℕ) → has new.numbers q ≡ has old.numbers q) →
     ((a p : ℕ) → holder_at new.board a p ≡ holder_at old.board a p) →
-    new.failures ≡ old.failures →
+    new.failures ≡ old.failures → new.stopped ≡ old.stopped →
     Serves old new log event (Done outcome) decision.Finished done
 unfolding acts
-serves-lost old new log event outcome done t job st k there ticket fits none completes same sessions len jobs fewer numbers board failed =
+serves-lost old new log event outcome done t job st k there ticket fits none completes same sessions len jobs fewer numbers board failed stopped =
     record {
       decision = finish-due old log event outcome t job st k there ticket fits;
       done = completes ∙ sym (rw (k, gone) refl);
@@ -108,12 +108,13 @@ serves-lost old new log event outcome done t job st k there ticket fits none com
         numbers = λ q. rw k (numbers q ∙ st.tables.numbers q);
         holders = λ a p.
             board a p ∙ st.tables.holders a p
-            ∙ sym (holder-named o past e t.session (V4 a) p (record { named = rw k refl; no_target = rw k refl }) refl)
+            ∙ sym (holder-named o past e t.session (V4 a) p (record { plain = refl; named = rw k refl; no_target = rw k refl }) refl)
             ∙ ap (λ (o : Options). holder o (e ∷ past) (V4 a) p) (sym same);
         failures = λ key.
             ap (λ (x : Option Table). failures_in x key) failed ∙ st.tables.failures key
             ∙ sym (failures-other o past e key (ap tells_failures k))
             ∙ ap (λ (o : Options). failures o (e ∷ past) key) (sym same);
+        stopped = stopped ∙ st.tables.stopped;
       });
     }
   where

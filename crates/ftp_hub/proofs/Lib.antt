@@ -11,6 +11,10 @@ pub mod Named
 pub mod Decisions
 pub mod DataLinks
 pub mod Sweeps
+pub mod Stops
+pub mod Counting
+pub mod Ascending
+pub mod Leaving
 pub mod Commands
 pub mod Rows
 pub mod Ends

@@ -22,6 +22,7 @@ use Rattle.ftp_events.specs.Leads.{HasLinks, header_to_read, job_of_ticket, job_
 use Rattle.ftp_events.specs.Transfer.{same_ticket}
 use Rattle.ftp_events.specs.Acts.{link_in, slot_of}
 use Rattle.ftp_events.specs.Slot.{Lane, drops, lane, lane_of, lane_after, queued_in, with_link}
+use Rattle.ftp_events.specs.Log.{is_stopped}
 use Rattle.ftp_events.specs.Decide.{due}
 use Rattle.ftp_laws.proofs.EntryLemmas.{past-more, history-more}
 use Rattle.ftp_laws.proofs.LaneLemmas.{ended-empty}
@@ -94,10 +95,11 @@ lane_after-linked linked k decision.Finished queued l came h = lane_of-linked li
 lane_after-linked linked k d queued l came h = dropped-linked linked (drops d l.slot) l h
 
 -- no control connection is attached
-connect-attaches : (misplaced used : Bool) → is_attached (cond misplaced decision.Misplaced (cond used decision.UsedNumber decision.Opened)) ≡ false
-connect-attaches true used = refl
-connect-attaches false true = refl
-connect-attaches false false = refl
+connect-attaches : (misplaced used stopped : Bool) → is_attached (cond misplaced decision.Misplaced (cond used decision.UsedNumber (cond stopped decision.Turned decision.Opened))) ≡ false
+connect-attaches true used stopped = refl
+connect-attaches false true stopped = refl
+connect-attaches false false true = refl
+connect-attaches false false false = refl
 
 -- what is attached, or taken for a PORT, is the connection that comes with the event
 attached-link : (o : Options) (past : List Entry) (at : ℕ) (k : EventKind) (answer : Answer) (d : Decision) (n : ℕ) → d ≡ due o past at k answer → is_attached d ≡ true → new_number k d ≡ Some n → link_number k ≡ Some n
@@ -106,7 +108,7 @@ attached-link o past at (kind.DataIn m raw port) answer d n is t e = e
 attached-link o past at (kind.Accepted s m raw) answer d n is t e = e
 attached-link o past at (kind.Port s text m) answer decision.PortOk n is t e = e
 attached-link o past at (kind.Connect s raw local trace) answer d n is t e =
-    let none : is_attached d ≡ false = ap is_attached is ∙ connect-attaches (is_proxy o.mode || (is_pooled o.mode && (is_v6 raw.ip || is_v6 local.ip))) (is_used past s) in
+    let none : is_attached d ≡ false = ap is_attached is ∙ connect-attaches (is_proxy o.mode || (is_pooled o.mode && (is_v6 raw.ip || is_v6 local.ip))) (is_used past s) (is_stopped past) in
     let clash : true ≡ false = sym t ∙ none in
     cc
 attached-link o past at k answer d n is t e = cc
@@ -215,26 +217,36 @@ pub header-due :
     (hub : Hub) (log : List Entry) (k : EventKind) →
     Stands hub log → header_to_read hub.options (past_of log) k ≡ header_for hub k
 header-due hub log (kind.Proxied n raw trace) st =
-    ap (λ b. cond ((not (is_proxy hub.options.mode) || is_v6 raw.ip) || b) None (Some n)) (sym (st.tables.numbers n))
+    ap (λ b. cond (((not (is_proxy hub.options.mode) || is_v6 raw.ip) || b) || is_stopped (past_of log)) None (Some n)) (sym (st.tables.numbers n))
+    ∙ ap (λ b. cond (((not (is_proxy hub.options.mode) || is_v6 raw.ip) || has hub.numbers n) || b) None (Some n)) (sym st.tables.stopped)
 header-due hub log k st = refl
 
--- a header is read behind a proxy of version 4, for a number that was not used
+-- a header is read behind a proxy of version 4, for a number that was not used, where there was no stop
 pub header-parts :
     (hub : Hub) (n trace : ℕ) (raw : SocketAddr) → is_some (header_for hub (kind.Proxied n raw trace)) ≡ true →
-    ((not (is_proxy hub.options.mode) || is_v6 raw.ip) ≡ false) × (has hub.numbers n ≡ false)
+    ((not (is_proxy hub.options.mode) || is_v6 raw.ip) ≡ false) × (has hub.numbers n ≡ false) × (hub.stopped ≡ false)
 header-parts hub n trace raw read =
-    or_parts (not (is_proxy hub.options.mode) || is_v6 raw.ip) (has hub.numbers n) (go ((not (is_proxy hub.options.mode) || is_v6 raw.ip) || has hub.numbers n) read)
+    (first.0, first.1, both.1)
   where
+    strange : Bool
+    strange = not (is_proxy hub.options.mode) || is_v6 raw.ip
+
     go : (b : Bool) → is_some (cond b None (Some n)) ≡ true → b ≡ false
     go true h = cc
     go false h = refl
+
+    both : ((strange || has hub.numbers n) ≡ false) × (hub.stopped ≡ false)
+    both = or_parts (strange || has hub.numbers n) hub.stopped (go ((strange || has hub.numbers n) || hub.stopped) read)
+
+    first : (strange ≡ false) × (has hub.numbers n ≡ false)
+    first = or_parts strange (has hub.numbers n) both.0
 
 -- and it is that of the connection that comes with the event
 pub header-number :
     (hub : Hub) (k : EventKind) (n : ℕ) → is_some (header_for hub k) ≡ true → link_number k ≡ Some n → header_for hub k ≡ Some n
 header-number hub (kind.Proxied m raw trace) n read link =
     let parts = header-parts hub m trace raw read in
-    rw (parts.0, parts.1) link
+    rw (parts.0, parts.1, parts.2) link
 header-number hub k n read link = cc
 
 -- the job to be run is that of the hub's table

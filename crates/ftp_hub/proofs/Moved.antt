@@ -30,7 +30,7 @@ pub record JobsMoved (old new : Jobs) (k : EventKind) (d : Decision) (done : Lis
 -- the tables of sessions and jobs moved, with session s as it is due
 pub record Moved (old new : Hub) (event : HubEvent) (answer : Answer) (d : Decision) (done : List Action) (s : ℕ) (v after : Session) : Type 0 where
   pub options : new.options ≡ old.options
-  pub session : after ≡ session_after event.at event.kind answer d (notices_of d answer) (map.get nat_eq old.jobs s) v
+  pub session : after ≡ session_after event.at event.kind answer d (notices_of event.kind d answer) (map.get nat_eq old.jobs s) v
   pub sessions : SessionsMoved old.sessions new.sessions d s after
   pub jobs : JobsMoved old.jobs new.jobs event.kind d done s v
 
@@ -41,6 +41,7 @@ pub record MovedAlone (old new : Hub) (event : HubEvent) (answer : Answer) (d : 
   pub holders : is_legacy old.options.mode ≡ false → (a p : ℕ) → holder_at new.board a p ≡ held_after d s (ipv4 v.opening.client) (waiting_port v.slot) a p (holder_at old.board a p)
   pub alone : is_legacy old.options.mode ≡ true → (a p : ℕ) → holder_at new.board a p ≡ holder_at old.board a p
   pub failures : FailuresMoved old new.failures event v
+  pub stopped : new.stopped ≡ old.stopped
 
 -- a table in which a session is put back is as it was
 pub session-back :
@@ -55,9 +56,9 @@ pub tables-lent :
     (old new : Hub) (past : List Entry) →
     new.options ≡ old.options → ((q : ℕ) → map.get nat_eq new.sessions q ≡ map.get nat_eq old.sessions q) →
     map.hash_map_len new.sessions ≡ map.hash_map_len old.sessions →
-    new.jobs ≡ old.jobs → new.numbers ≡ old.numbers → new.board ≡ old.board → new.failures ≡ old.failures →
+    new.jobs ≡ old.jobs → new.numbers ≡ old.numbers → new.board ≡ old.board → new.failures ≡ old.failures → new.stopped ≡ old.stopped →
     Tables old past → Tables new past
-tables-lent old new past options sessions len jobs numbers board failed tables =
+tables-lent old new past options sessions len jobs numbers board failed stopped tables =
     tables-same old new past options
     (record {
       sessions = sessions;
@@ -67,6 +68,7 @@ tables-lent old new past options sessions len jobs numbers board failed tables =
       numbers = λ q. ap (λ (x : Used). has x q) numbers;
       holders = λ a p. ap (λ (x : Board). holder_at x a p) board;
       failures = λ key. ap (λ (x : Option Table). failures_in x key) failed;
+      stopped = stopped;
     }) tables
 
 -- the session goes on

@@ -13,7 +13,7 @@ use Rattle.ftp_events.specs.declared.decision.SlotMove.{SlotMove}
 use Rattle.ftp_events.specs.declared.decision.SlotMove.TheVariants.{Awaits, Connects, Empties}
 use Rattle.ftp_events.specs.declared.decision.Life.{Life}
 use Rattle.ftp_events.specs.declared.decision.Life.TheVariants.{Ends}
-use Rattle.ftp_events.specs.Classes.{ends, gives_up, is_ending, life, slot_move}
+use Rattle.ftp_events.specs.Classes.{ends, gives_up, is_ending, is_stop, life, slot_move}
 use Rattle.ftp_events.specs.Words.{is_number}
 use Rattle.ftp_events.specs.Opening.{opened_number}
 use Rattle.ftp_events.specs.Board.{granted_port, gives_up_hold}
@@ -22,6 +22,8 @@ use Rattle.ftp_events.specs.Place.{ticket_count}
 use Rattle.ftp_laws.proofs.QuestionLemmas.{session-told}
 use Rattle.ftp_laws.proofs.HoldLemmas.{WaitsFor, same_ip-equal}
 use Rattle.ftp_laws.proofs.PortLemmas.{named-target}
+use Rattle.ftp_laws.proofs.StopLemmas.{named-plain}
+use Rattle.ftp_laws.proofs.SubjectLemmas.{named-one}
 use Rattle.ftp_laws.proofs.TableLemmas.{IsNamed, holder-named, holder-granted, and-zero, eq-comm}
 use Rattle.ftp_laws.proofs.ClassLemmas.{awaits-is, ending-empties, granted-is}
 use Rattle.ftp_laws.proofs.Cases.{by_test}
@@ -77,8 +79,8 @@ still-waiting hub log s n v a p st known from = go (holder hub.options (past_of 
         own false same = ap (λ b. cond b None (Some h)) (and-zero (is_key a p n q))
 
 -- who holds a port after an entry that names session s, where sessions share the ports
-holders-named : (hub : Hub) (log : List Entry) (event : HubEvent) (answer : Answer) (d : Decision) (done : List Action) (s : ℕ) (v : Session) (a p : ℕ) → Stands hub log → is_legacy hub.options.mode ≡ false → named_session event.kind ≡ Some s → session hub.options (past_of log) s ≡ Some v → holder hub.options (entry event answer d done ∷ past_of log) (V4 a) p ≡ held_after d s (ipv4 v.opening.client) (waiting_port v.slot) a p (holder hub.options (past_of log) (V4 a) p)
-holders-named hub log event answer d done s v a p st shared named_s known = go (granted_port d) refl (slot_move d) refl
+holders-named : (hub : Hub) (log : List Entry) (event : HubEvent) (answer : Answer) (d : Decision) (done : List Action) (s : ℕ) (v : Session) (a p : ℕ) → Stands hub log → is_legacy hub.options.mode ≡ false → is_stop d ≡ false → named_session event.kind ≡ Some s → session hub.options (past_of log) s ≡ Some v → holder hub.options (entry event answer d done ∷ past_of log) (V4 a) p ≡ held_after d s (ipv4 v.opening.client) (waiting_port v.slot) a p (holder hub.options (past_of log) (V4 a) p)
+holders-named hub log event answer d done s v a p st shared plain_d named_s known = go (granted_port d) refl (slot_move d) refl
   where
     o : Options
     o = hub.options
@@ -90,7 +92,7 @@ holders-named hub log event answer d done s v a p st shared named_s known = go (
     e = entry event answer d done
 
     named : IsNamed o e s
-    named = record { named = named_s; no_target = named-target o event.kind answer s named_s }
+    named = record { plain = plain_d; named = named_s; no_target = named-target o event.kind answer s named_s }
 
     n : ℕ
     n = (client-v4 o log s v shared st.right known).0
@@ -151,7 +153,7 @@ few-counts hub log s v st below known =
     let told = session-told hub.options (past_of log) s v known in
     let notices : notice_count s (history hub.options (past_of log) s) ≡ v.notices = ap (λ (x : Session). x.notices) told.told in
     let tickets : ticket_count (history hub.options (past_of log) s) ≡ v.tickets = ap (λ (x : Session). x.tickets) told.told in
-    let few = notices-few hub.options log s st.acted in
+    let few = notices-few hub.options log s st.right st.acted in
     let fewer = tickets-few hub.options log s in
     record { notices = omega (arith, st.counted, notices, few); tickets = omega (arith, st.counted, tickets, fewer) }
 
@@ -164,8 +166,9 @@ pub serves-named :
     MovedAlone old new event answer d done s v after →
     (is_auth event.kind ≡ true → is_checking v.login ≡ true) →
     Serves old new log event answer d done
+unfolding decide
 serves-named old new log event answer d done s v after st named plain counts known right acted m checks =
-    serves-about old new log event answer d done s v after st counts (record { subject_is = rw named refl; unopened = no-opening event.kind d s plain named }) known right acted m.moved
+    serves-about old new log event answer d done s v after st counts (record { subject_is = named-one o past e s plain_d named; unopened = no-opening event.kind d s plain named }) known right acted m.moved
     (λ q. m.numbers q ∙ ap (λ b. is_number (new_number event.kind d) q || b) (st.tables.numbers q))
     (λ a p.
     by_test (is_legacy o.mode)
@@ -174,8 +177,9 @@ serves-named old new log event answer d done s v after st named plain counts kno
     (λ shared.
     m.holders shared a p
     ∙ ap (held_after d s (ipv4 v.opening.client) (waiting_port v.slot) a p) (st.tables.holders a p)
-    ∙ sym (holders-named old log event answer d done s v a p st shared named known)))
+    ∙ sym (holders-named old log event answer d done s v a p st shared plain_d named known)))
     (λ key. failures-counted old new past e key s v m.moved.options m.failures (st.tables.failures key) named known checks)
+    m.stopped
   where
     o : Options
     o = old.options
@@ -185,3 +189,6 @@ serves-named old new log event answer d done s v after st named plain counts kno
 
     e : Entry
     e = entry event answer d done
+
+    plain_d : is_stop d ≡ false
+    plain_d = named-plain o past e s right named

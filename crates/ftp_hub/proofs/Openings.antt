@@ -26,20 +26,20 @@ unused-none o past s unused = rw (unused-opener past s unused) (same-both (is_li
 -- the tables after a control connection opened session s
 pub serves-opened :
     (old new : Hub) (log : List Entry) (event : HubEvent) (answer : Answer) (s : ℕ) (opening : Opening) (done : List Action) →
-    Stands old log → IsControlLink old.options event answer s opening → is_used (past_of log) s ≡ false →
+    Stands old log → IsControlLink old.options event answer s opening → is_used (past_of log) s ≡ false → old.stopped ≡ false →
     done ≡ [] →
     new.options ≡ old.options →
-    ((q : ℕ) → map.get nat_eq new.sessions q ≡ cond (s == q) (Some (new_session opening)) (map.get nat_eq old.sessions q)) →
+    ((q : ℕ) → map.get nat_eq new.sessions q ≡ cond (s == q) (Some (new_session event.at opening)) (map.get nat_eq old.sessions q)) →
     (map.hash_map_len new.sessions ≡ map.hash_map_len old.sessions + 1) →
     new.jobs ≡ old.jobs →
     ((q : ℕ) → has new.numbers q ≡ ((s == q) || has old.numbers q)) →
     ((a p : ℕ) → holder_at new.board a p ≡ holder_at old.board a p) →
-    new.failures ≡ old.failures →
+    new.failures ≡ old.failures → new.stopped ≡ old.stopped →
     Serves old new log event answer decision.Opened done
 unfolding decide acts
-serves-opened old new log event answer s opening done st link unused nothing same table len jobs numbers board failed =
+serves-opened old new log event answer s opening done st link unused going nothing same table len jobs numbers board failed stopped =
     record {
-      decision = sym (link.row past unused);
+      decision = sym (link.row past unused (sym st.tables.stopped ∙ going));
       done = rw (link.unnamed, link.for_nobody) nothing;
       tables = subst (Tables new) (sym grown) (record {
         sessions = λ q. table q ∙ by_number q (s == q) refl ∙ ap (λ (o : Options). session o (e ∷ past) q) (sym same);
@@ -47,11 +47,12 @@ serves-opened old new log event answer s opening done st link unused nothing sam
         jobs = λ q. ap (λ (m : Jobs). map.get nat_eq m q) jobs ∙ no_job q (s == q) refl ∙ ap (λ (o : Options). running_job o (e ∷ past) q) (sym same);
         running = ap map.hash_map_len jobs ∙ st.tables.running ∙ sym (running-none done (running_count past) nothing);
         numbers = λ q. rw (link.brings decision.Opened) (numbers q ∙ ap (λ b. (s == q) || b) (st.tables.numbers q));
-        holders = λ a p. board a p ∙ st.tables.holders a p ∙ sym (holder-other o past e (V4 a) p link.for_nobody link.unnamed refl) ∙ ap (λ (o : Options). holder o (e ∷ past) (V4 a) p) (sym same);
+        holders = λ a p. board a p ∙ st.tables.holders a p ∙ sym (holder-other o past e (V4 a) p link.for_nobody link.unnamed refl refl) ∙ ap (λ (o : Options). holder o (e ∷ past) (V4 a) p) (sym same);
         failures = λ key.
             ap (λ (x : Option Table). failures_in x key) failed ∙ st.tables.failures key
             ∙ sym (failures-other o past e key (linked-other event.kind decision.Opened s (link.brings decision.Opened)))
             ∙ ap (λ (o : Options). failures o (e ∷ past) key) (sym same);
+        stopped = stopped ∙ st.tables.stopped;
       });
     }
   where
@@ -73,9 +74,9 @@ serves-opened old new log event answer s opening done st link unused nothing sam
     for_nobody : (q : ℕ) → concerns o past e q ≡ false
     for_nobody q = rw (link.unnamed, link.for_nobody) refl
 
-    by_number : (q : ℕ) (b : Bool) → (s == q) ≡ b → cond b (Some (new_session opening)) (map.get nat_eq old.sessions q) ≡ session o (e ∷ past) q
+    by_number : (q : ℕ) (b : Bool) → (s == q) ≡ b → cond b (Some (new_session event.at opening)) (map.get nat_eq old.sessions q) ≡ session o (e ∷ past) q
     by_number q true h =
-        subst (λ n. Some (new_session opening) ≡ session o (e ∷ past) n) (eqb-true s q h)
+        subst (λ n. Some (new_session event.at opening) ≡ session o (e ∷ past) n) (eqb-true s q h)
         (sym (session-opened o past e s opening (link.brings decision.Opened) refl link.tells nothing))
     by_number q false h = st.tables.sessions q ∙ sym (session-other o past e q (opens_one q ∙ h) (for_nobody q))
 

@@ -1,6 +1,8 @@
 -- Refused events, and tables that give the same answers.
 use Rattle.std.proofs.Common.{◌≡◌, sym, ap, ◌∙◌, subst, ◌+◌, true, List, [], length}
 use Rattle.ftp_hub.proofs.Common.{Action, Answer, Decision, Entry, Hub, HubEvent, IsActed, IsRight, Options, Serves, Stands, Tables, V4, acts, decide, entry, failures, holder, is_refusal, past_of, running_job, session}
+use Rattle.ftp_events.specs.declared.counters.Counters.{Counters}
+use Rattle.ftp_events.specs.Counts.{Counted}
 use Rattle.ftp_laws.proofs.QuestionLemmas.{counting-refused}
 use Rattle.ftp_hub.specs.Stands.{SameTables, SameAnswers}
 
@@ -31,6 +33,7 @@ same-refused old new log event answer d done same st served refused =
       numbers = λ n. after.numbers n ∙ sym (before.numbers n);
       holders = λ a p. after.holders a p ∙ ap (λ o. holder o (past_of log) (V4 a) p) same ∙ sym (before.holders a p);
       failures = λ key. after.failures key ∙ ap (λ o. failures o (past_of log) key) same ∙ sym (before.failures key);
+      stopped = after.stopped ∙ sym before.stopped;
     }
 
 -- tables that answer every question as before answer as the same past
@@ -44,6 +47,7 @@ tables-same old new past options same tables =
       numbers = λ n. same.numbers n ∙ tables.numbers n;
       holders = λ a p. same.holders a p ∙ tables.holders a p ∙ ap (λ (o : Options). holder o past (V4 a) p) (sym options);
       failures = λ key. same.failures key ∙ tables.failures key ∙ ap (λ (o : Options). failures o past key) (sym options);
+      stopped = same.stopped ∙ tables.stopped;
     }
 
 -- a hub that answers every question as before stands for the same log
@@ -54,4 +58,7 @@ stands-same old new log same st =
       acted = subst (λ (o : Options). IsActed o log) (sym same.head.options) st.acted;
       tables = tables-same old new (past_of log) same.head.options same.tables st.tables;
       counted = same.head.count ∙ st.counted ∙ ap (λ n. n + length log) (sym same.head.start);
+      counters =
+          subst (λ (o : Options). Counted o (past_of log) new.counters) (sym same.head.options)
+          (subst (λ (x : Counters). Counted old.options (past_of log) x) (sym same.head.counters) st.counters);
     }

@@ -6,11 +6,11 @@ use Rattle.ftp_events.specs.declared.decision.Life.{Life}
 use Rattle.ftp_events.specs.declared.decision.Life.TheVariants.{Goes, Ends}
 use Rattle.ftp_events.specs.declared.decision.SlotMove.{SlotMove}
 use Rattle.ftp_events.specs.declared.decision.SlotMove.TheVariants.{Keeps, Empties, EmptiesWaiting, Awaits, Connects, Expires}
-use Rattle.ftp_events.specs.Classes.{ends, is_ending, life, slot_move}
+use Rattle.ftp_events.specs.Classes.{ends, is_ending, is_stop, life, slot_move}
 use Rattle.ftp_events.specs.Session.{live_by_life, told_of_life}
 use Rattle.ftp_events.specs.Slot.{Lane, starts_by}
 use Rattle.ftp_laws.proofs.ClassLemmas.{ending-empties}
-use Rattle.ftp_laws.proofs.SubjectLemmas.{no-stop}
+use Rattle.ftp_laws.proofs.StopLemmas.{lives-plain}
 use Rattle.ftp_laws.proofs.BalanceLemmas.{finishes}
 use Rattle.ftp_handlers.specs.Handlers.{goes_on, is_quiet}
 use Rattle.ftp_hub.proofs.Running.{IsIdle}
@@ -30,9 +30,10 @@ goes_on-lives d h = go (life d) refl (slot_move d) refl h
         ((n : Option ℕ) (queued : Option Pending) (l : Lane) → starts_by m n queued l ≡ None) →
         LivesOn d
     quiet goes m move unfinished starts =
+        let lives : lives_on d ≡ true = ap (λ (l : Life). unwrap_or (told_of_life l) true) goes in
         record {
-          lives = ap (λ (l : Life). unwrap_or (told_of_life l) true) goes;
-          as_many = λ n. ap (λ b. cond b 0 (live_by_life (life d) n)) (no-stop d) ∙ ap (λ (l : Life). live_by_life l n) goes;
+          lives = lives;
+          as_many = λ n. ap (λ b. cond b 0 (live_by_life (life d) n)) (lives-plain d lives) ∙ ap (λ (l : Life). live_by_life l n) goes;
           idle = record {
             unfinished = ap finishes move ∙ unfinished;
             starts = λ k queued l. ap (λ (x : SlotMove). starts_by x (new_number k d) queued l) move ∙ starts (new_number k d) queued l;
@@ -54,16 +55,16 @@ pub record EndsLife (d : Decision) : Type 0 where
   pub one_less : (n : ℕ) → live_after d n ≡ n - 1
   pub idle : IsIdle d
 
--- every ending is one
-pub ending-ends : (d : Decision) → is_ending d ≡ true → EndsLife d
-ending-ends d h = go (life d) refl h
+-- every ending of one session is one
+pub ending-ends : (d : Decision) → is_stop d ≡ false → is_ending d ≡ true → EndsLife d
+ending-ends d plain h = go (life d) refl h
   where
     go : (l : Life) → life d ≡ l → ends l ≡ true → EndsLife d
     go Ends end e =
         let empties : slot_move d ≡ Empties = ending-empties d end in
         record {
           ended = ap (λ (l : Life). unwrap_or (told_of_life l) true) end;
-          one_less = λ n. ap (λ b. cond b 0 (live_by_life (life d) n)) (no-stop d) ∙ ap (λ (l : Life). live_by_life l n) end;
+          one_less = λ n. ap (λ b. cond b 0 (live_by_life (life d) n)) plain ∙ ap (λ (l : Life). live_by_life l n) end;
           idle = record {
             unfinished = ap finishes empties;
             starts = λ k queued l. ap (λ (x : SlotMove). starts_by x (new_number k d) queued l) empties;

@@ -1,6 +1,6 @@
 -- How the jobs that run change with an entry.
-use Rattle.std.proofs.Common.{◌≡◌, refl, ap, ◌∙◌, ℕ, ◌+◌, ◌-◌, Bool, false, cond, List, [], ◌∷◌, Option, Some, None, arith}
-use Rattle.std.specs.Prelude.{◌==◌, count_by, is_some}
+use Rattle.std.proofs.Common.{◌≡◌, refl, ap, ◌∙◌, ℕ, ◌+◌, ◌-◌, Bool, false, cond, List, [], ◌∷◌, ◌++◌, Option, Some, None, arith}
+use Rattle.std.specs.Prelude.{◌==◌, count_by, flat_map, is_some}
 use Rattle.std.proofs.lemmas.List.Sums.{sum_by-cons}
 use Rattle.ftp_hub.proofs.Common.{Action, Answer, Decision, EventKind, Options, Pending, Running, Session, Ticket, running_after, session_acts, starting}
 use Rattle.ftp_events.specs.declared.action.Action.TheVariants as action
@@ -106,3 +106,33 @@ running-none xs n none = ap (λ ys. running_after ys n) none ∙ omega arith
 pub count-start : (job : Option Running) → total started (start_acts job) ≡ cond (is_some job) 1 0
 count-start None = refl
 count-start (Some job) = refl
+
+-- the sum over one list and another is that of both
+total-append : (f : Action → ℕ) (xs ys : List Action) → total f (xs ++ ys) ≡ total f xs + total f ys
+total-append f [] ys = omega arith
+total-append f (x ∷ xs) ys = omega (arith, total-append f xs ys)
+
+-- with a stop no job of any session ends or starts
+stop-quiet :
+    (f : Action → ℕ) (o : Options) (s : ℕ) (answer : Answer) (job : Option Running) (v : Option Session) → TellsJobs f → f (action.Close s) ≡ 0 →
+    total f (session_acts o s kind.Shutdown answer decision.Stopped job v) ≡ 0
+stop-quiet f o s answer job None t closes = omega (arith, closes)
+stop-quiet f o s answer job (Some v) t closes = total-acts f o s kind.Shutdown answer decision.Stopped job v t
+
+-- so as many run as before
+pub running-stopped :
+    (o : Options) (answer : Answer) (jobs : ℕ → Option Running) (live : ℕ → Option Session) (numbers : List ℕ) (n : ℕ) →
+    running_after (flat_map (λ s. session_acts o s kind.Shutdown answer decision.Stopped (jobs s) (live s)) numbers) n ≡ n
+running-stopped o answer jobs live numbers n = omega (arith, none ended ended-tells (λ s. refl) numbers, none started started-tells (λ s. refl) numbers)
+  where
+    none :
+        (f : Action → ℕ) → TellsJobs f → ((s : ℕ) → f (action.Close s) ≡ 0) → (numbers : List ℕ) →
+        total f (flat_map (λ s. session_acts o s kind.Shutdown answer decision.Stopped (jobs s) (live s)) numbers) ≡ 0
+    none f t closes [] = refl
+    none f t closes (s ∷ numbers) =
+        omega (
+          arith,
+          total-append f (session_acts o s kind.Shutdown answer decision.Stopped (jobs s) (live s)) (flat_map (λ s. session_acts o s kind.Shutdown answer decision.Stopped (jobs s) (live s)) numbers),
+          stop-quiet f o s answer (jobs s) (live s) t (closes s),
+          none f t closes numbers,
+        )

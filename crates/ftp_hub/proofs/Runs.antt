@@ -4,7 +4,7 @@ use Rattle.std.proofs.lemmas.List.{reverse-append, take_more, map-append}
 use Rattle.ftp_hub.proofs.Common.{Entry, Hub, HubEvent, IsActed, IsRight, Options, Stands, options_of, past_of}
 use Rattle.ftp_events.specs.Leads.{Views, Outside, LeadsOne, Leads}
 use Rattle.ftp_events.specs.Headline.{IsServed, AllServed}
-use Rattle.ftp_laws.proofs.ServiceLemmas.{all-served}
+use Rattle.ftp_laws.proofs.HeadlineLemmas.{all-served}
 use Rattle.ftp_hub.specs.Headline.{IsFresh, Headline}
 use Rattle.ftp_hub.specs.Runs.{GoesOn, LeadsOn}
 
@@ -55,6 +55,7 @@ headline-fresh old new events done before log fresh empty same stands goes all =
           ∙ take_all done events all;
       every_connection = λ after before e t is to unbarred. (served-at o log after before e served is).connections t to unbarred;
       every_refusal = λ after before e is barred. (served-at o log after before e served is).refusals barred;
+      every_stop = λ after before e is stopped comes unbarred. (served-at o log after before e served is).after_stop stopped comes unbarred;
       every_grant = λ after before e s word lookup bound v is kind known admitted. (served-at o log after before e served is).grants s word lookup bound v kind known admitted;
     }
 

@@ -1,4 +1,4 @@
--- The tables after a sweep of the failed logins.
+-- The tables after a sweep of the failed logins, and after a scavenge of the holds.
 use Rattle.std.proofs.Common.{◌≡◌, refl, sym, ap, ◌∙◌, ℕ, List, [], ◌∷◌, Option, Some, None, arith}
 use Rattle.std.specs.Prelude.{nat_eq}
 use Rattle.std.specs.HashMap as map
@@ -12,7 +12,7 @@ use Rattle.ftp_events.specs.declared.decision.Decision.TheVariants as decision
 use Rattle.ftp_events.specs.declared.event.EventKind.TheVariants as kind
 use Rattle.ftp_events.specs.Lockout.{failures_after}
 use Rattle.ftp_laws.proofs.Cases.{by_option}
-use Rattle.ftp_laws.proofs.LockoutLemmas.{failures-entry, failures-off}
+use Rattle.ftp_laws.proofs.LockoutLemmas.{failures-entry, failures-off, failures-other, tells_failures}
 use Rattle.ftp_laws.proofs.TableLemmas.{holder-other}
 use Rattle.ftp_handlers.specs.Handlers.{policy_in}
 use Rattle.ftp_hub.proofs.DataLinks.{serves-nobody}
@@ -20,7 +20,27 @@ use Rattle.ftp_hub.proofs.Decisions.{Comes}
 use Rattle.ftp_hub.proofs.Failures.{unlocked}
 
 swept-comes : Comes decision.Swept
-swept-comes = record { counts = refl; unopened = λ k. refl; no_grant = refl; keeps = refl; lives = refl; silent = λ answer. refl; as_many = λ n. refl; unfinished = refl }
+swept-comes = record { counts = refl; plain = refl; unopened = λ k. refl; no_grant = refl; keeps = refl; lives = refl; silent = λ k answer. refl; as_many = λ n. refl; unfinished = refl }
+
+scavenged-comes : Comes decision.Scavenged
+scavenged-comes = record { counts = refl; plain = refl; unopened = λ k. refl; no_grant = refl; keeps = refl; lives = refl; silent = λ k answer. refl; as_many = λ n. refl; unfinished = refl }
+
+none_ran : (n : ℕ) → running_after [] n ≡ n
+none_ran n = omega arith
+
+-- nothing is held for a session that has ended, so a scavenge changes nothing
+pub serves-scavenged :
+    (hub : Hub) (log : List Entry) (event : HubEvent) (answer : Answer) (done : List Action) →
+    Stands hub log → event.kind ≡ kind.Scavenge → done ≡ [] →
+    Serves hub hub log event answer decision.Scavenged done
+unfolding decide
+serves-scavenged hub log event answer done st is nothing =
+    serves-nobody hub hub log event answer decision.Scavenged done st scavenged-comes (rw is refl) (rw is refl) nothing
+    (λ n. ap (λ xs. running_after xs n) nothing ∙ none_ran n) refl (λ q. refl) refl refl
+    (λ q. rw is refl)
+    (λ a p. st.tables.holders a p ∙ sym (holder-other hub.options (past_of log) (entry event answer decision.Scavenged done) (V4 a) p (rw is refl) (rw is refl) refl refl))
+    (λ key. st.tables.failures key ∙ sym (failures-other hub.options (past_of log) (entry event answer decision.Scavenged done) key (ap tells_failures is)))
+    refl
 
 -- what is swept from the table, where there is one
 pub swept-table :
@@ -46,18 +66,18 @@ swept-none hub at none p locks key =
 pub serves-swept :
     (old new : Hub) (log : List Entry) (event : HubEvent) (answer : Answer) (done : List Action) →
     Stands old log → event.kind ≡ kind.Sweep → done ≡ [] →
-    new.options ≡ old.options → new.sessions ≡ old.sessions → new.jobs ≡ old.jobs → new.numbers ≡ old.numbers → new.board ≡ old.board →
+    new.options ≡ old.options → new.sessions ≡ old.sessions → new.jobs ≡ old.jobs → new.numbers ≡ old.numbers → new.board ≡ old.board → new.stopped ≡ old.stopped →
     ((p : FailedLoginsPolicy) → old.options.lockout ≡ Some p → (key : LoginKey) → failures_in new.failures key ≡ swept p event.at (failures_in old.failures key)) →
     Serves old new log event answer decision.Swept done
 unfolding decide
-serves-swept old new log event answer done st is nothing same sessions jobs numbers board failed =
+serves-swept old new log event answer done st is nothing same sessions jobs numbers board stopped failed =
     serves-nobody old new log event answer decision.Swept done st swept-comes (rw is refl) (rw is refl) nothing
     (λ n. ap (λ xs. running_after xs n) nothing ∙ none_ran n) same
     (λ q. ap (λ m. map.get nat_eq m q) sessions) (ap map.hash_map_len sessions) jobs
     (λ q. rw is (ap (λ (x : Used). has x q) numbers))
     (λ a p.
     ap (λ (x : Board). holder_at x a p) board ∙ st.tables.holders a p
-    ∙ sym (holder-other o past e (V4 a) p (rw is refl) (rw is refl) refl))
+    ∙ sym (holder-other o past e (V4 a) p (rw is refl) (rw is refl) refl refl))
     (λ key.
     by_option o.lockout
     (λ off. unlocked new key (ap (λ (o : Options). o.lockout) same ∙ off) ∙ sym (failures-off o (e ∷ past) key off))
@@ -66,6 +86,7 @@ serves-swept old new log event answer done st is nothing same sessions jobs numb
     ∙ ap (swept p event.at) (st.tables.failures key)
     ∙ sym (ap (λ (k : EventKind). failures_after o p past key k event.at (failures o past key)) is)
     ∙ sym (failures-entry o p past e key locks)))
+    stopped
   where
     o : Options
     o = old.options
@@ -75,6 +96,3 @@ serves-swept old new log event answer done st is nothing same sessions jobs numb
 
     e : Entry
     e = entry event answer decision.Swept done
-
-    none_ran : (n : ℕ) → running_after [] n ≡ n
-    none_ran n = omega arith

@@ -1,7 +1,8 @@
 -- The job that starts with an entry is that of the transfer which was copied before it.
 use Rattle.std.proofs.Common.{◌≡◌, refl, sym, ap, ◌∙◌, ℕ, Bool, true, false, not, cond, ◌||◌, List, [], ◌∷◌, ◌++◌, Option, Some, None, Ok}
 use Rattle.std.proofs.lemmas.Bool.{or_parts}
-use Rattle.std.specs.Prelude.{nat_eq, unwrap_or}
+use Rattle.std.specs.Prelude.{flat_map, nat_eq, unwrap_or}
+use Rattle.ftp_events.specs.Session.{live_sessions}
 use Rattle.std.specs.Option.{option_and_then, option_map, option_or}
 use Rattle.std.specs.HashMap as map
 use Rattle.ftp_hub.proofs.Common.{Action, Answer, Decision, Entry, EventKind, Hub, IpAddr, Options, Pending, Running, Session, Stands, Ticket, V4, acts, decide, holder, is_refusal, is_used, named_session, new_number, past_of, running_job, session, session_acts, starting}
@@ -19,17 +20,21 @@ use Rattle.ftp_events.specs.declared.event.Answer.TheVariants.{Header}
 use Rattle.ftp_events.specs.declared.event.EventKind.TheVariants as kind
 use Rattle.ftp_events.specs.declared.session.Slot.{Slot}
 use Rattle.ftp_events.specs.declared.session.Slot.TheVariants.{Empty, Waits, Linked}
-use Rattle.ftp_events.specs.Acts.{cancellations, closings, completions, drop_acts, farewells, link_in, notice_and_reply, notice_for, notifications, presence_for, refused_link, reply_acts, start_acts, stays}
+use Rattle.ftp_events.specs.Acts.{acts_for, cancellations, closings, completions, drop_acts, farewells, link_in, notice_and_reply, notice_for, notifications, presence_for, refused_link, reply_acts, start_acts, stays}
 use Rattle.ftp_events.specs.Board.{Target, holder_of_target}
 use Rattle.ftp_events.specs.Classes.{is_ending}
 use Rattle.ftp_events.specs.ConnectionRows.{arrival_row, header_row}
+use Rattle.ftp_events.specs.Log.{is_stopped}
 use Rattle.ftp_events.specs.Decide.{due}
-use Rattle.ftp_events.specs.History.{Nobody, One, subject, meant}
+use Rattle.ftp_laws.proofs.Cases.{by_test}
+use Rattle.ftp_laws.proofs.AfterLemmas.{stopped-over}
+use Rattle.ftp_events.specs.History.{All, Nobody, One, subject, meant}
 use Rattle.ftp_events.specs.Login.{logged_user, login_by}
 use Rattle.ftp_events.specs.Reply.{delay_of, message_for, reply_for}
 use Rattle.ftp_events.specs.Slot.{asked_command, drops, startable, with_link}
 use Rattle.ftp_events.specs.Transfer.{pending_of}
-use Rattle.ftp_laws.proofs.SubjectLemmas.{no-stop, one-meant, by_subject}
+use Rattle.ftp_laws.proofs.ClassLemmas.{stop-is}
+use Rattle.ftp_laws.proofs.SubjectLemmas.{all-stop, one-meant, by_subject}
 use Rattle.ftp_handlers.specs.Handlers.{asked_for}
 use Rattle.ftp_hub.specs.Stands.{pending_for}
 use Rattle.ftp_hub.proofs.Clients.{header-counts, row-counts}
@@ -145,6 +150,11 @@ first-gone o s k answer d job =
     ∙ first-append c l ∙ ap (option_or (first_start c)) (first-drop_acts s (stays d None) d Empty None) ∙ or-none (first_start c)
     ∙ first-completions k d (stays d None)
 
+-- where nothing starts in any part, nothing starts
+first-parts : (f : ℕ → List Action) (xs : List ℕ) → ((s : ℕ) → first_start (f s) ≡ None) → first_start (flat_map f xs) ≡ None
+first-parts f [] none = refl
+first-parts f (x ∷ xs) none = first-append (f x) (flat_map f xs) ∙ rw (none x, first-parts f xs none) refl
+
 -- the job of a copy of the transfer, at what starts
 abbrev job_from : Option Pending → Option (Ticket × ℕ) → Option Job
 job_from p at = option_and_then (λ p. option_map (job_at p) at) p
@@ -192,17 +202,26 @@ arrival-held :
 arrival-held hub log (V4 a) port st v4 = st.tables.holders a port
 arrival-held hub log (V6 a) port st v4 = cc
 
+-- where nobody holds a port, nobody does by the tables
+nobody-held :
+    (hub : Hub) (log : List Entry) (client : IpAddr) (port : ℕ) → Stands hub log →
+    ((a : IpAddr) (p : ℕ) → holder hub.options (past_of log) a p ≡ None) →
+    arrival_holder hub client port ≡ holder hub.options (past_of log) client port
+nobody-held hub log (V4 a) port st nobody = st.tables.holders a port
+nobody-held hub log (V6 a) port st nobody = sym (nobody (V6 a) port)
+
 -- the session that an event is meant for, by the tables
 concerned-by :
     (hub : Hub) (log : List Entry) (at : ℕ) (k : EventKind) (answer : Answer) → Stands hub log →
+    (is_stopped (past_of log) ≡ true → (a : IpAddr) (p : ℕ) → holder hub.options (past_of log) a p ≡ None) →
     is_refusal (due hub.options (past_of log) at k answer) ≡ false →
     concerned_in hub k answer ≡ option_or (named_session k) (holder_of_target hub.options (past_of log) k answer)
-concerned-by hub log at (kind.DataIn n raw port) answer st counts =
+concerned-by hub log at (kind.DataIn n raw port) answer st nobody counts =
     let o = hub.options in
     let past = past_of log in
-    let placed = (row-counts (not (is_pooled o.mode) || is_v6 raw.ip) (is_used past n) (arrival_row o past raw raw.ip port) counts).0 in
+    let placed = (row-counts (not (is_pooled o.mode) || is_v6 raw.ip) (is_used past n) (cond (is_stopped past) decision.Turned (arrival_row o past raw raw.ip port)) counts).0 in
     arrival-held hub log raw.ip port st (or_parts (not (is_pooled o.mode)) (is_v6 raw.ip) placed).1
-concerned-by hub log at (kind.Proxied n raw trace) (Header (Ok line)) st counts = by_port (is_control_port o.mode line.destination.port)
+concerned-by hub log at (kind.Proxied n raw trace) (Header (Ok line)) st nobody counts = by_port (is_control_port o.mode line.destination.port)
   where
     o : Options
     o = hub.options
@@ -210,24 +229,34 @@ concerned-by hub log at (kind.Proxied n raw trace) (Header (Ok line)) st counts 
     past : List Entry
     past = past_of log
 
-    v4 : (is_v6 line.source.ip || is_v6 line.destination.ip) ≡ false
-    v4 =
+    row : is_refusal (cond (is_stopped past) decision.Turned (header_row o past raw (Header (Ok line)))) ≡ false
+    row = (row-counts (not (is_proxy o.mode) || is_v6 raw.ip) (is_used past n) (cond (is_stopped past) decision.Turned (header_row o past raw (Header (Ok line)))) counts).1
+
+    v4 : is_stopped past ≡ false → (is_v6 line.source.ip || is_v6 line.destination.ip) ≡ false
+    v4 going =
         header-counts (is_v6 line.source.ip || is_v6 line.destination.ip) (is_control_port o.mode line.destination.port)
         (arrival_row o past raw line.source.ip line.destination.port)
-        (row-counts (not (is_proxy o.mode) || is_v6 raw.ip) (is_used past n) (header_row o past raw (Header (Ok line))) counts).1
+        (sym (ap (λ b. is_refusal (cond b decision.Turned (header_row o past raw (Header (Ok line))))) going) ∙ row)
+
+    held : arrival_holder hub line.source.ip line.destination.port ≡ holder o past line.source.ip line.destination.port
+    held =
+        by_test (is_stopped past)
+        (λ stopped. nobody-held hub log line.source.ip line.destination.port st (nobody stopped))
+        (λ going. arrival-held hub log line.source.ip line.destination.port st (or_parts (is_v6 line.source.ip) (is_v6 line.destination.ip) (v4 going)).0)
 
     by_port :
         (c : Bool) →
         cond c None (arrival_holder hub line.source.ip line.destination.port) ≡
         option_and_then (λ (t : Target). holder o past t.client t.port) (cond c None (Some (record { client = line.source.ip; port = line.destination.port })))
     by_port true = refl
-    by_port false = arrival-held hub log line.source.ip line.destination.port st (or_parts (is_v6 line.source.ip) (is_v6 line.destination.ip) v4).0
-concerned-by hub log at k answer st counts = refl
+    by_port false = held
+concerned-by hub log at k answer st nobody counts = refl
 
 -- so is the one that an entry which counts is meant for
 concerned-is : (hub : Hub) (log : List Entry) (e : Entry) → Stands hub log → e.decision ≡ decide hub.options log e.event e.answer → is_refusal e.decision ≡ false → concerned_in hub e.event.kind e.answer ≡ meant hub.options (past_of log) e
 unfolding decide
-concerned-is hub log e st due counts = concerned-by hub log e.event.at e.event.kind e.answer st (sym (ap is_refusal due) ∙ counts)
+concerned-is hub log e st due counts =
+    concerned-by hub log e.event.at e.event.kind e.answer st (λ stopped. (stopped-over hub.options log st.right stopped).free) (sym (ap is_refusal due) ∙ counts)
 
 -- the job of the copy is the job that starts
 pub job-is :
@@ -275,11 +304,26 @@ job-is hub log e st due acted = go (is_refusal e.decision) refl
         let done : e.actions ≡ refused_link k e.decision = acted ∙ rw (counts, about) refl in
         ap (λ x. job_from copied (first_start x)) done ∙ ap (job_from copied) (first-refused k e.decision) ∙ none-after (λ (p : Pending). option_map (job_at p) None) (λ p. refl) copied
 
+    part : e.decision ≡ decision.Stopped → (s : ℕ) → first_start (acts_for o past e s) ≡ None
+    part stopped s = go (session o past s)
+      where
+        go : (v : Option Session) → first_start (session_acts o s k e.answer e.decision (running_job o past s) v) ≡ None
+        go None = first-gone o s k e.answer e.decision (running_job o past s)
+        go (Some v) = first-live o s k e.answer e.decision (running_job o past s) v ∙ rw stopped refl
+
+    all : is_refusal e.decision ≡ false → subject o past e ≡ All → job_from copied (first_start e.actions) ≡ None
+    all counts about =
+        let done : e.actions ≡ flat_map (acts_for o past e) (live_sessions o past) = acted ∙ rw (counts, about) refl in
+        ap (λ x. job_from copied (first_start x)) done
+        ∙ ap (job_from copied) (first-parts (acts_for o past e) (live_sessions o past) (part (stop-is e.decision (all-stop o past e about))))
+        ∙ none-after (λ (p : Pending). option_map (job_at p) None) (λ p. refl) copied
+
     counting : is_refusal e.decision ≡ false → job_from copied (first_start e.actions) ≡ started_for o past e (subject o past e)
     counting counts =
-        by_subject o past e (no-stop e.decision)
+        by_subject o past e
         (λ about. nobody counts about ∙ sym (ap (started_for o past e) about))
         (λ s about. live s counts about (session o past s) refl ∙ sym (ap (started_for o past e) about))
+        (λ about. all counts about ∙ sym (ap (started_for o past e) about))
 
     go : (b : Bool) → is_refusal e.decision ≡ b → job_from copied (first_start e.actions) ≡ started_job o past e
     go true refused =

@@ -13,7 +13,7 @@ use Rattle.ftp_events.specs.declared.session.Opening.{Opening}
 use Rattle.ftp_events.specs.Board.{target}
 use Rattle.ftp_events.specs.ConnectionRows.{arrival_row}
 use Rattle.ftp_events.specs.Decide.{due}
-use Rattle.ftp_events.specs.Log.{is_used, named_session, new_number}
+use Rattle.ftp_events.specs.Log.{is_stopped, is_used, named_session, new_number}
 use Rattle.ftp_events.specs.Opening.{opening_by}
 use Rattle.ftp_events.specs.Words.{◌⇒◌∣◌}
 use Rattle.ftp_handlers.specs.Handlers.{is_port}
@@ -51,21 +51,31 @@ may_start (kind.Stou s word) = true
 may_start (kind.End ticket) = true
 may_start k = is_proxied k || (is_data k || is_accepted k)
 
--- the event with its answer is a control connection under this number, where that was not used
+-- the event with its answer is a control connection under this number, where that was not used and there was no stop
 pub record IsControlLink (o : Options) (event : HubEvent) (answer : Answer) (number : ℕ) (opening : Opening) : Type 0 where
   pub tells : opening_by event.kind answer ≡ Some opening
   pub for_nobody : target o event.kind answer ≡ None
   pub unnamed : named_session event.kind ≡ None
   pub brings : (d : Decision) → new_number event.kind d ≡ Some number
-  pub row : (past : List Entry) → is_used past number ≡ false → due o past event.at event.kind answer ≡ Opened
+  pub row :
+      (past : List Entry) → is_used past number ≡ false → is_stopped past ≡ false →
+      due o past event.at event.kind answer ≡ Opened
 
--- the event with its answer is this data connection, where its number was not used
+-- after a stop it is a connection under this number, where that was not used
+pub record IsLate (o : Options) (event : HubEvent) (answer : Answer) (number : ℕ) : Type 0 where
+  pub unnamed : named_session event.kind ≡ None
+  pub brings : (d : Decision) → new_number event.kind d ≡ Some number
+  pub row :
+      (past : List Entry) → is_used past number ≡ false → is_stopped past ≡ true →
+      due o past event.at event.kind answer ≡ Turned
+
+-- the event with its answer is this data connection, where its number was not used and there was no stop
 pub record IsDataLink (o : Options) (event : HubEvent) (answer : Answer) (arrival : Arrival) : Type 0 where
   pub to : target o event.kind answer ≡ Some (record { client = V4 arrival.source; port = arrival.port })
   pub unnamed : named_session event.kind ≡ None
   pub brings : (d : Decision) → new_number event.kind d ≡ Some arrival.number
   pub row :
-      (past : List Entry) → is_used past arrival.number ≡ false →
+      (past : List Entry) → is_used past arrival.number ≡ false → is_stopped past ≡ false →
       due o past event.at event.kind answer ≡ arrival_row o past arrival.raw (V4 arrival.source) arrival.port
 
 -- it goes to session s where it is welcome there

@@ -1,6 +1,6 @@
 -- When a hub stands for a log.
 use Rattle.std.specs.Prelude.{◌≡◌, ℕ, ◌+◌, ◌-◌, ◌^◌, ◌<◌, ◌≤◌, [], ◌∷◌, List, length, Bool, false, not, ◌||◌, Option, Some, None, IfSome, is_some, IsTrue, nat_eq}
-use Rattle.std.specs.Option.{option_and_then, option_map_or}
+use Rattle.std.specs.Option.{option_and_then, option_map, option_map_or}
 use Rattle.std.specs.HashMap as map
 use Rattle.ftp_base.specs.declared.net.IpAddr.TheVariants.{V4}
 use Rattle.ftp_base.specs.Net.{ipv4, is_v6}
@@ -18,8 +18,11 @@ use Rattle.ftp_events.specs.declared.event.EventKind.{EventKind}
 use Rattle.ftp_events.specs.declared.event.EventKind.TheVariants as kind
 use Rattle.ftp_events.specs.declared.event.HubEvent.{HubEvent}
 use Rattle.ftp_events.specs.declared.session.Pending.{Pending}
+use Rattle.ftp_events.specs.declared.status.Ended.{Ended}
+use Rattle.ftp_events.specs.Counts.{Counted}
+use Rattle.ftp_events.specs.Statuses.{ended_of}
 use Rattle.ftp_events.specs.declared.session.Session.{Session}
-use Rattle.ftp_events.specs.Log.{past_of, is_used, named_session}
+use Rattle.ftp_events.specs.Log.{past_of, is_stopped, is_used, named_session}
 use Rattle.ftp_events.specs.Board.{holder}
 use Rattle.ftp_events.specs.Lockout.{failures}
 use Rattle.ftp_events.specs.Session.{session, running_job, live_count}
@@ -30,9 +33,10 @@ use Rattle.ftp_events.specs.Acts.{acts}
 use Rattle.ftp_events.specs.Right.{IsRight, IsActed}
 use Rattle.ftp_events.specs.Words.{◌⇒◌∣◌}
 use Rattle.ftp_hub.specs.declared.hub.Hub.{Hub}
-use Rattle.ftp_handlers.specs.Rooms.{CanReply, CanTellDropped, HasCopy, IsReady, RoomState, kept_in, need_for, need_in}
-use Rattle.ftp_handlers.specs.Handlers.{CanCount, asked_for, can_drop, can_reply, failures_in, is_auth, is_pasv, is_port, kept_alone, kept_by, places_for, width_for}
+use Rattle.ftp_handlers.specs.Rooms.{CanReply, CanTellDropped, HasCopy, HasLeave, IsReady, RoomState, kept_in, leavers_in, need_for, need_in, telling_in}
+use Rattle.ftp_handlers.specs.Handlers.{CanCount, asked_for, can_drop, can_reply, failures_in, is_auth, is_pasv, is_port, kept_alone, kept_by, places_for, telling_for, width_for}
 use Rattle.ftp_hub.specs.Arrivals.{brings_number, may_open, may_start}
+use Rattle.ftp_hub.specs.Leavers.{AreLeavers, is_shutdown}
 
 -- the options that a hub was made from
 abbrev pub options_of : Hub → Options
@@ -52,13 +56,15 @@ pub record Tables (hub : Hub) (past : List Entry) : Type 0 where
   -- where each session has a listener of its own nobody holds a port
   pub holders : (a p : ℕ) → holder_at hub.board a p ≡ holder hub.options past (V4 a) p
   pub failures : (key : LoginKey) → failures_in hub.failures key ≡ failures hub.options past key
+  pub stopped : hub.stopped ≡ is_stopped past
 
--- the log is right and acted, the tables answer as it does, and its entries were counted
+-- the log is right and acted, the tables answer as it does, its entries were counted, and so was what they tell
 pub record Stands (hub : Hub) (log : List Entry) : Type 0 where
   pub right : IsRight hub.options log
   pub acted : IsActed hub.options log
   pub tables : Tables hub (past_of log)
   pub counted : hub.count ≡ hub.start + length log
+  pub counters : Counted hub.options (past_of log) hub.counters
 
 -- an entry with these parts
 abbrev pub entry : HubEvent → Answer → Decision → List Action → Entry
@@ -75,6 +81,7 @@ pub record SameHead (old new : Hub) : Type 0 where
   pub options : new.options ≡ old.options
   pub start : new.start ≡ old.start
   pub count : new.count ≡ old.count
+  pub counters : new.counters ≡ old.counters
 
 -- every table answers as before; what is reserved may differ
 pub record SameTables (old new : Hub) : Type 0 where
@@ -85,6 +92,7 @@ pub record SameTables (old new : Hub) : Type 0 where
   pub numbers : (n : ℕ) → has new.numbers n ≡ has old.numbers n
   pub holders : (a p : ℕ) → holder_at new.board a p ≡ holder_at old.board a p
   pub failures : (key : LoginKey) → failures_in new.failures key ≡ failures_in old.failures key
+  pub stopped : new.stopped ≡ old.stopped
 
 -- the hub answers every question as before
 pub record SameAnswers (old new : Hub) : Type 0 where
@@ -103,9 +111,10 @@ kept_for hub k = option_map_or (kept_by k) (named_in hub k) (kept_alone k)
 abbrev pub pending_for : Hub → EventKind → Option Pending
 pending_for hub k = option_and_then (asked_for k) (named_in hub k)
 
--- the connection whose header is to be read for an event: that of a proxy, where the event is not refused without it
+-- the connection whose header is to be read for an event: that of a proxy, where the event is not refused or turned away without it
 abbrev pub header_for : Hub → EventKind → Option ℕ
-header_for hub (kind.Proxied number raw trace) = (not (is_proxy hub.options.mode) || is_v6 raw.ip) || has hub.numbers number ⇒ None ∣ Some number
+header_for hub (kind.Proxied number raw trace) =
+    ((not (is_proxy hub.options.mode) || is_v6 raw.ip) || has hub.numbers number) || hub.stopped ⇒ None ∣ Some number
 header_for hub _ = None
 
 -- the job that is to be run for an event: that whose end it is
@@ -117,6 +126,12 @@ job_for hub _ = None
 abbrev pub path_for : Hub → EventKind → List ℕ
 path_for hub (kind.End ticket) = option_map_or (λ r. r.job.path) (map.get nat_eq hub.jobs ticket.session) []
 path_for hub _ = []
+
+-- what is counted of the job whose end an event tells, where counts are kept
+abbrev pub ended_in : Hub → EventKind → Option Ended
+ended_in hub (kind.End ticket) =
+    hub.options.collect_metrics ⇒ option_map (λ r. ended_of r.job) (map.get nat_eq hub.jobs ticket.session) ∣ None
+ended_in hub _ = None
 
 -- the address of version 4 that the client of the session has which an event names
 abbrev pub client_for : Hub → EventKind → Option ℕ
@@ -137,6 +152,9 @@ pub record Fits (room : RoomState) (hub : Hub) (event : HubEvent) : Type 0 where
   pub dropped : IsTrue (can_drop event.kind) → CanTellDropped room
   pub kept : kept_in room ≡ kept_for hub event.kind
   pub path : HasCopy room (path_for hub event.kind)
+  pub telling : telling_in room ≡ telling_for event.kind
+  pub leavers : IsTrue (is_shutdown event.kind) → AreLeavers (map.get nat_eq hub.sessions) (leavers_in room)
+  pub leave : HasLeave room
   pub pending : room.pending ≡ pending_for hub event.kind
   pub need : need_in room ≡ need_for (is_some (header_for hub event.kind)) (job_for hub event.kind)
   pub sessions : IsTrue (may_open event.kind) → 0 < map.spare hub.sessions

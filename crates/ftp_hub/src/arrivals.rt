@@ -1,7 +1,7 @@
 //! Connections that come: control connections open sessions, data connections go to the session that
 //! holds their port. Behind a proxy the header tells which it is.
 
-ghost use Rattle.std.specs.Prelude.{◌≡◌, ◌<◌, List, ◌||◌, ◌&&◌, IsTrue, is_some, false, Ok};
+ghost use Rattle.std.specs.Prelude.{◌≡◌, ◌<◌, List, ◌||◌, ◌&&◌, IsTrue, is_some, true, false, Ok};
 ghost use Rattle.std.specs.HashMap as map;
 ghost use Rattle.ftp_base.specs.Net.{is_v6};
 ghost use Rattle.ftp_base.specs.Storage.{root};
@@ -10,7 +10,7 @@ ghost use Rattle.ftp_options.specs.Modes.{is_pooled, is_proxy};
 ghost use Rattle.ftp_events.specs.declared.entry.Entry.{Entry};
 ghost use Rattle.ftp_events.specs.declared.event.Answer.TheVariants.{Header};
 ghost use Rattle.ftp_events.specs.Session.{new_session};
-ghost use Rattle.ftp_hub.specs.Arrivals.{IsControlLink, is_connect, is_data, is_proxied};
+ghost use Rattle.ftp_hub.specs.Arrivals.{IsControlLink, IsLate, is_connect, is_data, is_proxied};
 ghost use Rattle.ftp_handlers.specs.Rooms.{CanTellDropped, IsReady, actions_in, kept_in, twice_in};
 ghost use Rattle.ftp_hub.specs.Stands.{Stands, Serves, SameHead, header_for, kept_for};
 
@@ -49,6 +49,9 @@ impl Hub {
         if self.numbers.has(*session) {
             return Decision::UsedNumber;
         }
+        if self.stopped {
+            return self.turn(room, event, answer, *session);
+        }
         let opening = Opening {
             raw: *raw,
             local: *local,
@@ -81,6 +84,9 @@ impl Hub {
         if self.numbers.has(*number) {
             return Decision::UsedNumber;
         }
+        if self.stopped {
+            return self.turn(room, event, answer, *number);
+        }
         let arrival = Arrival {
             number: *number,
             raw: *raw,
@@ -111,6 +117,9 @@ impl Hub {
         }
         if self.numbers.has(*number) {
             return Decision::UsedNumber;
+        }
+        if self.stopped {
+            return self.turn(room, event, answer, *number);
         }
         match answer {
             Answer::Header(Ok(line)) => self.pass_on(room, event, line),
@@ -164,6 +173,22 @@ impl Hub {
         self.bring(room, event, answer, arrival)
     }
 
+    // After a stop a connection is closed, whatever it comes for.
+    fn turn(&mut self, room: &mut Room, event: &HubEvent, answer: Answer, number: u64) -> Decision
+        requires of_this_event { IsLate self.old.options event.now answer number }
+        requires unused { has self.old.numbers number ≡ false }
+        requires stopped { self.old.stopped ≡ true }
+        requires ready { IsReady room.old }
+        requires numbers { HasSpare self.old.numbers }
+        ensures serves { (log : List Entry) → Stands self.old log → Serves self.old self.new log event.now answer result (actions_in room.new) }
+        ensures head { SameHead self.old self.new }
+        ensures twice { twice_in room.new ≡ twice_in room.old }
+    {
+        self.numbers.put(number);
+        room.close(number);
+        Decision::Turned
+    }
+
     // A control connection beside the proxy, or one of version 6 where sessions share the ports.
     fn is_misplaced(&self, raw: SocketAddr, local: SocketAddr) -> bool
         ensures { result ≡ (is_proxy self.now.options.mode || (is_pooled self.now.options.mode && (is_v6 raw.ip || is_v6 local.ip))) }
@@ -183,6 +208,7 @@ impl Hub {
     ) -> Decision
         requires of_this_event { IsControlLink self.old.options event.now answer number opening }
         requires unused { has self.old.numbers number ≡ false }
+        requires going { self.old.stopped ≡ false }
         requires ready { IsReady room.old }
         requires kept { kept_in room.old ≡ root }
         requires sessions { 0 < map.spare self.old.sessions }
@@ -195,16 +221,16 @@ impl Hub {
         put(
             &mut self.sessions,
             number,
-            new_session(opening, room.take_kept()),
+            new_session(event.at, opening, room.take_kept()),
         );
         Decision::Opened
     }
 }
 
-// A session to which nothing has happened since its opening.
-fn new_session(opening: Opening, cwd: Bytes) -> Session
+// A session to which nothing has happened since its opening at this moment.
+fn new_session(at: u64, opening: Opening, cwd: Bytes) -> Session
     requires { cwd ≡ root }
-    ensures { result ≡ new_session opening }
+    ensures { result ≡ new_session at opening }
 {
     Session {
         opening,
@@ -214,6 +240,7 @@ fn new_session(opening: Opening, cwd: Bytes) -> Session
         offset: 0,
         slot: Slot::Empty,
         slot_at: 0,
+        active_at: at,
         pending: None,
         tickets: 0,
         notices: 0,

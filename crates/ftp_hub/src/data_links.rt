@@ -48,6 +48,7 @@ impl Hub {
     ) -> Decision
         requires of_this_event { IsDataLink self.old.options event.now answer arrival }
         requires unused { has self.old.numbers arrival.number ≡ false }
+        requires going { self.old.stopped ≡ false }
         requires ready { IsReady room.old }
         requires dropped { CanTellDropped room.old }
         requires numbers { HasSpare self.old.numbers }

@@ -5,7 +5,7 @@ ghost use Rattle.ftp_options.specs.Modes.{is_legacy};
 ghost use Rattle.ftp_lockout.specs.declared.key.LoginKey.{LoginKey};
 ghost use Rattle.ftp_handlers.specs.Handlers.{failures_in, policy_in};
 
-use ftp_events::{Running, Session};
+use ftp_events::{Counters, Running, Session};
 use ftp_lockout::FailedLoginsCache;
 use ftp_numbers::Numbers;
 use ftp_options::{FailedLoginsPolicy, Options};
@@ -27,6 +27,9 @@ pub struct Hub {
     pub(crate) board: Switchboard,
     // There is a table where failed logins lock at all.
     pub(crate) failures: Option<FailedLoginsCache>,
+    // Every session was ended, and no other is opened.
+    pub(crate) stopped: bool,
+    pub(crate) counters: Counters,
     // The count of events that the hub was made with.
     pub(crate) start: u64,
     pub(crate) count: u64,
@@ -39,6 +42,7 @@ impl Hub {
     ghost use Rattle.std.specs.Prelude.{◌≡◌, ◌==◌, ◌&&◌, [], List, is_some};
     ghost use Rattle.ftp_options.specs.declared.options.Options.{Options};
     ghost use Rattle.ftp_events.specs.declared.entry.Entry.{Entry};
+    ghost use Rattle.ftp_events.specs.Counts.{Counted};
     ghost use Rattle.ftp_events.specs.Log.{past_of};
     ghost use Rattle.ftp_events.specs.Session.{session, live_count};
     ghost use Rattle.ftp_events.specs.Running.{running_count};
@@ -69,6 +73,8 @@ impl Hub {
             numbers: Numbers::new(alloc),
             board,
             failures,
+            stopped: false,
+            counters: Counters::new(),
             start: count,
             count,
         }
@@ -79,6 +85,13 @@ impl Hub {
         ensures { result.now ≡ options_of self.now }
     {
         &self.options
+    }
+
+    /// What was counted over the entries that were not refused, where counts are kept; else every count is 0.
+    pub fn counters(&self) -> &Counters
+        ensures { (log : List Entry) → Stands self.now log → Counted (options_of self.now) (past_of log) result.now }
+    {
+        &self.counters
     }
 
     /// How many events were counted.

@@ -90,6 +90,7 @@ pub(crate) fn finish(
     outcome: Outcome,
     jobs: &mut HashMap<u64, Running>,
     room: &mut Room,
+    at: u64,
     options: &Options,
 )
     requires room { IsReady room.old }
@@ -98,12 +99,12 @@ pub(crate) fn finish(
     requires path { HasCopy room.old job.job.path }
     requires spare { 0 < map.spare jobs.old }
     requires ended { map.get nat_eq jobs.old job.job.ticket.session ≡ None }
-    ensures session { session.old.notices + 1 < 2 ^ 64 → (at : ℕ) → session.new ≡ session_after at (End job.job.ticket) (Done outcome) Finished (notices_of Finished (Done outcome)) (Some job) session.old }
+    ensures session { session.old.notices + 1 < 2 ^ 64 → session.new ≡ session_after at (End job.job.ticket) (Done outcome) Finished (notices_of (End job.job.ticket) Finished (Done outcome)) (Some job) session.old }
     ensures actions { session.old.notices + 1 < 2 ^ 64 → actions_in room.new ≡ session_acts options.now job.job.ticket.session (End job.job.ticket) (Done outcome) Finished (Some job) (Some session.old) }
     ensures starts { Starts jobs.old jobs.new job.job.ticket.session (starting (End job.job.ticket) Finished (Some job) session.old) }
     ensures twice { twice_in room.new ≡ twice_in room.old }
 {
     let number = job.job.ticket.session;
-    end::deliver(session, job, outcome, room, options);
+    end::deliver(session, job, outcome, room, at, options);
     start(session, number, jobs, room);
 }

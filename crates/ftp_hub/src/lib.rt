@@ -11,6 +11,7 @@ mod jobs;
 mod prepare;
 mod run;
 mod step;
+mod stop;
 mod tables;
 mod twin;
 

@@ -7,15 +7,16 @@ ghost use Rattle.ftp_numbers.specs.Used.{HasSpare};
 ghost use Rattle.ftp_options.specs.Modes.{is_legacy};
 ghost use Rattle.ftp_switchboard.specs.Board.{HasRoom};
 ghost use Rattle.ftp_events.specs.Leads.{job_of_ticket};
-ghost use Rattle.ftp_handlers.specs.Handlers.{CanCount, can_drop, can_reply, is_auth, is_pasv, is_port, places_for, width_for};
-ghost use Rattle.ftp_handlers.specs.Rooms.{CanReply, CanTellDropped, HasCopy, IsReady, job_in, kept_in, need_for, need_in, twice_in};
+ghost use Rattle.ftp_handlers.specs.Handlers.{CanCount, can_drop, can_reply, is_auth, is_pasv, is_port, places_for, telling_for, width_for};
+ghost use Rattle.ftp_handlers.specs.Rooms.{CanReply, CanTellDropped, HasCopy, HasLeave, IsReady, job_in, kept_in, leavers_in, need_for, need_in, telling_in, twice_in};
+ghost use Rattle.ftp_hub.specs.Leavers.{AreLeavers, is_shutdown};
 ghost use Rattle.ftp_hub.specs.Arrivals.{brings_number, may_open, may_start};
 ghost use Rattle.ftp_hub.specs.Stands.{Fits, SameAnswers, count_of, named_in, kept_for, pending_for, header_for, job_for, client_for, path_for, used_for};
 
 use crate::hub::Hub;
 use ftp_base::Bytes;
 use ftp_events::{EventKind, HubEvent, Pending, Running, Session};
-use ftp_handlers::{Extent, Prepared, Room, copy_alone, copy_kept, fix_transfer};
+use ftp_handlers::{Extent, Prepared, Room, copy_alone, copy_kept, copy_telling, fix_transfer};
 use ftp_transfer::{Job, Ticket};
 use std::alloc::{AllocError, Global};
 use thiserror::Error;
@@ -121,8 +122,13 @@ impl Hub {
             | EventKind::Cwd { .. }
             | EventKind::Closed { .. }
             | EventKind::Quit { .. }
+            | EventKind::Abor { .. }
+            | EventKind::Internal { .. }
             | EventKind::SlotTick { .. }
-            | EventKind::Sweep => Ok(()),
+            | EventKind::IdleTick { .. }
+            | EventKind::Sweep
+            | EventKind::Scavenge
+            | EventKind::Shutdown => Ok(()),
         }
     }
 
@@ -154,6 +160,9 @@ impl Hub {
         ensures used { IfOk result (λ room. IsTrue (is_port kind.now) → room.used ≡ used_for self.now kind.now) }
         ensures full { IfErr result (λ error. error ≡ PrepareError.OutOfMemory) }
         ensures path { IfOk result (λ room. HasCopy room (path_for self.now kind.now)) }
+        ensures telling { IfOk result (λ room. telling_in room ≡ telling_for kind.now) }
+        ensures leavers { IfOk result (λ room. IsTrue (is_shutdown kind.now) → AreLeavers (map.get nat_eq self.now.sessions) (leavers_in room)) }
+        ensures leave { IfOk result HasLeave }
         ensures twice { IfOk result (λ room. twice_in room ≡ twice) }
     {
         let named = self.named(kind);
@@ -166,6 +175,8 @@ impl Hub {
             header: self.needs_header(kind),
             job: self.copy_job(kind)?,
             used: self.is_used(kind),
+            telling: copy_telling(self.alloc, kind, twice)?,
+            leavers: self.copy_leavers(kind, twice)?,
         };
         let extent = Extent::of(kind, &self.options, twice);
         Ok(Room::new(self.alloc, self.count, prepared, extent)?)
@@ -222,7 +233,10 @@ impl Hub {
     {
         match kind {
             EventKind::Proxied { number, raw, .. } => {
-                self.options.mode.is_proxy() && !raw.ip.is_v6() && !self.numbers.has(*number)
+                self.options.mode.is_proxy()
+                    && !raw.ip.is_v6()
+                    && !self.numbers.has(*number)
+                    && !self.stopped
             }
             _ => false,
         }

@@ -1,6 +1,6 @@
 //! One event: what is decided, how the tables change, and what is done.
 
-ghost use Rattle.std.specs.Prelude.{◌≡◌, ◌+◌, ◌-◌, ◌<◌, ◌^◌, ◌∷◌, ◌||◌, ℕ, List, IsTrue, true, Some, IsSomeAnd, nat_eq};
+ghost use Rattle.std.specs.Prelude.{◌≡◌, ◌+◌, ◌-◌, ◌<◌, ◌≤◌, ◌^◌, ◌∷◌, ◌||◌, ℕ, List, IsTrue, true, Some, IfSome, IsSomeAnd, is_some, nat_eq};
 ghost use Rattle.ftp_transfer.specs.Transfer.{suits};
 ghost use Rattle.ftp_events.specs.declared.event.Answer.TheVariants.{Done};
 ghost use Rattle.ftp_events.specs.declared.event.EventKind.TheVariants.{End, Sweep};
@@ -11,15 +11,16 @@ ghost use Rattle.ftp_events.specs.declared.entry.Entry.{Entry};
 ghost use Rattle.ftp_events.specs.Log.{is_refusal, named_session, new_number};
 ghost use Rattle.ftp_events.specs.Right.{next_entry};
 ghost use Rattle.ftp_events.specs.Words.{is_number};
-ghost use Rattle.ftp_handlers.specs.Handlers.{ends_session, is_command, is_port, is_transfer};
-ghost use Rattle.ftp_handlers.specs.Rooms.{IsReady, actions_in, kept_in, twice_in};
-ghost use Rattle.ftp_hub.specs.Stands.{Stands, Serves, SameHead, SameTables, Fits, entry, options_of, count_of, kept_for, client_for};
+ghost use Rattle.ftp_handlers.specs.Handlers.{can_reply, ends_session, is_command, is_idle_tick, is_port, is_transfer, kept_by, places_for};
+ghost use Rattle.ftp_handlers.specs.Rooms.{CanReply, IsReady, actions_in, kept_in, twice_in};
+ghost use Rattle.ftp_hub.specs.Endings.{is_over};
+ghost use Rattle.ftp_hub.specs.Stands.{Stands, Serves, SameHead, SameTables, Fits, ended_in, entry, options_of, count_of, kept_for, client_for};
 
 use crate::hub::Hub;
 use crate::jobs::{finish, queue};
 use crate::tables::take;
-use ftp_events::{Answer, Decision, Entry, EventKind, HubEvent};
-use ftp_handlers::{Room, command, ending};
+use ftp_events::{Answer, Decision, Ended, Entry, EventKind, HubEvent};
+use ftp_handlers::{Room, command, ending, idle_tick};
 use ftp_numbers::Numbers;
 use ftp_transfer::{Outcome, Ticket};
 
@@ -55,9 +56,27 @@ impl Hub {
         ensures refused { (log : List Entry) → Stands self.old log → IsTrue (is_refusal result) → SameTables self.old self.new }
         ensures twice { twice_in room.new ≡ twice_in room.old }
     {
+        let ended = self.ended(&event.kind);
         let decision = self.serve(room, event, answer);
+        self.counters
+            .note(&self.options, answer, decision, room.actions(), ended);
         self.count += 1;
         decision
+    }
+
+    // What is counted of the job whose end the event tells, where counts are kept.
+    fn ended(&self, kind: &EventKind) -> Option<Ended>
+        ensures { result ≡ ended_in self.now kind.now }
+    {
+        match kind {
+            EventKind::End { ticket } if self.options.collect_metrics => {
+                match self.jobs.get(&ticket.session) {
+                    Some(running) => Some(Ended::of(&running.job)),
+                    None => None,
+                }
+            }
+            _ => None,
+        }
     }
 
     // Hands the event to what decides on its kind.
@@ -79,7 +98,10 @@ impl Hub {
             | EventKind::Port { session, .. }
             | EventKind::Rest { session, .. }
             | EventKind::Cwd { session, .. }
+            | EventKind::Abor { session }
+            | EventKind::Internal { session, .. }
             | EventKind::SlotTick { session } => self.command(room, event, answer, *session),
+            EventKind::IdleTick { session } => self.idle(room, event, answer, *session),
             EventKind::Transfer { session, .. } | EventKind::Stou { session, .. } => {
                 self.transfer(room, event, answer, *session)
             }
@@ -88,6 +110,9 @@ impl Hub {
                 room, event, answer, *session,
             ),
             EventKind::Sweep => self.sweep(room, event, answer),
+            // Nothing is held for a session that has ended.
+            EventKind::Scavenge => Decision::Scavenged,
+            EventKind::Shutdown => self.shutdown(room, event, answer),
         }
     }
 
@@ -138,9 +163,34 @@ impl Hub {
         }
     }
 
+    // A look at the idle time of a session, which ends where that was too long.
+    fn idle(&mut self, room: &mut Room, event: &HubEvent, answer: Answer, number: u64) -> Decision
+        requires fits { Fits room.old self.old event.now }
+        requires of_this_event { IsTrue (is_idle_tick event.now.kind) }
+        requires named { named_session event.now.kind ≡ Some number }
+        ensures serves { (log : List Entry) → Stands self.old log → Serves self.old self.new log event.now answer result (actions_in room.new) }
+        ensures head { SameHead self.old self.new }
+        ensures twice { twice_in room.new ≡ twice_in room.old }
+    {
+        let runs = self.jobs.contains_key(&number);
+        let Some(session) = self.sessions.get_mut(&number) else {
+            return Decision::UnknownNumber;
+        };
+        let decision = idle_tick(session, &event.kind, runs, event.at, &self.options);
+        if let Decision::TimedOut = decision {
+            return self.close(room, event, answer, number);
+        }
+        decision
+    }
+
     // The end of a session.
     fn close(&mut self, room: &mut Room, event: &HubEvent, answer: Answer, number: u64) -> Decision
-        requires fits { Fits room.old self.old event.now }
+        requires below { self.old.count < 2 ^ 64 - 1 }
+        requires ready { IsReady room.old }
+        requires places { places_for event.now.kind ≤ room.old.places }
+        requires letters { IsTrue (can_reply event.now.kind) → CanReply 64 room.old }
+        requires kept { IfSome (map.get nat_eq self.old.sessions number) (λ v. kept_in room.old ≡ kept_by event.now.kind v) }
+        requires over { IfSome (map.get nat_eq self.old.sessions number) (λ v. IsTrue (is_over self.old.options (is_some (map.get nat_eq self.old.jobs number)) event.now.at event.now.kind v)) }
         requires of_this_event { IsTrue (ends_session event.now.kind) }
         requires named { named_session event.now.kind ≡ Some number }
         ensures serves { (log : List Entry) → Stands self.old log → Serves self.old self.new log event.now answer result (actions_in room.new) }
@@ -233,7 +283,15 @@ impl Hub {
         };
         match self.sessions.get_mut(&ticket.session) {
             None => room.complete(ticket, false),
-            Some(session) => finish(session, job, outcome, &mut self.jobs, room, &self.options),
+            Some(session) => finish(
+                session,
+                job,
+                outcome,
+                &mut self.jobs,
+                room,
+                event.at,
+                &self.options,
+            ),
         }
         Decision::Finished
     }

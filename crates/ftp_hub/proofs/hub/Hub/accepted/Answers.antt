@@ -18,7 +18,7 @@ pub returns-in_default-get_mut-clause-serves : goal.returns-in_default-get_mut-c
 returns-in_default-get_mut-clause-serves c log st =
     serves-unknown c.args.self.now _ log c.args.event.now c.args.answer _ c.in-Accepted.owner st
     (rw c.in-Accepted.is refl) (rw c.in-Accepted.is refl) (sym c.in_default-get_mut.ensures.value) c.requires.ready.actions
-    (tables-lent c.args.self.now _ (past_of log) refl (λ q. ap (λ (m : Sessions). map.get nat_eq m q) c.get_mut.follows.holds-at-none) (ap map.hash_map_len c.get_mut.follows.holds-at-none) refl refl refl refl st.tables)
+    (tables-lent c.args.self.now _ (past_of log) refl (λ q. ap (λ (m : Sessions). map.get nat_eq m q) c.get_mut.follows.holds-at-none) (ap map.hash_map_len c.get_mut.follows.holds-at-none) refl refl refl refl refl st.tables)
 
 -- where sessions share the ports, no session has a listener of its own
 pub returns-then-not-is_legacy-clause-serves : goal.returns-then-not-is_legacy-clause-serves
@@ -34,7 +34,7 @@ returns-then-not-is_legacy-clause-serves c log st =
     (sym (due-named hub.options (past_of log) c.args.event.now.at c.args.event.now.kind c.args.answer s (Some v) (rw c.in-Accepted.is refl) (rw c.in-Accepted.is refl) known
     ∙ rw (c.in-Accepted.is, sym c.if-not-is_legacy.ensures) refl))
     refl c.requires.ready.actions
-    (tables-lent hub _ (past_of log) refl (session-back hub.sessions (c.get_mut.follows.lender v) s v there (lent.3 (rw there refl)).0) lent.2 refl refl refl refl st.tables)
+    (tables-lent hub _ (past_of log) refl (session-back hub.sessions (c.get_mut.follows.lender v) s v there (lent.3 (rw there refl)).0) lent.2 refl refl refl refl refl st.tables)
 
 -- a number that was used
 pub returns-then-has-clause-serves : goal.returns-then-has-clause-serves
@@ -51,7 +51,7 @@ returns-then-has-clause-serves c log st =
     (sym (due-named hub.options (past_of log) c.args.event.now.at c.args.event.now.kind c.args.answer s (Some v) (rw c.in-Accepted.is refl) (rw c.in-Accepted.is refl) known
     ∙ rw (c.in-Accepted.is, sym c.if-not-is_legacy.ensures, used) refl))
     refl c.requires.ready.actions
-    (tables-lent hub _ (past_of log) refl (session-back hub.sessions (c.get_mut.follows.lender v) s v there (lent.3 (rw there refl)).0) lent.2 refl refl refl refl st.tables)
+    (tables-lent hub _ (past_of log) refl (session-back hub.sessions (c.get_mut.follows.lender v) s v there (lent.3 (rw there refl)).0) lent.2 refl refl refl refl refl st.tables)
 
 -- the connection goes to the session, or is turned away
 pub returns-clause-serves : goal.returns-clause-serves
@@ -80,4 +80,4 @@ returns-clause-serves c log st =
     (c.come.ensures.actions o raw 0 answer ∙ ap (λ (d : Decision). session_acts o s k answer d job (Some v)) decided ∙ acts-alike welcome o kind n s 0 raw answer job v brings)
     refl (λ q. (lent.3 (rw there refl)).0 q) lent.2
     (subst (Starts hub.jobs c.come.new.jobs s) (ap (λ (d : Decision). starting k d job v) decided ∙ starting-alike welcome kind n s 0 raw job v brings) (c.come.ensures.starts raw 0))
-    c.put.ensures (λ a p. refl) refl)
+    c.put.ensures (λ a p. refl) refl refl)

@@ -17,11 +17,11 @@ pub returns-in_default-clause-serves : goal.returns-in_default-clause-serves
 returns-in_default-clause-serves c log st =
     let arr = c.args.arrival in
     let unused : is_used (past_of log) arr.number ≡ false = sym (st.tables.numbers arr.number) ∙ c.requires.unused in
-    serves-unheld c.args.self.now _ log c.args.event.now c.args.answer _ arr st c.requires.of_this_event unused
+    serves-unheld c.args.self.now _ log c.args.event.now c.args.answer _ arr st c.requires.of_this_event unused c.requires.going
     (sym c.unregister_by_key.ensures.holder ∙ c.in_default.is)
     (rw (c.close.ensures.actions, c.requires.ready.actions) refl) refl (λ q. refl) refl refl c.put.ensures
     (λ a p. ap (λ (held : Held). finmap.get held (key a p)) c.unregister_by_key.ensures.held ∙ get-remove-key c.args.self.now.board.held a p arr.source arr.port)
-    refl
+    refl refl
 
 -- a port that is held
 pub returns-in-Some-get_mut-clause-serves : goal.returns-in-Some-get_mut-clause-serves
@@ -41,7 +41,7 @@ returns-in-Some-get_mut-clause-serves c log st =
     let decided : c.come.result ≡ arrival_of welcome s =
     c.come.ensures.decision ∙ ap (λ b. arrival_of b s) (c.is_welcome-welcome.ensures ∙ ap (λ b. b && same_ip v.opening.raw.ip arr.raw.ip) c.in_range-in_range.ensures)
     in
-    rw decided (serves-held c.args.self.now _ log c.args.event.now c.args.answer _ arr s v c.come.new.session st c.requires.of_this_event unused
+    rw decided (serves-held c.args.self.now _ log c.args.event.now c.args.answer _ arr s v c.come.new.session st c.requires.of_this_event unused c.requires.going
     (sym c.unregister_by_key.ensures.holder ∙ c.in-Some.is) there
     (c.come.ensures.session arr.raw arr.port c.args.answer ∙ ap (λ (d : Decision). session_after at k c.args.answer d 0 job v) decided
     ∙ after-alike welcome at c.args.event.now.kind arr.number s 0 arr.port arr.raw c.args.answer job v brings)
@@ -51,7 +51,7 @@ returns-in-Some-get_mut-clause-serves c log st =
     (subst (Starts c.args.self.now.jobs c.come.new.jobs s) (ap (λ (d : Decision). starting k d job v) decided ∙ starting-alike welcome c.args.event.now.kind arr.number s arr.port arr.raw job v brings) (c.come.ensures.starts arr.raw arr.port))
     c.put.ensures
     (λ a p. ap (λ (held : Held). finmap.get held (key a p)) c.unregister_by_key.ensures.held ∙ get-remove-key c.args.self.now.board.held a p arr.source arr.port)
-    refl)
+    refl refl)
 
 -- whoever holds a port is live
 pub returns-in-None-clause-serves : goal.returns-in-None-clause-serves

@@ -3,6 +3,7 @@ use Rattle.std.specs.Prelude.{nat_eq, unwrap_or}
 use Rattle.std.specs.HashMap as map
 use Rattle.ftp_hub.proofs.Common.{Running, Session, held_after, holder_at, ipv4, past_of, session_acts, waiting_port}
 use Rattle.ftp_switchboard.specs.Board.{Board}
+use Rattle.ftp_events.specs.Decide.{is_at_work}
 use Rattle.ftp_handlers.specs.Handlers.{is_port, number_of}
 use Rattle.ftp_hub.specs.Stands.{used_for}
 use Rattle.ftp_hub.proofs.Commands.{serves-unknown, serves-command, command-plain, row-same}
@@ -14,7 +15,7 @@ use Rattle.ftp_hub.proofs.hub.Hub.command.Goals as goal
 pub returns-in-None-clause-serves : goal.returns-in-None-clause-serves
 returns-in-None-clause-serves c log st =
     serves-unknown c.args.self.now _ log c.args.event.now c.args.answer _ c.args.number st (command-plain _ c.requires.of_this_event).no_end c.requires.named (sym c.in-None.ensures.value) c.requires.fits.ready.actions
-    (tables-lent c.args.self.now _ (past_of log) refl (λ q. ap (λ (m : map.HashMap ℕ Session _). map.get nat_eq m q) c.get_mut.follows.holds-at-none) (ap map.hash_map_len c.get_mut.follows.holds-at-none) refl refl refl refl st.tables)
+    (tables-lent c.args.self.now _ (past_of log) refl (λ q. ap (λ (m : map.HashMap ℕ Session _). map.get nat_eq m q) c.get_mut.follows.holds-at-none) (ap map.hash_map_len c.get_mut.follows.holds-at-none) refl refl refl refl refl st.tables)
 
 -- a command of a live session
 pub returns-in-Some-clause-serves : goal.returns-in-Some-clause-serves
@@ -33,7 +34,7 @@ returns-in-Some-clause-serves c log st =
     (λ few.
     let acts = c.command-decision.ensures.actions few.notices c.args.answer job ∙ ap (λ n. session_acts o n k c.args.answer c.command-decision.result job (Some v)) number in
     record {
-      row = c.command-decision.ensures.decision ∙ row-same c.args.self.now log c.args.room.now.used c.args.event.now.at k c.args.number v st plain.no_link number_used (sym (st.tables.sessions c.args.number) ∙ there);
+      row = c.command-decision.ensures.decision (is_at_work o (past_of log) k) ∙ row-same c.args.self.now log c.args.room.now.used c.args.event.now.at k c.args.number v st plain.no_link number_used (sym (st.tables.sessions c.args.number) ∙ there);
       acts = acts;
       tables = record {
         moved = record {
@@ -46,5 +47,6 @@ returns-in-Some-clause-serves c log st =
         holders = λ shared a p. c.command-decision.ensures.holders shared a p ∙ ap (λ n. held_after c.command-decision.result n (ipv4 v.opening.client) (waiting_port v.slot) a p (holder_at c.args.self.now.board a p)) number;
         alone = λ alone a p. ap (λ (board : Board). holder_at board a p) (c.command-decision.ensures.alone alone);
         failures = c.command-decision.ensures.failures;
+        stopped = refl;
       };
     })

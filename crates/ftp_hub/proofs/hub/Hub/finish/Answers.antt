@@ -30,7 +30,7 @@ returns-in-None-clause-serves c log st =
     serves-lost c.args.self.now _ log c.args.event.now c.args.outcome _ t job st c.requires.of_this_event there known.0 known.1
     (sym c.in-None.ensures.value) (c.complete.ensures.actions ∙ ap (λ xs. xs ++ action.Completed t false ∷ []) c.requires.fits.ready.actions) refl
     (λ q. ap (λ (m : map.HashMap ℕ Session _). map.get nat_eq m q) c.get_mut.follows.holds-at-none) (ap map.hash_map_len c.get_mut.follows.holds-at-none)
-    c.take.ensures.updates fewer (λ q. refl) (λ a p. refl) refl
+    c.take.ensures.updates fewer (λ q. refl) (λ a p. refl) refl refl
 
 -- a live session
 pub returns-in-Some-get_mut-clause-serves : goal.returns-in-Some-get_mut-clause-serves
@@ -61,8 +61,8 @@ returns-in-Some-get_mut-clause-serves c log st =
       moved = record {
         options = refl;
         session =
-            c.finish.ensures.session few.notices at ∙ ap (λ (x : EventKind). session_after at x a decision.Finished (notices_of decision.Finished a) (Some job) v) kind_is
-            ∙ ap (λ (x : Option Running). session_after at k a decision.Finished (notices_of decision.Finished a) x v) (sym there_job);
+            c.finish.ensures.session few.notices ∙ ap (λ (x : EventKind). session_after at x a decision.Finished (notices_of x decision.Finished a) (Some job) v) kind_is
+            ∙ ap (λ (x : Option Running). session_after at k a decision.Finished (notices_of k decision.Finished a) x v) (sym there_job);
         sessions = record { table = (lent.3 (rw there refl)).0; live = lent.2 };
         jobs = record {
           table = λ q.
@@ -76,6 +76,7 @@ returns-in-Some-get_mut-clause-serves c log st =
       holders = λ shared a p. refl;
       alone = λ alone a p. refl;
       failures = failures-stay c.args.self.now c.args.event.now v (ap is_auth c.requires.of_this_event);
+      stopped = refl;
     })
     (λ said.
     let clash : true ≡ false = sym said ∙ ap is_auth c.requires.of_this_event in

@@ -13,5 +13,5 @@ returns-clause-serves c log st =
     let unused : is_used (past_of log) s ≡ false = sym (st.tables.numbers s) ∙ c.requires.unused in
     let absent : map.get nat_eq c.args.self.now.sessions s ≡ None = st.tables.sessions s ∙ unused-none c.args.self.now.options (past_of log) s unused in
     let nothing : actions_in c.take_kept.new.self ≡ [] = ap actions_in c.take_kept.ensures.same ∙ c.requires.ready.actions in
-    serves-opened c.args.self.now _ log c.args.event.now c.args.answer s c.args.opening _ st c.requires.of_this_event unused nothing refl
-    (λ q. rw (sym c.new_session.ensures) (c.put-2.ensures.updates q)) (c.put-2.ensures.len absent) refl c.put.ensures (λ a p. refl) refl
+    serves-opened c.args.self.now _ log c.args.event.now c.args.answer s c.args.opening _ st c.requires.of_this_event unused c.requires.going nothing refl
+    (λ q. rw (sym c.new_session.ensures) (c.put-2.ensures.updates q)) (c.put-2.ensures.len absent) refl c.put.ensures (λ a p. refl) refl refl

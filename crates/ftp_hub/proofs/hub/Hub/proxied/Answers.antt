@@ -3,6 +3,7 @@ use Rattle.ftp_base.specs.declared.net.SocketAddr.{SocketAddr}
 use Rattle.ftp_base.specs.Net.{is_v6}
 use Rattle.ftp_options.specs.Modes.{is_proxy}
 use Rattle.ftp_transfer.specs.declared.job.Outcome.{Outcome}
+use Rattle.ftp_events.specs.Log.{is_stopped}
 use Rattle.ftp_events.specs.ConnectionRows.{header_row}
 use Rattle.ftp_events.specs.declared.decision.Decision.TheVariants as decision
 use Rattle.ftp_events.specs.declared.event.Answer.TheVariants as answer
@@ -36,13 +37,14 @@ pub returns-in-Header-Err-clause-serves : goal.returns-in-Header-Err-clause-serv
 unfolding decide
 returns-in-Header-Err-clause-serves c log st =
     let unused : is_used (past_of log) c.in-Proxied.number ≡ false = sym (st.tables.numbers c.in-Proxied.number) ∙ sym c.has.ensures ∙ c.if-has.false in
+    let going : is_stopped (past_of log) ≡ false = sym st.tables.stopped ∙ c.if-self.false in
     let found : c.in-Header-Err.field-0 ≡ Err c.in-Header-Err.fault = rw c.in-Header-Err.is at c.in-Header-Err.field-0-is in
     let header : c.args.answer ≡ answer.Header (Err c.in-Header-Err.fault) = c.in-Header-Err.is ∙ ap answer.Header found in
     serves-faulted c.args.self.now _ log c.args.event.now c.args.answer c.in-Header-Err.fault _ c.in-Proxied.number st
-    (rw (c.in-Proxied.is, header, sym c.if-not-is_proxy.ensures, sym c.if-is_v6.ensures, unused) refl)
+    (rw (c.in-Proxied.is, header, sym c.if-not-is_proxy.ensures, sym c.if-is_v6.ensures, unused, going) refl)
     (rw (c.in-Proxied.is, header) refl) (rw c.in-Proxied.is refl) (rw c.in-Proxied.is refl)
     (rw (c.close.ensures.actions, c.requires.ready.actions) refl)
-    refl (λ q. refl) refl refl c.put.ensures (λ a p. refl) refl
+    refl (λ q. refl) refl refl c.put.ensures (λ a p. refl) refl refl
 
 -- nothing else is a header
 headless :
@@ -59,8 +61,9 @@ returns-in-None c =
     record {
       serves = λ log st.
           let unused : is_used (past_of log) c.in-Proxied.number ≡ false = sym (st.tables.numbers c.in-Proxied.number) ∙ sym c.has.ensures ∙ c.if-has.false in
+          let going : is_stopped (past_of log) ≡ false = sym st.tables.stopped ∙ c.if-self.false in
           serves-refused c.args.self.now log c.args.event.now c.args.answer decision.NotExpected _ st
-          (sym (rw (c.in-Proxied.is, sym c.if-not-is_proxy.ensures, sym c.if-is_v6.ensures, unused) (headless c.args.self.now.options (past_of log) c.in-Proxied.raw c.args.answer c.in-None.is))) refl c.requires.ready.actions;
-      head = record { options = refl; start = refl; count = refl };
+          (sym (rw (c.in-Proxied.is, sym c.if-not-is_proxy.ensures, sym c.if-is_v6.ensures, unused, going) (headless c.args.self.now.options (past_of log) c.in-Proxied.raw c.args.answer c.in-None.is))) refl c.requires.ready.actions;
+      head = record { options = refl; start = refl; count = refl; counters = refl };
       twice = refl;
     }

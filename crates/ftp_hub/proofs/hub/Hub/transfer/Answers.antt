@@ -29,7 +29,7 @@ transfer-unsaid _ e = refl
 pub returns-in-None-clause-serves : goal.returns-in-None-clause-serves
 returns-in-None-clause-serves c log st =
     serves-unknown c.args.self.now _ log c.args.event.now c.args.answer _ c.args.number st (transfer-plain _ c.requires.of_this_event).no_end c.requires.named (sym c.in-None.ensures.value) c.requires.fits.ready.actions
-    (tables-lent c.args.self.now _ (past_of log) refl (λ q. ap (λ (m : map.HashMap ℕ Session _). map.get nat_eq m q) c.get_mut.follows.holds-at-none) (ap map.hash_map_len c.get_mut.follows.holds-at-none) refl refl refl refl st.tables)
+    (tables-lent c.args.self.now _ (past_of log) refl (λ q. ap (λ (m : map.HashMap ℕ Session _). map.get nat_eq m q) c.get_mut.follows.holds-at-none) (ap map.hash_map_len c.get_mut.follows.holds-at-none) refl refl refl refl refl st.tables)
 
 -- a live session
 pub returns-in-Some-clause-serves : goal.returns-in-Some-clause-serves
@@ -49,12 +49,12 @@ returns-in-Some-clause-serves c log st =
     serves-command c.args.self.now _ log c.args.event.now c.args.answer d _ s v c.queue.new.session st c.requires.fits.below (transfer-plain k c.requires.of_this_event) c.requires.named there
     (λ few.
     record {
-      row = c.queue.ensures.decision few ∙ transfer-row o (around o (past_of log) c.args.event.now.at v) k s v c.requires.of_this_event c.requires.named;
+      row = c.queue.ensures.decision few ∙ transfer-row o (around o (past_of log) c.args.event.now.at k v) k s v c.requires.of_this_event c.requires.named;
       acts = c.queue.ensures.actions few c.args.answer;
       tables = record {
         moved = record {
           options = refl;
-          session = c.queue.ensures.session few c.args.answer ∙ ap (λ n. session_after c.args.event.now.at k c.args.answer d n job v) (sym (comes.silent c.args.answer));
+          session = c.queue.ensures.session few c.args.answer ∙ ap (λ n. session_after c.args.event.now.at k c.args.answer d n job v) (sym (comes.silent k c.args.answer));
           sessions = sessions-stay c.args.self.now.sessions _ d s c.queue.new.session comes.lives comes.as_many (lent.3 (rw there refl)).0 lent.2;
           jobs = jobs-start jobs c.queue.new.jobs o k c.args.answer d _ s v comes.unfinished (c.queue.ensures.starts few) (c.queue.ensures.actions few c.args.answer);
         };
@@ -62,5 +62,6 @@ returns-in-Some-clause-serves c log st =
         holders = λ shared a p. same_board a p ∙ sym (comes-held d s (ipv4 v.opening.client) (waiting_port v.slot) a p (holder_at c.args.self.now.board a p) comes);
         alone = λ alone. same_board;
         failures = failures-stay c.args.self.now c.args.event.now v (transfer-unsaid k c.requires.of_this_event);
+        stopped = refl;
       };
     })

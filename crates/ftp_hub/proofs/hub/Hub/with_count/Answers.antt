@@ -24,8 +24,10 @@ returns-clause-stands c =
         jobs = λ s. rw c.new-2.ensures.empty refl;
         running = c.new-2.ensures.len;
         numbers = λ n. c.new-3.ensures n;
+        stopped = refl;
         failures = λ login. c.no_failures-failures.ensures.none login ∙ none c.args.options.lockout c.args.options login;
         holders = λ a p. ap (λ (held : Held). finmap.get held (key a p)) c.new-board.ensures.free ∙ finmap.get-empty key_cmp (key a p);
       };
       counted = omega arith;
+      counters = c.new-4.ensures.counted c.args.options;
     }
