@@ -1,0 +1,2 @@
+pub mod OwnSessions
+pub mod Undisturbed
