@@ -1,0 +1,133 @@
+use Rattle.std.proofs.Common.{sym, ap, ◌∙◌, subst, ◌≤◌, cond, List, [], ◌∷◌, ◌++◌, length, arith}
+use Rattle.std.proofs.Math.Logic.{∥∥₁_elim, ∥∥₁_map}
+use Rattle.std.specs.Coded.{le_prop}
+use Rattle.ftp_options.specs.declared.options.Options.{Options}
+use Rattle.ftp_events.specs.declared.entry.Entry.{Entry}
+use Rattle.ftp_events.specs.Log.{past_of}
+use Rattle.ftp_events.specs.Right.{next_entry}
+use Rattle.ftp_events.specs.Words.{is_number}
+use Rattle.ftp_hub.specs.Twin.{started_job}
+use Rattle.ftp_shared.specs.Keeps.{Keeps}
+use Rattle.ftp_shared.specs.Outbox.{newest, outbox_after, outbox_in, replies_in}
+use Rattle.ftp_shared.proofs.KeepsLemmas.{entry-set, job-set, keeps-acted, keeps-right, keeps-step, outbox-step, told-next, turn-rest, turn-whole}
+use Rattle.ftp_shared.proofs.locked.Locked.take_step.Goals as goal
+
+-- memory that was taken changes nothing
+pub invariant_of-self : goal.invariant_of-self
+invariant_of-self g c = record {
+  kept = ∥∥₁_map c.args.self.now.kept (c.make_ready.ensures.keeps g.L.Serving.options);
+  counted = c.args.self.now.counted ∙ sym (ap length c.make_ready.ensures.journal);
+}
+
+-- the hub has counted as many events as the journal has, and can count one more
+pub add-requires : goal.add-requires
+add-requires g c =
+    let one = ap length c.make_ready.ensures.journal in
+    let below = c.in_ok-room.ensures.fits.fits.below in
+    let steps = c.args.self.now.counted in
+    ∥∥₁_elim c.args.self.now.kept le_prop (λ before.
+    let k = c.make_ready.ensures.keeps g.L.Serving.options before in
+    omega (arith, one, below, steps, k.events))
+
+-- the step keeps all
+pub invariant_of-self-2 : goal.invariant_of-self-2
+invariant_of-self-2 g c =
+    let o = g.L.Serving.options in
+    let log = c.make_ready.new.journal.entries in
+    let e = c.step_twin-kept.result.kept in
+    let all : length (newest log) ≤ c.make_ready.new.outbox.next =
+    subst (λ (l : List Entry). length (newest l) ≤ c.make_ready.new.outbox.next) (sym c.make_ready.ensures.journal) c.in_ok-room.ensures.sorted
+    in
+    let one = ap length c.make_ready.ensures.journal in
+    let two = ap length c.keep.ensures in
+    let steps = c.args.self.now.counted in
+    let more = c.add.ensures.total in
+    record {
+      kept = ∥∥₁_map c.args.self.now.kept (λ before.
+          let k = c.make_ready.ensures.keeps o before in
+          subst (λ (l : List Entry). Keeps o c.step_twin-kept.new.self l c.hand-earlier.new.self) (sym c.keep.ensures)
+          (keeps-step o c.make_ready.new.hub c.step_twin-kept.new.self log e c.make_ready.new.outbox c.hand-earlier.new.self c.args.own k
+          (c.step_twin-kept.ensures.stands log k.stands) c.step_twin-kept.ensures.options c.step_twin-kept.ensures.count all
+          c.hand-earlier.ensures.sorted c.hand-earlier.ensures.next c.hand-earlier.ensures.told));
+      counted = omega (arith, one, two, steps, more);
+    }
+
+-- the entry is the next one
+pub returns-clause-next : goal.returns-clause-next
+returns-clause-next g c =
+    let o = g.L.Serving.options in
+    let log = c.make_ready.new.journal.entries in
+    ∥∥₁_map c.args.self.now.kept (λ before.
+    let k = c.make_ready.ensures.keeps o before in
+    record {
+      journal = log;
+      right = keeps-right o c.make_ready.new.hub log c.make_ready.new.outbox k;
+      acted = keeps-acted o c.make_ready.new.hub log c.make_ready.new.outbox k;
+      place = c.len-place.ensures;
+      entry = told-next o c.make_ready.new.hub log c.make_ready.new.outbox c.args.event c.args.answer c.step_twin-kept.result.kept c.step_twin-kept.result.told k c.step_twin-kept.ensures.due c.step_twin-kept.ensures.told;
+    })
+
+-- and the replies before it are the last
+pub returns-clause-rest : goal.returns-clause-rest
+returns-clause-rest g c =
+    let o = g.L.Serving.options in
+    let log = c.make_ready.new.journal.entries in
+    let all : length (newest log) ≤ c.make_ready.new.outbox.next =
+    subst (λ (l : List Entry). length (newest l) ≤ c.make_ready.new.outbox.next) (sym c.make_ready.ensures.journal) c.in_ok-room.ensures.sorted
+    in
+    ∥∥₁_map c.args.self.now.kept (λ before.
+    let k = c.make_ready.ensures.keeps o before in
+    record {
+      next = record {
+        journal = log;
+        right = keeps-right o c.make_ready.new.hub log c.make_ready.new.outbox k;
+        acted = keeps-acted o c.make_ready.new.hub log c.make_ready.new.outbox k;
+        place = c.len-place.ensures;
+        entry = told-next o c.make_ready.new.hub log c.make_ready.new.outbox c.args.event c.args.answer c.step_twin-kept.result.kept c.step_twin-kept.result.told k c.step_twin-kept.ensures.due c.step_twin-kept.ensures.told;
+      };
+      earlier = turn-rest c.args.own c.from_vec.result log c.make_ready.new.outbox (c.from_vec.ensures ∙ c.hand-earlier.ensures.earlier) all k.rests;
+    })
+
+pub returns-clause-due : goal.returns-clause-due
+returns-clause-due g c =
+    let o = g.L.Serving.options in
+    let log = c.make_ready.new.journal.entries in
+    ∥∥₁_elim c.args.self.now.kept (entry-set c.step_twin-kept.result.told (next_entry o c.args.self.now.journal.entries c.args.event c.args.answer)) (λ before.
+    told-next o c.make_ready.new.hub log c.make_ready.new.outbox c.args.event c.args.answer c.step_twin-kept.result.kept c.step_twin-kept.result.told (c.make_ready.ensures.keeps o before) c.step_twin-kept.ensures.due c.step_twin-kept.ensures.told
+    ∙ ap (λ (l : List Entry). next_entry o l c.args.event c.args.answer) c.make_ready.ensures.journal)
+
+-- the journal has the entry that is told
+pub returns-clause-journal : goal.returns-clause-journal
+returns-clause-journal g c =
+    c.keep.ensures
+    ∙ ap (λ (l : List Entry). c.step_twin-kept.result.kept ∷ l) c.make_ready.ensures.journal
+    ∙ ap (λ (e : Entry). e ∷ c.args.self.now.journal.entries) (sym c.step_twin-kept.ensures.told)
+
+-- the job is the one that starts with it
+pub returns-clause-job : goal.returns-clause-job
+returns-clause-job g c =
+    let o = g.L.Serving.options in
+    let log = c.make_ready.new.journal.entries in
+    ∥∥₁_elim c.args.self.now.kept (job-set c.share_of.result (started_job o (past_of c.args.self.now.journal.entries) c.step_twin-kept.result.told)) (λ before.
+    let k = c.make_ready.ensures.keeps o before in
+    c.share_of.ensures ∙ c.step_twin-kept.ensures.job log k.stands
+    ∙ ap (λ (o : Options). started_job o (past_of log) c.step_twin-kept.result.kept) k.options
+    ∙ ap (λ (l : List Entry). started_job o (past_of l) c.step_twin-kept.result.kept) c.make_ready.ensures.journal
+    ∙ ap (started_job o (past_of c.args.self.now.journal.entries)) (sym c.step_twin-kept.ensures.told))
+
+-- all that was waiting is handed out
+pub returns-clause-earlier : goal.returns-clause-earlier
+returns-clause-earlier g c =
+    turn-whole c.args.own c.from_vec.result c.make_ready.new.outbox c.args.self.now.outbox (newest c.args.self.now.journal.entries)
+    (c.from_vec.ensures ∙ c.hand-earlier.ensures.earlier) c.in_ok-room.ensures.sorted c.make_ready.ensures.outbox
+
+-- and the other outboxes grow by the entry's replies
+pub returns-clause-outbox : goal.returns-clause-outbox
+returns-clause-outbox g c s =
+    let log = c.args.self.now.journal.entries in
+    let kept = c.step_twin-kept.result.kept in
+    ap (λ (l : List Entry). outbox_in c.hand-earlier.new.self (newest l) s) c.keep.ensures
+    ∙ outbox-step c.make_ready.new.outbox c.hand-earlier.new.self (newest log) kept c.args.own s c.in_ok-room.ensures.sorted
+    (c.hand-earlier.ensures.sorted s) c.hand-earlier.ensures.next c.hand-earlier.ensures.told
+    ∙ ap (λ xs. cond (is_number c.args.own s) [] (xs ++ replies_in kept.actions s)) (c.make_ready.ensures.outbox s)
+    ∙ ap (λ (e : Entry). outbox_after c.args.own e (outbox_in c.args.self.now.outbox (newest log)) s) (sym c.step_twin-kept.ensures.told)

@@ -1,0 +1,157 @@
+//! The hub that threads share.
+
+ghost use Rattle.std.specs.Vec.{vec_len};
+ghost use Rattle.ftp_events.specs.Right.{IsRight, IsActed};
+ghost use Rattle.std.specs.Prelude.{◌≡◌, ◌≢◌, ◌+◌, ◌<◌, ◌≤◌, length, sum_by, All, [], IfOk, IfErr, IfSome, OnOk, OnErr, IsTrue, false, true};
+ghost use Rattle.ftp_transfer.specs.Transfer.{suits};
+ghost use Rattle.ftp_events.specs.declared.event.Answer.TheVariants as answer;
+ghost use Rattle.ftp_shared.specs.Outbox.{has_ticket};
+ghost use Rattle.ftp_shared.specs.Settled.{IsKept, IsOtherOf, is_missing};
+ghost use Rattle.ftp_shared.specs.Next.{IsNextAt, IsTurnAt, end_of};
+
+use crate::locked::{Locked, Serving};
+use crate::receipt::{JobShare, Receipt, Submitted, Turn};
+use crate::settle::SettleError;
+use crate::share::StepShare;
+use ftp_events::{Answer, EventKind, HubEvent, Log};
+use ftp_options::Options;
+use ftp_transfer::Outcome;
+use std::alloc::{AllocError, Global};
+use std::sync::atomic::{AtomicU64, Ordering};
+use std::sync::ledger::{Book, Share};
+use std::sync::{Mutex, Wait};
+
+/// No memory was left, and the job has not ended.
+#[derive(Drop)]
+pub struct FinishError(pub JobShare);
+
+/// A locked hub, and the numbers that were drawn for it.
+#[derive(Drop)]
+pub struct SharedHub<L: Serving> {
+    lock: Mutex<Locked<L>>,
+    drawn: AtomicU64,
+}
+
+impl<L: Serving> SharedHub<L> {
+    /// A hub to which nothing has happened. It takes no memory.
+    pub fn new(
+        alloc: Global,
+        options: Options,
+        steps: Book<L>,
+        share: Share<L>,
+        parts: u64,
+    ) -> SharedHub<L>
+        requires options { options ≡ L.options }
+        requires none { steps.total ≡ 0 }
+        requires some { 0 < parts }
+        requires all { share.parts ≡ parts }
+        requires fresh { share.amount ≡ 0 }
+    {
+        SharedHub {
+            lock: Mutex::new(Locked::new(alloc, options, steps, share, parts)),
+            drawn: AtomicU64::new(0),
+        }
+    }
+
+    /// Adds the entry of this event.
+    pub fn submit<R: Wait>(
+        &self,
+        rt: &R,
+        share: &mut StepShare<L>,
+        event: HubEvent,
+        answer: Answer,
+    ) -> Result<Submitted, AllocError>
+        requires { has_ticket event.kind ≡ false }
+        ensures next { IfOk result (λ s. IsNextAt L.options s.receipt event answer) }
+        ensures share { OnOk result (share.new.count ≡ share.old.count + 1) }
+        ensures same_share { OnErr result (share.new.count ≡ share.old.count) }
+    {
+        self.lock.lock(rt).append(share, event, answer)
+    }
+
+    /// Adds the entry of this event, and hands the session that it names what it was sent before.
+    pub fn submit_for<R: Wait>(
+        &self,
+        rt: &R,
+        share: &mut StepShare<L>,
+        event: HubEvent,
+        answer: Answer,
+    ) -> Result<Turn, AllocError>
+        requires { has_ticket event.kind ≡ false }
+        ensures next { IfOk result (λ t. IsTurnAt L.options t event answer) }
+        ensures share { OnOk result (share.new.count ≡ share.old.count + 1) }
+        ensures same_share { OnErr result (share.new.count ≡ share.old.count) }
+    {
+        self.lock.lock(rt).append_for(share, event, answer)
+    }
+
+    /// Adds the end of a job, and takes its share; an error gives that back.
+    pub fn finish<R: Wait>(
+        &self,
+        rt: &R,
+        share: &mut StepShare<L>,
+        job: JobShare,
+        at: u64,
+        outcome: Outcome,
+    ) -> Result<Submitted, FinishError>
+        requires { suits outcome.result job.command ≡ true }
+        ensures next { IfOk result (λ s. IsNextAt L.options s.receipt (end_of job at) (answer.Done outcome)) }
+        ensures share { OnOk result (share.new.count ≡ share.old.count + 1) }
+        ensures same_share { OnErr result (share.new.count ≡ share.old.count) }
+        ensures given_back { IfErr result (λ e. e.0 ≡ job) }
+    {
+        let event = HubEvent {
+            at,
+            kind: EventKind::End {
+                ticket: job.ticket(),
+            },
+        };
+        match self
+            .lock
+            .lock(rt)
+            .append(share, event, Answer::Done(outcome))
+        {
+            Ok(submitted) => Ok(submitted),
+            Err(_) => Err(FinishError(job)),
+        }
+    }
+
+    /// A share with no step counted, unless a single part is left.
+    pub fn share<R: Wait>(&self, rt: &R) -> Option<StepShare<L>>
+        ensures { IfSome result (λ share. share.count ≡ 0) }
+    {
+        self.lock.lock(rt).share()
+    }
+
+    /// Takes a share back.
+    pub fn take_back<R: Wait>(&self, rt: &R, share: StepShare<L>) {
+        self.lock.lock(rt).take_back(share);
+    }
+
+    /// Says whether no job runs and no session is live.
+    pub fn drained<R: Wait>(&self, rt: &R) -> bool {
+        self.lock.lock(rt).drained()
+    }
+
+    /// Ends the hub, and gives its journal, where the shares and those that were taken back count all of its steps, and
+    /// each receipt is the entry at its place. The shares are this hub's.
+    pub fn settle(self, shares: Vec<StepShare<L>>, receipts: &[Receipt]) -> Result<Log, SettleError>
+        ensures right { IfOk result (λ log. ∥ IsRight L.options log.entries × IsActed L.options log.entries ∥₁) }
+        ensures sum { IfOk result (λ log. sum_by (λ s. s.count) shares.items ≤ length log.entries) }
+        ensures receipts { IfOk result (λ log. All (λ r. IsKept log.entries r) receipts.now) }
+
+        // Where steps are missing, at least one part was neither kept, nor taken back, nor handed in.
+        ensures gone { IfErr result (λ e. is_missing e ≡ true → vec_len shares + 1 < L.parts) }
+
+        // Any other error tells of the first receipt that is not the entry at its place.
+        ensures differs_so { IfErr result (λ e. is_missing e ≡ false → ∥ IsOtherOf L.options receipts.now e ∥₁) }
+    {
+        let SharedHub { lock, drawn: _ } = self;
+        lock.into_inner().settle(shares, receipts)
+    }
+
+    /// The number after the last that was drawn, from 1; 0 comes after the last number of all.
+    pub fn draw(&self) -> u64 {
+        self.drawn.fetch_add(1, Ordering::SeqCst).wrapping_add(1)
+    }
+}

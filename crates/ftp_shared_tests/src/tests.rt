@@ -1,0 +1,138 @@
+//! The locked hub, used by one thread and by two.
+
+use crate::jobs::{Course, transfer};
+use crate::settled::{Told, settle_two, strange_receipt};
+use crate::threads::connect_two;
+use ftp_base::{Bytes, Reply, ReplyCode};
+use ftp_events::Decision;
+use ftp_options::{Options, ServerBuilder};
+use ftp_shared::{Notifier, SettleError};
+use std::alloc::Global;
+use std::test::Fail;
+use std::thread;
+
+/// All sessions share the ports 50000 and 50001.
+fn pooled(alloc: Global) -> Result<Options, Fail> {
+    let mut builder = ServerBuilder::new(alloc);
+    builder.pooled_listener_mode();
+    builder.passive_ports(50000, 50001);
+    Ok(builder.build().ok().ok_or("not built")?.options)
+}
+
+#[test]
+fn two_threads_make_one_journal(rt: HostRuntime) -> Result<(), Fail> {
+    let options = pooled(rt.alloc())?;
+    let log = connect_two(&rt, rt.alloc(), options, 1000)
+        .ok()
+        .ok_or("no journal")?;
+    assert_eq!(rt; log.len(), 2000);
+    // Each is a session of its own, so the numbers drawn are 2,000 different ones.
+    for entry in log.as_slice() {
+        assert_eq!(rt; entry.decision, Decision::Opened);
+    }
+    Ok(())
+}
+
+#[test]
+fn a_hub_is_settled_with_all_shares_and_receipts(rt: HostRuntime) -> Result<(), Fail> {
+    let options = pooled(rt.alloc())?;
+    let Ok(Ok(log)) = settle_two(&rt, rt.alloc(), options, Told::Both) else {
+        return Err(Fail::from("not settled"));
+    };
+    assert_eq!(rt; log.len(), 2);
+    let decisions = [Decision::Opened, Decision::NeedPass];
+    for (entry, decision) in log.as_slice().iter().zip(decisions) {
+        assert_eq!(rt; entry.decision, decision);
+    }
+    Ok(())
+}
+
+#[test]
+fn steps_are_missed(rt: HostRuntime) -> Result<(), Fail> {
+    let options = pooled(rt.alloc())?;
+    let settled = settle_two(&rt, rt.alloc(), options, Told::First);
+    let Ok(Err(SettleError::Missing { counted, length })) = settled else {
+        return Err(Fail::from("nothing is missed"));
+    };
+    assert_eq!(rt; counted, 1);
+    assert_eq!(rt; length, 2);
+    Ok(())
+}
+
+#[test]
+fn the_receipt_of_another_hub_differs(rt: HostRuntime) -> Result<(), Fail> {
+    let alloc = rt.alloc();
+    let strange = strange_receipt(&rt, alloc, pooled(alloc)?)
+        .ok()
+        .ok_or("no receipt")?;
+    let settled = settle_two(&rt, alloc, pooled(alloc)?, strange);
+    let Ok(Err(SettleError::Differs { place, kept, told })) = settled else {
+        return Err(Fail::from("nothing differs"));
+    };
+    assert_eq!(rt; place, 0);
+    let kept = kept.ok_or("no entry")?;
+    assert_eq!(rt; kept.decision, Decision::Opened);
+    assert_eq!(rt; told.decision, Decision::Opened);
+    assert!(rt; kept != told);
+    Ok(())
+}
+
+#[test]
+fn a_session_is_handed_what_others_sent_it(rt: HostRuntime) -> Result<(), Fail> {
+    let alloc = rt.alloc();
+    let course = transfer(&rt, alloc, pooled(alloc)?, false)
+        .ok()
+        .ok_or("no transfer")?;
+    let Course {
+        drained_early,
+        end,
+        woken,
+        earlier,
+        drained,
+    } = course;
+    assert!(rt; !drained_early);
+    assert_eq!(rt; end, Decision::Finished);
+    assert_eq!(rt; woken, Some(1));
+    let sent = Reply::CodeAndMsg {
+        code: ReplyCode::ClosingDataConnection,
+        msg: Bytes::from_slice(alloc, b"Successfully sent")?,
+    };
+    assert_eq!(rt; earlier.as_slice().len(), 1);
+    let (delay, reply) = earlier.as_slice().first().ok_or("no reply")?;
+    assert_eq!(rt; *delay, 0);
+    assert_eq!(rt; *reply, sent);
+    assert!(rt; drained);
+    Ok(())
+}
+
+#[test]
+fn a_job_is_out_across_a_stop(rt: HostRuntime) -> Result<(), Fail> {
+    let alloc = rt.alloc();
+    let course = transfer(&rt, alloc, pooled(alloc)?, true)
+        .ok()
+        .ok_or("no transfer")?;
+    assert!(rt; !course.drained_early);
+    assert_eq!(rt; course.end, Decision::Finished);
+    assert_eq!(rt; course.woken, None);
+    assert_eq!(rt; course.earlier.as_slice().len(), 0);
+    assert!(rt; course.drained);
+    Ok(())
+}
+
+#[test]
+fn a_listener_is_woken_and_waited_for(rt: HostRuntime) -> Result<(), Fail> {
+    let notifier = Notifier::new(rt.alloc(), rt.clone()?)?;
+    let listener = notifier.subscribe()?;
+    let mut listener = listener;
+    let bell = &notifier;
+    thread::join(
+        &rt,
+        move || {
+            listener.listen();
+            drop(listener);
+        },
+        || bell.notify(),
+    );
+    notifier.linger();
+    Ok(())
+}
