@@ -1,11 +1,12 @@
 -- Each event is read exactly from its line.
-use Rattle.std.proofs.Common.{◌≡◌, ℕ, cond, eqb, List, [], ◌++◌, length, Some, None, refl, sym, ap, subst, ◌∙◌}
+use Rattle.std.proofs.Common.{◌≡◌, ℕ, cond, eqb, List, [], ◌++◌, length, ◌^◌, ◌<◌, Some, None, refl, sym, ap, subst, ◌∙◌}
 use Rattle.std.specs.Prelude.{Result, Ok, Err, IfOk, IsErrOf}
 use Rattle.std.specs.Fmt.{decimal}
 use Rattle.std.proofs.lemmas.Bool.{eqb-true}
 use Rattle.std.proofs.lemmas.Option.{cond_some, none-some}
 use Rattle.std.proofs.lemmas.List.{append-nil, nil_from_length}
 use Rattle.ftp_base.specs.declared.command.DataChanCmd.TheVariants as command
+use Rattle.ftp_base.specs.declared.message.ControlChanMsg.{ControlChanMsg}
 use Rattle.ftp_events.specs.declared.event.EventKind.{EventKind}
 use Rattle.ftp_events.specs.declared.event.EventKind.TheVariants as kind
 use Rattle.ftp_events.specs.declared.event.HubEvent.{HubEvent}
@@ -13,12 +14,14 @@ use Rattle.ftp_event_text.specs.declared.word.EventWord.{EventWord}
 use Rattle.ftp_event_text.specs.declared.word.EventWord.TheVariants as word
 use Rattle.ftp_text.specs.declared.fault.LineFault.{LineFault}
 use Rattle.ftp_text.specs.declared.fault.LineFault.TheVariants as fault
-use Rattle.ftp_text.specs.Fields.{field}
+use Rattle.ftp_text.specs.Fields.{field, number}
 use Rattle.ftp_text.specs.Forms.{Values, all_spelled}
+use Rattle.ftp_text.specs.Message.{message_fields, message_at}
 use Rattle.ftp_event_text.specs.Events.{event_word_text, form, told, word_field, told_text, kind_fields, event_line, HasNoOptions, InRange, IsKind, IsEvent}
-use Rattle.ftp_text.specs.Reading.{◌>>=◌, Reader, Gives, number_at, find_word}
+use Rattle.ftp_text.specs.Reading.{◌>>=◌, Reader, Gives, number_at, find_word, word_value, word_at}
 use Rattle.ftp_event_text.specs.EventReading.{event_words, event_word_field, kind_of, read_as, fields_at, event_of}
 use Rattle.ftp_text.proofs.Exact.{Ends, IsNil, IsExact, bind_ok, some_is, made_takes, made_again, table_exact, number_exact}
+use Rattle.ftp_text.proofs.FieldLemmas.{number_is}
 use Rattle.ftp_text.proofs.FormLemmas.{form_starts, form_exact}
 
 -- ---- words
@@ -104,6 +107,21 @@ event_again e fits =
     let kind = ap (fields_at w) (sym (append-nil v)) ∙ fields_again e.kind [] fits.1 tt in
     ap (λ (t : List ℕ). event_of (decimal e.at ++ t)) (kind_fields-told e.kind)
     ∙ rw (number_exact.again e.at (word_field w ++ v) fits.0 refl, read, kind) refl
+
+-- no message is nothing
+message_none : message_at [] ≡ None
+unfolding message_at word_value word_at
+message_none = refl
+
+-- of a message that has no word no event is read
+pub event_none : (at s : ℕ) (m : ControlChanMsg) → at < 2 ^ 64 → s < 2 ^ 64 → message_fields m ≡ [] →
+    event_of (event_line (record { at = at; kind = kind.Internal s m })) ≡ None
+unfolding event_of read_as
+event_none at s m fits session wordless =
+    let line : number s ++ message_fields m ≡ number s ++ [] = ap (λ (t : List ℕ). number s ++ t) wordless in
+    let read = event_word_is.again word.Internal (number s ++ []) tt refl in
+    ap (λ (t : List ℕ). event_of (decimal at ++ (word_field word.Internal ++ t))) line
+    ∙ rw (number_exact.again at (word_field word.Internal ++ (number s ++ [])) fits refl, read, number_is.again s [] session tt, message_none) refl
 
 -- no two events have one line
 pub event_line-injective : (d e : HubEvent) → IsEvent d → IsEvent e → event_line d ≡ event_line e → d ≡ e

@@ -5,4 +5,5 @@ pub mod Examples
 pub mod TransferExamples
 pub mod ProxyExamples
 pub mod SlotExamples
+pub mod MessageExamples
 pub mod OptionsExamples

@@ -1,5 +1,5 @@
 -- How events are spelled: each event has one line, its moment, its word and the fields of the word's form.
-use Rattle.std.specs.Prelude.{◌≡◌, ℕ, ◌^◌, ◌<◌, List, ◌++◌, codes, decimal, None}
+use Rattle.std.specs.Prelude.{◌≡◌, ℕ, ◌^◌, ◌<◌, Bool, true, false, List, ◌++◌, codes, decimal, None}
 use Rattle.ftp_base.specs.declared.command.DataChanCmd.TheVariants as command
 use Rattle.ftp_events.specs.declared.event.EventKind.{EventKind}
 use Rattle.ftp_events.specs.declared.event.EventKind.TheVariants as kind
@@ -7,7 +7,7 @@ use Rattle.ftp_events.specs.declared.event.HubEvent.{HubEvent}
 use Rattle.ftp_event_text.specs.declared.word.EventWord.{EventWord}
 use Rattle.ftp_event_text.specs.declared.word.EventWord.TheVariants as word
 use Rattle.ftp_text.specs.Fields.{field}
-use Rattle.ftp_text.specs.Forms.{Form, Nothing, Last, Text, MaybeText, ◌▸◌, Number, Port, Address, Ticket, Answer, Refusal, HexWord, MaybeIp, MaybePort, MaybeNumber, Values, all_spelled, AllFit, Takes, gather}
+use Rattle.ftp_text.specs.Forms.{Form, Nothing, Last, Text, MaybeText, Message, ◌▸◌, Number, Port, Address, Ticket, Answer, Refusal, HexWord, MaybeIp, MaybePort, MaybeNumber, Values, all_spelled, AllFit, Takes, gather}
 
 -- the word of each kind of event
 abbrev pub event_word_text : EventWord → List ℕ
@@ -34,6 +34,11 @@ event_word_text word.Quit = codes "quit"
 event_word_text word.Slot = codes "slot"
 event_word_text word.End = codes "end"
 event_word_text word.Sweep = codes "sweep"
+event_word_text word.Abor = codes "abor"
+event_word_text word.Internal = codes "internal"
+event_word_text word.Idle = codes "idle"
+event_word_text word.Scavenge = codes "scavenge"
+event_word_text word.Shutdown = codes "shutdown"
 
 -- the form of each line: what stands behind its word
 abbrev pub form : EventWord → Form
@@ -60,6 +65,11 @@ form word.Quit = Last Number
 form word.Slot = Last Number
 form word.End = Last Ticket
 form word.Sweep = Nothing
+form word.Abor = Last Number
+form word.Internal = Number ▸ Message
+form word.Idle = Last Number
+form word.Scavenge = Nothing
+form word.Shutdown = Nothing
 
 -- what a line says: its word, and the values of its form
 abbrev pub Told : Type 0
@@ -94,6 +104,24 @@ told (kind.Quit s) = say word.Quit s
 told (kind.SlotTick s) = say word.Slot s
 told (kind.End t) = say word.End (t.session, t.nr)
 told kind.Sweep = say word.Sweep
+told (kind.Abor s) = say word.Abor s
+told (kind.Internal s message) = say word.Internal s message
+told (kind.IdleTick s) = say word.Idle s
+told kind.Scavenge = say word.Scavenge
+told kind.Shutdown = say word.Shutdown
+
+-- the line says no more than a session behind the word
+abbrev pub is_short : EventKind → Bool
+is_short (kind.Pass s) = true
+is_short (kind.Abor s) = true
+is_short (kind.Quit s) = true
+is_short (kind.Closed s) = true
+is_short (kind.SlotTick s) = true
+is_short (kind.IdleTick s) = true
+is_short kind.Sweep = true
+is_short kind.Scavenge = true
+is_short kind.Shutdown = true
+is_short _ = false
 
 -- the word as a field
 abbrev pub word_field : EventWord → List ℕ
@@ -108,7 +136,7 @@ abbrev pub kind_fields : EventKind → List ℕ
 kind_fields (kind.Transfer s (command.Retr path)) = told_text (told (kind.Transfer s (command.Retr path)))
 kind_fields k = told_text (told k)
 
--- the one line of an event
+-- the one line of an event; of a message that has no word it tells the session alone, and no event is read from that
 abbrev pub event_line : HubEvent → List ℕ
 event_line e = decimal e.at ++ kind_fields e.kind
 

@@ -2,7 +2,7 @@
 use Rattle.std.specs.Prelude.{ℕ, Bool, true, false, List, [], ◌∷◌, ◌++◌, length, codes, Option, Some, None, Result, Ok, Err}
 use Rattle.std.specs.List.{flat_map}
 use Rattle.ftp_base.specs.declared.notice.PresenceEvent.TheVariants as presence
-use Rattle.ftp_base.specs.declared.notice.DataEvent.TheVariants.{Got, Put}
+use Rattle.ftp_base.specs.declared.notice.DataEvent.TheVariants.{Got, Put, Deleted, MadeDir, RemovedDir, Renamed}
 use Rattle.ftp_base.specs.declared.notice.Notice.{Notice}
 use Rattle.ftp_base.specs.declared.notice.Notice.TheVariants as notice
 use Rattle.ftp_base.specs.declared.notice.EventMeta.{EventMeta}
@@ -77,6 +77,24 @@ decision_text decision.Quit = codes "quit"
 decision_text decision.Early = codes "early"
 decision_text decision.SlotDropped = codes "slotdropped"
 decision_text decision.Swept = codes "swept"
+decision_text decision.Aborted = codes "aborted"
+decision_text decision.NothingToAbort = codes "nothingtoabort"
+decision_text decision.Told = codes "told"
+decision_text decision.Waited = codes "waited"
+decision_text decision.TimedOut = codes "timedout"
+decision_text decision.Scavenged = codes "scavenged"
+decision_text decision.Stopped = codes "stopped"
+
+-- decided on an event of the server's own: a look at a session or at the tables, or the stop
+abbrev pub is_of_own : Decision → Bool
+is_of_own decision.Early = true
+is_of_own decision.Waited = true
+is_of_own decision.SlotDropped = true
+is_of_own decision.TimedOut = true
+is_of_own decision.Swept = true
+is_of_own decision.Scavenged = true
+is_of_own decision.Stopped = true
+is_of_own _ = false
 
 -- the fields behind a decision's name
 abbrev pub decision_fields : Decision → List ℕ
@@ -126,22 +144,30 @@ notice_text (notice.Presence presence.LoggedIn) = codes "login"
 notice_text (notice.Presence presence.LoggedOut) = codes "logout"
 notice_text (notice.Data (Got path bytes)) = codes "got"
 notice_text (notice.Data (Put path bytes)) = codes "put"
+notice_text (notice.Data (Deleted path)) = codes "deleted"
+notice_text (notice.Data (MadeDir path)) = codes "madedir"
+notice_text (notice.Data (RemovedDir path)) = codes "removeddir"
+notice_text (notice.Data (Renamed from to)) = codes "renamed"
 
 -- the bytes that a notice tells of, 0 where it tells of none
 abbrev pub notice_bytes : Notice → ℕ
-notice_bytes (notice.Presence p) = 0
 notice_bytes (notice.Data (Got path bytes)) = bytes
 notice_bytes (notice.Data (Put path bytes)) = bytes
+notice_bytes _ = 0
 
 -- the paths of a notice, the first and the second
 abbrev pub first_path : Notice → List ℕ
 first_path (notice.Presence p) = []
 first_path (notice.Data (Got path bytes)) = path
 first_path (notice.Data (Put path bytes)) = path
+first_path (notice.Data (Deleted path)) = path
+first_path (notice.Data (MadeDir path)) = path
+first_path (notice.Data (RemovedDir path)) = path
+first_path (notice.Data (Renamed from to)) = from
 
 abbrev pub second_path : Notice → List ℕ
-second_path (notice.Presence p) = []
-second_path (notice.Data d) = []
+second_path (notice.Data (Renamed from to)) = to
+second_path _ = []
 
 -- whom a notice is about, what it says, and the lengths of the user name and the first path before all texts as one
 abbrev pub notify_fields : ℕ → EventMeta → Notice → List ℕ

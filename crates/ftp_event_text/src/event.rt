@@ -7,15 +7,15 @@ ghost use Rattle.ftp_events.specs.declared.event.HubEvent.{HubEvent};
 ghost use Rattle.ftp_text.specs.declared.fault.LineFault.TheVariants as fault;
 ghost use Rattle.ftp_event_text.specs.Events.{event_line, IsEvent};
 ghost use Rattle.ftp_text.specs.Reading.{Gives};
-ghost use Rattle.ftp_text.specs.Forms.{Last, Text, MaybeText, ◌▸◌, Number, all_read};
+ghost use Rattle.ftp_text.specs.Forms.{Text, MaybeText, ◌▸◌, Number, all_read};
 ghost use Rattle.ftp_event_text.specs.declared.word.EventWord.TheVariants as word;
 ghost use Rattle.ftp_event_text.specs.EventReading.{fields_at, event_of};
 
 use crate::word::EventWord;
 use ftp_base::{Bytes, DataChanCmd};
 use ftp_events::{EventKind, HubEvent};
-use ftp_text::LineFault;
 use ftp_text::field::{self, number};
+use ftp_text::{LineFault, message_to_end};
 use ftp_transfer::Ticket;
 use std::alloc::Global;
 
@@ -79,16 +79,18 @@ fn fields(alloc: Global, word: EventWord, bytes: &[u8]) -> Result<(EventKind, &[
         EventWord::Nlst => Ok(transfer(on_dir(alloc, bytes)?, |path| DataChanCmd::Nlst { path })),
         EventWord::Mlsd => Ok(transfer(on_dir(alloc, bytes)?, |path| DataChanCmd::Mlsd { path })),
         EventWord::Stou => stou(bytes),
-        EventWord::Rest => Ok(made(
-            numbers(bytes)?,
-            |(session, offset)| EventKind::Rest { session, offset },
-        )),
+        EventWord::Rest => rest(bytes),
         EventWord::Cwd => cwd(alloc, bytes),
         EventWord::Closed => Ok(made(number(bytes)?, |session| EventKind::Closed { session })),
         EventWord::Quit => Ok(made(number(bytes)?, |session| EventKind::Quit { session })),
         EventWord::Slot => Ok(made(number(bytes)?, |session| EventKind::SlotTick { session })),
         EventWord::End => end(bytes),
         EventWord::Sweep => Ok((EventKind::Sweep, bytes)),
+        EventWord::Abor => Ok(made(number(bytes)?, |session| EventKind::Abor { session })),
+        EventWord::Internal => internal(alloc, bytes),
+        EventWord::Idle => Ok(made(number(bytes)?, |session| EventKind::IdleTick { session })),
+        EventWord::Scavenge => Ok((EventKind::Scavenge, bytes)),
+        EventWord::Shutdown => Ok((EventKind::Shutdown, bytes)),
     }
 }
 
@@ -108,15 +110,6 @@ fn on_dir(alloc: Global, bytes: &[u8]) -> Result<((u64, Option<Bytes>), &[u8]), 
     let (session, rest) = number(bytes)?;
     let (text, rest) = field::optional_text(alloc, rest)?;
     Ok(((session, text), rest))
-}
-
-// Two numbers.
-fn numbers(bytes: &[u8]) -> Result<((u64, u64), &[u8]), LineFault>
-    ensures { Gives (λ x. (x.0, x.1.now)) result (all_read (Number ▸ Last Number) bytes.now) }
-{
-    let (first, rest) = number(bytes)?;
-    let (second, rest) = number(rest)?;
-    Ok(((first, second), rest))
 }
 
 // The kind that is made of what was read.
@@ -244,6 +237,15 @@ fn stou(bytes: &[u8]) -> Result<(EventKind, &[u8]), LineFault>
 }
 
 #[tactic(auto, unfolding(crate::specs::EventReading::read_as))]
+fn rest(bytes: &[u8]) -> Result<(EventKind, &[u8]), LineFault>
+    ensures { Gives (λ x. (x.0, x.1.now)) result (fields_at word.Rest bytes.now) }
+{
+    let (session, rest) = number(bytes)?;
+    let (offset, rest) = number(rest)?;
+    Ok((EventKind::Rest { session, offset }, rest))
+}
+
+#[tactic(auto, unfolding(crate::specs::EventReading::read_as))]
 fn cwd(alloc: Global, bytes: &[u8]) -> Result<(EventKind, &[u8]), LineFault>
     ensures { Gives (λ x. (x.0, x.1.now)) result (fields_at word.Cwd bytes.now) }
 {
@@ -265,4 +267,13 @@ fn end(bytes: &[u8]) -> Result<(EventKind, &[u8]), LineFault>
     let (session, nr, rest) = field::ticket(bytes)?;
     let ticket = Ticket { session, nr };
     Ok((EventKind::End { ticket }, rest))
+}
+
+#[tactic(auto, unfolding(crate::specs::EventReading::read_as))]
+fn internal(alloc: Global, bytes: &[u8]) -> Result<(EventKind, &[u8]), LineFault>
+    ensures { Gives (λ x. (x.0, x.1.now)) result (fields_at word.Internal bytes.now) }
+{
+    let (session, rest) = number(bytes)?;
+    let (message, rest) = message_to_end(alloc, rest)?;
+    Ok((EventKind::Internal { session, message }, rest))
 }

@@ -12,6 +12,6 @@ mod word;
 mod writing;
 
 pub use event::read_event;
-pub use printing::put_entry;
+pub use printing::{decision_text, put_entry};
 pub use setup::{Item, put_file, put_sent, read_item};
 pub use writing::put_event;

@@ -1,11 +1,11 @@
 //! Printing the entries of the log.
 
-ghost use Rattle.std.specs.Prelude.{◌≡◌, ◌++◌, OnOk, length};
+ghost use Rattle.std.specs.Prelude.{◌≡◌, ◌++◌, true, OnOk, length};
 ghost use Rattle.std.specs.List.{flat_map};
 ghost use Rattle.ftp_text.specs.Fields.{field, escape};
 ghost use Rattle.ftp_events.specs.declared.action.Action.TheVariants as action;
 ghost use Rattle.ftp_events.specs.declared.event.Answer.TheVariants as answer;
-ghost use Rattle.ftp_event_text.specs.Printing.{lock_text, decision_text, decision_fields, decision_line, header_fields, result_text, outcome_fields, answer_line, notice_text, notice_bytes, first_path, second_path, notify_fields, reply_fields, delivered_text, action_fields, action_line, entry_lines};
+ghost use Rattle.ftp_event_text.specs.Printing.{lock_text, is_of_own, decision_text, decision_fields, decision_line, header_fields, result_text, outcome_fields, answer_line, notice_text, notice_bytes, first_path, second_path, notify_fields, reply_fields, delivered_text, action_fields, action_line, entry_lines};
 
 use crate::writing::put_event;
 use ftp_base::{DataEvent, EventMeta, LockState, Notice, PresenceEvent, Reply};
@@ -101,7 +101,8 @@ fn put_decision(out: &mut Vec<u8>, decision: Decision) -> Result<(), AllocError>
     put_byte(out, b'\n')
 }
 
-fn decision_text(decision: Decision) -> &'static [u8]
+/// The name of a decision.
+pub fn decision_text(decision: Decision) -> &'static [u8]
     ensures { result.now ≡ decision_text decision }
 {
     match decision {
@@ -138,9 +139,27 @@ fn decision_text(decision: Decision) -> &'static [u8]
         Decision::CwdOk => b"cwdok",
         Decision::Closed => b"closed",
         Decision::Quit => b"quit",
+        Decision::Aborted => b"aborted",
+        Decision::NothingToAbort => b"nothingtoabort",
+        Decision::Told => b"told",
+        _ => own_text(decision),
+    }
+}
+
+// The name of a decision on an event of the server's own.
+fn own_text(decision: Decision) -> &'static [u8]
+    requires { is_of_own decision ≡ true }
+    ensures { result.now ≡ decision_text decision }
+{
+    match decision {
         Decision::Early => b"early",
+        Decision::Waited => b"waited",
         Decision::SlotDropped => b"slotdropped",
+        Decision::TimedOut => b"timedout",
         Decision::Swept => b"swept",
+        Decision::Scavenged => b"scavenged",
+        Decision::Stopped => b"stopped",
+        _ => unreachable!(),
     }
 }
 
@@ -284,6 +303,10 @@ fn notice_text(what: &Notice) -> &'static [u8]
         Notice::Presence(PresenceEvent::LoggedOut) => b"logout",
         Notice::Data(DataEvent::Got { .. }) => b"got",
         Notice::Data(DataEvent::Put { .. }) => b"put",
+        Notice::Data(DataEvent::Deleted { .. }) => b"deleted",
+        Notice::Data(DataEvent::MadeDir { .. }) => b"madedir",
+        Notice::Data(DataEvent::RemovedDir { .. }) => b"removeddir",
+        Notice::Data(DataEvent::Renamed { .. }) => b"renamed",
     }
 }
 
@@ -291,8 +314,8 @@ fn notice_bytes(what: &Notice) -> u64
     ensures { result ≡ notice_bytes what.now }
 {
     match what {
-        Notice::Presence(_) => 0,
         Notice::Data(DataEvent::Got { bytes, .. } | DataEvent::Put { bytes, .. }) => *bytes,
+        _ => 0,
     }
 }
 
@@ -301,7 +324,14 @@ fn first_path(what: &Notice) -> &[u8]
 {
     match what {
         Notice::Presence(_) => &[],
-        Notice::Data(DataEvent::Got { path, .. } | DataEvent::Put { path, .. }) => path.as_slice(),
+        Notice::Data(
+            DataEvent::Got { path, .. }
+            | DataEvent::Put { path, .. }
+            | DataEvent::Deleted { path }
+            | DataEvent::MadeDir { path }
+            | DataEvent::RemovedDir { path }
+            | DataEvent::Renamed { from: path, to: _ },
+        ) => path.as_slice(),
     }
 }
 
@@ -309,7 +339,8 @@ fn second_path(what: &Notice) -> &[u8]
     ensures { result.now ≡ second_path what.now }
 {
     match what {
-        Notice::Presence(_) | Notice::Data(_) => &[],
+        Notice::Data(DataEvent::Renamed { to, .. }) => to.as_slice(),
+        _ => &[],
     }
 }
 

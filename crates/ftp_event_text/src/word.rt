@@ -31,9 +31,14 @@ pub enum EventWord {
     Slot,
     End,
     Sweep,
+    Abor,
+    Internal,
+    Idle,
+    Scavenge,
+    Shutdown,
 }
 
-const EVENT_WORDS: [EventWord; 23] = [
+const EVENT_WORDS: [EventWord; 28] = [
     EventWord::Connect,
     EventWord::Proxied,
     EventWord::Data,
@@ -57,6 +62,11 @@ const EVENT_WORDS: [EventWord; 23] = [
     EventWord::Slot,
     EventWord::End,
     EventWord::Sweep,
+    EventWord::Abor,
+    EventWord::Internal,
+    EventWord::Idle,
+    EventWord::Scavenge,
+    EventWord::Shutdown,
 ];
 
 impl Word for EventWord {
@@ -89,6 +99,11 @@ impl Word for EventWord {
             EventWord::Slot => b"slot",
             EventWord::End => b"end",
             EventWord::Sweep => b"sweep",
+            EventWord::Abor => b"abor",
+            EventWord::Internal => b"internal",
+            EventWord::Idle => b"idle",
+            EventWord::Scavenge => b"scavenge",
+            EventWord::Shutdown => b"shutdown",
         }
     }
 

@@ -1,20 +1,20 @@
 //! Writing the lines of events.
 
-ghost use Rattle.std.specs.Prelude.{◌≡◌, ◌++◌, OnOk};
+ghost use Rattle.std.specs.Prelude.{◌≡◌, ◌++◌, true, OnOk};
 ghost use Rattle.std.specs.Option.{option_copied};
 ghost use Rattle.ftp_events.specs.declared.event.EventKind.TheVariants as kind;
 ghost use Rattle.ftp_text.specs.Fields.{number, field, escape, optional_text};
-ghost use Rattle.ftp_event_text.specs.Events.{word_field, kind_fields, event_line};
+ghost use Rattle.ftp_event_text.specs.Events.{is_short, word_field, kind_fields, event_line};
 
 use crate::word::EventWord;
-use ftp_base::{AuthAnswer, Bytes, DataChanCmd, ErrorKind, SocketAddr};
+use ftp_base::{AuthAnswer, Bytes, ControlChanMsg, DataChanCmd, ErrorKind, SocketAddr};
 use ftp_events::{EventKind, HubEvent};
-use ftp_text::Word;
 use ftp_text::writing::{
     put_address, put_answer, put_decimal, put_field, put_hex_word, put_number, put_optional_dotted,
     put_optional_number, put_optional_port, put_optional_text, put_refusal, put_text_field,
     put_ticket,
 };
+use ftp_text::{Word, put_message};
 use ftp_transfer::Ticket;
 use std::alloc::AllocError;
 
@@ -44,7 +44,6 @@ fn put_kind(out: &mut Vec<u8>, kind: &EventKind) -> Result<(), AllocError>
             raw,
         } => put_accepted(out, *session, *number, *raw),
         EventKind::User { session, name } => put_named(out, EventWord::User, *session, name),
-        EventKind::Pass { session } => put_numbered(out, EventWord::Pass, *session),
         EventKind::AuthDone { session, answer } => put_auth(out, *session, *answer),
         EventKind::Pasv {
             session,
@@ -65,11 +64,28 @@ fn put_kind(out: &mut Vec<u8>, kind: &EventKind) -> Result<(), AllocError>
             path,
             refusal,
         } => put_cwd(out, *session, path, *refusal),
-        EventKind::Closed { session } => put_numbered(out, EventWord::Closed, *session),
-        EventKind::Quit { session } => put_numbered(out, EventWord::Quit, *session),
-        EventKind::SlotTick { session } => put_numbered(out, EventWord::Slot, *session),
         EventKind::End { ticket } => put_end(out, *ticket),
+        EventKind::Internal { session, message } => put_internal(out, *session, message),
+        _ => put_short(out, kind),
+    }
+}
+
+// The line of an event that says no more than a session behind its word.
+fn put_short(out: &mut Vec<u8>, kind: &EventKind) -> Result<(), AllocError>
+    requires { is_short kind.now ≡ true }
+    ensures { OnOk result (out.new.items ≡ out.old.items ++ kind_fields kind.now) }
+{
+    match kind {
+        EventKind::Pass { session } => put_numbered(out, EventWord::Pass, *session),
+        EventKind::Abor { session } => put_numbered(out, EventWord::Abor, *session),
+        EventKind::Quit { session } => put_numbered(out, EventWord::Quit, *session),
+        EventKind::Closed { session } => put_numbered(out, EventWord::Closed, *session),
+        EventKind::SlotTick { session } => put_numbered(out, EventWord::Slot, *session),
+        EventKind::IdleTick { session } => put_numbered(out, EventWord::Idle, *session),
         EventKind::Sweep => put_field(out, EventWord::Sweep.text()),
+        EventKind::Scavenge => put_field(out, EventWord::Scavenge.text()),
+        EventKind::Shutdown => put_field(out, EventWord::Shutdown.text()),
+        _ => unreachable!(),
     }
 }
 
@@ -207,6 +223,13 @@ fn put_end(out: &mut Vec<u8>, ticket: Ticket) -> Result<(), AllocError>
 {
     put_field(out, EventWord::End.text())?;
     put_ticket(out, ticket.session, ticket.nr)
+}
+
+fn put_internal(out: &mut Vec<u8>, session: u64, message: &ControlChanMsg) -> Result<(), AllocError>
+    ensures { OnOk result (out.new.items ≡ out.old.items ++ kind_fields (kind.Internal session message.now)) }
+{
+    put_numbered(out, EventWord::Internal, session)?;
+    put_message(out, message)
 }
 
 // The word of an event, and the number that it is about.

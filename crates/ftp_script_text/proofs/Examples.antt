@@ -5,6 +5,7 @@ use Rattle.std.specs.Fmt.{digits}
 use Rattle.std.specs.FinMap as map
 use Rattle.std.specs.Ordering.{nat_cmp, eq_by_cmp}
 use Rattle.std.specs.Cmp.Lexicographic.{slice_cmp, nat_list_cmp_total}
+use Rattle.ftp_base.specs.declared.message.ControlChanMsg.TheVariants as message
 use Rattle.ftp_base.specs.declared.net.IpAddr.TheVariants.{V4}
 use Rattle.ftp_base.specs.Storage.{Files}
 use Rattle.ftp_base.specs.Storage as storage
@@ -14,6 +15,7 @@ use Rattle.ftp_options.specs.declared.options.ListenerMode.{ListenerMode}
 use Rattle.ftp_options.specs.declared.options.ListenerMode.TheVariants.{Legacy, Pooled, Proxy}
 use Rattle.ftp_events.specs.declared.event.EventKind.{EventKind}
 use Rattle.ftp_events.specs.declared.event.EventKind.TheVariants as kind
+use Rattle.ftp_text.specs.Message.{message_at, two_paths_at}
 use Rattle.ftp_text.specs.Reading.{number_at, small_at, dotted_at, address_at, ipv4_at, hex_of, hex_from, hex_field, optional_field, word_value, word_at, text_field, text_from, calls_field, call_of, list_of, each_of}
 use Rattle.ftp_event_text.specs.declared.setup.Item.{Item}
 use Rattle.ftp_event_text.specs.declared.setup.Item.TheVariants as item
@@ -98,6 +100,18 @@ pub script-accepted : IsScriptOf (own_options ++ codes "link 11 1 - .\n0 accepte
     (own ∷ item.Link 11 1 [] [] ∷ happens (kind.Accepted 1 11 (record { ip = V4 167772161; port = 4001 })) ∷ []) None
 unfolding script_from item_of options_at listening_at mode_at mode_of rules_at host_at host_of active_at lockout_at lockout_of restart_at link_at calls_field list_of event_of word_value read_as address_at ipv4_at dotted_at number_at small_at hex_field hex_of word_at digits
 script-accepted = script_read refl
+
+-- no link is needed where no connection comes
+pub script-no_connections : IsScriptOf (codes "0 abor 1\n0 internal 1 renamed 1 /a\n0 idle 1\n0 scavenge\n0 shutdown\n")
+    (happens (kind.Abor 1) ∷ happens (kind.Internal 1 (message.RenameSuccess (codes "/") (codes "a"))) ∷ happens (kind.IdleTick 1) ∷ happens kind.Scavenge
+    ∷ happens kind.Shutdown ∷ []) None
+unfolding script_from item_of event_of word_value read_as message_at two_paths_at number_at word_at text_field text_from digits
+script-no_connections = script_read refl
+
+-- a first path that is longer than both is a bad line
+pub script-bad_cut : IsScriptOf (codes "0 shutdown\n0 internal 1 renamed 3 /a\n") (happens kind.Shutdown ∷ []) (Some 2)
+unfolding script_from item_of event_of word_value read_as message_at two_paths_at number_at word_at text_field text_from digits
+script-bad_cut = script_read refl
 
 pub script-nil : IsScriptOf [] [] None
 unfolding script_from

@@ -2,10 +2,11 @@
 use Rattle.std.proofs.Common.{ℕ, List, [], ◌++◌, Some, refl, sym, ap, subst, append_assoc}
 use Rattle.std.specs.Fmt.{decimal}
 use Rattle.ftp_text.specs.Fields.{dotted}
-use Rattle.ftp_text.specs.Forms.{Shape, Number, Port, Address, Ticket, Answer, Refusal, HexWord, MaybeIp, MaybePort, MaybeNumber, Form, Nothing, Last, Text, MaybeText, ◌▸◌, Value, spelled, Fits, reads, Values, all_spelled, AllFit, all_read}
+use Rattle.ftp_text.specs.Forms.{Shape, Number, Port, Address, Ticket, Answer, Refusal, HexWord, MaybeIp, MaybePort, MaybeNumber, Form, Nothing, Last, Text, MaybeText, Message, ◌▸◌, Value, spelled, Fits, reads, Values, all_spelled, AllFit, all_read}
 use Rattle.ftp_text.proofs.Exact.{Ends, IsNil, Ends-from_nil, IsExact, exact_weaker, pair_exact, some_is}
 use Rattle.ftp_text.proofs.Values.{text_exact, optional_text_exact}
 use Rattle.ftp_text.proofs.FieldLemmas.{number_is, port_is, address_is, ticket_is, answer_is, refusal_is, optional_number_is, optional_port_is, optional_dotted_is, optional_starts, optional_text_starts, hex_word_is}
+use Rattle.ftp_text.proofs.MessageLemmas.{message_is, message_starts}
 
 shape_exact : (f : Shape) → IsExact (spelled f) (Fits f) Ends (reads f)
 shape_exact Number = number_is
@@ -38,6 +39,7 @@ form_starts Nothing v rest h = Ends-from_nil rest h
 form_starts (Last f) v rest h = shape_starts f v rest
 form_starts Text v rest h = refl
 form_starts MaybeText v rest h = optional_text_starts v rest h
+form_starts Message v rest h = message_starts v rest h
 form_starts (f ▸ more) v rest h =
     subst Ends (sym (append_assoc (spelled f v.0) (all_spelled more v.1) rest)) (shape_starts f v.0 (all_spelled more v.1 ++ rest))
 
@@ -52,4 +54,5 @@ form_exact Nothing = nothing_exact
 form_exact (Last f) = exact_weaker (shape_exact f) Ends-from_nil
 form_exact Text = text_exact
 form_exact MaybeText = optional_text_exact
+form_exact Message = message_is
 form_exact (f ▸ more) = pair_exact (shape_exact f) (form_exact more) (λ v rest h. form_starts more v rest h)

@@ -8,4 +8,5 @@ pub mod Values
 pub mod FieldLemmas
 pub mod TraceLemmas
 pub mod Lists
+pub mod MessageLemmas
 pub mod FormLemmas

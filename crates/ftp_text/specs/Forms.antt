@@ -1,12 +1,14 @@
 -- The forms of lines: what stands behind the word of a line, how it is spelled, and how it is read.
 --
--- A text is ended by nothing but the end of its line, so it stands last.
+-- A text is ended by nothing but the end of its line, so it stands last, and so does a message, which may have a text.
 use Rattle.std.specs.Prelude.{ℕ, ◌^◌, ◌<◌, List, [], ◌++◌, decimal, Option, Some}
 use Rattle.ftp_base.specs.declared.net.SocketAddr.{SocketAddr}
 use Rattle.ftp_base.specs.declared.login.AuthAnswer.{AuthAnswer}
 use Rattle.ftp_base.specs.declared.error_kind.ErrorKind.{ErrorKind}
+use Rattle.ftp_base.specs.declared.message.ControlChanMsg.{ControlChanMsg}
 use Rattle.ftp_text.specs.Fields.{field, number, dotted, address_text, optional, optional_text, ticket, escape, hex_digits, answer_text, refusal_text, IsAddress, IsNumber, IsText, Each}
 use Rattle.ftp_text.specs.Reading.{Reader, pair, number_at, number_field, small_field, small_at, dotted_at, address_field, optional_field, ticket_field, hex_word_field, answer_field, refusal_field, text_field, optional_text_field}
+use Rattle.ftp_text.specs.Message.{message_fields, message_at, IsMessage}
 
 -- what a field holds
 pub data Shape : Type 0 where
@@ -22,13 +24,14 @@ pub data Shape : Type 0 where
   MaybeNumber : Shape
 
 infixr 5 ◌▸◌
--- what stands behind the word of a line: nothing, a last field, a text to the end of the line, a text or nothing, or a field
--- and more
+-- what stands behind the word of a line: nothing, a last field, a text to the end of the line, a text or nothing, a message to
+-- the end of the line, or a field and more
 pub data Form : Type 0 where
   Nothing : Form
   Last : Shape → Form
   Text : Form
   MaybeText : Form
+  Message : Form
   ◌▸◌ : Shape → Form → Form
 
 -- ---- a field
@@ -93,6 +96,7 @@ Values Nothing = Unit {0}
 Values (Last f) = Value f
 Values Text = List ℕ
 Values MaybeText = Option (List ℕ)
+Values Message = ControlChanMsg
 Values (f ▸ more) = Value f × Values more
 
 -- how the values are spelled, one behind the other
@@ -101,6 +105,7 @@ all_spelled Nothing v = []
 all_spelled (Last f) v = spelled f v
 all_spelled Text text = field (escape text)
 all_spelled MaybeText text = optional_text text
+all_spelled Message m = message_fields m
 all_spelled (f ▸ more) v = spelled f v.0 ++ all_spelled more v.1
 
 -- the values lie in the ranges of their types
@@ -109,6 +114,7 @@ AllFit Nothing v = Unit {0}
 AllFit (Last f) v = Fits f v
 AllFit Text text = IsText text
 AllFit MaybeText text = Each IsText text
+AllFit Message m = IsMessage m
 AllFit (f ▸ more) v = Fits f v.0 × AllFit more v.1
 
 -- the values of a line, and the bytes behind them
@@ -117,6 +123,7 @@ all_read Nothing = λ bytes. Some (tt, bytes)
 all_read (Last f) = reads f
 all_read Text = text_field
 all_read MaybeText = optional_text_field
+all_read Message = message_at
 all_read (f ▸ more) = pair (reads f) (all_read more)
 
 -- a function of the values of a line, one after the other
@@ -125,6 +132,7 @@ Takes Nothing R = R
 Takes (Last f) R = Value f → R
 Takes Text R = List ℕ → R
 Takes MaybeText R = Option (List ℕ) → R
+Takes Message R = ControlChanMsg → R
 Takes (f ▸ more) R = Value f → Takes more R
 
 -- the function, of all values at once
@@ -133,6 +141,7 @@ apply Nothing make v = make
 apply (Last f) make v = make v
 apply Text make text = make text
 apply MaybeText make text = make text
+apply Message make m = make m
 apply (f ▸ more) make v = apply more (make v.0) v.1
 
 -- the function of all values at once, one after the other
@@ -141,4 +150,5 @@ gather Nothing done = done tt
 gather (Last f) done = done
 gather Text done = done
 gather MaybeText done = done
+gather Message done = done
 gather (f ▸ more) done = λ v. gather more (λ others. done (v, others))

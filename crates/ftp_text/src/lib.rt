@@ -7,11 +7,13 @@
 mod calls;
 mod fault;
 pub mod field;
+mod message;
 mod text;
 mod word;
 pub mod writing;
 
 pub use calls::{CallText, FailingCalls, failing_calls};
 pub use fault::LineFault;
+pub use message::{message_to_end, put_message};
 pub use text::whole_text;
 pub use word::Word;

@@ -1,10 +1,12 @@
 //! The words that stand for values. A word is found by a search of its table.
 
 ghost use Rattle.std.specs.Prelude.{◌≡◌, ℕ, List};
+ghost use Rattle.ftp_base.specs.Reply.{code_text};
 ghost use Rattle.ftp_text.specs.Fields.{answer_text, kind_text, refusal_text, fault_text, proxy_error_text};
-ghost use Rattle.ftp_text.specs.Reading.{find_word, answers, refusals, faults, proxy_errors};
+ghost use Rattle.ftp_text.specs.Reading.{find_word, answers, kinds, refusals, faults, proxy_errors};
+ghost use Rattle.ftp_text.specs.Message.{reply_codes};
 
-use ftp_base::{AuthAnswer, ErrorKind, LinkFault};
+use ftp_base::{AuthAnswer, ErrorKind, LinkFault, ReplyCode};
 use ftp_proxy::{ProxyError, ReadError};
 
 /// A value that a word of a table spells.
@@ -37,6 +39,21 @@ const ANSWERS: [AuthAnswer; 5] = [
     AuthAnswer::Refused,
 ];
 
+const KINDS: [ErrorKind; 12] = [
+    ErrorKind::TransientFileNotAvailable,
+    ErrorKind::PermanentFileNotAvailable,
+    ErrorKind::PermanentDirectoryNotAvailable,
+    ErrorKind::PermanentDirectoryNotEmpty,
+    ErrorKind::PermissionDenied,
+    ErrorKind::ConnectionClosed,
+    ErrorKind::LocalError,
+    ErrorKind::PageTypeUnknown,
+    ErrorKind::InsufficientStorageSpaceError,
+    ErrorKind::ExceededStorageAllocationError,
+    ErrorKind::FileNameNotAllowedError,
+    ErrorKind::CommandNotImplemented,
+];
+
 const REFUSALS: [Option<ErrorKind>; 13] = [
     None,
     Some(ErrorKind::TransientFileNotAvailable),
@@ -58,6 +75,34 @@ const FAULTS: [LinkFault; 4] = [
     LinkFault::BrokenPipe,
     LinkFault::Aborted,
     LinkFault::Other,
+];
+
+const REPLY_CODES: [ReplyCode; 25] = [
+    ReplyCode::FileStatusOkay,
+    ReplyCode::CommandOkay,
+    ReplyCode::ServiceReady,
+    ReplyCode::ClosingControlConnection,
+    ReplyCode::ClosingDataConnection,
+    ReplyCode::EnteringPassiveMode,
+    ReplyCode::UserLoggedIn,
+    ReplyCode::FileActionOkay,
+    ReplyCode::DirCreated,
+    ReplyCode::NeedPassword,
+    ReplyCode::FileActionPending,
+    ReplyCode::CantOpenDataConnection,
+    ReplyCode::ConnectionClosed,
+    ReplyCode::TransientFileError,
+    ReplyCode::LocalError,
+    ReplyCode::OutOfSpace,
+    ReplyCode::CommandSyntaxError,
+    ReplyCode::ParameterSyntaxError,
+    ReplyCode::CommandNotImplemented,
+    ReplyCode::BadCommandSequence,
+    ReplyCode::NotLoggedIn,
+    ReplyCode::FileError,
+    ReplyCode::PageTypeUnknown,
+    ReplyCode::ExceededStorageAllocation,
+    ReplyCode::BadFileName,
 ];
 
 const PROXY_ERRORS: [ProxyError; 8] = [
@@ -107,6 +152,34 @@ impl Word for AuthAnswer {
 
     fn table() -> &'static [AuthAnswer] {
         &ANSWERS
+    }
+}
+
+impl Word for ErrorKind {
+    ghost text = { kind_text };
+
+    ghost table = { kinds };
+
+    fn text(self) -> &'static [u8] {
+        kind_text(self)
+    }
+
+    fn table() -> &'static [ErrorKind] {
+        &KINDS
+    }
+}
+
+impl Word for ReplyCode {
+    ghost text = { code_text };
+
+    ghost table = { reply_codes };
+
+    fn text(self) -> &'static [u8] {
+        self.digits()
+    }
+
+    fn table() -> &'static [ReplyCode] {
+        &REPLY_CODES
     }
 }
 
