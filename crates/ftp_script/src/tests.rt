@@ -1,5 +1,7 @@
 //! Whole scripts, with the lines that are written for them.
 
+mod commands;
+mod endings;
 mod options;
 mod proxied;
 mod transcripts;
@@ -178,7 +180,7 @@ const OPTIONS: &str = "options pooled 50000 50001 connection passive 600 off res
 const BAD_LINES: [&str; 50] = [
     "0 fly",
     "0 quit",
-    "0 abor 1",
+    "0 abor",
     "storage 5 -",
     "options pooled 50000 50001 connection passive 600 off restart",
     "link 3 5 - .",

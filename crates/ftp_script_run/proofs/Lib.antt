@@ -9,3 +9,4 @@ pub mod CleanLemmas
 pub mod DeterminedLemmas
 pub mod ListedLemmas
 pub mod HeaderLemmas
+pub mod CommandLemmas

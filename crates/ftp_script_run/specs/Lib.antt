@@ -7,3 +7,4 @@ pub mod Runs
 pub mod Clean
 pub mod Determined
 pub mod Listed
+pub mod Commands

@@ -15,10 +15,6 @@ code_of status.WriteFault = 4
 code_of status.OutOfMemory = 5
 code_of status.Usage = 64
 
--- the words are the one word of the command
-abbrev pub IsScript : List (List ℕ) → Type 0
-IsScript words = words ≡ codes "script" ∷ []
-
 -- the sink failed, or memory ran out
 abbrev pub IsCutShort : Status → Type 0
 IsCutShort s = (s ≡ status.WriteFault) ⊎ (s ≡ status.OutOfMemory)

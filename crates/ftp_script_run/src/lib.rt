@@ -1,15 +1,20 @@
-//! Runs a script of events from a source, and writes the log that is due for it to a sink.
+//! What the program does: runs a script of events from a source, and writes the log that is due for it to a sink; or tells
+//! how often each decision came in a run of drawn events.
 //!
 //! What is written is the printed log of exactly the script that was read, or the number of the first bad line.
 //! Begin with `run_script`.
 #![tactic(auto)]
 
+mod command;
 mod laws;
 mod printing;
 mod run;
 mod script;
 mod status;
+mod telling;
 
+pub use command::{Command, Told, command_of};
 pub use laws::{settled_runs_are_determined, taken_transfers_are_done, told_faults_are_listed};
 pub use script::run_script;
 pub use status::Status;
+pub use telling::{HELP, VERSION};

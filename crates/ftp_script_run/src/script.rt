@@ -1,39 +1,49 @@
 //! A whole script: bytes in, lines out.
 
-ghost use Rattle.std.specs.Prelude.{◌≡◌, ◌≢◌, ℕ, ◌≤◌, ◌<◌, ◌↔◌, ◌⊎◌, ◌∷◌, ◌++◌, [], true, List, Option, Some, None, IfSome, IfNone, IsTrue, length, map};
+ghost use Rattle.std.specs.Prelude.{◌≡◌, ◌≢◌, ℕ, ◌≤◌, ◌<◌, ◌↔◌, ◌⊎◌, ◌∷◌, ◌++◌, [], true, List, Option, Some, None, IfSome, IfNone, length, map};
 ghost use Rattle.std.specs.Option.{OnSome};
-ghost use Rattle.ftp_base.specs.Outside.{HasRisen};
+ghost use Rattle.ftp_base.specs.Outside.{HasRisen, Writes};
 ghost use Rattle.ftp_events.specs.declared.entry.Entry.{Entry};
 ghost use Rattle.ftp_event_text.specs.declared.setup.Item.{Item};
 ghost use Rattle.ftp_script_text.specs.Script.{may_stand, IsScriptOf};
 ghost use Rattle.ftp_script_text.specs.ScriptReader.{IsLawful};
-ghost use Rattle.ftp_script_run.specs.Statuses.{IsScript, IsCutShort, HasNotRisen};
+ghost use Rattle.ftp_script_run.specs.Statuses.{IsCutShort, HasNotRisen};
+ghost use Rattle.ftp_script_run.specs.declared.command.Command.{Command};
+ghost use Rattle.ftp_script_run.specs.declared.command.Command.TheVariants.{Script, Tell};
+ghost use Rattle.ftp_script_run.specs.declared.command.Told.{Told};
+ghost use Rattle.ftp_script_run.specs.declared.command.Told.TheVariants.{Stress};
+ghost use Rattle.ftp_script_run.specs.Commands.{Asks, text_of};
+ghost use Rattle.ftp_stream.specs.Writing.{WritesFront};
+ghost use Rattle.ftp_stress.specs.Stress.{stress_lines};
 ghost use Rattle.ftp_script_run.specs.Outcome.{IsDone, HasBadLine, WritesWhole, WritesPart, Outcome};
 ghost use Rattle.ftp_script_run.specs.Runs.{Keeps, MayTake, IsTaken, IsPartlyTaken, Running};
 
+use crate::command::{Command, command_of};
 use crate::run::Run;
 use crate::status::Status;
+use crate::telling::tell;
 use ftp_base::{Sink, Source};
 use ftp_event_text::Item;
 use ftp_script_text::{BUFFER_SIZE, ScriptError, ScriptReader};
 use std::alloc::Global;
 
-/// Runs the script that the source gives, event by event, and writes its printed log, where the words are the one word
-/// `script`.
+/// Does what the words ask for: runs the script that the source gives, event by event, and writes its printed log; or
+/// writes how often each decision came in a run of drawn events, the commands, or the version.
 ///
 /// A line has at most 65,536 bytes, its line feed not counted, and a script 16,777,216. An entry is let go as soon as it
-/// is written.
+/// is written or counted.
 pub fn run_script<S: Source, K: Sink>(
     alloc: Global,
     words: &[Vec<u8>],
     source: &mut S,
     sink: &mut K,
 ) -> Status
-    ensures usage { (result ≡ Status.Usage) ↔ (IsScript (map (λ w. w.items) words.now) → ⊥) }
+    ensures usage { (result ≡ Status.Usage) ↔ ((c : Command) → Asks (map (λ w. w.items) words.now) c → ⊥) }
     ensures usage_idle { result ≡ Status.Usage → (source.new ≡ source.old) × (sink.new ≡ sink.old) }
 
     // All was read and is a script, and its log was written.
-    ensures done { result ≡ Status.Done → IfSome (S.left source.old) (λ bytes. IsDone bytes (S.left source.new) (K.written sink.old) (K.written sink.new)) }
+    ensures done { Asks (map (λ w. w.items) words.now) Script → result ≡ Status.Done →
+        IfSome (S.left source.old) (λ bytes. IsDone bytes (S.left source.new) (K.written sink.old) (K.written sink.new)) }
     ensures bad_line { (k : ℕ) → result ≡ Status.BadLine k → IfSome (S.left source.old) (λ bytes. HasBadLine k bytes (S.left source.new) (K.written sink.old) (K.written sink.new)) }
 
     // After a fault of the source the log of the whole lines that were read was written.
@@ -42,33 +52,43 @@ pub fn run_script<S: Source, K: Sink>(
 
     // After a fault of the sink, or where memory ran out, a part from the front was written.
     ensures write_fault { result ≡ Status.WriteFault → HasRisen (K.faults sink.old) (K.faults sink.new) }
-    ensures front { IsCutShort result → IfSome (S.left source.old) (λ bytes. WritesPart bytes (S.left source.new) (K.written sink.old) (K.written sink.new)) }
+    ensures front { Asks (map (λ w. w.items) words.now) Script → IsCutShort result →
+        IfSome (S.left source.old) (λ bytes. WritesPart bytes (S.left source.new) (K.written sink.old) (K.written sink.new)) }
 
     // Where nothing fails, a script is run to its end, and the first bad line is named.
-    ensures complete { IsScript (map (λ w. w.items) words.now) → IfSome (S.left source.old) (λ bytes. (items : List Item) → IsScriptOf bytes items None →
+    ensures complete { Asks (map (λ w. w.items) words.now) Script → IfSome (S.left source.old) (λ bytes. (items : List Item) → IsScriptOf bytes items None →
         HasNotRisen (S.faults source.old) (S.faults source.new) → HasNotRisen (K.faults sink.old) (K.faults sink.new) →
         (result ≡ Status.Done) ⊎ (result ≡ Status.OutOfMemory)) }
-    ensures first_bad { IsScript (map (λ w. w.items) words.now) → (k : ℕ) → IfSome (S.left source.old) (λ bytes. (items : List Item) → IsScriptOf bytes items (Some k) →
+    ensures first_bad { Asks (map (λ w. w.items) words.now) Script → (k : ℕ) → IfSome (S.left source.old) (λ bytes. (items : List Item) → IsScriptOf bytes items (Some k) →
         HasNotRisen (S.faults source.old) (S.faults source.new) → HasNotRisen (K.faults sink.old) (K.faults sink.new) →
         (result ≡ Status.BadLine k) ⊎ (result ≡ Status.OutOfMemory)) }
+
+    // The counts of exactly the drawn events were written, or a part from the front.
+    ensures stress { (seed sessions : ℕ) → Asks (map (λ w. w.items) words.now) (Tell (Stress seed sessions)) → result ≡ Status.Done →
+        Writes (K.written sink.old) (K.written sink.new) (stress_lines seed sessions) }
+    ensures stress_front { (seed sessions : ℕ) → Asks (map (λ w. w.items) words.now) (Tell (Stress seed sessions)) → IsCutShort result →
+        WritesFront (K.written sink.old) (K.written sink.new) (stress_lines seed sessions) }
+
+    // The same of every text that is told where nothing is read.
+    ensures told { (t : Told) → Asks (map (λ w. w.items) words.now) (Tell t) → result ≡ Status.Done → Writes (K.written sink.old) (K.written sink.new) (text_of t) }
+    ensures told_front { (t : Told) → Asks (map (λ w. w.items) words.now) (Tell t) → IsCutShort result → WritesFront (K.written sink.old) (K.written sink.new) (text_of t) }
+    ensures told_idle { (t : Told) → Asks (map (λ w. w.items) words.now) (Tell t) → source.new ≡ source.old }
+
+    // Without a fault of the sink all of it is written.
+    ensures told_ends { (t : Told) → Asks (map (λ w. w.items) words.now) (Tell t) → (result ≡ Status.Done) ⊎ IsCutShort result }
+    ensures told_complete { (t : Told) → Asks (map (λ w. w.items) words.now) (Tell t) → HasNotRisen (K.faults sink.old) (K.faults sink.new) →
+        (result ≡ Status.Done) ⊎ (result ≡ Status.OutOfMemory) }
 
     ensures source_count { S.faults source.old ≤ S.faults source.new }
     ensures sink_count { K.faults sink.old ≤ K.faults sink.new }
 {
-    if !is_script(words) {
-        return Status::Usage;
-    }
-    let mut buffer = [0u8; BUFFER_SIZE];
-    run_lines(alloc, &mut buffer, source, sink)
-}
-
-// Says whether the words are the one word of the command.
-fn is_script(words: &[Vec<u8>]) -> bool
-    ensures { IsTrue result ↔ IsScript (map (λ w. w.items) words.now) }
-{
-    match words {
-        [word] => word.as_slice() == b"script".as_slice(),
-        _ => false,
+    match command_of(words) {
+        Some(Command::Script) => {
+            let mut buffer = [0u8; BUFFER_SIZE];
+            run_lines(alloc, &mut buffer, source, sink)
+        }
+        Some(Command::Tell(told)) => Status::Done.after(tell(alloc, told, sink)),
+        None => Status::Usage,
     }
 }
 

@@ -1,0 +1,5 @@
+pub mod Draws
+pub mod Events
+pub mod Counts
+pub mod Stress
+pub mod Keeping
