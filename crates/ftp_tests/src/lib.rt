@@ -9,9 +9,13 @@ mod behind_proxy;
 #[cfg(test)]
 mod control_lines;
 #[cfg(test)]
+mod counts;
+#[cfg(test)]
 mod headline;
 #[cfg(test)]
 mod hub;
+#[cfg(test)]
+mod isolation;
 #[cfg(test)]
 mod laws;
 #[cfg(test)]

@@ -1,10 +1,11 @@
-//! Reservations in a range of two ports, and the keys of connections.
+//! Reservations in a range of two ports and in longer ones, their looks, and the keys of connections.
 
 ghost use Rattle.ftp_switchboard.specs.Board.{SameRange};
 
 use ftp_base::{IpAddr, SocketAddr, SocketAddrPair};
-use ftp_switchboard::{Switchboard, SwitchboardError, SwitchboardKey};
+use ftp_switchboard::{Looks, Switchboard, SwitchboardError, SwitchboardKey};
 use std::alloc::AllocError;
+use std::collections::BTreeSet;
 use std::test::Fail;
 
 const FIRST: u16 = 50_000;
@@ -27,7 +28,7 @@ fn reserve(
     ensures { SameRange board.old board.new }
 {
     board.reserve_room(CLIENT)?;
-    Ok(board.reserve(CLIENT, session, word, present))
+    Ok(board.reserve(CLIENT, session, word, present, &mut Looks::new()))
 }
 
 fn connection(from: IpAddr) -> SocketAddrPair {
@@ -98,5 +99,64 @@ fn a_connection_finds_its_session_by_address_and_port(rt: HostRuntime) -> Result
         assert_eq!(rt; board.unregister_by_connection_pair(&pair), found);
     }
     assert_eq!(rt; board.holder(CLIENT, FIRST), None);
+    Ok(())
+}
+
+#[test]
+fn a_search_looks_at_words_and_not_at_ports(rt: HostRuntime) -> Result<(), Fail> {
+    // The client holds the ports from 1 to 64. The looks are those at words, and those of a search among 64 pairs.
+    for (last, word, answer, most) in [
+        (65_535, 0, Ok(65), 9),
+        (64, 32, Err(SwitchboardError::MaxRetriesError), 2),
+    ] {
+        let mut board = Switchboard::new(rt.alloc(), 1, last);
+        for port in 1..65 {
+            assert_eq!(rt; reserve(&mut board, 7, 0, None)?, Ok(port));
+        }
+        board.reserve_room(CLIENT)?;
+        let looks = &mut Looks::new();
+        assert_eq!(rt;
+            board.reserve(CLIENT, 8, word, None, looks),
+            answer,
+            "up to {last}"
+        );
+        assert!(rt; looks.count() <= most, "up to {last}");
+    }
+    Ok(())
+}
+
+#[test]
+fn a_scavenge_keeps_what_live_sessions_hold(rt: HostRuntime) -> Result<(), Fail> {
+    let mut board = Switchboard::new(rt.alloc(), 1, 100);
+    for session in 1..101 {
+        assert!(rt; reserve(&mut board, session, 0, None)?.is_ok());
+    }
+    let mut live = BTreeSet::new(rt.alloc());
+    for session in [1, 64, 65, 99] {
+        live.insert(session)?;
+    }
+    board.scavenge(&live);
+    // Session s was granted port s.
+    for port in 1..101 {
+        let session = port as u64;
+        let kept = if live.contains(&session) {
+            Some(session)
+        } else {
+            None
+        };
+        assert_eq!(rt; board.holder(CLIENT, port), kept, "port {port}");
+    }
+    Ok(())
+}
+
+#[test]
+fn a_board_that_is_cleared_grants_its_first_port(rt: HostRuntime) -> Result<(), Fail> {
+    let mut board = Switchboard::new(rt.alloc(), FIRST, SECOND);
+    for granted in [FIRST, SECOND] {
+        assert_eq!(rt; reserve(&mut board, 7, 0, None)?, Ok(granted));
+    }
+    board.clear();
+    assert_eq!(rt; board.holder(CLIENT, SECOND), None);
+    assert_eq!(rt; reserve(&mut board, 8, 0, None)?, Ok(FIRST));
     Ok(())
 }
