@@ -1,5 +1,5 @@
 //! The values that all crates share, and the traits of the outside: sources, sinks, links, storages, the control
-//! connection, the edge of the system, authenticators and listeners.
+//! connection, the edge of the system, authenticators, listeners, and what stands before threads and transfers.
 //!
 //! What can fail counts its faults, so that a caller's contract can tell a fault from a made-up answer.
 //! Begin with `outside`.
@@ -32,6 +32,7 @@ mod port_error;
 mod reply;
 mod storage;
 mod trace;
+mod worker;
 
 pub use authenticator::{Authenticator, SameAnswer};
 pub use bytes::Bytes;
@@ -57,3 +58,4 @@ pub use port_error::PortAllocationError;
 pub use reply::{Reply, ReplyCode};
 pub use storage::{FEATURE_RESTART, FileInfo, Meta, Storage, StoreError};
 pub use trace::TraceId;
+pub use worker::{Gate, Spawner};

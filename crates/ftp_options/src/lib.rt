@@ -20,5 +20,5 @@ pub use ftps::{FtpsClientAuth, FtpsRequired, TlsFlags};
 pub use host::PassiveHost;
 pub use lockout::{FailedLoginsBlock, FailedLoginsPolicy};
 pub use options::{ActivePassiveMode, ListenerMode, Options, SiteMd5};
-pub use shutdown::Shutdown;
+pub use shutdown::{Indicator, Shutdown};
 pub use site::{Handler, SiteCommandContext, SiteCommandHandler, SiteHandlers};
