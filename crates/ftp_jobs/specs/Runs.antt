@@ -1,0 +1,41 @@
+-- What a worker does to the storage and the link that it is handed.
+use Rattle.std.specs.Prelude.{◌≡◌, Bool, true, false}
+use Rattle.ftp_base.specs.Edge.{EdgeView, Takes, behind_moment}
+use Rattle.ftp_base.specs.Kept.{CountsOn, StorageKept}
+use Rattle.ftp_events.specs.Leads.{Views, told_by}
+use Rattle.ftp_transfer.specs.declared.job.Completion.TheVariants.{OutOfMemory}
+use Rattle.ftp_transfer.specs.declared.job.Job.{Job}
+use Rattle.ftp_transfer.specs.declared.job.Outcome.{Outcome}
+use Rattle.ftp_transfer.specs.Ran.{Ran, IsClean, IsDone}
+use Rattle.ftp_transfer.specs.Transfer.{is_retrieve, suits}
+
+-- what storages and links tell, and whether reading a file or writing to a link may fail for want of memory
+pub record Site (S L : Type 0) : Type 0 where
+  pub views : Views S L
+  pub reads_take_memory : Bool
+  pub takes_memory : Bool
+
+abbrev pub site : {S L : Type 0} → Views S L → Bool → Bool → Site S L
+site views reads_take_memory takes_memory =
+    record { views = views; reads_take_memory = reads_take_memory; takes_memory = takes_memory }
+
+-- the job was run on a storage and a link, with this outcome, and all is true that a run says of it
+pub record RunsOn {S L : Type 0} (place : Site S L) (job : Job) (outcome : Outcome) (storage storage_after : S) (link link_after : L) : Type 0 where
+  pub ran : Ran job (told_by place.views storage link) (told_by place.views storage_after link_after) outcome
+  pub suits : suits outcome.result job.command ≡ true
+  -- a job of which the storage's rule refused no call, and that nothing stopped, is done
+  pub complete : IsClean job (told_by place.views storage link) (told_by place.views storage_after link_after) outcome → IsDone outcome.result
+  pub no_memory : is_retrieve job.command ≡ true → place.reads_take_memory ≡ false → place.takes_memory ≡ false → outcome.result ≡ OutOfMemory → ⊥
+  pub storage_kept : StorageKept place.views.rule place.views.storage_faults place.views.storage_limit storage storage_after
+  pub link_counts : CountsOn place.views.link_faults place.views.link_limit link link_after
+
+-- storage, link and edge are as they were
+abbrev pub IsUntouched : {S L E : Type 0} → S → S → L → L → E → E → Type 0
+IsUntouched storage storage_after link link_after edge edge_after =
+    (storage_after ≡ storage) × (link_after ≡ link) × (edge_after ≡ edge)
+
+-- the job was run, with an outcome that no entry has, and a moment was taken for its end
+pub record IsUntold {S L : Type 0} (place : Site S L) (job : Job) (storage storage_after : S) (link link_after : L) (edge edge_after : EdgeView) : Type 0 where
+  pub outcome : Outcome
+  pub runs : RunsOn place job outcome storage storage_after link link_after
+  pub moment_taken : Takes behind_moment edge edge_after

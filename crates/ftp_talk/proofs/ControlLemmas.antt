@@ -1,0 +1,156 @@
+-- The begin of a talk.
+use Rattle.std.proofs.Common.{◌≡◌, ℕ, ◌≤◌, true, false, List, [], ◌∷◌, ◌++◌, Option, Some, None, refl, sym, ap, subst, arith, inr}
+use Rattle.std.specs.Prelude.{IfSome}
+use Rattle.ftp_base.specs.declared.reply.Reply.{Reply}
+use Rattle.ftp_base.specs.Edge.{EdgeView}
+use Rattle.ftp_base.specs.Outside.{Writes}
+use Rattle.ftp_events.specs.declared.decision.Decision.{Decision}
+use Rattle.ftp_events.specs.declared.decision.Decision.TheVariants.{Opened}
+use Rattle.ftp_events.specs.declared.entry.Entry.{Entry}
+use Rattle.ftp_events.specs.declared.event.Answer.{Answer}
+use Rattle.ftp_events.specs.declared.event.EventKind.{EventKind}
+use Rattle.ftp_events.specs.declared.event.EventKind.TheVariants as kind
+use Rattle.ftp_events.specs.declared.event.HubEvent.{HubEvent}
+use Rattle.ftp_events.specs.Log.{new_number}
+use Rattle.ftp_stream.specs.Writing.{WritesFront}
+use Rattle.ftp_stream.specs.Lines.{Rest}
+use Rattle.ftp_desk.specs.Desk.{DeskView, Appends, RisesBy}
+use Rattle.ftp_dialogue.specs.Saying.{greeting_line}
+use Rattle.ftp_talk.specs.declared.talker.Peer.{Peer}
+use Rattle.ftp_talk.specs.declared.talker.Talker.{Talker}
+use Rattle.ftp_talk.specs.declared.serving.ServeEnd.{ServeEnd}
+use Rattle.ftp_talk.specs.declared.serving.ServeEnd.TheVariants as end
+use Rattle.ftp_talk.specs.Ground.{Start, Ground}
+use Rattle.ftp_talk.specs.Seen.{IsSeen}
+use Rattle.ftp_talk.specs.Talk.{IsInput}
+use Rattle.ftp_talk.specs.Speaking.{Begins, Knows, Keeps, IsCut, Talking}
+use Rattle.ftp_talk.specs.Control.{peer_of, ground_of, is_opened, IsServedTo, Serves}
+use Rattle.ftp_talk.proofs.ServeLemmas.{told_self}
+
+pub opened-is : (d : Decision) → is_opened d ≡ true → d ≡ Opened
+opened-is Opened h = refl
+opened-is _ h = cc
+
+session_in : Option Peer → Option ℕ
+session_in None = None
+session_in (Some p) = Some p.session
+
+number-of : (k : EventKind) (a : Answer) (d : Decision) (peer : Peer) → peer_of k a ≡ Some peer → new_number k d ≡ Some peer.session
+unfolding session_in
+number-of (kind.Connect session raw local trace) a d peer h = ap session_in h
+number-of (kind.Proxied number raw trace) a d peer h = ap session_in h
+number-of _ a d peer h = cc
+
+-- what is known of a session that was opened
+pub knows-open : (e : Entry) (peer : Peer) (start : Start) (talker : Talker) →
+    e.decision ≡ Opened → Begins talker peer start.desk.options → Knows (ground_of e peer start) talker (e ∷ [])
+knows-open e peer start talker opened t =
+    record {
+      session = t.session;
+      raw = t.raw;
+      client = t.client;
+      host = t.host;
+      range = t.range;
+      active = t.active;
+      login = rw opened t.login;
+      name = rw opened t.name;
+      cwd = rw opened t.cwd;
+    }
+
+seen-none : (g : Ground) (storage : ℕ) → g.start.desk.faults ≤ storage → IsSeen g [] g.start.edge storage
+seen-none g storage le = record { fed = told_self g.start.edge.feed (λ f is. tt); edge = λ lt. omega arith; storage = λ lt. omega arith }
+
+kept-open : (e : Entry) (peer : Peer) (a : Answer) (start : Start) (desk1 : DeskView) (earlier : List (ℕ × Reply)) →
+    e.decision ≡ Opened → peer_of e.event.kind a ≡ Some peer →
+    IfSome start.desk.journal (λ J. Appends J start.desk desk1 earlier e) →
+    Keeps (ground_of e peer start) desk1 []
+kept-open e peer a start desk1 earlier opened named added = by_journal start.desk.journal added where
+  by_journal : (o : Option (List Entry)) →
+      IfSome o (λ J. Appends J start.desk desk1 earlier e) →
+      IfSome o (λ J. (desk1.journal ≡ Some ((e ∷ []) ++ J)) × (desk1.outbox peer.session ≡ []) × Unit {0})
+  by_journal None h = tt
+  by_journal (Some J) h = (h.journal, h.fresh peer.session (number-of e.event.kind a e.decision peer named) opened, tt)
+
+pub journal-open : (o : Option (List Entry)) (e : Entry) (desk desk1 : DeskView) (earlier : List (ℕ × Reply)) →
+    IfSome o (λ J. Appends J desk desk1 earlier e) → IfSome o (λ J. desk1.journal ≡ Some ((e ∷ []) ++ J))
+journal-open None e desk desk1 earlier added = tt
+journal-open (Some J) e desk desk1 earlier added = added.journal
+
+read-begin : (o : Option (List ℕ)) → (rest : List ℕ) × IsInput o rest × IfSome o (λ all. Rest [] o rest)
+read-begin None = ([], tt, tt)
+read-begin (Some all) = (all, refl, refl)
+
+-- the greeting was sent, and the first line is due
+pub begin-talking : (e : Entry) (peer : Peer) (a : Answer) (start : Start) (desk1 : DeskView) (earlier : List (ℕ × Reply)) (talker : Talker) (sent1 left1 : Option (List ℕ)) →
+    e.decision ≡ Opened → peer_of e.event.kind a ≡ Some peer →
+    IfSome start.desk.journal (λ J. Appends J start.desk desk1 earlier e) →
+    RisesBy 1 start.desk.share desk1.share →
+    desk1.options ≡ start.desk.options → desk1.files ≡ start.desk.files → start.desk.faults ≤ desk1.faults →
+    Knows (ground_of e peer start) talker (e ∷ []) → talker.is_over ≡ false →
+    Writes start.sent sent1 (greeting_line start.desk.options.greeting) →
+    left1 ≡ start.input →
+    Talking (ground_of e peer start) talker start.edge desk1 sent1 [] left1
+begin-talking e peer a start desk1 earlier talker sent1 left1 opened named added share options files count knows live wrote is =
+    let g = ground_of e peer start in
+    let r = read-begin start.input in
+    record {
+      rest = r.0;
+      standing = record {
+        turns = [];
+        cut = r.1;
+        ruled = tt;
+        long = λ h. cc;
+        speaking = record {
+          seen = seen-none g desk1.faults count;
+          feed = told_self start.edge.feed (λ f is. is);
+          known = knows;
+          over = live;
+          ground = record { meaning = refl; options = options; files = files; journal = journal-open start.desk.journal e start.desk desk1 earlier added };
+          kept = kept-open e peer a start desk1 earlier opened named added;
+          vouched = λ v. tt;
+          share = share;
+          written = wrote;
+        };
+        stands = refl;
+      };
+      read = subst (λ (o : Option (List ℕ)). IfSome start.input (λ all. Rest [] o r.0)) (sym is) r.2;
+    }
+
+-- a part of the greeting was sent
+pub begin-cut : (e : Entry) (peer : Peer) (a : Answer) (start : Start) (desk1 : DeskView) (earlier : List (ℕ × Reply)) (talker : Talker) (sent1 : Option (List ℕ)) →
+    e.decision ≡ Opened → peer_of e.event.kind a ≡ Some peer →
+    IfSome start.desk.journal (λ J. Appends J start.desk desk1 earlier e) →
+    RisesBy 1 start.desk.share desk1.share →
+    desk1.options ≡ start.desk.options → start.desk.faults ≤ desk1.faults →
+    talker.session ≡ peer.session → talker.is_over ≡ false →
+    WritesFront start.sent sent1 (greeting_line start.desk.options.greeting) →
+    IsCut (ground_of e peer start) talker start.edge desk1 sent1
+begin-cut e peer a start desk1 earlier talker sent1 opened named added share options count session live wrote =
+    let g = ground_of e peer start in
+    let r = read-begin start.input in
+    record {
+      turns = [];
+      rest = r.0;
+      cut = r.1;
+      ruled = tt;
+      long = λ h. cc;
+      front = record {
+        session = session;
+        over = live;
+        options = options;
+        seen = seen-none g desk1.faults count;
+        kept = kept-open e peer a start desk1 earlier opened named added;
+        vouched = λ v. tt;
+        share = share;
+        written = wrote;
+      };
+    }
+
+-- what was said of each end
+pub serves-of : (x : ServeEnd) (opening : HubEvent) (a : Answer) (start : Start) (edge : EdgeView) (desk : DeskView) (sent : Option (List ℕ)) →
+    IsServedTo x opening a start edge desk sent → Serves x opening a start edge desk sent
+serves-of end.Ended opening a start edge desk sent h = h
+serves-of (end.Refused d) opening a start edge desk sent h = absurd h.outcome
+serves-of end.ReadFault opening a start edge desk sent h = h
+serves-of end.WriteFault opening a start edge desk sent h = h
+serves-of end.OutOfMemory opening a start edge desk sent h = inr h

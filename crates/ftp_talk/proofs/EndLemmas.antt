@@ -1,0 +1,458 @@
+-- How a talk ends.
+use Rattle.std.proofs.Common.{◌≡◌, ◌≢◌, ℕ, ◌-◌, ◌^◌, ◌≤◌, ◌⊎◌, Bool, true, false, cond, List, [], ◌∷◌, ◌++◌, Option, Some, None, refl, sym, ap, subst, ◌∙◌, append_assoc, arith, inl, inr}
+use Rattle.std.specs.Prelude.{IfSome, IfNone, unwrap_or, Result, Ok, Err}
+use Rattle.std.specs.Option.{option_map_or}
+use Rattle.std.specs.Coded.{Coded-set, coded_bool}
+use Rattle.std.proofs.Math.Logic.{∥∥₁_elim}
+use Rattle.std.proofs.lemmas.List.{append-nil}
+use Rattle.ftp_base.specs.declared.fault.Failed.{Failed}
+use Rattle.ftp_base.specs.declared.fault.Failed.TheVariants.{Fault, Memory}
+use Rattle.ftp_base.specs.declared.reply.Reply.{Reply}
+use Rattle.std.proofs.lemmas.Bool.{cases_lt}
+use Rattle.ftp_base.specs.Edge.{Feed, EdgeView}
+use Rattle.ftp_base.specs.Outside.{HasRisen}
+use Rattle.ftp_options.specs.declared.options.Options.{Options}
+use Rattle.ftp_events.specs.declared.decision.Decision.{Decision}
+use Rattle.ftp_events.specs.declared.decision.Decision.TheVariants as decision
+use Rattle.ftp_events.specs.declared.entry.Entry.{Entry}
+use Rattle.ftp_events.specs.declared.event.HubEvent.{HubEvent}
+use Rattle.ftp_events.specs.declared.event.Answer.{Answer}
+use Rattle.ftp_events.specs.declared.event.EventKind.{EventKind}
+use Rattle.ftp_events.specs.declared.event.EventKind.TheVariants as kind
+use Rattle.ftp_events.specs.declared.session.Session.{Session}
+use Rattle.ftp_events.specs.Decide.{decide, due as decided}
+use Rattle.ftp_events.specs.Log.{past_of}
+use Rattle.ftp_events.specs.Session.{session}
+use Rattle.ftp_shared.specs.Outbox.{own_session}
+use Rattle.ftp_control.specs.declared.command.Command.{Command}
+use Rattle.ftp_control.specs.declared.command.Command.TheVariants as command
+use Rattle.ftp_control.specs.declared.line.LineError.{LineError}
+use Rattle.ftp_control.specs.declared.line.LineError.TheVariants as error
+use Rattle.ftp_control.specs.Line.{parsed}
+use Rattle.ftp_stream.specs.Lines.{Rest}
+use Rattle.ftp_desk.specs.Desk.{DeskView, SameDesk, IsVouched}
+use Rattle.ftp_dialogue.specs.Lines.{RanOut, IsLong}
+use Rattle.ftp_dialogue.specs.Saying.{said}
+use Rattle.ftp_dialogue.proofs.LineLemmas.{long-append}
+use Rattle.ftp_dialogue.proofs.Written.{front-longer}
+use Rattle.ftp_talk.specs.declared.talker.Talker.{Talker}
+use Rattle.ftp_talk.specs.Ground.{Step, ALine, AnAnswer, AnIdleTick, ASlotTick, ALongLine, AClose, Turn, Ground, history, lines_in}
+use Rattle.ftp_talk.specs.Turns.{Due, LineDue, AnswerDue, SlotTickDue, CloseDue, NothingDue, is_end, due, due_by, due_after, due_behind}
+use Rattle.ftp_talk.specs.Seen.{AreFed, all_missing, all_failed, missing_in, failed_in}
+use Rattle.ftp_talk.specs.Talk.{Talk, TalkFront, IsInput, due_text, is_long, is_long_last, is_over, MayClose}
+use Rattle.ftp_talk.specs.Speaking.{Entered, Spoken, Halted, Standing, IsCut, Talking, Outcome, end_by, turn_of}
+use Rattle.ftp_talk.proofs.TalkLemmas.{counted-on, counted-less, kept-more, kept-same, grew-of, rises-same, vouched-more, shares-more}
+
+-- ---- what is due
+
+nothing-by : (b : Bool) (x : Due) → (x ≡ NothingDue → ⊥) → cond b NothingDue x ≡ NothingDue → b ≡ true
+nothing-by true x h e = refl
+nothing-by false x h e = absurd (h e)
+
+something-behind : (r : Result Command LineError) (d : Decision) → due_behind r d ≡ NothingDue → ⊥
+something-behind (Ok (command.Pass p)) decision.PassOut e = cc
+something-behind (Ok (command.Pass p)) _ e = cc
+something-behind (Ok (command.User p)) d e = cc
+something-behind (Ok (command.Cwd p)) d e = cc
+something-behind (Ok (command.Port p)) d e = cc
+something-behind (Ok (command.Data p)) d e = cc
+something-behind (Ok (command.Rest p)) d e = cc
+something-behind (Ok command.Pasv) d e = cc
+something-behind (Ok command.Stou) d e = cc
+something-behind (Ok command.Abor) d e = cc
+something-behind (Ok command.Quit) d e = cc
+something-behind (Ok command.Noop) d e = cc
+something-behind (Ok command.TypeCmd) d e = cc
+something-behind (Ok (command.Other p)) d e = cc
+something-behind (Err error.Utf8) d e = cc
+something-behind (Err error.InvalidEol) d e = cc
+something-behind (Err error.InvalidCommand) d e = cc
+something-behind (Err error.OutOfMemory) d e = cc
+
+something-after : (s : Step) (d : Decision) → due_after s d ≡ NothingDue → ⊥
+something-after (ALine line) d e = something-behind (parsed line) d e
+something-after AnAnswer d e = cc
+something-after AnIdleTick d e = cc
+something-after ASlotTick d e = cc
+something-after ALongLine d e = cc
+something-after AClose d e = cc
+
+-- nothing is due only where the session has ended
+over-due : (ts : List Turn) → due ts ≡ NothingDue → is_over ts ≡ true
+over-due [] e = cc
+over-due (t ∷ ts) e = nothing-by (is_end t.entry.decision) (due_after t.step t.entry.decision) (something-after t.step t.entry.decision) e
+
+lives-by : (b : Bool) (x d : Due) → cond b NothingDue x ≡ d → (d ≡ NothingDue → ⊥) → b ≡ false
+lives-by true x d e h = absurd (h (sym e))
+lives-by false x d e h = refl
+
+-- where something is due, the session has not ended
+lives : (ts : List Turn) (d : Due) → due ts ≡ d → (d ≡ NothingDue → ⊥) → is_over ts ≡ false
+lives [] d e h = refl
+lives (t ∷ ts) d e h = lives-by (is_end t.entry.decision) (due_after t.step t.entry.decision) d e h
+
+closable-lives : (d : Due) (rest : List ℕ) → MayClose d rest → d ≡ NothingDue → ⊥
+closable-lives LineDue rest h e = cc
+closable-lives (AnswerDue p) rest h e = absurd h
+closable-lives SlotTickDue rest h e = absurd h
+closable-lives CloseDue rest h e = cc
+closable-lives NothingDue rest h e = absurd h
+
+long-by : (b : Bool) → cond b NothingDue CloseDue ≡ LineDue → ⊥
+long-by true e = cc
+long-by false e = cc
+
+short-step : (s : Step) (d : Decision) → due_by s d ≡ LineDue → is_long s ≡ true → ⊥
+short-step ALongLine d e h = long-by (is_end d) e
+short-step (ALine line) d e h = cc
+short-step AnAnswer d e h = cc
+short-step AnIdleTick d e h = cc
+short-step ASlotTick d e h = cc
+short-step AClose d e h = cc
+
+-- where a line is due, the last turn says of none that it is too long
+short-due : (ts : List Turn) → due ts ≡ LineDue → is_long_last ts ≡ true → ⊥
+short-due [] e h = cc
+short-due (t ∷ ts) e h = short-step t.step t.entry.decision e h
+
+idle-by : (b c : Bool) (x : Due) → b ≡ c → cond b NothingDue x ≡ cond c NothingDue x
+idle-by b c x e = ap (λ (b : Bool). cond b NothingDue x) e
+
+-- behind a look at the idle time nothing is due where that ended the session, and else a look at the slot
+pub idle-over : (d : Decision) → is_end d ≡ true → due_by AnIdleTick d ≡ NothingDue
+idle-over d e = idle-by (is_end d) true SlotTickDue e
+
+pub idle-due : (d : Decision) → is_end d ≡ false → due_by AnIdleTick d ≡ SlotTickDue
+idle-due d e = idle-by (is_end d) false SlotTickDue e
+
+-- ---- the end of a session
+
+closed-row : (v : Option Session) → is_end (option_map_or (λ (x : Session). decision.Closed) v decision.UnknownNumber) ≡ true
+closed-row None = refl
+closed-row (Some v) = refl
+
+-- a close is decided as the end of the session, or as one that came before
+closed-decided : (o : Options) (log : List Entry) (ev : HubEvent) (a : Answer) (s : ℕ) → ev.kind ≡ kind.Closed s → is_end (decide o log ev a) ≡ true
+unfolding decide
+closed-decided o log ev a s is = ap (λ (k : EventKind). is_end (decided o (past_of log) ev.at k a)) is ∙ closed-row (session o (past_of log) s)
+
+-- a close that the desk vouches for ends the session
+pub closed-ends : (o : Options) (earlier : List (ℕ × Reply)) (e : Entry) (s : ℕ) → IsVouched o earlier e → e.event.kind ≡ kind.Closed s → is_end e.decision ≡ true
+closed-ends o earlier e s vouched is =
+    ∥∥₁_elim vouched (Coded-set coded_bool (is_end e.decision) true) (λ v. ap (λ (x : Entry). is_end x.decision) v.due ∙ closed-decided o v.past e.event e.answer s is)
+
+-- ---- a talk
+
+-- the last entry ended the session
+pub talk-over : (g : Ground) (talker : Talker) (edge : EdgeView) (desk : DeskView) (sent : Option (List ℕ)) (rest : List ℕ) →
+    Standing NothingDue g talker edge desk sent rest → Talk g edge desk sent
+talk-over g talker edge desk sent rest s =
+    let over = over-due s.turns s.stands in
+    record {
+      turns = s.turns;
+      close = None;
+      rest = rest;
+      cut = s.cut;
+      ruled = s.ruled;
+      long = s.long;
+      ended = over;
+      seen = s.speaking.seen;
+      grew = grew-of g desk s.turns s.speaking.kept;
+      vouched = s.speaking.vouched;
+      last = λ v. over;
+      share = s.speaking.share;
+      written = s.speaking.written;
+    }
+
+-- the connection was closed behind the lines
+pub talk-closed : (g : Ground) (talker0 talker : Talker) (edge0 edge : EdgeView) (desk0 desk : DeskView) (sent0 sent : Option (List ℕ))
+    (d : Due) (rest : List ℕ) (d0 : Decision) (s : Standing d g talker0 edge0 desk0 sent0 rest) →
+    Spoken g talker edge desk sent s.turns AClose (kind.Closed g.session) d0 →
+    MayClose d rest →
+    Talk g edge desk sent
+talk-closed g talker0 talker edge0 edge desk0 desk sent0 sent d rest d0 s spoken may =
+    let close = turn_of AClose spoken.earlier spoken.entry in
+    record {
+      turns = s.turns;
+      close = Some close;
+      rest = rest;
+      cut = s.cut;
+      ruled = s.ruled;
+      long = s.long;
+      ended = (
+        record { step = refl; kind = spoken.kind; answer = spoken.answer },
+        lives s.turns d s.stands (closable-lives d rest may),
+        subst (λ (x : Due). MayClose x rest) (sym s.stands) may,
+      );
+      seen = spoken.speaking.seen;
+      grew = grew-of g desk (close ∷ s.turns) spoken.speaking.kept;
+      vouched = spoken.speaking.vouched;
+      last = λ v. closed-ends g.start.desk.options spoken.earlier spoken.entry g.session (spoken.speaking.vouched v).0 spoken.kind;
+      share = spoken.speaking.share;
+      written = spoken.speaking.written;
+    }
+
+fed-less : (g : Ground) (feed : Option Feed) (t : Turn) (ts : List Turn) → IfSome feed (λ f. AreFed g f (t ∷ ts)) → IfSome feed (λ f. AreFed g f ts)
+fed-less g None t ts h = tt
+fed-less g (Some f) t ts h = h.0
+
+-- the connection was to be closed, and that was cut short
+pub front-halted : (g : Ground) (talker0 talker : Talker) (edge0 edge : EdgeView) (desk0 desk : DeskView) (sent0 sent : Option (List ℕ))
+    (d : Due) (rest : List ℕ) (s : Standing d g talker0 edge0 desk0 sent0 rest) →
+    Halted g talker edge desk sent s.turns AClose (kind.Closed g.session) →
+    MayClose d rest →
+    TalkFront g edge desk sent
+front-halted g talker0 talker edge0 edge desk0 desk sent0 sent d rest s (inl f) may =
+    record {
+      turns = s.turns;
+      close = None;
+      rest = rest;
+      cut = s.cut;
+      ruled = s.ruled;
+      long = s.long;
+      closing = tt;
+      seen = f.seen;
+      grew = grew-of g desk s.turns f.kept;
+      vouched = f.vouched;
+      share = f.share;
+      written = f.written;
+    }
+front-halted g talker0 talker edge0 edge desk0 desk sent0 sent d rest s (inr heard) may =
+    let t = turn_of AClose heard.earlier heard.entry in
+    let f = heard.front in
+    record {
+      turns = s.turns;
+      close = Some t;
+      rest = rest;
+      cut = s.cut;
+      ruled = s.ruled;
+      long = s.long;
+      closing = (record { step = refl; kind = heard.kind; answer = heard.answer }, lives s.turns d s.stands (closable-lives d rest may));
+      seen = record {
+        fed = fed-less g g.start.edge.feed t s.turns f.seen.fed;
+        edge = counted-less (all_missing g s.turns) (missing_in g (history g s.turns) heard.entry.event.kind) g.start.edge.faults edge.faults edge.faults f.seen.edge (omega arith);
+        storage = counted-less (all_failed s.turns) (failed_in heard.entry.event.kind) g.start.desk.faults desk.faults desk.faults f.seen.storage (omega arith);
+      };
+      grew = grew-of g desk (t ∷ s.turns) f.kept;
+      vouched = f.vouched;
+      share = f.share;
+      written = f.written;
+    }
+
+-- the session had ended where the talk was cut short
+pub left-over : (g : Ground) (talker : Talker) (edge : EdgeView) (desk : DeskView) (sent : Option (List ℕ)) → IsCut g talker edge desk sent → TalkFront g edge desk sent
+left-over g talker edge desk sent c =
+    record {
+      turns = c.turns;
+      close = None;
+      rest = c.rest;
+      cut = c.cut;
+      ruled = c.ruled;
+      long = c.long;
+      closing = tt;
+      seen = c.front.seen;
+      grew = grew-of g desk c.turns c.front.kept;
+      vouched = c.front.vouched;
+      share = c.front.share;
+      written = c.front.written;
+    }
+
+-- after the cut nothing was submitted
+pub left-alone : (g : Ground) (talker : Talker) (edge edge1 : EdgeView) (desk desk1 : DeskView) (sent : Option (List ℕ)) →
+    IsCut g talker edge desk sent → edge.faults ≤ edge1.faults → SameDesk desk desk1 → TalkFront g edge1 desk1 sent
+left-alone g talker edge edge1 desk desk1 sent c count same =
+    let f = c.front in
+    record {
+      turns = c.turns;
+      close = None;
+      rest = c.rest;
+      cut = c.cut;
+      ruled = c.ruled;
+      long = c.long;
+      closing = tt;
+      seen = record {
+        fed = f.seen.fed;
+        edge = counted-on (all_missing g c.turns) g.start.edge.faults edge.faults edge1.faults f.seen.edge count;
+        storage = counted-on (all_failed c.turns) g.start.desk.faults desk.faults desk1.faults f.seen.storage same.count;
+      };
+      grew = grew-of g desk1 c.turns (kept-same g desk desk1 c.turns f.kept same);
+      vouched = f.vouched;
+      share = rises-same _ g.start.desk.share desk.share desk1.share f.share same.share;
+      written = f.written;
+    }
+
+-- after the cut the connection was closed
+pub left-closed : (g : Ground) (vouches : Bool) (talker : Talker) (edge edge1 : EdgeView) (desk desk1 : DeskView) (sent : Option (List ℕ))
+    (earlier : List (ℕ × Reply)) (e : Entry) (s : ℕ) →
+    IsCut g talker edge desk sent → talker.is_over ≡ false → s ≡ talker.session → g.start.vouches ≡ vouches →
+    Entered vouches edge edge1 desk desk1 earlier e (kind.Closed s) →
+    TalkFront g edge1 desk1 sent
+left-closed g vouches talker edge edge1 desk desk1 sent earlier e s c live named same n =
+    let f = c.front in
+    let t = turn_of AClose earlier e in
+    let closed : e.event.kind ≡ kind.Closed g.session = n.kind ∙ ap (λ (n : ℕ). kind.Closed n) (named ∙ f.session) in
+    record {
+      turns = c.turns;
+      close = Some t;
+      rest = c.rest;
+      cut = c.cut;
+      ruled = c.ruled;
+      long = c.long;
+      closing = (record { step = refl; kind = closed; answer = n.answer }, sym f.over ∙ live);
+      seen = record {
+        fed = f.seen.fed;
+        edge = counted-on (all_missing g c.turns) g.start.edge.faults edge.faults edge1.faults f.seen.edge n.taken.count;
+        storage = counted-on (all_failed c.turns) g.start.desk.faults desk.faults desk1.faults f.seen.storage n.count;
+      };
+      grew = grew-of g desk1 (t ∷ c.turns) (kept-more g desk desk1 c.turns AClose earlier e f.kept n.appended (ap own_session closed));
+      vouched = vouched-more g vouches desk c.turns AClose earlier e f.vouched same f.options n.vouched;
+      share = shares-more g desk desk1 c.turns AClose earlier e f.share n.share;
+      written = front-longer g.start.sent sent (due_text g c.turns) (said g.session earlier e.actions) f.written;
+    }
+
+-- a fault of a write, or want of memory
+pub ends-front : (f : Failed) (g : Ground) (edge : EdgeView) (desk : DeskView) (sent : Option (List ℕ)) → TalkFront g edge desk sent → Outcome (end_by f) g edge desk sent
+ends-front Fault g edge desk sent h = h
+ends-front Memory g edge desk sent h = h
+
+-- ---- the input
+
+-- what was read moves on: a line from what is held, or nothing
+read-on : (o : Option (List ℕ)) (a line held held1 rest : List ℕ) (left left1 : Option (List ℕ)) →
+    IsInput o (a ++ rest) →
+    IfSome o (λ all. Rest held left rest) →
+    IfSome left (λ l. Rest (line ++ held1) left1 (held ++ l)) →
+    (rest1 : List ℕ) × IsInput o (a ++ (line ++ rest1)) × IfSome o (λ all. Rest held1 left1 rest1)
+read-on None a line held held1 rest left left1 input read told = (held1, tt, tt)
+read-on (Some all) a line held held1 rest None left1 input read told = absurd read
+read-on (Some all) a line held held1 rest (Some l) None input read told = absurd told
+read-on (Some all) a line held held1 rest (Some l) (Some l1) input read told = (
+  held1 ++ l1,
+  ap (λ (x : List ℕ). a ++ x) (sym (append_assoc line held1 l1) ∙ told ∙ read) ∙ input,
+  refl,
+)
+
+-- a line was found, or nothing: it stands before the rest
+pub standing-line : (g : Ground) (talker : Talker) (edge : EdgeView) (desk : DeskView) (sent : Option (List ℕ)) (line held held1 : List ℕ) (left left1 : Option (List ℕ)) →
+    Talking g talker edge desk sent held left →
+    IfSome left (λ l. Rest (line ++ held1) left1 (held ++ l)) →
+    (rest1 : List ℕ) × Standing LineDue g talker edge desk sent (line ++ rest1) × IfSome g.start.input (λ all. Rest held1 left1 rest1)
+standing-line g talker edge desk sent line held held1 left left1 t told =
+    let s = t.standing in
+    let r = read-on g.start.input (lines_in s.turns) line held held1 t.rest left left1 s.cut t.read told in (
+      r.0,
+      record {
+        turns = s.turns;
+        cut = r.1;
+        ruled = s.ruled;
+        long = λ h. absurd (short-due s.turns s.stands h);
+        speaking = s.speaking;
+        stands = s.stands;
+      },
+      r.2,
+    )
+
+-- what is held shows how the input goes on
+read-shown : (o : Option (List ℕ)) (a held held1 rest : List ℕ) (left left1 : Option (List ℕ)) (P : List ℕ → Type 0) →
+    IsInput o (a ++ rest) →
+    IfSome o (λ all. Rest held left rest) →
+    IfSome left (λ l. Rest held1 left1 (held ++ l)) →
+    P held1 →
+    ((l more : List ℕ) → left ≡ Some l → left1 ≡ Some more → P (held1 ++ more)) →
+    (rest1 : List ℕ) × IsInput o (a ++ rest1) × P rest1 × IfSome o (λ all. Rest held1 left1 rest1)
+read-shown None a held held1 rest left left1 P input read told alone more = (held1, tt, alone, tt)
+read-shown (Some all) a held held1 rest None left1 P input read told alone more = absurd read
+read-shown (Some all) a held held1 rest (Some l) None P input read told alone more = absurd told
+read-shown (Some all) a held held1 rest (Some l) (Some l1) P input read told alone more = (
+  held1 ++ l1,
+  ap (λ (x : List ℕ). a ++ x) (told ∙ read) ∙ input,
+  more l l1 refl refl,
+  refl,
+)
+
+-- what is held shows of the rest that it is too long, or that no line is left
+standing-shown : (g : Ground) (talker : Talker) (edge : EdgeView) (desk : DeskView) (sent : Option (List ℕ)) (held held1 : List ℕ) (left left1 : Option (List ℕ)) (P : List ℕ → Type 0) →
+    Talking g talker edge desk sent held left →
+    IfSome left (λ l. Rest held1 left1 (held ++ l)) →
+    P held1 →
+    ((l more : List ℕ) → left ≡ Some l → left1 ≡ Some more → P (held1 ++ more)) →
+    (rest1 : List ℕ) × Standing LineDue g talker edge desk sent rest1 × P rest1 × IfSome g.start.input (λ all. Rest held1 left1 rest1)
+standing-shown g talker edge desk sent held held1 left left1 P t told alone more =
+    let s = t.standing in
+    let r = read-shown g.start.input (lines_in s.turns) held held1 t.rest left left1 P s.cut t.read told alone more in (
+      r.0,
+      record {
+        turns = s.turns;
+        cut = r.1;
+        ruled = s.ruled;
+        long = λ h. absurd (short-due s.turns s.stands h);
+        speaking = s.speaking;
+        stands = s.stands;
+      },
+      r.2,
+      r.3,
+    )
+
+-- a line that is too long stands next
+pub standing-long : (g : Ground) (talker : Talker) (edge : EdgeView) (desk : DeskView) (sent : Option (List ℕ)) (held held1 : List ℕ) (left left1 : Option (List ℕ)) →
+    Talking g talker edge desk sent held left →
+    IfSome left (λ l. Rest held1 left1 (held ++ l)) →
+    IsLong held1 →
+    (rest1 : List ℕ) × Standing LineDue g talker edge desk sent rest1 × IsLong rest1 × IfSome g.start.input (λ all. Rest held1 left1 rest1)
+standing-long g talker edge desk sent held held1 left left1 t told long =
+    standing-shown g talker edge desk sent held held1 left left1 IsLong t told long (λ l more isl is. long-append held1 more long)
+
+ended-none : (left left1 : Option (List ℕ)) (held l more : List ℕ) → IfSome left (λ l. left1 ≡ Some []) → RanOut held → left ≡ Some l → left1 ≡ Some more → RanOut (held ++ more)
+ended-none left left1 held l more end out isl is =
+    let e = subst (λ (o : Option (List ℕ)). IfSome o (λ l. left1 ≡ Some [])) isl end in
+    let none : more ≡ [] = ap (λ (o : Option (List ℕ)). unwrap_or o []) (sym is ∙ e) in
+    subst RanOut (sym (append-nil held) ∙ ap (λ (x : List ℕ). held ++ x) (sym none)) out
+
+-- no line is left
+pub standing-out : (g : Ground) (talker : Talker) (edge : EdgeView) (desk : DeskView) (sent : Option (List ℕ)) (held held1 : List ℕ) (left left1 : Option (List ℕ)) →
+    Talking g talker edge desk sent held left →
+    IfSome left (λ l. Rest held1 left1 (held ++ l)) →
+    IfSome left (λ l. left1 ≡ Some []) →
+    RanOut held1 →
+    (rest1 : List ℕ) × Standing LineDue g talker edge desk sent rest1 × RanOut rest1 × IfSome g.start.input (λ all. Rest held1 left1 rest1)
+standing-out g talker edge desk sent held held1 left left1 t told end out =
+    standing-shown g talker edge desk sent held held1 left left1 RanOut t told out (λ l more isl is. ended-none left left1 held1 l more end out isl is)
+
+-- the control says the same of what was sent
+pub talking-sent : (g : Ground) (talker : Talker) (edge : EdgeView) (desk : DeskView) (sent sent1 : Option (List ℕ)) (held : List ℕ) (left : Option (List ℕ)) →
+    sent1 ≡ sent → Talking g talker edge desk sent held left → Talking g talker edge desk sent1 held left
+talking-sent g talker edge desk sent sent1 held left same t = subst (λ (o : Option (List ℕ)). Talking g talker edge desk o held left) (sym same) t
+
+-- a line is due again
+pub talking-on : (g : Ground) (talker : Talker) (edge : EdgeView) (desk : DeskView) (sent : Option (List ℕ)) (held rest : List ℕ) (left left1 : Option (List ℕ)) →
+    Standing LineDue g talker edge desk sent rest → IfSome g.start.input (λ all. Rest held left rest) → left1 ≡ left → Talking g talker edge desk sent held left1
+talking-on g talker edge desk sent held rest left left1 s read same =
+    record { rest = rest; standing = s; read = subst (λ (o : Option (List ℕ)). IfSome g.start.input (λ all. Rest held o rest)) (sym same) read }
+
+-- ---- what follows from what is said of a result
+
+pub if_none-then : {T P Q : Type 0} (o : Option T) → (P → Q) → IfNone o P → IfNone o Q
+if_none-then None f p = f p
+if_none-then (Some x) f p = tt
+
+pub if_some-then : {T : Type 0} {P Q : T → Type 0} (o : Option T) → ((x : T) → P x → Q x) → IfSome o P → IfSome o Q
+if_some-then None f p = tt
+if_some-then (Some x) f p = f x p
+
+-- a control that waited cannot be read at any time
+pub waits_so : {T : Type 0} (b : Bool) (r x : T) → r ≡ x → (b ≡ true → r ≢ x) → b ≡ false
+waits_so true r x is h = absurd (h refl is)
+waits_so false r x is h = refl
+
+-- a count rose in the first of two calls, or in the second
+pub risen-either : {P : Type 0} (a b c d : ℕ) → (P → HasRisen b c) → P ⊎ HasRisen c d → a ≤ b → b ≤ c → c ≤ d → HasRisen a d
+risen-either a b c d f (inl p) ab bc cd = λ lt.
+    elim (cases_lt b (2 ^ 64 - 1)) [
+      | inl less ↦ omega (arith, f p less)
+      | inr ge ↦ omega arith
+    ]
+risen-either a b c d f (inr h) ab bc cd = λ lt.
+    elim (cases_lt c (2 ^ 64 - 1)) [
+      | inl less ↦ omega (arith, h less)
+      | inr ge ↦ omega arith
+    ]

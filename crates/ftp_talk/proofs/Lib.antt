@@ -1,0 +1,5 @@
+mod AskLemmas
+mod TalkLemmas
+mod ServeLemmas
+mod EndLemmas
+mod ControlLemmas

@@ -1,0 +1,242 @@
+-- What is kept while a talk goes on.
+use Rattle.std.specs.Prelude.{◌≡◌, ℕ, ◌+◌, ◌%◌, ◌^◌, ◌≤◌, ◌⊎◌, Bool, true, false, List, [], ◌∷◌, ◌++◌, Option, Some, None, IfSome, MatchOption, is_some}
+use Rattle.std.specs.Bool.{then_some}
+use Rattle.std.specs.List.{AllByRecursion}
+use Rattle.ftp_base.specs.declared.fault.Failed.{Failed}
+use Rattle.ftp_base.specs.declared.fault.Failed.TheVariants.{Fault, Memory}
+use Rattle.ftp_base.specs.declared.login.AuthAnswer.{AuthAnswer}
+use Rattle.ftp_base.specs.declared.net.IpAddr.{IpAddr}
+use Rattle.ftp_base.specs.declared.net.SocketAddr.{SocketAddr}
+use Rattle.ftp_base.specs.declared.reply.Reply.{Reply}
+use Rattle.ftp_base.specs.Edge.{EdgeView, IsCounted, next_number, next_answer, next_connect, Takes, behind_moment, behind_word, behind_lookup, behind_port, behind_connect}
+use Rattle.ftp_base.specs.Outside.{Writes}
+use Rattle.ftp_events.specs.declared.decision.Decision.{Decision}
+use Rattle.ftp_events.specs.declared.entry.Entry.{Entry}
+use Rattle.ftp_events.specs.declared.event.Answer.TheVariants as answer
+use Rattle.ftp_events.specs.declared.event.EventKind.{EventKind}
+use Rattle.ftp_events.specs.Login.{login_state, user_name}
+use Rattle.ftp_events.specs.Place.{cwd}
+use Rattle.ftp_base.specs.Storage.{root}
+use Rattle.ftp_options.specs.declared.options.Options.{Options}
+use Rattle.ftp_options.specs.Modes.{is_active_off}
+use Rattle.ftp_events.specs.declared.session.Login.TheVariants as login
+use Rattle.ftp_shared.specs.Outbox.{own_session}
+use Rattle.ftp_control.specs.declared.command.Command.{Command}
+use Rattle.ftp_stream.specs.Lines.{Rest}
+use Rattle.ftp_stream.specs.Writing.{WritesFront}
+use Rattle.ftp_desk.specs.Desk.{DeskView, IsVouched, Appends, RisesBy}
+use Rattle.ftp_dialogue.specs.Lines.{IsLong}
+use Rattle.ftp_talk.specs.declared.talker.Peer.{Peer}
+use Rattle.ftp_talk.specs.declared.talker.Talker.{Talker}
+use Rattle.ftp_talk.specs.declared.serving.Next.{Next}
+use Rattle.ftp_talk.specs.declared.serving.Next.TheVariants as next
+use Rattle.ftp_talk.specs.declared.serving.ServeEnd.{ServeEnd}
+use Rattle.ftp_talk.specs.declared.serving.ServeEnd.TheVariants as end
+use Rattle.ftp_talk.specs.Ground.{Step, Turn, Ground, history, lines_in}
+use Rattle.ftp_talk.specs.Commands.{asked_of, connected_to, looked_up, bound_in, MayBe, Gives}
+use Rattle.ftp_talk.specs.Turns.{Due, LineDue, CloseDue, NothingDue, due, Turns}
+use Rattle.ftp_talk.specs.Seen.{IsSeen, IsDrawn, IsAsked, missing, behind_asked, AreFed, behind_kind, missing_in, failed_in, feed_after, all_missing, all_failed}
+use Rattle.ftp_talk.specs.Talk.{Talk, TalkFront, IsInput, AreVouched, Shares, due_text, is_over, is_long_last}
+
+-- what a talker knows is what these entries tell
+pub record Knows (g : Ground) (talker : Talker) (h : List Entry) : Type 0 where
+  pub session : talker.session ≡ g.session
+  pub raw : talker.raw ≡ g.raw
+  pub client : talker.client ≡ g.client
+  pub host : talker.host ≡ looked_up g.start.desk.options
+  pub range : talker.range ≡ bound_in g.start.desk.options
+  pub active : talker.is_active_off ≡ is_active_off g.start.desk.options.active_passive
+  pub login : talker.login ≡ login_state h
+  pub name : talker.name ≡ user_name h
+  pub cwd : talker.cwd ≡ cwd h
+
+-- what a talker knows as it begins
+pub record Begins (talker : Talker) (peer : Peer) (o : Options) : Type 0 where
+  pub session : talker.session ≡ peer.session
+  pub raw : talker.raw ≡ peer.raw
+  pub client : talker.client ≡ peer.client
+  pub host : talker.host ≡ looked_up o
+  pub range : talker.range ≡ bound_in o
+  pub active : talker.is_active_off ≡ is_active_off o.active_passive
+  pub login : talker.login ≡ login.New
+  pub name : talker.name ≡ None
+  pub cwd : talker.cwd ≡ root
+  pub live : talker.is_over ≡ false
+
+-- edge and desk are those that the talk rests on, after these entries
+pub record IsGround (g : Ground) (h : List Entry) (edge : EdgeView) (desk : DeskView) : Type 0 where
+  pub meaning : edge.meaning ≡ g.start.edge.meaning
+  pub options : desk.options ≡ g.start.desk.options
+  pub files : desk.files ≡ g.start.desk.files
+  pub journal : IfSome g.start.desk.journal (λ J. desk.journal ≡ Some (h ++ J))
+
+-- the edge means the same, and its count did not fall
+pub record SameEdge (old new : EdgeView) : Type 0 where
+  pub meaning : new.meaning ≡ old.meaning
+  pub count : old.faults ≤ new.faults
+
+-- edge and storage were asked for what a command needs
+pub record Asked (g : Ground) (h : List Entry) (c : Command) (k : EventKind) (old new : EdgeView) (storage_old storage_new : ℕ) : Type 0 where
+  pub gives : Gives g h c k
+  pub feed : IfSome old.feed (λ f. IsDrawn g h k f × (new.feed ≡ Some (behind_kind g h k f)))
+  pub edge : IsCounted (missing_in g h k) old.faults new.faults
+  pub storage : IsCounted (failed_in k) storage_old storage_new
+
+-- a word was drawn, and what a PASV needs besides was asked for
+pub record IsPort (asked : Option (List ℕ)) (within : Option (ℕ × ℕ)) (old new : EdgeView) (word : ℕ) (lookup bound : Option ℕ) : Type 0 where
+  pub name : MayBe old.meaning.names asked lookup
+  pub port : MayBe (λ (r : ℕ × ℕ). old.meaning.ports r.0 r.1) within bound
+  pub feed :
+      IfSome old.feed (λ f. (word ≡ next_number f.words % 2 ^ 16) × IsAsked asked lookup (next_answer f.lookups) × IsAsked within bound (next_answer f.ports)
+      × (new.feed ≡ Some (behind_asked within behind_port (behind_asked asked behind_lookup (behind_word f)))))
+  pub missing : IsCounted (missing asked lookup + missing within bound) old.faults new.faults
+
+-- the address to which a talker connects
+abbrev pub target_for : Talker → List ℕ → Option SocketAddr
+target_for talker text = asked_of talker.login (connected_to talker.is_active_off talker.raw text)
+
+-- a number was drawn, and a connection was asked for
+pub record IsMadeTo (to : SocketAddr) (May : ℕ → Type 0) (old new : EdgeView) (given : Option ℕ) : Type 0 where
+  pub drawn : ℕ
+  pub made : Bool
+  pub next : May drawn
+  pub may : old.meaning.connects to drawn made ≡ true
+  pub number : given ≡ then_some made drawn
+
+-- a connection was asked for where there is a target
+pub record IsMade (target : Option SocketAddr) (May : ℕ → Type 0) (old new : EdgeView) (number : Option ℕ) : Type 0 where
+  pub made : MatchOption target (number ≡ None) (λ to. IsMadeTo to May old new number)
+  pub feed : IfSome old.feed (λ f. IsAsked target (is_some number) (next_connect f.connects) × (new.feed ≡ Some (behind_asked target behind_connect f)))
+  pub missing : IsCounted (missing target number) old.faults new.faults
+
+-- where the journal is told, it grew by the talk's entries, nothing is left over for the session, and nothing was before
+abbrev pub Keeps : Ground → DeskView → List Turn → Type 0
+Keeps g desk ts =
+    IfSome g.start.desk.journal (λ J. (desk.journal ≡ Some (history g ts ++ J)) × (desk.outbox g.session ≡ []) × AllByRecursion (λ (t : Turn). t.earlier ≡ []) ts)
+
+-- the turns so far gave their entries, and all that is due was sent
+pub record Speaking (g : Ground) (talker : Talker) (edge : EdgeView) (desk : DeskView) (sent : Option (List ℕ)) (ts : List Turn) : Type 0 where
+  pub seen : IsSeen g ts edge desk.faults
+  pub feed : IfSome g.start.edge.feed (λ f. edge.feed ≡ Some (feed_after g f ts))
+  pub known : Knows g talker (history g ts)
+  pub over : talker.is_over ≡ is_over ts
+  pub ground : IsGround g (history g ts) edge desk
+  pub kept : Keeps g desk ts
+  pub vouched : AreVouched g ts
+  pub share : Shares g desk ts
+  pub written : Writes g.start.sent sent (due_text g ts)
+
+-- edge and storage were asked, besides, for the next event
+pub record Asking (g : Ground) (talker : Talker) (edge : EdgeView) (desk : DeskView) (sent : Option (List ℕ)) (ts : List Turn) (k : EventKind) : Type 0 where
+  pub named : own_session k ≡ Some g.session
+  pub fed : IfSome g.start.edge.feed (λ f. AreFed g f ts)
+  pub feed : IfSome g.start.edge.feed (λ f. IsDrawn g (history g ts) k (feed_after g f ts) × (edge.feed ≡ Some (behind_kind g (history g ts) k (feed_after g f ts))))
+  pub missing : IsCounted (all_missing g ts + missing_in g (history g ts) k) g.start.edge.faults edge.faults
+  pub failed : IsCounted (all_failed ts + failed_in k) g.start.desk.faults desk.faults
+  pub known : Knows g talker (history g ts)
+  pub over : talker.is_over ≡ is_over ts
+  pub ground : IsGround g (history g ts) edge desk
+  pub kept : Keeps g desk ts
+  pub vouched : AreVouched g ts
+  pub share : Shares g desk ts
+  pub written : Writes g.start.sent sent (due_text g ts)
+
+-- the turns so far gave their entries, and of what is due a front was sent
+pub record Front (g : Ground) (talker : Talker) (edge : EdgeView) (desk : DeskView) (sent : Option (List ℕ)) (ts : List Turn) : Type 0 where
+  pub session : talker.session ≡ g.session
+  pub over : talker.is_over ≡ is_over ts
+  pub options : desk.options ≡ g.start.desk.options
+  pub seen : IsSeen g ts edge desk.faults
+  pub kept : Keeps g desk ts
+  pub vouched : AreVouched g ts
+  pub share : Shares g desk ts
+  pub written : WritesFront g.start.sent sent (due_text g ts)
+
+-- an event of this moment was submitted, and this entry was told
+pub record Entered (vouches : Bool) (edge edge1 : EdgeView) (desk desk1 : DeskView) (earlier : List (ℕ × Reply)) (e : Entry) (k : EventKind) : Type 0 where
+  pub kind : e.event.kind ≡ k
+  pub answer : e.answer ≡ answer.None
+  pub moment : IfSome edge.feed (λ f. e.event.at ≡ next_number f.moments)
+  pub taken : Takes behind_moment edge edge1
+  pub vouched : vouches ≡ true → IsVouched desk.options earlier e
+  pub appended : IfSome desk.journal (λ J. Appends J desk desk1 earlier e)
+  pub share : RisesBy 1 desk.share desk1.share
+  pub options : desk1.options ≡ desk.options
+  pub files : desk1.files ≡ desk.files
+  pub count : desk.faults ≤ desk1.faults
+
+-- the turn of a step and its entry
+abbrev pub turn_of : Step → List (ℕ × Reply) → Entry → Turn
+turn_of step earlier e = record { step = step; earlier = earlier; entry = e }
+
+-- the event was submitted, decided so, and answered
+pub record Spoken (g : Ground) (talker : Talker) (edge : EdgeView) (desk : DeskView) (sent : Option (List ℕ)) (ts : List Turn) (step : Step) (k : EventKind) (d : Decision) : Type 0 where
+  pub earlier : List (ℕ × Reply)
+  pub entry : Entry
+  pub kind : entry.event.kind ≡ k
+  pub answer : entry.answer ≡ answer.None
+  pub decision : entry.decision ≡ d
+  pub speaking : Speaking g talker edge desk sent (turn_of step earlier entry ∷ ts)
+
+-- the event was submitted, and of what is due a front was said
+pub record Heard (g : Ground) (talker : Talker) (edge : EdgeView) (desk : DeskView) (sent : Option (List ℕ)) (ts : List Turn) (step : Step) (k : EventKind) : Type 0 where
+  pub earlier : List (ℕ × Reply)
+  pub entry : Entry
+  pub kind : entry.event.kind ≡ k
+  pub answer : entry.answer ≡ answer.None
+  pub front : Front g talker edge desk sent (turn_of step earlier entry ∷ ts)
+
+-- the event was not submitted, or it was and not all was said
+abbrev pub Halted : Ground → Talker → EdgeView → DeskView → Option (List ℕ) → List Turn → Step → EventKind → Type 0
+Halted g talker edge desk sent ts step k = Front g talker edge desk sent ts ⊎ Heard g talker edge desk sent ts step k
+
+-- turns were spoken, this is due behind them, and this is the rest of the input
+pub record Standing (d : Due) (g : Ground) (talker : Talker) (edge : EdgeView) (desk : DeskView) (sent : Option (List ℕ)) (rest : List ℕ) : Type 0 where
+  pub turns : List Turn
+  pub cut : IsInput g.start.input (lines_in turns ++ rest)
+  pub ruled : Turns g turns
+  pub long : is_long_last turns ≡ true → IsLong rest
+  pub speaking : Speaking g talker edge desk sent turns
+  pub stands : due turns ≡ d
+
+-- some turns were spoken, the last perhaps in part
+pub record IsCut (g : Ground) (talker : Talker) (edge : EdgeView) (desk : DeskView) (sent : Option (List ℕ)) : Type 0 where
+  pub turns : List Turn
+  pub rest : List ℕ
+  pub cut : IsInput g.start.input (lines_in turns ++ rest)
+  pub ruled : Turns g turns
+  pub long : is_long_last turns ≡ true → IsLong rest
+  pub front : Front g talker edge desk sent turns
+
+-- what is due where this comes next
+abbrev pub due_at : Next → Due
+due_at next.GoOn = LineDue
+due_at next.Over = NothingDue
+due_at next.Close = CloseDue
+
+-- a line is due, and what is held and left of the input is the rest, where the input is told
+pub record Talking (g : Ground) (talker : Talker) (edge : EdgeView) (desk : DeskView) (sent : Option (List ℕ)) (held : List ℕ) (left : Option (List ℕ)) : Type 0 where
+  pub rest : List ℕ
+  pub standing : Standing LineDue g talker edge desk sent rest
+  pub read : IfSome g.start.input (λ all. Rest held left rest)
+
+-- how a talk ended
+abbrev pub Outcome : ServeEnd → Ground → EdgeView → DeskView → Option (List ℕ) → Type 0
+Outcome end.Ended g edge desk sent = Talk g edge desk sent
+Outcome (end.Refused d) g edge desk sent = ⊥
+Outcome _ g edge desk sent = TalkFront g edge desk sent
+
+-- how a talk ends where a reply was not sent
+abbrev pub end_by : Failed → ServeEnd
+end_by Fault = end.WriteFault
+end_by Memory = end.OutOfMemory
+
+-- the desk vouches for its entries as the talk has it, and draws its numbers so
+abbrev pub IsAbout : Ground → Bool → Bool → Type 0
+IsAbout g vouches draws_next = (g.start.vouches ≡ vouches) × (g.start.draws_next ≡ draws_next)
+
+-- control and authenticator are besides as the talk has it
+pub record IsOf (g : Ground) (vouches draws_next always : Bool) (may : List ℕ → List ℕ → IpAddr → AuthAnswer → Bool) : Type 0 where
+  pub about : IsAbout g vouches draws_next
+  pub ready : g.start.ready ≡ always
+  pub answers : g.start.answers ≡ may

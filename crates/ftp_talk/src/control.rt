@@ -1,0 +1,135 @@
+//! Serving a control connection, from the opening of its session on.
+
+ghost use Rattle.std.specs.Prelude.{◌≡◌, ◌-◌, ◌^◌, ◌<◌, ◌≤◌, ◌∷◌, List, true, false, OnOk, OnErr, IsErrOf};
+ghost use Rattle.ftp_base.specs.declared.fault.Failed.TheVariants.{Fault};
+ghost use Rattle.ftp_base.specs.Outside.{HasRisen, Writes};
+ghost use Rattle.ftp_events.specs.declared.entry.Entry.{Entry};
+ghost use Rattle.ftp_stream.specs.Writing.{WritesFront};
+ghost use Rattle.ftp_dialogue.specs.Saying.{greeting_line};
+ghost use Rattle.ftp_talk.specs.Ground.{Ground};
+ghost use Rattle.ftp_talk.specs.Speaking.{Knows};
+ghost use Rattle.ftp_talk.specs.Control.{client_of, peer_of, is_opening, is_opened, is_fault, Serves};
+
+use crate::ending::end_by;
+use crate::serve::serve_lines;
+use crate::serving::ServeEnd;
+use crate::talker::{Peer, Talker};
+use ftp_base::{Authenticator, Bytes, Control, Edge, Failed, IpAddr, Link};
+use ftp_desk::Desk;
+use ftp_dialogue::{put_greeting, write_all};
+use ftp_events::{Answer, Decision, EventKind, HubEvent};
+use std::alloc::Global;
+
+// A buffer in which any line fits, and one byte more.
+const BUFFER_SIZE: usize = 8193;
+
+// The client: behind a proxy the one that the header names.
+fn client_of(raw: IpAddr, answer: &Answer) -> IpAddr
+    ensures { result ≡ client_of raw answer.now }
+{
+    match answer {
+        Answer::Header(Ok(line)) => line.source.ip,
+        _ => raw,
+    }
+}
+
+// The session that an event opens, with its peer and its client.
+fn peer_of(kind: &EventKind, answer: &Answer) -> Option<Peer>
+    ensures { result ≡ peer_of kind.now answer.now }
+{
+    match kind {
+        EventKind::Connect { session, raw, .. } => Some(Peer {
+            session: *session,
+            raw: raw.ip,
+            client: raw.ip,
+        }),
+        EventKind::Proxied { number, raw, .. } => Some(Peer {
+            session: *number,
+            raw: raw.ip,
+            client: client_of(raw.ip, answer),
+        }),
+        _ => None,
+    }
+}
+
+// Says whether the decision opens a session.
+fn is_opened(decision: Decision) -> bool
+    ensures { result ≡ is_opened decision }
+{
+    matches!(decision, Decision::Opened)
+}
+
+impl Talker {
+    // Says the greeting.
+    fn greet<L: Link>(&mut self, link: &mut L, greeting: &Option<Bytes>) -> Result<(), Failed>
+        ensures wrote { OnOk result (Writes (L.sending link.old).sent (L.sending link.new).sent (greeting_line greeting.now)) }
+        ensures front { OnErr result (WritesFront (L.sending link.old).sent (L.sending link.new).sent (greeting_line greeting.now)) }
+        ensures left { L.left link.new ≡ L.left link.old }
+        ensures known { (g : Ground) (h : List Entry) → Knows g self.old h → Knows g self.new h }
+        ensures over { self.new.is_over ≡ self.old.is_over }
+        ensures fault_rose { IsErrOf result Fault → HasRisen (L.faults link.old) (L.faults link.new) }
+        ensures count { L.faults link.old ≤ L.faults link.new }
+    {
+        self.text.clear();
+        if put_greeting(&mut self.text, greeting).is_err() {
+            return Err(Failed::Memory);
+        }
+        write_all(link, self.text.as_slice())
+    }
+}
+
+/// Serves a control connection: submits the opening, greets the client, and serves its lines to their end.
+///
+/// A line has at most 8,192 bytes with its line feed. It reads into one buffer of 8,193 bytes, and waits for a second at
+/// most before it looks at the times of the session.
+pub fn serve_control<D: Desk, C: Control, E: Edge, A: Authenticator>(
+    alloc: Global,
+    desk: &mut D,
+    control: &mut C,
+    edge: &mut E,
+    auth: &A,
+    opening: HubEvent,
+    answer: Answer,
+) -> ServeEnd
+    requires opening { is_opening opening.kind ≡ true }
+
+    // What was submitted is what the lines ask for, as edge, storage and authenticator answered, and what was sent is what
+    // was replied: all of it at the end of the talk, else a part from the front.
+    ensures served { Serves result opening answer (record {
+      edge = E.view edge.old;
+      desk = D.view desk.old;
+      input = C.left control.old;
+      sent = (C.sending control.old).sent;
+      answers = A.may_answer auth.now;
+      ready = C.is_always_ready;
+      vouches = D.vouches;
+      draws_next = D.draws_next;
+    })
+        (E.view edge.new) (D.view desk.new) (C.sending control.new).sent }
+    ensures read_fault { result ≡ ServeEnd.ReadFault → HasRisen (C.faults control.old) (C.faults control.new) }
+    ensures write_fault { result ≡ ServeEnd.WriteFault → HasRisen (C.faults control.old) (C.faults control.new) }
+
+    // Where no call of the control failed, the talk came to its end, or none was opened, or memory ran out.
+    ensures complete { C.faults control.new ≡ C.faults control.old → C.faults control.old < 2 ^ 64 - 1 → is_fault result ≡ false }
+    ensures count { C.faults control.old ≤ C.faults control.new }
+{
+    let Some(peer) = peer_of(&opening.kind, &answer) else {
+        unreachable!()
+    };
+    let Ok(talker) = Talker::open(alloc, desk.options(), peer) else {
+        return ServeEnd::OutOfMemory;
+    };
+    let mut talker = talker;
+    let Ok(told) = desk.submit(opening, answer) else {
+        return ServeEnd::OutOfMemory;
+    };
+    if !is_opened(told.entry.decision) {
+        return ServeEnd::Refused(told.entry.decision);
+    }
+    if let Err(failed) = talker.greet(control, &desk.options().greeting) {
+        talker.leave(desk, edge);
+        return end_by(failed);
+    }
+    let mut buffer = [0u8; BUFFER_SIZE];
+    serve_lines(&mut talker, desk, control, edge, auth, &mut buffer)
+}

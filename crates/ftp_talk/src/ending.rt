@@ -1,0 +1,176 @@
+//! What comes to pass besides lines: looks at times, lines that are too long, and the end.
+
+ghost use Rattle.std.specs.Prelude.{◌≡◌, ◌≤◌, ◌++◌, [], ℕ, List, Option, Some, true, false, IfSome, IfNone, IfOk, OnErr, IsErrOf, ◌⊎◌};
+ghost use Rattle.ftp_base.specs.declared.fault.Failed.TheVariants.{Fault};
+ghost use Rattle.ftp_base.specs.Outside.{HasRisen};
+ghost use Rattle.ftp_dialogue.specs.Lines.{IsLong};
+ghost use Rattle.ftp_talk.specs.Ground.{Ground};
+ghost use Rattle.ftp_talk.specs.Turns.{Due, LineDue, SlotTickDue};
+ghost use Rattle.ftp_talk.specs.Talk.{TalkFront, MayClose};
+ghost use Rattle.ftp_talk.specs.Speaking.{IsCut, Standing, Outcome, due_at, end_by, IsAbout};
+
+use crate::conversing::submit;
+use crate::serving::{Next, ServeEnd, next_of};
+use crate::talker::{Talker, is_end};
+use ftp_base::{Control, Edge, Failed};
+use ftp_desk::Desk;
+use ftp_events::EventKind;
+
+// How a talk ends where a reply was not sent.
+pub(crate) fn end_by(failed: Failed) -> ServeEnd
+    ensures { result ≡ end_by failed }
+{
+    match failed {
+        Failed::Fault => ServeEnd::WriteFault,
+        Failed::Memory => ServeEnd::OutOfMemory,
+    }
+}
+
+impl Talker {
+    // Closes the connection where that is due, or no line is left.
+    pub(crate) fn close<D: Desk, C: Control, E: Edge>(
+        &mut self,
+        desk: &mut D,
+        control: &mut C,
+        edge: &mut E,
+    ) -> ServeEnd
+        ensures ended { (g : Ground) (d : Due) (rest : List ℕ) → IsAbout g D.vouches D.draws_next →
+            Standing d g self.old (E.view edge.old) (D.view desk.old) (C.sending control.old).sent rest → MayClose d rest →
+            Outcome result g (E.view edge.new) (D.view desk.new) (C.sending control.new).sent }
+        ensures no_read_fault { result ≡ ServeEnd.ReadFault → HasRisen (C.faults control.old) (C.faults control.new) }
+        ensures write_fault { result ≡ ServeEnd.WriteFault → HasRisen (C.faults control.old) (C.faults control.new) }
+        ensures count { C.faults control.old ≤ C.faults control.new }
+    {
+        let session = self.session;
+        match self.converse(desk, control, edge, EventKind::Closed { session }) {
+            Ok(_) => ServeEnd::Ended,
+            Err(failed) => end_by(failed),
+        }
+    }
+
+    // Closes the connection where the talk was cut short and its session has not ended, and says nothing more.
+    pub(crate) fn leave<D: Desk, E: Edge>(&self, desk: &mut D, edge: &mut E)
+        ensures { (g : Ground) (sent : Option (List ℕ)) → IsAbout g D.vouches D.draws_next →
+            IsCut g self.now (E.view edge.old) (D.view desk.old) sent →
+            TalkFront g (E.view edge.new) (D.view desk.new) sent }
+    {
+        if self.is_over {
+            return;
+        }
+        let session = self.session;
+        match submit(desk, edge, EventKind::Closed { session }) {
+            Ok(_) => {}
+            Err(_) => {}
+        }
+    }
+
+    // Ends where a line, a look or a reply was cut short; else goes on as it says. It gives the end where that comes.
+    pub(crate) fn go_on<D: Desk, C: Control, E: Edge>(
+        &mut self,
+        desk: &mut D,
+        control: &mut C,
+        edge: &mut E,
+        next: Result<Next, Failed>,
+    ) -> Option<ServeEnd>
+        ensures goes_on { IfNone result ((C.left control.new ≡ C.left control.old) × ((g : Ground) (rest : List ℕ) →
+            IfOk next (λ n. Standing (due_at n) g self.old (E.view edge.old) (D.view desk.old) (C.sending control.old).sent rest) →
+            Standing LineDue g self.new (E.view edge.new) (D.view desk.new) (C.sending control.new).sent rest)) }
+        ensures ended { IfSome result (λ end. (g : Ground) (rest : List ℕ) → IsAbout g D.vouches D.draws_next →
+            IfOk next (λ n. Standing (due_at n) g self.old (E.view edge.old) (D.view desk.old) (C.sending control.old).sent rest) →
+            OnErr next (IsCut g self.old (E.view edge.old) (D.view desk.old) (C.sending control.old).sent) →
+            Outcome end g (E.view edge.new) (D.view desk.new) (C.sending control.new).sent) }
+        ensures no_read_fault { result ≡ Some ServeEnd.ReadFault → HasRisen (C.faults control.old) (C.faults control.new) }
+        ensures write_fault { result ≡ Some ServeEnd.WriteFault → IsErrOf next Fault ⊎ HasRisen (C.faults control.old) (C.faults control.new) }
+        ensures count { C.faults control.old ≤ C.faults control.new }
+    {
+        match next {
+            Ok(Next::GoOn) => None,
+            Ok(Next::Over) => Some(ServeEnd::Ended),
+            Ok(Next::Close) => Some(self.close(desk, control, edge)),
+            Err(failed) => {
+                self.leave(desk, edge);
+                Some(end_by(failed))
+            }
+        }
+    }
+
+    // Looks at the idle time of the session, and then at its slot.
+    pub(crate) fn tick<D: Desk, C: Control, E: Edge>(
+        &mut self,
+        desk: &mut D,
+        control: &mut C,
+        edge: &mut E,
+    ) -> Result<Next, Failed>
+        ensures served { IfOk result (λ next. (g : Ground) (rest : List ℕ) → IsAbout g D.vouches D.draws_next → g.start.ready ≡ false →
+            Standing LineDue g self.old (E.view edge.old) (D.view desk.old) (C.sending control.old).sent rest →
+            Standing (due_at next) g self.new (E.view edge.new) (D.view desk.new) (C.sending control.new).sent rest) }
+        ensures cut { OnErr result ((g : Ground) (rest : List ℕ) → IsAbout g D.vouches D.draws_next → g.start.ready ≡ false →
+            Standing LineDue g self.old (E.view edge.old) (D.view desk.old) (C.sending control.old).sent rest →
+            IsCut g self.new (E.view edge.new) (D.view desk.new) (C.sending control.new).sent) }
+        ensures left { C.left control.new ≡ C.left control.old }
+        ensures fault_rose { IsErrOf result Fault → HasRisen (C.faults control.old) (C.faults control.new) }
+        ensures count { C.faults control.old ≤ C.faults control.new }
+    {
+        let session = self.session;
+        match self.converse(desk, control, edge, EventKind::IdleTick { session }) {
+            Ok(decision) => {
+                if is_end(decision) {
+                    Ok(Next::Over)
+                } else {
+                    self.look(desk, control, edge)
+                }
+            }
+            Err(failed) => Err(failed),
+        }
+    }
+
+    // Looks at the slot of the session.
+    fn look<D: Desk, C: Control, E: Edge>(
+        &mut self,
+        desk: &mut D,
+        control: &mut C,
+        edge: &mut E,
+    ) -> Result<Next, Failed>
+        ensures served { IfOk result (λ next. (g : Ground) (rest : List ℕ) → IsAbout g D.vouches D.draws_next →
+            Standing SlotTickDue g self.old (E.view edge.old) (D.view desk.old) (C.sending control.old).sent rest →
+            Standing (due_at next) g self.new (E.view edge.new) (D.view desk.new) (C.sending control.new).sent rest) }
+        ensures cut { OnErr result ((g : Ground) (rest : List ℕ) → IsAbout g D.vouches D.draws_next →
+            Standing SlotTickDue g self.old (E.view edge.old) (D.view desk.old) (C.sending control.old).sent rest →
+            IsCut g self.new (E.view edge.new) (D.view desk.new) (C.sending control.new).sent) }
+        ensures left { C.left control.new ≡ C.left control.old }
+        ensures fault_rose { IsErrOf result Fault → HasRisen (C.faults control.old) (C.faults control.new) }
+        ensures count { C.faults control.old ≤ C.faults control.new }
+    {
+        let session = self.session;
+        match self.converse(desk, control, edge, EventKind::SlotTick { session }) {
+            Ok(decision) => Ok(next_of(decision, Next::GoOn)),
+            Err(failed) => Err(failed),
+        }
+    }
+
+    // Answers a line that is too long, and stands next.
+    pub(crate) fn serve_long<D: Desk, C: Control, E: Edge>(
+        &mut self,
+        desk: &mut D,
+        control: &mut C,
+        edge: &mut E,
+    ) -> Result<Next, Failed>
+        ensures served { IfOk result (λ next. (g : Ground) (rest : List ℕ) → IsAbout g D.vouches D.draws_next → IsLong rest →
+            Standing LineDue g self.old (E.view edge.old) (D.view desk.old) (C.sending control.old).sent rest →
+            Standing (due_at next) g self.new (E.view edge.new) (D.view desk.new) (C.sending control.new).sent rest) }
+        ensures cut { OnErr result ((g : Ground) (rest : List ℕ) → IsAbout g D.vouches D.draws_next → IsLong rest →
+            Standing LineDue g self.old (E.view edge.old) (D.view desk.old) (C.sending control.old).sent rest →
+            IsCut g self.new (E.view edge.new) (D.view desk.new) (C.sending control.new).sent) }
+        ensures left { C.left control.new ≡ C.left control.old }
+        ensures fault_rose { IsErrOf result Fault → HasRisen (C.faults control.old) (C.faults control.new) }
+        ensures count { C.faults control.old ≤ C.faults control.new }
+    {
+        let Ok(kind) = self.too_long() else {
+            return Err(Failed::Memory);
+        };
+        match self.converse(desk, control, edge, kind) {
+            Ok(decision) => Ok(next_of(decision, Next::Close)),
+            Err(failed) => Err(failed),
+        }
+    }
+}

@@ -1,0 +1,17 @@
+//! The talk on a control connection: lines in, events to a desk, replies out.
+//!
+//! What is submitted is what the lines ask for, and what is sent is what was replied.
+//! Begin with `serve_control`, and with specs/Talk.antt.
+#![tactic(auto)]
+
+mod asking;
+mod control;
+mod conversing;
+mod ending;
+mod serve;
+mod serving;
+mod talker;
+
+pub use control::serve_control;
+pub use serving::ServeEnd;
+pub use talker::Peer;

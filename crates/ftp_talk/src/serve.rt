@@ -1,0 +1,92 @@
+//! The lines of a control connection, one after the other, to their end.
+
+ghost use Rattle.std.specs.Prelude.{◌≡◌, ◌≤◌, [], Option, Some, length, IfSome, IfNone};
+ghost use Rattle.ftp_base.specs.Outside.{HasRisen};
+ghost use Rattle.ftp_dialogue.specs.Lines.{IsHeld, held_in};
+ghost use Rattle.ftp_talk.specs.Ground.{Ground};
+ghost use Rattle.ftp_talk.specs.Speaking.{Talking, Outcome, IsOf};
+
+use crate::serving::ServeEnd;
+use crate::talker::Talker;
+use ftp_base::{Authenticator, Control, Edge};
+use ftp_desk::Desk;
+use ftp_dialogue::{Got, Held, next_line};
+use ftp_stream::Span;
+
+impl Talker {
+    // Reads a line and serves it. It gives the end where that comes.
+    fn turn<D: Desk, C: Control, E: Edge, A: Authenticator>(
+        &mut self,
+        desk: &mut D,
+        control: &mut C,
+        edge: &mut E,
+        auth: &A,
+        buffer: &mut [u8],
+        held: &mut Held,
+    ) -> Option<ServeEnd>
+        requires held { IsHeld buffer.old held.old }
+        requires room { length buffer.old ≡ 8193 }
+        ensures goes_on { IfNone result ((g : Ground) → IsOf g D.vouches D.draws_next C.is_always_ready (A.may_answer auth.now) →
+            Talking g self.old (E.view edge.old) (D.view desk.old) (C.sending control.old).sent (held_in buffer.old held.old) (C.left control.old) →
+            Talking g self.new (E.view edge.new) (D.view desk.new) (C.sending control.new).sent (held_in buffer.new held.new) (C.left control.new)) }
+        ensures ended { IfSome result (λ end. (g : Ground) → IsOf g D.vouches D.draws_next C.is_always_ready (A.may_answer auth.now) →
+            Talking g self.old (E.view edge.old) (D.view desk.old) (C.sending control.old).sent (held_in buffer.old held.old) (C.left control.old) →
+            Outcome end g (E.view edge.new) (D.view desk.new) (C.sending control.new).sent) }
+        ensures read_fault { result ≡ Some ServeEnd.ReadFault → HasRisen (C.faults control.old) (C.faults control.new) }
+        ensures write_fault { result ≡ Some ServeEnd.WriteFault → HasRisen (C.faults control.old) (C.faults control.new) }
+        ensures count { C.faults control.old ≤ C.faults control.new }
+        ensures held { IsHeld buffer.new held.new }
+        ensures len { length buffer.new ≡ length buffer.old }
+    {
+        match next_line(buffer, held, control) {
+            Ok(Got::Line(span)) => {
+                let line = &buffer[span.start..span.end];
+                let next = self.serve_line(desk, control, edge, auth, line);
+                self.go_on(desk, control, edge, next)
+            }
+            Ok(Got::Wait) => {
+                let next = self.tick(desk, control, edge);
+                self.go_on(desk, control, edge, next)
+            }
+            Ok(Got::Long) => {
+                let next = self.serve_long(desk, control, edge);
+                self.go_on(desk, control, edge, next)
+            }
+            Ok(Got::End) => Some(self.close(desk, control, edge)),
+            Err(_) => {
+                self.leave(desk, edge);
+                Some(ServeEnd::ReadFault)
+            }
+        }
+    }
+}
+
+// Serves the lines to their end, by way of a buffer in which any line fits.
+pub(crate) fn serve_lines<D: Desk, C: Control, E: Edge, A: Authenticator>(
+    talker: &mut Talker,
+    desk: &mut D,
+    control: &mut C,
+    edge: &mut E,
+    auth: &A,
+    buffer: &mut [u8],
+) -> ServeEnd
+    requires room { length buffer.old ≡ 8193 }
+    ensures ended { (g : Ground) → IsOf g D.vouches D.draws_next C.is_always_ready (A.may_answer auth.now) →
+        Talking g talker.old (E.view edge.old) (D.view desk.old) (C.sending control.old).sent [] (C.left control.old) →
+        Outcome result g (E.view edge.new) (D.view desk.new) (C.sending control.new).sent }
+    ensures read_fault { result ≡ ServeEnd.ReadFault → HasRisen (C.faults control.old) (C.faults control.new) }
+    ensures write_fault { result ≡ ServeEnd.WriteFault → HasRisen (C.faults control.old) (C.faults control.new) }
+    ensures count { C.faults control.old ≤ C.faults control.new }
+{
+    let mut held = Held {
+        span: Span { start: 0, end: 0 },
+        scanned: 0,
+    };
+    for _ in 0..u64::MAX {
+        if let Some(end) = talker.turn(desk, control, edge, auth, buffer, &mut held) {
+            return end;
+        }
+    }
+    talker.leave(desk, edge);
+    ServeEnd::OutOfMemory
+}
