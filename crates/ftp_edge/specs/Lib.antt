@@ -1,0 +1,4 @@
+pub mod Address
+pub mod Edge
+pub mod Listen
+pub mod Queue
