@@ -78,10 +78,12 @@ impl Eq for Actions {
 impl Actions {
     ghost use Rattle.std.specs.Prelude.{◌≡◌};
 
-    /// Takes over the actions of a vector.
+    /// Takes over the actions of a vector, and gives back the room that they do not need.
     pub fn from_vec(items: Vec<Action>) -> Actions
         ensures { result ≡ items.items }
     {
+        let mut items = items;
+        items.shrink_to_fit();
         Actions { items }
     }
 

@@ -15,7 +15,7 @@ use std::sync::Wait;
 
 /// Passes the gate with the number of this call, runs the job on this storage and this link, and adds its end.
 ///
-/// No byte moves before the gate is passed. An error is want of memory, and gives the job back.
+/// An error is want of memory, and gives the job back.
 pub fn serve_job<R: Wait, H: Serving, S: Storage, L: Link, G: Gate, E: Edge>(
     rt: &R,
     alloc: Global,

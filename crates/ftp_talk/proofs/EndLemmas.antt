@@ -1,6 +1,6 @@
 -- How a talk ends.
-use Rattle.std.proofs.Common.{◌≡◌, ◌≢◌, ℕ, ◌-◌, ◌^◌, ◌≤◌, ◌⊎◌, Bool, true, false, cond, List, [], ◌∷◌, ◌++◌, Option, Some, None, refl, sym, ap, subst, ◌∙◌, append_assoc, arith, inl, inr}
-use Rattle.std.specs.Prelude.{IfSome, IfNone, unwrap_or, Result, Ok, Err}
+use Rattle.std.proofs.Common.{◌≡◌, ℕ, ◌≤◌, Bool, true, false, cond, List, [], ◌∷◌, ◌++◌, Option, Some, None, refl, sym, ap, subst, ◌∙◌, append_assoc, arith, inl, inr}
+use Rattle.std.specs.Prelude.{IfSome, unwrap_or, Result, Ok, Err}
 use Rattle.std.specs.Option.{option_map_or}
 use Rattle.std.specs.Coded.{Coded-set, coded_bool}
 use Rattle.std.proofs.Math.Logic.{∥∥₁_elim}
@@ -8,9 +8,7 @@ use Rattle.std.proofs.lemmas.List.{append-nil}
 use Rattle.ftp_base.specs.declared.fault.Failed.{Failed}
 use Rattle.ftp_base.specs.declared.fault.Failed.TheVariants.{Fault, Memory}
 use Rattle.ftp_base.specs.declared.reply.Reply.{Reply}
-use Rattle.std.proofs.lemmas.Bool.{cases_lt}
 use Rattle.ftp_base.specs.Edge.{Feed, EdgeView}
-use Rattle.ftp_base.specs.Outside.{HasRisen}
 use Rattle.ftp_options.specs.declared.options.Options.{Options}
 use Rattle.ftp_events.specs.declared.decision.Decision.{Decision}
 use Rattle.ftp_events.specs.declared.decision.Decision.TheVariants as decision
@@ -428,31 +426,3 @@ pub talking-on : (g : Ground) (talker : Talker) (edge : EdgeView) (desk : DeskVi
     Standing LineDue g talker edge desk sent rest → IfSome g.start.input (λ all. Rest held left rest) → left1 ≡ left → Talking g talker edge desk sent held left1
 talking-on g talker edge desk sent held rest left left1 s read same =
     record { rest = rest; standing = s; read = subst (λ (o : Option (List ℕ)). IfSome g.start.input (λ all. Rest held o rest)) (sym same) read }
-
--- ---- what follows from what is said of a result
-
-pub if_none-then : {T P Q : Type 0} (o : Option T) → (P → Q) → IfNone o P → IfNone o Q
-if_none-then None f p = f p
-if_none-then (Some x) f p = tt
-
-pub if_some-then : {T : Type 0} {P Q : T → Type 0} (o : Option T) → ((x : T) → P x → Q x) → IfSome o P → IfSome o Q
-if_some-then None f p = tt
-if_some-then (Some x) f p = f x p
-
--- a control that waited cannot be read at any time
-pub waits_so : {T : Type 0} (b : Bool) (r x : T) → r ≡ x → (b ≡ true → r ≢ x) → b ≡ false
-waits_so true r x is h = absurd (h refl is)
-waits_so false r x is h = refl
-
--- a count rose in the first of two calls, or in the second
-pub risen-either : {P : Type 0} (a b c d : ℕ) → (P → HasRisen b c) → P ⊎ HasRisen c d → a ≤ b → b ≤ c → c ≤ d → HasRisen a d
-risen-either a b c d f (inl p) ab bc cd = λ lt.
-    elim (cases_lt b (2 ^ 64 - 1)) [
-      | inl less ↦ omega (arith, f p less)
-      | inr ge ↦ omega arith
-    ]
-risen-either a b c d f (inr h) ab bc cd = λ lt.
-    elim (cases_lt c (2 ^ 64 - 1)) [
-      | inl less ↦ omega (arith, h less)
-      | inr ge ↦ omega arith
-    ]

@@ -2,4 +2,5 @@ mod AskLemmas
 mod TalkLemmas
 mod ServeLemmas
 mod EndLemmas
+mod ResultLemmas
 mod ControlLemmas

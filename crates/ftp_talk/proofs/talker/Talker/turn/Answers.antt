@@ -4,7 +4,8 @@ use Rattle.ftp_stream.specs.Lines.{bytes_in}
 use Rattle.ftp_dialogue.specs.Lines.{held_in}
 use Rattle.ftp_talk.specs.Turns.{LineDue}
 use Rattle.ftp_talk.proofs.ServeLemmas.{cut-standing, same_edge, same_desk, if_ok-then, on_err-then}
-use Rattle.ftp_talk.proofs.EndLemmas.{standing-line, standing-long, standing-out, talking-sent, talking-on, waits_so, if_none-then, if_some-then, risen-either}
+use Rattle.ftp_talk.proofs.EndLemmas.{standing-line, standing-long, standing-out, talking-sent, talking-on}
+use Rattle.ftp_talk.proofs.ResultLemmas.{waits_so, if_none-then, if_some-then, risen-either}
 use Rattle.ftp_talk.proofs.talker.Talker.turn.Goals as goal
 
 pub returns-in-Ok-Line-clause-goes_on : goal.returns-in-Ok-Line-clause-goes_on
