@@ -83,10 +83,12 @@ fn first_v4<N: Net>(net: &N, name: &[u8]) -> Option<Ipv4Addr> {
     None
 }
 
-// The port from `lo` to `hi` that the word says.
+// The port from `lo` to `hi`, and never port 0, that the word says.
 fn port_between(lo: u16, hi: u16, word: u128) -> Option<u16>
     ensures between { IfSome result (λ port. (lo ≤ port) × (port ≤ hi)) }
+    ensures some { IfSome result (λ port. 1 ≤ port) }
 {
+    let lo = lo.max(1);
     if hi < lo {
         return None;
     }
@@ -102,6 +104,7 @@ fn bound_between<R: Net + RandomSource>(
     hi: u16,
 ) -> Option<(u16, TcpListener)>
     ensures between { IfSome result (λ r. (lo ≤ r.0) × (r.0 ≤ hi)) }
+    ensures some { IfSome result (λ r. 1 ≤ r.0) }
 {
     for _ in 0..WORDS {
         let port = port_between(lo, hi, random_word(rt).ok()?)?;
