@@ -3,7 +3,9 @@
 ghost use Rattle.std.specs.Prelude.{◌≡◌, ℕ, map, string_bytes, IfSome, IsNone};
 ghost use Rattle.ftp_bench.specs.declared.command.Command.{Command};
 ghost use Rattle.ftp_bench.specs.declared.command.Search.{Search};
-ghost use Rattle.ftp_bench.specs.Words.{command_of, kind_of, IsNumber, Asks, AsksSearch};
+ghost use Rattle.ftp_bench.specs.declared.command.Appends.{Appends};
+ghost use Rattle.ftp_bench.specs.Appending.{threads_of};
+ghost use Rattle.ftp_bench.specs.Words.{command_of, kind_of, way_of, IsNumber, Asks, AsksAppends, AsksSearch};
 
 /// What is moved.
 #[derive(Clone, Copy, Debug, PartialEq, Eq)]
@@ -31,12 +33,40 @@ pub struct Search {
     pub rounds: u16,
 }
 
+/// How many threads share a hub.
+#[derive(Clone, Copy, Debug, PartialEq, Eq)]
+pub enum Crew {
+    One,
+    Two,
+    Four,
+}
+
+/// Whose hub takes the events.
+#[derive(Clone, Copy, Debug, PartialEq, Eq)]
+pub enum Way {
+    /// A hub by itself, whose entries are let go.
+    Run,
+    /// A hub by itself, whose entries are kept.
+    Log,
+    /// A hub behind a lock, whose entries are kept.
+    Shared(Crew),
+}
+
+/// So many sessions, and then so many events of theirs.
+#[derive(Clone, Copy, Debug, PartialEq, Eq)]
+pub struct Appends {
+    pub way: Way,
+    pub sessions: u32,
+    pub rounds: u32,
+}
+
 #[derive(Clone, Copy, Debug, PartialEq, Eq)]
 pub enum Command {
     Help,
     Version,
     Move(Load),
     Reserve(Search),
+    Append(Appends),
 }
 
 impl Kind {
@@ -52,6 +82,52 @@ impl Kind {
         } else {
             None
         }
+    }
+}
+
+impl Crew {
+    pub fn threads(self) -> u64
+        ensures { result ≡ threads_of self }
+    {
+        match self {
+            Crew::One => 1,
+            Crew::Two => 2,
+            Crew::Four => 4,
+        }
+    }
+}
+
+impl Way {
+    pub fn named(word: &[u8]) -> Option<Way>
+        ensures { result ≡ way_of word.now }
+    {
+        if word == b"run".as_slice() {
+            Some(Way::Run)
+        } else if word == b"log".as_slice() {
+            Some(Way::Log)
+        } else if word == b"one".as_slice() {
+            Some(Way::Shared(Crew::One))
+        } else if word == b"two".as_slice() {
+            Some(Way::Shared(Crew::Two))
+        } else if word == b"four".as_slice() {
+            Some(Way::Shared(Crew::Four))
+        } else {
+            None
+        }
+    }
+}
+
+impl Appends {
+    /// What three words ask for, where they are a way and two numbers.
+    fn of(way: &[u8], sessions: &str, rounds: &str) -> Option<Appends>
+        ensures found { IfSome result (AsksAppends way.now sessions.now rounds.now) }
+        ensures none { IsNone result → (appends : Appends) → AsksAppends way.now sessions.now rounds.now appends → ⊥ }
+    {
+        Some(Appends {
+            way: Way::named(way)?,
+            sessions: number(sessions, 1 << 24)?,
+            rounds: number(rounds, 1 << 24)?,
+        })
     }
 }
 
@@ -83,6 +159,13 @@ impl Command {
                 mebibytes: number(mebibytes.as_str(), 1 << 8)? as u8,
                 rounds: number(rounds.as_str(), 1 << 16)? as u16,
             })),
+            [name, way, sessions, rounds] => {
+                if name.as_bytes() != b"append".as_slice() {
+                    return None;
+                }
+                let appends = Appends::of(way.as_bytes(), sessions.as_str(), rounds.as_str())?;
+                Some(Command::Append(appends))
+            }
             [name, first, end, word, rounds] => {
                 if name.as_bytes() != b"reserve".as_slice() {
                     return None;

@@ -1,0 +1,243 @@
+//! Threads over one hub, each with a share and a lane of its own.
+
+ghost use Rattle.std.specs.Prelude.{◌≡◌, ◌+◌, ◌-◌, ◌<◌, ◌≤◌, sum_by, IfOk};
+ghost use Rattle.std.specs.Vec.{vec_len};
+ghost use Rattle.ftp_bench.specs.Appending.{events_in, threads_of};
+
+use crate::appending::AppendError;
+use crate::asking::{connect, user};
+use crate::command::Crew;
+use crate::lane::Lane;
+use ftp_events::Answer;
+use ftp_options::Options;
+use ftp_shared::{Serving, SettleError, SharedHub, StepShare};
+use std::alloc::Global;
+use std::marker::Brand;
+use std::sync::Wait;
+use std::sync::ledger::Blank;
+use std::thread;
+use std::thread::Threads;
+
+/// Submits the events of a lane whose sessions connect first, and says how many entries the journal has.
+pub fn share_all<R: Threads + Wait + Sync>(
+    rt: &R,
+    alloc: Global,
+    options: Options,
+    crew: Crew,
+    lane: Lane,
+) -> Result<u64, AppendError>
+    ensures taken { IfOk result (λ n. n ≡ events_in lane) }
+{
+    let blank = Blank::new(crew.threads() + 1);
+    share_branded::<Brand, R>(rt, alloc, options, blank, crew, lane)
+}
+
+/// The same, on the server that a blank is for.
+fn share_branded<L: Serving + Send + Sync, R: Threads + Wait + Sync>(
+    rt: &R,
+    alloc: Global,
+    options: Options,
+    blank: Blank,
+    crew: Crew,
+    lane: Lane,
+) -> Result<u64, AppendError>
+    requires name { blank.name ≡ L.name }
+    requires parts { blank.parts ≡ L.parts }
+    requires one_more { blank.parts ≡ threads_of crew + 1 }
+    requires options { options ≡ L.options }
+    ensures taken { IfOk result (λ n. n ≡ events_in lane) }
+{
+    let (steps, parts) = blank.open::<L>();
+    let hub = SharedHub::new(alloc, options, steps, parts, crew.threads() + 1);
+    let shares = work(rt, alloc, &hub, crew, lane)?;
+    settle(hub, shares, lane)
+}
+
+/// Settles the hub with all its shares, which count the events of a lane, and says how many entries its journal has.
+fn settle<L: Serving>(
+    hub: SharedHub<L>,
+    shares: Vec<StepShare<L>>,
+    lane: Lane,
+) -> Result<u64, AppendError>
+    requires all { vec_len shares + 1 ≡ L.parts }
+    requires counted { sum_by (λ s. s.count) shares.items ≡ events_in lane }
+    ensures taken { IfOk result (λ n. n ≡ events_in lane) }
+{
+    match hub.settle(shares, &[]) {
+        Ok(log) => {
+            let taken = log.len();
+            if taken > lane.events() {
+                return Err(AppendError::Others);
+            }
+            Ok(taken)
+        }
+        // All shares that were given out are here.
+        Err(SettleError::Missing { .. }) => unreachable!(),
+        Err(_) => Err(AppendError::OutOfMemory),
+    }
+}
+
+/// The shares of so many threads that submit the events of a lane.
+fn work<L: Serving + Send + Sync, R: Threads + Wait + Sync>(
+    rt: &R,
+    alloc: Global,
+    hub: &SharedHub<L>,
+    crew: Crew,
+    lane: Lane,
+) -> Result<Vec<StepShare<L>>, AppendError>
+    ensures threads { IfOk result (λ shares. vec_len shares ≡ threads_of crew) }
+    ensures counted { IfOk result (λ shares. sum_by (λ s. s.count) shares.items ≡ events_in lane) }
+{
+    match crew {
+        Crew::One => one(rt, alloc, hub, lane),
+        Crew::Two => two(rt, alloc, hub, lane),
+        Crew::Four => four(rt, alloc, hub, lane),
+    }
+}
+
+/// The share of one thread.
+fn one<L: Serving, R: Wait>(
+    rt: &R,
+    alloc: Global,
+    hub: &SharedHub<L>,
+    lane: Lane,
+) -> Result<Vec<StepShare<L>>, AppendError>
+    ensures threads { IfOk result (λ shares. vec_len shares ≡ 1) }
+    ensures counted { IfOk result (λ shares. sum_by (λ s. s.count) shares.items ≡ events_in lane) }
+{
+    let share = connect_all(rt, hub, lane)?;
+    let share = ask_all(rt, alloc, hub, share, lane)?;
+    let mut shares = Vec::with_capacity(alloc, 1)?;
+    shares.push_reserved(share);
+    Ok(shares)
+}
+
+/// The shares of two threads.
+fn two<L: Serving + Send + Sync, R: Threads + Wait + Sync>(
+    rt: &R,
+    alloc: Global,
+    hub: &SharedHub<L>,
+    lane: Lane,
+) -> Result<Vec<StepShare<L>>, AppendError>
+    ensures threads { IfOk result (λ shares. vec_len shares ≡ 2) }
+    ensures counted { IfOk result (λ shares. sum_by (λ s. s.count) shares.items ≡ events_in lane) }
+{
+    let pair = (connect_all(rt, hub, lane)?, fresh(rt, hub)?);
+    let (first, second) = ask_two(rt, alloc, hub, pair, lane)?;
+    let mut shares = Vec::with_capacity(alloc, 2)?;
+    shares.push_reserved(first);
+    shares.push_reserved(second);
+    Ok(shares)
+}
+
+/// The shares of four threads.
+fn four<L: Serving + Send + Sync, R: Threads + Wait + Sync>(
+    rt: &R,
+    alloc: Global,
+    hub: &SharedHub<L>,
+    lane: Lane,
+) -> Result<Vec<StepShare<L>>, AppendError>
+    ensures threads { IfOk result (λ shares. vec_len shares ≡ 4) }
+    ensures counted { IfOk result (λ shares. sum_by (λ s. s.count) shares.items ≡ events_in lane) }
+{
+    let front = (connect_all(rt, hub, lane)?, fresh(rt, hub)?);
+    let back = (fresh(rt, hub)?, fresh(rt, hub)?);
+    let (front, back) = ask_four(rt, alloc, hub, front, back, lane)?;
+    let mut shares = Vec::with_capacity(alloc, 4)?;
+    shares.push_reserved(front.0);
+    shares.push_reserved(front.1);
+    shares.push_reserved(back.0);
+    shares.push_reserved(back.1);
+    Ok(shares)
+}
+
+/// A share with no step counted.
+fn fresh<L: Serving, R: Wait>(rt: &R, hub: &SharedHub<L>) -> Result<StepShare<L>, AppendError>
+    ensures { IfOk result (λ share. share.count ≡ 0) }
+{
+    match hub.share(rt) {
+        Some(share) => Ok(share),
+        None => Err(AppendError::NoShare),
+    }
+}
+
+/// Lets the sessions of a lane connect, and gives the share that counted them.
+fn connect_all<L: Serving, R: Wait>(
+    rt: &R,
+    hub: &SharedHub<L>,
+    lane: Lane,
+) -> Result<StepShare<L>, AppendError>
+    ensures { IfOk result (λ share. share.count ≡ lane.end - lane.first) }
+{
+    let mut share = fresh(rt, hub)?;
+    for session in lane.first..lane.end {
+        hub.submit_for(rt, &mut share, connect(session as u64), Answer::None)?;
+    }
+    Ok(share)
+}
+
+/// Submits the events of a lane, and gives the share back that counted them.
+fn ask_all<L: Serving, R: Wait>(
+    rt: &R,
+    alloc: Global,
+    hub: &SharedHub<L>,
+    share: StepShare<L>,
+    lane: Lane,
+) -> Result<StepShare<L>, AppendError>
+    ensures { IfOk result (λ s. s.count ≡ share.count + lane.rounds) }
+{
+    let mut share = share;
+    for turn in 0..lane.rounds {
+        let event = user(alloc, lane.session(turn))?;
+        hub.submit_for(rt, &mut share, event, Answer::None)?;
+    }
+    Ok(share)
+}
+
+/// Two threads submit the events of a lane, half of it each.
+fn ask_two<L: Serving + Send + Sync, R: Threads + Wait + Sync>(
+    rt: &R,
+    alloc: Global,
+    hub: &SharedHub<L>,
+    shares: (StepShare<L>, StepShare<L>),
+    lane: Lane,
+) -> Result<(StepShare<L>, StepShare<L>), AppendError>
+    ensures { IfOk result (λ s. s.0.count + s.1.count ≡ shares.0.count + shares.1.count + lane.rounds) }
+{
+    let (front, back) = lane.split();
+    let (one, two) = shares;
+    let (one, two) = thread::join(
+        rt,
+        move || -> Result<StepShare<L>, AppendError>
+            ensures { IfOk result (λ s. s.count ≡ one.count + front.rounds) }
+        { ask_all(rt, alloc, hub, one, front) },
+        move || -> Result<StepShare<L>, AppendError>
+            ensures { IfOk result (λ s. s.count ≡ two.count + back.rounds) }
+        { ask_all(rt, alloc, hub, two, back) },
+    );
+    Ok((one?, two?))
+}
+
+/// Four threads submit the events of a lane, a quarter of it each.
+fn ask_four<L: Serving + Send + Sync, R: Threads + Wait + Sync>(
+    rt: &R,
+    alloc: Global,
+    hub: &SharedHub<L>,
+    one: (StepShare<L>, StepShare<L>),
+    two: (StepShare<L>, StepShare<L>),
+    lane: Lane,
+) -> Result<((StepShare<L>, StepShare<L>), (StepShare<L>, StepShare<L>)), AppendError>
+    ensures { IfOk result (λ s. s.0.0.count + s.0.1.count + (s.1.0.count + s.1.1.count) ≡ one.0.count + one.1.count + (two.0.count + two.1.count) + lane.rounds) }
+{
+    let (front, back) = lane.split();
+    let (one, two) = thread::join(
+        rt,
+        move || -> Result<(StepShare<L>, StepShare<L>), AppendError>
+            ensures { IfOk result (λ s. s.0.count + s.1.count ≡ one.0.count + one.1.count + front.rounds) }
+        { ask_two(rt, alloc, hub, one, front) },
+        move || -> Result<(StepShare<L>, StepShare<L>), AppendError>
+            ensures { IfOk result (λ s. s.0.count + s.1.count ≡ two.0.count + two.1.count + back.rounds) }
+        { ask_two(rt, alloc, hub, two, back) },
+    );
+    Ok((one?, two?))
+}
