@@ -1,0 +1,137 @@
+//! Lines of a client, and what it is sent.
+
+use crate::talk::talk;
+use ftp_talk::ServeEnd;
+use std::alloc::{AllocError, Global};
+use std::process::Abort;
+use std::test::Fail;
+
+const GREETING: &[u8] = b"220 Welcome to the libunftp FTP server\r\n";
+
+/// Lines of a client, what it is sent behind the greeting, and the path of the transfer that starts.
+type Row<'a> = (&'a [u8], &'a [u8], Option<&'a [u8]>);
+
+const ROWS: [Row<'static>; 10] = [
+    (
+        b"user ann\r\npAsS x\r\npasv\r\nquit\r\n",
+        b"331 Password Required\r\n230 User logged in, proceed\r\n\
+          227 Entering Passive Mode (10,0,0,9,195,80)\r\n221 Bye!\r\n",
+        None,
+    ),
+    // Of the line end the line feed is enough, and a rest without one is no line.
+    (
+        b"USER ann\nPASS y\nUSER ann\nPASS x\nQUIT",
+        b"331 Password Required\r\n530 Authentication failed\r\n\
+          331 Password Required\r\n230 User logged in, proceed\r\n",
+        None,
+    ),
+    (
+        b"NOOP\r\nTYPE I\r\nSYST\r\nREST 1303 343\r\nPASV\r\nPASS\r\nQUIT x\r\nBYE\r\n",
+        b"200 Successfully did nothing\r\n200 Always in binary mode\r\n500 Command not implemented\r\n\
+          501 Invalid Parameter\r\n530 Please authenticate\r\n503 Please supply a username first\r\n\
+          501 Invalid Parameter\r\n221 Bye!\r\n",
+        None,
+    ),
+    // A carriage return goes as CR NUL.
+    (
+        b"USER ann\r\nPASS x\r\nCWD up\r\nCWD a\r\0b\r\nCWD a\rb\r\n",
+        b"331 Password Required\r\n230 User logged in, proceed\r\n\
+          250 Successfully changed working directory\r\n250 Successfully changed working directory\r\n\
+          550 Directory not found\r\n",
+        None,
+    ),
+    (
+        b"USER ann\r\nPASS x\r\nLIST -la --\r\nPORT 10,0,0,2,117,48\r\nPORT 10,0,0,1,117\r\n",
+        b"331 Password Required\r\n230 User logged in, proceed\r\n425 No data connection established\r\n\
+          425 Could not establish data connection\r\n501 Invalid address format\r\n",
+        None,
+    ),
+    (
+        b"USER ann\r\nPASS x\r\nPORT 10,0,0,1,117,48\r\nLIST -la -- folder with space\r\n",
+        b"331 Password Required\r\n230 User logged in, proceed\r\n200 PORT command successful\r\n\
+          150 Sending directory list\r\n",
+        Some(b"/folder with space"),
+    ),
+    (
+        b"USER ann\r\nPASS x\r\nCWD up\r\nPORT 10,0,0,1,117,48\r\nLIST -la --\r\n",
+        b"331 Password Required\r\n230 User logged in, proceed\r\n\
+          250 Successfully changed working directory\r\n200 PORT command successful\r\n\
+          150 Sending directory list\r\n",
+        Some(b"/up"),
+    ),
+    (
+        b"USER ann\r\nPASS x\r\nPORT 10,0,0,1,117,48\r\nLIST -a  -b\r\n",
+        b"331 Password Required\r\n230 User logged in, proceed\r\n200 PORT command successful\r\n\
+          150 Sending directory list\r\n",
+        Some(b"/ -b"),
+    ),
+    (
+        b"NOOP \xff\r\nNOOP\r\n",
+        b"500 Invalid UTF8 in command\r\n",
+        None,
+    ),
+    (b"USER Dolores\r", b"", None),
+];
+
+/// Compares a row with its talk, in one packet and byte by byte.
+fn compare(rt: &impl Abort, alloc: Global, row: Row<'_>) -> Result<(), Fail> {
+    let (lines, replies, path) = row;
+    for chunk in [1, 65536] {
+        let talked = talk(alloc, lines, chunk)?;
+        let started = talked.path(alloc)?;
+        let sent = talked.link.sent().strip_prefix(GREETING);
+        assert_eq!(rt; sent, Some(replies));
+        assert_eq!(rt; started.as_ref().map(|path| path.as_slice()), path);
+        assert_eq!(rt; talked.end, ServeEnd::Ended);
+    }
+    Ok(())
+}
+
+#[test]
+fn a_client_logs_in_asks_for_a_port_and_quits(rt: HostRuntime) -> Result<(), Fail> {
+    let replies = [
+        GREETING,
+        b"331 Password Required\r\n",
+        b"230 User logged in, proceed\r\n",
+        b"227 Entering Passive Mode (10,0,0,9,195,80)\r\n",
+        b"221 Bye!\r\n",
+    ];
+    let talked = talk(rt.alloc(), b"USER ann\r\nPASS x\r\nPASV\r\nQUIT\r\n", 65536)?;
+    let mut rest = talked.link.sent();
+    for reply in replies {
+        let n = reply.len().min(rest.len());
+        let (line, behind) = rest.split_at(n);
+        assert_eq!(rt; line, reply);
+        rest = behind;
+    }
+    assert_eq!(rt; rest, b"".as_slice());
+    assert_eq!(rt; talked.end, ServeEnd::Ended);
+    Ok(())
+}
+
+#[test]
+fn lines_are_answered_in_their_order_whatever_their_pieces(rt: HostRuntime) -> Result<(), Fail> {
+    for row in ROWS {
+        compare(&rt, rt.alloc(), row)?;
+    }
+    Ok(())
+}
+
+/// A word of so many letters on a line, and then a NOOP.
+fn long_word(alloc: Global, letters: usize) -> Result<Vec<u8>, AllocError> {
+    let mut line = Vec::new(alloc);
+    line.resize(letters, b'X')?;
+    line.extend_from_slice(b"\r\nNOOP\r\n")?;
+    Ok(line)
+}
+
+#[test]
+fn the_longest_line_has_8192_bytes(rt: HostRuntime) -> Result<(), Fail> {
+    // The line end has two of them.
+    let longest = long_word(rt.alloc(), 8190)?;
+    let too_long = long_word(rt.alloc(), 8191)?;
+    let served = b"500 Command not implemented\r\n200 Successfully did nothing\r\n".as_slice();
+    let closed = b"500 Command line too long\r\n".as_slice();
+    compare(&rt, rt.alloc(), (longest.as_slice(), served, None))?;
+    compare(&rt, rt.alloc(), (too_long.as_slice(), closed, None))
+}

@@ -1,0 +1,90 @@
+//! A talk in memory, over a desk by itself.
+
+ghost use Rattle.std.specs.Prelude.{◌≡◌, ◌≤◌};
+
+use crate::values::{OnlyAnn, edge, opening, pooled, storage};
+use ftp_base::{Bytes, MemoryEdge, MemoryLink, MemoryStorage};
+use ftp_events::Answer;
+use ftp_options::Options;
+use ftp_shared::{JobShare, Serving};
+use ftp_solo::SoloDesk;
+use ftp_talk::{ServeEnd, serve_control};
+use std::alloc::{AllocError, Global};
+use std::marker::Brand;
+use std::sync::ledger::Blank;
+use std::test::Fail;
+
+/// What was seen of a talk: how it ended, what was sent, and the job that started first.
+#[derive(Drop)]
+pub struct Talked {
+    pub end: ServeEnd,
+    pub link: MemoryLink,
+    pub job: Option<JobShare>,
+}
+
+impl Talked {
+    /// The path of the job that started first.
+    pub fn path(&self, alloc: Global) -> Result<Option<Bytes>, AllocError> {
+        match &self.job {
+            Some(share) => {
+                let job = share.job(alloc)?;
+                Ok(Some(job.path))
+            }
+            None => Ok(None),
+        }
+    }
+}
+
+/// The talk on a connection, over a desk of this server.
+fn serve_shared<L: Serving>(
+    alloc: Global,
+    options: Options,
+    storage: MemoryStorage,
+    edge: MemoryEdge,
+    link: MemoryLink,
+    blank: Blank,
+) -> Talked
+    requires name { blank.name ≡ L.name }
+    requires parts { blank.parts ≡ L.parts }
+    requires two { blank.parts ≡ 2 }
+    requires options { options ≡ L.options }
+{
+    let (steps, parts) = blank.open::<L>();
+    let mut desk = SoloDesk::new(alloc, options, storage, steps, parts, 2);
+    let mut edge = edge;
+    let mut link = link;
+    let end = serve_control(
+        alloc,
+        &mut desk,
+        &mut link,
+        &mut edge,
+        &OnlyAnn,
+        opening(),
+        Answer::None,
+    );
+    let job = desk.take_job();
+    Talked { end, link, job }
+}
+
+/// The talk on a connection.
+fn serve(
+    alloc: Global,
+    options: Options,
+    storage: MemoryStorage,
+    edge: MemoryEdge,
+    link: MemoryLink,
+) -> Talked {
+    serve_shared::<Brand>(alloc, options, storage, edge, link, Blank::new(2))
+}
+
+/// The talk on these lines, which come, as the replies go, in pieces of so many bytes.
+pub fn talk(alloc: Global, lines: &[u8], chunk: u32) -> Result<Talked, Fail>
+    requires { 1 ≤ chunk }
+{
+    let lines = Vec::from_slice(alloc, lines)?;
+    let edge = edge(alloc)?;
+    let options = pooled(alloc)?;
+    let storage = storage(alloc)?;
+    let link = MemoryLink::new(alloc, lines, chunk, Vec::new(alloc));
+    Ok(serve(alloc, options, storage, edge, link))
+}

@@ -1,0 +1,80 @@
+//! Looks at the times of a session, where its client is late.
+
+ghost use Rattle.std.specs.Prelude.{◌≡◌};
+
+use crate::counting::{CountingDesk, Counts};
+use crate::late::LateControl;
+use crate::values::{OnlyAnn, edge, opening, pooled, storage};
+use ftp_base::{MemoryEdge, MemoryStorage};
+use ftp_events::Answer;
+use ftp_options::Options;
+use ftp_shared::Serving;
+use ftp_solo::SoloDesk;
+use ftp_talk::{ServeEnd, serve_control};
+use std::alloc::Global;
+use std::marker::Brand;
+use std::sync::ledger::Blank;
+use std::test::Fail;
+
+/// How serving the connection ended, and how many events of each kind its loop submitted.
+fn serve<L: Serving>(
+    alloc: Global,
+    options: Options,
+    storage: MemoryStorage,
+    edge: &mut MemoryEdge,
+    control: &mut LateControl,
+    blank: Blank,
+) -> (ServeEnd, Counts)
+    requires name { blank.name ≡ L.name }
+    requires parts { blank.parts ≡ L.parts }
+    requires two { blank.parts ≡ 2 }
+    requires options { options ≡ L.options }
+{
+    let (steps, parts) = blank.open::<L>();
+    let desk = SoloDesk::new(alloc, options, storage, steps, parts, 2);
+    let mut desk = CountingDesk::new(desk);
+    let end = serve_control(
+        alloc,
+        &mut desk,
+        control,
+        edge,
+        &OnlyAnn,
+        opening(),
+        Answer::None,
+    );
+    (end, desk.counts())
+}
+
+#[test]
+fn a_wait_is_a_look_at_the_idle_time_and_one_at_the_slot(rt: HostRuntime) -> Result<(), Fail> {
+    let alloc = rt.alloc();
+    let mut edge = edge(alloc)?;
+    let mut control = LateControl::new(alloc, b"NOOP\r\nQUIT\r\n")?;
+    let options = pooled(alloc)?;
+    let storage = storage(alloc)?;
+    let (end, counts) = serve::<Brand>(
+        alloc,
+        options,
+        storage,
+        &mut edge,
+        &mut control,
+        Blank::new(2),
+    );
+    assert_eq!(rt; end, ServeEnd::Ended);
+    assert_eq!(rt;
+        counts,
+        Counts {
+            connects: 1,
+            idle_ticks: 1,
+            slot_ticks: 1,
+            internals: 1,
+            quits: 1,
+            others: 0
+        }
+    );
+    assert_eq!(rt;
+        control.sent(),
+        b"220 Welcome to the libunftp FTP server\r\n200 Successfully did nothing\r\n221 Bye!\r\n".as_slice()
+    );
+    Ok(())
+}
