@@ -1,5 +1,6 @@
 use Rattle.std.proofs.Common.{ap, Some}
-use Rattle.ftp_solo.proofs.SubmitLemmas.{turn-appends, turn-vouched}
+use Rattle.ftp_desk.proofs.TurnLemmas.{turn-vouched}
+use Rattle.ftp_solo.proofs.SubmitLemmas.{turn-appends}
 use Rattle.ftp_solo.proofs.solo_desk.SoloDeskDesk.submit.Goals as goal
 
 -- what the locked hub gives is vouched for

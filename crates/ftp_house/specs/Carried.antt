@@ -1,0 +1,53 @@
+-- What an entry asks of its server.
+--   is_closed actions n    an action closes the connection of this number
+--   first_link actions     the link of the job that starts first
+--   not_taken e            the connection that came with the event and was not taken
+use Rattle.std.specs.Prelude.{ℕ, Bool, true, false, ◌==◌, List, [], ◌∷◌, Option, Some, None, if◌then◌else◌}
+use Rattle.std.specs.List.{list_any}
+use Rattle.std.specs.Option.{option_or}
+use Rattle.ftp_events.specs.declared.action.Action.{Action}
+use Rattle.ftp_events.specs.declared.action.Action.TheVariants.{Close, Notify, Start}
+use Rattle.ftp_events.specs.declared.decision.Decision.{Decision}
+use Rattle.ftp_events.specs.declared.decision.Decision.TheVariants.{Attached, Opened, PortOk}
+use Rattle.ftp_events.specs.declared.entry.Entry.{Entry}
+use Rattle.ftp_events.specs.Covers.{link_number}
+
+-- the action closes a connection
+abbrev pub is_close : Action → Bool
+is_close (Close number) = true
+is_close _ = false
+
+-- the action closes the connection of this number
+abbrev pub closes : ℕ → Action → Bool
+closes n (Close number) = number == n
+closes n _ = false
+
+-- an action closes the connection of this number
+abbrev pub is_closed : List Action → ℕ → Bool
+is_closed actions n = list_any (closes n) actions
+
+-- the action tells listeners something
+abbrev pub is_notice : Action → Bool
+is_notice (Notify session meta what) = true
+is_notice _ = false
+
+-- the link of the job that an action starts
+abbrev pub link_of : Action → Option ℕ
+link_of (Start ticket number) = Some number
+link_of _ = None
+
+-- the link of the job that starts first
+abbrev pub first_link : List Action → Option ℕ
+first_link [] = None
+first_link (a ∷ actions) = option_or (link_of a) (first_link actions)
+
+-- a session takes the connection that comes with the event
+abbrev pub takes : Decision → Bool
+takes Opened = true
+takes (Attached session) = true
+takes PortOk = true
+takes _ = false
+
+-- the connection that came with the event and was not taken
+abbrev pub not_taken : Entry → Option ℕ
+not_taken e = if takes e.decision then None else link_number e.event.kind

@@ -1,0 +1,97 @@
+//! A control connection, from its first byte to its last.
+
+ghost use Rattle.std.specs.Prelude.{◌≡◌, ◌≤◌, ◌/◌, true};
+ghost use Rattle.ftp_talk.specs.Control.{is_opening};
+
+use crate::audience::Audience;
+use crate::inside::Inside;
+use crate::session_edge::SessionEdge;
+use crate::worker::Worker;
+use ftp_base::{Authenticator, Control, Edge, Gate, Link, Storage};
+use ftp_edge::{ControlHandle, LIMIT, SocketControl, SystemEdge, told_address};
+use ftp_events::{Answer, EventKind, HubEvent};
+use ftp_shared::Serving;
+use ftp_talk::{ServeEnd, serve_control};
+use std::net::{IpAddr, SocketAddr, TcpStream};
+
+// How often an idle control connection is looked at, in milliseconds: four times in its idle time, but not more often
+// than once in a second, and once in ten seconds at least.
+fn patience(idle_ms: u64) -> u64
+    ensures between { (1000 ≤ result) × (result ≤ 10000) }
+    ensures quarter { 4000 ≤ idle_ms → idle_ms ≤ 40000 → result ≡ idle_ms / 4 }
+{
+    (idle_ms / 4).max(1000).min(10_000)
+}
+
+impl<
+    R: Inside,
+    L: Serving,
+    A: Authenticator + Drop,
+    N: Audience + Drop,
+    S: Storage + Drop,
+    G: Gate + Drop,
+> Worker<R, L, A, N, S, G> {
+    /// Serves a control connection to its end. None where its socket could not be set up.
+    pub fn serve(&mut self, stream: TcpStream, raw: SocketAddr) -> Option<ServeEnd> {
+        let local = stream.local_addr().ok()?;
+        let control = self.control(stream)?;
+        let handle = control.handle().ok()?;
+        let session = self.house.hub.draw();
+        let trace = self.trace();
+        let opening = HubEvent {
+            at: self.edge.now(),
+            kind: EventKind::Connect {
+                session,
+                raw: told_address(raw),
+                local: told_address(local),
+                trace,
+            },
+        };
+        self.talk(control, handle, session, local.ip(), opening, Answer::None)
+    }
+
+    // A random word for the trace of a session.
+    pub(crate) fn trace(&mut self) -> u64 {
+        (self.edge.word() & 0xffff_ffff_ffff_ffff) as u64
+    }
+
+    // The control connection over a stream.
+    pub(crate) fn control(&self, stream: TcpStream) -> Option<SocketControl> {
+        let patience = patience(self.house.options.idle_ms);
+        SocketControl::new(&self.rt, self.alloc, stream, patience, LIMIT).ok()
+    }
+
+    // Serves a control connection while others can wake its loop, and closes it then.
+    pub(crate) fn talk<C: Control + Drop>(
+        &mut self,
+        control: C,
+        handle: ControlHandle,
+        session: u64,
+        at: IpAddr,
+        opening: HubEvent,
+        answer: Answer,
+    ) -> Option<ServeEnd>
+        requires opening { is_opening opening.kind ≡ true }
+    {
+        if !self.house.exchange.enter(&self.rt, session, handle) {
+            return None;
+        }
+        let mut control = control;
+        // A connection may last, and moves no files.
+        self.buffer = Vec::new(self.alloc);
+        let system = SystemEdge::new(self.rt, self.alloc, at, LIMIT);
+        let mut edge = SessionEdge::new(self.rt, self.alloc, session, &self.house.exchange, system);
+        let end = serve_control(
+            self.alloc,
+            &mut self.desk,
+            &mut control,
+            &mut edge,
+            &self.house.authenticator,
+            opening,
+            answer,
+        );
+        self.house.exchange.leave(&self.rt, session);
+        let _ = control.close();
+        Some(end)
+    }
+}

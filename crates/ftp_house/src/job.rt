@@ -1,0 +1,61 @@
+//! A job, on the link that waits for it.
+
+use crate::audience::Audience;
+use crate::exchange::Waiting;
+use crate::inside::Inside;
+use crate::worker::Worker;
+use ftp_base::{Authenticator, Gate, Storage};
+use ftp_edge::{Ahead, Gathered, LIMIT, SocketLink, gathering_buffer};
+use ftp_jobs::serve_job;
+use ftp_shared::{JobShare, Serving};
+
+impl<
+    R: Inside,
+    L: Serving,
+    A: Authenticator + Drop,
+    N: Audience + Drop,
+    S: Storage + Drop,
+    G: Gate + Drop,
+> Worker<R, L, A, N, S, G> {
+    // The buffer for the next link, which is empty where there is no memory for it.
+    fn take_buffer(&mut self) -> Vec<u8> {
+        let none = Vec::new(self.alloc);
+        let kept = std::mem::replace(&mut self.buffer, none);
+        if !kept.is_empty() {
+            return kept;
+        }
+        match gathering_buffer(self.alloc) {
+            Ok(buffer) => buffer,
+            Err(_) => kept,
+        }
+    }
+
+    // Runs a job on the link of this number, and does what its end asks for.
+    pub(crate) fn run(&mut self, number: u64, job: JobShare) {
+        let Some(waiting) = self.house.exchange.take_link(&self.rt, number) else {
+            return;
+        };
+        let Waiting { stream, ahead } = waiting;
+        let buffer = self.take_buffer();
+        let link = SocketLink::new(self.rt, self.alloc, stream, LIMIT);
+        let mut link = Gathered::new(Ahead::new(link, ahead), buffer);
+        let call = self.house.exchange.next_call();
+        let served = serve_job(
+            &self.rt,
+            self.alloc,
+            &self.house.hub,
+            &mut self.desk.share,
+            job,
+            &*self.house.gate,
+            call,
+            &mut self.storage,
+            &mut link,
+            &mut self.edge,
+        );
+        self.buffer = link.into_buffer();
+        // Where memory ran out the job never ends.
+        if let Ok(submitted) = served {
+            self.desk.carry_out(submitted);
+        }
+    }
+}
