@@ -1,0 +1,19 @@
+//! A server that listens: at its doors, with a thread for each session and for each transfer.
+//!
+//! It ends well only where a shutdown was asked for, and each error has its cause.
+//! Begin with `Server`.
+#![tactic(auto)]
+
+mod doorkeeper;
+mod entrance;
+mod hiring;
+mod keeping;
+mod parts;
+mod place;
+mod prebound;
+mod server;
+mod single;
+
+pub use parts::Parts;
+pub use prebound::PreboundListener;
+pub use server::Server;

@@ -1,0 +1,56 @@
+//! What a server is made with, beside its options.
+
+use ftp_base::{Authenticator, DataListener, PresenceListener, Storage};
+use ftp_house::Listeners;
+use ftp_options::Indicator;
+
+/// Who may log in, who is told, who asks for a shutdown, and the files.
+#[derive(Drop)]
+pub struct Parts<S: Storage + Drop> {
+    pub authenticator: Box<dyn Authenticator + Send + Sync + Drop>,
+    /// Is told of transfers.
+    pub data_listener: Box<dyn DataListener + Send + Drop>,
+    /// Is told who logs in and who leaves.
+    pub presence_listener: Box<dyn PresenceListener + Send + Drop>,
+    pub indicator: Box<dyn Indicator + Drop>,
+    /// One storage for all sessions, behind a lock.
+    pub storage: S,
+}
+
+/// The parts of a house: who may log in, who is told, and the files.
+#[derive(Drop)]
+pub(crate) struct Staff<A, N, S> {
+    pub(crate) authenticator: A,
+    pub(crate) audience: N,
+    pub(crate) storage: S,
+}
+
+/// Anybody whom boxes hold.
+pub(crate) type Boxed<S> = Staff<
+    Box<dyn Authenticator + Send + Sync + Drop>,
+    Listeners<Box<dyn DataListener + Send + Drop>, Box<dyn PresenceListener + Send + Drop>>,
+    S,
+>;
+
+impl<S: Storage + Drop> Parts<S> {
+    /// Who asks for a shutdown, and all else.
+    pub(crate) fn open(self) -> (Box<dyn Indicator + Drop>, Boxed<S>) {
+        let Parts {
+            authenticator,
+            data_listener,
+            presence_listener,
+            indicator,
+            storage,
+        } = self;
+        let audience = Listeners {
+            data: data_listener,
+            presence: presence_listener,
+        };
+        let staff = Staff {
+            authenticator,
+            audience,
+            storage,
+        };
+        (indicator, staff)
+    }
+}

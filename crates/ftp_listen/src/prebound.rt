@@ -1,0 +1,54 @@
+//! A server whose sessions share the ports.
+
+ghost use Rattle.std.specs.Prelude.{◌≡◌, ◌↔◌, true, IfErr, IsErrOf};
+ghost use Rattle.ftp_options.specs.Modes.{is_pooled, is_proxy};
+ghost use Rattle.ftp_listen.specs.Causes.{WritesNone, WritesV6, is_of_listening};
+
+use crate::parts::Parts;
+use crate::server::Server;
+use ftp_base::Storage;
+use ftp_edge::Outside;
+use ftp_options::{Built, ServerError};
+use std::alloc::Global;
+
+/// A server that does not listen yet, and whose sessions share the ports.
+#[derive(Drop)]
+pub struct PreboundListener<S: Storage + Drop> {
+    server: Server<S>,
+}
+
+impl<S: Storage + Send + Drop + 'static> PreboundListener<S> {
+    pub fn new(alloc: Global, built: Built, parts: Parts<S>) -> PreboundListener<S>
+        ensures { result.server.options ≡ built.options }
+    {
+        PreboundListener {
+            server: Server::new(alloc, built, parts),
+        }
+    }
+
+    /// Listens at an address and at each passive port there, as `Server::listen` does.
+    pub fn listen_pooled<R: Outside>(self, rt: &R, bind_address: &[u8]) -> Result<(), ServerError>
+        requires pooled { is_pooled self.server.options.mode ≡ true }
+        ensures address { IsErrOf result ServerError.Address ↔ WritesNone bind_address.now }
+        ensures ipv6 { IsErrOf result ServerError.Ipv6OutsideLegacy ↔ WritesV6 bind_address.now }
+        ensures only { IfErr result (λ e. is_of_listening e ≡ true) }
+    {
+        let PreboundListener { server } = self;
+        server.listen(rt, bind_address)
+    }
+
+    /// Listens at an address for connections that a proxy passes on, as `Server::listen` does.
+    pub fn listen_proxy_protocol<R: Outside>(
+        self,
+        rt: &R,
+        bind_address: &[u8],
+    ) -> Result<(), ServerError>
+        requires proxy { is_proxy self.server.options.mode ≡ true }
+        ensures address { IsErrOf result ServerError.Address ↔ WritesNone bind_address.now }
+        ensures ipv6 { IsErrOf result ServerError.Ipv6OutsideLegacy ↔ WritesV6 bind_address.now }
+        ensures only { IfErr result (λ e. is_of_listening e ≡ true) }
+    {
+        let PreboundListener { server } = self;
+        server.listen(rt, bind_address)
+    }
+}

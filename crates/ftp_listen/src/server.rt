@@ -1,0 +1,210 @@
+//! A server, from its options to its end.
+
+ghost use Rattle.std.specs.Prelude.{◌≡◌, ◌↔◌, ◌⊎◌, None, true, false, IfErr, IsErrOf, IsSome, OnOk};
+ghost use Rattle.ftp_base.specs.Outside.{HasRisen};
+ghost use Rattle.ftp_options.specs.Modes.{is_legacy};
+ghost use Rattle.ftp_listen.specs.Causes.{WritesNone, WritesV6, IsPastGrace, is_of_listening, is_of_running};
+
+use crate::keeping::{PARTS, keep_house};
+use crate::parts::{Boxed, Parts, Staff};
+use crate::place::{doors_at, place_of};
+use crate::single::serve_one;
+use ftp_base::{Authenticator, Gate, SocketAddr, Spawner, Storage};
+use ftp_edge::{Front, OpenGate, Outside, SystemFront, SystemThreads};
+use ftp_house::Audience;
+use ftp_options::{Built, Indicator, Options, ServerError};
+use std::alloc::Global;
+use std::marker::Brand;
+use std::net::TcpStream;
+use std::sync::Arc;
+use std::sync::ledger::Blank;
+
+/// A server that does not listen yet.
+#[derive(Drop)]
+pub struct Server<S: Storage + Drop> {
+    alloc: Global,
+    options: Options,
+    parts: Parts<S>,
+}
+
+impl<S: Storage + Send + Drop + 'static> Server<S> {
+    /// Handlers of SITE commands are not asked.
+    pub fn new(alloc: Global, built: Built, parts: Parts<S>) -> Server<S>
+        ensures { result.options ≡ built.options }
+    {
+        let Built {
+            options,
+            handlers: _,
+        } = built;
+        Server {
+            alloc,
+            options,
+            parts,
+        }
+    }
+
+    /// Listens at an address such as `127.0.0.1:21` or `[::1]:21`, until the indicator asks for a shutdown and all
+    /// transfers are over.
+    pub fn listen<R: Outside>(self, rt: &R, bind_address: &[u8]) -> Result<(), ServerError>
+        ensures address { IsErrOf result ServerError.Address ↔ WritesNone bind_address.now }
+        ensures ipv6 { IsErrOf result ServerError.Ipv6OutsideLegacy ↔ (WritesV6 bind_address.now × (is_legacy self.options.mode ≡ false)) }
+        ensures only { IfErr result (λ e. is_of_listening e ≡ true) }
+    {
+        let Server {
+            alloc,
+            options,
+            parts,
+        } = self;
+        let (indicator, staff) = parts.open();
+        let mut indicator = indicator;
+        let at = match place_of(bind_address, options.mode) {
+            Ok(at) => at,
+            Err(error) => return Err(error),
+        };
+        let Ok(gate) = Arc::new(alloc, OpenGate) else {
+            return Err(ServerError::OutOfMemory);
+        };
+        listen_boxed(
+            rt,
+            alloc,
+            options,
+            staff,
+            at,
+            gate,
+            &mut SystemThreads::new(),
+            &mut SystemFront::new(*rt, alloc),
+            &mut indicator,
+        )
+    }
+
+    /// Listens as `listen` does, with a gate before each transfer, and with a spawner, a front and an indicator of the
+    /// caller's; that of the parts is not asked.
+    ///
+    /// In each turn the indicator is given the moment that the front gave last.
+    pub fn listen_with<R: Outside, G: Gate + Send + Sync + Drop + 'static, P: Spawner, F: Front>(
+        self,
+        rt: &R,
+        bind_address: &[u8],
+        gate: Arc<G, Global>,
+        spawner: &mut P,
+        front: &mut F,
+        indicator: &mut Box<dyn Indicator + Drop>,
+    ) -> Result<(), ServerError>
+        ensures ok { OnOk result (IsSome (⟦<Box<dyn Indicator + Drop> as Indicator>⟧.asked indicator.new)) }
+        ensures address { IsErrOf result ServerError.Address ↔ WritesNone bind_address.now }
+        ensures ipv6 { IsErrOf result ServerError.Ipv6OutsideLegacy ↔ (WritesV6 bind_address.now × (is_legacy self.options.mode ≡ false)) }
+        ensures io { IsErrOf result ServerError.Io → HasRisen (F.faults front.old) (F.faults front.new) }
+        ensures listener { IsErrOf result ServerError.Listener → HasRisen (P.faults spawner.old) (P.faults spawner.new) }
+        ensures shutdown { IsErrOf result ServerError.Shutdown → ⟦<Box<dyn Indicator + Drop> as Indicator>⟧.asked indicator.old ≡ None → IsPastGrace (⟦<Box<dyn Indicator + Drop> as Indicator>⟧.asked indicator.new) (F.latest front.new) }
+        ensures has_asked { IsErrOf result ServerError.Shutdown → IsSome (⟦<Box<dyn Indicator + Drop> as Indicator>⟧.asked indicator.new) }
+        ensures only { IfErr result (λ e. is_of_listening e ≡ true) }
+    {
+        let Server {
+            alloc,
+            options,
+            parts,
+        } = self;
+        let (own, staff) = parts.open();
+        drop(own);
+        let at = match place_of(bind_address, options.mode) {
+            Ok(at) => at,
+            Err(error) => return Err(error),
+        };
+        listen_boxed(
+            rt, alloc, options, staff, at, gate, spawner, front, indicator,
+        )
+    }
+
+    /// Serves one control connection to its end, in legacy mode whatever mode was built. The indicator is not asked.
+    ///
+    /// A fault of the connection is `Io`.
+    pub fn service<R: Outside>(self, rt: &R, stream: TcpStream) -> Result<(), ServerError>
+        ensures only { IfErr result (λ e. (e ≡ ServerError.Io) ⊎ (e ≡ ServerError.OutOfMemory)) }
+    {
+        let Server {
+            alloc,
+            options,
+            parts,
+        } = self;
+        let (own, staff) = parts.open();
+        drop(own);
+        serve_one(rt, alloc, options, staff, stream)
+    }
+}
+
+// Listens at an address, with parts that boxes hold.
+fn listen_boxed<
+    R: Outside,
+    S: Storage + Send + Drop + 'static,
+    G: Gate + Send + Sync + Drop + 'static,
+    P: Spawner,
+    F: Front,
+    I: Indicator,
+>(
+    rt: &R,
+    alloc: Global,
+    options: Options,
+    staff: Boxed<S>,
+    at: SocketAddr,
+    gate: Arc<G, Global>,
+    spawner: &mut P,
+    front: &mut F,
+    indicator: &mut I,
+) -> Result<(), ServerError>
+    ensures ok { OnOk result (IsSome (I.asked indicator.new)) }
+    ensures io { IsErrOf result ServerError.Io → HasRisen (F.faults front.old) (F.faults front.new) }
+    ensures listener { IsErrOf result ServerError.Listener → HasRisen (P.faults spawner.old) (P.faults spawner.new) }
+    ensures shutdown { IsErrOf result ServerError.Shutdown → I.asked indicator.old ≡ None → IsPastGrace (I.asked indicator.new) (F.latest front.new) }
+    ensures has_asked { IsErrOf result ServerError.Shutdown → IsSome (I.asked indicator.new) }
+    ensures only { IfErr result (λ e. is_of_running e ≡ true) }
+{
+    listen_at(
+        rt, alloc, options, staff, at, gate, spawner, front, indicator,
+    )
+}
+
+// Listens at an address, until the indicator asks for a shutdown and all transfers are over.
+fn listen_at<
+    R: Outside,
+    A: Authenticator + Send + Sync + Drop + 'static,
+    N: Audience + Send + Drop + 'static,
+    S: Storage + Send + Drop + 'static,
+    G: Gate + Send + Sync + Drop + 'static,
+    P: Spawner,
+    F: Front,
+    I: Indicator,
+>(
+    rt: &R,
+    alloc: Global,
+    options: Options,
+    staff: Staff<A, N, S>,
+    at: SocketAddr,
+    gate: Arc<G, Global>,
+    spawner: &mut P,
+    front: &mut F,
+    indicator: &mut I,
+) -> Result<(), ServerError>
+    ensures ok { OnOk result (IsSome (I.asked indicator.new)) }
+    ensures io { IsErrOf result ServerError.Io → HasRisen (F.faults front.old) (F.faults front.new) }
+    ensures listener { IsErrOf result ServerError.Listener → HasRisen (P.faults spawner.old) (P.faults spawner.new) }
+    ensures shutdown { IsErrOf result ServerError.Shutdown → I.asked indicator.old ≡ None → IsPastGrace (I.asked indicator.new) (F.latest front.new) }
+    ensures has_asked { IsErrOf result ServerError.Shutdown → IsSome (I.asked indicator.new) }
+    ensures only { IfErr result (λ e. is_of_running e ≡ true) }
+{
+    let doors = match doors_at(front, at, &options) {
+        Ok(doors) => doors,
+        Err(error) => return Err(error),
+    };
+    keep_house::<Brand, R, A, N, S, G, P, F, I>(
+        rt,
+        alloc,
+        options,
+        Blank::new(PARTS),
+        staff,
+        gate,
+        doors,
+        spawner,
+        front,
+        indicator,
+    )
+}

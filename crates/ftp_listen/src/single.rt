@@ -1,0 +1,167 @@
+//! One control connection by itself.
+
+ghost use Rattle.std.specs.Prelude.{◌≡◌, ◌⊎◌, IfErr};
+
+use crate::entrance::Watch;
+use crate::hiring::hire_all;
+use crate::keeping::{PARTS, house_of};
+use crate::parts::{Boxed, Staff};
+use ftp_base::{Authenticator, Gate, Storage};
+use ftp_edge::{OpenGate, Outside, SystemThreads};
+use ftp_house::{Audience, House, Worker};
+use ftp_options::{ListenerMode, Options, ServerError};
+use ftp_shared::{Serving, StepShare};
+use ftp_talk::ServeEnd;
+use std::alloc::Global;
+use std::marker::Brand;
+use std::net::{SocketAddr, TcpStream};
+use std::sync::Arc;
+use std::sync::atomic::{AtomicBool, Ordering};
+use std::sync::ledger::Blank;
+use std::thread;
+use std::time::Duration;
+
+/// How long one wait for a thread that is wanted is, in milliseconds.
+const TURN: u64 = 100;
+
+/// The same options in legacy mode.
+fn in_legacy_mode(options: Options) -> Options {
+    Options {
+        mode: ListenerMode::Legacy,
+        lo: options.lo,
+        hi: options.hi,
+        host: options.host,
+        active_passive: options.active_passive,
+        idle_ms: options.idle_ms,
+        lockout: options.lockout,
+        features: options.features,
+        site_md5: options.site_md5,
+        tls_flags: options.tls_flags,
+        collect_metrics: options.collect_metrics,
+        greeting: options.greeting,
+    }
+}
+
+// Serves a connection that came from there to its end.
+fn served<
+    R: Outside,
+    L: Serving,
+    A: Authenticator + Drop,
+    N: Audience + Drop,
+    S: Storage + Drop,
+    G: Gate + Drop,
+>(
+    rt: &R,
+    house: Arc<House<L, A, N, S, G>, Global>,
+    share: StepShare<L>,
+    stream: TcpStream,
+    raw: SocketAddr,
+) -> Result<(), ServerError>
+    ensures only { IfErr result (λ e. (e ≡ ServerError.Io) ⊎ (e ≡ ServerError.OutOfMemory)) }
+{
+    let Ok(worker) = Worker::new(*rt, house, share) else {
+        return Err(ServerError::OutOfMemory);
+    };
+    let mut worker = worker;
+    let end = worker.serve(stream, raw);
+    worker.leave();
+    match end {
+        Some(ServeEnd::Ended | ServeEnd::Refused(_)) => Ok(()),
+        Some(ServeEnd::ReadFault | ServeEnd::WriteFault) => Err(ServerError::Io),
+        Some(ServeEnd::OutOfMemory) | None => Err(ServerError::OutOfMemory),
+    }
+}
+
+// Starts the threads that are wanted, until the connection is over and all transfers are.
+fn hire_on<
+    R: Outside,
+    L: Serving + Send + Sync + 'static,
+    A: Authenticator + Send + Sync + Drop + 'static,
+    N: Audience + Send + Drop + 'static,
+    S: Storage + Send + Drop + 'static,
+    G: Gate + Send + Sync + Drop + 'static,
+>(rt: &R, house: &Arc<House<L, A, N, S, G>, Global>, watch: &mut Watch, is_over: &AtomicBool) {
+    let mut threads = SystemThreads::new();
+    let mut owed = 0;
+    for _ in rt.forever() {
+        owed = hire_all(rt, house, &mut threads, owed);
+        if is_over.load(Ordering::SeqCst) && house.drained(rt) {
+            return;
+        }
+        if watch.wait(TURN).is_err() {
+            thread::sleep(rt, Duration::from_millis(TURN));
+        }
+    }
+}
+
+// Serves a connection in a house of its own.
+fn serve_inside<
+    L: Serving + Send + Sync + 'static,
+    R: Outside,
+    A: Authenticator + Send + Sync + Drop + 'static,
+    N: Audience + Send + Drop + 'static,
+    S: Storage + Send + Drop + 'static,
+>(
+    rt: &R,
+    alloc: Global,
+    options: Options,
+    blank: Blank,
+    staff: Staff<A, N, S>,
+    stream: TcpStream,
+    raw: SocketAddr,
+) -> Result<(), ServerError>
+    requires name { blank.name ≡ L.name }
+    requires parts { blank.parts ≡ L.parts }
+    requires all { blank.parts ≡ PARTS }
+    requires options { options ≡ L.options }
+    ensures only { IfErr result (λ e. (e ≡ ServerError.Io) ⊎ (e ≡ ServerError.OutOfMemory)) }
+{
+    let (Ok((watch, waker)), Ok(gate)) = (Watch::inside(rt, alloc), Arc::new(alloc, OpenGate))
+    else {
+        return Err(ServerError::OutOfMemory);
+    };
+    let Ok(theirs) = Arc::try_clone(&waker) else {
+        return Err(ServerError::OutOfMemory);
+    };
+    let Ok(house) = house_of::<L, A, N, S, OpenGate>(alloc, options, blank, staff, gate, theirs)
+    else {
+        return Err(ServerError::OutOfMemory);
+    };
+    let (Some(share), Ok(theirs)) = (house.share(rt), Arc::try_clone(&house)) else {
+        return Err(ServerError::OutOfMemory);
+    };
+    let mut watch = watch;
+    let over = AtomicBool::new(false);
+    let is_over = &over;
+    let bell = &*waker;
+    let (end, ()) = thread::join(
+        rt,
+        move || {
+            let end = served(rt, theirs, share, stream, raw);
+            is_over.store(true, Ordering::SeqCst);
+            let _ = bell.wake();
+            end
+        },
+        || hire_on(rt, &house, &mut watch, is_over),
+    );
+    house.close(rt);
+    end
+}
+
+/// Serves one control connection to its end, in legacy mode.
+pub(crate) fn serve_one<R: Outside, S: Storage + Send + Drop + 'static>(
+    rt: &R,
+    alloc: Global,
+    options: Options,
+    staff: Boxed<S>,
+    stream: TcpStream,
+) -> Result<(), ServerError>
+    ensures only { IfErr result (λ e. (e ≡ ServerError.Io) ⊎ (e ≡ ServerError.OutOfMemory)) }
+{
+    // Where nobody is there any more, nobody is served.
+    let Ok(raw) = stream.peer_addr() else {
+        return Ok(());
+    };
+    let options = in_legacy_mode(options);
+    serve_inside::<Brand, R, _, _, S>(rt, alloc, options, Blank::new(PARTS), staff, stream, raw)
+}
