@@ -8,7 +8,7 @@ use crate::parts::Parts;
 use crate::server::Server;
 use ftp_base::Storage;
 use ftp_edge::Outside;
-use ftp_options::{Built, ServerError};
+use ftp_options::{Built, Options, ServerError};
 use std::alloc::Global;
 
 /// A server that does not listen yet, and whose sessions share the ports.
@@ -23,6 +23,15 @@ impl<S: Storage + Send + Drop + 'static> PreboundListener<S> {
     {
         PreboundListener {
             server: Server::new(alloc, built, parts),
+        }
+    }
+
+    /// A server without handlers of SITE commands.
+    pub fn with_options(alloc: Global, options: Options, parts: Parts<S>) -> PreboundListener<S>
+        ensures { result.server.options ≡ options }
+    {
+        PreboundListener {
+            server: Server::with_options(alloc, options, parts),
         }
     }
 

@@ -43,6 +43,17 @@ impl<S: Storage + Send + Drop + 'static> Server<S> {
         }
     }
 
+    /// A server without handlers of SITE commands.
+    pub fn with_options(alloc: Global, options: Options, parts: Parts<S>) -> Server<S>
+        ensures { result.options ≡ options }
+    {
+        Server {
+            alloc,
+            options,
+            parts,
+        }
+    }
+
     /// Listens at an address such as `127.0.0.1:21` or `[::1]:21`, until the indicator asks for a shutdown and all
     /// transfers are over.
     pub fn listen<R: Outside>(self, rt: &R, bind_address: &[u8]) -> Result<(), ServerError>
