@@ -1,0 +1,170 @@
+//! What a test puts in the place of the system: a front, an indicator and gates.
+
+use ftp_base::{Gate, SocketAddr};
+use ftp_edge::{Doors, Front};
+use ftp_options::{Indicator, Shutdown};
+use std::alloc::{AllocError, Global};
+use std::sync::Arc;
+use std::sync::atomic::{AtomicBool, AtomicU64, Ordering};
+use std::thread;
+use std::time::{Clock, Duration};
+
+/// What fronts, indicators and gates tell each other and their test.
+#[derive(Drop)]
+pub struct Board {
+    /// The moment that the front gave last.
+    pub latest: AtomicU64,
+    /// How often the indicator was asked, and how often with another moment.
+    pub polls: AtomicU64,
+    pub strange_polls: AtomicU64,
+    /// The indicator asks for a shutdown.
+    pub asks: AtomicBool,
+    /// A transfer has come to the gate, and the gate is open.
+    pub has_come: AtomicBool,
+    pub is_open: AtomicBool,
+}
+
+pub type SharedBoard = Arc<Board, Global>;
+
+/// A board on which nothing stands yet.
+pub fn new_board(alloc: Global) -> Result<SharedBoard, AllocError> {
+    let board = Board {
+        latest: AtomicU64::new(0),
+        polls: AtomicU64::new(0),
+        strange_polls: AtomicU64::new(0),
+        asks: AtomicBool::new(false),
+        has_come: AtomicBool::new(false),
+        is_open: AtomicBool::new(false),
+    };
+    match Arc::new(alloc, board) {
+        Ok(board) => Ok(board),
+        Err(_) => Err(AllocError),
+    }
+}
+
+/// A front that tells its latest moment.
+#[derive(Drop)]
+pub struct Watched<F: Front + Drop> {
+    pub front: F,
+    pub board: SharedBoard,
+}
+
+impl<F: Front + Drop> Front for Watched<F> {
+    ghost faults = { λ w. F.faults w.front };
+
+    ghost latest = { λ w. F.latest w.front };
+
+    fn open_doors(
+        &mut self,
+        at: SocketAddr,
+        ports: Option<(u16, u16)>,
+    ) -> Result<Option<Doors>, AllocError> {
+        self.front.open_doors(at, ports)
+    }
+
+    fn now(&mut self) -> u64 {
+        let at = self.front.now();
+        self.board.latest.store(at, Ordering::SeqCst);
+        at
+    }
+}
+
+/// A front whose doors stay shut.
+#[derive(Drop)]
+pub struct Shut {
+    pub faults: u64,
+    pub latest: u64,
+}
+
+impl Front for Shut {
+    ghost faults = { λ s. s.faults };
+
+    ghost latest = { λ s. s.latest };
+
+    fn open_doors(
+        &mut self,
+        _at: SocketAddr,
+        _ports: Option<(u16, u16)>,
+    ) -> Result<Option<Doors>, AllocError> {
+        self.faults = self.faults.saturating_add(1);
+        Ok(None)
+    }
+
+    fn now(&mut self) -> u64 {
+        self.latest = self.latest.saturating_add(1);
+        self.latest
+    }
+}
+
+/// Asks for a shutdown from when the board says so, and looks at the moments that it is given.
+#[derive(Drop)]
+pub struct Asks {
+    pub board: SharedBoard,
+    pub shutdown: Shutdown,
+    /// When it asked first, and with which grace period.
+    pub asked: Option<(u64, u64)>,
+}
+
+impl Indicator for Asks {
+    ghost asked = { λ a. a.asked };
+
+    fn poll(&mut self, at: u64) -> Option<Shutdown> {
+        self.board.polls.fetch_add(1, Ordering::SeqCst);
+        if at != self.board.latest.load(Ordering::SeqCst) {
+            self.board.strange_polls.fetch_add(1, Ordering::SeqCst);
+        }
+        if self.asked.is_some() {
+            return Some(self.shutdown);
+        }
+        if !self.board.asks.load(Ordering::SeqCst) {
+            return None;
+        }
+        self.asked = Some((at, self.shutdown.grace_ms));
+        Some(self.shutdown)
+    }
+}
+
+/// Holds every transfer back until the board says that it is open.
+#[derive(Drop)]
+pub struct Held<C: Clock + Drop> {
+    pub clock: C,
+    pub board: SharedBoard,
+}
+
+impl<C: Clock + Drop> Gate for Held<C> {
+    fn pass(&self, _call: u64) {
+        self.board.has_come.store(true, Ordering::SeqCst);
+        for _ in 0..u64::MAX {
+            if self.board.is_open.load(Ordering::SeqCst) {
+                return;
+            }
+            thread::sleep(&self.clock, Duration::from_millis(1));
+        }
+    }
+}
+
+/// How many turns the first transfer waits for the second.
+const TURNS: u32 = 1_000_000;
+
+/// Holds the first transfer back until the second has come, and says where it did not come in time.
+#[derive(Drop)]
+pub struct InPairs {
+    pub second_has_come: AtomicBool,
+    pub is_late: Arc<AtomicBool, Global>,
+}
+
+impl Gate for InPairs {
+    fn pass(&self, call: u64) {
+        if call != 1 {
+            self.second_has_come.store(true, Ordering::SeqCst);
+            return;
+        }
+        for _ in 0..TURNS {
+            if self.second_has_come.load(Ordering::SeqCst) {
+                return;
+            }
+            thread::yield_now();
+        }
+        self.is_late.store(true, Ordering::SeqCst);
+    }
+}

@@ -1,0 +1,152 @@
+//! Why a server ends.
+
+use crate::client::{Client, Met, data_connection};
+use crate::doubles::{Board, Held, SharedBoard, Shut, new_board};
+use crate::place::Place;
+use crate::setting::{Ended, Stopped, listen_watched};
+use ftp_edge::{OpenGate, Outside, SystemFront};
+use ftp_options::{ListenerMode, ServerError, Shutdown};
+use std::alloc::Global;
+use std::net::{Net, TcpListener, TcpStream};
+use std::sync::Arc;
+use std::sync::atomic::Ordering;
+use std::test::Fail;
+use std::thread;
+use std::time::{Clock, Duration};
+
+const POOLED: ListenerMode = ListenerMode::Pooled;
+
+/// Listens with doors that stay shut.
+fn shut_out<R: Outside>(rt: &R, alloc: Global, board: &SharedBoard) -> Ended {
+    let front = Shut {
+        faults: 0,
+        latest: 0,
+    };
+    let gate = OpenGate;
+    listen_watched(
+        rt,
+        alloc,
+        board,
+        POOLED,
+        "127.0.0.1:2121",
+        front,
+        gate,
+        Shutdown::new(),
+    )
+}
+
+/// Listens where nobody comes, with an indicator that asks at once.
+fn shut_down_at_once<R: Outside>(rt: &R, alloc: Global, board: &SharedBoard) -> Ended {
+    board.asks.store(true, Ordering::SeqCst);
+    let text = Place::drawn(rt).ok().ok_or(Stopped::NoPlace)?.text(alloc)?;
+    let front = SystemFront::new(*rt, alloc);
+    let gate = OpenGate;
+    listen_watched(
+        rt,
+        alloc,
+        board,
+        POOLED,
+        text.as_str(),
+        front,
+        gate,
+        Shutdown::new(),
+    )
+}
+
+/// Asks for the file, and has the server shut down once its transfer waits at the gate.
+fn ask_and_wait<R: Net<Stream = TcpStream> + Clock>(
+    rt: &R,
+    alloc: Global,
+    place: Place,
+    entering: &str,
+    board: &Board,
+) -> Result<(), Met> {
+    let mut client = Client::greeted(rt, alloc, place.door(), "")?;
+    client.log_in()?;
+    client.ask("PASV\r\n", entering)?;
+    let data = data_connection(rt, place.passive(), "")?;
+    client.ask("RETR a.txt\r\n", "150 Sending data\r\n")?;
+    for _ in 0..u64::MAX {
+        if board.has_come.load(Ordering::SeqCst) {
+            break;
+        }
+        thread::sleep(rt, Duration::from_millis(1));
+    }
+    drop(data);
+    Ok(())
+}
+
+/// Listens with a gate that holds a transfer back, and with an indicator that asks then, without a grace period.
+fn shut_down_early<R: Outside>(rt: &R, alloc: Global, board: &SharedBoard) -> Ended {
+    let place = Place::drawn(rt).ok().ok_or(Stopped::NoPlace)?;
+    let (text, entering) = (place.text(alloc)?, place.entering(alloc)?);
+    let front = SystemFront::new(*rt, alloc);
+    let gate = Held {
+        clock: *rt,
+        board: Arc::try_clone(board)?,
+    };
+    let shutdown = Shutdown::new().grace_period(0);
+    let (met, ended) = thread::join(
+        rt,
+        || {
+            let met = ask_and_wait(rt, alloc, place, entering.as_str(), board);
+            board.asks.store(true, Ordering::SeqCst);
+            met
+        },
+        move || listen_watched(
+            rt,
+            alloc,
+            board,
+            POOLED,
+            text.as_str(),
+            front,
+            gate,
+            shutdown,
+        ),
+    );
+    board.is_open.store(true, Ordering::SeqCst);
+    match met {
+        Ok(()) => ended,
+        Err(met) => Err(Stopped::Client(met)),
+    }
+}
+
+/// Whether every poll was given the moment that the front gave last.
+fn polls_agree(board: &Board) -> bool {
+    board.strange_polls.load(Ordering::SeqCst) == 0
+}
+
+#[test]
+fn doors_that_stay_shut_are_a_fault(rt: HostRuntime) -> Result<(), Fail> {
+    let types: Option<(TcpListener, TcpStream)> = None;
+    drop(types);
+    let board = new_board(rt.alloc())?;
+    let ended = shut_out(&rt, rt.alloc(), &board)?;
+    assert_eq!(rt; ended, Err(ServerError::Io));
+    assert!(rt; polls_agree(&board));
+    Ok(())
+}
+
+#[test]
+fn a_server_without_sessions_shuts_down_at_once(rt: HostRuntime) -> Result<(), Fail> {
+    let types: Option<(TcpListener, TcpStream)> = None;
+    drop(types);
+    let board = new_board(rt.alloc())?;
+    let ended = shut_down_at_once(&rt, rt.alloc(), &board)?;
+    assert_eq!(rt; ended, Ok(()));
+    assert!(rt; polls_agree(&board));
+    assert!(rt; board.polls.load(Ordering::SeqCst) > 0);
+    Ok(())
+}
+
+#[test]
+fn a_transfer_that_waits_outlasts_no_grace_period(rt: HostRuntime) -> Result<(), Fail> {
+    let types: Option<(TcpListener, TcpStream)> = None;
+    drop(types);
+    let board = new_board(rt.alloc())?;
+    let ended = shut_down_early(&rt, rt.alloc(), &board)?;
+    assert_eq!(rt; ended, Err(ServerError::Shutdown));
+    assert!(rt; polls_agree(&board));
+    assert!(rt; board.polls.load(Ordering::SeqCst) > 0);
+    Ok(())
+}

@@ -1,0 +1,22 @@
+//! Tests of a server that listens, over loopback: each mode from its first reply to its last, and why it ends.
+//!
+//! They stand here and not beside the code, since a crate with tests is proved twice.
+//! Begin with `tests`.
+#![tactic(auto)]
+
+#[cfg(test)]
+mod client;
+#[cfg(test)]
+mod doubles;
+#[cfg(test)]
+mod endings;
+#[cfg(test)]
+mod pairs;
+#[cfg(test)]
+mod place;
+#[cfg(test)]
+mod refusals;
+#[cfg(test)]
+mod sessions;
+#[cfg(test)]
+mod setting;

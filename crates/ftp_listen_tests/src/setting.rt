@@ -1,0 +1,183 @@
+//! What several tests serve, and how a client and its server meet.
+
+use crate::client::Met;
+use crate::doubles::{Asks, SharedBoard, Watched};
+use crate::place::PASSIVE;
+use ftp_base::{AuthAnswer, Bytes, Gate, MemoryStorage, NopListener, SameAnswer};
+use ftp_edge::{Front, Outside, SystemThreads};
+use ftp_listen::{Parts, PreboundListener, Server};
+use ftp_options::{Indicator, ListenerMode, Options, ServerBuilder, ServerError, Shutdown};
+use std::alloc::{AllocError, Global};
+use std::net::TcpStream;
+use std::sync::Arc;
+
+/// What the only file holds.
+pub const FILE: &[u8] = b"hello";
+
+/// Why a test did not come to its end.
+#[derive(Debug, Drop)]
+pub enum Stopped {
+    Client(Met),
+    Server(ServerError),
+    OutOfMemory,
+    /// No address could be drawn.
+    NoPlace,
+    /// What was built has another mode, or the file could not be stored.
+    NotSet,
+}
+
+impl From<AllocError> for Stopped {
+    fn from(_error: AllocError) -> Stopped {
+        Stopped::OutOfMemory
+    }
+}
+
+/// Options of this mode, with one passive port.
+fn options(alloc: Global, mode: ListenerMode) -> Result<Options, Stopped> {
+    let mut builder = ServerBuilder::new(alloc);
+    match mode {
+        ListenerMode::Legacy => {}
+        ListenerMode::Pooled => builder.pooled_listener_mode(),
+        ListenerMode::Proxy { control_port } => builder.proxy_protocol_mode(control_port),
+    }
+    builder.passive_ports(PASSIVE, PASSIVE);
+    match builder.build() {
+        Ok(built) => Ok(built.options),
+        Err(error) => Err(Stopped::Server(error)),
+    }
+}
+
+/// A storage with the file `/a.txt`.
+fn storage(alloc: Global) -> Result<MemoryStorage, Stopped> {
+    let mut storage = MemoryStorage::new(alloc, 1 << 20, Vec::new(alloc));
+    let path = Bytes::from_slice(alloc, b"/a.txt")?;
+    match storage.put_file(path, FILE.to_vec(alloc)?) {
+        Ok(()) => Ok(storage),
+        Err(_) => Err(Stopped::NotSet),
+    }
+}
+
+/// What both said where both came to their ends.
+pub fn agreed(met: Result<(), Met>, ended: Result<(), ServerError>) -> Result<(), Stopped> {
+    if let Err(met) = met {
+        return Err(Stopped::Client(met));
+    }
+    match ended {
+        Ok(()) => Ok(()),
+        Err(error) => Err(Stopped::Server(error)),
+    }
+}
+
+/// Everybody may log in, nobody is told, the board says when to shut down, and there is one file.
+macro_rules! parts {
+    ($alloc:expr, $board:expr) => {{
+        let alloc = $alloc;
+        let asks = Asks {
+            board: Arc::try_clone($board)?,
+            shutdown: Shutdown::new(),
+            asked: None,
+        };
+        let (Ok(authenticator), Ok(data_listener), Ok(presence_listener), Ok(indicator)) = (
+            Box::new(alloc, SameAnswer(AuthAnswer::Good)),
+            Box::new(alloc, NopListener),
+            Box::new(alloc, NopListener),
+            Box::new(alloc, asks),
+        ) else {
+            return Err(Stopped::OutOfMemory);
+        };
+        Parts {
+            authenticator,
+            data_listener,
+            presence_listener,
+            indicator,
+            storage: storage(alloc)?,
+        }
+    }};
+}
+
+/// How a server ended, where it was set up.
+pub type Ended = Result<Result<(), ServerError>, Stopped>;
+
+/// Listens at the text in this mode.
+pub fn listen<R: Outside>(
+    rt: &R,
+    alloc: Global,
+    board: &SharedBoard,
+    mode: ListenerMode,
+    text: &str,
+) -> Ended {
+    let server = Server::with_options(alloc, options(alloc, mode)?, parts!(alloc, board));
+    Ok(server.listen(rt, text.as_bytes()))
+}
+
+/// Listens at the text with all ports bound before.
+pub fn listen_pooled<R: Outside>(rt: &R, alloc: Global, board: &SharedBoard, text: &str) -> Ended {
+    let options = options(alloc, ListenerMode::Pooled)?;
+    if !options.mode.is_pooled() {
+        return Err(Stopped::NotSet);
+    }
+    let server = PreboundListener::with_options(alloc, options, parts!(alloc, board));
+    Ok(server.listen_pooled(rt, text.as_bytes()))
+}
+
+/// Listens at the text behind a proxy whose clients call this control port.
+pub fn listen_behind_proxy<R: Outside>(
+    rt: &R,
+    alloc: Global,
+    board: &SharedBoard,
+    control_port: u16,
+    text: &str,
+) -> Ended {
+    let options = options(alloc, ListenerMode::Proxy { control_port })?;
+    if !options.mode.is_proxy() {
+        return Err(Stopped::NotSet);
+    }
+    let server = PreboundListener::with_options(alloc, options, parts!(alloc, board));
+    Ok(server.listen_proxy_protocol(rt, text.as_bytes()))
+}
+
+/// Serves one connection to its end.
+pub fn serve<R: Outside>(rt: &R, alloc: Global, board: &SharedBoard, stream: TcpStream) -> Ended {
+    let server = Server::with_options(
+        alloc,
+        options(alloc, ListenerMode::Pooled)?,
+        parts!(alloc, board),
+    );
+    Ok(server.service(rt, stream))
+}
+
+/// Listens in this mode with this front and this gate, and with an indicator that looks at the moments it is given.
+pub fn listen_watched<R: Outside, F: Front + Drop, G: Gate + Send + Sync + Drop + 'static>(
+    rt: &R,
+    alloc: Global,
+    board: &SharedBoard,
+    mode: ListenerMode,
+    text: &str,
+    front: F,
+    gate: G,
+    shutdown: Shutdown,
+) -> Ended {
+    let server = Server::with_options(alloc, options(alloc, mode)?, parts!(alloc, board));
+    let mut front = Watched {
+        front,
+        board: Arc::try_clone(board)?,
+    };
+    let asks = Asks {
+        board: Arc::try_clone(board)?,
+        shutdown,
+        asked: None,
+    };
+    let (Ok(gate), Ok(asks)) = (Arc::new(alloc, gate), Box::new(alloc, asks)) else {
+        return Err(Stopped::OutOfMemory);
+    };
+    let mut indicator: Box<dyn Indicator + Drop> = asks;
+    let mut threads = SystemThreads::new();
+    Ok(server.listen_with(
+        rt,
+        text.as_bytes(),
+        gate,
+        &mut threads,
+        &mut front,
+        &mut indicator,
+    ))
+}

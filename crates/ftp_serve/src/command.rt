@@ -1,0 +1,98 @@
+//! What the words of the program ask for.
+
+ghost use Rattle.std.specs.Prelude.{◌≡◌, ◌++◌, ℕ, List, map, string_bytes, codes, IfSome, IsNone};
+ghost use Rattle.ftp_options.specs.declared.options.ListenerMode.{ListenerMode};
+ghost use Rattle.ftp_serve.specs.declared.command.Command.{Command};
+ghost use Rattle.ftp_serve.specs.declared.command.Service.{Service};
+ghost use Rattle.ftp_serve.specs.Words.{Asks, AsksService, IsMode, command_of};
+
+use ftp_edge::port_of;
+use ftp_options::ListenerMode;
+
+/// How it is served.
+#[derive(Clone, Copy, Debug, PartialEq, Eq)]
+pub struct Service {
+    pub mode: ListenerMode,
+    /// The first passive port.
+    pub lo: u16,
+    /// The last passive port.
+    pub hi: u16,
+}
+
+#[derive(Clone, Copy, Debug, PartialEq, Eq)]
+pub enum Command {
+    Help,
+    Version,
+    /// It listens at the address that the first word says.
+    Serve(Service),
+}
+
+impl Service {
+    // What three words ask for, where they are a mode and two ports.
+    fn of(mode: &[u8], lo: &[u8], hi: &[u8]) -> Option<Service>
+        ensures found { IfSome result (AsksService mode.now lo.now hi.now) }
+        ensures none { IsNone result → (service : Service) → AsksService mode.now lo.now hi.now service → ⊥ }
+    {
+        Some(Service {
+            mode: mode_of(mode)?,
+            lo: port_of(lo)?,
+            hi: port_of(hi)?,
+        })
+    }
+}
+
+impl Command {
+    /// What the words behind the program's name ask for, where they are a command.
+    pub fn of(words: &[String]) -> Option<Command>
+        ensures found { IfSome result (Asks (map string_bytes words.now)) }
+        ensures none { IsNone result → (command : Command) → Asks (map string_bytes words.now) command → ⊥ }
+    {
+        match words {
+            [word] => Command::of_word(word.as_bytes()),
+            [_, mode, lo, hi] => {
+                let service = Service::of(mode.as_bytes(), lo.as_bytes(), hi.as_bytes())?;
+                Some(Command::Serve(service))
+            }
+            _ => None,
+        }
+    }
+
+    // What a word by itself asks for.
+    fn of_word(word: &[u8]) -> Option<Command>
+        ensures { result ≡ command_of word.now }
+    {
+        if word == b"--help".as_slice() {
+            Some(Command::Help)
+        } else if word == b"--version".as_slice() {
+            Some(Command::Version)
+        } else {
+            None
+        }
+    }
+}
+
+// The mode that a word names.
+fn mode_of(word: &[u8]) -> Option<ListenerMode>
+    ensures found { IfSome result (IsMode word.now) }
+    ensures none { IsNone result → (mode : ListenerMode) → IsMode word.now mode → ⊥ }
+{
+    if word == b"legacy".as_slice() {
+        return Some(ListenerMode::Legacy);
+    }
+    if word == b"pooled".as_slice() {
+        return Some(ListenerMode::Pooled);
+    }
+    let control_port = port_of(behind_proxy(word)?)?;
+    Some(ListenerMode::Proxy { control_port })
+}
+
+// What stands behind `proxy:`.
+fn behind_proxy(word: &[u8]) -> Option<&[u8]>
+    ensures found { IfSome result (λ rest. word.now ≡ codes "proxy:" ++ rest.now) }
+    ensures none { IsNone result → (rest : List ℕ) → word.now ≡ codes "proxy:" ++ rest → ⊥ }
+{
+    if let [b'p', b'r', b'o', b'x', b'y', b':', rest @ ..] = word {
+        return Some(rest);
+    }
+    None
+}

@@ -1,0 +1,59 @@
+//! A server of files in memory, at first of none, which everybody may log in to.
+//!
+//! `ftp_serve ADDRESS MODE LO HI` listens at an address such as `127.0.0.1:2121`, with the passive ports LO to HI. MODE is
+//! `legacy`, `pooled` or `proxy:PORT`. `ftp_serve --help` and `ftp_serve --version` write a text. It ends with 0 where it was
+//! shut down, with 1 where it could not serve, and writes why, and with 64 where the words are no command.
+#![tactic(auto)]
+
+mod command;
+mod serving;
+
+use command::Command;
+use serving::serve;
+use std::env;
+use std::net::{TcpListener, TcpStream};
+use std::process::ExitCode;
+
+const HELP: &str = "\
+Usage: ftp_serve ADDRESS MODE LO HI
+Serves files in memory, at first none, to every name and password.
+ADDRESS is where it listens, as 127.0.0.1:2121 or [::1]:2121.
+MODE is legacy where each session has a passive port of its own, pooled where
+sessions share the passive ports, and proxy:PORT behind a proxy whose own
+control port is PORT. The passive ports are LO to HI.
+";
+
+const VERSION: &str = "ftp_serve 0.1.0\n";
+
+fn main(rt: HostRuntime) -> ExitCode {
+    // The check looks for the types of a bound among those of the function.
+    let types: Option<(TcpListener, TcpStream)> = None;
+    drop(types);
+    let Ok(words) = env::args(&rt) else {
+        return ExitCode::from(1);
+    };
+    let Ok(words) = words.skip(1).collect::<Vec<String>>(rt.alloc()) else {
+        return ExitCode::from(1);
+    };
+    let Some(command) = Command::of(words.as_slice()) else {
+        return ExitCode::from(64);
+    };
+    let ended = match command {
+        Command::Help => print!(rt; "{HELP}"),
+        Command::Version => print!(rt; "{VERSION}"),
+        Command::Serve(service) => {
+            let served = serve(&rt, rt.alloc(), words.as_slice(), service);
+            match served {
+                Ok(()) => Ok(()),
+                Err(error) => {
+                    let _ = println!(rt; "{error}");
+                    return ExitCode::from(1);
+                }
+            }
+        }
+    };
+    match ended {
+        Ok(()) => ExitCode::SUCCESS,
+        Err(_) => ExitCode::from(1),
+    }
+}
