@@ -1,0 +1,66 @@
+#!/usr/bin/env python3
+"""Has the FTP clients of this machine talk to the server, in each of its modes. bench/clients.sh calls it.
+
+Usage: bench/clients.py [--only WORD] [COMMAND ..]
+
+COMMAND starts the server, with the words ADDRESS MODE LO HI behind it. Without one it is FTP_SERVE of the environment, or
+else crates/ftp_serve/out/ftp_serve, which `rt ci` builds. It prints a line a case: `pass`, `FAIL` with the reason, or
+`skip` where a program is not installed; and at last the sum. The status is 1 where a case failed. With --only those cases
+are run whose names have the word.
+
+What a client stores is read back by plain sockets, and what it fetches was stored by them; both are compared byte for byte.
+"""
+
+import argparse
+import shutil
+import sys
+
+sys.dont_write_bytecode = True
+import balanced  # noqa: E402
+import operations  # noqa: E402
+import sessions  # noqa: E402
+import starting  # noqa: E402
+from cases import Place, Tally  # noqa: E402
+from programs import Proxy, Server, command, prepare  # noqa: E402
+
+
+def run_direct(tally, words, mode):
+    """In proxy mode plain sockets alone, which send the headers themselves."""
+    with Server(words, mode) as server, Place(server.door()) as place:
+        sessions.run(tally, mode, place)
+        if mode != "proxy":
+            operations.run(tally, mode, place)
+        tally.runs_on(mode, server)
+
+
+def run_proxied(tally, words):
+    """A server behind HAProxy."""
+    with Server(words, "proxy") as server, Proxy([server]) as proxy, Place(proxy.door()) as place:
+        sessions.run(tally, "haproxy", place)
+        operations.run(tally, "haproxy", place)
+        tally.runs_on("haproxy", server)
+
+
+def main():
+    parser = argparse.ArgumentParser(description="the FTP clients of this machine against the server")
+    parser.add_argument("--only", default="", metavar="WORD")
+    parser.add_argument("command", nargs=argparse.REMAINDER)
+    asked = parser.parse_args()
+    words = command(asked.command)
+    tally = Tally(asked.only)
+    prepare()
+    tally.group("the program", starting.run, words)
+    for mode in "legacy", "pooled", "proxy":
+        tally.group(mode, run_direct, words, mode)
+    for mode in "pooled", "proxy":
+        tally.group(f"{mode} with one port", sessions.run_addresses, words, mode)
+    if shutil.which("haproxy"):
+        tally.group("haproxy", run_proxied, words)
+        tally.group("two servers", balanced.run, words)
+    else:
+        tally.skip("haproxy", "it is not installed")
+    return tally.end()
+
+
+if __name__ == "__main__":
+    sys.exit(main())
