@@ -15,12 +15,14 @@ use ftp_talk::{ServeEnd, serve_control};
 use std::net::{IpAddr, SocketAddr, TcpStream};
 
 // How often an idle control connection is looked at, in milliseconds: four times in its idle time, but not more often
-// than once in a second, and once in ten seconds at least.
-fn patience(idle_ms: u64) -> u64
-    ensures between { (1000 ≤ result) × (result ≤ 10000) }
+// than once in a second, and once in a minute at least; once in ten seconds where its passive port waits a few seconds only.
+fn patience(idle_ms: u64, is_legacy: bool) -> u64
+    ensures between { (1000 ≤ result) × (result ≤ 60000) }
+    ensures legacy { is_legacy ≡ true → result ≤ 10000 }
     ensures quarter { 4000 ≤ idle_ms → idle_ms ≤ 40000 → result ≡ idle_ms / 4 }
 {
-    (idle_ms / 4).max(1000).min(10_000)
+    let most = if is_legacy { 10_000 } else { 60_000 };
+    (idle_ms / 4).max(1000).min(most)
 }
 
 impl<
@@ -57,7 +59,8 @@ impl<
 
     // The control connection over a stream.
     pub(crate) fn control(&self, stream: TcpStream) -> Option<SocketControl> {
-        let patience = patience(self.house.options.idle_ms);
+        let options = &self.house.options;
+        let patience = patience(options.idle_ms, options.mode.is_legacy());
         SocketControl::new(&self.rt, self.alloc, stream, patience, LIMIT).ok()
     }
 
