@@ -9,15 +9,14 @@ that was there before goes on; and the address can come again. It prints a line 
 a case failed. The abuses that last a minute go on beside the others.
 """
 
-import argparse
 import sys
 import threading
 
 sys.dont_write_bytecode = True
 import abuses  # noqa: E402
 import wire  # noqa: E402
-from cases import Tally, body, holds, same  # noqa: E402
-from programs import Server, command, prepare  # noqa: E402
+from cases import begin, body, holds, same  # noqa: E402
+from programs import Server  # noqa: E402
 from witness import Witness  # noqa: E402
 
 ABUSER, WITNESS = "127.0.0.3", "127.0.0.2"
@@ -114,13 +113,7 @@ def run_few(tally, words, mode):
 
 
 def main():
-    parser = argparse.ArgumentParser(description="abuses of the server")
-    parser.add_argument("--only", default="", metavar="WORD")
-    parser.add_argument("command", nargs=argparse.REMAINDER)
-    asked = parser.parse_args()
-    words = command(asked.command)
-    tally = Tally(asked.only)
-    prepare()
+    words, tally = begin("abuses of the server")
     for mode in abuses.EVERY:
         tally.group(mode, run_mode, words, mode)
         tally.group(f"{mode} with few descriptors", run_few, words, mode)

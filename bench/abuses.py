@@ -179,8 +179,8 @@ def resets_sessions(abuse):
         wire.reset(stream)
 
 
-def connects_to_the_ports_of_others(abuse):
-    """A stranger at the port of a session is turned away, and the session's own connection finds it."""
+def beside_a_stranger(abuse, take):
+    """A session of another address asks for ports, and a stranger comes first to each and is turned away."""
     other = abuse.source.rsplit(".", 1)[0] + ".77"
     with abuse.session(other) as session:
         session.store("STOR its-own", body(100000))
@@ -188,23 +188,29 @@ def connects_to_the_ports_of_others(abuse):
             port = session.passive()
             with abuse.door.dial(abuse.source, port) as stranger:
                 holds(ended(stranger), "a stranger is not turned away")
-            with abuse.door.dial(other, port) as stream:
-                session.tell("RETR its-own", 150)
-                same(wire.drained(stream), body(100000), "what its own connection gets")
-                session.expect(226)
+            take(session, port)
+
+
+def connects_to_the_ports_of_others(abuse):
+    """The session's own connection finds it all the same."""
+
+    def take(session, port):
+        with session.door.dial(session.source, port) as stream:
+            session.tell("RETR its-own", 150)
+            same(wire.drained(stream), body(100000), "what its own connection gets")
+            session.expect(226)
+
+    beside_a_stranger(abuse, take)
 
 
 def connects_to_the_listeners_of_others(abuse):
     """A stranger who comes first to the listener of a session gets nothing; the session asks for another."""
-    other = abuse.source.rsplit(".", 1)[0] + ".77"
-    with abuse.session(other) as session:
-        session.store("STOR its-own", body(100000))
-        for _ in range(10):
-            port = session.passive()
-            with abuse.door.dial(abuse.source, port) as stranger:
-                holds(ended(stranger), "a stranger is not turned away")
-            session.tell("RETR its-own", 425)
-            same(session.fetch("RETR its-own"), body(100000), "what its next connection gets")
+
+    def take(session, _):
+        session.tell("RETR its-own", 425)
+        same(session.fetch("RETR its-own"), body(100000), "what its next connection gets")
+
+    beside_a_stranger(abuse, take)
 
 
 def knocks_at_all_ports(abuse):

@@ -1,5 +1,6 @@
 """What the cases of the scripts share: their bytes, how they are counted, and the place where a client works."""
 
+import argparse
 import os
 import random
 import shlex
@@ -9,6 +10,7 @@ import tempfile
 from pathlib import Path
 
 import wire
+from programs import command, prepare
 
 PATIENCE = 60
 # A file of this length is no whole number of pieces, and its first part is none either.
@@ -79,6 +81,16 @@ class Tally:
         """Prints the sum, and gives the status."""
         print(f"{self.passed} passed, {self.failed} failed, {self.skipped} skipped")
         return 1 if self.failed else 0
+
+
+def begin(description):
+    """What a script of cases is asked: the words that start the server, and who counts the cases."""
+    parser = argparse.ArgumentParser(description=description)
+    parser.add_argument("--only", default="", metavar="WORD")
+    parser.add_argument("command", nargs=argparse.REMAINDER)
+    asked = parser.parse_args()
+    prepare()
+    return command(asked.command), Tally(asked.only)
 
 
 class Place:

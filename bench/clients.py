@@ -11,7 +11,6 @@ are run whose names have the word.
 What a client stores is read back by plain sockets, and what it fetches was stored by them; both are compared byte for byte.
 """
 
-import argparse
 import shutil
 import sys
 
@@ -20,8 +19,8 @@ import balanced  # noqa: E402
 import operations  # noqa: E402
 import sessions  # noqa: E402
 import starting  # noqa: E402
-from cases import Place, Tally  # noqa: E402
-from programs import Proxy, Server, command, prepare  # noqa: E402
+from cases import Place, begin  # noqa: E402
+from programs import Proxy, Server  # noqa: E402
 
 
 def run_direct(tally, words, mode):
@@ -42,13 +41,7 @@ def run_proxied(tally, words):
 
 
 def main():
-    parser = argparse.ArgumentParser(description="the FTP clients of this machine against the server")
-    parser.add_argument("--only", default="", metavar="WORD")
-    parser.add_argument("command", nargs=argparse.REMAINDER)
-    asked = parser.parse_args()
-    words = command(asked.command)
-    tally = Tally(asked.only)
-    prepare()
+    words, tally = begin("the FTP clients of this machine against the server")
     tally.group("the program", starting.run, words)
     for mode in "legacy", "pooled", "proxy":
         tally.group(mode, run_direct, words, mode)
