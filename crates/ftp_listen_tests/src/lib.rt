@@ -1,7 +1,7 @@
 //! Tests of a server that listens, over loopback: each mode from its first reply to its last, and why it ends.
 //!
 //! They stand here and not beside the code, since a crate with tests is proved twice.
-//! Begin with `tests`.
+//! Begin with `sessions`.
 #![tactic(auto)]
 
 #[cfg(test)]
