@@ -3,7 +3,7 @@
 
 Usage: bench/serve.py [--rounds N] [--quick] [--only WORD] [COMMAND ..]
 
-COMMAND is as for bench/clients.py. Others are vsftpd, pure-ftpd (as root, with its pure-pw on the path) and pyftpdlib;
+COMMAND is as for trials/clients.py. Others are vsftpd, pure-ftpd (as root, with its pure-pw on the path) and pyftpdlib;
 files of theirs are in memory, in /dev/shm where that is there. Debian has vsftpd and pure-ftpd in packages of which one
 puts out the other: `apt-get download pure-ftpd`, `dpkg -x` into a folder, and its usr/sbin and usr/bin on the path.
 
@@ -22,6 +22,7 @@ import tempfile
 from pathlib import Path
 
 sys.dont_write_bytecode = True
+sys.path.append(str(Path(__file__).resolve().parent.parent / "trials"))
 import measures  # noqa: E402
 import peers  # noqa: E402
 import wire  # noqa: E402

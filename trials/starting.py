@@ -1,4 +1,4 @@
-"""The cases on how the server starts or does not, and on what it takes of descriptors, which bench/clients.py runs."""
+"""The cases on how the server starts or does not, and on what it takes of descriptors, which trials/clients.py runs."""
 
 import os
 import socket

@@ -1,12 +1,12 @@
 #!/usr/bin/env python3
-"""Has the FTP clients of this machine talk to the server, in each of its modes. bench/clients.sh calls it.
+"""Has the FTP clients of this machine talk to the server, in each of its modes. trials/run calls it.
 
-Usage: bench/clients.py [--only WORD] [COMMAND ..]
+Usage: trials/clients.py [--front] [--only WORD] [COMMAND ..]
 
 COMMAND starts the server, with the words ADDRESS MODE LO HI behind it. Without one it is FTP_SERVE of the environment, or
 else crates/ftp_serve/out/ftp_serve, which `rt ci` builds. It prints a line a case: `pass`, `FAIL` with the reason, or
 `skip` where a program is not installed; and at last the sum. The status is 1 where a case failed. With --only those cases
-are run whose names have the word.
+are run whose names have the word. With --front it is a minute of them: how the program starts, and in pooled mode curl and ftplib.
 
 What a client stores is read back by plain sockets, and what it fetches was stored by them; both are compared byte for byte.
 """
@@ -23,12 +23,12 @@ from cases import Place, begin  # noqa: E402
 from programs import Proxy, Server  # noqa: E402
 
 
-def run_direct(tally, words, mode):
+def run_direct(tally, words, mode, clients=operations.CLIENTS):
     """In proxy mode plain sockets alone, which send the headers themselves."""
     with Server(words, mode) as server, Place(server.door()) as place:
         sessions.run(tally, mode, place)
         if mode != "proxy":
-            operations.run(tally, mode, place)
+            operations.run(tally, mode, place, clients=clients)
         tally.runs_on(mode, server)
 
 
@@ -43,6 +43,9 @@ def run_proxied(tally, words):
 def main():
     words, tally = begin("the FTP clients of this machine against the server")
     tally.group("the program", starting.run, words)
+    if tally.is_front:
+        tally.group("pooled", run_direct, words, "pooled", ["curl"])
+        return tally.end()
     for mode in "legacy", "pooled", "proxy":
         tally.group(mode, run_direct, words, mode)
     for mode in "pooled", "proxy":

@@ -1,9 +1,9 @@
 #!/usr/bin/env python3
 """Abuses the server in each of its modes, and looks whether anybody else notices.
 
-Usage: bench/abuse.py [--only WORD] [COMMAND ..]
+Usage: trials/abuse.py [--only WORD] [COMMAND ..]
 
-COMMAND is as for bench/clients.py. Each abuse loses its own session at most: while it goes on and behind it a witness of
+COMMAND is as for trials/clients.py. Each abuse loses its own session at most: while it goes on and behind it a witness of
 another address stores, fetches and lists all the time, and each byte is compared; a session of the abuser's own address
 that was there before goes on; and the address can come again. It prints a line a case, and the sum; the status is 1 where
 a case failed. The abuses that last a minute go on beside the others.

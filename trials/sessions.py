@@ -1,4 +1,4 @@
-"""The cases by Python's ftplib and by plain sockets, which bench/clients.py runs."""
+"""The cases by Python's ftplib and by plain sockets, which trials/clients.py runs."""
 
 import ftplib
 import io

@@ -113,10 +113,10 @@ def is_bound(told):
     return isinstance(told, str) and "{source}" in told
 
 
-def run(tally, mode, place, only_bound=False):
-    """Each operation of each client, or of those that can come from an address of their own."""
-    for client, table in CLIENTS.items():
-        for operation, told in table.items():
+def run(tally, mode, place, only_bound=False, clients=CLIENTS):
+    """Each operation of these clients, or of those of them that can come from an address of their own."""
+    for client in clients:
+        for operation, told in CLIENTS[client].items():
             name = f"{mode} {client} {operation}"
             if only_bound and not is_bound(told):
                 continue

@@ -41,8 +41,8 @@ def holds(fact, what):
 class Tally:
     """Runs cases, prints a line for each, and counts."""
 
-    def __init__(self, only=""):
-        self.only, self.passed, self.failed, self.skipped = only, 0, 0, 0
+    def __init__(self, only="", is_front=False):
+        self.only, self.is_front, self.passed, self.failed, self.skipped = only, is_front, 0, 0, 0
 
     def case(self, name, run, *handed):
         if self.only not in name:
@@ -86,11 +86,12 @@ class Tally:
 def begin(description):
     """What a script of cases is asked: the words that start the server, and who counts the cases."""
     parser = argparse.ArgumentParser(description=description)
+    parser.add_argument("--front", action="store_true")
     parser.add_argument("--only", default="", metavar="WORD")
     parser.add_argument("command", nargs=argparse.REMAINDER)
     asked = parser.parse_args()
     prepare()
-    return command(asked.command), Tally(asked.only)
+    return command(asked.command), Tally(asked.only, asked.front)
 
 
 class Place:

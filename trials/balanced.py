@@ -1,4 +1,4 @@
-"""The cases with two servers behind one HAProxy, which bench/clients.py runs."""
+"""The cases with two servers behind one HAProxy, which trials/clients.py runs."""
 
 import operations
 import sessions
