@@ -4,6 +4,7 @@ mod commands;
 mod endings;
 mod options;
 mod proxied;
+mod strays;
 mod transcripts;
 mod transfers;
 

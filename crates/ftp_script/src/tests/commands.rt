@@ -35,35 +35,23 @@ fn a_stress_run_counts_its_decisions(rt: HostRuntime) -> Result<(), Fail> {
     Ok(())
 }
 
-/// The sum of the numbers that the lines begin with.
-fn sum(printed: &[u8]) -> u64 {
-    let mut sum: u64 = 0;
-    let mut number: u64 = 0;
-    for byte in printed {
-        match *byte {
-            b'0'..=b'9' => {
-                number = number
-                    .saturating_mul(10)
-                    .saturating_add(u64::from(*byte - b'0'));
-            }
-            b'\n' => {
-                sum = sum.saturating_add(number);
-                number = 0;
-            }
-            _ => {}
-        }
-    }
-    sum
-}
-
 #[test]
-fn a_stress_run_is_the_same_each_time(rt: HostRuntime) -> Result<(), Fail> {
+fn a_long_stress_run_counts_its_decisions(rt: HostRuntime) -> Result<(), Fail> {
     let (status, printed) = told(rt.alloc(), "stress 7 1000")?;
-    assert_eq!(rt; (status, sum(printed.as_slice())), (Status::Done, 20_000));
-    let (status, again) = told(rt.alloc(), "stress 7 1000")?;
+    // Counted by a model of the draws and of the board that was written from the rules, in another language.
+    let counts = "2403 aborted
+1870 attached
+7953 granted
+1000 loggedin
+1000 needpass
+1567 nothingtoabort
+1000 opened
+1000 passout
+2207 turned
+";
     assert_eq!(rt;
-        (status, again.as_slice()),
-        (Status::Done, printed.as_slice())
+        (status, printed.as_slice()),
+        (Status::Done, counts.as_bytes())
     );
     Ok(())
 }
