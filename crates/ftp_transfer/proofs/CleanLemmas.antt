@@ -9,8 +9,8 @@ use Rattle.ftp_transfer.specs.declared.job.Job.{Job}
 use Rattle.ftp_transfer.specs.declared.job.Outcome.{Outcome}
 use Rattle.ftp_transfer.specs.declared.job.Completion.{Completion}
 use Rattle.ftp_transfer.specs.declared.job.Completion.TheVariants as result
-use Rattle.ftp_transfer.specs.Run.{RefusedBy, IfRefused, RefusesStore, TakesStore, append_place}
-use Rattle.ftp_transfer.specs.Ran.{Told, Ran, Refuses, Takes, EndsUnrefused, IsClean, IsDone, due_of}
+use Rattle.ftp_transfer.specs.Run.{RefusedBy, IfRefused, RefusesStore, RefusesAppe, RefusesMore, TakesStore, TakesAppe, TakesMore, append_place}
+use Rattle.ftp_transfer.specs.Ran.{Told, Ran, ByDone, Refuses, Takes, EndsUnrefused, IsClean, IsDone, due_of}
 use Rattle.ftp_transfer.specs.Transfer.{is_store}
 use Rattle.ftp_transfer.proofs.RunLemmas.{HasRisen-more}
 
@@ -39,17 +39,46 @@ takes-appe rule user f new path l later m k (Some place) takes refused = takes-s
 takes-listing : (o : Option ErrorKind) (P : ErrorKind → Type 0) → o ≡ None → ((refusal : ErrorKind) × (o ≡ Some refusal) × P refusal) → ⊥
 takes-listing o P none (refusal, some, is) = not_both o refusal none some
 
+-- no append to a file that was begun before is refused
+takes-more : (rule : Rule) (user : List ℕ) (f : Files) (new : Option Files) (path l : List ℕ) (later : Option (List ℕ)) (m : ℕ) (k : ErrorKind) →
+    TakesMore rule user path f l → RefusesMore rule user f new path (Some l) later m k → ⊥
+takes-more rule user f None path l later m k takes (grown, (piece, some, short, (front, is), refused)) = cc
+takes-more rule user f (Some now) path l later m k takes (grown, (piece, some, short, (front, is), refused)) =
+    let within : m + length piece ≤ length l = omega (arith, front.0, length-drop m l, some) in
+    let next = takes m (length piece) now grown some short within in
+    not_both _ k (rw (sym is) at next) refused
+
+-- by whether a piece came before
+by-done : (done : ℕ) (p q p' q' : Type 0) → (p → p' → ⊥) → (q → q' → ⊥) → ByDone done p q → ByDone done p' q' → ⊥
+by-done done p q p' q' first later (inl (zero, h)) (inl (also, h')) = first h h'
+by-done done p q p' q' first later (inl (zero, h)) (inr (some, h')) = omega (arith, zero, some)
+by-done done p q p' q' first later (inr (some, h)) (inl (zero, h')) = omega (arith, zero, some)
+by-done done p q p' q' first later (inr (some, h)) (inr (also, h')) = later h h'
+
+-- a store of the input, where it is told
+if-told : (input : Option (List ℕ)) (P Q : List ℕ → Type 0) → ((l : List ℕ) → input ≡ Some l → P l → Q l → ⊥) → IsSomeAnd input P → ((l : List ℕ) → input ≡ Some l → Q l) → ⊥
+if-told None P Q both takes refused = takes
+if-told (Some l) P Q both takes refused = both l refl takes (refused l refl)
+
 -- a transfer of which no call is refused ends unrefused
 takes-unrefused : (c : DataChanCmd) (job : Job) (rule : Rule) (f : Files) (new : Option Files) (input later : Option (List ℕ)) (m : ℕ) (k : ErrorKind) →
-    (is_store c ≡ false → m ≤ length (due_of c f job.path job.offset)) →
+    (is_store c ≡ false → m ≤ length (due_of c f job.path (job.offset + job.done))) →
     Takes c job rule f input → Refuses c job rule f new input later m k → ⊥
 takes-unrefused (command.Retr x) job rule f new input later m k within takes refused = not_both _ k (takes m (within refl)) refused
-takes-unrefused (command.Stor x) job rule f new None later m k within takes refused = takes
-takes-unrefused (command.Stor x) job rule f new (Some l) later m k within takes refused =
-    takes-store rule job.user f new job.path job.offset l later m k takes refused
-takes-unrefused (command.Appe x) job rule f new None later m k within takes refused = takes
-takes-unrefused (command.Appe x) job rule f new (Some l) later m k within takes refused =
-    takes-appe rule job.user f new job.path l later m k (append_place (rule f (Metadata job.user job.path)) (length (old_bytes f job.path))) takes refused
+takes-unrefused (command.Stor x) job rule f new input later m k within takes refused =
+    by-done job.done _ _ _ _
+    (λ h h'. if-told input (TakesStore rule job.user job.path f job.offset) (λ l. RefusesStore rule job.user f new job.path job.offset (Some l) later m k)
+    (λ l is h h'. takes-store rule job.user f new job.path job.offset l later m k h h') h (λ l is. rw is at h'))
+    (λ h h'. if-told input (TakesMore rule job.user job.path f) (λ l. RefusesMore rule job.user f new job.path (Some l) later m k)
+    (λ l is h h'. takes-more rule job.user f new job.path l later m k h h') h (λ l is. rw is at h'))
+    takes refused
+takes-unrefused (command.Appe x) job rule f new input later m k within takes refused =
+    by-done job.done _ _ _ _
+    (λ h h'. if-told input (TakesAppe rule job.user job.path f) (λ l. RefusesAppe rule job.user f new job.path (Some l) later m k)
+    (λ l is h h'. takes-appe rule job.user f new job.path l later m k (append_place (rule f (Metadata job.user job.path)) (length (old_bytes f job.path))) h h') h (λ l is. rw is at h'))
+    (λ h h'. if-told input (TakesMore rule job.user job.path f) (λ l. RefusesMore rule job.user f new job.path (Some l) later m k)
+    (λ l is h h'. takes-more rule job.user f new job.path l later m k h h') h (λ l is. rw is at h'))
+    takes refused
 takes-unrefused (command.List x y) job rule f new input later m k within takes refused = takes-listing _ _ takes refused
 takes-unrefused (command.Nlst x) job rule f new input later m k within takes refused = takes-listing _ _ takes refused
 takes-unrefused (command.Mlsd x) job rule f new input later m k within takes refused = takes-listing _ _ takes refused
@@ -69,17 +98,17 @@ unrefused-done rose refuses m result.OutOfMemory held below none memory h = absu
 
 -- no call was refused where a clean run ended
 clean-unrefused : (job : Job) (f : Files) (old new : Told) (outcome : Outcome) →
-    (is_store job.command ≡ false → outcome.bytes ≤ length (due_of job.command f job.path job.offset)) →
-    (Takes job.command job old.rule f old.left ⊎ EndsUnrefused job f old new outcome.bytes) → EndsUnrefused job f old new outcome.bytes
+    (is_store job.command ≡ false → (outcome.bytes - job.done) ≤ length (due_of job.command f job.path (job.offset + job.done))) →
+    (Takes job.command job old.rule f old.left ⊎ EndsUnrefused job f old new (outcome.bytes - job.done)) → EndsUnrefused job f old new (outcome.bytes - job.done)
 clean-unrefused job f old new outcome within (inl takes) k refused =
-    takes-unrefused job.command job old.rule f new.files old.left new.left outcome.bytes k within takes refused
+    takes-unrefused job.command job old.rule f new.files old.left new.left (outcome.bytes - job.done) k within takes refused
 clean-unrefused job f old new outcome within (inr h) k refused = h k refused
 
 -- the same, where the files are told
 told-unrefused : (job : Job) (files : Option Files) (old new : Told) (outcome : Outcome) →
-    (is_store job.command ≡ false → IfSome files (λ f. outcome.bytes ≤ length (due_of job.command f job.path job.offset))) →
-    IsSomeAnd files (λ f. Takes job.command job old.rule f old.left ⊎ EndsUnrefused job f old new outcome.bytes) →
-    (k : ErrorKind) → IfSome files (λ f. Refuses job.command job old.rule f new.files old.left new.left outcome.bytes k) → ⊥
+    (is_store job.command ≡ false → IfSome files (λ f. (outcome.bytes - job.done) ≤ length (due_of job.command f job.path (job.offset + job.done)))) →
+    IsSomeAnd files (λ f. Takes job.command job old.rule f old.left ⊎ EndsUnrefused job f old new (outcome.bytes - job.done)) →
+    (k : ErrorKind) → IfSome files (λ f. Refuses job.command job old.rule f new.files old.left new.left (outcome.bytes - job.done) k) → ⊥
 told-unrefused job None old new outcome within clean k refused = clean
 told-unrefused job (Some f) old new outcome within clean k refused = clean-unrefused job f old new outcome within clean k refused
 
@@ -89,7 +118,7 @@ clean-done job old new outcome ran clean =
     elim ran.moves.cause [
       | inl failed ↦ absurd (clean.link (HasRisen-more old.link_faults ran.faults new.link_faults ran.not_after failed.1.0) (rw failed.2 at failed.3))
       | inr held ↦
-          unrefused-done _ _ outcome.bytes outcome.result (λ failed. clean.storage failed.0) clean.count
+          unrefused-done _ _ (job.done + (outcome.bytes - job.done)) outcome.result (λ failed. clean.storage failed.0) (omega (arith, ran.counted, clean.count))
           (told-unrefused job old.files old new outcome ran.moves.within clean.unrefused)
           clean.memory
           held.1

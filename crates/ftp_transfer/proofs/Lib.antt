@@ -5,3 +5,5 @@ pub mod CleanLemmas
 pub mod MemoryUploads
 pub mod Refused
 pub mod Appended
+pub mod TurnLemmas
+pub mod GoesOn

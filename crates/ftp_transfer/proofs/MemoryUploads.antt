@@ -65,9 +65,9 @@ written result.OutOfMemory arg fits done = inr refl
 
 -- a STOR that has room is written, or memory ran out
 pub memory_upload : UploadsAreWritten
-memory_upload job argument max files input old new outcome stor told rule gives room storage link suited ran =
-    let takes : Takes job.command job old.rule files old.left = rw (stor, rule, gives) (memory_takes max files job.user job.path job.offset input room.other room.there room.free room.within) in
-    let stored = rw (told, gives, stor) at ran.moves.stored in
+memory_upload job argument max files input old new outcome stor fresh told rule gives room storage link suited ran =
+    let takes : Takes job.command job old.rule files old.left = rw (stor, rule, gives) (inl (fresh, memory_takes max files job.user job.path job.offset input room.other room.there room.free room.within)) in
+    let stored = rw (told, gives, stor) at (ran.moves.stored fresh) in
     written outcome.result argument (rw stor at suited) (λ memory.
     clean-done job old new outcome ran
     (record {
@@ -75,5 +75,5 @@ memory_upload job argument max files input old new outcome stor told rule gives 
       storage = storage;
       link = link;
       memory = memory;
-      count = omega (arith, stored.0, room.countable);
+      count = omega (arith, ran.counted, fresh, stored.0, room.countable);
     }))

@@ -29,7 +29,7 @@ abbrev pub three : List ℕ
 three = 1 ∷ 2 ∷ 3 ∷ []
 
 abbrev pub retr : Job
-retr = record { ticket = record { session = 1; nr = 1 }; user = codes "ann"; command = command.Retr a; path = a; offset = 0; number = 11 }
+retr = record { ticket = record { session = 1; nr = 1 }; user = codes "ann"; command = command.Retr a; path = a; offset = 0; number = 11; done = 0 }
 
 abbrev pub first : Sending
 first = record { sent = Some []; closed = false; last_fault = None }
@@ -58,7 +58,7 @@ close_not_told ran =
     ]
 
 abbrev pub stor : Job
-stor = record { ticket = record { session = 1; nr = 1 }; user = codes "ann"; command = command.Stor a; path = a; offset = 0; number = 11 }
+stor = record { ticket = record { session = 1; nr = 1 }; user = codes "ann"; command = command.Stor a; path = a; offset = 0; number = 11; done = 0 }
 
 nothing : map.get no_files a ≡ None
 nothing = map.get-empty (slice_cmp nat_cmp) a
@@ -74,7 +74,7 @@ pub upload_not_refused : (new : Told) (k : ErrorKind) (bytes : ℕ) (fault : Opt
 upload_not_refused new k bytes fault storage link ran =
     no_third (result.Refused k)
     (memory_upload stor a 16777216 no_files three (told (Some no_files) (memory_rule 16777216) 0 None (Some three) first 0 None) new (record { result = result.Refused k; bytes = bytes; fault = fault })
-    refl refl refl refl
+    refl refl refl refl refl
     (record { other = refl; there = refl; free = rw nothing refl; within = omega arith; countable = omega arith })
     (λ rose. omega (arith, storage, rose (omega arith)))
     (λ rose met. cc (rw link at met))

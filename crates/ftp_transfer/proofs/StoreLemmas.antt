@@ -11,7 +11,7 @@ use Rattle.ftp_base.specs.declared.storage.StoreError.{StoreError}
 use Rattle.ftp_base.specs.declared.storage.StoreError.TheVariants.{Kind, Failed, OutOfMemory}
 use Rattle.ftp_base.specs.Storage.{Item, Directory, File, Files, Meaning, Rule, meaning_of, Metadata, Begin, item, bytes_of, contents, with_file, old_bytes, cut, meta_of, Begins, Refuses}
 use Rattle.ftp_base.proofs.Files.{with_file-with_file, contents-with_file}
-use Rattle.ftp_transfer.specs.declared.job.Outcome.{Outcome}
+use Rattle.ftp_base.specs.declared.fault.LinkFault.{LinkFault}
 use Rattle.ftp_transfer.specs.declared.job.Completion.{Completion}
 use Rattle.ftp_transfer.specs.Run.{RefusedLast, RefusesAppend, RefusesStore, GrowsFront, TakesFront, Stores, append_place, append_refusal}
 use Rattle.ftp_transfer.specs.Turn.{start_after}
@@ -24,12 +24,12 @@ value_with P None h = absurd h
 value_with P (Some x) h = (x, refl, h)
 
 -- the file of a path, which grew, grows more
-grown_again : (f : Files) (fn : Option Files) (path l had : List ℕ) (m n : ℕ) → contents f path ≡ Some had →
+pub grown_again : (f : Files) (fn : Option Files) (path l had : List ℕ) (m n : ℕ) →
     GrowsFront (with_file f path (had ++ take m l)) fn path (drop m l) n → fn ≡ Some (with_file f path (had ++ take (m + n) l))
-grown_again f fn path l had m n found (le, inl (none, same)) =
+grown_again f fn path l had m n (le, inl (none, same)) =
     let e : m + n ≡ m = omega arith in
     same ∙ ap (λ (k : ℕ). Some (with_file f path (had ++ take k l))) (sym e)
-grown_again f fn path l had m n found (le, inr more) =
+grown_again f fn path l had m n (le, inr more) =
     let next = value_with (λ x. fn ≡ Some (with_file (with_file f path (had ++ take m l)) path (x ++ take n (drop m l)))) (contents (with_file f path (had ++ take m l)) path) more in
     let e = contents-with_file f path (had ++ take m l) next.0 next.1 in
     next.2
@@ -50,7 +50,7 @@ GrowsFront-more f fs fn path l m n (le, inl (none, same)) next =
 GrowsFront-more f fs fn path l m n (le, inr grown) next =
     let found = value_with (λ had. fs ≡ Some (with_file f path (had ++ take m l))) (contents f path) grown in
     let later : GrowsFront (with_file f path (found.0 ++ take m l)) fn path (drop m l) n = rw found.2 at next in
-    (omega (arith, later.0, length-drop m l), inr (rw found.1 (grown_again f fn path l found.0 m n found.1 later)))
+    (omega (arith, later.0, length-drop m l), inr (rw found.1 (grown_again f fn path l found.0 m n later)))
 
 -- the next bytes of the input were taken after the first
 pub TakesFront-told : (l rest later : Option (List ℕ)) (m n : ℕ) →
@@ -90,12 +90,12 @@ put_begun f fn path had l m (le, inr grown) =
     ∙ ap (λ (x : List ℕ). with_file f path (x ++ take m l)) (contents-with_file f path had next.0 next.1))
 
 -- a file that was begun and grew is stored
-pub Stores-begun : (f fs fn : Option Files) (path : List ℕ) (place : ℕ) (l : Option (List ℕ)) (o : Outcome) →
-    Begins f fs path place → IfSome l (λ l. o.bytes ≤ length l) → IfSome fs (λ g. IfSome l (λ l. GrowsFront g fn path l o.bytes)) → IfSome f (λ f. IfSome l (λ l. Stores f fn path place l o))
-Stores-begun None fs fn path place l o begun within grown = tt
-Stores-begun (Some f) fs fn path place None o begun within grown = tt
-Stores-begun (Some f) fs fn path place (Some l) o begun within grown =
-    (within, inl (put_begun f fn path (cut (old_bytes f path) place) l o.bytes (rw begun at grown)))
+pub Stores-begun : (f fs fn : Option Files) (path : List ℕ) (place : ℕ) (l : Option (List ℕ)) (m : ℕ) (r : Completion) (fault : Option LinkFault) →
+    Begins f fs path place → IfSome l (λ l. m ≤ length l) → IfSome fs (λ g. IfSome l (λ l. GrowsFront g fn path l m)) → IfSome f (λ f. IfSome l (λ l. Stores f fn path place l m r fault))
+Stores-begun None fs fn path place l m r fault begun within grown = tt
+Stores-begun (Some f) fs fn path place None m r fault begun within grown = tt
+Stores-begun (Some f) fs fn path place (Some l) m r fault begun within grown =
+    (within, inl (put_begun f fn path (cut (old_bytes f path) place) l m (rw begun at grown)))
 
 -- an append that is refused once the file was begun is refused to the file as it then is
 pub Stores-refused : (f fs fn : Option Files) (rule : Rule) (user path : List ℕ) (place : ℕ) (l later : Option (List ℕ)) (m : ℕ) (k : ErrorKind) →

@@ -1,7 +1,7 @@
 -- What a run of a job sends and stores, and why it ends.
---   m              how many bytes moved
+--   m              how many bytes this run moved
 --   before, last   what the link's last fault was before the run, and is after it
-use Rattle.std.specs.Prelude.{◌≡◌, ◌⊎◌, ℕ, ◌+◌, ◌-◌, ◌^◌, ◌<◌, ◌≤◌, List, ◌++◌, length, take, drop, Option, Some, None, IsSome, IfSome, IsSomeAnd, MatchOption, if◌then◌else◌}
+use Rattle.std.specs.Prelude.{◌≡◌, ◌⊎◌, ℕ, ◌+◌, ◌-◌, ◌^◌, ◌<◌, ◌≤◌, List, ◌++◌, length, take, drop, min, Option, Some, None, IsSome, IfSome, IsSomeAnd, MatchOption, if◌then◌else◌}
 use Rattle.std.specs.Option.{option_map, option_map_or}
 use Rattle.ftp_base.specs.declared.command.DataChanCmd.{DataChanCmd}
 use Rattle.ftp_base.specs.declared.error_kind.ErrorKind.{ErrorKind}
@@ -11,10 +11,13 @@ use Rattle.ftp_base.specs.Calls.{Calls, AllWell}
 use Rattle.ftp_base.specs.Memory.{LinkMet, StorageMet}
 use Rattle.ftp_base.specs.Outside.{HasRisen, Writes}
 use Rattle.ftp_base.specs.Storage.{Files, Meaning, Rule, meaning_of, Metadata, Begin, Append, contents, with_file, old_bytes, put}
-use Rattle.ftp_transfer.specs.declared.job.Outcome.{Outcome}
 use Rattle.ftp_transfer.specs.declared.job.Completion.{Completion}
 use Rattle.ftp_transfer.specs.declared.job.Completion.TheVariants as result
 use Rattle.ftp_transfer.specs.Transfer.{is_listing}
+
+-- where a RETR reads that moved so many bytes from its offset on; there is nothing at the end of all places
+abbrev pub read_place : ℕ → ℕ → ℕ
+read_place offset moved = min (offset + moved) (2 ^ 64 - 1)
 
 -- the first n bytes of a text were sent
 abbrev pub SendsFront : List ℕ → ℕ → Option (List ℕ) → Option (List ℕ) → Type 0
@@ -109,6 +112,12 @@ RefusesStore rule user files new path place input later m k =
     ⊎ (IfSome input (λ l. IsStored files new path place l m)
     × RefusesAppend (meaning_of rule new) user path (option_map (drop m) input) later k)
 
+-- the storage refuses to append what was taken last to the file, which had been begun before and grew
+abbrev pub RefusesMore : Rule → List ℕ → Files → Option Files → List ℕ → Option (List ℕ) → Option (List ℕ) → ℕ → ErrorKind → Type 0
+RefusesMore rule user files new path input later m k =
+    IfSome input (λ l. GrowsFront files new path l m)
+    × RefusesAppend (meaning_of rule new) user path (option_map (drop m) input) later k
+
 -- the storage stopped a job, or memory ran out
 abbrev pub IsStopped : Completion → Type 0
 IsStopped (result.Refused k) = Unit {0}
@@ -116,15 +125,15 @@ IsStopped result.OutOfMemory = Unit {0}
 IsStopped _ = ⊥
 
 -- nothing was begun
-abbrev pub NotBegun : Outcome → Type 0
-NotBegun outcome = (outcome.bytes ≡ 0) × (outcome.fault ≡ None) × IsStopped outcome.result
+abbrev pub NotBegun : ℕ → Completion → Option LinkFault → Type 0
+NotBegun m r fault = (m ≡ 0) × (fault ≡ None) × IsStopped r
 
--- the file is the old one with the first bytes of the input put at a place, or nothing was begun
-abbrev pub Stores : Files → Option Files → List ℕ → ℕ → List ℕ → Outcome → Type 0
-Stores files new path place input outcome =
-    (outcome.bytes ≤ length input)
-    × (IsStored files new path place input outcome.bytes
-    ⊎ ((new ≡ Some files) × NotBegun outcome))
+-- the file is the old one with the first m bytes of the input put at a place, or nothing was begun
+abbrev pub Stores : Files → Option Files → List ℕ → ℕ → List ℕ → ℕ → Completion → Option LinkFault → Type 0
+Stores files new path place input m r fault =
+    (m ≤ length input)
+    × (IsStored files new path place input m
+    ⊎ ((new ≡ Some files) × NotBegun m r fault))
 
 -- where an APPE begins: behind the file, at 0 where there is said to be none, and nowhere after another refusal
 abbrev pub append_place : Option ErrorKind → ℕ → Option ℕ
@@ -152,11 +161,17 @@ TakesAppe rule user path files input =
     MatchOption (append_place (rule files (Metadata user path)) (length (old_bytes files path))) ⊥
     (λ place. TakesStore rule user path files place input)
 
+-- the rule refuses no append of the next 1 to 8,192 bytes of the input to a file that had been begun before, as it then is
+abbrev pub TakesMore : Rule → List ℕ → List ℕ → Files → List ℕ → Type 0
+TakesMore rule user path files input =
+    (m n : ℕ) (now : Files) → GrowsFront files (Some now) path input m → 0 < n → n ≤ 8192 → m + n ≤ length input →
+    rule now (Append user path (take n (drop m input))) ≡ None
+
 -- the file is the old one with the first bytes of the input put behind it, or nothing was begun
-abbrev pub Appends : Meaning → List ℕ → Files → Option Files → List ℕ → List ℕ → Outcome → Type 0
-Appends meaning user files new path input outcome =
-    MatchOption (append_place (meaning (Metadata user path)) (length (old_bytes files path))) ((new ≡ Some files) × NotBegun outcome)
-    (λ place. Stores files new path place input outcome)
+abbrev pub Appends : Meaning → List ℕ → Files → Option Files → List ℕ → List ℕ → ℕ → Completion → Option LinkFault → Type 0
+Appends meaning user files new path input m r fault =
+    MatchOption (append_place (meaning (Metadata user path)) (length (old_bytes files path))) ((new ≡ Some files) × NotBegun m r fault)
+    (λ place. Stores files new path place input m r fault)
 
 -- how the first call of an APPE is refused that counts
 abbrev pub append_refusal : Meaning → List ℕ → List ℕ → ℕ → Option ErrorKind

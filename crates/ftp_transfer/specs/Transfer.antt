@@ -4,6 +4,9 @@ use Rattle.ftp_base.specs.declared.command.DataChanCmd.{DataChanCmd}
 use Rattle.ftp_base.specs.declared.command.DataChanCmd.TheVariants as command
 use Rattle.ftp_transfer.specs.declared.job.Completion.{Completion}
 use Rattle.ftp_transfer.specs.declared.job.Completion.TheVariants as result
+use Rattle.ftp_transfer.specs.declared.job.Outcome.{Outcome}
+use Rattle.ftp_transfer.specs.declared.job.PieceResult.{PieceResult}
+use Rattle.ftp_transfer.specs.declared.job.PieceResult.TheVariants.{More, Ended}
 
 -- LIST, NLST and MLSD
 abbrev pub is_listing : DataChanCmd → Bool
@@ -31,3 +34,8 @@ suits result.Listed c = is_listing c
 suits result.WriteFailed c = is_listing c
 suits (result.Refused kind) c = true
 suits result.OutOfMemory c = true
+
+-- a piece ended the transfer so
+abbrev pub IfEnded : PieceResult → (Outcome → Type 0) → Type 0
+IfEnded (More bytes) P = Unit {0}
+IfEnded (Ended outcome) P = P outcome

@@ -1,5 +1,5 @@
 -- What stops a turn.
-use Rattle.std.specs.Prelude.{◌≡◌, ◌⊎◌, ℕ, Option, Result, Ok, Err}
+use Rattle.std.specs.Prelude.{◌≡◌, ◌⊎◌, ℕ, ◌-◌, ◌^◌, Option, Some, None, Result, Ok, Err}
 use Rattle.ftp_base.specs.declared.command.DataChanCmd.{DataChanCmd}
 use Rattle.ftp_base.specs.declared.command.DataChanCmd.TheVariants as command
 use Rattle.ftp_base.specs.declared.fault.LinkFault.{LinkFault}
@@ -10,7 +10,18 @@ use Rattle.ftp_base.specs.declared.storage.StoreError.{StoreError}
 use Rattle.ftp_base.specs.declared.storage.StoreError.TheVariants.{Kind, Failed, OutOfMemory}
 use Rattle.ftp_transfer.specs.declared.job.Completion.{Completion}
 use Rattle.ftp_transfer.specs.declared.job.Completion.TheVariants as result
+use Rattle.ftp_transfer.specs.declared.turn.End.{End}
 use Rattle.ftp_transfer.specs.Run.{LinkFailed, LinkHeld}
+
+-- the result of a turn that ended a transfer, and want of memory, which has no cause, where it did not
+abbrev pub result_of : Option End → Completion
+result_of None = result.OutOfMemory
+result_of (Some end) = end.result
+
+-- the fault of a turn that ended a transfer by it
+abbrev pub fault_of : Option End → Option LinkFault
+fault_of None = None
+fault_of (Some end) = end.fault
 
 -- the result of a transfer that a storage stopped
 abbrev pub completion_of : StoreError → Completion
@@ -37,11 +48,11 @@ start_after (Ok meta) = Ok meta.len
 start_after (Err (Kind kind.PermanentFileNotAvailable)) = Ok 0
 start_after (Err e) = Err (completion_of e)
 
--- a listing was sent, or its link failed, or memory ran out
-abbrev pub StopsListing : Type 0 → Option LinkFault → Option LinkFault → Completion → Option LinkFault → Type 0
-StopsListing link_rose before last r fault =
+-- a listing was sent, or its link failed, or memory ran out, or the count of bytes stands at its end
+abbrev pub StopsListing : Type 0 → Option LinkFault → Option LinkFault → ℕ → Completion → Option LinkFault → Type 0
+StopsListing link_rose before last bytes r fault =
     LinkFailed result.WriteFailed link_rose last r fault
-    ⊎ (((r ≡ result.Listed) ⊎ (r ≡ result.OutOfMemory)) × LinkHeld before last fault)
+    ⊎ (((r ≡ result.Listed) ⊎ (r ≡ result.OutOfMemory) ⊎ ((r ≡ result.Refused kind.LocalError) × (bytes ≡ 2 ^ 64 - 1))) × LinkHeld before last fault)
 
 -- how a listing ends that the storage stopped: NLST turns each refusal
 abbrev pub listing_end : DataChanCmd → StoreError → Completion

@@ -23,7 +23,7 @@ pub record HasRoom (job : Job) (max : ℕ) (files : Files) (input : List ℕ) : 
 abbrev pub UploadsAreWritten : Type 0
 UploadsAreWritten =
     (job : Job) (argument : List ℕ) (max : ℕ) (files : Files) (input : List ℕ) (old new : Told) (outcome : Outcome) →
-    job.command ≡ command.Stor argument →
+    job.command ≡ command.Stor argument → job.done ≡ 0 →
     old.files ≡ Some files → old.rule ≡ memory_rule max → old.left ≡ Some input →
     HasRoom job max files input →
     (HasRisen old.storage_faults new.storage_faults → ⊥) → (HasRisen old.link_faults new.link_faults → IsSome new.sending.last_fault → ⊥) →

@@ -25,6 +25,8 @@ pub struct Job {
     pub offset: u64,
     /// The link's number.
     pub number: u64,
+    /// How many bytes earlier pieces moved.
+    pub done: u64,
 }
 
 impl Job {
@@ -39,6 +41,7 @@ impl Job {
             path: self.path.copy(alloc)?,
             offset: self.offset,
             number: self.number,
+            done: self.done,
         })
     }
 }
@@ -58,10 +61,19 @@ pub enum Completion {
 #[derive(Clone, Copy, Debug, PartialEq, Eq)]
 pub struct Outcome {
     pub result: Completion,
-    /// How many bytes moved, also where the transfer did not succeed.
+    /// How many bytes moved, those of earlier pieces with them, also where the transfer did not succeed.
     pub bytes: u64,
     /// What the link met, where that ended the transfer.
     pub fault: Option<LinkFault>,
+}
+
+/// What a piece of a transfer came to.
+#[derive(Clone, Copy, Debug, PartialEq, Eq)]
+pub enum PieceResult {
+    /// So many bytes moved, and more may come.
+    More { bytes: u64 },
+    /// The transfer is over.
+    Ended(Outcome),
 }
 
 impl Outcome {

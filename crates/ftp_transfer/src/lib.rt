@@ -17,8 +17,8 @@ mod transfer;
 mod turn;
 
 pub use duration::HumanDuration;
-pub use job::{Completion, Job, Outcome, Ticket};
+pub use job::{Completion, Job, Outcome, PieceResult, Ticket};
 pub use laws::uploads_are_written;
 pub use listing::format_facts;
 pub use path::join_path;
-pub use transfer::execute;
+pub use transfer::{execute, execute_piece};

@@ -10,79 +10,104 @@ ghost use Rattle.ftp_transfer.specs.declared.job.Completion.TheVariants as done;
 ghost use Rattle.ftp_transfer.specs.Ran.{IsDone};
 ghost use Rattle.ftp_transfer.specs.Run.{LinkRose, StorageRose, StorageWent, Caused, EndsRefused, RefusedFirst, RefusedLast, GrowsFront, RefusesAppend, TakesFront, Stores, RefusesStore, Appends, RefusesAppe, append_refusal};
 ghost use Rattle.ftp_transfer.specs.Transfer.{is_store, suits};
-ghost use Rattle.ftp_transfer.specs.Turn.{StopsStoring, start_after};
+ghost use Rattle.ftp_transfer.specs.Turn.{StopsStoring, start_after, result_of, fault_of};
 
-use crate::job::{Completion, Job, Outcome};
-use crate::turn::{PIECE_LEN, Turn, nothing_moved, piece_room, stopped_by};
+use crate::job::{Completion, Job};
+use crate::turn::{PIECE_LEN, Turn, piece_room, stopped_by};
 use ftp_base::{ErrorKind, Link, Meta, Storage, StoreError};
 
-/// Puts what the link gives, up to its end, at a place of the file.
-pub fn store<S: Storage, L: Link>(job: &Job, start: u64, storage: &mut S, link: &mut L) -> Outcome
+/// Begins a file at a place, and puts there what one read of the link gives.
+pub fn store<S: Storage, L: Link>(
+    job: &Job,
+    start: u64,
+    buffer: &mut [u8],
+    storage: &mut S,
+    link: &mut L,
+) -> Turn
+    requires buffer { length buffer.old ≡ PIECE_LEN }
     requires command { is_store job.now.command ≡ true }
+    requires first { job.now.done ≡ 0 }
 
+    ensures some { IsNone result.end → 0 < result.bytes }
+    ensures short { result.bytes ≤ PIECE_LEN }
+    ensures in_range { job.now.done + result.bytes < 2 ^ 64 }
+    ensures taken { IsNone result.end → IfSome (L.left link.old) (λ l. TakesFront l (L.left link.new) result.bytes) }
+    ensures told { IsSome (S.files storage.old) → IsSome (S.files storage.new) }
     ensures stored { IfSome (S.files storage.old) (λ f. IfSome (L.left link.old) (λ l.
-        Stores f (S.files storage.new) job.now.path start l result)) }
+        Stores f (S.files storage.new) job.now.path start l result.bytes (result_of result.end) (fault_of result.end))) }
     ensures within { IfSome (L.left link.old) (λ l. result.bytes ≤ length l) }
-    ensures whole { result.result ≡ done.Written →
+    ensures whole { result_of result.end ≡ done.Written →
         IfSome (L.left link.old) (λ l. (result.bytes ≡ length l) × (L.left link.new ≡ Some [])) }
-    ensures countable { IsDone result.result → result.bytes < 2 ^ 64 - 1 }
+    ensures countable { IsDone (result_of result.end) → job.now.done + result.bytes < 2 ^ 64 - 1 }
 
-    ensures suits { suits result.result job.now.command ≡ true }
+    ensures suits { suits (result_of result.end) job.now.command ≡ true }
     ensures cause { Caused (done.Refused kind.ConnectionClosed)
         (LinkRose (L.faults link.old) (L.faults link.new) (L.calls link.old) (L.calls link.new) (L.sending link.new).last_fault) (L.sending link.old).last_fault (L.sending link.new).last_fault
         (StorageRose (S.faults storage.old) (S.faults storage.new) (S.calls storage.old) (S.calls storage.new))
         (λ k. IfSome (S.files storage.old) (λ f. RefusesStore (S.rule storage.old) job.now.user f (S.files storage.new) job.now.path start
         (L.left link.old) (L.left link.new) result.bytes k))
-        result.bytes result.result result.fault }
+        (job.now.done + result.bytes) (result_of result.end) (fault_of result.end) }
     ensures refused { IfSome (S.files storage.old) (λ f. IfSome (S.rule storage.old f (Begin job.now.user job.now.path start))
-        (λ k. RefusedFirst (StorageRose (S.faults storage.old) (S.faults storage.new) (S.calls storage.old) (S.calls storage.new)) k result.bytes result.result × (S.files storage.new ≡ Some f))) }
+        (λ k. RefusedFirst (StorageRose (S.faults storage.old) (S.faults storage.new) (S.calls storage.old) (S.calls storage.new)) k result.bytes (result_of result.end) × (S.files storage.new ≡ Some f))) }
     ensures refused_last { IsSome (S.files storage.old) →
         RefusedLast (StorageRose (S.faults storage.old) (S.faults storage.new) (S.calls storage.old) (S.calls storage.new)) (meaning_of (S.rule storage.old) (S.files storage.new)) job.now.user job.now.path
-        (option_map (drop result.bytes) (L.left link.old)) (L.left link.new) result.result }
+        (option_map (drop result.bytes) (L.left link.old)) (L.left link.new) (result_of result.end) }
 
     ensures storage_kept { StorageKept S.rule S.faults S.fault_limit storage.old storage.new }
     ensures only_reads { OnlyReads L.sending L.faults L.fault_limit link.old link.new }
-    ensures storage_well { StorageWent (S.calls storage.old) (S.calls storage.new) result.result }
-    ensures link_well { result.fault ≡ None → AllWell (λ call. call.0) (L.calls link.old) (L.calls link.new) }
+    ensures storage_well { StorageWent (S.calls storage.old) (S.calls storage.new) (result_of result.end) }
+    ensures link_well { fault_of result.end ≡ None → AllWell (λ call. call.0) (L.calls link.old) (L.calls link.new) }
 {
     match storage.begin(&job.user, &job.path, start) {
-        Ok(()) => fill(job, storage, link),
-        Err(error) => nothing_moved(stopped_by(error)),
+        Ok(()) => fill(job, buffer, storage, link),
+        Err(error) => Turn::last(0, stopped_by(error), None),
     }
 }
 
-/// Puts what the link gives, up to its end, behind the file.
-pub fn append<S: Storage, L: Link>(job: &Job, storage: &mut S, link: &mut L) -> Outcome
+/// Begins behind a file, and puts there what one read of the link gives.
+pub fn append<S: Storage, L: Link>(
+    job: &Job,
+    buffer: &mut [u8],
+    storage: &mut S,
+    link: &mut L,
+) -> Turn
+    requires buffer { length buffer.old ≡ PIECE_LEN }
     requires command { is_store job.now.command ≡ true }
+    requires first { job.now.done ≡ 0 }
 
+    ensures some { IsNone result.end → 0 < result.bytes }
+    ensures short { result.bytes ≤ PIECE_LEN }
+    ensures in_range { job.now.done + result.bytes < 2 ^ 64 }
+    ensures taken { IsNone result.end → IfSome (L.left link.old) (λ l. TakesFront l (L.left link.new) result.bytes) }
+    ensures told { IsSome (S.files storage.old) → IsSome (S.files storage.new) }
     ensures stored { IfSome (S.files storage.old) (λ f. IfSome (L.left link.old) (λ l.
-        Appends (S.rule storage.old f) job.now.user f (S.files storage.new) job.now.path l result)) }
+        Appends (S.rule storage.old f) job.now.user f (S.files storage.new) job.now.path l result.bytes (result_of result.end) (fault_of result.end))) }
     ensures within { IfSome (L.left link.old) (λ l. result.bytes ≤ length l) }
-    ensures whole { result.result ≡ done.Written →
+    ensures whole { result_of result.end ≡ done.Written →
         IfSome (L.left link.old) (λ l. (result.bytes ≡ length l) × (L.left link.new ≡ Some [])) }
-    ensures countable { IsDone result.result → result.bytes < 2 ^ 64 - 1 }
+    ensures countable { IsDone (result_of result.end) → job.now.done + result.bytes < 2 ^ 64 - 1 }
 
-    ensures suits { suits result.result job.now.command ≡ true }
+    ensures suits { suits (result_of result.end) job.now.command ≡ true }
     ensures cause { Caused (done.Refused kind.ConnectionClosed)
         (LinkRose (L.faults link.old) (L.faults link.new) (L.calls link.old) (L.calls link.new) (L.sending link.new).last_fault) (L.sending link.old).last_fault (L.sending link.new).last_fault
         (StorageRose (S.faults storage.old) (S.faults storage.new) (S.calls storage.old) (S.calls storage.new))
         (λ k. IfSome (S.files storage.old) (λ f. RefusesAppe (S.rule storage.old) job.now.user f (S.files storage.new) job.now.path
         (L.left link.old) (L.left link.new) result.bytes k))
-        result.bytes result.result result.fault }
+        (job.now.done + result.bytes) (result_of result.end) (fault_of result.end) }
     ensures refused { IfSome (S.files storage.old) (λ f. IfSome (append_refusal (S.rule storage.old f) job.now.user job.now.path (length (old_bytes f job.now.path)))
-        (λ k. RefusedFirst (StorageRose (S.faults storage.old) (S.faults storage.new) (S.calls storage.old) (S.calls storage.new)) k result.bytes result.result × (S.files storage.new ≡ Some f))) }
+        (λ k. RefusedFirst (StorageRose (S.faults storage.old) (S.faults storage.new) (S.calls storage.old) (S.calls storage.new)) k result.bytes (result_of result.end) × (S.files storage.new ≡ Some f))) }
     ensures refused_last { IsSome (S.files storage.old) →
         RefusedLast (StorageRose (S.faults storage.old) (S.faults storage.new) (S.calls storage.old) (S.calls storage.new)) (meaning_of (S.rule storage.old) (S.files storage.new)) job.now.user job.now.path
-        (option_map (drop result.bytes) (L.left link.old)) (L.left link.new) result.result }
+        (option_map (drop result.bytes) (L.left link.old)) (L.left link.new) (result_of result.end) }
 
     ensures storage_kept { StorageKept S.rule S.faults S.fault_limit storage.old storage.new }
     ensures only_reads { OnlyReads L.sending L.faults L.fault_limit link.old link.new }
-    ensures storage_well { StorageWent (S.calls storage.old) (S.calls storage.new) result.result }
-    ensures link_well { result.fault ≡ None → AllWell (λ call. call.0) (L.calls link.old) (L.calls link.new) }
+    ensures storage_well { StorageWent (S.calls storage.old) (S.calls storage.new) (result_of result.end) }
+    ensures link_well { fault_of result.end ≡ None → AllWell (λ call. call.0) (L.calls link.old) (L.calls link.new) }
 {
     match start_after(storage.metadata(&job.user, &job.path)) {
-        Ok(start) => store(job, start, storage, link),
-        Err(completion) => nothing_moved(completion),
+        Ok(start) => store(job, start, buffer, storage, link),
+        Err(completion) => Turn::last(0, completion, None),
     }
 }
 
@@ -97,48 +122,50 @@ fn start_after(found: Result<Meta, StoreError>) -> Result<u64, Completion>
     }
 }
 
-/// Puts what the link gives, up to its end, behind what the file has.
-pub fn fill<S: Storage, L: Link>(job: &Job, storage: &mut S, link: &mut L) -> Outcome
+/// Puts what one read of the link gives behind what the file has.
+pub fn fill<S: Storage, L: Link>(
+    job: &Job,
+    buffer: &mut [u8],
+    storage: &mut S,
+    link: &mut L,
+) -> Turn
+    requires buffer { length buffer.old ≡ PIECE_LEN }
     requires command { is_store job.now.command ≡ true }
 
+    ensures some { IsNone result.end → 0 < result.bytes }
+    ensures short { result.bytes ≤ PIECE_LEN }
+    ensures in_range { job.now.done + result.bytes < 2 ^ 64 }
     ensures grown { IfSome (S.files storage.old) (λ f. IfSome (L.left link.old) (λ l.
         GrowsFront f (S.files storage.new) job.now.path l result.bytes)) }
     ensures within { IfSome (L.left link.old) (λ l. result.bytes ≤ length l) }
-    ensures whole { result.result ≡ done.Written →
+    ensures taken { IsNone result.end → IfSome (L.left link.old) (λ l. TakesFront l (L.left link.new) result.bytes) }
+    ensures told { IsSome (S.files storage.old) → IsSome (S.files storage.new) }
+    ensures whole { result_of result.end ≡ done.Written →
         IfSome (L.left link.old) (λ l. (result.bytes ≡ length l) × (L.left link.new ≡ Some [])) }
-    ensures countable { IsDone result.result → result.bytes < 2 ^ 64 - 1 }
+    ensures countable { IsDone (result_of result.end) → job.now.done + result.bytes < 2 ^ 64 - 1 }
 
-    ensures suits { suits result.result job.now.command ≡ true }
+    ensures suits { suits (result_of result.end) job.now.command ≡ true }
     ensures cause { Caused (done.Refused kind.ConnectionClosed)
         (LinkRose (L.faults link.old) (L.faults link.new) (L.calls link.old) (L.calls link.new) (L.sending link.new).last_fault) (L.sending link.old).last_fault (L.sending link.new).last_fault
         (StorageRose (S.faults storage.old) (S.faults storage.new) (S.calls storage.old) (S.calls storage.new))
         (λ k. IsSome (S.files storage.old) → RefusesAppend (meaning_of (S.rule storage.old) (S.files storage.new)) job.now.user job.now.path
         (option_map (drop result.bytes) (L.left link.old)) (L.left link.new) k)
-        result.bytes result.result result.fault }
+        (job.now.done + result.bytes) (result_of result.end) (fault_of result.end) }
     ensures refused_last { IsSome (S.files storage.old) →
         RefusedLast (StorageRose (S.faults storage.old) (S.faults storage.new) (S.calls storage.old) (S.calls storage.new)) (meaning_of (S.rule storage.old) (S.files storage.new)) job.now.user job.now.path
-        (option_map (drop result.bytes) (L.left link.old)) (L.left link.new) result.result }
+        (option_map (drop result.bytes) (L.left link.old)) (L.left link.new) (result_of result.end) }
 
     ensures storage_kept { StorageKept S.rule S.faults S.fault_limit storage.old storage.new }
     ensures only_reads { OnlyReads L.sending L.faults L.fault_limit link.old link.new }
-    ensures storage_well { StorageWent (S.calls storage.old) (S.calls storage.new) result.result }
-    ensures link_well { result.fault ≡ None → AllWell (λ call. call.0) (L.calls link.old) (L.calls link.new) }
+    ensures storage_well { StorageWent (S.calls storage.old) (S.calls storage.new) (result_of result.end) }
+    ensures link_well { fault_of result.end ≡ None → AllWell (λ call. call.0) (L.calls link.old) (L.calls link.new) }
 {
-    let mut buffer = [0; PIECE_LEN];
-    let mut moved: u64 = 0;
-    'pieces: loop {
-        let turn = store_piece(job, moved, &mut buffer, storage, link);
-        moved += turn.bytes;
-        if let Some(end) = turn.end {
-            return end.outcome(moved);
-        }
-    }
+    store_piece(job, buffer, storage, link)
 }
 
-/// Appends what one read of the link gives, where so many bytes moved before.
-pub fn store_piece<S: Storage, L: Link>(
+/// Appends what one read of the link gives.
+fn store_piece<S: Storage, L: Link>(
     job: &Job,
-    moved: u64,
     buffer: &mut [u8],
     storage: &mut S,
     link: &mut L,
@@ -148,7 +175,7 @@ pub fn store_piece<S: Storage, L: Link>(
 
     ensures some { IsNone result.end → 0 < result.bytes }
     ensures within { result.bytes ≤ PIECE_LEN }
-    ensures in_range { moved + result.bytes < 2 ^ 64 }
+    ensures in_range { job.now.done + result.bytes < 2 ^ 64 }
     ensures grown { IfSome (S.files storage.old) (λ f. IfSome (L.left link.old) (λ l.
         GrowsFront f (S.files storage.new) job.now.path l result.bytes)) }
     ensures told { IsSome (S.files storage.old) → IsSome (S.files storage.new) }
@@ -157,7 +184,7 @@ pub fn store_piece<S: Storage, L: Link>(
     ensures unchanged { IsSome result.end → S.files storage.new ≡ S.files storage.old }
     ensures whole { IfSome result.end (λ e. e.result ≡ done.Written →
         IfSome (L.left link.old) (λ l. (l ≡ []) × (L.left link.new ≡ Some []))) }
-    ensures countable { IfSome result.end (λ e. IsDone e.result → moved + result.bytes < 2 ^ 64 - 1) }
+    ensures countable { IfSome result.end (λ e. IsDone e.result → job.now.done + result.bytes < 2 ^ 64 - 1) }
 
     ensures suits { IfSome result.end (λ e. suits e.result job.now.command ≡ true) }
     ensures cause { IfSome result.end (λ e. Caused (done.Refused kind.ConnectionClosed)
@@ -165,7 +192,7 @@ pub fn store_piece<S: Storage, L: Link>(
         (StorageRose (S.faults storage.old) (S.faults storage.new) (S.calls storage.old) (S.calls storage.new))
         (λ k. IsSome (S.files storage.old) → RefusesAppend (meaning_of (S.rule storage.old) (S.files storage.new)) job.now.user job.now.path
         (L.left link.old) (L.left link.new) k)
-        (moved + result.bytes) e.result e.fault) }
+        (job.now.done + result.bytes) e.result e.fault) }
     ensures last_fault { IsNone result.end → (L.sending link.new).last_fault ≡ (L.sending link.old).last_fault }
     ensures refused_last { IfSome result.end (λ e. IsSome (S.files storage.old) →
         RefusedLast (StorageRose (S.faults storage.old) (S.faults storage.new) (S.calls storage.old) (S.calls storage.new)) (meaning_of (S.rule storage.old) (S.files storage.new)) job.now.user job.now.path
@@ -178,7 +205,7 @@ pub fn store_piece<S: Storage, L: Link>(
     ensures link_well { IsNone result.end → AllWell (λ call. call.0) (L.calls link.old) (L.calls link.new) }
     ensures link_held { IfSome result.end (λ e. e.fault ≡ None → AllWell (λ call. call.0) (L.calls link.old) (L.calls link.new)) }
 {
-    let room = piece_room(moved);
+    let room = piece_room(job.done);
     if room == 0 {
         return Turn::last(0, Completion::Refused(ErrorKind::LocalError), None);
     }

@@ -1,19 +1,23 @@
-//! Runs a job on its storage and its link.
+//! Runs a job on its storage and its link, whole or piece by piece.
 
-ghost use Rattle.std.specs.Prelude.{◌≡◌, ◌≤◌, true, false};
+ghost use Rattle.std.specs.Prelude.{◌≡◌, ◌+◌, ◌-◌, ◌<◌, ◌≤◌, ◌^◌, true, false, length, IsSome, IsNone, IfSome};
 ghost use Rattle.ftp_base.specs.Kept.{CountsOn, StorageKept};
 ghost use Rattle.ftp_transfer.specs.declared.job.Completion.TheVariants as done;
-ghost use Rattle.ftp_transfer.specs.Ran.{told, Moves, Ran, IsClean, IsDone};
-ghost use Rattle.ftp_transfer.specs.Transfer.{is_retrieve, suits};
+ghost use Rattle.ftp_transfer.specs.Ran.{told, Moves, Ran, RanPiece, IsClean, IsDone, next_job};
+ghost use Rattle.ftp_transfer.specs.Run.{TakesFront};
+ghost use Rattle.ftp_transfer.specs.Transfer.{is_listing, is_retrieve, is_store, suits, IfEnded};
+ghost use Rattle.ftp_transfer.specs.Turn.{result_of, fault_of};
 
-use crate::job::{Job, Outcome};
+use crate::job::{Job, Outcome, PieceResult};
 use crate::list::list;
 use crate::retrieve::retrieve;
-use crate::store::{append, store};
+use crate::store::{append, fill, store};
+use crate::turn::{PIECE_LEN, Turn};
 use ftp_base::{DataChanCmd, Link, Storage};
 use std::alloc::Global;
 
-/// Moves the bytes of a job, and closes the link at the end; what that close meets changes nothing in the outcome.
+/// Moves the bytes of a job from where earlier pieces ended, and closes the link at the end; what that close meets changes
+/// nothing in the outcome.
 pub fn execute<S: Storage, L: Link>(
     alloc: Global,
     job: Job,
@@ -39,29 +43,114 @@ pub fn execute<S: Storage, L: Link>(
     ensures storage_kept { StorageKept S.rule S.faults S.fault_limit storage.old storage.new }
     ensures link_counts { CountsOn L.faults L.fault_limit link.old link.new }
 {
-    let outcome = run(alloc, &job, storage, link);
+    let outcome = run(alloc, job, storage, link);
     let _ = link.close();
     outcome
 }
 
-/// Moves the bytes of a job.
-fn run<S: Storage, L: Link>(alloc: Global, job: &Job, storage: &mut S, link: &mut L) -> Outcome
-    ensures moves { Moves job.now
+/// Moves the bytes of a job by one read of its file or of its link, or a listing whole. Where more may come `done` is raised,
+/// and the link is left as it is; otherwise the transfer ends as by `execute`.
+pub fn execute_piece<S: Storage, L: Link>(
+    alloc: Global,
+    job: &mut Job,
+    storage: &mut S,
+    link: &mut L,
+) -> PieceResult
+    ensures ran { RanPiece job.old
         (told (S.files storage.old) (S.rule storage.old) (S.faults storage.old) (S.calls storage.old)
         (L.left link.old) (L.sending link.old) (L.faults link.old) (L.calls link.old))
         (told (S.files storage.new) (S.rule storage.new) (S.faults storage.new) (S.calls storage.new)
         (L.left link.new) (L.sending link.new) (L.faults link.new) (L.calls link.new))
         result }
-    ensures suits { suits result.result job.now.command ≡ true }
-    ensures no_memory { is_retrieve job.now.command ≡ true → S.reads_take_memory ≡ false → L.takes_memory ≡ false → result.result ≡ done.OutOfMemory → ⊥ }
+    ensures raised { job.new ≡ next_job job.old result }
+    ensures suits { IfEnded result (λ o. suits o.result job.old.command ≡ true) }
+    ensures complete { IfEnded result (λ o. IsClean job.old
+        (told (S.files storage.old) (S.rule storage.old) (S.faults storage.old) (S.calls storage.old)
+        (L.left link.old) (L.sending link.old) (L.faults link.old) (L.calls link.old))
+        (told (S.files storage.new) (S.rule storage.new) (S.faults storage.new) (S.calls storage.new)
+        (L.left link.new) (L.sending link.new) (L.faults link.new) (L.calls link.new))
+        o → IsDone o.result) }
+    ensures no_memory { is_retrieve job.old.command ≡ true → S.reads_take_memory ≡ false → L.takes_memory ≡ false → IfEnded result (λ o. o.result ≡ done.OutOfMemory → ⊥) }
+    ensures storage_kept { StorageKept S.rule S.faults S.fault_limit storage.old storage.new }
+    ensures link_counts { CountsOn L.faults L.fault_limit link.old link.new }
+{
+    let mut buffer = [0; PIECE_LEN];
+    let turn = take_turn(alloc, job, &mut buffer, storage, link);
+    match turn.end {
+        None => {
+            job.done += turn.bytes;
+            PieceResult::More { bytes: turn.bytes }
+        }
+        Some(end) => {
+            let _ = link.close();
+            PieceResult::Ended(end.outcome(job.done + turn.bytes))
+        }
+    }
+}
+
+/// Moves the bytes of a job from where earlier pieces ended, a piece after another.
+fn run<S: Storage, L: Link>(alloc: Global, job: Job, storage: &mut S, link: &mut L) -> Outcome
+    ensures counted { job.done ≤ result.bytes }
+    ensures moves { Moves job
+        (told (S.files storage.old) (S.rule storage.old) (S.faults storage.old) (S.calls storage.old)
+        (L.left link.old) (L.sending link.old) (L.faults link.old) (L.calls link.old))
+        (told (S.files storage.new) (S.rule storage.new) (S.faults storage.new) (S.calls storage.new)
+        (L.left link.new) (L.sending link.new) (L.faults link.new) (L.calls link.new))
+        (result.bytes - job.done) result.result result.fault }
+    ensures suits { suits result.result job.command ≡ true }
+    ensures no_memory { is_retrieve job.command ≡ true → S.reads_take_memory ≡ false → L.takes_memory ≡ false → result.result ≡ done.OutOfMemory → ⊥ }
     ensures storage_kept { StorageKept S.rule S.faults S.fault_limit storage.old storage.new }
     ensures closed { (L.sending link.new).closed ≡ (L.sending link.old).closed }
     ensures link_counts { CountsOn L.faults L.fault_limit link.old link.new }
 {
+    let mut buffer = [0; PIECE_LEN];
+    let mut next = job;
+    'pieces: loop {
+        let turn = take_turn(alloc, &next, &mut buffer, storage, link);
+        match turn.end {
+            None => next.done += turn.bytes,
+            Some(end) => return end.outcome(next.done + turn.bytes),
+        }
+    }
+}
+
+/// Moves the next piece of a job.
+fn take_turn<S: Storage, L: Link>(
+    alloc: Global,
+    job: &Job,
+    buffer: &mut [u8],
+    storage: &mut S,
+    link: &mut L,
+) -> Turn
+    requires buffer { length buffer.old ≡ PIECE_LEN }
+
+    ensures moves { Moves job.now
+        (told (S.files storage.old) (S.rule storage.old) (S.faults storage.old) (S.calls storage.old)
+        (L.left link.old) (L.sending link.old) (L.faults link.old) (L.calls link.old))
+        (told (S.files storage.new) (S.rule storage.new) (S.faults storage.new) (S.calls storage.new)
+        (L.left link.new) (L.sending link.new) (L.faults link.new) (L.calls link.new))
+        result.bytes (result_of result.end) (fault_of result.end) }
+    ensures in_range { job.now.done + result.bytes < 2 ^ 64 }
+    ensures some { IsNone result.end → 0 < result.bytes }
+    ensures short { IsNone result.end → result.bytes ≤ PIECE_LEN }
+    ensures goes_on { IsNone result.end → is_listing job.now.command ≡ false }
+    ensures taken { IsNone result.end → is_store job.now.command ≡ true → IfSome (L.left link.old) (λ l. TakesFront l (L.left link.new) result.bytes) }
+    ensures told { IsSome (S.files storage.old) → IsSome (S.files storage.new) }
+    ensures suits { suits (result_of result.end) job.now.command ≡ true }
+    ensures no_memory { is_retrieve job.now.command ≡ true → S.reads_take_memory ≡ false → L.takes_memory ≡ false → IfSome result.end (λ e. e.result ≡ done.OutOfMemory → ⊥) }
+    ensures storage_kept { StorageKept S.rule S.faults S.fault_limit storage.old storage.new }
+    ensures closed { (L.sending link.new).closed ≡ (L.sending link.old).closed }
+    ensures link_counts { CountsOn L.faults L.fault_limit link.old link.new }
+    ensures same_length { length buffer.new ≡ length buffer.old }
+{
     match &job.command {
-        DataChanCmd::Retr { .. } => retrieve(job, storage, link),
-        DataChanCmd::Stor { .. } => store(job, job.offset, storage, link),
-        DataChanCmd::Appe { .. } => append(job, storage, link),
+        DataChanCmd::Retr { .. } => retrieve(job, buffer, storage, link),
+        DataChanCmd::Stor { .. } if job.done == 0 => {
+            store(job, job.offset, buffer, storage, link)
+        }
+        DataChanCmd::Appe { .. } if job.done == 0 => append(job, buffer, storage, link),
+        DataChanCmd::Stor { .. } => fill(job, buffer, storage, link),
+        DataChanCmd::Appe { .. } => fill(job, buffer, storage, link),
         DataChanCmd::List { .. } => list(alloc, job, storage, link),
         DataChanCmd::Nlst { .. } => list(alloc, job, storage, link),
         DataChanCmd::Mlsd { .. } => list(alloc, job, storage, link),

@@ -78,14 +78,3 @@ pub fn piece_room(moved: u64) -> usize
 {
     (u64::MAX - moved).min(PIECE_LEN as u64) as usize
 }
-
-/// The outcome of a transfer that ended before a byte moved, and not by the link.
-pub fn nothing_moved(completion: Completion) -> Outcome
-    ensures { result ≡ record { result = completion; bytes = 0; fault = None } }
-{
-    Outcome {
-        result: completion,
-        bytes: 0,
-        fault: None,
-    }
-}

@@ -1,4 +1,4 @@
-use Rattle.std.proofs.Common.{◌≡◌, inl, inr, ℕ, List, Option, Some, None, refl, ap, Err}
+use Rattle.std.proofs.Common.{◌≡◌, inl, inr, ℕ, List, Option, Some, None, refl, ap, Err, rules}
 use Rattle.std.specs.Prelude.{IfSome}
 use Rattle.ftp_base.specs.declared.command.DataChanCmd.{DataChanCmd}
 use Rattle.ftp_base.specs.declared.command.DataChanCmd.TheVariants as command
@@ -45,24 +45,27 @@ refused_so c refusal Failed rose so failed = any_first refusal _ (λ k. (refl, i
 refused_so c refusal OutOfMemory rose so failed = any_first refusal _ (λ k. (refl, inr (inl (ends_memory c))))
 
 -- a listing that the storage stopped ends for its cause
-stopped_so : (c : DataChanCmd) (e : StoreError) (meaning : Meaning) (user path : List ℕ) (link rose told : Type 0) (last : Option LinkFault) →
+stopped_so : (c : DataChanCmd) (e : StoreError) (meaning : Meaning) (user path : List ℕ) (link rose told : Type 0) (last : Option LinkFault) (m : ℕ) →
     (told → Refuses (meaning (Listing user path)) e) → (e ≡ Failed → rose) →
-    Caused result.WriteFailed link last last rose (λ k. told → RefusesListing c meaning user path k) 0 (listing_end c e) None
-stopped_so (command.Nlst p) (Kind k) meaning user path link rose told last refused failed = inr ((refl, refl), inr (λ t. (k, refused t, refl)))
-stopped_so c (Kind k) meaning user path link rose told last refused failed = inr ((refl, refl), inr (λ t. (k, refused t, refl)))
-stopped_so c Failed meaning user path link rose told last refused failed = rw (ends_failed c) (inr ((refl, refl), inl (refl, inl (failed refl))))
-stopped_so c OutOfMemory meaning user path link rose told last refused failed = rw (ends_memory c) (inr ((refl, refl), tt))
+    Caused result.WriteFailed link last last rose (λ k. told → RefusesListing c meaning user path k) m (listing_end c e) None
+stopped_so (command.Nlst p) (Kind k) meaning user path link rose told last m refused failed = inr ((refl, refl), inr (λ t. (k, refused t, refl)))
+stopped_so c (Kind k) meaning user path link rose told last m refused failed = inr ((refl, refl), inr (λ t. (k, refused t, refl)))
+stopped_so c Failed meaning user path link rose told last m refused failed = rw (ends_failed c) (inr ((refl, refl), inl (refl, inl (failed refl))))
+stopped_so c OutOfMemory meaning user path link rose told last m refused failed = rw (ends_memory c) (inr ((refl, refl), tt))
 
 pub returns-in-Err-clause-cause : goal.returns-in-Err-clause-cause
 returns-in-Err-clause-cause g c =
-    rw (c.nothing_moved.ensures, c.listing_end.ensures)
-    (stopped_so c.args.job.now.command c.in-Err.error (meaning_of (g.S.Storage.rule c.args.storage.now) (g.S.Storage.files c.args.storage.now)) c.args.job.now.user c.args.job.now.path _ _ _ _
+    rw (c.last.ensures.end, c.last.ensures.bytes, c.listing_end.ensures)
+    (stopped_so c.args.job.now.command c.in-Err.error (meaning_of (g.S.Storage.rule c.args.storage.now) (g.S.Storage.files c.args.storage.now)) c.args.job.now.user c.args.job.now.path _ _ _ _ _
     c.in-Err.ensures.refused
     (λ e. (c.in-Err.ensures.fault_rose (ap Err e), c.in-Err.ensures.as_listed (ap Err e))))
 
 pub returns-in-Err-clause-refused : goal.returns-in-Err-clause-refused
 returns-in-Err-clause-refused g c told =
-    rw (c.nothing_moved.ensures, c.listing_end.ensures)
+    rw (c.last.ensures.end, c.last.ensures.bytes, c.listing_end.ensures)
     (refused_so c.args.job.now.command (meaning_of (g.S.Storage.rule c.args.storage.now) (g.S.Storage.files c.args.storage.now) (Listing c.args.job.now.user c.args.job.now.path)) c.in-Err.error _
     (c.in-Err.ensures.refused told)
     (λ e. (c.in-Err.ensures.fault_rose (ap Err e), c.in-Err.ensures.as_listed (ap Err e))))
+
+pub returns-in-Err-clause-in_range : goal.returns-in-Err-clause-in_range
+returns-in-Err-clause-in_range g c = rw c.last.ensures.bytes (search rules)

@@ -5,7 +5,7 @@ use Rattle.ftp_base.specs.declared.storage.StoreError.{StoreError}
 use Rattle.ftp_base.specs.declared.storage.StoreError.TheVariants.{Failed}
 use Rattle.ftp_base.specs.Storage.{Files, Metadata, meaning_of}
 use Rattle.ftp_transfer.specs.Run.{StorageRose, RefusedFirst, RefusesStore}
-use Rattle.ftp_transfer.specs.Turn.{start_after}
+use Rattle.ftp_transfer.specs.Turn.{start_after, result_of, fault_of}
 use Rattle.ftp_transfer.proofs.RunLemmas.{StorageRose_later, StorageWent-more, Caused_later, RefusedFirst_more}
 use Rattle.ftp_transfer.proofs.StoreLemmas.{RefusesAppe-at, append_place-start, append_refusal-begin, RefusedLast-none, RefusedLast_later, drop-nothing}
 use Rattle.ftp_transfer.proofs.store.append.Goals as goal
@@ -19,9 +19,9 @@ returns-in-Ok-clause-refused g c =
     let refused = rw (c.metadata.ensures.unchanged, c.metadata.ensures.storage_kept.same_rule) at c.store.ensures.refused in
     let rose = StorageRose_later _ _ _ c.metadata.ensures.storage_kept.counts c.store.ensures.storage_kept.counts (c.metadata.ensures.unlisted (λ e. absurd (went-on c.metadata.result c.in-Ok.start (sym c.start_after.ensures ∙ c.in-Ok.is) e))) in
     append_refusal-begin (g.S.Storage.files c.args.storage.now) (g.S.Storage.rule c.args.storage.now) c.args.job.now.user c.args.job.now.path c.in-Ok.start
-    (λ (f : Files) (k : ErrorKind). RefusedFirst (StorageRose (g.S.Storage.faults c.metadata.new.self) (g.S.Storage.faults c.store.new.storage) (g.S.Storage.calls c.metadata.new.self) (g.S.Storage.calls c.store.new.storage)) k c.store.result.bytes c.store.result.result × (g.S.Storage.files c.store.new.storage ≡ Some f))
-    (λ (f : Files) (k : ErrorKind). RefusedFirst (StorageRose (g.S.Storage.faults c.args.storage.now) (g.S.Storage.faults c.store.new.storage) (g.S.Storage.calls c.args.storage.now) (g.S.Storage.calls c.store.new.storage)) k c.store.result.bytes c.store.result.result × (g.S.Storage.files c.store.new.storage ≡ Some f))
-    (λ f k h. (RefusedFirst_more _ _ k c.store.result.bytes c.store.result.result rose h.0, h.1))
+    (λ (f : Files) (k : ErrorKind). RefusedFirst (StorageRose (g.S.Storage.faults c.metadata.new.self) (g.S.Storage.faults c.store.new.storage) (g.S.Storage.calls c.metadata.new.self) (g.S.Storage.calls c.store.new.storage)) k c.store.result.bytes (result_of c.store.result.end) × (g.S.Storage.files c.store.new.storage ≡ Some f))
+    (λ (f : Files) (k : ErrorKind). RefusedFirst (StorageRose (g.S.Storage.faults c.args.storage.now) (g.S.Storage.faults c.store.new.storage) (g.S.Storage.calls c.args.storage.now) (g.S.Storage.calls c.store.new.storage)) k c.store.result.bytes (result_of c.store.result.end) × (g.S.Storage.files c.store.new.storage ≡ Some f))
+    (λ f k h. (RefusedFirst_more _ _ k c.store.result.bytes (result_of c.store.result.end) rose h.0, h.1))
     (λ f told.
     append_place-start f c.args.job.now.path (g.S.Storage.rule c.args.storage.now f (Metadata c.args.job.now.user c.args.job.now.path)) c.metadata.result c.in-Ok.start
     ((rw told at c.metadata.ensures.refused) refl)
@@ -32,7 +32,7 @@ returns-in-Ok-clause-refused g c =
 pub returns-in-Ok-clause-cause : goal.returns-in-Ok-clause-cause
 returns-in-Ok-clause-cause g c =
     let cause = rw (c.metadata.ensures.unchanged, c.metadata.ensures.storage_kept.same_rule) at c.store.ensures.cause in
-    Caused_later _ _ _ _ _ _ _ _ _ _ c.store.result.result c.store.result.fault
+    Caused_later _ _ _ _ _ _ _ _ _ _ (result_of c.store.result.end) (fault_of c.store.result.end)
     (λ h. h)
     (StorageRose_later _ _ _ c.metadata.ensures.storage_kept.counts c.store.ensures.storage_kept.counts (c.metadata.ensures.unlisted (λ e. absurd (went-on c.metadata.result c.in-Ok.start (sym c.start_after.ensures ∙ c.in-Ok.is) e))))
     (λ k refused.
@@ -61,4 +61,4 @@ returns-in-Ok-clause-refused_last g c told =
 
 pub returns-in-Err-clause-refused_last : goal.returns-in-Err-clause-refused_last
 returns-in-Err-clause-refused_last g c told =
-    rw c.nothing_moved.ensures (RefusedLast-none _ (meaning_of (g.S.Storage.rule c.args.storage.now) (g.S.Storage.files c.metadata.new.self)) c.args.job.now.user c.args.job.now.path _ _ _ (drop-nothing (g.L.Source.left c.args.link.now)))
+    rw (c.last.ensures.end, c.last.ensures.bytes) (RefusedLast-none _ (meaning_of (g.S.Storage.rule c.args.storage.now) (g.S.Storage.files c.metadata.new.self)) c.args.job.now.user c.args.job.now.path _ _ _ (drop-nothing (g.L.Source.left c.args.link.now)))

@@ -1,19 +1,20 @@
 use Rattle.std.proofs.Common.{rules}
 use Rattle.ftp_base.specs.Storage.{meaning_of}
+use Rattle.ftp_transfer.specs.Turn.{result_of, fault_of}
 use Rattle.ftp_transfer.proofs.RunLemmas.{StorageRose_later, StorageWent-more, Caused_later}
 use Rattle.ftp_transfer.proofs.StoreLemmas.{Stores-begun, Begins-told, Stores-refused, RefusedLast-none, RefusedLast_later, drop-nothing}
 use Rattle.ftp_transfer.proofs.store.store.Goals as goal
 
 pub returns-in-Ok-clause-stored : goal.returns-in-Ok-clause-stored
 returns-in-Ok-clause-stored g c =
-    Stores-begun (g.S.Storage.files c.args.storage.now) (g.S.Storage.files c.begin.new.self) (g.S.Storage.files c.fill.new.storage) c.args.job.now.path c.args.start (g.L.Source.left c.args.link.now) c.fill.result
+    Stores-begun (g.S.Storage.files c.args.storage.now) (g.S.Storage.files c.begin.new.self) (g.S.Storage.files c.fill.new.storage) c.args.job.now.path c.args.start (g.L.Source.left c.args.link.now) c.fill.result.bytes (result_of c.fill.result.end) (fault_of c.fill.result.end)
     c.in-Ok.ensures.begun
     c.fill.ensures.within
     c.fill.ensures.grown
 
 pub returns-in-Ok-clause-cause : goal.returns-in-Ok-clause-cause
 returns-in-Ok-clause-cause g c =
-    Caused_later _ _ _ _ _ _ _ _ _ _ c.fill.result.result c.fill.result.fault
+    Caused_later _ _ _ _ _ _ _ _ _ _ (result_of c.fill.result.end) (fault_of c.fill.result.end)
     (λ h. h)
     (StorageRose_later _ _ _ c.begin.ensures.storage_kept.counts c.fill.ensures.storage_kept.counts (c.begin.ensures.unlisted (search rules)))
     (λ k refused.
@@ -35,4 +36,4 @@ returns-in-Ok-clause-refused_last g c told =
 
 pub returns-in-Err-clause-refused_last : goal.returns-in-Err-clause-refused_last
 returns-in-Err-clause-refused_last g c told =
-    rw c.nothing_moved.ensures (RefusedLast-none _ (meaning_of (g.S.Storage.rule c.args.storage.now) (g.S.Storage.files c.begin.new.self)) c.args.job.now.user c.args.job.now.path _ _ _ (drop-nothing (g.L.Source.left c.args.link.now)))
+    rw (c.last.ensures.end, c.last.ensures.bytes) (RefusedLast-none _ (meaning_of (g.S.Storage.rule c.args.storage.now) (g.S.Storage.files c.begin.new.self)) c.args.job.now.user c.args.job.now.path _ _ _ (drop-nothing (g.L.Source.left c.args.link.now)))

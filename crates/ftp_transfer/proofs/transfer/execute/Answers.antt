@@ -7,6 +7,7 @@ pub returns-clause-ran : goal.returns-clause-ran
 returns-clause-ran g c =
     let moves = c.run-outcome.ensures.moves in
     record {
+      counted = c.run-outcome.ensures.counted;
       faults = g.L.Source.faults c.run-outcome.new.link;
       calls = g.L.Source.calls c.run-outcome.new.link;
       not_before = c.run-outcome.ensures.link_counts.count;
@@ -19,6 +20,7 @@ returns-clause-ran g c =
         silent = λ store. c.close.ensures.only_closes.sent ∙ moves.silent store;
         kept = λ other. ((moves.kept other).0, c.close.ensures.only_closes.same_left ∙ (moves.kept other).1);
         stored = moves.stored;
+        grown = moves.grown;
         written = λ done. rw c.close.ensures.only_closes.same_left (moves.written done);
         countable = moves.countable;
         cause = rw (c.close.ensures.only_closes.last_fault, c.close.ensures.only_closes.same_left) moves.cause;
