@@ -278,3 +278,19 @@ fn nothing_is_appended_where_the_storage_fails(rt: HostRuntime) -> Result<(), Fa
         &[sends_nothing(appe, failed, None)],
     )
 }
+
+/// A file of 9,000 bytes goes in two pieces and an end.
+#[test]
+fn pieces(rt: HostRuntime) -> Result<(), Fail> {
+    let mut storage = storage(rt.alloc());
+    let bytes = vec![in rt.alloc(); 97; 9000]?;
+    let stored = stor(bytes.as_slice()).run_in_pieces(&mut storage, rt.alloc())?;
+    assert_eq!(rt; stored.1.as_slice(), [8192, 808].as_slice());
+    assert_eq!(rt; stored.0.outcome, ended(Completion::Written, 9000));
+    assert_eq!(rt; stored.0.file.as_deref(), Some(bytes.as_slice()));
+    let sent = retr(0).run_in_pieces(&mut storage, rt.alloc())?;
+    assert_eq!(rt; sent.1.as_slice(), [8192, 808].as_slice());
+    assert_eq!(rt; sent.0.outcome, ended(Completion::Sent, 9000));
+    assert_eq!(rt; sent.0.sent.as_slice(), bytes.as_slice());
+    Ok(())
+}

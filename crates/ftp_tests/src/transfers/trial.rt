@@ -1,7 +1,7 @@
 //! A transfer over memory, with what stands before it and what it leaves.
 
 use ftp_base::{Bytes, DataChanCmd, LinkFault, MemoryLink, MemoryStorage, Storage};
-use ftp_transfer::{Job, Outcome, Ticket, execute};
+use ftp_transfer::{Job, Outcome, PieceResult, Ticket, execute, execute_piece};
 use std::alloc::{AllocError, Global};
 use std::test::Fail;
 
@@ -75,6 +75,7 @@ impl<'a> Trial<'a> {
             path: Bytes::from_slice(alloc, self.path)?,
             offset: self.offset,
             number: 11,
+            done: 0,
         })
     }
 
@@ -85,6 +86,31 @@ impl<'a> Trial<'a> {
         };
         let input = self.input.to_vec(alloc)?;
         Ok(MemoryLink::new(alloc, input, self.chunk.max(1), fails))
+    }
+
+    /// Runs the transfer a piece after another, and says how many bytes each piece moved that was not the last.
+    pub fn run_in_pieces(
+        &self,
+        storage: &mut MemoryStorage,
+        alloc: Global,
+    ) -> Result<(Left, Vec<u64>), Fail> {
+        let mut job = self.job(alloc)?;
+        let mut link = self.link(alloc)?;
+        let mut pieces = Vec::new(alloc);
+        for _ in 0..u64::MAX {
+            match execute_piece(alloc, &mut job, storage, &mut link) {
+                PieceResult::More { bytes } => pieces.push(bytes)?,
+                PieceResult::Ended(outcome) => {
+                    let left = Left {
+                        outcome,
+                        sent: link.sent().to_vec(alloc)?,
+                        file: file_in(storage, self.path, alloc)?,
+                    };
+                    return Ok((left, pieces));
+                }
+            }
+        }
+        Err(Fail::new(format_args!("no end")))
     }
 
     /// Runs the transfer.
