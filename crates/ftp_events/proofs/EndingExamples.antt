@@ -60,22 +60,20 @@ renaming_and_aborting : told_after 4 one_port
 unfolding everything
 renaming_and_aborting = refl
 
--- ABOR cancels what waits and closes its link, and leaves the transfer that runs
+-- ABOR cancels what waits and closes its link, and the transfer that runs is cut at its end
 aborting_a_wait : told_after 8 two_ports
     (login 1 a1 ++ pasv 1 0 ∷ data_in 11 (addr a1 4001) 50000 ∷ event 1 (kind.Transfer 1 (Retr (codes "a"))) ∷ pasv 1 0
     ∷ event 1 (kind.Transfer 1 (Retr (codes "b"))) ∷ data_in 12 (addr a1 4002) 50000 ∷ event 1 (kind.Abor 1) ∷ ended 1 1 Sent 5 ∷ [])
     ≡ ((decision.Queued (ticket 1 2), say 1 code.FileStatusOkay (codes "Sending data") ∷ [])
     ∷ (decision.Attached 1, [])
     ∷ (
-      decision.Aborted,
-      action.Cancelled (ticket 1 2) ∷ say 1 code.ConnectionClosed (codes "Datachannel unexpectedly closed") ∷ action.Close 12
-          ∷ say 1 code.ClosingDataConnection (codes "Closed data channel") ∷ [],
+      decision.Aborting,
+      action.Cancelled (ticket 1 2) ∷ say 1 code.ConnectionClosed (codes "Datachannel unexpectedly closed") ∷ action.Close 12 ∷ [],
     )
     ∷ (
-      decision.Finished,
-      action.Completed (ticket 1 1) true
-          ∷ action.Notify 1 (record { username = codes "ann"; trace_id = record { 0 = 1 }; sequence_number = 2 }) (Data (Got (codes "/a") 5))
-          ∷ say 1 code.ClosingDataConnection (codes "Successfully sent") ∷ [],
+      decision.Cut,
+      action.Cancelled (ticket 1 1) ∷ say 1 code.ConnectionClosed (codes "Datachannel unexpectedly closed") ∷ action.Close 11
+          ∷ say 1 code.ClosingDataConnection (codes "Closed data channel") ∷ [],
     ) ∷ [])
 unfolding everything
 aborting_a_wait = refl

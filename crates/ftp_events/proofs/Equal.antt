@@ -204,6 +204,7 @@ exact-event-kind = by_exact event_kind.enum _ (
     exact2 exact-number exact-number ⨾  -- Rest
     exact3 exact-number exact-bytes (exact-option exact-error-kind) ⨾  -- Cwd
     exact1 exact-ticket ⨾  -- End
+    exact1 exact-ticket ⨾  -- Piece
     exact1 exact-number ⨾  -- Quit
     exact1 exact-number ⨾  -- Closed
     exact1 exact-number ⨾  -- Abor
@@ -226,7 +227,7 @@ exact-hub-event = record {
 
 -- answers
 pub exact-answer : Exact answer-eq.ghosts.eq
-exact-answer = by_exact answer.enum _ (search (exacts, exact1 (exact-result exact-proxy-header exact-proxy-error), exact1 exact-outcome))
+exact-answer = by_exact answer.enum _ (search (exacts, exact1 (exact-result exact-proxy-header exact-proxy-error), exact1 exact-outcome, exact1 exact-number))
 
 -- decisions
 pub exact-decision : Exact decision-eq.ghosts.eq
@@ -258,11 +259,14 @@ exact-decision = by_exact decision.enum _ (
     exact0 ⨾  -- NoSlot
     exact1 exact-ticket ⨾  -- Queued
     exact0 ⨾  -- Finished
+    exact0 ⨾  -- Moved
+    exact0 ⨾  -- Cut
     exact0 ⨾  -- NoRestart
     exact0 ⨾  -- RestOk
     exact1 exact-error-kind ⨾  -- CwdRefused
     exact0 ⨾  -- CwdOk
     exact0 ⨾  -- Aborted
+    exact0 ⨾  -- Aborting
     exact0 ⨾  -- NothingToAbort
     exact0 ⨾  -- Told
     exact0 ⨾  -- Early

@@ -7,3 +7,4 @@ mod Exact
 mod Equal
 mod EndingExamples
 mod CountExamples
+mod PieceExamples

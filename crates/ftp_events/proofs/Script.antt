@@ -139,6 +139,10 @@ done r n = answer.Done (record { result = r; bytes = n; fault = None })
 abbrev pub ended : ℕ → ℕ → Completion → ℕ → Event
 ended s nr r n = (record { at = 1; kind = kind.End (ticket s nr) }, done r n)
 
+-- a piece of a transfer of session s, with its answer
+abbrev pub piece : ℕ → ℕ → Answer → Event
+piece s nr given = (record { at = 1; kind = kind.Piece (ticket s nr) }, given)
+
 -- what an entry decided and did
 abbrev pub said : Entry → Decision × List Action
 said e = (e.decision, e.actions)

@@ -10,15 +10,15 @@ use Rattle.ftp_base.specs.declared.reply.Reply.{Reply}
 use Rattle.ftp_base.specs.declared.reply.Reply.TheVariants as reply
 use Rattle.ftp_base.specs.declared.reply.ReplyCode.TheVariants as code
 use Rattle.ftp_events.specs.declared.session.Running.{Running}
+use Rattle.ftp_transfer.specs.declared.job.Ticket.{Ticket}
 use Rattle.ftp_options.specs.declared.options.Options.{Options}
 use Rattle.ftp_events.specs.declared.action.Action.{Action}
 use Rattle.ftp_events.specs.declared.action.Action.TheVariants as action
 use Rattle.ftp_events.specs.declared.entry.Entry.{Entry}
 use Rattle.ftp_events.specs.declared.event.EventKind.{EventKind}
-use Rattle.ftp_events.specs.declared.event.EventKind.TheVariants.{End}
 use Rattle.ftp_events.specs.declared.event.Answer.{Answer}
 use Rattle.ftp_events.specs.declared.decision.Decision.{Decision}
-use Rattle.ftp_events.specs.declared.decision.Decision.TheVariants.{Turned, HeaderFault, LoggedIn, Finished}
+use Rattle.ftp_events.specs.declared.decision.Decision.TheVariants.{Turned, HeaderFault, LoggedIn, Finished, Cut}
 use Rattle.ftp_events.specs.declared.decision.Life.{Life}
 use Rattle.ftp_events.specs.declared.decision.Life.TheVariants.{Ends}
 use Rattle.ftp_events.specs.declared.session.Pending.{Pending}
@@ -27,7 +27,7 @@ use Rattle.ftp_events.specs.declared.session.Slot.TheVariants.{Empty, Linked}
 use Rattle.ftp_events.specs.declared.session.Session.{Session}
 use Rattle.ftp_events.specs.Words.{◌⇒◌∣◌}
 use Rattle.ftp_events.specs.Classes.{life, is_ending}
-use Rattle.ftp_events.specs.Log.{is_refusal, past_of, new_number}
+use Rattle.ftp_events.specs.Log.{is_refusal, past_of, new_number, job_ticket}
 use Rattle.ftp_events.specs.History.{Subject, Nobody, One, All, subject}
 use Rattle.ftp_events.specs.Login.{login_by, logged_user}
 use Rattle.ftp_events.specs.Slot.{drops, started_by}
@@ -40,21 +40,31 @@ abbrev pub link_in : Slot → Option ℕ
 link_in (Linked number) = Some number
 link_in _ = None
 
--- the end of a job is told to the session, where that is live
-abbrev pub completions : EventKind → Decision → Bool → List Action
-completions (End ticket) Finished delivered = action.Completed ticket delivered ∷ []
-completions _ _ delivered = []
+-- a transfer is cancelled, and a session that stays is told
+abbrev pub cancelled : ℕ → Bool → Ticket → List Action
+cancelled s stays ticket =
+    action.Cancelled ticket ∷ (if stays then action.Reply s 0 (reply.CodeAndMsg code.ConnectionClosed (codes "Datachannel unexpectedly closed")) ∷ [] else [])
 
--- a transfer that is dropped is cancelled, and a session that stays is told
+-- a transfer that is dropped is cancelled
 abbrev pub cancellations : ℕ → Bool → Option Pending → List Action
 cancellations s stays None = []
-cancellations s stays (Some p) =
-    action.Cancelled p.ticket ∷ (if stays then action.Reply s 0 (reply.CodeAndMsg code.ConnectionClosed (codes "Datachannel unexpectedly closed")) ∷ [] else [])
+cancellations s stays (Some p) = cancelled s stays p.ticket
 
 -- a link that is dropped is closed
 abbrev pub closings : Option ℕ → List Action
 closings None = []
 closings (Some number) = action.Close number ∷ []
+
+-- a job that is cut is cancelled, and its link is closed
+abbrev pub cuttings : ℕ → Bool → Option Running → List Action
+cuttings s stays None = []
+cuttings s stays (Some r) = cancelled s stays r.job.ticket ++ closings (Some r.job.number)
+
+-- the end of a job is told to the session, where that is live
+abbrev pub completions : ℕ → EventKind → Decision → Bool → Option Running → List Action
+completions s k Finished delivered job = option_map_or (λ ticket. action.Completed ticket delivered ∷ []) (job_ticket k) []
+completions s k Cut delivered job = cuttings s delivered job
+completions s k d delivered job = []
 
 -- every end of a life is a going, and a login a coming
 abbrev pub presence_of : Life → Decision → Option PresenceEvent
@@ -129,7 +139,7 @@ starting k d job v = started_by k d (queued_for d k v) (lane_in v job)
 -- what an event does for the session that it is about, in order, from what the session is before and the job that ran
 abbrev pub session_acts : Options → ℕ → EventKind → Answer → Decision → Option Running → Option Session → List Action
 session_acts o s k answer d job v =
-    completions k d (stays d v) ++
+    completions s k d (stays d v) job ++
     drop_acts s (stays d v) d (slot_of v) (pending_in v) ++
     refused_link k d ++
     option_map_or (notice_and_reply o s k answer d job) v [] ++

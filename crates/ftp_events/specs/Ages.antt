@@ -3,7 +3,7 @@ use Rattle.std.specs.Prelude.{ℕ, Bool, true, false, not, ◌&&◌, ◌||◌, L
 use Rattle.std.specs.Bool.{then_some}
 use Rattle.ftp_events.specs.declared.entry.Entry.{Entry}
 use Rattle.ftp_events.specs.declared.event.EventKind.{EventKind}
-use Rattle.ftp_events.specs.declared.event.EventKind.TheVariants.{User, Pass, AuthDone, Pasv, Port, Transfer, Stou, Rest, Cwd, Abor, Internal, End}
+use Rattle.ftp_events.specs.declared.event.EventKind.TheVariants.{User, Pass, AuthDone, Pasv, Port, Transfer, Stou, Rest, Cwd, Abor, Internal, End, Piece}
 use Rattle.ftp_events.specs.declared.decision.Decision.{Decision}
 use Rattle.ftp_events.specs.declared.decision.Decision.TheVariants.{Opened, Waited}
 use Rattle.ftp_events.specs.Words.{latest}
@@ -18,7 +18,7 @@ slot_at_by d at = then_some (renews (slot_move d)) at
 abbrev pub slot_at : List Entry → ℕ
 slot_at h = latest 0 (λ e. slot_at_by e.decision e.event.at) h
 
--- a command of the client, a message of its control layer and the end of a transfer show a session at work
+-- a command of the client, a message of its control layer, a piece and the end of a transfer show a session at work
 abbrev pub is_activity : EventKind → Bool
 is_activity (User session name) = true
 is_activity (Pass session) = true
@@ -32,6 +32,7 @@ is_activity (Cwd session path refusal) = true
 is_activity (Abor session) = true
 is_activity (Internal session message) = true
 is_activity (End ticket) = true
+is_activity (Piece ticket) = true
 is_activity _ = false
 
 -- an opening begins the idle time, and a look at a session at work begins it again

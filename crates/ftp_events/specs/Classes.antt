@@ -1,7 +1,7 @@
 -- The classes of decisions: what one makes of a session's life, and what of its slot. All that is said of lives and slots is said of these.
 use Rattle.std.specs.Prelude.{Bool, true, false}
 use Rattle.ftp_events.specs.declared.decision.Decision.{Decision}
-use Rattle.ftp_events.specs.declared.decision.Decision.TheVariants.{Opened, Quit, Closed, TimedOut, Stopped, Granted, PortOk, SlotDropped, Aborted, Attached, Queued, Finished, Turned}
+use Rattle.ftp_events.specs.declared.decision.Decision.TheVariants.{Opened, Quit, Closed, TimedOut, Stopped, Granted, PortOk, SlotDropped, Aborted, Aborting, Attached, Queued, Finished, Cut, Turned}
 use Rattle.ftp_events.specs.declared.decision.Life.{Life}
 use Rattle.ftp_events.specs.declared.decision.Life.TheVariants.{Goes, Opens, Ends}
 use Rattle.ftp_events.specs.declared.decision.SlotMove.{SlotMove}
@@ -27,9 +27,11 @@ slot_move (Granted port) = Awaits port
 slot_move PortOk = Connects
 slot_move SlotDropped = Expires
 slot_move Aborted = Empties
+slot_move Aborting = Empties
 slot_move (Attached session) = Links
 slot_move (Queued ticket) = Queues ticket
 slot_move Finished = Finishes
+slot_move Cut = Finishes
 slot_move Turned = EmptiesWaiting
 slot_move d = move_of_life (life d)
 

@@ -14,7 +14,7 @@ use Rattle.ftp_options.specs.Features.{has_restart}
 use Rattle.ftp_options.specs.Modes.{is_legacy, is_passive_off, is_active_off}
 use Rattle.ftp_options.specs.Host.{lacks_lookup}
 use Rattle.ftp_events.specs.declared.decision.Decision.{Decision}
-use Rattle.ftp_events.specs.declared.decision.Decision.TheVariants.{UnknownNumber, UsedNumber, Misplaced, NotExpected, Turned, Attached, NotLoggedIn, ModeOff, Full, NoLookup, NoSocket, Granted, BadAddress, OtherAddress, NoConnection, PortOk, Aborted, NothingToAbort, Told, SlotDropped, Early, Waited, TimedOut, NoSlot, Queued, NoRestart, RestOk, CwdRefused, CwdOk, Quit, Closed}
+use Rattle.ftp_events.specs.declared.decision.Decision.TheVariants.{UnknownNumber, UsedNumber, Misplaced, NotExpected, Turned, Attached, NotLoggedIn, ModeOff, Full, NoLookup, NoSocket, Granted, BadAddress, OtherAddress, NoConnection, PortOk, Aborted, Aborting, NothingToAbort, Told, SlotDropped, Early, Waited, TimedOut, NoSlot, Queued, NoRestart, RestOk, CwdRefused, CwdOk, Quit, Closed}
 use Rattle.ftp_events.specs.declared.event.EventKind.{EventKind}
 use Rattle.ftp_events.specs.declared.event.EventKind.TheVariants as kind
 use Rattle.ftp_events.specs.declared.session.Login.{Login}
@@ -122,9 +122,12 @@ abbrev pub is_linked : Slot → Bool
 is_linked (Linked number) = true
 is_linked _ = false
 
--- ABOR: there is something to drop
-abbrev pub abor_row : Session → Decision
-abor_row v = is_empty v.slot ⇒ NothingToAbort ∣ Aborted
+-- ABOR: a job that runs is to stop, or there is something to drop
+abbrev pub abor_row : Bool → Session → Decision
+abor_row can_stop v =
+    can_stop ⇒ Aborting
+    ∣ is_empty v.slot ⇒ NothingToAbort
+    ∣ Aborted
 
 -- a message for the client: only the control layer's own are told
 abbrev pub internal_row : ControlChanMsg → Decision
@@ -137,12 +140,13 @@ idle_row o runs at v =
     ∣ runs || is_linked v.slot ⇒ Waited
     ∣ TimedOut
 
--- what a command is decided by beside its session: the holders of the client's ports, the failures of each key, the numbers that were used, whether a job of the session runs, and the moment
+-- what a command is decided by beside its session: the holders of the client's ports, the failures of each key, the numbers that were used, whether a job of the session runs, whether it is not to stop yet, and the moment
 pub record Around : Type 0 where
   pub holders : ℕ → Option ℕ
   pub failures : LoginKey → Option Failures
   pub used : ℕ → Bool
   pub runs : Bool
+  pub can_stop : Bool
   pub at : ℕ
 
 -- the failures of the key of a session's login
@@ -163,7 +167,7 @@ command_row o a (kind.Rest s offset) v = if_logged_in v (rest_row o)
 command_row o a (kind.Cwd s path refusal) v = if_logged_in v (cwd_row refusal)
 command_row o a (kind.Quit s) v = Quit
 command_row o a (kind.Closed s) v = Closed
-command_row o a (kind.Abor s) v = if_logged_in v (abor_row v)
+command_row o a (kind.Abor s) v = if_logged_in v (abor_row a.can_stop v)
 command_row o a (kind.Internal s message) v = internal_row message
 command_row o a (kind.SlotTick s) v = slot_row o a.at v
 command_row o a (kind.IdleTick s) v = idle_row o a.runs a.at v

@@ -9,7 +9,7 @@
 --   reply_count past d         the replies whose code begins with the digit d
 use Rattle.std.specs.Prelude.{ℕ, ◌≡◌, ◌-◌, ◌==◌, ◌&&◌, Bool, true, false, List, [], Option, Some, None, count_by, slice_index, if◌then◌else◌}
 use Rattle.std.specs.List.{list_any}
-use Rattle.std.specs.Option.{option_map, option_map_or}
+use Rattle.std.specs.Option.{option_and_then, option_map, option_map_or}
 use Rattle.ftp_base.specs.declared.reply.ReplyCode.{ReplyCode}
 use Rattle.ftp_base.specs.declared.reply.Reply.TheVariants.{CodeAndMsg}
 use Rattle.ftp_base.specs.Reply.{code_text}
@@ -22,7 +22,7 @@ use Rattle.ftp_events.specs.declared.action.Action.TheVariants as action
 use Rattle.ftp_events.specs.declared.entry.Entry.{Entry}
 use Rattle.ftp_events.specs.declared.event.HubEvent.{HubEvent}
 use Rattle.ftp_events.specs.declared.event.EventKind.{EventKind}
-use Rattle.ftp_events.specs.declared.event.EventKind.TheVariants.{End}
+use Rattle.ftp_events.specs.Log.{job_ticket}
 use Rattle.ftp_events.specs.declared.event.Answer.{Answer}
 use Rattle.ftp_events.specs.declared.event.Answer.TheVariants.{Done}
 use Rattle.ftp_events.specs.declared.decision.Decision.{Decision}
@@ -64,8 +64,7 @@ failure_count past = total (λ e. one_if (is_failure e.decision)) past
 
 -- what is counted of the job whose end an event tells
 abbrev pub ended_job : Options → List Entry → EventKind → Option Ended
-ended_job o past (End ticket) = option_map (λ r. ended_of r.job) (running_job o past ticket.session)
-ended_job o past _ = None
+ended_job o past k = option_and_then (λ t. option_map (λ r. ended_of r.job) (running_job o past t.session)) (job_ticket k)
 
 -- the transfer that is finished, with its outcome
 abbrev pub finished : Decision → Answer → Option Ended → Option (Ended × Outcome)

@@ -1,5 +1,5 @@
 -- What a log did to a storage and to links.
-use Rattle.std.specs.Prelude.{◌≡◌, ℕ, ◌≤◌, true, List, [], ◌∷◌, ◌++◌, Option, Some, None, is_some, MatchOption, Result, IfSome, IsErrOf, not, ◌||◌, if◌then◌else◌}
+use Rattle.std.specs.Prelude.{◌≡◌, ◌⊎◌, ℕ, ◌≤◌, ◌&&◌, true, List, [], ◌∷◌, ◌++◌, Option, Some, None, is_some, MatchOption, Result, IfSome, IsErrOf, not, ◌||◌, if◌then◌else◌}
 use Rattle.std.specs.FinMap as map
 use Rattle.ftp_base.specs.declared.fault.LinkFault.{LinkFault}
 use Rattle.ftp_base.specs.Calls.{Calls, AllWell}
@@ -20,14 +20,14 @@ use Rattle.ftp_transfer.specs.declared.job.Job.{Job}
 use Rattle.ftp_events.specs.declared.session.Running.{Running}
 use Rattle.ftp_transfer.specs.declared.job.Ticket.{Ticket}
 use Rattle.ftp_transfer.specs.declared.job.Outcome.{Outcome}
-use Rattle.ftp_transfer.specs.Ran.{Told, told, Ran, IsClean, IsDone}
-use Rattle.ftp_transfer.specs.Transfer.{suits}
+use Rattle.ftp_transfer.specs.Ran.{Told, told, Ran, Went, IsClean, IsDone}
 use Rattle.ftp_events.specs.declared.entry.Entry.{Entry}
 use Rattle.ftp_events.specs.declared.event.Answer.{Answer}
 use Rattle.ftp_events.specs.declared.event.Answer.TheVariants as answer
 use Rattle.ftp_events.specs.declared.event.EventKind.{EventKind}
-use Rattle.ftp_events.specs.declared.event.EventKind.TheVariants.{Proxied, End}
+use Rattle.ftp_events.specs.declared.event.EventKind.TheVariants.{Proxied, End, Piece}
 use Rattle.ftp_events.specs.Acts.{link_in, slot_of}
+use Rattle.ftp_events.specs.EndRows.{can_end, can_move}
 use Rattle.ftp_events.specs.Words.{◌⇒◌∣◌}
 use Rattle.ftp_events.specs.Log.{past_of, is_used, is_stopped}
 use Rattle.ftp_events.specs.Session.{session, running_job}
@@ -83,15 +83,20 @@ pub record HasLinks {L : Type 0} (o : Options) (past : List Entry) (links : Numb
   pub slots : (s n : ℕ) → link_in (slot_of (session o past s)) ≡ Some n → is_some (map.get links n) ≡ true
   pub jobs : (s : ℕ) (r : Running) → running_job o past s ≡ Some r → is_some (map.get links r.job.number) ≡ true
 
--- the job of a ticket, where it runs
+-- the job of a ticket, where it runs and is not to stop
 abbrev pub job_of_ticket : Option Running → Ticket → Option Job
 job_of_ticket None ticket = None
-job_of_ticket (Some r) ticket = if same_ticket r.job.ticket ticket then Some r.job else None
+job_of_ticket (Some r) ticket = if same_ticket r.job.ticket ticket && not r.marked then Some r.job else None
 
 -- the job that an event is the end of, where it runs
 abbrev pub job_to_run : Options → List Entry → EventKind → Option Job
 job_to_run o past (End ticket) = job_of_ticket (running_job o past ticket.session) ticket
 job_to_run o past _ = None
+
+-- the job that an event is a piece of, where it runs
+abbrev pub job_to_move : Options → List Entry → EventKind → Option Job
+job_to_move o past (Piece ticket) = job_of_ticket (running_job o past ticket.session) ticket
+job_to_move o past _ = None
 
 -- the connection whose header an event is to be decided by: that of a proxy, where the event is not refused or turned away without it
 abbrev pub header_to_read : Options → List Entry → EventKind → Option ℕ
@@ -123,7 +128,8 @@ pub record RunsJob {S L : Type 0} (v : Views S L) (job : Job) (given : Answer) (
   pub before : L
   pub after : L
   pub given_is : given ≡ answer.Done outcome
-  pub fits : suits outcome.result job.command ≡ true
+  -- the end of a job accepts it
+  pub fits : can_end job outcome ≡ true
   pub there : map.get old.links job.number ≡ Some before
   pub links : new.links ≡ map.insert old.links job.number after
   pub ran : Ran job (told_by v old.storage before) (told_by v new.storage after) outcome
@@ -134,16 +140,35 @@ pub record RunsJob {S L : Type 0} (v : Views S L) (job : Job) (given : Answer) (
   pub storage_limit : v.storage_limit new.storage ≤ v.storage_limit old.storage
   pub link_limit : v.link_limit after ≤ v.link_limit before
 
+-- a piece of a job moved on the link that it started on, and on no other, and more may come
+pub record MovesPiece {S L : Type 0} (v : Views S L) (job : Job) (given : Answer) (old new : Outside S L) : Type 0 where
+  pub bytes : ℕ
+  pub before : L
+  pub after : L
+  pub given_is : given ≡ answer.Moved bytes
+  -- a piece of the job accepts it
+  pub fits : can_move job bytes ≡ true
+  pub there : map.get old.links job.number ≡ Some before
+  pub links : new.links ≡ map.insert old.links job.number after
+  pub went : Went job (told_by v old.storage before) (told_by v new.storage after) bytes
+  pub storage_count : v.storage_faults old.storage ≤ v.storage_faults new.storage
+  pub link_count : v.link_faults before ≤ v.link_faults after
+  pub storage_limit : v.storage_limit new.storage ≤ v.storage_limit old.storage
+  pub link_limit : v.link_limit after ≤ v.link_limit before
+
 -- nothing was asked, read, written or stored
 pub record LeavesAll {S L : Type 0} (given : Answer) (old new : Outside S L) : Type 0 where
   pub given_is : given ≡ answer.None
   pub same : new ≡ old
 
--- an entry read the header that it is decided by, or ran the job that it is the end of, and no other acts
+-- an entry read the header that it is decided by, ran the job that it is the end of, or moved a piece of the one that it is
+-- a piece of, which may be the last, and no other acts
 abbrev pub LeadsOne : {S L : Type 0} → Views S L → Options → List Entry → Entry → Outside S L → Outside S L → Type 0
 LeadsOne v o past e old new =
     MatchOption (header_to_read o past e.event.kind)
-    (MatchOption (job_to_run o past e.event.kind) (LeavesAll e.answer old new) (λ job. RunsJob v job e.answer old new))
+    (MatchOption (job_to_run o past e.event.kind)
+    (MatchOption (job_to_move o past e.event.kind) (LeavesAll e.answer old new) (λ job. MovesPiece v job e.answer old new ⊎ RunsJob v job e.answer old new))
+    (λ job. RunsJob v job e.answer old new))
     (λ number. ReadsHeader v number e.answer old new)
 
 -- the newer entries of a log, one after the other, did so

@@ -1,9 +1,10 @@
 -- The log, newest entry first.
 use Rattle.std.specs.Prelude.{ℕ, Bool, true, false, not, List, filter, Option, Some, None}
 use Rattle.std.specs.List.{list_any}
+use Rattle.ftp_transfer.specs.declared.job.Ticket.{Ticket}
 use Rattle.ftp_events.specs.declared.entry.Entry.{Entry}
 use Rattle.ftp_events.specs.declared.event.EventKind.{EventKind}
-use Rattle.ftp_events.specs.declared.event.EventKind.TheVariants.{Connect, Proxied, DataIn, Accepted, User, Pass, AuthDone, Pasv, Port, Transfer, Stou, Rest, Cwd, Abor, Internal, SlotTick, IdleTick, End}
+use Rattle.ftp_events.specs.declared.event.EventKind.TheVariants.{Connect, Proxied, DataIn, Accepted, User, Pass, AuthDone, Pasv, Port, Transfer, Stou, Rest, Cwd, Abor, Internal, SlotTick, IdleTick, End, Piece}
 use Rattle.ftp_events.specs.declared.event.EventKind.TheVariants as kind
 use Rattle.ftp_events.specs.declared.decision.Decision.{Decision}
 use Rattle.ftp_events.specs.declared.decision.Decision.TheVariants.{UnknownNumber, UsedNumber, Misplaced, NotExpected, PortOk}
@@ -40,6 +41,12 @@ new_number _ _ = None
 abbrev pub is_used : List Entry → ℕ → Bool
 is_used past n = list_any (λ e. is_number (new_number e.event.kind e.decision) n) past
 
+-- the ticket of the job that an event tells of: of its end, or of a piece, which may be its last
+abbrev pub job_ticket : EventKind → Option Ticket
+job_ticket (End ticket) = Some ticket
+job_ticket (Piece ticket) = Some ticket
+job_ticket _ = None
+
 -- the session that an event or its ticket names
 abbrev pub named_session : EventKind → Option ℕ
 named_session (Accepted session number raw) = Some session
@@ -53,6 +60,7 @@ named_session (Stou session word) = Some session
 named_session (Rest session offset) = Some session
 named_session (Cwd session path refusal) = Some session
 named_session (End ticket) = Some ticket.session
+named_session (Piece ticket) = Some ticket.session
 named_session (kind.Quit session) = Some session
 named_session (kind.Closed session) = Some session
 named_session (Abor session) = Some session

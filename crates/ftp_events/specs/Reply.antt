@@ -18,7 +18,7 @@ use Rattle.ftp_events.specs.declared.event.EventKind.TheVariants as kind
 use Rattle.ftp_events.specs.declared.event.Answer.{Answer}
 use Rattle.ftp_events.specs.declared.event.Answer.TheVariants.{Done}
 use Rattle.ftp_events.specs.declared.decision.Decision.{Decision}
-use Rattle.ftp_events.specs.declared.decision.Decision.TheVariants.{BadSequence, NeedPass, Reauth, LoggedIn, LoginFailed, NotLoggedIn, ModeOff, Full, NoLookup, NoSocket, Granted, BadAddress, OtherAddress, NoConnection, PortOk, NoSlot, Queued, NoRestart, RestOk, CwdRefused, CwdOk, Finished, Aborted, NothingToAbort, Told, Quit, TimedOut}
+use Rattle.ftp_events.specs.declared.decision.Decision.TheVariants.{BadSequence, NeedPass, Reauth, LoggedIn, LoginFailed, NotLoggedIn, ModeOff, Full, NoLookup, NoSocket, Granted, BadAddress, OtherAddress, NoConnection, PortOk, NoSlot, Queued, NoRestart, RestOk, CwdRefused, CwdOk, Finished, Cut, Aborted, NothingToAbort, Told, Quit, TimedOut}
 use Rattle.ftp_events.specs.declared.session.Login.{Login}
 use Rattle.ftp_events.specs.declared.session.Login.TheVariants as login
 use Rattle.ftp_events.specs.declared.session.Session.{Session}
@@ -104,6 +104,7 @@ reply_for o v m k (Queued ticket) = reply.CodeAndMsg code.FileStatusOkay (queued
 reply_for o v m k RestOk = reply.CodeAndMsg code.FileActionPending (restart_text k)
 reply_for o v m k NoRestart = reply.CodeAndMsg code.CommandNotImplemented (codes "Not supported by the selected storage back-end.")
 reply_for o v m k Aborted = reply.CodeAndMsg code.ClosingDataConnection (codes "Closed data channel")
+reply_for o v m k Cut = reply.CodeAndMsg code.ClosingDataConnection (codes "Closed data channel")
 reply_for o v m k NothingToAbort = reply.CodeAndMsg code.ClosingDataConnection (codes "Data channel already closed")
 reply_for o v m k TimedOut = reply.CodeAndMsg code.ClosingControlConnection (codes "Session timed out. Closing control connection")
 reply_for o v m k Quit = reply.CodeAndMsg code.ClosingControlConnection (codes "Bye!")

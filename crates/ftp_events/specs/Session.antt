@@ -22,7 +22,7 @@ use Rattle.ftp_events.specs.History.{history}
 use Rattle.ftp_events.specs.Login.{login_by, name_by, login_state, user_name, logged_user}
 use Rattle.ftp_events.specs.Notices.{notice_count}
 use Rattle.ftp_events.specs.Place.{cwd_after, cwd, offset_by, offset, is_queued, ticket_count}
-use Rattle.ftp_events.specs.Slot.{Lane, lane_after, lane, queued_by}
+use Rattle.ftp_events.specs.Slot.{Lane, lane_after, lane, queued_by, kept_running}
 use Rattle.ftp_events.specs.Ages.{slot_at_by, slot_at, active_at_by, active_at}
 
 -- what a turn of a life says of it
@@ -98,6 +98,10 @@ lane_in v job = record { slot = v.slot; pending = v.pending; running = job }
 -- the slot and the job after an event
 abbrev pub next_lane : EventKind → Decision → Option Running → Session → Lane
 next_lane k d job v = lane_after k d (queued_for d k v) (lane_in v job)
+
+-- the job that runs after an event, with its answer
+abbrev pub next_running : EventKind → Answer → Decision → Option Running → Session → Option Running
+next_running k given d job v = kept_running d given (next_lane k d job v).running
 
 -- what an event at a moment makes of a live session, with its answer, its decision, how many notices it sends and the job that ran before it
 abbrev pub session_after : ℕ → EventKind → Answer → Decision → ℕ → Option Running → Session → Session

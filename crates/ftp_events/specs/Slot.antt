@@ -1,5 +1,5 @@
 -- A session's slot, the transfer that waits in it, and the job that runs, read from the session's history.
-use Rattle.std.specs.Prelude.{ℕ, Bool, true, false, List, [], ◌∷◌, Option, Some, None, if◌then◌else◌}
+use Rattle.std.specs.Prelude.{ℕ, ◌+◌, Bool, true, false, List, [], ◌∷◌, Option, Some, None, if◌then◌else◌}
 use Rattle.std.specs.Option.{option_map, option_map_or}
 use Rattle.ftp_base.specs.declared.command.DataChanCmd.{DataChanCmd}
 use Rattle.ftp_base.specs.declared.command.DataChanCmd.TheVariants.{Stor}
@@ -7,8 +7,10 @@ use Rattle.ftp_events.specs.declared.session.Running.{Running}
 use Rattle.ftp_events.specs.declared.entry.Entry.{Entry}
 use Rattle.ftp_events.specs.declared.event.EventKind.{EventKind}
 use Rattle.ftp_events.specs.declared.event.EventKind.TheVariants.{Transfer, Stou}
+use Rattle.ftp_events.specs.declared.event.Answer.{Answer}
+use Rattle.ftp_events.specs.declared.event.Answer.TheVariants as answer
 use Rattle.ftp_events.specs.declared.decision.Decision.{Decision}
-use Rattle.ftp_events.specs.declared.decision.Decision.TheVariants.{Queued}
+use Rattle.ftp_events.specs.declared.decision.Decision.TheVariants.{Queued, Aborting, Moved}
 use Rattle.ftp_events.specs.declared.decision.SlotMove.{SlotMove}
 use Rattle.ftp_events.specs.declared.decision.SlotMove.TheVariants.{Empties, EmptiesWaiting, Awaits, Connects, Expires, Links, Queues, Finishes}
 use Rattle.ftp_events.specs.declared.session.Pending.{Pending}
@@ -90,6 +92,20 @@ moved m number queued l =
 abbrev pub lane_after : EventKind → Decision → Option Pending → Lane → Lane
 lane_after k d queued l = moved (slot_move d) (new_number k d) queued l
 
+-- a job that is to stop
+abbrev pub mark : Running → Running
+mark r = record { job = r.job; marked = true }
+
+-- a job of which so many bytes moved more
+abbrev pub raise : ℕ → Running → Running
+raise bytes r = record { job = record r.job { done = r.job.done + bytes }; marked = r.marked }
+
+-- what becomes of the job that runs, beside its end: an ABOR marks it, and its pieces are counted
+abbrev pub kept_running : Decision → Answer → Option Running → Option Running
+kept_running Aborting given job = option_map mark job
+kept_running Moved (answer.Moved bytes) job = option_map (raise bytes) job
+kept_running d given job = job
+
 -- the job that starts with a move
 abbrev pub starts_by : SlotMove → Option ℕ → Option Pending → Lane → Option Running
 starts_by Links number queued l = startable (with_link l.slot number) l.pending l.running
@@ -108,4 +124,6 @@ queued_in h e = queued_by e.decision e.event.kind (logged_user (login_state h) (
 -- the slot and the job after a history
 abbrev pub lane : List Entry → Lane
 lane [] = record { slot = Empty; pending = None; running = None }
-lane (e ∷ h) = lane_after e.event.kind e.decision (queued_in h e) (lane h)
+lane (e ∷ h) =
+    let after = lane_after e.event.kind e.decision (queued_in h e) (lane h) in
+    record { slot = after.slot; pending = after.pending; running = kept_running e.decision e.answer after.running }

@@ -44,11 +44,11 @@ pending_of ticket user dir n c =
 -- a transfer on its link
 abbrev pub job_of : Pending → ℕ → Job
 job_of p number =
-    record { ticket = p.ticket; user = p.user; command = p.command; path = p.path; offset = p.offset; number = number }
+    record { ticket = p.ticket; user = p.user; command = p.command; path = p.path; offset = p.offset; number = number; done = 0 }
 
 -- it as it starts
 abbrev pub run_of : Pending → ℕ → Running
-run_of p number = record { job = job_of p number }
+run_of p number = record { job = job_of p number; marked = false }
 
 -- a RETR, STOR or APPE that succeeded
 abbrev pub moves_file : Completion → Bool

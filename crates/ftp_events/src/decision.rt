@@ -59,6 +59,10 @@ pub enum Decision {
     Queued { ticket: Ticket },
     /// The transfer has ended.
     Finished,
+    /// A piece of the transfer has moved, and it runs on.
+    Moved,
+    /// The transfer has ended, as it was to be stopped.
+    Cut,
     /// The storage cannot begin at a restart offset.
     NoRestart,
     /// The restart offset is kept for the next RETR or STOR.
@@ -68,6 +72,8 @@ pub enum Decision {
     CwdOk,
     /// What the slot had is dropped.
     Aborted,
+    /// The transfer that runs is to stop behind its next piece, and what the slot had is dropped.
+    Aborting,
     /// The slot had nothing.
     NothingToAbort,
     /// The client is told the message.
@@ -154,10 +160,10 @@ impl Decision {
             Decision::Granted { port } => SlotMove::Awaits { port },
             Decision::PortOk => SlotMove::Connects,
             Decision::SlotDropped => SlotMove::Expires,
-            Decision::Aborted => SlotMove::Empties,
+            Decision::Aborted | Decision::Aborting => SlotMove::Empties,
             Decision::Attached { .. } => SlotMove::Links,
             Decision::Queued { ticket } => SlotMove::Queues { ticket },
-            Decision::Finished => SlotMove::Finishes,
+            Decision::Finished | Decision::Cut => SlotMove::Finishes,
             Decision::Turned => SlotMove::EmptiesWaiting,
             _ => match self.life() {
                 Life::Ends => SlotMove::Empties,

@@ -91,6 +91,10 @@ pub enum EventKind {
     End {
         ticket: Ticket,
     },
+    /// A piece of a transfer that runs has moved, or was its last.
+    Piece {
+        ticket: Ticket,
+    },
     /// QUIT (RFC 959, section 4.1.1).
     Quit {
         session: u64,
@@ -99,7 +103,7 @@ pub enum EventKind {
     Closed {
         session: u64,
     },
-    /// ABOR (RFC 959, section 4.1.3), before the transfer has begun.
+    /// ABOR (RFC 959, section 4.1.3).
     Abor {
         session: u64,
     },
@@ -140,6 +144,8 @@ pub enum Answer {
     Header(Result<ProxyHeader, ProxyError>),
     /// The transfer was run, with this outcome.
     Done(Outcome),
+    /// A piece of the transfer moved so many bytes, and more may come.
+    Moved { bytes: u64 },
 }
 
 impl EventKind {
@@ -164,7 +170,7 @@ impl EventKind {
             | EventKind::Internal { session, .. }
             | EventKind::SlotTick { session }
             | EventKind::IdleTick { session } => Some(*session),
-            EventKind::End { ticket } => Some(ticket.session),
+            EventKind::End { ticket } | EventKind::Piece { ticket } => Some(ticket.session),
             EventKind::Connect { .. }
             | EventKind::Proxied { .. }
             | EventKind::DataIn { .. }
@@ -261,6 +267,7 @@ impl EventKind {
             EventKind::Stou { session, word } => EventKind::Stou { session, word },
             EventKind::Rest { session, offset } => EventKind::Rest { session, offset },
             EventKind::End { ticket } => EventKind::End { ticket },
+            EventKind::Piece { ticket } => EventKind::Piece { ticket },
             EventKind::Quit { session } => EventKind::Quit { session },
             EventKind::Closed { session } => EventKind::Closed { session },
             EventKind::Accepted {

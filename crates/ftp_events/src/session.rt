@@ -76,7 +76,9 @@ impl Pending {
                 path: self.path,
                 offset: self.offset,
                 number,
+                done: 0,
             },
+            marked: false,
         }
     }
 }
@@ -84,7 +86,10 @@ impl Pending {
 /// A transfer that runs.
 #[derive(Debug, Drop)]
 pub struct Running {
+    /// With the bytes that its pieces have moved so far.
     pub job: Job,
+    /// It is to stop behind its next piece.
+    pub marked: bool,
 }
 
 #[derive(Drop)]

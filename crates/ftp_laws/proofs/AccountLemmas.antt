@@ -1,6 +1,7 @@
 -- Each transfer that was queued waits, runs, or was settled, and no other.
-use Rattle.std.proofs.Common.{◌≡◌, refl, sym, ◌∙◌, ap, ap₂, subst, ℕ, ◌+◌, ◌||◌, Bool, true, false, cond, List, Option, Some, None, arith}
-use Rattle.std.specs.Prelude.{◌==◌, count_by}
+use Rattle.std.proofs.Common.{◌≡◌, refl, sym, ◌∙◌, ap, ap₂, subst, ℕ, ◌+◌, ◌||◌, Bool, true, false, cond, List, Option, Some, None, arith, inl, inr}
+use Rattle.std.specs.Prelude.{◌⊎◌, ◌==◌, count_by}
+use Rattle.ftp_events.specs.declared.action.Action.TheVariants as action
 use Rattle.std.specs.Option.{option_and_then}
 use Rattle.ftp_events.specs.declared.decision.Decision.TheVariants as decision
 use Rattle.ftp_events.specs.declared.decision.SlotMove.TheVariants.{Queues, Finishes}
@@ -12,7 +13,7 @@ use Rattle.ftp_events.specs.Classes.{is_stop}
 use Rattle.ftp_events.specs.Session.{live_sessions}
 use Rattle.ftp_events.specs.Transfer.{same_ticket}
 use Rattle.ftp_events.specs.History.{Nobody, One, All}
-use Rattle.ftp_laws.proofs.Common.{Subject, slot_move, Options, Running, Action, Ticket, Entry, Pending, Session, Slot, named_session, is_refusal, is_used, subject, concerns, history, Lane, drops, queued_in, lane, session, running_job, due, acts_of, acts_for, drop_acts, stays, slot_of, pending_in, starting, is_pending}
+use Rattle.ftp_laws.proofs.Common.{Subject, slot_move, Options, Running, Action, Ticket, Entry, Pending, Session, Slot, named_session, is_refusal, is_used, subject, concerns, history, Lane, drops, queued_in, lane, session, running_job, due, acts_of, acts_for, drop_acts, stays, slot_of, pending_in, starting, is_pending, job_ticket}
 use Rattle.ftp_laws.proofs.SubjectLemmas.{one-concerns, named-one, not-all, named-concerns, other-plain}
 use Rattle.ftp_laws.specs.Census.{IsAscending}
 use Rattle.ftp_laws.specs.Fates.{queues, settles}
@@ -23,7 +24,8 @@ use Rattle.ftp_laws.proofs.HoldLemmas.{live-used}
 use Rattle.ftp_laws.proofs.LaneLemmas.{IsQueue, queued-live, named-concern, IsBare}
 use Rattle.ftp_laws.proofs.SoundLemmas.{IsSound, queue-made}
 use Rattle.ftp_laws.proofs.CountLemmas.{count-about, count-nobody, count-completions}
-use Rattle.ftp_laws.proofs.BalanceLemmas.{one, IsOnCancelled, settles-on-transfers, settles-on-cancelled, count-start_acts, count-drop_acts-own, settles-drop_acts, IsEnd, finished-known, IsFit, lost}
+use Rattle.ftp_laws.proofs.Cases.{job-named}
+use Rattle.ftp_laws.proofs.BalanceLemmas.{one, IsOnCancelled, settles-on-transfers, settles-on-cancelled, count-start_acts, count-drop_acts-own, settles-drop_acts, IsEnd, finished-known, cut-known, IsFit, lost}
 use Rattle.ftp_laws.proofs.PartLemmas.{count-stop_acts, count-concern}
 
 -- the slot and the transfer of a session, as its history tells them, also where it is not live
@@ -66,13 +68,16 @@ entry-fit o past e s fit c = record { queue = queue; end = end }
         let same : (lane (history o past s)).pending ≡ v.pending = ap (λ (w : Session). w.pending) (session-told o past s v known).told in
         (same ∙ queue-free v.slot v.pending q.room, queue-made (history o past s) e t q.command d q.asked)
 
+    known : (e.decision ≡ decision.Finished) ⊎ (e.decision ≡ decision.Cut) → IsEnd o past e.event.kind
+    known (inl d) = finished-known o past e.event.at e.event.kind e.answer (sym fit ∙ d)
+    known (inr d) = cut-known o past e.event.at e.event.kind e.answer (sym fit ∙ d)
+
     end :
         slot_move e.decision ≡ Finishes →
-        (t : Ticket) × (e.event.kind ≡ kind.End t) × ((j : Running) × ((lane (history o past s)).running ≡ Some j) × (j.job.ticket ≡ t))
+        (t : Ticket) × (job_ticket e.event.kind ≡ Some t) × ((j : Running) × ((lane (history o past s)).running ≡ Some j) × (j.job.ticket ≡ t))
     end m =
-        let d : e.decision ≡ decision.Finished = finishes-is e.decision m in
-        let x : IsEnd o past e.event.kind = finished-known o past e.event.at e.event.kind e.answer (sym fit ∙ d) in
-        let own : x.ticket.session ≡ s = named-concern o past e x.ticket.session s fit (ap named_session x.kind_is) c in
+        let x : IsEnd o past e.event.kind = known (finishes-is e.decision m) in
+        let own : x.ticket.session ≡ s = named-concern o past e x.ticket.session s fit (job-named e.event.kind x.ticket x.kind_is) c in
         (x.ticket, x.kind_is, (x.job, subst (λ (n : ℕ). running_job o past n ≡ Some x.job) own x.ran, x.same))
 
 -- an entry that queues a transfer concerns the transfer's session, which is live and has counted those before it
@@ -137,9 +142,12 @@ settles-elsewhere o past e t counts acted c own = by_subject (subject o past e) 
     plain : is_stop e.decision ≡ false
     plain = other-plain o past e t.session c
 
-    by_end : (ticket : Ticket) → e.event.kind ≡ kind.End ticket → (same_ticket ticket t || false) ≡ false
+    by_end : (ticket : Ticket) → job_ticket e.event.kind ≡ Some ticket → (same_ticket ticket t || false) ≡ false
     by_end ticket k =
-        ap (λ b. b || false) (same_ticket-other ticket t (sym (one-concerns o past e ticket.session t.session (named-one o past e ticket.session plain (ap named_session k))) ∙ c))
+        ap (λ b. b || false) (same_ticket-other ticket t (sym (one-concerns o past e ticket.session t.session (named-one o past e ticket.session plain (job-named e.event.kind ticket k))) ∙ c))
+
+    by_cut : (s : ℕ) → (s == t.session) ≡ false → (r : Running) → running_job o past s ≡ Some r → settles t (action.Cancelled r.job.ticket) ≡ false
+    by_cut s n r ran = same_ticket-other r.job.ticket t (ap (λ q. q == t.session) ((own s).counted.runs r ran).0 ∙ n)
 
     by_subject : (x : Subject) → subject o past e ≡ x → count_by (settles t) e.actions ≡ 0
     by_subject All x = absurd (not-all o past e plain x)
@@ -151,7 +159,7 @@ settles-elsewhere o past e t counts acted c own = by_subject (subject o past e) 
         omega (
           arith,
           count-about (settles t) o past e s (settles-on-transfers t s) counts acted x,
-          count-completions (settles t) e.event.kind e.decision (stays e.decision v) by_end,
+          count-completions (settles t) s e.event.kind e.decision (stays e.decision v) (running_job o past s) (settles-on-transfers t s) by_end (λ r x y. by_cut s other r x),
           settles-drop_acts t s (stays e.decision v) e.decision (slot_of v) (pending_in v),
           count-start_acts t (settles t) (option_and_then (starting e.event.kind e.decision (running_job o past s)) v) (settles-on-cancelled t),
           none-lost (drops e.decision (slot_of v)) (is_pending t (pending_in v)) kept,

@@ -1,19 +1,19 @@
 -- What is left after a stop.
-use Rattle.std.proofs.Common.{◌≡◌, refl, sym, ◌∙◌, ap, ℕ, Bool, true, false, true≢false, not, ◌&&◌, ◌||◌, cond, List, ◌∷◌, Option, Some, None, arith}
-use Rattle.std.specs.Prelude.{is_some}
+use Rattle.std.proofs.Common.{◌≡◌, refl, sym, ◌∙◌, ap, ℕ, Bool, true, false, true≢false, not, ◌&&◌, ◌||◌, cond, List, ◌∷◌, Option, Some, None, arith, inl, inr}
+use Rattle.std.specs.Prelude.{is_some, ◌⊎◌}
 use Rattle.std.specs.Option.{option_and_then}
 use Rattle.std.proofs.lemmas.Bool.{and_parts, or_parts, or_right}
 use Rattle.ftp_base.specs.Net.{is_v6}
 use Rattle.ftp_options.specs.Modes.{is_pooled, is_proxy}
-use Rattle.ftp_transfer.specs.Transfer.{suits}
+use Rattle.ftp_transfer.specs.declared.job.Job.{Job}
 use Rattle.ftp_events.specs.declared.decision.Decision.TheVariants as decision
-use Rattle.ftp_events.specs.declared.event.Answer.TheVariants.{Done}
+use Rattle.ftp_events.specs.declared.event.Answer.TheVariants.{Done, Moved}
 use Rattle.ftp_events.specs.declared.event.EventKind.TheVariants as kind
 use Rattle.ftp_events.specs.Classes.{is_stop}
 use Rattle.ftp_events.specs.CommandRows.{command_row}
 use Rattle.ftp_events.specs.ConnectionRows.{header_row, arrival_row}
 use Rattle.ftp_events.specs.Decide.{if_live, around}
-use Rattle.ftp_events.specs.EndRows.{outcome_row, end_row}
+use Rattle.ftp_events.specs.EndRows.{can_end, can_move, outcome_row, moved_row, end_row, piece_row}
 use Rattle.ftp_events.specs.Headline.{is_header, is_barred, peer_of}
 use Rattle.ftp_events.specs.Leads.{header_to_read}
 use Rattle.ftp_events.specs.Log.{is_stopped}
@@ -136,46 +136,59 @@ rows-over :
 rows-over o past None row over = refl
 rows-over o past (Some s) row over = rw (over.ended s) refl
 
--- of the end of a job it is decided that it has ended, or it is refused
-end-over :
-    (t : Ticket) (answer : Answer) (job : Option Running) →
-    is_refusal (end_row t answer job) ≡ false →
-    end_row t answer job ≡ decision.Finished
-end-over t answer None c = cc
-end-over t answer (Some r) c = by_ticket (same_ticket r.job.ticket t) c
-  where
-    by_fit :
-        (b : Bool) →
-        is_refusal (cond b decision.Finished decision.NotExpected) ≡ false →
-        cond b decision.Finished decision.NotExpected ≡ decision.Finished
-    by_fit true x = refl
-    by_fit false x = cc
+-- of a piece of a job, and of its end, it is decided that it moved, that it has ended, or that it is cut
+abbrev pub OfJob : Decision → Type 0
+OfJob d = (d ≡ decision.Finished) ⊎ ((d ≡ decision.Moved) ⊎ (d ≡ decision.Cut))
 
-    by_answer :
-        (a : Answer) →
-        is_refusal (outcome_row r.job a) ≡ false →
-        outcome_row r.job a ≡ decision.Finished
-    by_answer (Done outcome) x = by_fit (suits outcome.result r.job.command) x
-    by_answer a x = cc
+-- or it is refused
+abbrev JobOrRefused : Decision → Type 0
+JobOrRefused d = OfJob d ⊎ (is_refusal d ≡ true)
 
-    by_ticket :
-        (b : Bool) → is_refusal (cond b (outcome_row r.job answer) decision.UnknownNumber) ≡ false →
-        cond b (outcome_row r.job answer) decision.UnknownNumber ≡ decision.Finished
-    by_ticket true x = by_answer answer x
-    by_ticket false x = cc
+-- so is a choice of two
+choice : (b : Bool) (x y : Decision) → JobOrRefused x → JobOrRefused y → JobOrRefused (cond b x y)
+choice true x y h j = h
+choice false x y h j = j
 
--- so nothing is decided for a session any more but the end of a job that ran
+-- that of an outcome
+outcome-over : (job : Job) (answer : Answer) → JobOrRefused (outcome_row job answer)
+outcome-over job (Done outcome) = choice (can_end job outcome) decision.Finished decision.NotExpected (inl (inl refl)) (inr refl)
+outcome-over job answer = inr refl
+
+-- and that of a piece
+moved-over : (job : Job) (answer : Answer) → JobOrRefused (moved_row job answer)
+moved-over job (Moved bytes) = choice (can_move job bytes) decision.Moved decision.NotExpected (inl (inr (inl refl))) (inr refl)
+moved-over job answer = outcome-over job answer
+
+end-over : (t : Ticket) (answer : Answer) (job : Option Running) → JobOrRefused (end_row t answer job)
+end-over t answer None = inr refl
+end-over t answer (Some r) =
+    choice (same_ticket r.job.ticket t) _ decision.UnknownNumber
+    (choice r.marked decision.Cut (outcome_row r.job answer) (inl (inr (inr refl))) (outcome-over r.job answer)) (inr refl)
+
+piece-over : (t : Ticket) (answer : Answer) (job : Option Running) → JobOrRefused (piece_row t answer job)
+piece-over t answer None = inr refl
+piece-over t answer (Some r) =
+    choice (same_ticket r.job.ticket t) _ decision.UnknownNumber
+    (choice r.marked decision.Cut (moved_row r.job answer) (inl (inr (inr refl))) (moved-over r.job answer)) (inr refl)
+
+-- what is not refused is of a job
+of-job : (d : Decision) → JobOrRefused d → is_refusal d ≡ false → OfJob d
+of-job d (inl h) c = h
+of-job d (inr h) c = absurd (true≢false (sym h ∙ c))
+
+-- so nothing is decided for a session any more but the pieces and the end of a job that ran
 pub command-over :
     (o : Options) (past : List Entry) (at : ℕ) (k : EventKind) (answer : Answer) (s : ℕ) → IsOver o past →
     named_session k ≡ Some s → is_refusal (due o past at k answer) ≡ false →
-    due o past at k answer ≡ decision.Finished
+    OfJob (due o past at k answer)
 command-over o past at (kind.Connect q raw local trace) answer s over n c = cc
 command-over o past at (kind.Proxied number raw trace) answer s over n c = cc
 command-over o past at (kind.DataIn number raw port) answer s over n c = cc
 command-over o past at kind.Sweep answer s over n c = cc
 command-over o past at kind.Scavenge answer s over n c = cc
 command-over o past at kind.Shutdown answer s over n c = cc
-command-over o past at (kind.End t) answer s over n c = end-over t answer (running_job o past t.session) c
+command-over o past at (kind.End t) answer s over n c = of-job _ (end-over t answer (running_job o past t.session)) c
+command-over o past at (kind.Piece t) answer s over n c = of-job _ (piece-over t answer (running_job o past t.session)) c
 command-over o past at k answer s over n c =
     absurd (true≢false (sym (ap is_refusal (rows-over o past (named_session k) (λ v. command_row o (around o past at k v) k v) over)) ∙ c))
 

@@ -19,7 +19,7 @@ use Rattle.ftp_events.specs.Right.{next_entry, log_of, events_of}
 use Rattle.ftp_events.specs.Session.{life_by, is_live, opened_sessions}
 use Rattle.ftp_events.specs.Slot.{queued_by}
 use Rattle.ftp_events.specs.Words.{latest}
-use Rattle.ftp_laws.proofs.Common.{IpAddr, Options, is_legacy, client_log, Answer, Decision, Entry, EventKind, Session, is_number, is_used, is_refusal, past_of, named_session, new_number, is_client, opener, Target, target, holder, holder_of_target, concerns, opens, history, Lane, lane_after, lane, session, due, decide, acts, acts_of, IsRight, IsActed}
+use Rattle.ftp_laws.proofs.Common.{IpAddr, Options, is_legacy, client_log, Answer, Decision, Entry, EventKind, Session, is_number, is_used, is_refusal, past_of, named_session, new_number, is_client, opener, Target, target, holder, holder_of_target, concerns, opens, history, Lane, lane_after, lane, session, due, decide, acts, acts_of, IsRight, IsActed, kept_running}
 use Rattle.ftp_laws.specs.Alone.{IsActedButStops, ServesSame, SameServed}
 use Rattle.ftp_laws.proofs.ClassLemmas.{stop-is, stop-counts, opened-is}
 use Rattle.ftp_laws.proofs.SubjectLemmas.{nobody-concerns}
@@ -119,7 +119,8 @@ lane-without (e ∷ h) =
     let logins = latest-without login.New (λ e. login_by e.decision) h (λ e. refl) in
     let names = latest-without None (λ e. name_by e.decision e.event.kind) h (λ e. refl) in
     let offsets = latest-without 0 (λ e. offset_by e.decision e.event.kind e.answer) h (λ e. refl) in
-    λ i. lane_after e.event.kind e.decision (queued_by e.decision e.event.kind (logged_user (logins i) (names i)) (cwd-without h i) (offsets i)) (lane-without h i)
+    ap (λ (l : Lane). record { slot = l.slot; pending = l.pending; running = kept_running e.decision e.answer l.running })
+    (λ i. lane_after e.event.kind e.decision (queued_by e.decision e.event.kind (logged_user (logins i) (names i)) (cwd-without h i) (offsets i)) (lane-without h i))
 
 -- whether a session is live
 live-without : (h : List Entry) → is_live (without_stops h) ≡ is_live h

@@ -1,19 +1,19 @@
 -- What an entry makes of a transfer that waits or runs.
-use Rattle.std.proofs.Common.{◌≡◌, refl, sym, ◌∙◌, ap, ℕ, ◌+◌, Bool, true, false, true≢false, cond, List, [], ◌∷◌, ◌++◌, Option, Some, None, arith}
-use Rattle.std.specs.Prelude.{count_by}
+use Rattle.std.proofs.Common.{◌≡◌, refl, sym, ◌∙◌, ap, ℕ, ◌+◌, Bool, true, false, true≢false, cond, List, [], ◌∷◌, ◌++◌, Option, Some, None, arith, inl, inr}
+use Rattle.std.specs.Prelude.{◌⊎◌, count_by}
 use Rattle.ftp_events.specs.declared.action.Action.TheVariants as action
 use Rattle.ftp_events.specs.declared.decision.Decision.TheVariants as decision
 use Rattle.ftp_events.specs.declared.decision.SlotMove.TheVariants.{Awaits, Links, Queues, Finishes}
 use Rattle.ftp_events.specs.declared.event.EventKind.TheVariants as kind
 use Rattle.ftp_events.specs.declared.session.Slot.TheVariants.{Empty, Waits, Linked}
 use Rattle.ftp_events.specs.Transfer.{same_ticket}
-use Rattle.ftp_events.specs.EndRows.{outcome_row, end_row}
+use Rattle.ftp_events.specs.EndRows.{outcome_row, moved_row, unless_marked, end_row, piece_row}
 use Rattle.ftp_events.specs.Fate.{is_running}
-use Rattle.ftp_laws.proofs.Common.{SlotMove, slot_move, empties, moved, Options, Running, Ticket, Action, Decision, Entry, EventKind, Answer, Pending, Slot, new_number, Lane, with_link, drops, lane_of, lane_after, running_job, due, completions, cancellations, closings, link_in, drop_acts, start_acts, is_pending}
+use Rattle.ftp_laws.proofs.Common.{SlotMove, slot_move, empties, moved, Options, Running, Ticket, Action, Decision, Entry, EventKind, Answer, Pending, Slot, new_number, Lane, with_link, drops, lane_of, lane_after, running_job, due, completions, cancellations, closings, link_in, drop_acts, start_acts, is_pending, job_ticket}
 use Rattle.ftp_laws.proofs.TicketLemmas.{same_ticket-equal}
 use Rattle.ftp_laws.specs.Fates.{queues, queues_it, settles}
 use Rattle.ftp_laws.proofs.ClassLemmas.{finishes-is}
-use Rattle.ftp_laws.proofs.CountLemmas.{IsOnTransfers, count-append, count-closings}
+use Rattle.ftp_laws.proofs.CountLemmas.{IsOnTransfers, count-append, count-closings, count-cuttings}
 use Rattle.ftp_laws.proofs.Cases.{by_completion}
 
 -- one for what holds
@@ -97,52 +97,68 @@ finishes _ = false
 abbrev pub is_finished : Decision → Bool
 is_finished d = finishes (slot_move d)
 
--- no other decision completes a transfer
-pub no-completion : (d : Decision) (k : EventKind) (b : Bool) → is_finished d ≡ false → completions k d b ≡ []
-no-completion d k b u = by_completion (λ xs. xs ≡ []) k d b refl (λ t x y. absurd (true≢false (sym (ap is_finished y) ∙ u)))
+-- no other decision completes or cuts a transfer
+pub no-completion : (s : ℕ) (d : Decision) (k : EventKind) (b : Bool) (job : Option Running) → is_finished d ≡ false → completions s k d b job ≡ []
+no-completion s d k b job u =
+    by_completion (λ xs. xs ≡ []) s k d b job refl (λ t x y. absurd (true≢false (sym (ap is_finished y) ∙ u))) (λ r x y. absurd (true≢false (sym (ap is_finished y) ∙ u)))
 
 -- what is known of the end of a job: it ran
 pub record IsEnd (o : Options) (past : List Entry) (k : EventKind) : Type 0 where
   pub ticket : Ticket
-  pub kind_is : k ≡ kind.End ticket
+  pub kind_is : job_ticket k ≡ Some ticket
   pub job : Running
   pub ran : running_job o past ticket.session ≡ Some job
   pub same : job.job.ticket ≡ ticket
+
+-- what is decided on a job that runs is decided on the one of its ticket
+ran-known :
+    (o : Options) (past : List Entry) (k : EventKind) (ticket : Ticket) (d row : Decision) (j : Running) (b : Bool) →
+    job_ticket k ≡ Some ticket → (decision.UnknownNumber ≡ d → ⊥) →
+    running_job o past ticket.session ≡ Some j → same_ticket j.job.ticket ticket ≡ b → cond b row decision.UnknownNumber ≡ d →
+    IsEnd o past k
+ran-known o past k ticket d row j true t n x y h = record { ticket = ticket; kind_is = t; job = j; ran = x; same = same_ticket-equal j.job.ticket ticket y }
+ran-known o past k ticket d row j false t n x y h = absurd (n h)
+
+-- where the end of a job, or its piece, is decided as one that runs, it ran
+end-known :
+    (o : Options) (past : List Entry) (ticket : Ticket) (answer : Answer) (d : Decision) (j : Option Running) → (decision.UnknownNumber ≡ d → ⊥) →
+    running_job o past ticket.session ≡ j → end_row ticket answer j ≡ d → IsEnd o past (kind.End ticket)
+end-known o past ticket answer d None n x h = absurd (n h)
+end-known o past ticket answer d (Some j) n x h = ran-known o past (kind.End ticket) ticket d (unless_marked j (outcome_row j.job answer)) j (same_ticket j.job.ticket ticket) refl n x refl h
+
+piece-known :
+    (o : Options) (past : List Entry) (ticket : Ticket) (answer : Answer) (d : Decision) (j : Option Running) → (decision.UnknownNumber ≡ d → ⊥) →
+    running_job o past ticket.session ≡ j → piece_row ticket answer j ≡ d → IsEnd o past (kind.Piece ticket)
+piece-known o past ticket answer d None n x h = absurd (n h)
+piece-known o past ticket answer d (Some j) n x h = ran-known o past (kind.Piece ticket) ticket d (unless_marked j (moved_row j.job answer)) j (same_ticket j.job.ticket ticket) refl n x refl h
 
 -- only the end of a job that ran is decided as one
 pub finished-known :
     (o : Options) (past : List Entry) (at : ℕ) (k : EventKind) (answer : Answer) →
     due o past at k answer ≡ decision.Finished →
     IsEnd o past k
-finished-known o past at (kind.End ticket) answer e = by_job (running_job o past ticket.session) refl e
-  where
-    by_ticket :
-        (j : Running) (b : Bool) →
-        running_job o past ticket.session ≡ Some j →
-        same_ticket j.job.ticket ticket ≡ b →
-        cond b (outcome_row j.job answer) decision.UnknownNumber ≡ decision.Finished →
-        IsEnd o past (kind.End ticket)
-    by_ticket j true x y h = record { ticket = ticket; kind_is = refl; job = j; ran = x; same = same_ticket-equal j.job.ticket ticket y }
-    by_ticket j false x y h = cc
-
-    by_job :
-        (j : Option Running) →
-        running_job o past ticket.session ≡ j →
-        end_row ticket answer j ≡ decision.Finished →
-        IsEnd o past (kind.End ticket)
-    by_job None x h = cc
-    by_job (Some j) x h = by_ticket j (same_ticket j.job.ticket ticket) x refl h
+finished-known o past at (kind.End ticket) answer e = end-known o past ticket answer decision.Finished (running_job o past ticket.session) (λ z. cc) refl e
+finished-known o past at (kind.Piece ticket) answer e = piece-known o past ticket answer decision.Finished (running_job o past ticket.session) (λ z. cc) refl e
 finished-known o past at k answer e = grind arith
+
+-- and only a job that ran is cut
+pub cut-known :
+    (o : Options) (past : List Entry) (at : ℕ) (k : EventKind) (answer : Answer) →
+    due o past at k answer ≡ decision.Cut →
+    IsEnd o past k
+cut-known o past at (kind.End ticket) answer e = end-known o past ticket answer decision.Cut (running_job o past ticket.session) (λ z. cc) refl e
+cut-known o past at (kind.Piece ticket) answer e = piece-known o past ticket answer decision.Cut (running_job o past ticket.session) (λ z. cc) refl e
+cut-known o past at k answer e = grind arith
 
 -- what an entry needs, so that no transfer is lost or doubled: one that queues finds a free slot, one that ends a job names it
 pub record IsFit (k : EventKind) (m : SlotMove) (queued : Option Pending) (l : Lane) : Type 0 where
   pub queue : (ticket : Ticket) → m ≡ Queues ticket → (l.pending ≡ None) × ((p : Pending) × (queued ≡ Some p) × (p.ticket ≡ ticket))
-  pub end : m ≡ Finishes → (ticket : Ticket) × (k ≡ kind.End ticket) × ((j : Running) × (l.running ≡ Some j) × (j.job.ticket ≡ ticket))
+  pub end : m ≡ Finishes → (ticket : Ticket) × (job_ticket k ≡ Some ticket) × ((j : Running) × (l.running ≡ Some j) × (j.job.ticket ≡ ticket))
 
 -- how often a transfer is settled with a slot and a job
 abbrev pub lost : Ticket → ℕ → Bool → EventKind → Decision → Lane → ℕ
 lost t s staying k d l =
-    count_by (settles t) (completions k d staying) + count_by (settles t) (drop_acts s staying d l.slot l.pending)
+    count_by (settles t) (completions s k d staying l.running) + count_by (settles t) (drop_acts s staying d l.slot l.pending)
 
 -- where a slot may be dropped, its transfer is settled or kept
 pub drop-balance :
@@ -169,10 +185,10 @@ move-balance t k m number queued l fit = omega (arith, drop-balance t (empties m
 
 -- an end settles the transfer that ran
 pub settles-completions :
-    (t : Ticket) (k : EventKind) (d : Decision) (staying : Bool) (queued : Option Pending) (l : Lane) →
+    (t : Ticket) (s : ℕ) (k : EventKind) (d : Decision) (staying : Bool) (queued : Option Pending) (l : Lane) →
     IsFit k (slot_move d) queued l →
-    count_by (settles t) (completions k d staying) ≡ cond (finishes (slot_move d)) (one (is_running t l.running)) 0
-settles-completions t k d staying queued l fit = go (slot_move d) refl
+    count_by (settles t) (completions s k d staying l.running) ≡ cond (finishes (slot_move d)) (one (is_running t l.running)) 0
+settles-completions t s k d staying queued l fit = go (slot_move d) refl
   where
     told-one :
         (ticket : Ticket) →
@@ -185,15 +201,22 @@ settles-completions t k d staying queued l fit = go (slot_move d) refl
         go true x = rw x refl
         go false x = rw x refl
 
+    ends :
+        (d ≡ decision.Finished) ⊎ (d ≡ decision.Cut) → (ticket : Ticket) → job_ticket k ≡ Some ticket → (j : Running) → l.running ≡ Some j → j.job.ticket ≡ ticket →
+        count_by (settles t) (completions s k d staying l.running) ≡ one (same_ticket ticket t)
+    ends (inl x) ticket e j ran same = rw (x, e) (told-one ticket)
+    ends (inr x) ticket e j ran same =
+        rw (x, ran)
+        (count-cuttings (settles t) s staying j (settles-on-transfers t s) ∙ ap (λ (u : Ticket). one (same_ticket u t)) same)
+
     go :
         (m : SlotMove) → slot_move d ≡ m →
-        count_by (settles t) (completions k d staying) ≡ cond (finishes m) (one (is_running t l.running)) 0
+        count_by (settles t) (completions s k d staying l.running) ≡ cond (finishes m) (one (is_running t l.running)) 0
     go Finishes x =
         let e = fit.end x in
         let ran : is_running t l.running ≡ same_ticket e.0 t = rw (e.2.1, e.2.2) refl in
-        let told : count_by (settles t) (completions k d staying) ≡ one (same_ticket e.0 t) = rw (finishes-is d x, e.1) (told-one e.0) in
-        told ∙ sym (ap one ran)
-    go m x = ap (count_by (settles t)) (no-completion d k staying (ap finishes x))
+        ends (finishes-is d x) e.0 e.1 e.2.0 e.2.1 e.2.2 ∙ sym (ap one ran)
+    go m x = ap (count_by (settles t)) (no-completion s d k staying l.running (ap finishes x))
 
 -- so it is carried or settled
 pub lane-balance :
@@ -204,6 +227,6 @@ lane-balance t s staying k d queued l fit =
     omega (
       arith,
       move-balance t k (slot_move d) (new_number k d) queued l fit,
-      settles-completions t k d staying queued l fit,
+      settles-completions t s k d staying queued l fit,
       settles-drop_acts t s staying d l.slot l.pending,
     )

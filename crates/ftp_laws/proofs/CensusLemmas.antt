@@ -1,6 +1,6 @@
 -- The counts of live sessions and of running jobs are those of lists that have each once.
-use Rattle.std.proofs.Common.{◌≡◌, refl, sym, ◌∙◌, ap, ℕ, ◌+◌, ◌-◌, ◌≤◌, Bool, true, false, true≢false, not, cond, List, [], ◌∷◌, length, Option, Some, None, Ok, arith, eqb-true, eq-eqb}
-use Rattle.std.specs.Prelude.{◌≢◌, ◌==◌, count_by, filter, is_some}
+use Rattle.std.proofs.Common.{◌≡◌, refl, sym, ◌∙◌, ap, ℕ, ◌+◌, ◌-◌, ◌≤◌, Bool, true, false, true≢false, not, cond, List, [], ◌∷◌, length, Option, Some, None, Ok, arith, eqb-true, eq-eqb, inl, inr}
+use Rattle.std.specs.Prelude.{◌≢◌, ◌⊎◌, ◌&&◌, ◌==◌, count_by, filter, is_some}
 use Rattle.std.proofs.lemmas.List.Sums.{sum_by-cons, length-filter, count_by-le-length}
 use Rattle.std.proofs.lemmas.List.Filters.{length-filter_both}
 use Rattle.ftp_events.specs.declared.action.Action.TheVariants as action
@@ -12,15 +12,15 @@ use Rattle.ftp_events.specs.declared.event.EventKind.TheVariants as kind
 use Rattle.ftp_events.specs.Classes.{is_stop}
 use Rattle.ftp_events.specs.Words.{total}
 use Rattle.ftp_events.specs.History.{Nobody, One, All}
-use Rattle.ftp_events.specs.Running.{ended, started, running_count}
+use Rattle.ftp_events.specs.Running.{ended, started, stopped, running_count}
 use Rattle.ftp_events.specs.Session.{live_count, live_by_life}
-use Rattle.ftp_laws.proofs.Common.{Life, SlotMove, life, ends, slot_move, Options, Ticket, Action, Running, Answer, Decision, Entry, EventKind, Pending, Session, Opening, past_of, named_session, opened_number, opening_by, subject, concerns, opens, history, Lane, queued_in, lane, lives_on, session, running_job, due, acts_of, is_refusal, completions, stays, start_acts, slot_of, pending_in, IsRight, IsActed}
+use Rattle.ftp_laws.proofs.Common.{Life, SlotMove, life, ends, slot_move, Options, Ticket, Action, Running, Answer, Decision, Entry, EventKind, Pending, Session, Opening, past_of, job_ticket, is_number, named_session, opened_number, opening_by, subject, concerns, opens, history, Lane, queued_in, lane, lives_on, session, running_job, due, acts_of, is_refusal, completions, stays, start_acts, slot_of, pending_in, IsRight, IsActed}
 use Rattle.ftp_laws.specs.Census.{IsCensus}
-use Rattle.ftp_laws.specs.Jobs.{starts_for, completes_for}
-use Rattle.ftp_laws.proofs.SubjectLemmas.{by_subject, named-one, one-concerns, one-own, nobody-concerns}
+use Rattle.ftp_laws.specs.Jobs.{starts_for, completes_for, is_cut, cuts_for}
+use Rattle.ftp_laws.proofs.SubjectLemmas.{by_subject, all-stop, named-one, one-concerns, one-own, nobody-concerns}
 use Rattle.ftp_laws.proofs.StopLemmas.{session-stopped}
 use Rattle.ftp_laws.proofs.PartLemmas.{count-stop-idle}
-use Rattle.ftp_laws.proofs.ClassLemmas.{opens-is, finishes-is, opened-is}
+use Rattle.ftp_laws.proofs.ClassLemmas.{opens-is, finishes-is, opened-is, stop-is}
 use Rattle.ftp_laws.proofs.DecisionLemmas.{IsLive}
 use Rattle.ftp_laws.proofs.EndingLemmas.{ending-live}
 use Rattle.ftp_laws.proofs.QuestionLemmas.{session-other, session-own, session_by, running-other}
@@ -28,12 +28,12 @@ use Rattle.ftp_laws.proofs.HoldLemmas.{live-unopened}
 use Rattle.ftp_laws.proofs.PortLemmas.{opened-subject, session-before, opened-nobody}
 use Rattle.ftp_laws.proofs.LaneLemmas.{named-concern}
 use Rattle.ftp_laws.proofs.TableLemmas.{same-both}
-use Rattle.ftp_laws.proofs.CountLemmas.{IsOnTransfers, IsOnStarts, started_in, count-about, count-starts, count-drop_acts, count-nobody}
-use Rattle.ftp_laws.proofs.BalanceLemmas.{one, IsFit, no-completion}
+use Rattle.ftp_laws.proofs.CountLemmas.{IsOnTransfers, IsOnStarts, started_in, count-cuttings, count-about, count-starts, count-drop_acts, count-nobody}
+use Rattle.ftp_laws.proofs.BalanceLemmas.{one, IsFit, no-completion, cut-known}
 use Rattle.ftp_laws.proofs.AccountLemmas.{entry-fit}
-use Rattle.ftp_laws.proofs.JobLemmas.{IsBalanced, jobs-balance, started_in-owned, starts_for-on-starts, completes_for-on-transfers, completes_for-start_acts}
+use Rattle.ftp_laws.proofs.JobLemmas.{IsBalanced, jobs-balance, uncut, cut-is, cuts-own, started_in-owned, starts_for-on-starts, completes_for-on-transfers, completes_for-start_acts}
 use Rattle.ftp_laws.proofs.EntryLemmas.{Comes, right-past, acted-past}
-use Rattle.ftp_laws.proofs.Cases.{by_test, by_option, by_part, by_completion}
+use Rattle.ftp_laws.proofs.Cases.{by_test, by_option, by_part, by_completion, job-named}
 
 -- of a list without q, how often a number stands in it
 count-without :
@@ -251,6 +251,11 @@ ends-counted xs = total-counts ended is_completed one_each xs
     one_each (action.Completed ticket delivered) = refl
     one_each _ = refl
 
+-- a decision stops a job where it cuts one
+stopped-cut : (d : Decision) → stopped d ≡ one (is_cut d)
+stopped-cut decision.Cut = refl
+stopped-cut d = refl
+
 -- a stop starts and ends no job
 pub running_count-stopped :
     (o : Options) (past : List Entry) (e : Entry) →
@@ -263,14 +268,19 @@ running_count-stopped o past e counts acted about =
       ends-counted e.actions,
       count-stop-idle o past e counts acted is_start start-on-starts.plain (λ t. refl) about,
       count-stop-idle o past e counts acted is_completed completed-on-transfers (λ t. refl) about,
+      stopped-cut e.decision,
+      ap one (ap is_cut (stop-is e.decision (all-stop o past e about))),
     )
 
 -- of completions two tests that agree on the job's end count the same
 completions-alike :
-    (p q : Action → Bool) (k : EventKind) (d : Decision) (b : Bool) →
-    ((t : Ticket) → k ≡ kind.End t → p (action.Completed t b) ≡ q (action.Completed t b)) →
-    count_by p (completions k d b) ≡ count_by q (completions k d b)
-completions-alike p q k d b h = by_completion (λ xs. count_by p xs ≡ count_by q xs) k d b refl (λ t x y. rw (h t x) refl)
+    (p q : Action → Bool) (s : ℕ) (k : EventKind) (d : Decision) (b : Bool) (job : Option Running) → IsOnTransfers s p → IsOnTransfers s q →
+    ((t : Ticket) → job_ticket k ≡ Some t → p (action.Completed t b) ≡ q (action.Completed t b)) →
+    ((t : Ticket) → p (action.Cancelled t) ≡ q (action.Cancelled t)) →
+    count_by p (completions s k d b job) ≡ count_by q (completions s k d b job)
+completions-alike p q s k d b job on on' h c =
+    by_completion (λ xs. count_by p xs ≡ count_by q xs) s k d b job refl (λ t x y. rw (h t x) refl)
+    (λ r x y. count-cuttings p s b r on ∙ (ap one (c r.job.ticket) ∙ sym (count-cuttings q s b r on')))
 
 -- a job that starts for session s counts, whether for s or for any
 starts-alike :
@@ -279,19 +289,30 @@ starts-alike :
 starts-alike s None own = refl
 starts-alike s (Some j) own = rw (own j refl, eq-eqb s s refl) refl
 
--- only a job that ran is completed
+-- only a job that ran is completed or cut
 completed-ran :
-    (k : EventKind) (d : Decision) (b : Bool) (queued : Option Pending) (l : Lane) → IsFit k (slot_move d) queued l →
-    count_by is_completed (completions k d b) ≤ one (is_some l.running)
-completed-ran k d b queued l fit = go (slot_move d) refl
+    (s : ℕ) (k : EventKind) (d : Decision) (b : Bool) (queued : Option Pending) (l : Lane) → IsFit k (slot_move d) queued l →
+    count_by is_completed (completions s k d b l.running) + one (is_cut d) ≤ one (is_some l.running)
+completed-ran s k d b queued l fit = go (slot_move d) refl
   where
-    go : (m : SlotMove) → slot_move d ≡ m → count_by is_completed (completions k d b) ≤ one (is_some l.running)
+    ends :
+        (d ≡ decision.Finished) ⊎ (d ≡ decision.Cut) → (ticket : Ticket) → job_ticket k ≡ Some ticket → (j : Running) → l.running ≡ Some j →
+        count_by is_completed (completions s k d b l.running) + one (is_cut d) ≡ 1
+    ends (inl x) ticket e j ran =
+        let told : count_by is_completed (completions s k d b l.running) ≡ 1 = rw (x, e) refl in
+        let none : one (is_cut d) ≡ 0 = rw x refl in
+        omega (arith, told, none)
+    ends (inr x) ticket e j ran =
+        let told : count_by is_completed (completions s k d b l.running) ≡ 0 = rw (x, ran) (count-cuttings is_completed s b j (completed-on-transfers s)) in
+        let cut : one (is_cut d) ≡ 1 = rw x refl in
+        omega (arith, told, cut)
+
+    go : (m : SlotMove) → slot_move d ≡ m → count_by is_completed (completions s k d b l.running) + one (is_cut d) ≤ one (is_some l.running)
     go Finishes x =
         let e = fit.end x in
         let ran : one (is_some l.running) ≡ 1 = rw e.2.1 refl in
-        let told : count_by is_completed (completions k d b) ≡ 1 = rw (finishes-is d x, e.1) refl in
-        omega (arith, ran, told)
-    go m x = omega (arith, ap (count_by is_completed) (no-completion d k b (rw x refl)))
+        omega (arith, ran, ends (finishes-is d x) e.0 e.1 e.2.0 e.2.1)
+    go m x = omega (arith, ap (count_by is_completed) (no-completion s d k b l.running (rw x refl)), ap one (uncut d (rw x refl)))
 
 -- the sessions for which a job runs
 abbrev running_in : Options → List Entry → ℕ → Bool
@@ -311,8 +332,8 @@ running-step :
     HasCensus (running_in o (past_of log)) (running_count (past_of log)) →
     HasCensus (running_in o (e ∷ past_of log)) (running_count (e ∷ past_of log))
 running-step o log e comes acted h =
-    by_subject o past e (λ x. idle (λ p on cancelled. count-nobody p o past e (on 0).closes acted x)) about
-    (λ x. idle (λ p on cancelled. count-stop-idle o past e comes.counts acted p on cancelled x))
+    by_subject o past e (λ x. idle (silent-uncut x) (λ p on cancelled. count-nobody p o past e (on 0).closes acted x)) about
+    (λ x. idle (ap is_cut (stop-is e.decision (all-stop o past e x))) (λ p on cancelled. count-stop-idle o past e comes.counts acted p on cancelled x))
   where
     past : List Entry
     past = past_of log
@@ -320,25 +341,38 @@ running-step o log e comes acted h =
     balanced : (s : ℕ) → IsBalanced o past e s
     balanced s = jobs-balance o log e s comes.right comes.fit comes.counts acted
 
-    counted : running_count (e ∷ past) ≡ running_count past - count_by is_completed e.actions + count_by is_start e.actions
-    counted = rw (starts-counted e.actions, ends-counted e.actions) refl
+    counted : running_count (e ∷ past) ≡ running_count past - (one (is_cut e.decision) + count_by is_completed e.actions) + count_by is_start e.actions
+    counted = rw (starts-counted e.actions, ends-counted e.actions, stopped-cut e.decision) refl
+
+    silent-uncut : subject o past e ≡ Nobody → is_cut e.decision ≡ false
+    silent-uncut x =
+        by_test (is_cut e.decision)
+        (λ n.
+        let d : e.decision ≡ decision.Cut = cut-is e.decision n in
+        let end = cut-known o past e.event.at e.event.kind e.answer (sym comes.fit ∙ d) in
+        let named = named-one o past e end.ticket.session (rw d refl) (job-named e.event.kind end.ticket end.kind_is) in
+        let z : Nobody ≡ One end.ticket.session = sym x ∙ named in
+        cc)
+        (λ n. n)
 
     idle :
+        is_cut e.decision ≡ false →
         ((p : Action → Bool) → ((q : ℕ) → IsOnTransfers q p) → ((t : Ticket) → p (action.Cancelled t) ≡ false) → count_by p e.actions ≡ 0) →
         HasCensus (running_in o (e ∷ past)) (running_count (e ∷ past))
-    idle none =
+    idle plain none =
+        let uncuts : (s : ℕ) → one (cuts_for s e) ≡ 0 = λ s. ap (λ b. one (b && is_number (named_session e.event.kind) s)) plain in
         let kept : (s : ℕ) → running_in o (e ∷ past) s ≡ running_in o past s =
-        λ s. one-same _ _ (omega (arith, balanced s, none (starts_for s) (starts_for-on-starts s).plain (λ t. refl), none (completes_for s) (completes_for-on-transfers s) (λ t. refl))) in (
+        λ s. one-same _ _ (omega (arith, balanced s, uncuts s, none (starts_for s) (starts_for-on-starts s).plain (λ t. refl), none (completes_for s) (completes_for-on-transfers s) (λ t. refl))) in (
           h.0,
           λ s. h.1 s ∙ ap one (sym (kept s)),
-          omega (arith, counted, h.2, none is_start start-on-starts.plain (λ t. refl), none is_completed completed-on-transfers (λ t. refl)),
+          omega (arith, counted, ap one plain, h.2, none is_start start-on-starts.plain (λ t. refl), none is_completed completed-on-transfers (λ t. refl)),
         )
 
     only_completions :
         (p : Action → Bool) (q : ℕ) → subject o past e ≡ One q → IsOnTransfers q p →
         ((t : Ticket) → p (action.Cancelled t) ≡ false) →
         ((job : Option Running) → count_by p (start_acts job) ≡ 0) →
-        count_by p e.actions ≡ count_by p (completions e.event.kind e.decision (stays e.decision (session o past q)))
+        count_by p e.actions ≡ count_by p (completions q e.event.kind e.decision (stays e.decision (session o past q)) (running_job o past q))
     only_completions p q x t cancelled starts =
         let v : Option Session = session o past q in
         omega (
@@ -356,18 +390,19 @@ running-step o log e comes acted h =
         count-starts is_start o past e q start-on-starts comes.counts acted x
         ∙ (starts-alike q (started_in o past e q) (λ j y. started_in-owned o log e q j comes.right comes.fit c y)
         ∙ sym (count-starts (starts_for q) o past e q (starts_for-on-starts q) comes.counts acted x)) in
-        let completed : count_by is_completed e.actions ≡ count_by is_completed (completions e.event.kind e.decision staying) =
+        let completed : count_by is_completed e.actions ≡ count_by is_completed (completions q e.event.kind e.decision staying (running_job o past q)) =
         only_completions is_completed q x (completed-on-transfers q) (λ t. refl) (λ j. none_starts j) in
-        let completes : count_by (completes_for q) e.actions ≡ count_by (completes_for q) (completions e.event.kind e.decision staying) =
+        let completes : count_by (completes_for q) e.actions ≡ count_by (completes_for q) (completions q e.event.kind e.decision staying (running_job o past q)) =
         only_completions (completes_for q) q x (completes_for-on-transfers q q) (λ t. refl) (λ j. completes_for-start_acts q j) in
-        let alike : count_by is_completed (completions e.event.kind e.decision staying) ≡ count_by (completes_for q) (completions e.event.kind e.decision staying) =
-        completions-alike is_completed (completes_for q) e.event.kind e.decision staying
-        (λ t k. sym (ap (λ m. m == q) (named-concern o past e t.session q comes.fit (ap named_session k) c) ∙ eq-eqb q q refl)) in
-        let ran = completed-ran e.event.kind e.decision staying (queued_in (history o past q) e) (lane (history o past q)) (entry-fit o past e q comes.fit c) in
+        let alike : count_by is_completed (completions q e.event.kind e.decision staying (running_job o past q)) ≡ count_by (completes_for q) (completions q e.event.kind e.decision staying (running_job o past q)) =
+        completions-alike is_completed (completes_for q) q e.event.kind e.decision staying (running_job o past q) (completed-on-transfers q) (completes_for-on-transfers q q)
+        (λ t k. sym (ap (λ m. m == q) (named-concern o past e t.session q comes.fit (job-named e.event.kind t k) c) ∙ eq-eqb q q refl)) (λ t. refl) in
+        let cuts = cuts-own o past e q comes.fit c in
+        let ran = completed-ran q e.event.kind e.decision staying (queued_in (history o past q) e) (lane (history o past q)) (entry-fit o past e q comes.fit c) in
         let more = recount (running_in o past) (running_in o (e ∷ past)) q h.0 h.1 (λ s k. ap is_some (others s k)) in (
           more.0,
           more.1,
-          omega (arith, counted, h.2, more.2, balanced q, starts, completed, completes, alike, ran, h.1 q, count_by-le-length (λ n. n == q) h.0),
+          omega (arith, counted, h.2, more.2, balanced q, ap one cuts, starts, completed, completes, alike, ran, h.1 q, count_by-le-length (λ n. n == q) h.0),
         )
       where
         none_starts : (job : Option Running) → count_by is_completed (start_acts job) ≡ 0

@@ -29,9 +29,10 @@ pub queues-is : (d : Decision) (t : Ticket) → slot_move d ≡ Queues t → d �
 queues-is (decision.Queued ticket) t h = cc
 queues-is d t h = cc
 
--- a job ends by its decision
-pub finishes-is : (d : Decision) → slot_move d ≡ Finishes → d ≡ decision.Finished
-finishes-is decision.Finished h = refl
+-- a job ends, or is cut, by its decision
+pub finishes-is : (d : Decision) → slot_move d ≡ Finishes → (d ≡ decision.Finished) ⊎ (d ≡ decision.Cut)
+finishes-is decision.Finished h = inl refl
+finishes-is decision.Cut h = inr refl
 finishes-is d h = cc
 
 -- a life begins with an opening
@@ -45,8 +46,9 @@ ending-empties decision.Closed h = refl
 ending-empties d h = cc
 
 -- a slot that is emptied, whatever it has, is that of a session that ends, or is dropped by an ABOR
-pub empties-is : (d : Decision) → slot_move d ≡ Empties → (d ≡ decision.Aborted) ⊎ (is_ending d ≡ true)
-empties-is decision.Aborted h = inl refl
+pub empties-is : (d : Decision) → slot_move d ≡ Empties → ((d ≡ decision.Aborted) ⊎ (d ≡ decision.Aborting)) ⊎ (is_ending d ≡ true)
+empties-is decision.Aborted h = inl (inl refl)
+empties-is decision.Aborting h = inl (inr refl)
 empties-is decision.Quit h = inr refl
 empties-is decision.Closed h = inr refl
 empties-is decision.TimedOut h = inr refl

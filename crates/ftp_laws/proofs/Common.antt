@@ -10,11 +10,11 @@ pub use Rattle.ftp_events.specs.Decide.{due}
 pub use Rattle.ftp_events.specs.Fate.{is_pending}
 pub use Rattle.ftp_events.specs.History.{Subject, concerns, history, meant, opens, subject}
 pub use Rattle.ftp_events.specs.Isolation.{client_log}
-pub use Rattle.ftp_events.specs.Log.{is_refusal, is_used, named_session, new_number, past_of}
+pub use Rattle.ftp_events.specs.Log.{is_refusal, is_used, job_ticket, named_session, new_number, past_of}
 pub use Rattle.ftp_events.specs.Opening.{opened_number, opener, opening_by}
 pub use Rattle.ftp_events.specs.Right.{IsActed, IsRight}
 pub use Rattle.ftp_events.specs.Session.{lives_on, running_job, session}
-pub use Rattle.ftp_events.specs.Slot.{Lane, drops, empties, lane, lane_after, lane_of, moved, queued_in, starts_by, with_link}
+pub use Rattle.ftp_events.specs.Slot.{Lane, drops, empties, kept_running, lane, lane_after, lane_of, moved, queued_in, starts_by, with_link}
 pub use Rattle.ftp_events.specs.Words.{is_number}
 pub use Rattle.ftp_events.specs.declared.action.Action.{Action}
 pub use Rattle.ftp_events.specs.declared.decision.Decision.{Decision}

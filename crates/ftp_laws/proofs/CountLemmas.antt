@@ -14,9 +14,9 @@ use Rattle.ftp_events.specs.declared.decision.Decision.TheVariants as decision
 use Rattle.ftp_events.specs.declared.event.EventKind.TheVariants as kind
 use Rattle.ftp_events.specs.Login.{login_by, logged_user}
 use Rattle.ftp_events.specs.Reply.{message_for, reply_for, delay_of}
-use Rattle.ftp_events.specs.Acts.{session_acts, notice_and_reply, notifications, notice_for, presence_for, reply_acts, farewells}
+use Rattle.ftp_events.specs.Acts.{session_acts, cancelled, cuttings, notice_and_reply, notifications, notice_for, presence_for, reply_acts, farewells}
 use Rattle.ftp_events.specs.History.{Nobody, One}
-use Rattle.ftp_laws.proofs.Common.{subject_acts, is_ending, Options, Running, Ticket, Action, Decision, Entry, EventKind, Answer, Pending, Session, Slot, is_refusal, new_number, subject, drops, session, running_job, acts_of, acts_for, completions, cancellations, closings, link_in, stays, drop_acts, slot_of, pending_in, refused_link, start_acts, starting}
+use Rattle.ftp_laws.proofs.Common.{subject_acts, is_ending, Options, Running, Ticket, Action, Decision, Entry, EventKind, Answer, Pending, Session, Slot, is_refusal, new_number, subject, drops, session, running_job, acts_of, acts_for, completions, cancellations, closings, job_ticket, link_in, stays, drop_acts, slot_of, pending_in, refused_link, start_acts, starting}
 use Rattle.ftp_laws.proofs.Cases.{by_completion}
 
 -- of what is done for session s, the test passes nothing but what becomes of transfers
@@ -38,12 +38,35 @@ pub count-closings :
 count-closings p None closes = refl
 count-closings p (Some n) closes = rw (closes n) refl
 
--- nor a job that has ended, where no completed transfer counts
+-- of a transfer that is cancelled and told nothing but the cancellation counts
+pub count-cancelled :
+    (p : Action → Bool) (s : ℕ) (staying : Bool) (t : Ticket) → IsOnTransfers s p →
+    count_by p (cancelled s staying t) ≡ cond (p (action.Cancelled t)) 1 0
+count-cancelled p s true t on = rw (on.replies 0 _) (omega arith)
+count-cancelled p s false t on = omega arith
+
+-- so it is of one that is cut
+pub count-cuttings :
+    (p : Action → Bool) (s : ℕ) (staying : Bool) (r : Running) → IsOnTransfers s p →
+    count_by p (cuttings s staying (Some r)) ≡ cond (p (action.Cancelled r.job.ticket)) 1 0
+count-cuttings p s staying r on =
+    omega (
+      arith,
+      count-append p (cancelled s staying r.job.ticket) (closings (Some r.job.number)),
+      count-cancelled p s staying r.job.ticket on,
+      count-closings p (Some r.job.number) on.closes,
+    )
+
+-- nor a job that has ended, where no completed transfer counts and no one that is cut
 pub count-completions :
-    (p : Action → Bool) (k : EventKind) (d : Decision) (delivered : Bool) →
-    ((t : Ticket) → k ≡ kind.End t → p (action.Completed t delivered) ≡ false) →
-    count_by p (completions k d delivered) ≡ 0
-count-completions p k d delivered h = by_completion (λ xs. count_by p xs ≡ 0) k d delivered refl (λ t x y. rw (h t x) refl)
+    (p : Action → Bool) (s : ℕ) (k : EventKind) (d : Decision) (delivered : Bool) (job : Option Running) →
+    IsOnTransfers s p →
+    ((t : Ticket) → job_ticket k ≡ Some t → p (action.Completed t delivered) ≡ false) →
+    ((r : Running) → job ≡ Some r → d ≡ decision.Cut → p (action.Cancelled r.job.ticket) ≡ false) →
+    count_by p (completions s k d delivered job) ≡ 0
+count-completions p s k d delivered job on h cut =
+    by_completion (λ xs. count_by p xs ≡ 0) s k d delivered job refl (λ t x y. rw (h t x) refl)
+    (λ r x y. count-cuttings p s delivered r on ∙ ap (λ b. cond b 1 0) (cut r x y))
 
 -- nor does what a session loses with its slot, where no cancelled transfer counts
 pub count-drop_acts :
@@ -116,9 +139,9 @@ count-farewells p s d t = go (is_ending d)
 pub count-session_acts :
     (p : Action → Bool) (o : Options) (s : ℕ) (k : EventKind) (answer : Answer) (d : Decision) (job : Option Running) (v : Option Session) →
     IsOnTransfers s p →
-    count_by p (session_acts o s k answer d job v) ≡ count_by p (completions k d (stays d v)) + count_by p (drop_acts s (stays d v) d (slot_of v) (pending_in v)) + count_by p (start_acts (option_and_then (starting k d job) v))
+    count_by p (session_acts o s k answer d job v) ≡ count_by p (completions s k d (stays d v) job) + count_by p (drop_acts s (stays d v) d (slot_of v) (pending_in v)) + count_by p (start_acts (option_and_then (starting k d job) v))
 count-session_acts p o s k answer d job v t =
-    let a : List Action = completions k d (stays d v) in
+    let a : List Action = completions s k d (stays d v) job in
     let b : List Action = drop_acts s (stays d v) d (slot_of v) (pending_in v) in
     let c : List Action = refused_link k d in
     let told : List Action = option_map_or (notice_and_reply o s k answer d job) v [] in
@@ -141,7 +164,7 @@ pub count-about :
     IsOnTransfers s p → is_refusal e.decision ≡ false →
     e.actions ≡ acts_of o past e →
     subject o past e ≡ One s →
-    count_by p e.actions ≡ count_by p (completions e.event.kind e.decision (stays e.decision (session o past s))) + count_by p (drop_acts s (stays e.decision (session o past s)) e.decision (slot_of (session o past s)) (pending_in (session o past s))) + count_by p (start_acts (option_and_then (starting e.event.kind e.decision (running_job o past s)) (session o past s)))
+    count_by p e.actions ≡ count_by p (completions s e.event.kind e.decision (stays e.decision (session o past s)) (running_job o past s)) + count_by p (drop_acts s (stays e.decision (session o past s)) e.decision (slot_of (session o past s)) (pending_in (session o past s))) + count_by p (start_acts (option_and_then (starting e.event.kind e.decision (running_job o past s)) (session o past s)))
 count-about p o past e s t counts acted about =
     let done : e.actions ≡ acts_for o past e s = acted ∙ rw (counts, about) refl in
     ap (count_by p) done ∙ count-session_acts p o s e.event.kind e.answer e.decision (running_job o past s) (session o past s) t
@@ -181,7 +204,7 @@ count-starts p o past e s on counts acted about =
     omega (
       arith,
       count-about p o past e s (on.plain s) counts acted about,
-      count-completions p e.event.kind e.decision (stays e.decision v) (λ t x. on.completed t (stays e.decision v)),
+      count-completions p s e.event.kind e.decision (stays e.decision v) (running_job o past s) (on.plain s) (λ t x. on.completed t (stays e.decision v)) (λ r x y. on.cancelled r.job.ticket),
       count-drop_acts p s (stays e.decision v) e.decision (slot_of v) (pending_in v) (on.plain s) on.cancelled,
     )
 

@@ -3,18 +3,18 @@ use Rattle.std.proofs.Common.{◌≡◌, refl, sym, ◌∙◌, ℕ, Bool, true, 
 use Rattle.std.specs.Option.{option_and_then, option_map_or}
 use Rattle.ftp_base.specs.declared.net.SocketAddr.{SocketAddr}
 use Rattle.ftp_base.specs.Net.{same_ip, is_v6}
-use Rattle.ftp_transfer.specs.Transfer.{suits}
+use Rattle.ftp_transfer.specs.declared.job.Job.{Job}
 use Rattle.ftp_options.specs.Modes.{is_pooled, is_proxy, is_control_port}
 use Rattle.ftp_events.specs.Classes.{is_stop}
 use Rattle.ftp_events.specs.Log.{is_stopped}
 use Rattle.ftp_events.specs.Transfer.{same_ticket}
 use Rattle.ftp_events.specs.Modes.{in_range}
 use Rattle.ftp_events.specs.declared.decision.Decision.TheVariants as decision
-use Rattle.ftp_events.specs.declared.event.Answer.TheVariants.{Header, Done}
+use Rattle.ftp_events.specs.declared.event.Answer.TheVariants.{Header, Done, Moved}
 use Rattle.ftp_events.specs.declared.event.EventKind.TheVariants as kind
 use Rattle.ftp_events.specs.CommandRows.{command_row}
 use Rattle.ftp_events.specs.ConnectionRows.{arrival_row, holder_row, header_row}
-use Rattle.ftp_events.specs.EndRows.{outcome_row, end_row}
+use Rattle.ftp_events.specs.EndRows.{can_end, can_move, outcome_row, moved_row, end_row, piece_row}
 use Rattle.ftp_events.specs.Decide.{if_live, around}
 use Rattle.ftp_laws.proofs.Common.{IpAddr, life, ends, Options, Ticket, Running, Answer, Decision, Entry, EventKind, Session, is_used, named_session, session, running_job, due, holder}
 use Rattle.ftp_laws.proofs.DecisionLemmas.{IsLive}
@@ -55,14 +55,26 @@ header-none o past raw (Header (Ok line)) =
 header-none o past raw (Header (Err fault)) = record { none = refl }
 header-none o past raw answer = record { none = refl }
 
--- nor the end of a job
+-- nor a piece or the end of a job
+outcome-none : (job : Job) (answer : Answer) → EndsNone (outcome_row job answer)
+outcome-none job (Done outcome) = none-cond (can_end job outcome) decision.Finished decision.NotExpected (record { none = refl }) (record { none = refl })
+outcome-none job answer = record { none = refl }
+
+moved-none : (job : Job) (answer : Answer) → EndsNone (moved_row job answer)
+moved-none job (Moved bytes) = none-cond (can_move job bytes) decision.Moved decision.NotExpected (record { none = refl }) (record { none = refl })
+moved-none job answer = outcome-none job answer
+
 end-none : (t : Ticket) (answer : Answer) (run : Option Running) → EndsNone (end_row t answer run)
 end-none t answer None = record { none = refl }
-end-none t answer (Some r) = none-cond (same_ticket r.job.ticket t) (outcome_row r.job answer) decision.UnknownNumber (by_answer answer) (record { none = refl })
-  where
-    by_answer : (a : Answer) → EndsNone (outcome_row r.job a)
-    by_answer (Done outcome) = none-cond (suits outcome.result r.job.command) decision.Finished decision.NotExpected (record { none = refl }) (record { none = refl })
-    by_answer _ = record { none = refl }
+end-none t answer (Some r) =
+    none-cond (same_ticket r.job.ticket t) _ decision.UnknownNumber
+    (none-cond r.marked decision.Cut (outcome_row r.job answer) (record { none = refl }) (outcome-none r.job answer)) (record { none = refl })
+
+piece-none : (t : Ticket) (answer : Answer) (run : Option Running) → EndsNone (piece_row t answer run)
+piece-none t answer None = record { none = refl }
+piece-none t answer (Some r) =
+    none-cond (same_ticket r.job.ticket t) _ decision.UnknownNumber
+    (none-cond r.marked decision.Cut (moved_row r.job answer) (record { none = refl }) (moved-none r.job answer)) (record { none = refl })
 
 -- the rows of a live session end only a live one
 row-live :
@@ -90,6 +102,7 @@ ending-live o past at (kind.DataIn number raw port) answer plain h =
     let strange : Bool = not (is_pooled o.mode) || is_v6 raw.ip in
     absurd (true≢false (sym h ∙ (new-none strange (is_used past number) (is_stopped past) (arrival_row o past raw raw.ip port) (arrival-none o past raw raw.ip port)).none))
 ending-live o past at (kind.End t) answer plain h = absurd (true≢false (sym h ∙ (end-none t answer (running_job o past t.session)).none))
+ending-live o past at (kind.Piece t) answer plain h = absurd (true≢false (sym h ∙ (piece-none t answer (running_job o past t.session)).none))
 ending-live o past at kind.Sweep answer plain h = cc
 ending-live o past at kind.Scavenge answer plain h = cc
 ending-live o past at kind.Shutdown answer plain h = cc

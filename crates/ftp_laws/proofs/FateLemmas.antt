@@ -12,7 +12,7 @@ use Rattle.ftp_events.specs.Fate.{Fate, CompletedAt, CancelledAt, AwaitsConnecti
 use Rattle.ftp_events.specs.Acts.{slot_of}
 use Rattle.ftp_events.specs.Session.{live_sessions}
 use Rattle.ftp_events.specs.History.{Nobody}
-use Rattle.ftp_laws.proofs.Common.{Options, Ticket, Action, Decision, Entry, Pending, Session, Slot, is_number, is_refusal, past_of, is_used, new_number, subject, concerns, opens, history, Lane, queued_in, lane, session, running_job, due, acts_of, stays, pending_in, IsRight, IsActed, is_pending, Running}
+use Rattle.ftp_laws.proofs.Common.{Options, Ticket, Action, Decision, Entry, Pending, Session, Slot, is_number, is_refusal, past_of, is_used, new_number, subject, concerns, opens, history, Lane, lane_after, queued_in, lane, session, running_job, due, acts_of, stays, pending_in, IsRight, IsActed, is_pending, Running}
 use Rattle.ftp_laws.specs.Census.{IsAscending}
 use Rattle.ftp_laws.specs.Fates.{queues, was_queued, queue_count, settles, settle_count}
 use Rattle.ftp_laws.proofs.TicketLemmas.{same_ticket-refl}
@@ -23,6 +23,7 @@ use Rattle.ftp_laws.proofs.LiveLemmas.{live_sessions-ascending}
 use Rattle.ftp_laws.proofs.PortLemmas.{opened-nobody}
 use Rattle.ftp_laws.proofs.LaneLemmas.{IsBare, ended-empty}
 use Rattle.ftp_laws.proofs.CountLemmas.{count-nobody, CountsTest, counts-one, counts-or, counts-same, counts-any}
+use Rattle.ftp_laws.proofs.KeptLemmas.{kept-is_running}
 use Rattle.ftp_laws.proofs.BalanceLemmas.{one, carried, lane-balance}
 use Rattle.ftp_laws.proofs.SoundLemmas.{IsSound, sound}
 use Rattle.ftp_laws.proofs.AccountLemmas.{slot-told, IsNext, queues-next, entry-fit, settles-elsewhere, settles-here}
@@ -117,7 +118,7 @@ accounted-own o past e t settled queued fit counts acted n c bare own ascends h 
       balance = omega (
         arith,
         h.balance,
-        ap (λ (x : List Entry). carried t (lane x)) longer,
+        ap (λ (x : List Entry). carried t (lane x)) longer ∙ ap (λ (b : Bool). one b + one (is_pending t (lane_after e.event.kind e.decision (queued_in (history o past t.session) e) (lane (history o past t.session))).pending)) (kept-is_running t e.decision e.answer (lane_after e.event.kind e.decision (queued_in (history o past t.session) e) (lane (history o past t.session))).running),
         settles-here o past e t counts acted c bare own ascends,
         lane-balance t t.session (stays e.decision (session o past t.session)) e.event.kind e.decision (queued_in (history o past t.session) e) (lane (history o past t.session)) (entry-fit o past e t.session fit c),
       );

@@ -20,7 +20,7 @@ use Rattle.ftp_laws.proofs.HoldLemmas.{WaitsFor, holder-waits}
 use Rattle.ftp_laws.proofs.LiveLemmas.{ascending-same, live_sessions-ascending, live_sessions-has}
 use Rattle.ftp_laws.proofs.PartLemmas.{parts-all}
 use Rattle.ftp_laws.proofs.ServiceLemmas.{turned-closes, barred-refused, Arrives, unbarred-arrives, opener-raw, arrival_row-held, arrival_row-unheld}
-use Rattle.ftp_laws.proofs.AfterLemmas.{stopped-over, connection-turned, number-turned, command-over}
+use Rattle.ftp_laws.proofs.AfterLemmas.{stopped-over, connection-turned, number-turned, command-over, OfJob}
 use Rattle.ftp_laws.proofs.Cases.{by_test}
 
 -- so a data connection is attached to the holder or closed, and closed where there is none
@@ -144,14 +144,14 @@ newcomers-closed o log e r a n w c =
       subst (λ (xs : List Action). Contains xs (Close turned.1.0)) (sym a.1) (turned-closes o (past_of log) e turned.1.0 turned.0 turned.1.1),
     )
 
--- and nothing is decided for a session but the end of a job that ran
+-- and nothing is decided for a session but the pieces and the end of a job that ran
 pub ends-served :
     (o : Options) (log : List Entry) (e : Entry) (s : ℕ) → IsRight o (e ∷ log) → is_stopped (past_of log) ≡ true →
     named_session e.event.kind ≡ Some s → is_refusal e.decision ≡ false →
-    e.decision ≡ decision.Finished
+    OfJob e.decision
 unfolding decide
 ends-served o log e s r n named c =
-    r.1 ∙ command-over o (past_of log) e.event.at e.event.kind e.answer s (stopped-over o log r.0 n) named (ap is_refusal (sym r.1) ∙ c)
+    subst OfJob (sym r.1) (command-over o (past_of log) e.event.at e.event.kind e.answer s (stopped-over o log r.0 n) named (ap is_refusal (sym r.1) ∙ c))
 
 -- another stop does nothing
 pub stops-again :

@@ -9,7 +9,7 @@ use Rattle.ftp_events.specs.declared.decision.SlotMove.TheVariants.{Empties, Awa
 use Rattle.ftp_events.specs.Classes.{is_stop}
 use Rattle.ftp_events.specs.declared.session.Slot.TheVariants.{Empty, Waits, Linked}
 use Rattle.ftp_events.specs.Slot.{waiting_port}
-use Rattle.ftp_laws.proofs.Common.{SlotMove, slot_move, gives_up, is_ending, IpAddr, same_ip, Options, is_legacy, Entry, Session, Slot, is_number, named_session, is_refusal, past_of, Target, target, is_client, gives_hold, comes_to, ends_hold, gives_up_hold, holder, due, decide, IsRight}
+use Rattle.ftp_laws.proofs.Common.{SlotMove, slot_move, gives_up, is_ending, Decision, IpAddr, same_ip, Options, is_legacy, Entry, Session, Slot, is_number, named_session, is_refusal, past_of, Target, target, is_client, gives_hold, comes_to, ends_hold, gives_up_hold, holder, due, decide, IsRight}
 use Rattle.ftp_laws.proofs.SubjectLemmas.{ends-plain, named-ends}
 use Rattle.ftp_laws.proofs.StopLemmas.{holder-stopped}
 use Rattle.ftp_laws.specs.Holds.{WaitsOn, ComesTo, GrantsAnother, TakesConnection, DropsSlot, EndsSession, EndsHold}
@@ -81,7 +81,7 @@ ends-in-words o past e a p s m fit ungranted w n g = by_move (slot_move e.decisi
     client : is_client past (Some s) a ≡ true
     client = client-known o past s w.view a w.known ∙ w.client
 
-    dropped : (e.decision ≡ decision.Aborted) ⊎ (is_ending e.decision ≡ true) → DropsSlot e s ⊎ EndsSession e s
+    dropped : ((e.decision ≡ decision.Aborted) ⊎ (e.decision ≡ decision.Aborting)) ⊎ (is_ending e.decision ≡ true) → DropsSlot e s ⊎ EndsSession e s
     dropped (inl x) = inl (n, x)
     dropped (inr x) = inr (n, x)
 
@@ -147,6 +147,11 @@ holds-end o log e a p s m r held = go (is_refusal e.decision) refl
         subst (λ (l : List Entry). (holder o l a p ≡ Some s) ⊎ ((holder o l a p ≡ None) × EndsHold o e s a p)) (sym (counting-counts e log x))
         (holds-end-step o (past_of log) e a p s m r.1 (holder-waits o log m r.0 a p s held) held)
 
+-- an ABOR gives up the hold, whether a transfer runs or not
+abor-gives_up : (d : Decision) → (d ≡ decision.Aborted) ⊎ (d ≡ decision.Aborting) → gives_up_hold d ≡ true
+abor-gives_up d (inl x) = ap gives_up_hold x
+abor-gives_up d (inr x) = ap gives_up_hold x
+
 -- after each of the reasons the port is free
 pub each-ends :
     (o : Options) (past : List Entry) (e : Entry) (a : IpAddr) (p s : ℕ) →
@@ -157,7 +162,7 @@ each-ends o past e a p s g held (inl x) = holder-stopped o past e a p (ap is_sto
 each-ends o past e a p s g held (inr (inl x)) = rw (g, x, same_ip-refl a, eq-eqb p p refl) refl
 each-ends o past e a p s g held (inr (inr (inl x))) = rw (g, named-target o e.event.kind e.answer s x.3, held, named-ends e s x.3 (ap gives_up_hold x.2)) refl
 each-ends o past e a p s g held (inr (inr (inr (inl x)))) = rw (g, named-target o e.event.kind e.answer s x.0, held, named-ends e s x.0 (ap gives_up_hold x.1)) refl
-each-ends o past e a p s g held (inr (inr (inr (inr (inl x))))) = rw (g, named-target o e.event.kind e.answer s x.0, held, named-ends e s x.0 (ap gives_up_hold x.1)) refl
+each-ends o past e a p s g held (inr (inr (inr (inr (inl x))))) = rw (g, named-target o e.event.kind e.answer s x.0, held, named-ends e s x.0 (abor-gives_up e.decision x.1)) refl
 each-ends o past e a p s g held (inr (inr (inr (inr (inr x))))) = rw (g, named-target o e.event.kind e.answer s x.0, held, named-ends e s x.0 (ending-gives_up e.decision x.1)) refl
 
 -- so it is in every right log, where the entry is not refused

@@ -1,6 +1,7 @@
 pub mod Common
 pub mod TicketLemmas
 pub mod ClassLemmas
+pub mod KeptLemmas
 pub mod Cases
 pub mod SubjectLemmas
 pub mod QuestionLemmas

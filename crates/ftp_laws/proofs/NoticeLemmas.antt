@@ -14,7 +14,7 @@ use Rattle.ftp_events.specs.Login.{login_by, logged_user}
 use Rattle.ftp_events.specs.Notices.{is_notice_to}
 use Rattle.ftp_events.specs.Session.{live_sessions}
 use Rattle.ftp_events.specs.Reply.{message_for, reply_for, delay_of}
-use Rattle.ftp_events.specs.Acts.{session_acts, notice_and_reply, notifications, reply_acts, notice_for, presence_for, farewells}
+use Rattle.ftp_events.specs.Acts.{session_acts, notice_and_reply, notifications, reply_acts, notice_for, presence_for, farewells, cuttings}
 use Rattle.ftp_events.specs.History.{Nobody, One, All}
 use Rattle.ftp_laws.proofs.Common.{Subject, subject_acts, is_ending, Options, Running, Action, Decision, Entry, EventKind, Answer, Pending, Session, Slot, is_refusal, new_number, subject, concerns, drops, session, running_job, acts_of, acts_for, completions, cancellations, stays, drop_acts, pending_in, start_acts, starting, link_in, closings, refused_link, slot_of}
 use Rattle.ftp_laws.proofs.SubjectLemmas.{nobody-concerns, one-concerns, stop-concerns, all-stop}
@@ -49,9 +49,14 @@ length-notices s xs = is_count_by (λ ys. length (filter_map (notice_to s) ys)) 
 
 -- the end of a job tells no listener
 pub notices-completions :
-    (s : ℕ) (k : EventKind) (d : Decision) (delivered : Bool) →
-    filter_map (notice_to s) (completions k d delivered) ≡ []
-notices-completions s k d delivered = by_completion (λ xs. filter_map (notice_to s) xs ≡ []) k d delivered refl (λ t x y. refl)
+    (s t : ℕ) (k : EventKind) (d : Decision) (delivered : Bool) (job : Option Running) →
+    filter_map (notice_to s) (completions t k d delivered job) ≡ []
+notices-completions s t k d delivered job =
+    by_completion (λ xs. filter_map (notice_to s) xs ≡ []) t k d delivered job refl (λ u x y. refl) (λ r x y. cut delivered r)
+  where
+    cut : (b : Bool) (r : Running) → filter_map (notice_to s) (cuttings t b (Some r)) ≡ []
+    cut true r = refl
+    cut false r = refl
 
 -- nor does what a session loses with its slot
 pub notices-drop_acts :
@@ -130,9 +135,9 @@ pub notices-session_acts :
     (o : Options) (s t : ℕ) (k : EventKind) (answer : Answer) (d : Decision) (job : Option Running) (v : Option Session) →
     filter_map (notice_to s) (session_acts o t k answer d job v) ≡ cond (t == s) (told_by k answer d job v) []
 notices-session_acts o s t k answer d job v =
-    rw (split, notices-completions s k d (stays d v), notices-drop_acts s t (stays d v) d (slot_of v) (pending_in v), notices-refused_link s k d, notices-start_acts s (option_and_then (starting k d job) v), notices-farewells s t d) (append-nil (filter_map (notice_to s) (option_map_or (notice_and_reply o t k answer d job) v []) ++ []) ∙ (append-nil (filter_map (notice_to s) (option_map_or (notice_and_reply o t k answer d job) v [])) ∙ told v))
+    rw (split, notices-completions s t k d (stays d v) job, notices-drop_acts s t (stays d v) d (slot_of v) (pending_in v), notices-refused_link s k d, notices-start_acts s (option_and_then (starting k d job) v), notices-farewells s t d) (append-nil (filter_map (notice_to s) (option_map_or (notice_and_reply o t k answer d job) v []) ++ []) ∙ (append-nil (filter_map (notice_to s) (option_map_or (notice_and_reply o t k answer d job) v [])) ∙ told v))
   where
-    split : filter_map (notice_to s) (session_acts o t k answer d job v) ≡ filter_map (notice_to s) (completions k d (stays d v)) ++ filter_map (notice_to s) (drop_acts t (stays d v) d (slot_of v) (pending_in v)) ++ filter_map (notice_to s) (refused_link k d) ++ filter_map (notice_to s) (option_map_or (notice_and_reply o t k answer d job) v []) ++ filter_map (notice_to s) (start_acts (option_and_then (starting k d job) v)) ++ filter_map (notice_to s) (farewells t d)
+    split : filter_map (notice_to s) (session_acts o t k answer d job v) ≡ filter_map (notice_to s) (completions t k d (stays d v) job) ++ filter_map (notice_to s) (drop_acts t (stays d v) d (slot_of v) (pending_in v)) ++ filter_map (notice_to s) (refused_link k d) ++ filter_map (notice_to s) (option_map_or (notice_and_reply o t k answer d job) v []) ++ filter_map (notice_to s) (start_acts (option_and_then (starting k d job) v)) ++ filter_map (notice_to s) (farewells t d)
     split = simp filter_map-append
 
     told :

@@ -16,6 +16,7 @@ use Rattle.ftp_laws.proofs.QuestionLemmas.{counting-refused, counting-counts, se
 use Rattle.ftp_laws.proofs.HoldLemmas.{live-unopened}
 use Rattle.ftp_laws.proofs.LaneLemmas.{named-concern}
 use Rattle.ftp_laws.proofs.BalanceLemmas.{IsEnd, finished-known}
+use Rattle.ftp_laws.proofs.Cases.{job-named}
 
 -- a value that is there in one case
 pub or-some : (b : Bool) (x y : ℕ) → unwrap_or (then_some b x) y ≡ cond b x y
@@ -103,7 +104,7 @@ offset-lasts o log e s v w r known after = by_refusal (is_refusal e.decision) re
         inr (inl (i.1, i.2 ∙ ap (λ q. Rest q i.1) own, i.3))
     by_case c x (inr (inr i)) =
         let end : IsEnd o past e.event.kind = finished-known o past e.event.at e.event.kind e.answer (sym r.1 ∙ i.2) in
-        let named : named_session e.event.kind ≡ Some end.ticket.session = ap named_session end.kind_is in
+        let named : named_session e.event.kind ≡ Some end.ticket.session = job-named e.event.kind end.ticket end.kind_is in
         let own : end.ticket.session ≡ s = named-concern o past e end.ticket.session s r.1 named c in
         inr (inr (i.0, named ∙ ap Some own, i.1, i.2, i.3))
 

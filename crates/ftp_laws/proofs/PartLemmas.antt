@@ -83,7 +83,7 @@ module _ (o : Options) (past : List Entry) (e : Entry) (counts : is_refusal e.de
       omega (
         arith,
         count-session_acts p o q e.event.kind e.answer e.decision (running_job o past q) (session o past q) on,
-        ap (count_by p) (no-completion e.decision e.event.kind (stays e.decision (session o past q)) (rw stopped refl)),
+        ap (count_by p) (no-completion q e.decision e.event.kind (stays e.decision (session o past q)) (running_job o past q) (rw stopped refl)),
         ap (λ j. count_by p (start_acts j)) (unstarted stopped (session o past q)),
       )
     where
@@ -109,7 +109,7 @@ module _ (o : Options) (past : List Entry) (e : Entry) (counts : is_refusal e.de
       (p : Action → Bool) (s : ℕ) → IsOnTransfers s p → concerns o past e s ≡ true →
       IsAscending (live_sessions o past) →
       (subject o past e ≡ All → (q : ℕ) → (q == s) ≡ false → count_by p (acts_for o past e q) ≡ 0) →
-      count_by p e.actions ≡ count_by p (completions e.event.kind e.decision (stays e.decision (session o past s))) + count_by p (drop_acts s (stays e.decision (session o past s)) e.decision (slot_of (session o past s)) (pending_in (session o past s))) + count_by p (start_acts (started_in o past e s))
+      count_by p e.actions ≡ count_by p (completions s e.event.kind e.decision (stays e.decision (session o past s)) (running_job o past s)) + count_by p (drop_acts s (stays e.decision (session o past s)) e.decision (slot_of (session o past s)) (pending_in (session o past s))) + count_by p (start_acts (started_in o past e s))
   count-concern p s on c ascends others =
       by_test (is_stop e.decision) stopped (λ n. count-about p o past e s on counts acted (concerned o past e s n c))
     where
@@ -117,7 +117,7 @@ module _ (o : Options) (past : List Entry) (e : Entry) (counts : is_refusal e.de
       v = session o past s
 
       whole : ℕ
-      whole = count_by p (completions e.event.kind e.decision (stays e.decision v)) + count_by p (drop_acts s (stays e.decision v) e.decision (slot_of v) (pending_in v)) + count_by p (start_acts (started_in o past e s))
+      whole = count_by p (completions s e.event.kind e.decision (stays e.decision v) (running_job o past s)) + count_by p (drop_acts s (stays e.decision v) e.decision (slot_of v) (pending_in v)) + count_by p (start_acts (started_in o past e s))
 
       part : count_by p (acts_for o past e s) ≡ whole
       part = count-session_acts p o s e.event.kind e.answer e.decision (running_job o past s) v on

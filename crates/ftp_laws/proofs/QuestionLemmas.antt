@@ -9,7 +9,7 @@ use Rattle.ftp_events.specs.declared.decision.Decision.TheVariants.{Opened}
 use Rattle.ftp_events.specs.declared.session.Slot.TheVariants.{Empty}
 use Rattle.ftp_events.specs.Notices.{is_notice_to}
 use Rattle.ftp_events.specs.Ages.{is_activity, active_at_by}
-use Rattle.ftp_events.specs.Session.{session_after, is_live, session_by_history, next_lane, new_session}
+use Rattle.ftp_events.specs.Session.{session_after, is_live, session_by_history, next_running, new_session}
 use Rattle.ftp_laws.proofs.Common.{Options, Running, Entry, Session, Opening, is_refusal, past_of, opened_number, opening_by, opener, concerns, opens, history, lane, lives_on, session, running_job, Lane}
 use Rattle.ftp_laws.proofs.ClassLemmas.{opened-is}
 
@@ -120,12 +120,12 @@ module _ (o : Options) (past : List Entry) (e : Entry) where
       (s : ℕ) (v : Session) →
       session o past s ≡ Some v → opens e s ≡ false →
       concerns o past e s ≡ true →
-      running_job o (e ∷ past) s ≡ (next_lane e.event.kind e.decision (running_job o past s) v).running
+      running_job o (e ∷ past) s ≡ next_running e.event.kind e.answer e.decision (running_job o past s) v
   running-own s v known n c =
       let h = history o past s in
       let t : IsTold s h (opener past s) v = session-told o past s v known in
       ap (λ l. (lane l).running) (history-own s n c) ∙
-      subst (λ (w : Session). (lane (e ∷ h)).running ≡ (next_lane e.event.kind e.decision (running_job o past s) w).running) t.told refl
+      subst (λ (w : Session). (lane (e ∷ h)).running ≡ next_running e.event.kind e.answer e.decision (running_job o past s) w) t.told refl
 
   -- the session after it was opened
   pub session-opened :

@@ -15,8 +15,8 @@ use Rattle.ftp_events.specs.ConnectionRows.{arrival_row, header_row, holder_row}
 use Rattle.ftp_events.specs.LoginRows.{auth_row}
 use Rattle.ftp_events.specs.CommandRows.{if_logged_in, address_row, command_row, own_failures}
 use Rattle.ftp_events.specs.Text.{port_target}
-use Rattle.ftp_events.specs.EndRows.{end_row}
-use Rattle.ftp_events.specs.Decide.{if_live, is_at_work, around}
+use Rattle.ftp_events.specs.EndRows.{end_row, piece_row}
+use Rattle.ftp_events.specs.Decide.{if_live, is_at_work, around, can_stop, is_stoppable}
 use Rattle.ftp_events.specs.Log.{is_stopped}
 use Rattle.ftp_events.specs.Lockout.{failures}
 use Rattle.ftp_events.specs.Acts.{session_acts}
@@ -108,6 +108,19 @@ work-same o P K k jobs = go (named_session k) refl
     go None x = refl
     go (Some s) x = ap (λ (j : Option Running). is_some j) (jobs s x)
 
+-- and a job of it can be stopped in both or in neither
+stop-same :
+    (o : Options) (P K : List Entry) (k : EventKind) →
+    ((s : ℕ) → named_session k ≡ Some s → running_job o K s ≡ running_job o P s) →
+    can_stop o K k ≡ can_stop o P k
+stop-same o P K k jobs = go (named_session k) refl
+  where
+    go :
+        (n : Option ℕ) → named_session k ≡ n →
+        option_map_or (λ s. is_stoppable (running_job o K s)) n false ≡ option_map_or (λ s. is_stoppable (running_job o P s)) n false
+    go None x = refl
+    go (Some s) x = ap is_stoppable (jobs s x)
+
 -- the same is decided on the event in both pasts
 pub due-same :
     (o : Options) (P K : List Entry) (at : ℕ) (k : EventKind) (answer : Answer) →
@@ -119,6 +132,7 @@ due-same o P K at (kind.Proxied number raw trace) answer reads =
 due-same o P K at (kind.DataIn number raw port) answer reads =
     rw (reads.numbers number (Contains-push [] number), reads.stopped, arrival-same o P K raw raw.ip port (reads.targets _ refl)) refl
 due-same o P K at (kind.End ticket) answer reads = ap (end_row ticket answer) (reads.jobs ticket.session refl)
+due-same o P K at (kind.Piece ticket) answer reads = ap (piece_row ticket answer) (reads.jobs ticket.session refl)
 due-same o P K at kind.Sweep answer reads = refl
 due-same o P K at kind.Scavenge answer reads = refl
 due-same o P K at kind.Shutdown answer reads = refl
@@ -134,8 +148,14 @@ due-same o P K at (kind.AuthDone s said) answer reads = rows-same o P K (Some s)
 due-same o P K at k answer reads =
     rows-same o P K (named_session k) (λ v. command_row o (around o K at k v) k v) (λ v. command_row o (around o P at k v) k v) reads.sessions
     (λ s v n x.
-    ap₂ (λ (h : ℕ → Option ℕ) (b : Bool). command_row o (record { holders = h; failures = failures o P; used = is_used P; runs = b; at = at }) k v)
-    (λ i p. reads.holders s v n x p i) (work-same o P K k reads.jobs))
+    λ i. command_row o (record {
+      holders = λ p. reads.holders s v n x p i;
+      failures = failures o P;
+      used = is_used P;
+      runs = work-same o P K k reads.jobs i;
+      can_stop = stop-same o P K k reads.jobs i;
+      at = at;
+    }) k v)
 
 -- the same is done because of an entry that is about the same sessions in both pasts, of which both tell the same
 pub acts-same :

@@ -17,7 +17,7 @@ use Rattle.ftp_laws.proofs.CountLemmas.{IsOnTransfers, started_in, count-append,
 use Rattle.ftp_laws.proofs.BalanceLemmas.{one}
 use Rattle.ftp_laws.proofs.PartLemmas.{count-stop-none, count-stop_acts}
 use Rattle.ftp_laws.proofs.EntryLemmas.{Comes, acted-past}
-use Rattle.ftp_laws.proofs.Cases.{by_test, by_option}
+use Rattle.ftp_laws.proofs.Cases.{by_test, by_option, by_completion}
 
 -- the action is a reply to session s
 abbrev is_reply_to : ℕ → Action → Bool
@@ -37,13 +37,22 @@ none-sent s (x ∷ xs) h = by_action x (omega (arith, h, sum_by-cons (λ y. one 
         go false y z = rw y rest
     by_action y zero rest = rest
 
+-- the end of a job of a session that is not live has no reply
+completions-silent :
+    (p : Action → Bool) (s : ℕ) (k : EventKind) (d : Decision) (job : Option Running) →
+    ((n : ℕ) → p (action.Close n) ≡ false) → ((t : Ticket) (b : Bool) → p (action.Completed t b) ≡ false) → ((t : Ticket) → p (action.Cancelled t) ≡ false) →
+    count_by p (completions s k d false job) ≡ 0
+completions-silent p s k d job closes completed cancelled =
+    by_completion (λ xs. count_by p xs ≡ 0) s k d false job refl (λ t x y. rw (completed t false) refl)
+    (λ r x y. rw (cancelled r.job.ticket, closes r.job.number) refl)
+
 -- what is done for a session that is not live has no reply
 unlive-silent :
     (p : Action → Bool) (o : Options) (s : ℕ) (k : EventKind) (answer : Answer) (d : Decision) (job : Option Running) →
-    ((n : ℕ) → p (action.Close n) ≡ false) → ((t : Ticket) (b : Bool) → p (action.Completed t b) ≡ false) →
+    ((n : ℕ) → p (action.Close n) ≡ false) → ((t : Ticket) (b : Bool) → p (action.Completed t b) ≡ false) → ((t : Ticket) → p (action.Cancelled t) ≡ false) →
     count_by p (session_acts o s k answer d job None) ≡ 0
-unlive-silent p o s k answer d job closes completed =
-    let a : List Action = completions k d false in
+unlive-silent p o s k answer d job closes completed cancelled =
+    let a : List Action = completions s k d false job in
     let b : List Action = drop_acts s false d Empty None in
     let c : List Action = refused_link k d in
     omega (
@@ -53,7 +62,7 @@ unlive-silent p o s k answer d job closes completed =
       count-append p (a ++ b ++ c) [],
       count-append p (a ++ b) c,
       count-append p a b,
-      count-completions p k d false (λ t x. completed t false),
+      completions-silent p s k d job closes completed cancelled,
       dropped (drops d Empty),
       count-refused_link p k d closes,
       closed (is_ending d),
@@ -82,7 +91,7 @@ entry-silent o past e s counts acted none =
     part-own q k =
         let gone : session o past q ≡ None = ap (session o past) (eqb-true q s k) ∙ none in
         (ap (λ (v : Option Session). count_by (is_reply_to s) (session_acts o q e.event.kind e.answer e.decision (running_job o past q) v)) gone
-        ∙ unlive-silent (is_reply_to s) o q e.event.kind e.answer e.decision (running_job o past q) (λ m. refl) (λ t b. refl))
+        ∙ unlive-silent (is_reply_to s) o q e.event.kind e.answer e.decision (running_job o past q) (λ m. refl) (λ t b. refl) (λ t. refl))
 
     own : (q : ℕ) → subject o past e ≡ One q → (q == s) ≡ true → count_by (is_reply_to s) e.actions ≡ 0
     own q about k =
@@ -109,7 +118,7 @@ entry-silent o past e s counts acted none =
         omega (
           arith,
           count-about (is_reply_to s) o past e q test counts acted about,
-          count-completions (is_reply_to s) e.event.kind e.decision (stays e.decision v) (λ t x. refl),
+          count-completions (is_reply_to s) q e.event.kind e.decision (stays e.decision v) (running_job o past q) test (λ t x. refl) (λ r x y. refl),
           count-drop_acts (is_reply_to s) q (stays e.decision v) e.decision (slot_of v) (pending_in v) test (λ t. refl),
           started (started_in o past e q),
         )

@@ -5,7 +5,8 @@ use Rattle.std.proofs.lemmas.Bool.{or_right}
 use Rattle.ftp_events.specs.declared.decision.SlotMove.TheVariants.{Links, Queues, Finishes}
 use Rattle.ftp_events.specs.declared.session.Slot.TheVariants.{Empty, Waits, Linked}
 use Rattle.ftp_events.specs.Slot.{startable}
-use Rattle.ftp_laws.proofs.Common.{SlotMove, slot_move, moved, starts_by, Options, Running, Entry, Pending, Session, Slot, is_number, is_used, new_number, past_of, history, Lane, with_link, lane_of, queued_in, lane, session, running_job, IsRight}
+use Rattle.ftp_laws.proofs.Common.{SlotMove, slot_move, moved, starts_by, Options, Running, Entry, Pending, Session, Slot, is_number, is_used, new_number, past_of, history, Lane, with_link, lane_of, lane_after, queued_in, lane, session, running_job, IsRight}
+use Rattle.ftp_laws.proofs.KeptLemmas.{kept-same}
 use Rattle.ftp_laws.proofs.EntryLemmas.{past-more, history-more}
 use Rattle.ftp_laws.proofs.HoldLemmas.{live-used, opened-new}
 use Rattle.ftp_laws.proofs.LaneLemmas.{ended-empty}
@@ -54,7 +55,7 @@ job-used o (e ∷ log) s job r h =
     past-more (λ p. running_job o p s ≡ Some job → is_used p s ≡ true) e log (λ x. job-used o log s job r.0 x)
     (λ counts.
     history-more (λ l. (lane l).running ≡ Some job → is_used (e ∷ past) s ≡ true) o past e s (λ n x. rw (opened-new e.event.kind e.decision s n) refl)
-    (λ about. own (session o past s) refl (λ x. job-used o log s job r.0 x))
+    (λ about. own (session o past s) refl (λ j x. job-used o log s j r.0 x))
     (λ x. stays_used (job-used o log s job r.0 x)))
     h
   where
@@ -66,12 +67,13 @@ job-used o (e ∷ log) s job r h =
 
     own :
         (v : Option Session) → session o past s ≡ v →
-        (running_job o past s ≡ Some job → is_used past s ≡ true) →
+        ((j : Running) → running_job o past s ≡ Some j → is_used past s ≡ true) →
         (lane (e ∷ history o past s)).running ≡ Some job →
         is_used (e ∷ past) s ≡ true
     own (Some v) known ih x = stays_used (live-used o past s v known)
     own None known ih x =
-        stays_used (ih (runs-before (slot_move e.decision) (new_number e.event.kind e.decision) (queued_in (history o past s) e) (lane (history o past s)) job (ended-empty o log s r.0 known).0 x))
+        let was = kept-same e.decision e.answer (lane_after e.event.kind e.decision (queued_in (history o past s) e) (lane (history o past s))).running job x in
+        stays_used (ih was.0 (runs-before (slot_move e.decision) (new_number e.event.kind e.decision) (queued_in (history o past s) e) (lane (history o past s)) was.0 (ended-empty o log s r.0 known).0 was.1))
 
 -- so no job runs for a number that was not used
 pub unused-idle :

@@ -56,7 +56,7 @@ acts-close o past e s n h =
     let d = e.decision in
     let v : Option Session = session o past s in
     let job : Option Running = running_job o past s in
-    in-third (completions k d (stays d v)) (drop_acts s (stays d v) d (slot_of v) (pending_in v)) (refused_link k d) (option_map_or (notice_and_reply o s k e.answer d job) v []) (start_acts (option_and_then (starting k d job) v)) (farewells s d) (Close n) h
+    in-third (completions s k d (stays d v) job) (drop_acts s (stays d v) d (slot_of v) (pending_in v)) (refused_link k d) (option_map_or (notice_and_reply o s k e.answer d job) v []) (start_acts (option_and_then (starting k d job) v)) (farewells s d) (Close n) h
 
 -- and where it is not
 pub turned-closes :

@@ -11,9 +11,11 @@ use Rattle.ftp_events.specs.Words.{total}
 use Rattle.ftp_events.specs.Place.{cwd, offset, is_queued, ticket_count}
 use Rattle.ftp_events.specs.Slot.{asked_command}
 use Rattle.ftp_events.specs.Transfer.{pending_of}
-use Rattle.ftp_laws.proofs.Common.{SlotMove, slot_move, empties, moved, Options, Running, Ticket, Decision, Entry, Pending, Session, Slot, new_number, past_of, concerns, history, Lane, with_link, lane_of, lane_after, queued_in, lane, session, due, IsRight}
+use Rattle.ftp_laws.proofs.Common.{SlotMove, slot_move, empties, moved, Options, Running, Ticket, Decision, Entry, Pending, Session, Slot, new_number, past_of, concerns, history, Lane, with_link, lane_of, lane_after, queued_in, lane, session, due, IsRight, Answer, kept_running}
+use Rattle.ftp_transfer.specs.declared.job.Job.{Job}
 use Rattle.ftp_laws.specs.Transfers.{transfer_of}
 use Rattle.ftp_laws.proofs.ClassLemmas.{queues-is, opened-is}
+use Rattle.ftp_laws.proofs.KeptLemmas.{kept-same, kept-none}
 use Rattle.ftp_laws.proofs.QuestionLemmas.{session-told}
 use Rattle.ftp_laws.proofs.LaneLemmas.{IsQueue, queued-live, named-concern, queue-placed}
 use Rattle.ftp_laws.proofs.EntryLemmas.{right-history}
@@ -60,6 +62,18 @@ all-moved Q (Queues t) number queued l fit h = all-lane_of Q l.slot queued l.run
 all-moved Q Finishes number queued l fit h =
     all-lane_of Q l.slot l.pending None (record { waits = h.waits; runs = λ j x. let z : None ≡ Some j = x in cc })
 all-moved Q m number queued l fit h = all-dropped Q (empties m l.slot) l h
+
+-- and where the job that runs is marked, or a piece of it is counted
+pub all-kept :
+    (Q : Pending → Type 0) (d : Decision) (given : Answer) (l : Lane) → AllOf Q l →
+    AllOf Q (record { slot = l.slot; pending = l.pending; running = kept_running d given l.running })
+all-kept Q d given l h =
+    record {
+      waits = h.waits;
+      runs = λ j y.
+          let was = kept-same d given l.running j y in
+          subst (λ (job : Job). Q (transfer_of job)) was.2 (h.runs was.0 was.1);
+    }
 
 -- a transfer of session s, one of its first n
 abbrev pub IsCounted : ℕ → ℕ → Pending → Type 0
@@ -164,6 +178,19 @@ after-sound s n k m number queued l fit le h = go m fit
         (record { waits = more.counted.waits; runs = λ j x. let z : None ≡ Some j = x in cc })
     go m f = dropped-sound s k (empties m l.slot) l more
 
+-- also where the job that runs is marked, or a piece of it is counted
+kept-sound : (s n : ℕ) (d : Decision) (given : Answer) (l : Lane) → Sound s n l →
+    Sound s n (record { slot = l.slot; pending = l.pending; running = kept_running d given l.running })
+kept-sound s n d given l h =
+    record {
+      placed = h.placed;
+      behind = λ m p x y z. h.behind m p x y (kept-none d given l.running z);
+      earlier = λ p j x y.
+          let was = kept-same d given l.running j y in
+          omega (arith, h.earlier p was.0 x was.1, ap (λ (job : Job). job.ticket.nr) was.2);
+      counted = all-kept (IsCounted s n) d given l h.counted;
+    }
+
 -- what is queued is the transfer that the command asks for, as the history has it
 pub queue-as :
     (h : List Entry) (e : Entry) (t : Ticket) (c : DataChanCmd) →
@@ -189,8 +216,9 @@ pub entry-sound :
     (o : Options) (past : List Entry) (e : Entry) (s : ℕ) →
     e.decision ≡ due o past e.event.at e.event.kind e.answer → concerns o past e s ≡ true →
     IsSound s (history o past s) → IsSound s (e ∷ history o past s)
-entry-sound o past e s fit c =
-    after-sound s (ticket_count h) (ticket_count (e ∷ h)) (slot_move e.decision) (new_number e.event.kind e.decision) (queued_in h e) (lane h) queues (omega arith)
+entry-sound o past e s fit c sound =
+    kept-sound s (ticket_count (e ∷ h)) e.decision e.answer (lane_after e.event.kind e.decision (queued_in h e) (lane h))
+    (after-sound s (ticket_count h) (ticket_count (e ∷ h)) (slot_move e.decision) (new_number e.event.kind e.decision) (queued_in h e) (lane h) queues (omega arith) sound)
   where
     h : List Entry
     h = history o past s
@@ -221,7 +249,7 @@ entry-sound o past e s fit c =
 pub sound : (o : Options) (log : List Entry) (s : ℕ) → IsRight o log → IsSound s (history o (past_of log) s)
 sound o log s r =
     right-history o s (IsSound s) empty
-    (λ e n. subst (λ (d : Decision). Sound s (total (λ (x : Entry). if is_queued x.decision then 1 else 0) [] + (if is_queued d then 1 else 0)) (lane_after e.event.kind d (queued_in [] e) (lane []))) (sym (opened-is e.event.kind e.decision s n)) empty)
+    (λ e n. subst (λ (d : Decision). Sound s (total (λ (x : Entry). if is_queued x.decision then 1 else 0) [] + (if is_queued d then 1 else 0)) (record { slot = (lane_after e.event.kind d (queued_in [] e) (lane [])).slot; pending = (lane_after e.event.kind d (queued_in [] e) (lane [])).pending; running = kept_running d e.answer (lane_after e.event.kind d (queued_in [] e) (lane [])).running })) (sym (opened-is e.event.kind e.decision s n)) empty)
     (λ log e comes c. entry-sound o (past_of log) e s comes.fit c)
     log r
   where

@@ -5,7 +5,7 @@ use Rattle.std.specs.Option.{option_map_or}
 use Rattle.std.proofs.Math.Bool.{and_comm}
 use Rattle.ftp_events.specs.declared.decision.Decision.TheVariants.{Granted}
 use Rattle.ftp_events.specs.Classes.{is_stop}
-use Rattle.ftp_events.specs.Session.{next_lane}
+use Rattle.ftp_events.specs.Session.{next_running}
 use Rattle.ftp_events.specs.History.{One, one_or_nobody}
 use Rattle.ftp_laws.proofs.Common.{IpAddr, same_ip, Options, is_legacy, Entry, Session, is_number, named_session, opened_number, Target, target, granted_port, gives_hold, ends_hold, gives_up_hold, holder, subject, concerns, opens, lives_on, session, running_job}
 use Rattle.ftp_laws.proofs.SubjectLemmas.{one-concerns, ends-plain, subject-plain}
@@ -99,15 +99,15 @@ module _ (o : Options) (past : List Entry) (e : Entry) where
   pub running-about :
       (s : ℕ) (v : Session) (q : ℕ) →
       IsAbout o past e s → session o past s ≡ Some v →
-      running_job o (e ∷ past) q ≡ cond (s == q) (next_lane e.event.kind e.decision (running_job o past s) v).running (running_job o past q)
+      running_job o (e ∷ past) q ≡ cond (s == q) (next_running e.event.kind e.answer e.decision (running_job o past s) v) (running_job o past q)
   running-about s v q n known = go (s == q) refl
     where
       go :
           (b : Bool) → (s == q) ≡ b →
-          running_job o (e ∷ past) q ≡ cond b (next_lane e.event.kind e.decision (running_job o past s) v).running (running_job o past q)
+          running_job o (e ∷ past) q ≡ cond b (next_running e.event.kind e.answer e.decision (running_job o past s) v) (running_job o past q)
       go true x =
           let same : s ≡ q = eqb-true s q x in
-          subst (λ (r : ℕ). running_job o (e ∷ past) r ≡ (next_lane e.event.kind e.decision (running_job o past s) v).running) same
+          subst (λ (r : ℕ). running_job o (e ∷ past) r ≡ next_running e.event.kind e.answer e.decision (running_job o past s) v) same
           (running-own o past e s v known (about-opens s s n) (about-concerns s s n ∙ eq-eqb s s refl))
       go false x = running-other o past e q (about-opens s q n) (about-concerns s q n ∙ x)
 

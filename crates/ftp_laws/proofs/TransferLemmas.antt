@@ -15,7 +15,7 @@ use Rattle.ftp_events.specs.History.{Nobody, One}
 use Rattle.ftp_events.specs.Login.{logged_user}
 use Rattle.ftp_events.specs.Slot.{startable}
 use Rattle.ftp_events.specs.Transfer.{command_path, command_offset}
-use Rattle.ftp_laws.proofs.Common.{SlotMove, slot_move, moved, starts_by, Options, Ticket, Running, Action, Entry, Pending, Session, past_of, is_refusal, new_number, subject, concerns, opens, history, Lane, with_link, queued_in, lane, session, running_job, due, acts_of, pending_in, start_acts, stays, IsRight, IsActed}
+use Rattle.ftp_laws.proofs.Common.{SlotMove, slot_move, moved, starts_by, Options, Ticket, Running, Action, Entry, Pending, Session, past_of, is_refusal, new_number, subject, concerns, opens, history, Lane, with_link, queued_in, lane, session, running_job, due, acts_of, pending_in, start_acts, stays, IsRight, IsActed, lane_after, kept_running}
 use Rattle.ftp_laws.specs.Fates.{settles, settle_count, queue_count}
 use Rattle.ftp_laws.specs.Transfers.{transfer_of, WasQueuedSo, starts_it, was_started}
 use Rattle.ftp_laws.proofs.TicketLemmas.{same_ticket-equal, same_ticket-refl}
@@ -31,7 +31,9 @@ use Rattle.ftp_laws.proofs.RunningLemmas.{runs-started, running-after, unused-id
 use Rattle.ftp_laws.proofs.CountLemmas.{IsOnStarts, started_in, count-starts, count-nobody}
 use Rattle.ftp_laws.proofs.BalanceLemmas.{one, finishes, settles-completions}
 use Rattle.ftp_laws.proofs.PartLemmas.{count-stop-idle}
-use Rattle.ftp_laws.proofs.SoundLemmas.{AllOf, all-wider, all-moved, queue-as, sound}
+use Rattle.ftp_laws.proofs.SoundLemmas.{AllOf, all-wider, all-moved, queue-as, sound, all-kept}
+use Rattle.ftp_transfer.specs.declared.job.Job.{Job}
+use Rattle.ftp_laws.proofs.KeptLemmas.{IsSame, kept-same, kept-some, kept-started}
 use Rattle.ftp_laws.proofs.AccountLemmas.{slot-told, entry-fit, settles-here}
 use Rattle.ftp_laws.proofs.FateLemmas.{IsAccounted, accounted, running-carried}
 use Rattle.ftp_laws.proofs.CancellationLemmas.{any-counted, counted-any}
@@ -96,8 +98,9 @@ lane-queued o log s r = right-past o (λ past. AllOf (IsQueuedFor o past s) (lan
         (λ n. subst (AllOf (IsQueuedFor o (e ∷ past) s)) (sym (lane-opened o past e s n)) (all-empty (IsQueuedFor o (e ∷ past) s)))
         (λ n c.
         subst (λ (h : List Entry). AllOf (IsQueuedFor o (e ∷ past) s) (lane h)) (sym (history-own o past e s n c))
+        (all-kept (IsQueuedFor o (e ∷ past) s) e.decision e.answer (lane_after e.event.kind e.decision (queued_in (history o past s) e) (lane (history o past s)))
         (all-moved (IsQueuedFor o (e ∷ past) s) (slot_move e.decision) (new_number e.event.kind e.decision) (queued_in (history o past s) e) (lane (history o past s))
-        (λ t m p x. queued-here o past e s t p comes.fit c m x) more))
+        (λ t m p x. queued-here o past e s t p comes.fit c m x) more)))
         (λ n c. subst (λ (h : List Entry). AllOf (IsQueuedFor o (e ∷ past) s) (lane h)) (sym (history-other o past e s n c)) more)
 
 -- so what waits in a session was queued for it
@@ -172,9 +175,10 @@ started_in-runs :
 started_in-runs o log e q j a about h =
     let past : List Entry = past_of log in
     let longer : history o (e ∷ past) q ≡ e ∷ history o past q = history-own o past e q (about-unopened o log e q a about) (one-own o past e q about) in
+    let starts = sym (starting-history o past e q (ended-empty o log q a.comes.right)) ∙ h in
     ap (λ (x : List Entry). (lane x).running) longer
-    ∙ started-runs (slot_move e.decision) (new_number e.event.kind e.decision) (queued_in (history o past q) e) (lane (history o past q)) j
-    (sym (starting-history o past e q (ended-empty o log q a.comes.right)) ∙ h)
+    ∙ (kept-started e.decision e.answer (new_number e.event.kind e.decision) (queued_in (history o past q) e) (lane (history o past q)) j (lane_after e.event.kind e.decision (queued_in (history o past q) e) (lane (history o past q))).running starts
+    ∙ started-runs (slot_move e.decision) (new_number e.event.kind e.decision) (queued_in (history o past q) e) (lane (history o past q)) j starts)
 
 -- a transfer that an entry starts on link n runs there
 starts-run :
@@ -250,7 +254,7 @@ runs-on o log e t n a x = by_part o past e s opened own (λ m c. inl (x.0, runni
         inr (omega (
           arith,
           settles-here o past e t a.comes.counts a.acted c (ended-empty o log s a.comes.right) (λ q. sound o log q a.comes.right) (live_sessions-ascending o log a.comes.right),
-          settles-completions t e.event.kind e.decision (stays e.decision (session o past s)) queued l (entry-fit o past e s a.comes.fit c),
+          settles-completions t s e.event.kind e.decision (stays e.decision (session o past s)) queued l (entry-fit o past e s a.comes.fit c),
           ap (λ b. cond b (one (is_running t l.running)) 0) f,
           ap one ran,
         )))
@@ -258,22 +262,28 @@ runs-on o log e t n a x = by_part o past e s opened own (λ m c. inl (x.0, runni
         let none : starts_by (slot_move e.decision) number queued l ≡ None =
         by_option (starts_by (slot_move e.decision) number queued l) (λ y. y)
         (λ j y. let z : None ≡ Some x.0 = sym (started-idle (slot_move e.decision) number queued l j f y) ∙ x.1 in cc) in
+        let kept = kept-some e.decision e.answer x.0 in
         inl (
-          x.0,
+          kept.0,
           ap (λ (h : List Entry). (lane h).running) (history-own o past e s m c)
-              ∙ (running-after (slot_move e.decision) number queued l f ∙ (ap (λ (j : Option Running). option_or j l.running) none ∙ x.1)),
-          x.2,
-          x.3,
+              ∙ (ap (kept_running e.decision e.answer) (running-after (slot_move e.decision) number queued l f ∙ (ap (λ (j : Option Running). option_or j l.running) none ∙ x.1))
+              ∙ kept.1),
+          sym (ap (λ (job : Job). job.ticket) kept.2) ∙ x.2,
+          sym (ap (λ (job : Job). job.number) kept.2) ∙ x.3,
         ))
 
--- a job that runs after an entry ran before, or is started by it on its link
+-- the job ran, but for its mark and its count
+abbrev RanBefore : Options → List Entry → ℕ → Running → Type 0
+RanBefore o past s r = (i : Running) × (running_job o past s ≡ Some i) × IsSame i r
+
+-- a job that runs after an entry ran before, but for its mark and its count, or is started by it on its link
 run-started :
     (o : Options) (log : List Entry) (e : Entry) (s : ℕ) (r : Running) → Acts o log e →
     running_job o (e ∷ past_of log) s ≡ Some r →
-    (list_any (starts_it r.job.ticket r.job.number) e.actions ≡ true) ⊎ (running_job o (past_of log) s ≡ Some r)
+    (list_any (starts_it r.job.ticket r.job.number) e.actions ≡ true) ⊎ RanBefore o (past_of log) s r
 run-started o log e s r a h =
-    by_test (is_stop e.decision) (λ n. inr (sym (running-stopped o past e s n) ∙ h))
-    (λ n. by_part o past e s opened (own n) (λ m c. inr (sym (running-other o past e s m c) ∙ h)))
+    by_test (is_stop e.decision) (λ n. inr (r, sym (running-stopped o past e s n) ∙ h, refl))
+    (λ n. by_part o past e s opened (own n) (λ m c. inr (r, sym (running-other o past e s m c) ∙ h, refl)))
   where
     past : List Entry
     past = past_of log
@@ -281,7 +291,7 @@ run-started o log e s r a h =
     test : Action → Bool
     test = starts_it r.job.ticket r.job.number
 
-    opened : opens e s ≡ true → (list_any test e.actions ≡ true) ⊎ (running_job o past s ≡ Some r)
+    opened : opens e s ≡ true → (list_any test e.actions ≡ true) ⊎ RanBefore o past s r
     opened m =
         let idle : running_job o (e ∷ past) s ≡ None = ap (λ (l : Lane). l.running) (lane-opened o past e s m) in
         let z : None ≡ Some r = sym idle ∙ h in
@@ -293,21 +303,33 @@ run-started o log e s r a h =
         counted-any test e.actions
         (omega (arith, count-starts test o past e s (starts_it-on-starts r.job.ticket r.job.number) a.comes.counts a.acted about, ap (λ (j : Option Running). count_by test (start_acts j)) x, one_start))
 
+    -- a job that starts here
+    start :
+        (j : Running) → is_stop e.decision ≡ false → concerns o past e s ≡ true →
+        starts_by (slot_move e.decision) (new_number e.event.kind e.decision) (queued_in (history o past s) e) (lane (history o past s)) ≡ Some j →
+        kept_running e.decision e.answer (Some j) ≡ Some r →
+        (list_any test e.actions ≡ true) ⊎ RanBefore o past s r
+    start j plain c x y =
+        let plainly = kept-started e.decision e.answer (new_number e.event.kind e.decision) (queued_in (history o past s) e) (lane (history o past s)) j (Some j) x in
+        inl (starts (concerned o past e s plain c) (starting-history o past e s (ended-empty o log s a.comes.right) ∙ (x ∙ (sym plainly ∙ y))))
+
     own :
         is_stop e.decision ≡ false → opens e s ≡ false → concerns o past e s ≡ true →
-        (list_any test e.actions ≡ true) ⊎ (running_job o past s ≡ Some r)
+        (list_any test e.actions ≡ true) ⊎ RanBefore o past s r
     own plain m c =
-        go
-        (runs-after (slot_move e.decision) (new_number e.event.kind e.decision) (queued_in (history o past s) e) (lane (history o past s)) r
-        (sym (ap (λ (x : List Entry). (lane x).running) (history-own o past e s m c)) ∙ h))
+        let after : Option Running = (lane_after e.event.kind e.decision (queued_in (history o past s) e) (lane (history o past s))).running in
+        let here : kept_running e.decision e.answer after ≡ Some r = sym (ap (λ (x : List Entry). (lane x).running) (history-own o past e s m c)) ∙ h in
+        let was = kept-same e.decision e.answer after r here in
+        go was.0 was.2 (sym (ap (kept_running e.decision e.answer) was.1) ∙ here)
+        (runs-after (slot_move e.decision) (new_number e.event.kind e.decision) (queued_in (history o past s) e) (lane (history o past s)) was.0 was.1)
       where
         go :
-            (starts_by (slot_move e.decision) (new_number e.event.kind e.decision) (queued_in (history o past s) e) (lane (history o past s)) ≡ Some r)
-            ⊎ ((lane (history o past s)).running ≡ Some r) →
-            (list_any test e.actions ≡ true) ⊎ (running_job o past s ≡ Some r)
-        go (inl x) =
-            inl (starts (concerned o past e s plain c) (starting-history o past e s (ended-empty o log s a.comes.right) ∙ x))
-        go (inr x) = inr x
+            (i : Running) → IsSame i r → kept_running e.decision e.answer (Some i) ≡ Some r →
+            (starts_by (slot_move e.decision) (new_number e.event.kind e.decision) (queued_in (history o past s) e) (lane (history o past s)) ≡ Some i)
+            ⊎ ((lane (history o past s)).running ≡ Some i) →
+            (list_any test e.actions ≡ true) ⊎ RanBefore o past s r
+        go i same y (inl x) = start i plain c x y
+        go i same y (inr x) = inr (i, x, same)
 
 -- in every right and acted log
 are-started : (o : Options) (log : List Entry) → IsRight o log → IsActed o log → AreStarted o log (past_of log)
@@ -354,10 +376,12 @@ are-started o log r a = acted-past o (λ log past. AreStarted o log past) first 
         started s r x = go (run-started o log e s r at x)
           where
             go :
-                (list_any (starts_it r.job.ticket r.job.number) e.actions ≡ true) ⊎ (running_job o (past_of log) s ≡ Some r) →
+                (list_any (starts_it r.job.ticket r.job.number) e.actions ≡ true) ⊎ RanBefore o (past_of log) s r →
                 was_started r.job.ticket r.job.number (e ∷ log) ≡ true
             go (inl y) = or_left (list_any (starts_it r.job.ticket r.job.number) e.actions) (was_started r.job.ticket r.job.number log) y
-            go (inr y) = or_right (list_any (starts_it r.job.ticket r.job.number) e.actions) (was_started r.job.ticket r.job.number log) (h.started s r y)
+            go (inr y) =
+                or_right (list_any (starts_it r.job.ticket r.job.number) e.actions) (was_started r.job.ticket r.job.number log)
+                (subst (λ (job : Job). was_started job.ticket job.number log ≡ true) y.2 (h.started s y.0 y.1))
 
 -- a transfer that runs was started on the link of its job, and on no other
 pub running-started :

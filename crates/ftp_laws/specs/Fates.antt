@@ -5,6 +5,7 @@ use Rattle.ftp_options.specs.declared.options.Options.{Options}
 use Rattle.ftp_transfer.specs.declared.job.Ticket.{Ticket}
 use Rattle.ftp_events.specs.declared.action.Action.{Action}
 use Rattle.ftp_events.specs.declared.decision.Decision.{Decision}
+use Rattle.ftp_events.specs.declared.decision.Decision.TheVariants.{Cut}
 use Rattle.ftp_events.specs.declared.decision.SlotMove.{SlotMove}
 use Rattle.ftp_events.specs.declared.decision.SlotMove.TheVariants.{Empties, EmptiesWaiting, Awaits, Connects, Expires, Queues}
 use Rattle.ftp_events.specs.declared.entry.Entry.{Entry}
@@ -12,9 +13,10 @@ use Rattle.ftp_events.specs.Words.{total}
 use Rattle.ftp_events.specs.Classes.{slot_move}
 use Rattle.ftp_events.specs.History.{concerns}
 use Rattle.ftp_events.specs.Slot.{drops}
-use Rattle.ftp_events.specs.Session.{session}
+use Rattle.ftp_events.specs.Session.{session, running_job}
 use Rattle.ftp_events.specs.Transfer.{same_ticket}
-use Rattle.ftp_events.specs.Fate.{completes, cancels, is_pending}
+use Rattle.ftp_events.specs.Fate.{completes, cancels, is_pending, is_running}
+use Rattle.ftp_laws.specs.Jobs.{is_cut}
 
 -- a move queues the transfer
 abbrev pub queues_it : Ticket → SlotMove → Bool
@@ -50,12 +52,19 @@ may_cancel EmptiesWaiting = true
 may_cancel Empties = true
 may_cancel _ = false
 
--- the decisions that can
+-- the decisions that can, and the one that cuts a transfer that runs
 abbrev pub can_cancel : Decision → Bool
-can_cancel d = may_cancel (slot_move d)
+can_cancel d = may_cancel (slot_move d) || is_cut d
 
 -- the entry takes from the transfer's live session the slot in which it waits
 abbrev pub LosesSlot : Options → List Entry → Entry → Ticket → Type 0
 LosesSlot o past e t =
     (concerns o past e t.session ≡ true)
     × IsSomeAnd (session o past t.session) (λ v. (drops e.decision v.slot ≡ true) × (is_pending t v.pending ≡ true))
+
+-- the entry cuts the transfer, which runs
+abbrev pub CutsIt : Options → List Entry → Entry → Ticket → Type 0
+CutsIt o past e t =
+    (e.decision ≡ Cut)
+    × (concerns o past e t.session ≡ true)
+    × (is_running t (running_job o past t.session) ≡ true)

@@ -2,7 +2,7 @@
 use Rattle.std.specs.Prelude.{ℕ, ◌≡◌, ◌≢◌, ◌⊎◌, true, List, Some}
 use Rattle.ftp_base.specs.declared.net.IpAddr.{IpAddr}
 use Rattle.ftp_options.specs.declared.options.Options.{Options}
-use Rattle.ftp_events.specs.declared.decision.Decision.TheVariants.{Granted, PortOk, Aborted, Stopped}
+use Rattle.ftp_events.specs.declared.decision.Decision.TheVariants.{Granted, PortOk, Aborted, Aborting, Stopped}
 use Rattle.ftp_events.specs.declared.entry.Entry.{Entry}
 use Rattle.ftp_events.specs.declared.session.Session.{Session}
 use Rattle.ftp_events.specs.declared.session.Slot.TheVariants.{Waits}
@@ -30,7 +30,7 @@ TakesConnection e s = (named_session e.event.kind ≡ Some s) × (e.decision ≡
 
 -- an ABOR of session s drops its slot
 abbrev pub DropsSlot : Entry → ℕ → Type 0
-DropsSlot e s = (named_session e.event.kind ≡ Some s) × (e.decision ≡ Aborted)
+DropsSlot e s = (named_session e.event.kind ≡ Some s) × ((e.decision ≡ Aborted) ⊎ (e.decision ≡ Aborting))
 
 -- session s ends by its own event, or by a look at its idle time
 abbrev pub EndsSession : Entry → ℕ → Type 0

@@ -1,10 +1,10 @@
 -- Which transfers of a session were started and completed, and on which links.
-use Rattle.std.specs.Prelude.{ℕ, ◌&&◌, Bool, false, ◌==◌, List, count_by}
+use Rattle.std.specs.Prelude.{ℕ, ◌&&◌, Bool, true, false, ◌==◌, List, count_by, if◌then◌else◌}
 use Rattle.std.specs.List.{list_any}
 use Rattle.ftp_events.specs.declared.action.Action.{Action}
 use Rattle.ftp_events.specs.declared.action.Action.TheVariants.{Start, Completed}
 use Rattle.ftp_events.specs.declared.decision.Decision.{Decision}
-use Rattle.ftp_events.specs.declared.decision.Decision.TheVariants.{Attached, PortOk}
+use Rattle.ftp_events.specs.declared.decision.Decision.TheVariants.{Attached, PortOk, Cut}
 use Rattle.ftp_events.specs.declared.entry.Entry.{Entry}
 use Rattle.ftp_events.specs.declared.event.EventKind.{EventKind}
 use Rattle.ftp_events.specs.Words.{is_number, total}
@@ -27,6 +27,19 @@ started_count s log = total (λ e. count_by (starts_for s) e.actions) log
 -- how many were completed
 abbrev pub completed_count : ℕ → List Entry → ℕ
 completed_count s log = total (λ e. count_by (completes_for s) e.actions) log
+
+-- a transfer is cut
+abbrev pub is_cut : Decision → Bool
+is_cut Cut = true
+is_cut _ = false
+
+-- the entry cuts one of session s
+abbrev pub cuts_for : ℕ → Entry → Bool
+cuts_for s e = is_cut e.decision && is_number (named_session e.event.kind) s
+
+-- how many were cut
+abbrev pub cut_count : ℕ → List Entry → ℕ
+cut_count s log = total (λ e. if cuts_for s e then 1 else 0) log
 
 -- the action starts a transfer of session s on link n
 abbrev pub starts_there : ℕ → ℕ → Action → Bool

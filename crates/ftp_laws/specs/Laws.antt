@@ -6,7 +6,7 @@ use Rattle.ftp_options.specs.declared.options.Options.{Options}
 use Rattle.ftp_options.specs.Modes.{is_legacy}
 use Rattle.ftp_transfer.specs.declared.job.Outcome.{Outcome}
 use Rattle.ftp_transfer.specs.declared.job.Ticket.{Ticket}
-use Rattle.ftp_events.specs.declared.decision.Decision.TheVariants.{Finished, Stopped}
+use Rattle.ftp_events.specs.declared.decision.Decision.TheVariants.{Finished, Moved, Cut, Stopped}
 use Rattle.ftp_events.specs.declared.entry.Entry.{Entry}
 use Rattle.ftp_events.specs.declared.event.Answer.{Answer}
 use Rattle.ftp_events.specs.declared.event.Answer.TheVariants.{Done}
@@ -31,8 +31,8 @@ use Rattle.ftp_events.specs.Transfer.{moves_file}
 use Rattle.ftp_laws.specs.Alone.{IsActedButStops, SameServed}
 use Rattle.ftp_laws.specs.Census.{IsCensus, IsAscending, has}
 use Rattle.ftp_laws.specs.Holds.{WaitsOn, EndsHold}
-use Rattle.ftp_laws.specs.Fates.{was_queued, queue_count, settle_count, can_cancel, LosesSlot}
-use Rattle.ftp_laws.specs.Jobs.{started_count, completed_count, starts_there, has_brought}
+use Rattle.ftp_laws.specs.Fates.{was_queued, queue_count, settle_count, can_cancel, LosesSlot, CutsIt}
+use Rattle.ftp_laws.specs.Jobs.{started_count, completed_count, cut_count, starts_there, has_brought}
 use Rattle.ftp_laws.specs.Links.{start_count}
 use Rattle.ftp_laws.specs.Moments.{IsLatest, NeverFalls}
 use Rattle.ftp_laws.specs.Notices.{notices, NoneLoggedOut, LastLoggedOut, HasEnded}
@@ -146,7 +146,7 @@ LinksTakeOneJob =
 abbrev pub SessionsRunOneJob : Type 0
 SessionsRunOneJob =
     (o : Options) (log : List Entry) (s : ℕ) → IsRight o log → IsActed o log →
-    started_count s log ≡ completed_count s log + (if is_some (running_job o (past_of log) s) then 1 else 0)
+    started_count s log ≡ completed_count s log + cut_count s log + (if is_some (running_job o (past_of log) s) then 1 else 0)
 
 -- a transfer starts on a link that its entry, or an earlier one, attached to its session
 abbrev pub StartsOnOwnLink : Type 0
@@ -189,7 +189,7 @@ SettledOnce =
     (o : Options) (log : List Entry) (t : Ticket) → IsRight o log → IsActed o log →
     settle_count t log ≤ 1
 
--- it is cancelled by another grant, the connection of a PORT, one that is turned away, a slot that stood too long, an ABOR, or the end of a session alone,
+-- it is cancelled by another grant, the connection of a PORT, one that is turned away, a slot that stood too long, an ABOR, the end of a session, or its cut alone,
 -- where that concerns its session, as a stop concerns every session
 abbrev pub CancelledOnlySo : Type 0
 CancelledOnlySo =
@@ -197,11 +197,11 @@ CancelledOnlySo =
     list_any (cancels t) e.actions ≡ true →
     (can_cancel e.decision ≡ true) × (concerns o (past_of log) e t.session ≡ true)
 
--- it is cancelled exactly where its session loses the slot in which it waits
+-- it is cancelled exactly where its session loses the slot in which it waits, or it runs and is cut
 abbrev pub CancelledWithSlot : Type 0
 CancelledWithSlot =
     (o : Options) (log : List Entry) (e : Entry) (t : Ticket) → IsRight o (e ∷ log) → IsActed o (e ∷ log) →
-    (list_any (cancels t) e.actions ≡ true) ↔ LosesSlot o (past_of log) e t
+    (list_any (cancels t) e.actions ≡ true) ↔ (LosesSlot o (past_of log) e t ⊎ CutsIt o (past_of log) e t)
 
 -- a transfer that runs is in no slot
 abbrev pub RunningAreInNoSlot : Type 0
@@ -290,12 +290,12 @@ NewcomersAreClosed =
     is_some (new_number e.event.kind e.decision) ≡ true → is_refusal e.decision ≡ false →
     IsClosed e
 
--- nothing is decided for a session then but the end of a job that ran
+-- nothing is decided for a session then but the pieces and the end of a job that ran
 abbrev pub OnlyEndsAreServed : Type 0
 OnlyEndsAreServed =
     (o : Options) (log : List Entry) (e : Entry) (s : ℕ) → IsRight o (e ∷ log) → is_stopped (past_of log) ≡ true →
     named_session e.event.kind ≡ Some s → is_refusal e.decision ≡ false →
-    e.decision ≡ Finished
+    (e.decision ≡ Finished) ⊎ ((e.decision ≡ Moved) ⊎ (e.decision ≡ Cut))
 
 -- another stop does nothing then
 abbrev pub StopsAgainDoNothing : Type 0
