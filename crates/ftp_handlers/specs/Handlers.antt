@@ -38,7 +38,7 @@ use Rattle.ftp_events.specs.declared.decision.Life.TheVariants.{Goes, Ends}
 use Rattle.ftp_events.specs.declared.decision.SlotMove.{SlotMove}
 use Rattle.ftp_events.specs.declared.decision.SlotMove.TheVariants.{Keeps, Empties, EmptiesWaiting, Awaits, Connects, Expires}
 use Rattle.ftp_events.specs.Classes.{life, slot_move}
-use Rattle.ftp_events.specs.Log.{named_session}
+use Rattle.ftp_events.specs.Log.{job_ticket, named_session}
 use Rattle.ftp_events.specs.Login.{logged_user}
 use Rattle.ftp_events.specs.Message.{is_for_control, notice_of, reply_of}
 use Rattle.ftp_events.specs.Place.{offset_by, is_queued}
@@ -123,7 +123,7 @@ is_command k =
 
 -- how many actions of an event of this kind can need a place, but for those of a stop
 abbrev pub places_for : EventKind → ℕ
-places_for k = most_actions + (if is_quit k || is_idle_tick k then 1 else 0)
+places_for k = most_actions + (if is_quit k || is_idle_tick k || is_some (job_ticket k) then 1 else 0)
 
 -- the kinds that a reply answers whose text is written when it is sent
 abbrev pub can_reply : EventKind → Bool
@@ -148,6 +148,8 @@ can_drop (kind.Pasv s word lookup bound) = true
 can_drop (kind.Port s text number) = true
 can_drop (kind.Abor s) = true
 can_drop (kind.SlotTick s) = true
+can_drop (kind.End ticket) = true
+can_drop (kind.Piece ticket) = true
 can_drop _ = false
 
 -- how many bytes suffice for the text that answers a PASV, also where that shows a name
@@ -224,10 +226,10 @@ pub record CanCount (failures : Option Table) (o : Options) : Type 0 where
   pub policy : policy_in failures ≡ o.lockout
   pub spare : HasSpare failures
 
--- what stands around a command: the holders by the board, the failures by the table, whether its number is used and a job of its session runs, and the moment
-abbrev pub surroundings : Board → Option Table → Bool → Bool → ℕ → Session → Around
-surroundings board failures used runs at v =
-    record { holders = held_for board v; failures = failures_in failures; used = λ n. used; runs = runs; at = at }
+-- what stands around a command: the holders by the board, the failures by the table, whether its number is used, a job of its session runs, and is not to stop yet, and the moment
+abbrev pub surroundings : Board → Option Table → Bool → Bool → Bool → ℕ → Session → Around
+surroundings board failures used runs stops at v =
+    record { holders = held_for board v; failures = failures_in failures; used = λ n. used; runs = runs; can_stop = stops; at = at }
 
 -- the password is out
 abbrev pub is_checking : Login → Bool
@@ -258,6 +260,7 @@ kept_by (kind.AuthDone s said) v = unwrap_or v.name (codes "unknown")
 kept_by (kind.Closed s) v = logged_user v.login v.name
 kept_by (kind.Quit s) v = logged_user v.login v.name
 kept_by (kind.End ticket) v = logged_user v.login v.name
+kept_by (kind.Piece ticket) v = logged_user v.login v.name
 kept_by (kind.Internal s message) v = logged_user v.login v.name
 kept_by (kind.IdleTick s) v = logged_user v.login v.name
 kept_by (kind.Cwd s path refusal) v = join_path v.cwd path

@@ -6,7 +6,7 @@ use Rattle.ftp_events.specs.declared.action.Action.TheVariants as action
 use Rattle.ftp_events.specs.declared.session.Pending.{Pending}
 use Rattle.ftp_handlers.specs.declared.telling.Told.{Told}
 use Rattle.ftp_handlers.specs.declared.room.Need.{Need}
-use Rattle.ftp_handlers.specs.declared.room.Need.TheVariants.{Nothing, Header, Run}
+use Rattle.ftp_handlers.specs.declared.room.Need.TheVariants.{Nothing, Header, Run, Piece}
 use Rattle.ftp_handlers.specs.Copies.{IsWide, Leaver, TextState}
 
 -- what contracts see of a room
@@ -25,6 +25,7 @@ pub record RoomState : Type 0 where
   pub places : ℕ
   pub twice : Bool
   pub used : Bool
+  pub stops : Bool
 
 -- the actions that were put in, in order
 abbrev pub actions_in : RoomState → List Action
@@ -46,11 +47,12 @@ need_in room = room.need
 abbrev pub job_in : RoomState → Option Job
 job_in room = room.job
 
--- what has to be done outside where a header is to be read, or else for a job that is to be run
-abbrev pub need_for : Bool → Option Job → Need
-need_for true job = Header
-need_for false None = Nothing
-need_for false (Some job) = Run job.ticket
+-- what has to be done outside where a header is to be read, or else for a job that is to be run, or a piece of it
+abbrev pub need_for : Bool → Bool → Option Job → Need
+need_for true piece job = Header
+need_for false piece None = Nothing
+need_for false true (Some job) = Piece job.ticket
+need_for false false (Some job) = Run job.ticket
 
 -- the name or the path that the event keeps or tells
 abbrev pub kept_in : RoomState → List ℕ
@@ -72,7 +74,7 @@ HasPlace room = len_in room < room.places
 abbrev pub HasPlaces : ℕ → RoomState → Type 0
 HasPlaces n room = len_in room + n ≤ room.places
 
--- no event has more actions for one session, but for QUIT and the end of an idle session, which have one more
+-- no event has more actions for one session, but for QUIT, the end of an idle session and that of a job, which have one more
 abbrev pub most_actions : ℕ
 most_actions = 4
 

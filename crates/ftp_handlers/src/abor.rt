@@ -22,7 +22,7 @@ use ftp_options::Options;
 use ftp_switchboard::Switchboard;
 use std::mem;
 
-/// Drops what the session's slot has; a transfer that runs goes on.
+/// Drops what the session's slot has; a transfer that runs is to stop behind its next piece.
 pub fn handle(
     session: &mut Session,
     args: &EventKind,
@@ -36,7 +36,7 @@ pub fn handle(
     requires letters { CanReply 64 room.old }
     requires dropped { CanTellDropped room.old }
     ensures goes_on { IsTrue (goes_on result) }
-    ensures decision { result ≡ if_logged_in session.old (abor_row session.old) }
+    ensures decision { result ≡ if_logged_in session.old (abor_row room.old.stops session.old) }
     ensures session { (answer : Answer) (job : Option Running) → session.new ≡ session_after at args.now answer result 0 job session.old }
     ensures actions { (answer : Answer) (job : Option Running) → actions_in room.new ≡ session_acts options.now (number_of args.now) args.now answer result job (Some session.old) }
     ensures holders { is_legacy options.now.mode ≡ false → (a p : ℕ) → holder_at board.new a p ≡ held_after result (number_of args.now) (ipv4 session.old.opening.client) (waiting_port session.old.slot) a p (holder_at board.old a p) }
@@ -51,7 +51,8 @@ pub fn handle(
     if !matches!(session.login, Login::LoggedIn) {
         return ask_for_login(*number, room);
     }
-    if matches!(session.slot, Slot::Empty) {
+    let stops = room.stops;
+    if matches!(session.slot, Slot::Empty) && !stops {
         room.reply(
             *number,
             ReplyCode::ClosingDataConnection,
@@ -64,11 +65,15 @@ pub fn handle(
     }
     room.cancel_and_tell(*number, mem::replace(&mut session.pending, None));
     room.close_link(session.slot);
+    session.slot = Slot::Empty;
+    // Where a transfer is to stop, its end says so.
+    if stops {
+        return Decision::Aborting;
+    }
     room.reply(
         *number,
         ReplyCode::ClosingDataConnection,
         b"Closed data channel",
     );
-    session.slot = Slot::Empty;
     Decision::Aborted
 }

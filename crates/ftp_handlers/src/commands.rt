@@ -42,7 +42,7 @@ pub fn command(
     requires range { is_legacy options.now.mode ≡ false → HasRange board.old options.now }
     requires board_room { IsTrue (is_pasv args.now) → is_legacy options.now.mode ≡ false → HasRoomFor board.old session.old }
     ensures goes_on { IsTrue (goes_on result) }
-    ensures decision { (runs : Bool) → result ≡ command_row options.now (surroundings board.old failures.old room.old.used runs at session.old) args.now session.old }
+    ensures decision { (runs : Bool) → result ≡ command_row options.now (surroundings board.old failures.old room.old.used runs room.old.stops at session.old) args.now session.old }
     ensures session { session.old.notices + 1 < 2 ^ 64 → (answer : Answer) (job : Option Running) → session.new ≡ session_after at args.now answer result (notices_of args.now result answer) job session.old }
     ensures actions { session.old.notices + 1 < 2 ^ 64 → (answer : Answer) (job : Option Running) → actions_in room.new ≡ session_acts options.now (number_of args.now) args.now answer result job (Some session.old) }
     ensures failures { (p : FailedLoginsPolicy) → options.now.lockout ≡ Some p → (key : LoginKey) → failures_in failures.new key ≡ failures_left p session.old key args.now at (failures_in failures.old key) }

@@ -1,6 +1,6 @@
 //! The ends of transfers (RFC 959, section 5.4).
 
-ghost use Rattle.std.specs.Prelude.{◌≡◌, ◌+◌, ◌<◌, ◌≤◌, ◌^◌, [], ◌∷◌, ◌++◌, length, IsTrue, true, Some};
+ghost use Rattle.std.specs.Prelude.{◌≡◌, ◌+◌, ◌<◌, ◌≤◌, ◌^◌, [], ◌∷◌, ◌++◌, length, codes, IsTrue, true, Some};
 ghost use Rattle.ftp_base.specs.declared.notice.Notice.TheVariants.{Data};
 ghost use Rattle.ftp_base.specs.declared.reply.Reply.TheVariants as reply;
 ghost use Rattle.ftp_base.specs.declared.reply.ReplyCode.TheVariants as code;
@@ -8,9 +8,9 @@ ghost use Rattle.ftp_events.specs.declared.action.Action.TheVariants as action;
 ghost use Rattle.ftp_events.specs.declared.decision.Decision.TheVariants.{Finished};
 ghost use Rattle.ftp_events.specs.declared.event.Answer.TheVariants.{Done};
 ghost use Rattle.ftp_events.specs.declared.event.EventKind.TheVariants.{End};
-ghost use Rattle.ftp_events.specs.Acts.{notice_and_reply};
+ghost use Rattle.ftp_events.specs.Acts.{cuttings, notice_and_reply};
 ghost use Rattle.ftp_events.specs.Login.{logged_user};
-ghost use Rattle.ftp_handlers.specs.Rooms.{IsReady, CanReply, HasCopy, HasPlace, HasPlaces, actions_in, kept_in, len_in, twice_in};
+ghost use Rattle.ftp_handlers.specs.Rooms.{IsReady, CanReply, CanTellDropped, HasCopy, HasPlace, HasPlaces, actions_in, kept_in, len_in, twice_in};
 ghost use Rattle.ftp_handlers.specs.Handlers.{with_end};
 
 use crate::room::Room;
@@ -78,6 +78,27 @@ pub fn deliver(
         }
         Completion::OutOfMemory => room.reply(number, ReplyCode::OutOfSpace, b"Out of memory"),
     }
+}
+
+/// Tells a live session that its transfer was cut.
+pub fn cut(session: &mut Session, job: &Running, room: &mut Room, at: u64)
+    requires room { IsReady room.old }
+    requires places { HasPlaces 5 room.old }
+    requires letters { CanReply 64 room.old }
+    requires dropped { CanTellDropped room.old }
+    ensures session { session.new ≡ record session.old { active_at = at } }
+    ensures actions { actions_in room.new ≡ cuttings job.now.job.ticket.session true (Some job.now) ++ action.Reply job.now.job.ticket.session 0 (reply.CodeAndMsg code.ClosingDataConnection (codes "Closed data channel")) ∷ [] }
+    ensures place { HasPlace room.new }
+    ensures twice { twice_in room.new ≡ twice_in room.old }
+{
+    let number = job.job.ticket.session;
+    session.active_at = at;
+    room.cut_and_tell(number, job.job.ticket, job.job.number);
+    room.reply(
+        number,
+        ReplyCode::ClosingDataConnection,
+        b"Closed data channel",
+    );
 }
 
 // A file was moved: no restart offset is left, listeners are told, and then the session.

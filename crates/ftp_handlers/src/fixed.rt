@@ -23,6 +23,7 @@ pub fn copy_kept(alloc: Global, kind: &EventKind, session: &Session) -> Result<B
         EventKind::Closed { .. }
         | EventKind::Quit { .. }
         | EventKind::End { .. }
+        | EventKind::Piece { .. }
         | EventKind::Internal { .. }
         | EventKind::IdleTick { .. } => copy_user(alloc, session),
         EventKind::Cwd { path, .. } => join_path(alloc, &session.cwd, path),

@@ -5,7 +5,7 @@ ghost use Rattle.ftp_base.specs.declared.notice.Notice.TheVariants.{Presence, Da
 ghost use Rattle.ftp_base.specs.declared.reply.Reply.TheVariants as reply;
 ghost use Rattle.ftp_base.specs.declared.reply.ReplyCode.TheVariants as code;
 ghost use Rattle.ftp_events.specs.declared.action.Action.TheVariants as action;
-ghost use Rattle.ftp_events.specs.Acts.{cancellations, closings, link_in, reply_acts};
+ghost use Rattle.ftp_events.specs.Acts.{cancellations, cancelled, closings, link_in, reply_acts};
 ghost use Rattle.ftp_events.specs.Text.{passive_text, offset_text};
 ghost use Rattle.ftp_handlers.specs.Rooms.{CanReply, CanTellDropped, HasPlace, HasPlaces, actions_in, is_plain, kept_in, len_in, twice_in};
 
@@ -102,6 +102,31 @@ impl Room {
             self.push(Action::Cancelled { ticket });
             self.tell_dropped(session);
         }
+    }
+
+    /// A transfer is cut that ran on this link for a session that has ended.
+    pub fn cut(&mut self, session: u64, ticket: Ticket, number: u64)
+        requires { HasPlaces 2 self.old }
+        ensures actions { actions_in self.new ≡ actions_in self.old ++ cancelled session false ticket ++ closings (Some number) }
+        ensures len { len_in self.new ≡ len_in self.old + 2 }
+        ensures same { self.new ≡ record self.old { actions = self.new.actions } }
+    {
+        self.push(Action::Cancelled { ticket });
+        self.close(number);
+    }
+
+    /// A transfer is cut that ran on this link, and its session is told.
+    pub fn cut_and_tell(&mut self, session: u64, ticket: Ticket, number: u64)
+        requires places { HasPlaces 3 self.old }
+        requires empty { self.old.dropped.items ≡ [] }
+        requires room { CanTellDropped self.old }
+        ensures actions { actions_in self.new ≡ actions_in self.old ++ cancelled session true ticket ++ closings (Some number) }
+        ensures len { len_in self.new ≡ len_in self.old + 3 }
+        ensures same { self.new ≡ record self.old { actions = self.new.actions; dropped = self.new.dropped } }
+    {
+        self.push(Action::Cancelled { ticket });
+        self.tell_dropped(session);
+        self.close(number);
     }
 
     // Tells a session that its transfer is dropped.

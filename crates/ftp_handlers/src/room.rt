@@ -18,7 +18,7 @@ use std::mem;
 /// No text of a reply is longer, in bytes, but for one that shows a host's name.
 const SHORT_TEXT: usize = 64;
 
-/// No event has more actions for one session, but for QUIT and the end of an idle session, which have one more.
+/// No event has more actions for one session, but for QUIT, the end of an idle session and that of a job, which have one more.
 const MOST_ACTIONS: usize = 4;
 
 /// What has to be done outside before the step.
@@ -29,6 +29,8 @@ pub enum Need {
     Header,
     /// The transfer is run; its job is in the room.
     Run(Ticket),
+    /// A piece of the transfer is moved; its job is in the room.
+    Piece(Ticket),
 }
 
 /// Memory for one event at one count of events. It is spent by the step, or let go.
@@ -55,6 +57,8 @@ pub struct Room {
     pub(crate) actions: ActionList,
     /// The number that comes with the event was used before.
     pub(crate) used: bool,
+    /// A job of the session that the event names runs, and is not to stop yet.
+    pub(crate) stops: bool,
 }
 
 impl Model for Room {
@@ -63,7 +67,7 @@ impl Model for Room {
 
     ghost Value = { RoomState };
 
-    ghost view = { λ r. record { count = r.count; job = r.job; need = r.need; kept = r.kept; path = r.path; pending = r.pending; telling = r.telling.told; leavers = r.leavers.items; text = r.text; dropped = r.dropped; actions = r.actions.items; places = r.actions.places; twice = r.actions.twice; used = r.used } };
+    ghost view = { λ r. record { count = r.count; job = r.job; need = r.need; kept = r.kept; path = r.path; pending = r.pending; telling = r.telling.told; leavers = r.leavers.items; text = r.text; dropped = r.dropped; actions = r.actions.items; places = r.actions.places; twice = r.actions.twice; used = r.used; stops = r.stops } };
 
     ghost invariant = { λ r. (r.kept.twice ≡ r.actions.twice) × (r.text.twice ≡ r.actions.twice) × (r.dropped.twice ≡ r.actions.twice) × (r.telling.twice ≡ r.actions.twice) × (r.leavers.twice ≡ r.actions.twice) };
 }
@@ -87,6 +91,10 @@ pub struct Prepared {
     pub job: Option<Job>,
     /// The number that comes with the event was used before.
     pub used: bool,
+    /// The event is a piece of that job.
+    pub piece: bool,
+    /// A job of the session that the event names runs, and is not to stop yet.
+    pub stops: bool,
 }
 
 /// What a room has memory for.
@@ -135,8 +143,8 @@ impl Extent {
             | EventKind::Transfer { .. }
             | EventKind::Stou { .. }
             | EventKind::Rest { .. }
-            | EventKind::Cwd { .. }
-            | EventKind::End { .. } => (MOST_ACTIONS, true, false),
+            | EventKind::Cwd { .. } => (MOST_ACTIONS, true, false),
+            EventKind::End { .. } | EventKind::Piece { .. } => (MOST_ACTIONS + 1, true, true),
         };
         Extent {
             places,
@@ -172,8 +180,9 @@ impl Room {
         ensures telling { IfOk result (λ room. telling_in room ≡ prepared.telling.told) }
         ensures leavers { IfOk result (λ room. leavers_in room ≡ prepared.leavers.items) }
         ensures job { IfOk result (λ room. job_in room ≡ prepared.job) }
-        ensures need { IfOk result (λ room. need_in room ≡ need_for prepared.header prepared.job) }
+        ensures need { IfOk result (λ room. need_in room ≡ need_for prepared.header prepared.piece prepared.job) }
         ensures used { IfOk result (λ room. room.used ≡ prepared.used) }
+        ensures stops { IfOk result (λ room. room.stops ≡ prepared.stops) }
     {
         let text = Text::with_room(alloc, extent.replies, extent.width, extent.twice)?;
         let dropped = Text::with_room(alloc, extent.drops, SHORT_TEXT, extent.twice)?;
@@ -188,12 +197,14 @@ impl Room {
             header,
             job,
             used,
+            piece,
+            stops,
         } = prepared;
         let kept = Text::of(alloc, kept, extent.twice)?;
         Ok(Room {
             alloc,
             count,
-            need: need_for(header, &job),
+            need: need_for(header, piece, &job),
             job,
             kept,
             path,
@@ -204,6 +215,7 @@ impl Room {
             dropped,
             actions,
             used,
+            stops,
         })
     }
 
@@ -223,6 +235,7 @@ impl Room {
             dropped: _,
             actions: _,
             used: _,
+            stops: _,
         } = self;
     }
 
@@ -273,6 +286,7 @@ impl Room {
             dropped: _,
             actions,
             used: _,
+            stops: _,
         } = self;
         actions.into_actions()
     }
@@ -297,6 +311,7 @@ impl Room {
             dropped: _,
             actions,
             used: _,
+            stops: _,
         } = self;
         actions.into_both()
     }
@@ -370,11 +385,12 @@ impl Room {
 }
 
 // What has to be done outside before the step.
-fn need_for(header: bool, job: &Option<Job>) -> Need
-    ensures { result ≡ need_for header job.now }
+fn need_for(header: bool, piece: bool, job: &Option<Job>) -> Need
+    ensures { result ≡ need_for header piece job.now }
 {
     match job {
         _ if header => Need::Header,
+        Some(job) if piece => Need::Piece(job.ticket),
         Some(job) => Need::Run(job.ticket),
         None => Need::Nothing,
     }
