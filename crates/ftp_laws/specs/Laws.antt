@@ -1,7 +1,8 @@
 -- What holds of every right log, in plain words.
-use Rattle.std.specs.Prelude.{ℕ, ◌+◌, ◌≡◌, ◌≤◌, ◌<◌, ◌↔◌, ◌⊎◌, List, [], ◌∷◌, ◌++◌, map, length, true, false, Some, None, is_some, if◌then◌else◌}
-use Rattle.std.specs.List.{flat_map, list_any, range_with_len}
+use Rattle.std.specs.Prelude.{ℕ, ◌+◌, ◌^◌, ◌≡◌, ◌≤◌, ◌<◌, ◌↔◌, ◌⊎◌, List, [], ◌∷◌, ◌++◌, map, length, true, false, Some, None, decimal, is_some, if◌then◌else◌}
+use Rattle.std.specs.List.{flat_map, join_with_byte, list_any, range_with_len}
 use Rattle.ftp_base.specs.declared.net.IpAddr.{IpAddr}
+use Rattle.ftp_base.specs.declared.net.IpAddr.TheVariants.{V4}
 use Rattle.ftp_options.specs.declared.options.Options.{Options}
 use Rattle.ftp_options.specs.Modes.{is_legacy}
 use Rattle.ftp_transfer.specs.declared.job.Outcome.{Outcome}
@@ -27,6 +28,7 @@ use Rattle.ftp_events.specs.Log.{past_of, is_refusal, is_stopped, named_session,
 use Rattle.ftp_events.specs.Right.{IsRight, IsActed, next_entry, log_of, events_of, replies}
 use Rattle.ftp_events.specs.Running.{running_count}
 use Rattle.ftp_events.specs.Session.{session, running_job, live_count, live_sessions}
+use Rattle.ftp_events.specs.Text.{port_target, six_numbers}
 use Rattle.ftp_events.specs.Transfer.{moves_file}
 use Rattle.ftp_laws.specs.Alone.{IsActedButStops, SameServed}
 use Rattle.ftp_laws.specs.Census.{IsCensus, IsAscending, has}
@@ -345,3 +347,8 @@ SweepsChangeNothing =
     IsRight o (newer ++ older) × IsActed o (newer ++ older) ×
     ((event : HubEvent) (answer : Answer) → IsLatest event.at (newer ++ e ∷ older) →
     next_entry o (newer ++ older) event answer ≡ next_entry o (newer ++ e ∷ older) event answer)
+
+-- a PORT with the six numbers that a passive reply shows asks for the address and the port of that reply
+abbrev pub PassiveRepliesAreReadBack : Type 0
+PassiveRepliesAreReadBack = (ip port : ℕ) → ip < 2 ^ 32 → port < 2 ^ 16 →
+    port_target (join_with_byte 44 (map decimal (six_numbers ip port))) ≡ Some (record { ip = V4 ip; port = port })

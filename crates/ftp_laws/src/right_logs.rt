@@ -5,7 +5,7 @@ ghost use Rattle.ftp_laws.specs.Laws.{LinksTakeOneJob, SessionsRunOneJob, Starts
 ghost use Rattle.ftp_laws.specs.Laws.{QueuedHaveFates, SettledDoNotWait, SettledOnce, QueuedOnce, RunningAreInNoSlot, RunningAreUnsettled, CancelledOnlySo, CancelledWithSlot};
 ghost use Rattle.ftp_laws.specs.Laws.{EarlierEndsAreOfRunning, AwaitedPortsAreHeld, WaitingAreAsQueued, RunningAreAsQueued, RunningAreAsStarted};
 ghost use Rattle.ftp_laws.specs.Laws.{NothingIsLeft, NewcomersAreClosed, OnlyEndsAreServed, StopsAgainDoNothing, NoHeaderIsRead, StopsPartWithAll, LiveAreInOrder, PartingsAreTheSame};
-ghost use Rattle.ftp_laws.specs.Laws.{LiveAreCounted, RunningAreCounted, RepliesFollowOpenings, SweepsChangeNothing, ScavengesChangeNothing};
+ghost use Rattle.ftp_laws.specs.Laws.{LiveAreCounted, RunningAreCounted, RepliesFollowOpenings, SweepsChangeNothing, ScavengesChangeNothing, PassiveRepliesAreReadBack};
 
 /// There is one right and acted log for given events and answers.
 pub fn right_logs_are_determined()
@@ -143,4 +143,10 @@ pub fn stops_part_with_all()
 /// Looking for what is held for no session changes nothing that is decided or done later.
 pub fn scavenges_change_nothing()
     ensures scavenges { ScavengesChangeNothing }
+{}
+
+/// The six numbers that a 227 shows, as the text of a PORT, ask for the address and the port that were advertised
+/// (RFC 959, section 4.1.2).
+pub fn passive_replies_are_read_back()
+    ensures read_back { PassiveRepliesAreReadBack }
 {}
