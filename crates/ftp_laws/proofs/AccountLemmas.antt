@@ -5,7 +5,6 @@ use Rattle.ftp_events.specs.declared.action.Action.TheVariants as action
 use Rattle.std.specs.Option.{option_and_then}
 use Rattle.ftp_events.specs.declared.decision.Decision.TheVariants as decision
 use Rattle.ftp_events.specs.declared.decision.SlotMove.TheVariants.{Queues, Finishes}
-use Rattle.ftp_events.specs.declared.event.EventKind.TheVariants as kind
 use Rattle.ftp_events.specs.declared.session.Slot.TheVariants.{Empty, Waits, Linked}
 use Rattle.ftp_events.specs.Place.{is_queued, ticket_count}
 use Rattle.ftp_events.specs.CommandRows.{can_queue}

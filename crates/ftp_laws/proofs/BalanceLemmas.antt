@@ -126,7 +126,7 @@ end-known :
 end-known o past ticket answer d None n x h = absurd (n h)
 end-known o past ticket answer d (Some j) n x h = ran-known o past (kind.End ticket) ticket d (unless_marked j (outcome_row j.job answer)) j (same_ticket j.job.ticket ticket) refl n x refl h
 
-piece-known :
+pub piece-known :
     (o : Options) (past : List Entry) (ticket : Ticket) (answer : Answer) (d : Decision) (j : Option Running) → (decision.UnknownNumber ≡ d → ⊥) →
     running_job o past ticket.session ≡ j → piece_row ticket answer j ≡ d → IsEnd o past (kind.Piece ticket)
 piece-known o past ticket answer d None n x h = absurd (n h)

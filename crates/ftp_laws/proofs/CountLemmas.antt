@@ -11,7 +11,6 @@ use Rattle.ftp_base.specs.declared.reply.Reply.{Reply}
 use Rattle.ftp_base.specs.declared.reply.Reply.TheVariants as reply
 use Rattle.ftp_events.specs.declared.action.Action.TheVariants as action
 use Rattle.ftp_events.specs.declared.decision.Decision.TheVariants as decision
-use Rattle.ftp_events.specs.declared.event.EventKind.TheVariants as kind
 use Rattle.ftp_events.specs.Login.{login_by, logged_user}
 use Rattle.ftp_events.specs.Reply.{message_for, reply_for, delay_of}
 use Rattle.ftp_events.specs.Acts.{session_acts, cancelled, cuttings, notice_and_reply, notifications, notice_for, presence_for, reply_acts, farewells}

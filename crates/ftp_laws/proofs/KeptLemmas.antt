@@ -1,5 +1,5 @@
 -- What stays of a job that an ABOR marks, or of which a piece is counted: all but the mark and the count.
-use Rattle.std.proofs.Common.{◌≡◌, refl, sym, ◌∙◌, ap, ℕ, Bool, Option, Some, None}
+use Rattle.std.proofs.Common.{◌≡◌, refl, ap, ℕ, Option, Some, None}
 use Rattle.std.specs.Prelude.{is_some}
 use Rattle.std.proofs.lemmas.Option.{same_Some}
 use Rattle.ftp_transfer.specs.declared.job.Job.{Job}

@@ -50,3 +50,4 @@ pub mod EndingLemmas
 pub mod CensusLemmas
 pub mod ReplyLemmas
 mod Premises
+pub mod PieceLemmas

@@ -211,6 +211,34 @@ queue-made h e t c d a = (pending_of t (logged_user (login_state h) (user_name h
 abbrev pub IsSound : ℕ → List Entry → Type 0
 IsSound s h = Sound s (ticket_count h) (lane h)
 
+-- what an entry about session s queues is of that session, and the next of its transfers
+pub queues-last :
+    (o : Options) (past : List Entry) (e : Entry) (s : ℕ) (t : Ticket) →
+    e.decision ≡ due o past e.event.at e.event.kind e.answer → concerns o past e s ≡ true →
+    slot_move e.decision ≡ Queues t →
+    IsLast s (ticket_count (history o past s)) (ticket_count (e ∷ history o past s)) (lane (history o past s)).slot (queued_in (history o past s) e)
+queues-last o past e s t fit c m =
+    let h : List Entry = history o past s in
+    let d = queues-is e.decision t m in
+    let q : IsQueue o past e.event.kind t = queued-live o past e.event.at e.event.kind e.answer t (sym fit ∙ d) in
+    let v = q.session_then in
+    let same = named-concern o past e q.number s fit q.named c in
+    let known : session o past s ≡ Some v = subst (λ (n : ℕ). session o past n ≡ Some v) same q.known in
+    let told = (session-told o past s v known).told in
+    let slot = ap (λ (w : Session). w.slot) told in
+    let count : v.tickets ≡ ticket_count h = ap (λ (w : Session). w.tickets) (sym told) in
+    let longer : ticket_count (e ∷ h) ≡ ticket_count h + 1 = rw d refl in
+    let made = queue-made h e t q.command d q.asked in
+    let ticket : (p : Pending) → queued_in h e ≡ Some p → p.ticket ≡ record { session = q.number; nr = v.tickets + 1 } =
+    λ p x. ap (λ (r : Pending). r.ticket) (sym (same_Some _ _ (sym made.1 ∙ x))) ∙ (made.2 ∙ q.ticket) in (
+      λ x. queue-placed v.slot v.pending q.room (sym slot ∙ x),
+      λ p x. (
+        ap (λ (u : Ticket). u.session) (ticket p x) ∙ same,
+        omega (arith, ap (λ (u : Ticket). u.nr) (ticket p x), count),
+        omega (arith, ap (λ (u : Ticket). u.nr) (ticket p x), count, longer),
+      ),
+    )
+
 -- an entry about session s that is decided as it has to be
 pub entry-sound :
     (o : Options) (past : List Entry) (e : Entry) (s : ℕ) →
@@ -218,32 +246,10 @@ pub entry-sound :
     IsSound s (history o past s) → IsSound s (e ∷ history o past s)
 entry-sound o past e s fit c sound =
     kept-sound s (ticket_count (e ∷ h)) e.decision e.answer (lane_after e.event.kind e.decision (queued_in h e) (lane h))
-    (after-sound s (ticket_count h) (ticket_count (e ∷ h)) (slot_move e.decision) (new_number e.event.kind e.decision) (queued_in h e) (lane h) queues (omega arith) sound)
+    (after-sound s (ticket_count h) (ticket_count (e ∷ h)) (slot_move e.decision) (new_number e.event.kind e.decision) (queued_in h e) (lane h) (λ t m. queues-last o past e s t fit c m) (omega arith) sound)
   where
     h : List Entry
     h = history o past s
-
-    queues : (t : Ticket) → slot_move e.decision ≡ Queues t → IsLast s (ticket_count h) (ticket_count (e ∷ h)) (lane h).slot (queued_in h e)
-    queues t m =
-        let d = queues-is e.decision t m in
-        let q : IsQueue o past e.event.kind t = queued-live o past e.event.at e.event.kind e.answer t (sym fit ∙ d) in
-        let v = q.session_then in
-        let same = named-concern o past e q.number s fit q.named c in
-        let known : session o past s ≡ Some v = subst (λ (n : ℕ). session o past n ≡ Some v) same q.known in
-        let told = (session-told o past s v known).told in
-        let slot = ap (λ (w : Session). w.slot) told in
-        let count : v.tickets ≡ ticket_count h = ap (λ (w : Session). w.tickets) (sym told) in
-        let longer : ticket_count (e ∷ h) ≡ ticket_count h + 1 = rw d refl in
-        let made = queue-made h e t q.command d q.asked in
-        let ticket : (p : Pending) → queued_in h e ≡ Some p → p.ticket ≡ record { session = q.number; nr = v.tickets + 1 } =
-        λ p x. ap (λ (r : Pending). r.ticket) (sym (same_Some _ _ (sym made.1 ∙ x))) ∙ (made.2 ∙ q.ticket) in (
-          λ x. queue-placed v.slot v.pending q.room (sym slot ∙ x),
-          λ p x. (
-            ap (λ (u : Ticket). u.session) (ticket p x) ∙ same,
-            omega (arith, ap (λ (u : Ticket). u.nr) (ticket p x), count),
-            omega (arith, ap (λ (u : Ticket). u.nr) (ticket p x), count, longer),
-          ),
-        )
 
 -- after every right log
 pub sound : (o : Options) (log : List Entry) (s : ℕ) → IsRight o log → IsSound s (history o (past_of log) s)

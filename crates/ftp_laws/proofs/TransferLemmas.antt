@@ -123,13 +123,13 @@ starts_it-on-starts t n =
     record { plain = λ s. record { closes = λ m. refl; notifies = λ meta what. refl; replies = λ delay r. refl }; completed = λ u b. refl; cancelled = λ u. refl }
 
 -- the transfer runs on link n
-abbrev RunsOn : Options → List Entry → Ticket → ℕ → Type 0
+abbrev pub RunsOn : Options → List Entry → Ticket → ℕ → Type 0
 RunsOn o past t n = (r : Running) × (running_job o past t.session ≡ Some r) × (r.job.ticket ≡ t) × (r.job.number ≡ n)
 
 -- what was started runs where it was started, or is settled; and what runs was started there
-record AreStarted (o : Options) (log past : List Entry) : Type 0 where
-  run : (t : Ticket) (n : ℕ) → was_started t n log ≡ true → RunsOn o past t n ⊎ (1 ≤ settle_count t log)
-  started : (s : ℕ) (r : Running) → running_job o past s ≡ Some r → was_started r.job.ticket r.job.number log ≡ true
+pub record AreStarted (o : Options) (log past : List Entry) : Type 0 where
+  pub run : (t : Ticket) (n : ℕ) → was_started t n log ≡ true → RunsOn o past t n ⊎ (1 ≤ settle_count t log)
+  pub started : (s : ℕ) (r : Running) → running_job o past s ≡ Some r → was_started r.job.ticket r.job.number log ≡ true
 
 -- one of two that is there
 either-some : (a b : Option Running) (r : Running) → option_or a b ≡ Some r → (a ≡ Some r) ⊎ (b ≡ Some r)
@@ -137,7 +137,7 @@ either-some None b r h = inr h
 either-some (Some j) b r h = inl h
 
 -- what runs after a move starts with it, or ran before
-runs-after :
+pub runs-after :
     (m : SlotMove) (number : Option ℕ) (queued : Option Pending) (l : Lane) (r : Running) →
     (moved m number queued l).running ≡ Some r →
     (starts_by m number queued l ≡ Some r) ⊎ (l.running ≡ Some r)
@@ -332,7 +332,7 @@ run-started o log e s r a h =
         go i same y (inr x) = inr (i, x, same)
 
 -- in every right and acted log
-are-started : (o : Options) (log : List Entry) → IsRight o log → IsActed o log → AreStarted o log (past_of log)
+pub are-started : (o : Options) (log : List Entry) → IsRight o log → IsActed o log → AreStarted o log (past_of log)
 are-started o log r a = acted-past o (λ log past. AreStarted o log past) first refused step log r a
   where
     first : AreStarted o [] []

@@ -39,6 +39,7 @@ use Rattle.ftp_laws.specs.Links.{start_count}
 use Rattle.ftp_laws.specs.Moments.{IsLatest, NeverFalls}
 use Rattle.ftp_laws.specs.Notices.{notices, NoneLoggedOut, LastLoggedOut, HasEnded}
 use Rattle.ftp_laws.specs.Offsets.{TakesRest, EndsWell}
+use Rattle.ftp_laws.specs.Pieces.{piece_bytes, was_aborted}
 use Rattle.ftp_laws.specs.Replies.{was_opened}
 use Rattle.ftp_laws.specs.Stops.{parting}
 use Rattle.ftp_laws.specs.Transfers.{transfer_of, WasQueuedSo, was_started}
@@ -259,6 +260,20 @@ RunningAreAsStarted =
     (o : Options) (log : List Entry) (s n : ℕ) (r : Running) → IsRight o log → IsActed o log →
     running_job o (past_of log) s ≡ Some r →
     (was_started r.job.ticket n log ≡ true) ↔ (n ≡ r.job.number)
+
+-- one that runs counts the bytes of all its pieces
+abbrev pub PiecesAreCounted : Type 0
+PiecesAreCounted =
+    (o : Options) (log : List Entry) (s : ℕ) (r : Running) → IsRight o log →
+    running_job o (past_of log) s ≡ Some r →
+    r.job.done ≡ piece_bytes r.job.ticket (past_of log)
+
+-- and is marked exactly where an ABOR of its session that was to stop it came after its start
+abbrev pub AbortedAreMarked : Type 0
+AbortedAreMarked =
+    (o : Options) (log : List Entry) (s : ℕ) (r : Running) → IsRight o log → IsActed o log →
+    running_job o (past_of log) s ≡ Some r →
+    r.marked ≡ was_aborted r.job.ticket r.job.number log
 
 -- the count of live sessions is the length of a list that has each of them once, and nothing else
 abbrev pub LiveAreCounted : Type 0

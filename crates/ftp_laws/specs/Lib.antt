@@ -10,4 +10,5 @@ pub mod Replies
 pub mod Moments
 pub mod Alone
 pub mod Stops
+pub mod Pieces
 pub mod Laws

@@ -5,7 +5,7 @@ ghost use Rattle.ftp_laws.specs.Laws.{LinksTakeOneJob, SessionsRunOneJob, Starts
 ghost use Rattle.ftp_laws.specs.Laws.{QueuedHaveFates, SettledDoNotWait, SettledOnce, QueuedOnce, RunningAreInNoSlot, RunningAreUnsettled, CancelledOnlySo, CancelledWithSlot};
 ghost use Rattle.ftp_laws.specs.Laws.{EarlierEndsAreOfRunning, AwaitedPortsAreHeld, WaitingAreAsQueued, RunningAreAsQueued, RunningAreAsStarted};
 ghost use Rattle.ftp_laws.specs.Laws.{NothingIsLeft, NewcomersAreClosed, OnlyEndsAreServed, StopsAgainDoNothing, NoHeaderIsRead, StopsPartWithAll, LiveAreInOrder, PartingsAreTheSame};
-ghost use Rattle.ftp_laws.specs.Laws.{LiveAreCounted, RunningAreCounted, RepliesFollowOpenings, SweepsChangeNothing, ScavengesChangeNothing, PassiveRepliesAreReadBack};
+ghost use Rattle.ftp_laws.specs.Laws.{LiveAreCounted, RunningAreCounted, RepliesFollowOpenings, SweepsChangeNothing, ScavengesChangeNothing, PassiveRepliesAreReadBack, PiecesAreCounted, AbortedAreMarked};
 
 /// There is one right and acted log for given events and answers.
 pub fn right_logs_are_determined()
@@ -149,4 +149,10 @@ pub fn scavenges_change_nothing()
 /// (RFC 959, section 4.1.2).
 pub fn passive_replies_are_read_back()
     ensures read_back { PassiveRepliesAreReadBack }
+{}
+
+/// A transfer that runs has moved the bytes of its pieces, and is to stop where an ABOR of its session came after its start.
+pub fn pieces_add_up()
+    ensures counted { PiecesAreCounted }
+    ensures marked { AbortedAreMarked }
 {}
