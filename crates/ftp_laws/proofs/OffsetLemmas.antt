@@ -6,10 +6,10 @@ use Rattle.std.proofs.lemmas.Option.{same_Some}
 use Rattle.ftp_transfer.specs.declared.job.Outcome.{Outcome}
 use Rattle.ftp_events.specs.declared.decision.Decision.TheVariants.{Finished, RestOk}
 use Rattle.ftp_events.specs.declared.event.Answer.TheVariants.{Done}
-use Rattle.ftp_events.specs.declared.event.EventKind.TheVariants.{Rest, End}
+use Rattle.ftp_events.specs.declared.event.EventKind.TheVariants.{Rest}
 use Rattle.ftp_events.specs.Place.{offset_by}
 use Rattle.ftp_events.specs.Transfer.{moves_file}
-use Rattle.ftp_laws.proofs.Common.{Options, Ticket, Decision, Entry, Answer, EventKind, Session, past_of, is_refusal, named_session, decide, concerns, opens, IsRight, lives_on, session, running_job}
+use Rattle.ftp_laws.proofs.Common.{Options, Ticket, Decision, Entry, Answer, EventKind, Session, past_of, is_refusal, job_ticket, named_session, decide, concerns, opens, IsRight, lives_on, session, running_job}
 use Rattle.ftp_laws.proofs.SubjectLemmas.{named-concerns}
 use Rattle.ftp_laws.specs.Offsets.{TakesRest, EndsWell}
 use Rattle.ftp_laws.proofs.QuestionLemmas.{counting-refused, counting-counts, session-own, session-other, session_by}
@@ -26,11 +26,11 @@ or-some false x y = refl
 -- after a transfer of a file that succeeded no offset is left, and after any other the one that was
 pub ends-offset :
     (o : Options) (log : List Entry) (e : Entry) (ticket : Ticket) (outcome : Outcome) (v : Session) →
-    e.event.kind ≡ End ticket → e.answer ≡ Done outcome →
+    job_ticket e.event.kind ≡ Some ticket → e.answer ≡ Done outcome →
     e.decision ≡ Finished →
     session o (past_of log) ticket.session ≡ Some v →
     (w : Session) × (session o (past_of (e ∷ log)) ticket.session ≡ Some w) × (w.offset ≡ cond (moves_file outcome.result) 0 v.offset)
-ends-offset o log e ticket outcome v k a d known = (after, stands, rw (k, a, d) (or-some (moves_file outcome.result) 0 v.offset))
+ends-offset o log e ticket outcome v k a d known = (after, stands, rw (a, d) (or-some (moves_file outcome.result) 0 v.offset))
   where
     s : ℕ
     s = ticket.session
@@ -45,7 +45,7 @@ ends-offset o log e ticket outcome v k a d known = (after, stands, rw (k, a, d) 
     unopened = rw d refl
 
     about : concerns o (past_of log) e s ≡ true
-    about = named-concerns o (past_of log) e s (ap named_session k)
+    about = named-concerns o (past_of log) e s (job-named e.event.kind ticket k)
 
     lives : lives_on e.decision ≡ true
     lives = rw d refl

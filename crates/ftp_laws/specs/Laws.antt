@@ -12,7 +12,7 @@ use Rattle.ftp_events.specs.declared.entry.Entry.{Entry}
 use Rattle.ftp_events.specs.declared.event.Answer.{Answer}
 use Rattle.ftp_events.specs.declared.event.Answer.TheVariants.{Done}
 use Rattle.ftp_events.specs.declared.event.EventKind.{EventKind}
-use Rattle.ftp_events.specs.declared.event.EventKind.TheVariants.{End, Sweep, Scavenge}
+use Rattle.ftp_events.specs.declared.event.EventKind.TheVariants.{Sweep, Scavenge}
 use Rattle.ftp_events.specs.declared.event.HubEvent.{HubEvent}
 use Rattle.ftp_events.specs.declared.session.Pending.{Pending}
 use Rattle.ftp_events.specs.declared.session.Running.{Running}
@@ -24,7 +24,7 @@ use Rattle.ftp_events.specs.Headline.{AllServed, IsClosed}
 use Rattle.ftp_events.specs.History.{concerns}
 use Rattle.ftp_events.specs.Isolation.{client_log, IsApart, locks_by_address}
 use Rattle.ftp_events.specs.Leads.{header_to_read}
-use Rattle.ftp_events.specs.Log.{past_of, is_refusal, is_stopped, named_session, new_number}
+use Rattle.ftp_events.specs.Log.{past_of, is_refusal, is_stopped, job_ticket, named_session, new_number}
 use Rattle.ftp_events.specs.Right.{IsRight, IsActed, next_entry, log_of, events_of, replies}
 use Rattle.ftp_events.specs.Running.{running_count}
 use Rattle.ftp_events.specs.Session.{session, running_job, live_count, live_sessions}
@@ -162,7 +162,7 @@ StartsOnOwnLink =
 abbrev pub EndsSetOffset : Type 0
 EndsSetOffset =
     (o : Options) (log : List Entry) (e : Entry) (ticket : Ticket) (outcome : Outcome) (v : Session) →
-    e.event.kind ≡ End ticket → e.answer ≡ Done outcome → e.decision ≡ Finished →
+    job_ticket e.event.kind ≡ Some ticket → e.answer ≡ Done outcome → e.decision ≡ Finished →
     session o (past_of log) ticket.session ≡ Some v →
     (w : Session) × (session o (past_of (e ∷ log)) ticket.session ≡ Some w) × (w.offset ≡ (if moves_file outcome.result then 0 else v.offset))
 
