@@ -121,6 +121,7 @@ fn job(alloc: Global, command: DataChanCmd) -> Result<Job, AllocError>
         path: Bytes::from_slice(alloc, b"/a")?,
         offset: 0,
         number: 1,
+        done: 0,
     })
 }
 

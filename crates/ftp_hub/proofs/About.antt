@@ -2,7 +2,7 @@
 use Rattle.std.proofs.Common.{◌≡◌, refl, sym, ap, ◌∙◌, subst, ℕ, false, cond, ◌||◌, List, ◌∷◌, Option, Some, None}
 use Rattle.std.specs.Prelude.{◌==◌, nat_eq, count_by}
 use Rattle.std.specs.HashMap as map
-use Rattle.ftp_hub.proofs.Common.{Action, Answer, Decision, Entry, Hub, HubEvent, LoginKey, Options, Running, Serves, Session, Stands, Tables, V4, acts, decide, entry, failures, failures_in, has, holder, holder_at, is_refusal, is_used, live_after, lives_on, next_lane, notices_of, past_of, running_after, running_job, session, session_acts, session_after}
+use Rattle.ftp_hub.proofs.Common.{Action, Answer, Decision, Entry, Hub, HubEvent, LoginKey, Options, Running, Serves, Session, Stands, Tables, V4, acts, decide, entry, failures, failures_in, has, holder, holder_at, is_refusal, is_used, live_after, lives_on, next_running, notices_of, past_of, running_after, running_job, session, session_acts, session_after}
 use Rattle.ftp_events.specs.Notices.{is_notice_to}
 use Rattle.ftp_events.specs.Acts.{acts_of}
 use Rattle.ftp_laws.proofs.QuestionLemmas.{counting-counts, session_by}
@@ -41,11 +41,11 @@ serves-about old new log event answer d done s v after st counts about known rig
         live = moved.sessions.live ∙ ap (live_after d) st.tables.live;
         jobs = λ q.
             moved.jobs.table q
-            ∙ ap (λ (x : Option Running). cond (s == q) (next_lane event.kind d x v).running (map.get nat_eq old.jobs q)) (st.tables.jobs s)
-            ∙ ap (λ (x : Option Running). cond (s == q) (next_lane event.kind d job v).running x) (st.tables.jobs q)
+            ∙ ap (λ (x : Option Running). cond (s == q) (next_running event.kind answer d x v) (map.get nat_eq old.jobs q)) (st.tables.jobs s)
+            ∙ ap (λ (x : Option Running). cond (s == q) (next_running event.kind answer d job v) x) (st.tables.jobs q)
             ∙ sym (running-about o past e s v q about known)
             ∙ ap (λ (o : Options). running_job o (e ∷ past) q) (sym moved.options);
-        running = moved.jobs.running ∙ ap (running_after done) st.tables.running;
+        running = moved.jobs.running ∙ ap (running_after d done) st.tables.running;
         numbers = numbers;
         holders = λ a p. board a p ∙ ap (λ (o : Options). holder o (e ∷ past) (V4 a) p) (sym moved.options);
         failures = λ key. failed key ∙ ap (λ (o : Options). failures o (e ∷ past) key) (sym moved.options);

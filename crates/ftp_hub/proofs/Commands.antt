@@ -1,5 +1,5 @@
 -- The tables after a command of a session.
-use Rattle.std.proofs.Common.{◌≡◌, refl, sym, ap, ◌∙◌, ℕ, ◌-◌, ◌^◌, ◌<◌, Bool, true, false, not, cond, ◌||◌, List, [], Option, Some, None}
+use Rattle.std.proofs.Common.{◌≡◌, refl, sym, ap, ◌∙◌, ℕ, ◌-◌, ◌^◌, ◌<◌, Bool, true, false, not, cond, ◌||◌, List, [], Option, Some, None, arith}
 use Rattle.std.specs.Prelude.{◌==◌, is_some, nat_eq}
 use Rattle.std.specs.Option.{option_and_then, option_map_or}
 use Rattle.std.specs.HashMap as map
@@ -13,39 +13,41 @@ use Rattle.ftp_base.specs.Net.{same_ip}
 use Rattle.ftp_lockout.specs.declared.cache.Failures.{Failures}
 use Rattle.ftp_options.specs.Modes.{is_active_off}
 use Rattle.ftp_switchboard.specs.Board.{holder_for}
-use Rattle.ftp_events.specs.CommandRows.{address_row, command_row, if_logged_in, made_row}
-use Rattle.ftp_events.specs.Decide.{around, if_live, is_at_work, due}
+use Rattle.ftp_events.specs.CommandRows.{Around, abor_row, address_row, command_row, if_logged_in, made_row}
+use Rattle.ftp_events.specs.Decide.{around, can_stop, if_live, is_at_work, is_stoppable, due}
 use Rattle.ftp_events.specs.Text.{port_target}
 use Rattle.ftp_events.specs.Words.{is_number}
 use Rattle.ftp_laws.proofs.Cases.{by_test}
-use Rattle.ftp_handlers.specs.Handlers.{ends_session, held_for, is_auth, is_checking, is_command, is_port, surroundings}
+use Rattle.ftp_handlers.specs.Handlers.{ends_session, held_for, is_abor, is_auth, is_checking, is_command, is_port, surroundings}
 use Rattle.ftp_hub.specs.Arrivals.{is_accepted}
-use Rattle.ftp_hub.specs.Stands.{used_for}
+use Rattle.ftp_hub.specs.Stands.{stops_for, used_for}
 use Rattle.ftp_laws.proofs.GrantLemmas.{holder-legacy}
 use Rattle.ftp_hub.proofs.Clients.{client-v4}
 use Rattle.ftp_hub.proofs.Failures.{failures-refused, said-refused}
 use Rattle.ftp_hub.proofs.Refusals.{serves-refusal}
 use Rattle.ftp_hub.proofs.Named.{few-counts, serves-named}
-use Rattle.ftp_hub.proofs.Decisions.{put-back, refusal-leaves}
+use Rattle.ftp_hub.proofs.Decisions.{put-back, refusal-leaves, refusal-unstopped}
 use Rattle.ftp_hub.proofs.Moved.{Moved, MovedAlone}
 use Rattle.ftp_hub.proofs.Running.{running-none}
 
--- the end of a transfer
+-- the end of a transfer, or a piece of it
 abbrev pub is_end : EventKind → Bool
 is_end (kind.End t) = true
+is_end (kind.Piece t) = true
 is_end _ = false
 
--- an event of a session that is neither the end of a transfer nor a connection that comes to it
+-- an event of a session that is neither the end or a piece of a transfer nor a connection that comes to it
 pub record IsPlain (k : EventKind) : Type 0 where
   pub no_end : is_end k ≡ false
   pub no_link : is_accepted k ≡ false
 
--- what is due on an event that names a session and is no end of a transfer is the row of its command
+-- what is due on an event that names a session and is no end or piece of a transfer is the row of its command
 due-row : (o : Options) (past : List Entry) (at : ℕ) (k : EventKind) (answer : Answer) (s : ℕ) → is_end k ≡ false → named_session k ≡ Some s → due o past at k answer ≡ if_live (option_and_then (session o past) (named_session k)) (λ v. command_row o (around o past at k v) k v)
 due-row o past at (kind.Connect q raw local trace) answer s c n = cc
 due-row o past at (kind.Proxied q raw trace) answer s c n = cc
 due-row o past at (kind.DataIn q raw port) answer s c n = cc
 due-row o past at (kind.End t) answer s c n = cc
+due-row o past at (kind.Piece t) answer s c n = cc
 due-row o past at kind.Sweep answer s c n = cc
 due-row o past at kind.Scavenge answer s c n = cc
 due-row o past at kind.Shutdown answer s c n = cc
@@ -60,11 +62,13 @@ due-named o past at k answer s x c n known =
 -- the commands and the ends of sessions are plain
 pub command-plain : (k : EventKind) → is_command k ≡ true → IsPlain k
 command-plain (kind.End t) c = cc
+command-plain (kind.Piece t) c = cc
 command-plain (kind.Accepted s n raw) c = cc
 command-plain _ c = record { no_end = refl; no_link = refl }
 
 pub ending-plain : (k : EventKind) → ends_session k ≡ true → IsPlain k
 ending-plain (kind.End t) c = cc
+ending-plain (kind.Piece t) c = cc
 ending-plain (kind.Accepted s n raw) c = cc
 ending-plain _ c = record { no_end = refl; no_link = refl }
 
@@ -108,30 +112,41 @@ address-same : (used other : ℕ → Bool) (number : Option ℕ) (v : Session) (
 address-same used other number v None h = refl
 address-same used other number v (Some to) h = ap (λ (d : Decision). cond (same_ip to.ip v.opening.raw.ip) d decision.OtherAddress) h
 
--- so is a command
+-- so is a command, and an ABOR stops a job alike by all that say the same of it
 used-same :
-    (o : Options) (holders : ℕ → Option ℕ) (failed : LoginKey → Option Failures) (b : Bool) (used : ℕ → Bool) (runs : Bool) (at : ℕ) (hub : Hub) (k : EventKind) (v : Session) →
-    is_accepted k ≡ false → (is_port k ≡ true → b ≡ used_for hub k) → ((n : ℕ) → has hub.numbers n ≡ used n) →
-    command_row o (record { holders = holders; failures = failed; used = λ n. b; runs = runs; at = at }) k v ≡ command_row o (record { holders = holders; failures = failed; used = used; runs = runs; at = at }) k v
-used-same o holders failed b used runs at hub (kind.Accepted s n raw) v plain number numbers = cc
-used-same o holders failed b used runs at hub (kind.Port s text number) v plain same numbers =
+    (o : Options) (holders : ℕ → Option ℕ) (failed : LoginKey → Option Failures) (b : Bool) (used : ℕ → Bool) (runs stops can : Bool) (at : ℕ) (hub : Hub) (k : EventKind) (v : Session) →
+    is_accepted k ≡ false → (is_port k ≡ true → b ≡ used_for hub k) → (is_abor k ≡ true → stops ≡ can) → ((n : ℕ) → has hub.numbers n ≡ used n) →
+    command_row o (record { holders = holders; failures = failed; used = λ n. b; runs = runs; can_stop = stops; at = at }) k v
+    ≡ command_row o (record { holders = holders; failures = failed; used = used; runs = runs; can_stop = can; at = at }) k v
+used-same o holders failed b used runs stops can at hub (kind.Accepted s n raw) v plain number stop numbers = cc
+used-same o holders failed b used runs stops can at hub (kind.Port s text number) v plain same stop numbers =
     ap (λ (d : Decision). if_logged_in v (cond (is_active_off o.active_passive) decision.ModeOff d))
     (address-same (λ n. b) used number v (port_target text) (made-same b used number (same refl ∙ told number)))
   where
     told : (number : Option ℕ) → option_map_or (has hub.numbers) number false ≡ option_map_or used number false
     told None = refl
     told (Some n) = numbers n
-used-same o holders failed b used runs at hub k v plain number numbers = refl
+used-same o holders failed b used runs stops can at hub (kind.Abor s) v plain number stop numbers =
+    ap (λ (c : Bool). if_logged_in v (abor_row c v)) (stop refl)
+used-same o holders failed b used runs stops can at hub k v plain number stop numbers = refl
+
+-- whether a job is to stop is told by the hub's table as by the log
+pub stops-due :
+    (hub : Hub) (log : List Entry) (k : EventKind) → Stands hub log → is_abor k ≡ true →
+    stops_for hub k ≡ can_stop hub.options (past_of log) k
+stops-due hub log (kind.Abor s) st h = ap is_stoppable (st.tables.jobs s)
+stops-due hub log k st h = cc
 
 -- a command is decided by the hub's tables as by the log
 pub row-same :
-    (hub : Hub) (log : List Entry) (b : Bool) (at : ℕ) (k : EventKind) (s : ℕ) (v : Session) →
-    Stands hub log → is_accepted k ≡ false → (is_port k ≡ true → b ≡ used_for hub k) → session hub.options (past_of log) s ≡ Some v →
-    command_row hub.options (surroundings hub.board hub.failures b (is_at_work hub.options (past_of log) k) at v) k v ≡ command_row hub.options (around hub.options (past_of log) at k v) k v
-row-same hub log b at k s v st plain number known =
-    used-same o (held_for hub.board v) (failures_in hub.failures) b (is_used past) runs at hub k v plain number st.tables.numbers
-    ∙ ap (λ (x : ℕ → Option ℕ). command_row o (record { holders = x; failures = failures_in hub.failures; used = is_used past; runs = runs; at = at }) k v) (held-same hub log s v st known)
-    ∙ ap (λ (x : LoginKey → Option Failures). command_row o (record { holders = holder o past v.opening.client; failures = x; used = is_used past; runs = runs; at = at }) k v) (λ i key. st.tables.failures key i)
+    (hub : Hub) (log : List Entry) (b stops : Bool) (at : ℕ) (k : EventKind) (s : ℕ) (v : Session) →
+    Stands hub log → is_accepted k ≡ false → (is_port k ≡ true → b ≡ used_for hub k) → (is_abor k ≡ true → stops ≡ stops_for hub k) →
+    session hub.options (past_of log) s ≡ Some v →
+    command_row hub.options (surroundings hub.board hub.failures b (is_at_work hub.options (past_of log) k) stops at v) k v ≡ command_row hub.options (around hub.options (past_of log) at k v) k v
+row-same hub log b stops at k s v st plain number stop known =
+    used-same o (held_for hub.board v) (failures_in hub.failures) b (is_used past) runs stops can at hub k v plain number (λ abor. stop abor ∙ stops-due hub log k st abor) st.tables.numbers
+    ∙ ap (λ (x : ℕ → Option ℕ). command_row o (record { holders = x; failures = failures_in hub.failures; used = is_used past; runs = runs; can_stop = can; at = at }) k v) (held-same hub log s v st known)
+    ∙ ap (λ (x : LoginKey → Option Failures). command_row o (record { holders = holder o past v.opening.client; failures = x; used = is_used past; runs = runs; can_stop = can; at = at }) k v) (λ i key. st.tables.failures key i)
   where
     o : Options
     o = hub.options
@@ -141,6 +156,14 @@ row-same hub log b at k s v st plain number known =
 
     runs : Bool
     runs = is_at_work o past k
+
+    can : Bool
+    can = can_stop o past k
+
+-- no command is decided as a piece that moved
+pub command-unmoved : (o : Options) (a : Around) (k : EventKind) (v : Session) → command_row o a k v ≡ decision.Moved → ⊥
+command-unmoved o a (kind.Abor s) v h = grind arith
+command-unmoved o a k v h = grind arith
 
 -- what was decided and done on a live session is what its row wants, and the tables moved so
 pub record Handled (old new : Hub) (log : List Entry) (event : HubEvent) (answer : Answer) (d : Decision) (done : List Action) (s : ℕ) (v after : Session) : Type 0 where
@@ -206,11 +229,11 @@ serves-command old new log event answer d done s v after st below plain named th
           live = m.sessions.live ∙ unchanged d refused ∙ st.tables.live;
           jobs = λ q.
               m.jobs.table q
-              ∙ ap (λ (x : Option Running). cond (s == q) x (map.get nat_eq old.jobs q)) (leaves.runs event.kind (map.get nat_eq old.jobs s) v)
+              ∙ ap (λ (x : Option Running). cond (s == q) x (map.get nat_eq old.jobs q)) (leaves.runs event.kind answer (map.get nat_eq old.jobs s) v)
               ∙ put-back (map.get nat_eq old.jobs) s q
               ∙ st.tables.jobs q
               ∙ ap (λ (o : Options). running_job o past q) (sym m.options);
-          running = m.jobs.running ∙ running-none done (map.hash_map_len old.jobs) nothing ∙ st.tables.running;
+          running = m.jobs.running ∙ running-none d done (map.hash_map_len old.jobs) (refusal-unstopped d refused) nothing ∙ st.tables.running;
           numbers = λ q.
               h.tables.numbers q
               ∙ ap (λ (n : Option ℕ). is_number n q || has old.numbers q) (refused-number event.kind d s plain.no_link named refused)

@@ -8,11 +8,11 @@ pub use Rattle.ftp_events.specs.Board.{holder}
 unfoldable pub use Rattle.ftp_events.specs.Decide.{decide}
 pub use Rattle.ftp_events.specs.History.{history}
 pub use Rattle.ftp_events.specs.Lockout.{failures}
-pub use Rattle.ftp_events.specs.Log.{is_refusal, is_used, named_session, new_number, past_of}
+pub use Rattle.ftp_events.specs.Log.{is_refusal, is_used, job_ticket, named_session, new_number, past_of}
 pub use Rattle.ftp_events.specs.Right.{IsActed, IsRight}
-pub use Rattle.ftp_events.specs.Running.{running_after}
-pub use Rattle.ftp_events.specs.Session.{live_after, lives_on, next_lane, running_job, session, session_after}
-pub use Rattle.ftp_events.specs.Slot.{waiting_port}
+pub use Rattle.ftp_events.specs.Running.{running_after, stopped}
+pub use Rattle.ftp_events.specs.Session.{live_after, lives_on, next_lane, next_running, running_job, session, session_after}
+pub use Rattle.ftp_events.specs.Slot.{kept_running, waiting_port}
 pub use Rattle.ftp_events.specs.declared.action.Action.{Action}
 pub use Rattle.ftp_events.specs.declared.decision.Decision.{Decision}
 pub use Rattle.ftp_events.specs.declared.entry.Entry.{Entry}

@@ -1,9 +1,9 @@
 -- The counters after an entry.
 use Rattle.std.proofs.Common.{◌≡◌, refl, sym, ap, ◌∙◌, subst, ℕ, suc, ◌+◌, ◌-◌, ◌^◌, ◌<◌, ◌≤◌, Bool, true, false, cond, List, [], ◌∷◌, length, Option, Some, None, arith}
 use Rattle.std.specs.Prelude.{nat_eq}
-use Rattle.std.specs.Option.{option_map}
+use Rattle.std.specs.Option.{option_and_then, option_map}
 use Rattle.std.specs.HashMap as map
-use Rattle.ftp_hub.proofs.Common.{Action, Answer, Decision, Entry, EventKind, Hub, HubEvent, Options, Running, Stands, entry, is_refusal, live_after, past_of}
+use Rattle.ftp_hub.proofs.Common.{Action, Answer, Decision, Entry, EventKind, Hub, HubEvent, Options, Running, Stands, Ticket, entry, is_refusal, job_ticket, live_after, past_of, running_job}
 use Rattle.ftp_events.specs.declared.counters.Counters.{Counters}
 use Rattle.ftp_events.specs.declared.decision.Life.{Life}
 use Rattle.ftp_events.specs.declared.decision.Life.TheVariants.{Goes, Opens, Ends}
@@ -37,13 +37,18 @@ live-few (e ∷ log) =
 
 -- what is counted of a job by the table is so by the log
 ended-due : (hub : Hub) (log : List Entry) (k : EventKind) → Stands hub log → hub.options.collect_metrics ≡ true → ended_in hub k ≡ ended_job hub.options (past_of log) k
-ended-due hub log (kind.End ticket) st kept = rw kept (ap (option_map (λ (r : Running). ended_of r.job)) (st.tables.jobs ticket.session))
-ended-due hub log k st kept = refl
+ended-due hub log k st kept = rw kept (by_ticket (job_ticket k))
+  where
+    by_ticket :
+        (t : Option Ticket) →
+        option_and_then (λ (t : Ticket). option_map (λ (r : Running). ended_of r.job) (map.get nat_eq hub.jobs t.session)) t
+        ≡ option_and_then (λ (t : Ticket). option_map (λ (r : Running). ended_of r.job) (running_job hub.options (past_of log) t.session)) t
+    by_ticket None = refl
+    by_ticket (Some t) = ap (option_map (λ (r : Running). ended_of r.job)) (st.tables.jobs t.session)
 
 -- where no counts are kept, nothing is
 ended-none : (hub : Hub) (k : EventKind) → hub.options.collect_metrics ≡ false → ended_in hub k ≡ None
-ended-none hub (kind.End ticket) off = rw off refl
-ended-none hub k off = refl
+ended-none hub k off = rw off refl
 
 -- what a note of an entry makes of the counters
 abbrev pub Notes : Options → Answer → Decision → List Action → Option Ended → Counters → Counters → Type 0

@@ -21,7 +21,6 @@ use Rattle.ftp_events.specs.Running.{running_count}
 use Rattle.ftp_events.specs.Slot.{is_waiting}
 use Rattle.ftp_events.specs.Words.{is_number}
 use Rattle.ftp_events.specs.ConnectionRows.{holder_row}
-use Rattle.ftp_laws.proofs.BalanceLemmas.{no-completion}
 use Rattle.ftp_laws.proofs.QuestionLemmas.{counting-counts, running-other, session-other}
 use Rattle.ftp_laws.proofs.HoldLemmas.{WaitsFor}
 use Rattle.ftp_laws.proofs.SubjectLemmas.{nobody-concerns, subject-plain}
@@ -36,15 +35,16 @@ use Rattle.ftp_laws.proofs.LockoutLemmas.{failures-other}
 use Rattle.ftp_hub.proofs.Failures.{linked-other}
 use Rattle.ftp_hub.proofs.Moved.{jobs-start, sessions-stay}
 use Rattle.ftp_hub.proofs.Decisions.{Comes}
+use Rattle.ftp_hub.proofs.Running.{unstopped}
 
 pub turned-comes : Comes decision.Turned
-turned-comes = record { counts = refl; plain = refl; unopened = λ k. refl; no_grant = refl; keeps = refl; lives = refl; silent = λ k answer. refl; as_many = λ n. refl; unfinished = refl }
+turned-comes = record { counts = refl; plain = refl; unopened = λ k. refl; no_grant = refl; keeps = refl; lives = refl; silent = λ k answer. refl; as_many = λ n. refl; unfinished = refl; kept = λ answer job. refl }
 
 attached-comes : (s : ℕ) → Comes (decision.Attached s)
-attached-comes s = record { counts = refl; plain = refl; unopened = λ k. refl; no_grant = refl; keeps = refl; lives = refl; silent = λ k answer. refl; as_many = λ n. refl; unfinished = refl }
+attached-comes s = record { counts = refl; plain = refl; unopened = λ k. refl; no_grant = refl; keeps = refl; lives = refl; silent = λ k answer. refl; as_many = λ n. refl; unfinished = refl; kept = λ answer job. refl }
 
 fault-comes : (fault : ProxyError) → Comes (decision.HeaderFault fault)
-fault-comes fault = record { counts = refl; plain = refl; unopened = λ k. refl; no_grant = refl; keeps = refl; lives = refl; silent = λ k answer. refl; as_many = λ n. refl; unfinished = refl }
+fault-comes fault = record { counts = refl; plain = refl; unopened = λ k. refl; no_grant = refl; keeps = refl; lives = refl; silent = λ k answer. refl; as_many = λ n. refl; unfinished = refl; kept = λ answer job. refl }
 
 arrival-comes : (welcome : Bool) (s : ℕ) → Comes (arrival_of welcome s)
 arrival-comes true s = attached-comes s
@@ -80,8 +80,8 @@ pub acts-alike :
     (b : Bool) (o : Options) (k : EventKind) (n s port : ℕ) (raw : SocketAddr) (answer : Answer) (job : Option Running) (v : Session) →
     ((d : Decision) → new_number k d ≡ Some n) →
     session_acts o s (kind.DataIn n raw port) answer (arrival_of b s) job (Some v) ≡ session_acts o s k answer (arrival_of b s) job (Some v)
-acts-alike true o k n s port raw answer job v brings = rw (no-completion (decision.Attached s) k true refl, brings (decision.Attached s)) refl
-acts-alike false o k n s port raw answer job v brings = rw (no-completion decision.Turned k true refl, brings decision.Turned) refl
+acts-alike true o k n s port raw answer job v brings = rw (brings (decision.Attached s)) refl
+acts-alike false o k n s port raw answer job v brings = rw (brings decision.Turned) refl
 
 -- and the same transfer starts
 pub starting-alike :
@@ -105,7 +105,7 @@ pub serves-nobody :
     (old new : Hub) (log : List Entry) (event : HubEvent) (answer : Answer) (d : Decision) (done : List Action) →
     Stands old log → Comes d → d ≡ decide old.options log event answer →
     meant old.options (past_of log) (entry event answer d done) ≡ None →
-    done ≡ refused_link event.kind d → ((n : ℕ) → running_after done n ≡ n) →
+    done ≡ refused_link event.kind d → ((n : ℕ) → running_after d done n ≡ n) →
     new.options ≡ old.options →
     ((q : ℕ) → map.get nat_eq new.sessions q ≡ map.get nat_eq old.sessions q) →
     (map.hash_map_len new.sessions ≡ map.hash_map_len old.sessions) →
@@ -170,12 +170,12 @@ pub serves-closed :
     Serves old new log event answer d done
 serves-closed old new log event answer d done n st comes right nobody closed brings closes same table len jobs numbers board failed stopped =
     serves-nobody old new log event answer d done st comes right nobody (closes ∙ sym (closed ∙ ap closings brings))
-    (λ k. ap (λ xs. running_after xs k) closes ∙ none_ran k) same table len jobs
+    (λ k. ap (λ xs. running_after d xs k) closes ∙ none_ran k) same table len jobs
     (λ q. numbers q ∙ ap (λ (x : Option ℕ). is_number x q || has old.numbers q) (sym brings))
     board (λ key. failed-linked old new log event answer d done n key st brings failed) stopped
   where
-    none_ran : (k : ℕ) → running_after (action.Close n ∷ []) k ≡ k
-    none_ran k = omega arith
+    none_ran : (k : ℕ) → running_after d (action.Close n ∷ []) k ≡ k
+    none_ran k = omega (arith, unstopped d comes.unfinished)
 
 -- a connection whose header is none is closed
 pub serves-faulted :
@@ -261,7 +261,7 @@ serves-held old new log event answer done arr s v after st link unused going hel
       options = same;
       session = after_is ∙ ap (λ c. session_after event.at event.kind answer d c job v) (sym (comes.silent event.kind answer));
       sessions = sessions-stay old.sessions new.sessions d s after comes.lives comes.as_many table len;
-      jobs = jobs-start old.jobs new.jobs o event.kind answer d done s v comes.unfinished begins acted;
+      jobs = jobs-start old.jobs new.jobs o event.kind answer d done s v comes.unfinished (comes.kept answer) begins acted;
     })
     (λ q. rw (link.brings d) (numbers q ∙ ap (λ b. (arr.number == q) || b) (st.tables.numbers q)))
     (λ a p. board a p ∙ sym (holders-arrived old log event answer d done arr a p st link comes))
@@ -324,7 +324,7 @@ serves-accepted old new log event answer done s n raw v after st is legacy unuse
       options = same;
       session = after_is ∙ ap (λ c. session_after event.at event.kind answer d c (map.get nat_eq old.jobs s) v) (sym (comes.silent event.kind answer));
       sessions = sessions-stay old.sessions new.sessions d s after comes.lives comes.as_many table len;
-      jobs = jobs-start old.jobs new.jobs o event.kind answer d done s v comes.unfinished begins acted;
+      jobs = jobs-start old.jobs new.jobs o event.kind answer d done s v comes.unfinished (comes.kept answer) begins acted;
     })
     (λ q. rw (brings d) (numbers q ∙ ap (λ b. (n == q) || b) (st.tables.numbers q)))
     (λ a p. board a p ∙ st.tables.holders a p ∙ holder-legacy o past (V4 a) p legacy ∙ sym (holder-legacy o (e ∷ past) (V4 a) p legacy))

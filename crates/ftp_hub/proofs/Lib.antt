@@ -21,3 +21,4 @@ pub mod Ends
 pub mod Links
 pub mod Runs
 pub mod Twins
+pub mod Pieces

@@ -1,13 +1,14 @@
 -- A session and a job that runs have their links.
 use Rattle.std.proofs.Common.{◌≡◌, refl, sym, ap, ◌∙◌, subst, ℕ, Bool, true, false, not, cond, ◌&&◌, ◌||◌, List, [], ◌∷◌, Option, Some, None}
-use Rattle.std.specs.Prelude.{is_some}
+use Rattle.std.specs.Prelude.{is_some, nat_eq}
 use Rattle.std.proofs.lemmas.Bool.{or_parts}
 use Rattle.std.proofs.lemmas.Option.{same_Some}
 use Rattle.std.specs.FinMap as table
 use Rattle.std.specs.Ordering.{nat_cmp, eq_by_cmp}
 use Rattle.std.specs.Cmp.{nat_cmp_total}
-use Rattle.std.specs.Option.{option_map_or}
-use Rattle.ftp_hub.proofs.Common.{Answer, Decision, Entry, EventKind, Hub, has, IsRight, Options, Pending, Running, Session, Stands, Ticket, decide, history, is_linked, is_used, new_number, past_of, running_job, session}
+use Rattle.std.specs.HashMap as map
+use Rattle.std.specs.Option.{option_and_then, option_map_or}
+use Rattle.ftp_hub.proofs.Common.{Answer, Decision, Entry, EventKind, Hub, has, IsRight, Options, Pending, Running, Session, Stands, Ticket, decide, history, is_linked, is_used, job_ticket, kept_running, new_number, past_of, running_job, session}
 use Rattle.ftp_base.specs.LinkTable.{Numbered}
 use Rattle.ftp_base.specs.declared.net.SocketAddr.{SocketAddr}
 use Rattle.ftp_base.specs.Net.{is_v6}
@@ -18,17 +19,18 @@ use Rattle.ftp_events.specs.declared.event.EventKind.TheVariants as kind
 use Rattle.ftp_events.specs.declared.session.Slot.{Slot}
 use Rattle.ftp_events.specs.declared.session.Slot.TheVariants.{Empty, Waits, Linked}
 use Rattle.ftp_events.specs.Covers.{link_number, is_covered}
-use Rattle.ftp_events.specs.Leads.{HasLinks, header_to_read, job_of_ticket, job_to_run}
+use Rattle.ftp_events.specs.Leads.{HasLinks, header_to_read, job_of_ticket}
 use Rattle.ftp_events.specs.Transfer.{same_ticket}
 use Rattle.ftp_events.specs.Acts.{link_in, slot_of}
 use Rattle.ftp_events.specs.Slot.{Lane, drops, lane, lane_of, lane_after, queued_in, with_link}
 use Rattle.ftp_events.specs.Log.{is_stopped}
 use Rattle.ftp_events.specs.Decide.{due}
 use Rattle.ftp_laws.proofs.EntryLemmas.{past-more, history-more}
+use Rattle.ftp_laws.proofs.KeptLemmas.{kept-same}
 use Rattle.ftp_laws.proofs.LaneLemmas.{ended-empty}
 use Rattle.ftp_laws.proofs.LinkLemmas.{is_attached}
 use Rattle.ftp_laws.proofs.QuestionLemmas.{session-told}
-use Rattle.ftp_hub.specs.Runs.{has_link_of}
+use Rattle.ftp_hub.specs.Runs.{has_link_of, job_due}
 use Rattle.ftp_hub.specs.Stands.{header_for, job_for}
 
 -- the link of a job
@@ -92,7 +94,20 @@ lane_after-linked linked k (decision.Attached q) queued l came h =
     h.running
 lane_after-linked linked k (decision.Queued t) queued l came h = lane_of-linked linked l.slot queued l.running h.slot h.running
 lane_after-linked linked k decision.Finished queued l came h = lane_of-linked linked l.slot l.pending None h.slot (λ n x. cc)
+lane_after-linked linked k decision.Cut queued l came h = lane_of-linked linked l.slot l.pending None h.slot (λ n x. cc)
 lane_after-linked linked k d queued l came h = dropped-linked linked (drops d l.slot) l h
+
+-- a job that is marked or counted keeps its link
+kept-linked :
+    (linked : ℕ → Bool) (d : Decision) (given : Answer) (l : Lane) → AreLinked linked l →
+    AreLinked linked (record { slot = l.slot; pending = l.pending; running = kept_running d given l.running })
+kept-linked linked d given l h = record { slot = h.slot; running = λ n x. by_job (kept_running d given l.running) refl n x }
+  where
+    by_job : (j : Option Running) → kept_running d given l.running ≡ j → (n : ℕ) → link_at j ≡ Some n → linked n ≡ true
+    by_job None is n x = cc
+    by_job (Some j) is n x =
+        let was = kept-same d given l.running j is in
+        h.running n (ap link_at was.1 ∙ ap (λ (job : Job). Some job.number) was.2 ∙ x)
 
 -- no control connection is attached
 connect-attaches : (misplaced used stopped : Bool) → is_attached (cond misplaced decision.Misplaced (cond used decision.UsedNumber (cond stopped decision.Turned decision.Opened))) ≡ false
@@ -191,11 +206,13 @@ links-more o e log old new r has covered keeps =
     after s =
         history-more (λ h. AreLinked (is_linked new) (lane h)) o past e s
         (λ n.
-        lane_after-linked (is_linked new) e.event.kind e.decision (queued_in [] e) (lane []) came
-        (record { slot = λ m x. cc; running = λ m x. cc }))
+        kept-linked (is_linked new) e.decision e.answer (lane_after e.event.kind e.decision (queued_in [] e) (lane []))
+        (lane_after-linked (is_linked new) e.event.kind e.decision (queued_in [] e) (lane []) came
+        (record { slot = λ m x. cc; running = λ m x. cc })))
         (λ c.
-        lane_after-linked (is_linked new) e.event.kind e.decision (queued_in (history o past s) e) (lane (history o past s)) came
-        (before s))
+        kept-linked (is_linked new) e.decision e.answer (lane_after e.event.kind e.decision (queued_in (history o past s) e) (lane (history o past s)))
+        (lane_after-linked (is_linked new) e.event.kind e.decision (queued_in (history o past s) e) (lane (history o past s)) came
+        (before s)))
         (before s)
 
 -- under the same options
@@ -253,15 +270,20 @@ header-number hub k n read link = cc
 pub job-due :
     (hub : Hub) (log : List Entry) (k : EventKind) (taken : Option Job) →
     Stands hub log → taken ≡ job_for hub k →
-    job_to_run hub.options (past_of log) k ≡ taken
-job-due hub log (kind.End t) taken st is =
-    sym (is ∙ ap (λ (x : Option Running). job_of_ticket x t) (st.tables.jobs t.session))
-job-due hub log k taken st is = sym is
+    job_due hub.options (past_of log) k ≡ taken
+job-due hub log k taken st is = by_ticket (job_ticket k) ∙ sym is
+  where
+    by_ticket :
+        (t : Option Ticket) →
+        option_and_then (λ (t : Ticket). job_of_ticket (running_job hub.options (past_of log) t.session) t) t
+        ≡ option_and_then (λ (t : Ticket). job_of_ticket (map.get nat_eq hub.jobs t.session) t) t
+    by_ticket None = refl
+    by_ticket (Some t) = ap (λ (x : Option Running). job_of_ticket x t) (sym (st.tables.jobs t.session))
 
 -- the job of a ticket runs
 ticket-runs : (x : Option Running) (t : Ticket) (job : Job) → job_of_ticket x t ≡ Some job → (r : Running) × (x ≡ Some r) × (r.job ≡ job)
 ticket-runs None t job h = cc
-ticket-runs (Some r) t job h = go (same_ticket r.job.ticket t) h
+ticket-runs (Some r) t job h = go (same_ticket r.job.ticket t && not r.marked) h
   where
     go : (b : Bool) → cond b (Some r.job) None ≡ Some job → (u : Running) × (Some r ≡ Some u) × (u.job ≡ job)
     go true e = (r, refl, same_Some _ _ e)
@@ -271,17 +293,19 @@ ticket-runs (Some r) t job h = go (same_ticket r.job.ticket t) h
 pub has_link_of-due :
     {L : Type 0} (o : Options) (past : List Entry) (k : EventKind) (links : Numbered L) →
     HasLinks o past links →
-    has_link_of links (job_to_run o past k) ≡ true
-has_link_of-due o past k links has = by_job (job_to_run o past k) refl
+    has_link_of links (job_due o past k) ≡ true
+has_link_of-due o past k links has = by_ticket (job_ticket k)
   where
-    linked : (k : EventKind) (job : Job) → job_to_run o past k ≡ Some job → is_linked links job.number ≡ true
-    linked (kind.End t) job runs =
+    by_job :
+        (t : Ticket) (job : Option Job) → job_of_ticket (running_job o past t.session) t ≡ job →
+        has_link_of links job ≡ true
+    by_job t None runs = refl
+    by_job t (Some job) runs =
         let x = ticket-runs (running_job o past t.session) t job runs in
         subst (λ (i : Job). is_linked links i.number ≡ true) x.2 (has.jobs t.session x.0 x.1)
-    linked k job runs = cc
 
-    by_job :
-        (job : Option Job) → job_to_run o past k ≡ job →
-        has_link_of links job ≡ true
-    by_job None runs = refl
-    by_job (Some job) runs = linked k job runs
+    by_ticket :
+        (t : Option Ticket) →
+        has_link_of links (option_and_then (λ (t : Ticket). job_of_ticket (running_job o past t.session) t) t) ≡ true
+    by_ticket None = refl
+    by_ticket (Some t) = by_job t (job_of_ticket (running_job o past t.session) t) refl

@@ -2,9 +2,9 @@
 use Rattle.std.proofs.Common.{BuildHasherDefault, FoldHasher, ◌≡◌, sym, ap, ◌∙◌, ℕ, cond, Bool, ◌||◌, List, Option, Some, None}
 use Rattle.std.specs.Prelude.{◌==◌, nat_eq, true, false}
 use Rattle.std.specs.HashMap as map
-use Rattle.ftp_hub.proofs.Common.{Action, Answer, Decision, Entry, EventKind, Hub, HubEvent, Jobs, Options, Session, Starts, Tables, failures_in, has, held_after, holder_at, ipv4, is_legacy, live_after, lives_on, new_number, next_lane, notices_of, running_after, session_acts, session_after, starting, waiting_port}
+use Rattle.ftp_hub.proofs.Common.{Action, Answer, Decision, Entry, EventKind, Hub, HubEvent, Jobs, Options, Running, Session, Starts, Tables, failures_in, has, held_after, holder_at, ipv4, is_legacy, kept_running, live_after, lives_on, new_number, next_running, notices_of, running_after, session_acts, session_after, starting, waiting_port}
 use Rattle.ftp_laws.proofs.BalanceLemmas.{is_finished}
-use Rattle.ftp_hub.proofs.Decisions.{jobs-idle, jobs-started, put-back, running-started}
+use Rattle.ftp_hub.proofs.Decisions.{at-key, jobs-idle, jobs-started, lane-idle, put-back, running-started}
 use Rattle.ftp_events.specs.Words.{is_number}
 use Rattle.ftp_lockout.specs.Failures.{Table}
 use Rattle.ftp_numbers.specs.Used.{Used}
@@ -22,17 +22,17 @@ pub record SessionsMoved (old new : Sessions) (d : Decision) (s : ℕ) (after : 
   pub table : (q : ℕ) → map.get nat_eq new q ≡ cond (s == q) (cond (lives_on d) (Some after) None) (map.get nat_eq old q)
   pub live : map.hash_map_len new ≡ live_after d (map.hash_map_len old)
 
--- the job of session s, which was v, ended or started, or neither
-pub record JobsMoved (old new : Jobs) (k : EventKind) (d : Decision) (done : List Action) (s : ℕ) (v : Session) : Type 0 where
-  pub table : (q : ℕ) → map.get nat_eq new q ≡ cond (s == q) (next_lane k d (map.get nat_eq old s) v).running (map.get nat_eq old q)
-  pub running : map.hash_map_len new ≡ running_after done (map.hash_map_len old)
+-- the job of session s, which was v, ended or started, or was marked or counted, or none of these
+pub record JobsMoved (old new : Jobs) (k : EventKind) (answer : Answer) (d : Decision) (done : List Action) (s : ℕ) (v : Session) : Type 0 where
+  pub table : (q : ℕ) → map.get nat_eq new q ≡ cond (s == q) (next_running k answer d (map.get nat_eq old s) v) (map.get nat_eq old q)
+  pub running : map.hash_map_len new ≡ running_after d done (map.hash_map_len old)
 
 -- the tables of sessions and jobs moved, with session s as it is due
 pub record Moved (old new : Hub) (event : HubEvent) (answer : Answer) (d : Decision) (done : List Action) (s : ℕ) (v after : Session) : Type 0 where
   pub options : new.options ≡ old.options
   pub session : after ≡ session_after event.at event.kind answer d (notices_of event.kind d answer) (map.get nat_eq old.jobs s) v
   pub sessions : SessionsMoved old.sessions new.sessions d s after
-  pub jobs : JobsMoved old.jobs new.jobs event.kind d done s v
+  pub jobs : JobsMoved old.jobs new.jobs event.kind answer d done s v
 
 -- so did those of numbers, of holds and of failed logins
 pub record MovedAlone (old new : Hub) (event : HubEvent) (answer : Answer) (d : Decision) (done : List Action) (s : ℕ) (v after : Session) : Type 0 where
@@ -84,25 +84,47 @@ sessions-stay old new d s after lives as_many table len =
       live = len ∙ sym (as_many (map.hash_map_len old));
     }
 
--- no job starts or ends
+-- no job starts or ends, and none is marked or counted
 pub jobs-stay :
     (jobs : Jobs) (o : Options) (n : ℕ) (k : EventKind) (answer : Answer) (d : Decision) (done : List Action) (s : ℕ) (v : Session) →
-    IsIdle d → done ≡ session_acts o n k answer d (map.get nat_eq jobs s) (Some v) →
-    JobsMoved jobs jobs k d done s v
-jobs-stay jobs o n k answer d done s v idle acts =
+    IsIdle d → ((job : Option Running) → kept_running d answer job ≡ job) →
+    done ≡ session_acts o n k answer d (map.get nat_eq jobs s) (Some v) →
+    JobsMoved jobs jobs k answer d done s v
+jobs-stay jobs o n k answer d done s v idle kept acts =
     record {
-      table = λ q. jobs-idle jobs s q k d v idle;
-      running = sym (ap (λ xs. running_after xs (map.hash_map_len jobs)) acts ∙ running-idle o n k answer d (map.get nat_eq jobs s) v (map.hash_map_len jobs) idle);
+      table = λ q. jobs-idle jobs s q k answer d v idle kept;
+      running = sym (ap (λ xs. running_after d xs (map.hash_map_len jobs)) acts ∙ running-idle o n k answer d (map.get nat_eq jobs s) v (map.hash_map_len jobs) idle);
+    }
+
+-- no job starts or ends, and the one that runs became what the decision makes of it with this answer
+pub jobs-kept :
+    (old new : Jobs) (o : Options) (n : ℕ) (k : EventKind) (answer given : Answer) (d : Decision) (done : List Action) (s : ℕ) (v : Session) →
+    IsIdle d → ((job : Option Running) → kept_running d answer job ≡ kept_running d given job) →
+    ((q : ℕ) → map.get nat_eq new q ≡ cond (s == q) (kept_running d given (map.get nat_eq old q)) (map.get nat_eq old q)) →
+    map.hash_map_len new ≡ map.hash_map_len old →
+    done ≡ session_acts o n k answer d (map.get nat_eq old s) (Some v) →
+    JobsMoved old new k answer d done s v
+jobs-kept old new o n k answer given d done s v idle same table len acts =
+    record {
+      table = λ q.
+          table q
+          ∙ sym (at-key (λ n. kept_running d given (map.get nat_eq old n)) (map.get nat_eq old) s q)
+          ∙ ap (λ (x : Option Running). cond (s == q) x (map.get nat_eq old q))
+          (sym (ap (kept_running d answer) (lane-idle k d (map.get nat_eq old s) v idle) ∙ same (map.get nat_eq old s)));
+      running =
+          len
+          ∙ sym (ap (λ xs. running_after d xs (map.hash_map_len old)) acts ∙ running-idle o n k answer d (map.get nat_eq old s) v (map.hash_map_len old) idle);
     }
 
 -- no job ends, and one may start
 pub jobs-start :
     (old new : Jobs) (o : Options) (k : EventKind) (answer : Answer) (d : Decision) (done : List Action) (s : ℕ) (v : Session) →
-    is_finished d ≡ false → Starts old new s (starting k d (map.get nat_eq old s) v) →
+    is_finished d ≡ false → ((job : Option Running) → kept_running d answer job ≡ job) →
+    Starts old new s (starting k d (map.get nat_eq old s) v) →
     done ≡ session_acts o s k answer d (map.get nat_eq old s) (Some v) →
-    JobsMoved old new k d done s v
-jobs-start old new o k answer d done s v unfinished begins acts =
+    JobsMoved old new k answer d done s v
+jobs-start old new o k answer d done s v unfinished kept begins acts =
     record {
-      table = λ q. jobs-started old new s q k d v unfinished begins;
-      running = running-started o s k answer d v old new unfinished begins ∙ ap (λ xs. running_after xs (map.hash_map_len old)) (sym acts);
+      table = λ q. jobs-started old new s q k answer d v unfinished kept begins;
+      running = running-started o s k answer d v old new unfinished begins ∙ ap (λ xs. running_after d xs (map.hash_map_len old)) (sym acts);
     }

@@ -45,7 +45,7 @@ serves-opened old new log event answer s opening done st link unused going nothi
         sessions = λ q. table q ∙ by_number q (s == q) refl ∙ ap (λ (o : Options). session o (e ∷ past) q) (sym same);
         live = len ∙ ap (λ n. n + 1) st.tables.live;
         jobs = λ q. ap (λ (m : Jobs). map.get nat_eq m q) jobs ∙ no_job q (s == q) refl ∙ ap (λ (o : Options). running_job o (e ∷ past) q) (sym same);
-        running = ap map.hash_map_len jobs ∙ st.tables.running ∙ sym (running-none done (running_count past) nothing);
+        running = ap map.hash_map_len jobs ∙ st.tables.running ∙ sym (running-none decision.Opened done (running_count past) refl nothing);
         numbers = λ q. rw (link.brings decision.Opened) (numbers q ∙ ap (λ b. (s == q) || b) (st.tables.numbers q));
         holders = λ a p. board a p ∙ st.tables.holders a p ∙ sym (holder-other o past e (V4 a) p link.for_nobody link.unnamed refl refl) ∙ ap (λ (o : Options). holder o (e ∷ past) (V4 a) p) (sym same);
         failures = λ key.

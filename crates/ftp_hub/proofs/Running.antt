@@ -2,13 +2,13 @@
 use Rattle.std.proofs.Common.{◌≡◌, refl, ap, ◌∙◌, ℕ, ◌+◌, ◌-◌, Bool, false, cond, List, [], ◌∷◌, ◌++◌, Option, Some, None, arith}
 use Rattle.std.specs.Prelude.{◌==◌, count_by, flat_map, is_some}
 use Rattle.std.proofs.lemmas.List.Sums.{sum_by-cons}
-use Rattle.ftp_hub.proofs.Common.{Action, Answer, Decision, EventKind, Options, Pending, Running, Session, Ticket, running_after, session_acts, starting}
+use Rattle.ftp_hub.proofs.Common.{Action, Answer, Decision, EventKind, Options, Pending, Running, Session, Ticket, running_after, session_acts, starting, stopped}
 use Rattle.ftp_events.specs.declared.action.Action.TheVariants as action
 use Rattle.ftp_events.specs.declared.decision.Decision.TheVariants as decision
 use Rattle.ftp_events.specs.declared.event.EventKind.TheVariants as kind
 use Rattle.ftp_events.specs.Words.{total}
 use Rattle.ftp_events.specs.Slot.{Lane, started_by}
-use Rattle.ftp_laws.proofs.CountLemmas.{IsOnTransfers, count-drop_acts, count-session_acts}
+use Rattle.ftp_laws.proofs.CountLemmas.{IsOnTransfers, count-completions, count-drop_acts, count-session_acts}
 use Rattle.ftp_laws.proofs.BalanceLemmas.{is_finished, no-completion}
 use Rattle.ftp_events.specs.Acts.{completions, start_acts, stays}
 use Rattle.ftp_events.specs.Running.{ended, started}
@@ -50,57 +50,63 @@ total-counted : (f : Action → ℕ) → TellsJobs f → (xs : List Action) → 
 total-counted f t [] = refl
 total-counted f t (x ∷ xs) = omega (arith, total-counted f t xs, t.once x, sum_by-cons (λ y. cond (f y == 1) 1 0) x xs)
 
--- of a session's actions only the completion and the start of a job count
+-- of a session's actions only the end and the start of a job count
 total-acts :
     (f : Action → ℕ) (o : Options) (s : ℕ) (k : EventKind) (answer : Answer) (d : Decision) (job : Option Running) (v : Session) → TellsJobs f →
-    total f (session_acts o s k answer d job (Some v)) ≡ total f (completions k d (stays d (Some v))) + total f (start_acts (starting k d job v))
+    total f (session_acts o s k answer d job (Some v)) ≡ total f (completions s k d (stays d (Some v)) job) + total f (start_acts (starting k d job v))
 total-acts f o s k answer d job v t =
     omega (
       arith,
       total-counted f t (session_acts o s k answer d job (Some v)),
-      total-counted f t (completions k d (stays d (Some v))),
+      total-counted f t (completions s k d (stays d (Some v)) job),
       total-counted f t (start_acts (starting k d job v)),
       count-session_acts (λ x. f x == 1) o s k answer d job (Some v) (t.transfers s),
       count-drop_acts (λ x. f x == 1) s (stays d (Some v)) d v.slot v.pending (t.transfers s) t.drops,
     )
 
--- a session's actions end the job that completes, and start the one that starts
+-- with a session's actions the job ends that completes or is cut, and the one starts that starts
 pub running-acts :
     (o : Options) (s : ℕ) (k : EventKind) (answer : Answer) (d : Decision) (job : Option Running) (v : Session) (n : ℕ) →
-    running_after (session_acts o s k answer d job (Some v)) n ≡ n - total ended (completions k d (stays d (Some v))) + total started (start_acts (starting k d job v))
+    running_after d (session_acts o s k answer d job (Some v)) n ≡ n - (stopped d + total ended (completions s k d (stays d (Some v)) job)) + total started (start_acts (starting k d job v))
 running-acts o s k answer d job v n =
     omega (
       arith,
       total-acts ended o s k answer d job v ended-tells,
       total-acts started o s k answer d job v started-tells,
       none_ends (starting k d job v),
-      none_starts k d (stays d (Some v)),
+      none_starts (stays d (Some v)),
     )
   where
     none_ends : (job : Option Running) → total ended (start_acts job) ≡ 0
     none_ends None = refl
     none_ends (Some job) = refl
 
-    none_starts : (k : EventKind) (d : Decision) (b : Bool) → total started (completions k d b) ≡ 0
-    none_starts (kind.End t) decision.Finished b = refl
-    none_starts k d b = refl
+    none_starts : (b : Bool) → total started (completions s k d b job) ≡ 0
+    none_starts b =
+        total-counted started started-tells (completions s k d b job)
+        ∙ count-completions (λ x. started x == 1) s k d b job (started-tells.transfers s) (λ t x. refl) (λ r x y. refl)
 
 -- a decision with which no job ends or starts
 pub record IsIdle (d : Decision) : Type 0 where
   pub unfinished : is_finished d ≡ false
   pub starts : (k : EventKind) (queued : Option Pending) (l : Lane) → started_by k d queued l ≡ None
 
+-- with such a decision no job is cut
+pub unstopped : (d : Decision) → is_finished d ≡ false → stopped d ≡ 0
+unstopped decision.Cut h = cc
+unstopped d h = refl
+
 -- so as many run as before
 pub running-idle :
     (o : Options) (s : ℕ) (k : EventKind) (answer : Answer) (d : Decision) (job : Option Running) (v : Session) (n : ℕ) → IsIdle d →
-    running_after (session_acts o s k answer d job (Some v)) n ≡ n
+    running_after d (session_acts o s k answer d job (Some v)) n ≡ n
 running-idle o s k answer d job v n idle =
     let none : start_acts (starting k d job v) ≡ [] = ap start_acts (idle.starts k _ _) in
-    omega (arith, running-acts o s k answer d job v n, ap (total ended) (no-completion d k (stays d (Some v)) idle.unfinished), ap (total started) none)
+    omega (arith, running-acts o s k answer d job v n, ap (total ended) (no-completion s d k (stays d (Some v)) job idle.unfinished), ap (total started) none, unstopped d idle.unfinished)
 
--- without an action as many run as before
-pub running-none : (xs : List Action) (n : ℕ) → xs ≡ [] → running_after xs n ≡ n
-running-none xs n none = ap (λ ys. running_after ys n) none ∙ omega arith
+-- without an action as many run as before, where no job is cut
+pub running-none : (d : Decision) (xs : List Action) (n : ℕ) → stopped d ≡ 0 → xs ≡ [] → running_after d xs n ≡ n
+running-none d xs n uncut none = ap (λ ys. running_after d ys n) none ∙ omega (arith, uncut)
 
 -- one start is counted where one starts
 pub count-start : (job : Option Running) → total started (start_acts job) ≡ cond (is_some job) 1 0
@@ -122,7 +128,7 @@ stop-quiet f o s answer job (Some v) t closes = total-acts f o s kind.Shutdown a
 -- so as many run as before
 pub running-stopped :
     (o : Options) (answer : Answer) (jobs : ℕ → Option Running) (live : ℕ → Option Session) (numbers : List ℕ) (n : ℕ) →
-    running_after (flat_map (λ s. session_acts o s kind.Shutdown answer decision.Stopped (jobs s) (live s)) numbers) n ≡ n
+    running_after decision.Stopped (flat_map (λ s. session_acts o s kind.Shutdown answer decision.Stopped (jobs s) (live s)) numbers) n ≡ n
 running-stopped o answer jobs live numbers n = omega (arith, none ended ended-tells (λ s. refl) numbers, none started started-tells (λ s. refl) numbers)
   where
     none :

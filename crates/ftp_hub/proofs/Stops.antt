@@ -1,16 +1,15 @@
 -- The tables after a stop, and after a connection that comes later.
-use Rattle.std.proofs.Common.{◌≡◌, refl, sym, ap, ◌∙◌, subst, ℕ, Bool, true, false, cond, ◌||◌, List, [], ◌∷◌, ◌++◌, Option, Some, None}
+use Rattle.std.proofs.Common.{◌≡◌, refl, sym, ap, ◌∙◌, ℕ, true, false, ◌||◌, List, [], ◌∷◌, Option, Some, None}
 use Rattle.std.specs.Prelude.{◌==◌, flat_map, is_some, nat_eq}
 use Rattle.std.specs.HashMap as map
 use Rattle.std.specs.Option.{option_and_then}
-use Rattle.ftp_hub.proofs.Common.{Action, Answer, Entry, EventKind, Hub, HubEvent, Jobs, LoginKey, Options, Running, Serves, Session, Stands, Tables, V4, acts, decide, entry, failures, failures_in, has, holder, holder_at, is_used, named_session, new_number, past_of, running_after, running_job, same-both, session, session_acts}
+use Rattle.ftp_hub.proofs.Common.{Action, Answer, Entry, EventKind, Hub, HubEvent, Jobs, Options, Running, Serves, Stands, V4, acts, decide, entry, failures, failures_in, has, holder, holder_at, is_used, named_session, new_number, past_of, running_after, running_job, same-both, session, session_acts}
 use Rattle.ftp_base.specs.declared.net.IpAddr.{IpAddr}
 use Rattle.ftp_lockout.specs.Failures.{Table}
 use Rattle.ftp_numbers.specs.Used.{Used}
 use Rattle.ftp_events.specs.declared.action.Action.TheVariants as action
 use Rattle.ftp_events.specs.declared.decision.Decision.TheVariants as decision
 use Rattle.ftp_events.specs.declared.event.EventKind.TheVariants as kind
-use Rattle.ftp_events.specs.Acts.{acts_for}
 use Rattle.ftp_events.specs.Board.{Target, comes_to, target}
 use Rattle.ftp_events.specs.Decide.{due}
 use Rattle.ftp_events.specs.History.{meant}
@@ -67,7 +66,7 @@ serves-stopped old new log event answer done numbers st is ascends all leave sam
         running =
             ap map.hash_map_len jobs ∙ st.tables.running
             ∙ sym (running-stopped o answer (running_job o past) (map.get nat_eq old.sessions) numbers (running_count past))
-            ∙ ap (λ xs. running_after xs (running_count past)) (sym (leave (running_job o past)));
+            ∙ ap (λ xs. running_after decision.Stopped xs (running_count past)) (sym (leave (running_job o past)));
         numbers = λ n. ap (λ (x : Used). has x n) used ∙ st.tables.numbers n ∙ sym (ap (λ (k : EventKind). is_number (new_number k decision.Stopped) n || is_used past n) is);
         holders = λ a p. free a p ∙ sym (holder-stopped o past e (V4 a) p refl) ∙ ap (λ (o : Options). holder o (e ∷ past) (V4 a) p) (sym same);
         failures = λ key.

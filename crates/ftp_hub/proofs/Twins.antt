@@ -20,13 +20,13 @@ use Rattle.ftp_events.specs.declared.event.Answer.TheVariants.{Header}
 use Rattle.ftp_events.specs.declared.event.EventKind.TheVariants as kind
 use Rattle.ftp_events.specs.declared.session.Slot.{Slot}
 use Rattle.ftp_events.specs.declared.session.Slot.TheVariants.{Empty, Waits, Linked}
-use Rattle.ftp_events.specs.Acts.{acts_for, cancellations, closings, completions, drop_acts, farewells, link_in, notice_and_reply, notice_for, notifications, presence_for, refused_link, reply_acts, start_acts, stays}
+use Rattle.ftp_events.specs.Acts.{acts_for, cancellations, closings, completions, cuttings, drop_acts, farewells, link_in, notice_and_reply, notice_for, notifications, presence_for, refused_link, reply_acts, start_acts, stays}
 use Rattle.ftp_events.specs.Board.{Target, holder_of_target}
 use Rattle.ftp_events.specs.Classes.{is_ending}
 use Rattle.ftp_events.specs.ConnectionRows.{arrival_row, header_row}
 use Rattle.ftp_events.specs.Log.{is_stopped}
 use Rattle.ftp_events.specs.Decide.{due}
-use Rattle.ftp_laws.proofs.Cases.{by_test}
+use Rattle.ftp_laws.proofs.Cases.{by_completion, by_test}
 use Rattle.ftp_laws.proofs.AfterLemmas.{stopped-over}
 use Rattle.ftp_events.specs.History.{All, Nobody, One, subject, meant}
 use Rattle.ftp_events.specs.Login.{logged_user, login_by}
@@ -51,9 +51,13 @@ first-append [] ys = refl
 first-append (action.Start t n ∷ xs) ys = refl
 first-append (a ∷ xs) ys = first-append xs ys
 
-first-completions : (k : EventKind) (d : Decision) (b : Bool) → first_start (completions k d b) ≡ None
-first-completions (kind.End t) decision.Finished b = refl
-first-completions k d b = refl
+first-completions : (s : ℕ) (k : EventKind) (d : Decision) (b : Bool) (job : Option Running) → first_start (completions s k d b job) ≡ None
+first-completions s k d b job =
+    by_completion (λ xs. first_start xs ≡ None) s k d b job refl (λ t x y. refl) (λ r x y. first-cut b r)
+  where
+    first-cut : (b : Bool) (r : Running) → first_start (cuttings s b (Some r)) ≡ None
+    first-cut true r = refl
+    first-cut false r = refl
 
 first-cancellations : (s : ℕ) (b : Bool) (p : Option Pending) → first_start (cancellations s b p) ≡ None
 first-cancellations s b None = refl
@@ -120,7 +124,7 @@ or-none (Some x) = refl
 -- what starts among the actions of a live session
 first-live : (o : Options) (s : ℕ) (k : EventKind) (answer : Answer) (d : Decision) (job : Option Running) (v : Session) → first_start (session_acts o s k answer d job (Some v)) ≡ option_map at_of (starting k d job v)
 first-live o s k answer d job v =
-    let c = completions k d (stays d (Some v)) in
+    let c = completions s k d (stays d (Some v)) job in
     let l = drop_acts s (stays d (Some v)) d v.slot v.pending in
     let r = refused_link k d in
     let n = notice_and_reply o s k answer d job v in
@@ -132,13 +136,13 @@ first-live o s k answer d job v =
     ∙ ap (λ x. option_or x (first_start b)) (first-append (c ++ l ++ r) n ∙ ap (option_or (first_start (c ++ l ++ r))) (first-told o s k answer d job v) ∙ or-none (first_start (c ++ l ++ r))
     ∙ first-append (c ++ l) r ∙ ap (option_or (first_start (c ++ l))) (first-refused k d) ∙ or-none (first_start (c ++ l))
     ∙ first-append c l ∙ ap (option_or (first_start c)) (first-drop_acts s (stays d (Some v)) d v.slot v.pending) ∙ or-none (first_start c)
-    ∙ first-completions k d (stays d (Some v)))
+    ∙ first-completions s k d (stays d (Some v)) job)
     ∙ first-start_acts (starting k d job v)
 
 -- nothing starts for a session that is not live
 first-gone : (o : Options) (s : ℕ) (k : EventKind) (answer : Answer) (d : Decision) (job : Option Running) → first_start (session_acts o s k answer d job None) ≡ None
 first-gone o s k answer d job =
-    let c = completions k d (stays d None) in
+    let c = completions s k d (stays d None) job in
     let l = drop_acts s (stays d None) d Empty None in
     let r = refused_link k d in
     first-append (c ++ l ++ r ++ [] ++ []) (farewells s d)
@@ -148,7 +152,7 @@ first-gone o s k answer d job =
     ∙ first-append (c ++ l ++ r) [] ∙ or-none (first_start (c ++ l ++ r))
     ∙ first-append (c ++ l) r ∙ ap (option_or (first_start (c ++ l))) (first-refused k d) ∙ or-none (first_start (c ++ l))
     ∙ first-append c l ∙ ap (option_or (first_start c)) (first-drop_acts s (stays d None) d Empty None) ∙ or-none (first_start c)
-    ∙ first-completions k d (stays d None)
+    ∙ first-completions s k d (stays d None) job
 
 -- where nothing starts in any part, nothing starts
 first-parts : (f : ℕ → List Action) (xs : List ℕ) → ((s : ℕ) → first_start (f s) ≡ None) → first_start (flat_map f xs) ≡ None
@@ -183,6 +187,7 @@ starting-is : (k : EventKind) (d : Decision) (v : Session) (job : Option Running
 starting-is k (decision.Attached s) v job = startable-is (with_link v.slot (new_number k (decision.Attached s))) v.pending job
 starting-is k (decision.Queued t) v job = queued-is v.slot t _ _ v.cwd v.offset (asked_command k) job
 starting-is k decision.Finished v job = startable-is v.slot v.pending None
+starting-is k decision.Cut v job = startable-is v.slot v.pending None
 starting-is k d v job = none-after (λ (p : Pending). option_map (job_at p) None) (λ p. refl) v.pending
 
 -- the transfer that an event asks for, by the session that it is about

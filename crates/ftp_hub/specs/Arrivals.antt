@@ -49,6 +49,7 @@ abbrev pub may_start : EventKind → Bool
 may_start (kind.Transfer s c) = true
 may_start (kind.Stou s word) = true
 may_start (kind.End ticket) = true
+may_start (kind.Piece ticket) = true
 may_start k = is_proxied k || (is_data k || is_accepted k)
 
 -- the event with its answer is a control connection under this number, where that was not used and there was no stop

@@ -1,5 +1,5 @@
--- With which events a session ends.
-use Rattle.std.specs.Prelude.{ℕ, Bool}
+-- With which events a session ends, and how a transfer goes on or ends.
+use Rattle.std.specs.Prelude.{ℕ, Bool, true, false}
 use Rattle.ftp_options.specs.declared.options.Options.{Options}
 use Rattle.ftp_events.specs.declared.event.EventKind.{EventKind}
 use Rattle.ftp_events.specs.declared.event.EventKind.TheVariants as kind
@@ -12,3 +12,8 @@ use Rattle.ftp_handlers.specs.Handlers.{ends_session}
 abbrev pub is_over : Options → Bool → ℕ → EventKind → Session → Bool
 is_over o runs at (kind.IdleTick s) v = is_ending (idle_row o runs at v)
 is_over o runs at k v = ends_session k
+
+-- a piece of a transfer, which may be its last
+abbrev pub is_piece : EventKind → Bool
+is_piece (kind.Piece ticket) = true
+is_piece _ = false

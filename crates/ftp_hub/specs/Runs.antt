@@ -1,12 +1,15 @@
 -- Runs of events: what they need, and how the log goes on.
 use Rattle.std.specs.Prelude.{ℕ, ◌≡◌, Bool, true, is_some, List, ◌++◌, map, reverse, Option, ⊤}
-use Rattle.std.specs.Option.{option_map_or}
+use Rattle.std.specs.Option.{option_and_then, option_map_or}
 use Rattle.std.specs.FinMap as table
 use Rattle.ftp_base.specs.LinkTable.{Numbered}
 use Rattle.ftp_options.specs.declared.options.Options.{Options}
 use Rattle.ftp_transfer.specs.declared.job.Job.{Job}
 use Rattle.ftp_events.specs.declared.entry.Entry.{Entry}
-use Rattle.ftp_events.specs.Leads.{Views, Outside, Leads}
+use Rattle.ftp_events.specs.declared.event.EventKind.{EventKind}
+use Rattle.ftp_events.specs.Leads.{Views, Outside, Leads, job_of_ticket}
+use Rattle.ftp_events.specs.Log.{job_ticket}
+use Rattle.ftp_events.specs.Session.{running_job}
 use Rattle.ftp_events.specs.declared.event.HubEvent.{HubEvent}
 use Rattle.ftp_hub.specs.declared.run.RunError.{RunError}
 use Rattle.ftp_hub.specs.declared.run.RunError.TheVariants.{OutOfMemory, Exhausted}
@@ -18,6 +21,10 @@ is_linked links n = is_some (table.get links n)
 -- the link of the job, where there is one, is in the table
 abbrev pub has_link_of : {L : Type 0} → Numbered L → Option Job → Bool
 has_link_of links job = option_map_or (λ (j : Job). is_linked links j.number) job true
+
+-- the job of the ticket that an event names, where it runs and is not to stop
+abbrev pub job_due : Options → List Entry → EventKind → Option Job
+job_due o past k = option_and_then (λ t. job_of_ticket (running_job o past t.session) t) (job_ticket k)
 
 -- the log goes on by one entry for each of the events, in their order
 pub record GoesOn (old new : List Entry) (events : List HubEvent) : Type 0 where

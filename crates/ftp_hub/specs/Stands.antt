@@ -22,20 +22,21 @@ use Rattle.ftp_events.specs.declared.status.Ended.{Ended}
 use Rattle.ftp_events.specs.Counts.{Counted}
 use Rattle.ftp_events.specs.Statuses.{ended_of}
 use Rattle.ftp_events.specs.declared.session.Session.{Session}
-use Rattle.ftp_events.specs.Log.{past_of, is_stopped, is_used, named_session}
+use Rattle.ftp_events.specs.Log.{job_ticket, past_of, is_stopped, is_used, named_session}
 use Rattle.ftp_events.specs.Board.{holder}
 use Rattle.ftp_events.specs.Lockout.{failures}
 use Rattle.ftp_events.specs.Session.{session, running_job, live_count}
 use Rattle.ftp_events.specs.Leads.{job_of_ticket}
 use Rattle.ftp_events.specs.Running.{running_count}
-use Rattle.ftp_events.specs.Decide.{decide}
+use Rattle.ftp_events.specs.Decide.{decide, is_stoppable}
 use Rattle.ftp_events.specs.Acts.{acts}
 use Rattle.ftp_events.specs.Right.{IsRight, IsActed}
 use Rattle.ftp_events.specs.Words.{◌⇒◌∣◌}
 use Rattle.ftp_hub.specs.declared.hub.Hub.{Hub}
 use Rattle.ftp_handlers.specs.Rooms.{CanReply, CanTellDropped, HasCopy, HasLeave, IsReady, RoomState, kept_in, leavers_in, need_for, need_in, telling_in}
-use Rattle.ftp_handlers.specs.Handlers.{CanCount, asked_for, can_drop, can_reply, failures_in, is_auth, is_pasv, is_port, kept_alone, kept_by, places_for, telling_for, width_for}
+use Rattle.ftp_handlers.specs.Handlers.{CanCount, asked_for, can_drop, can_reply, failures_in, is_abor, is_auth, is_pasv, is_port, kept_alone, kept_by, places_for, telling_for, width_for}
 use Rattle.ftp_hub.specs.Arrivals.{brings_number, may_open, may_start}
+use Rattle.ftp_hub.specs.Endings.{is_piece}
 use Rattle.ftp_hub.specs.Leavers.{AreLeavers, is_shutdown}
 
 -- the options that a hub was made from
@@ -117,21 +118,25 @@ header_for hub (kind.Proxied number raw trace) =
     ((not (is_proxy hub.options.mode) || is_v6 raw.ip) || has hub.numbers number) || hub.stopped ⇒ None ∣ Some number
 header_for hub _ = None
 
--- the job that is to be run for an event: that whose end it is
+-- the job that is to be run for an event, whole or a piece of it: that of its ticket, where it runs and is not to stop
 abbrev pub job_for : Hub → EventKind → Option Job
-job_for hub (kind.End ticket) = job_of_ticket (map.get nat_eq hub.jobs ticket.session) ticket
-job_for hub _ = None
+job_for hub k = option_and_then (λ t. job_of_ticket (map.get nat_eq hub.jobs t.session) t) (job_ticket k)
 
 -- the path of the job whose end it may be
 abbrev pub path_for : Hub → EventKind → List ℕ
-path_for hub (kind.End ticket) = option_map_or (λ r. r.job.path) (map.get nat_eq hub.jobs ticket.session) []
-path_for hub _ = []
+path_for hub k = option_map_or (λ t. option_map_or (λ r. r.job.path) (map.get nat_eq hub.jobs t.session) []) (job_ticket k) []
 
--- what is counted of the job whose end an event tells, where counts are kept
+-- what is counted of the job whose end an event may tell, where counts are kept
 abbrev pub ended_in : Hub → EventKind → Option Ended
-ended_in hub (kind.End ticket) =
-    hub.options.collect_metrics ⇒ option_map (λ r. ended_of r.job) (map.get nat_eq hub.jobs ticket.session) ∣ None
-ended_in hub _ = None
+ended_in hub k =
+    hub.options.collect_metrics ⇒
+    option_and_then (λ t. option_map (λ r. ended_of r.job) (map.get nat_eq hub.jobs t.session)) (job_ticket k)
+    ∣ None
+
+-- a job of the session that an ABOR names runs, and is not to stop yet
+abbrev pub stops_for : Hub → EventKind → Bool
+stops_for hub (kind.Abor s) = is_stoppable (map.get nat_eq hub.jobs s)
+stops_for hub _ = false
 
 -- the address of version 4 that the client of the session has which an event names
 abbrev pub client_for : Hub → EventKind → Option ℕ
@@ -156,10 +161,11 @@ pub record Fits (room : RoomState) (hub : Hub) (event : HubEvent) : Type 0 where
   pub leavers : IsTrue (is_shutdown event.kind) → AreLeavers (map.get nat_eq hub.sessions) (leavers_in room)
   pub leave : HasLeave room
   pub pending : room.pending ≡ pending_for hub event.kind
-  pub need : need_in room ≡ need_for (is_some (header_for hub event.kind)) (job_for hub event.kind)
+  pub need : need_in room ≡ need_for (is_some (header_for hub event.kind)) (is_piece event.kind) (job_for hub event.kind)
   pub sessions : IsTrue (may_open event.kind) → 0 < map.spare hub.sessions
   pub jobs : IsTrue (may_start event.kind) → 0 < map.spare hub.jobs
   pub numbers : IsTrue (brings_number event.kind) → HasSpare hub.numbers
   pub used : IsTrue (is_port event.kind) → room.used ≡ used_for hub event.kind
+  pub stops : IsTrue (is_abor event.kind) → room.stops ≡ stops_for hub event.kind
   pub failures : IsTrue (is_auth event.kind) → CanCount hub.failures hub.options
   pub board : IsTrue (is_pasv event.kind) → is_legacy hub.options.mode ≡ false → IfSome (client_for hub event.kind) (HasRoom hub.board)

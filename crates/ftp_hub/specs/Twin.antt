@@ -47,10 +47,10 @@ first_start [] = None
 first_start (action.Start ticket number ∷ rest) = Some (ticket, number)
 first_start (a ∷ rest) = first_start rest
 
--- the job of a transfer, under this ticket, on this link
+-- the job of a transfer, under this ticket, on this link, of which nothing has moved
 abbrev pub job_at : Pending → Ticket × ℕ → Job
 job_at p at =
-    record { ticket = at.0; user = p.user; command = p.command; path = p.path; offset = p.offset; number = at.1 }
+    record { ticket = at.0; user = p.user; command = p.command; path = p.path; offset = p.offset; number = at.1; done = 0 }
 
 -- the transfer that an entry can start: the one that it queues, or the one that waits
 abbrev pub can_start : Decision → Option Pending → Option Pending → Option Pending

@@ -128,7 +128,7 @@ impl Hub {
                 room.close(*number);
                 Decision::HeaderFault(fault)
             }
-            Answer::None | Answer::Done(_) => Decision::NotExpected,
+            Answer::None | Answer::Done(_) | Answer::Moved { .. } => Decision::NotExpected,
         }
     }
 

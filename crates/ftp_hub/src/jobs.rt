@@ -1,28 +1,36 @@
-//! Transfers of a live session: how they are queued, how they start, and how they end.
+//! Transfers of a live session: how they are queued, how they start, how they go on, and how they end.
 
-ghost use Rattle.std.specs.Prelude.{◌≡◌, ◌+◌, ◌<◌, ◌^◌, ◌++◌, ℕ, IsTrue, None, Some, nat_eq};
+ghost use Rattle.std.specs.Prelude.{◌≡◌, ◌+◌, ◌<◌, ◌≤◌, ◌^◌, ◌++◌, ◌==◌, ℕ, IsTrue, None, Some, nat_eq, if◌then◌else◌};
 ghost use Rattle.std.specs.HashMap as map;
+ghost use Rattle.ftp_options.specs.declared.options.Options.{Options};
 ghost use Rattle.ftp_events.specs.declared.event.Answer.{Answer};
 ghost use Rattle.ftp_events.specs.declared.event.Answer.TheVariants.{Done};
+ghost use Rattle.ftp_events.specs.declared.event.Answer.TheVariants as answer;
 ghost use Rattle.ftp_events.specs.declared.event.EventKind.TheVariants.{End};
-ghost use Rattle.ftp_events.specs.declared.decision.Decision.TheVariants.{Finished};
+ghost use Rattle.ftp_events.specs.declared.decision.Decision.TheVariants.{Cut, Finished};
 ghost use Rattle.ftp_events.specs.Acts.{session_acts, start_acts, starting};
 ghost use Rattle.ftp_events.specs.CommandRows.{if_logged_in, transfer_row};
+ghost use Rattle.ftp_events.specs.EndRows.{can_end, can_move};
 ghost use Rattle.ftp_events.specs.Log.{named_session};
 ghost use Rattle.ftp_events.specs.Login.{logged_user};
 ghost use Rattle.ftp_events.specs.Session.{session_after};
-ghost use Rattle.ftp_events.specs.Slot.{lane_of, startable};
-ghost use Rattle.ftp_handlers.specs.Rooms.{CanReply, IsReady, HasCopy, HasPlace, actions_in, kept_in, twice_in};
+ghost use Rattle.ftp_events.specs.Slot.{kept_running, lane_of, startable};
+ghost use Rattle.ftp_handlers.specs.Rooms.{CanReply, CanTellDropped, IsReady, HasCopy, HasPlace, HasPlaces, actions_in, kept_in, twice_in};
 ghost use Rattle.ftp_handlers.specs.Handlers.{is_transfer, IsFew, asked_for, kept_by, notices_of, with_lane, Starts};
+ghost use Rattle.ftp_hub.specs.Endings.{is_piece};
 
 use crate::tables::put;
-use ftp_events::{Decision, HubEvent, Running, Session, Slot};
+use ftp_base::DataChanCmd;
+use ftp_events::{Decision, EventKind, HubEvent, Running, Session, Slot};
 use ftp_handlers::{Room, end, transfer};
 use ftp_options::Options;
 use ftp_switchboard::Switchboard;
-use ftp_transfer::Outcome;
+use ftp_transfer::{Job, Outcome};
 use std::collections::HashMap;
 use std::mem;
+
+// No piece of a transfer has more bytes.
+const MOST_BYTES: u64 = 8192;
 
 /// Starts the transfer that waits in the slot of a session, where the slot has a link and no job runs.
 pub(crate) fn start(
@@ -107,4 +115,67 @@ pub(crate) fn finish(
     let number = job.job.ticket.session;
     end::deliver(session, job, outcome, room, at, options);
     start(session, number, jobs, room);
+}
+
+/// Tells the session that its transfer was cut, and starts the one that waits for its end.
+pub(crate) fn cut(
+    session: &mut Session,
+    job: Running,
+    jobs: &mut HashMap<u64, Running>,
+    room: &mut Room,
+    at: u64,
+)
+    requires room { IsReady room.old }
+    requires places { HasPlaces 5 room.old }
+    requires letters { CanReply 64 room.old }
+    requires dropped { CanTellDropped room.old }
+    requires spare { 0 < map.spare jobs.old }
+    requires ended { map.get nat_eq jobs.old job.job.ticket.session ≡ None }
+    ensures session { (answer : Answer) → session.new ≡ session_after at (End job.job.ticket) answer Cut 0 (Some job) session.old }
+    ensures actions { (o : Options) (answer : Answer) → actions_in room.new ≡ session_acts o job.job.ticket.session (End job.job.ticket) answer Cut (Some job) (Some session.old) }
+    ensures starts { Starts jobs.old jobs.new job.job.ticket.session (starting (End job.job.ticket) Cut (Some job) session.old) }
+    ensures twice { twice_in room.new ≡ twice_in room.old }
+{
+    let number = job.job.ticket.session;
+    end::cut(session, &job, room, at);
+    start(session, number, jobs, room);
+}
+
+/// The job that runs is to stop, where the decision says so.
+pub(crate) fn mark(jobs: &mut HashMap<u64, Running>, number: u64, decision: Decision)
+    ensures jobs { (q : ℕ) → map.get nat_eq jobs.new q ≡ (if number == q then kept_running decision answer.None (map.get nat_eq jobs.old q) else map.get nat_eq jobs.old q) }
+    ensures len { map.hash_map_len jobs.new ≡ map.hash_map_len jobs.old }
+    ensures spare { map.spare jobs.old ≤ map.spare jobs.new }
+{
+    if let Decision::Aborting = decision {
+        if let Some(running) = jobs.get_mut(&number) {
+            running.marked = true;
+        }
+    }
+}
+
+/// Says whether the event is a piece of a transfer.
+pub(crate) fn is_piece(kind: &EventKind) -> bool
+    ensures { result ≡ is_piece kind.now }
+{
+    matches!(kind, EventKind::Piece { .. })
+}
+
+/// Says whether the job can go on with so many bytes.
+pub(crate) fn can_move(job: &Job, bytes: u64) -> bool
+    ensures { result ≡ can_move job.now bytes }
+{
+    match &job.command {
+        DataChanCmd::Retr { .. } | DataChanCmd::Stor { .. } | DataChanCmd::Appe { .. } => {
+            1 <= bytes && bytes <= MOST_BYTES && bytes <= u64::MAX - job.done
+        }
+        DataChanCmd::List { .. } | DataChanCmd::Nlst { .. } | DataChanCmd::Mlsd { .. } => false,
+    }
+}
+
+/// Says whether the job can end so.
+pub(crate) fn can_end(job: &Job, outcome: Outcome) -> bool
+    ensures { result ≡ can_end job.now outcome }
+{
+    outcome.suits(&job.command) && job.done <= outcome.bytes
 }

@@ -7,13 +7,15 @@ ghost use Rattle.ftp_numbers.specs.Used.{HasSpare};
 ghost use Rattle.ftp_options.specs.Modes.{is_legacy};
 ghost use Rattle.ftp_switchboard.specs.Board.{HasRoom};
 ghost use Rattle.ftp_events.specs.Leads.{job_of_ticket};
-ghost use Rattle.ftp_handlers.specs.Handlers.{CanCount, can_drop, can_reply, is_auth, is_pasv, is_port, places_for, telling_for, width_for};
+ghost use Rattle.ftp_handlers.specs.Handlers.{CanCount, can_drop, can_reply, is_abor, is_auth, is_pasv, is_port, places_for, telling_for, width_for};
 ghost use Rattle.ftp_handlers.specs.Rooms.{CanReply, CanTellDropped, HasCopy, HasLeave, IsReady, job_in, kept_in, leavers_in, need_for, need_in, telling_in, twice_in};
 ghost use Rattle.ftp_hub.specs.Leavers.{AreLeavers, is_shutdown};
 ghost use Rattle.ftp_hub.specs.Arrivals.{brings_number, may_open, may_start};
-ghost use Rattle.ftp_hub.specs.Stands.{Fits, SameAnswers, count_of, named_in, kept_for, pending_for, header_for, job_for, client_for, path_for, used_for};
+ghost use Rattle.ftp_hub.specs.Endings.{is_piece};
+ghost use Rattle.ftp_hub.specs.Stands.{Fits, SameAnswers, count_of, named_in, kept_for, pending_for, header_for, job_for, client_for, path_for, stops_for, used_for};
 
 use crate::hub::Hub;
+use crate::jobs::is_piece;
 use ftp_base::Bytes;
 use ftp_events::{EventKind, HubEvent, Pending, Running, Session};
 use ftp_handlers::{Extent, Prepared, Room, copy_alone, copy_kept, copy_telling, fix_transfer};
@@ -104,9 +106,10 @@ impl Hub {
                 self.jobs.reserve(1)?;
                 self.numbers.make_room()
             }
-            EventKind::Transfer { .. } | EventKind::Stou { .. } | EventKind::End { .. } => {
-                self.jobs.reserve(1)
-            }
+            EventKind::Transfer { .. }
+            | EventKind::Stou { .. }
+            | EventKind::End { .. }
+            | EventKind::Piece { .. } => self.jobs.reserve(1),
             EventKind::Pasv { .. } => match self.client_of(kind) {
                 Some(client) if !self.options.mode.is_legacy() => self.board.reserve_room(client),
                 _ => Ok(()),
@@ -155,9 +158,10 @@ impl Hub {
         ensures kept { IfOk result (λ room. kept_in room ≡ kept_for self.now kind.now) }
         ensures pending { IfOk result (λ room. room.pending ≡ pending_for self.now kind.now) }
         ensures job { IfOk result (λ room. job_in room ≡ job_for self.now kind.now) }
-        ensures need { IfOk result (λ room. need_in room ≡ need_for (is_some (header_for self.now kind.now)) (job_for self.now kind.now)) }
+        ensures need { IfOk result (λ room. need_in room ≡ need_for (is_some (header_for self.now kind.now)) (is_piece kind.now) (job_for self.now kind.now)) }
         ensures counted { IfOk result (λ room. room.count ≡ self.now.count) }
         ensures used { IfOk result (λ room. IsTrue (is_port kind.now) → room.used ≡ used_for self.now kind.now) }
+        ensures stops { IfOk result (λ room. IsTrue (is_abor kind.now) → room.stops ≡ stops_for self.now kind.now) }
         ensures full { IfErr result (λ error. error ≡ PrepareError.OutOfMemory) }
         ensures path { IfOk result (λ room. HasCopy room (path_for self.now kind.now)) }
         ensures telling { IfOk result (λ room. telling_in room ≡ telling_for kind.now) }
@@ -175,6 +179,8 @@ impl Hub {
             header: self.needs_header(kind),
             job: self.copy_job(kind)?,
             used: self.is_used(kind),
+            piece: is_piece(kind),
+            stops: self.can_stop(kind),
             telling: copy_telling(self.alloc, kind, twice)?,
             leavers: self.copy_leavers(kind, twice)?,
         };
@@ -219,7 +225,10 @@ impl Hub {
             return Ok(Bytes::from_vec(Vec::new(self.alloc)));
         }
         match kind {
-            EventKind::End { ticket } => match self.jobs.get(&ticket.session) {
+            EventKind::End { ticket } | EventKind::Piece { ticket } => match self
+                .jobs
+                .get(&ticket.session)
+            {
                 Some(running) => running.job.path.copy(self.alloc),
                 None => Ok(Bytes::from_vec(Vec::new(self.alloc))),
             },
@@ -255,13 +264,26 @@ impl Hub {
         }
     }
 
-    // The job whose end the event is, where it runs.
+    // Says whether a job of the session that an ABOR names runs, and is not to stop yet.
+    fn can_stop(&self, kind: &EventKind) -> bool
+        ensures { result ≡ stops_for self.now kind.now }
+    {
+        match kind {
+            EventKind::Abor { session } => match self.jobs.get(session) {
+                Some(running) => !running.marked,
+                None => false,
+            },
+            _ => false,
+        }
+    }
+
+    // The job of the ticket that the event names, where it runs and is not to stop.
     #[inline(always)]
     fn copy_job(&self, kind: &EventKind) -> Result<Option<Job>, AllocError>
         ensures { IfOk result (λ job. job ≡ job_for self.now kind.now) }
     {
         match kind {
-            EventKind::End { ticket } => copy_job(
+            EventKind::End { ticket } | EventKind::Piece { ticket } => copy_job(
                 self.alloc,
                 self.jobs.get(&ticket.session),
                 *ticket,
@@ -271,7 +293,7 @@ impl Hub {
     }
 }
 
-// The job, where it is that of the ticket.
+// The job, where it is that of the ticket and is not to stop.
 fn copy_job(
     alloc: Global,
     running: Option<&Running>,
@@ -280,7 +302,9 @@ fn copy_job(
     ensures { IfOk result (λ copy. copy ≡ job_of_ticket (option_copied running.entry) ticket) }
 {
     match running {
-        Some(running) if running.job.ticket == ticket => Ok(Some(running.job.copy(alloc)?)),
+        Some(running) if running.job.ticket == ticket && !running.marked => {
+            Ok(Some(running.job.copy(alloc)?))
+        }
         _ => Ok(None),
     }
 }

@@ -1,15 +1,15 @@
 //! Runs: one event, and a list of events with its log.
 
-ghost use Rattle.std.specs.Prelude.{◌≡◌, ◌+◌, ◌-◌, ◌^◌, ◌<◌, ◌↔◌, ◌∷◌, [], ℕ, List, IsTrue, true, false, take, length, IfOk, IfErr, OnOk, OnErr, IsErrOf};
+ghost use Rattle.std.specs.Prelude.{◌≡◌, ◌⊎◌, ◌+◌, ◌-◌, ◌^◌, ◌<◌, ◌↔◌, ◌∷◌, [], ℕ, List, IsTrue, true, false, take, length, IfOk, IfErr, OnOk, OnErr, IsErrOf};
 ghost use Rattle.std.specs.List.{list_all};
 ghost use Rattle.ftp_events.specs.declared.entry.Entry.{Entry};
 ghost use Rattle.ftp_events.specs.Right.{next_entry};
 ghost use Rattle.ftp_hub.specs.Headline.{IsFresh, Headline};
 ghost use Rattle.ftp_events.specs.Covers.{is_covered};
-ghost use Rattle.ftp_events.specs.Leads.{HasLinks, LeadsOne, LeavesAll, RunsJob, beside, job_to_run, views};
+ghost use Rattle.ftp_events.specs.Leads.{HasLinks, LeadsOne, LeavesAll, MovesPiece, RunsJob, beside, views};
 ghost use Rattle.ftp_events.specs.Log.{past_of};
 ghost use Rattle.ftp_handlers.specs.Rooms.{job_in};
-ghost use Rattle.ftp_hub.specs.Runs.{GoesOn, LeadsOn, has_link_of, is_linked, done_of, IsExhausted};
+ghost use Rattle.ftp_hub.specs.Runs.{GoesOn, LeadsOn, has_link_of, is_linked, job_due, done_of, IsExhausted};
 ghost use Rattle.ftp_hub.specs.Stands.{Stands, SameAnswers, Fits, job_for, options_of, count_of};
 
 use crate::hub::Hub;
@@ -18,7 +18,7 @@ use ftp_base::{Link, LinkTable, Storage};
 use ftp_events::{Answer, Entry, HubEvent, Log};
 use ftp_handlers::{Need, Room};
 use ftp_proxy::read_proxy_header;
-use ftp_transfer::{Job, execute};
+use ftp_transfer::{Job, PieceResult, execute, execute_piece};
 use std::alloc::Global;
 use thiserror::Error;
 
@@ -72,7 +72,8 @@ fn is_covered<L: Link>(links: &LinkTable<L>, event: &HubEvent) -> bool
 }
 
 /// Runs one event. Before it the header of its connection is read, where a proxy passes that on; and for the end of a
-/// transfer its job is run, on the link that it started on. An error leaves all as it was, with `done` 0.
+/// transfer, or a piece of one, its job is run, whole or by a piece, on the link that it started on. An error leaves all as
+/// it was, with `done` 0.
 ///
 /// Where the job's link is not in the table the job is not run, and its end is refused. No header is read of a connection
 /// that is refused whatever its header says.
@@ -91,13 +92,13 @@ pub fn run_event<S: Storage, L: Link>(
         (log : List Entry) → Stands hub.old log → Stands hub.new (e ∷ log)) }
     ensures leads { IfOk result (λ e.
         (log : List Entry) → Stands hub.old log →
-        has_link_of links.old (job_to_run (options_of hub.old) (past_of log) event.kind) ≡ true →
+        has_link_of links.old (job_due (options_of hub.old) (past_of log) event.kind) ≡ true →
         LeadsOne (views S.files S.rule S.faults S.fault_limit S.calls L.left L.sending L.faults L.fault_limit L.calls)
         (options_of hub.old) (past_of log) e
         (beside storage.old links.old) (beside storage.new links.new)) }
     ensures lacks { IfOk result (λ e.
         (log : List Entry) → Stands hub.old log →
-        has_link_of links.old (job_to_run (options_of hub.old) (past_of log) event.kind) ≡ false →
+        has_link_of links.old (job_due (options_of hub.old) (past_of log) event.kind) ≡ false →
         LeavesAll e.answer (beside storage.old links.old) (beside storage.new links.new)) }
     ensures linked { (n : ℕ) → is_linked links.old n ≡ true → is_linked links.new n ≡ true }
     ensures options { options_of hub.new ≡ options_of hub.old }
@@ -131,12 +132,12 @@ fn run_prepared<S: Storage, L: Link>(
         result ≡ next_entry (options_of hub.old) log event result.answer }
     ensures stands { (log : List Entry) → Stands hub.old log → Stands hub.new (result ∷ log) }
     ensures leads { (log : List Entry) → Stands hub.old log →
-        has_link_of links.old (job_to_run (options_of hub.old) (past_of log) event.kind) ≡ true →
+        has_link_of links.old (job_due (options_of hub.old) (past_of log) event.kind) ≡ true →
         LeadsOne (views S.files S.rule S.faults S.fault_limit S.calls L.left L.sending L.faults L.fault_limit L.calls)
         (options_of hub.old) (past_of log) result
         (beside storage.old links.old) (beside storage.new links.new) }
     ensures lacks { (log : List Entry) → Stands hub.old log →
-        has_link_of links.old (job_to_run (options_of hub.old) (past_of log) event.kind) ≡ false →
+        has_link_of links.old (job_due (options_of hub.old) (past_of log) event.kind) ≡ false →
         LeavesAll result.answer (beside storage.old links.old) (beside storage.new links.new) }
     ensures linked { (n : ℕ) → is_linked links.old n ≡ true → is_linked links.new n ≡ true }
     ensures options { options_of hub.new ≡ options_of hub.old }
@@ -147,7 +148,7 @@ fn run_prepared<S: Storage, L: Link>(
     hub.step(room, event, answer)
 }
 
-// Reads the header that the event is to be decided by, or runs the job that it is the end of.
+// Reads the header that the event is to be decided by, or runs the job that it is the end or a piece of.
 fn ask<S: Storage, L: Link>(
     hub: &Hub,
     room: &mut Room,
@@ -160,12 +161,12 @@ fn ask<S: Storage, L: Link>(
     requires covered { IsTrue (is_covered (is_linked links.old) event.now.kind) }
     ensures fits { Fits room.new hub.now event.now }
     ensures leads { (log : List Entry) (e : Entry) → Stands hub.now log → e.event ≡ event.now → e.answer ≡ result →
-        has_link_of links.old (job_to_run (options_of hub.now) (past_of log) event.now.kind) ≡ true →
+        has_link_of links.old (job_due (options_of hub.now) (past_of log) event.now.kind) ≡ true →
         LeadsOne (views S.files S.rule S.faults S.fault_limit S.calls L.left L.sending L.faults L.fault_limit L.calls)
         (options_of hub.now) (past_of log) e
         (beside storage.old links.old) (beside storage.new links.new) }
     ensures lacks { (log : List Entry) → Stands hub.now log →
-        has_link_of links.old (job_to_run (options_of hub.now) (past_of log) event.now.kind) ≡ false →
+        has_link_of links.old (job_due (options_of hub.now) (past_of log) event.now.kind) ≡ false →
         LeavesAll result (beside storage.old links.old) (beside storage.new links.new) }
     ensures linked { (n : ℕ) → is_linked links.old n ≡ true → is_linked links.new n ≡ true }
 {
@@ -185,6 +186,12 @@ fn ask<S: Storage, L: Link>(
                 unreachable!()
             };
             run_job(hub.alloc, job, storage, links)
+        }
+        Need::Piece(_) => {
+            let Some(job) = room.take_job() else {
+                unreachable!()
+            };
+            run_piece(hub.alloc, job, storage, links)
         }
     }
 }
@@ -206,6 +213,32 @@ fn run_job<S: Storage, L: Link>(
     match links.get_mut(job.number) {
         None => Answer::None,
         Some(link) => Answer::Done(execute(alloc, job, storage, link)),
+    }
+}
+
+// Runs a piece of a job on its link, where that is in the table.
+fn run_piece<S: Storage, L: Link>(
+    alloc: Global,
+    job: Job,
+    storage: &mut S,
+    links: &mut LinkTable<L>,
+) -> Answer
+    ensures ran { is_linked links.old job.number ≡ true →
+        MovesPiece (views S.files S.rule S.faults S.fault_limit S.calls L.left L.sending L.faults L.fault_limit L.calls)
+        job result (beside storage.old links.old) (beside storage.new links.new)
+        ⊎ RunsJob (views S.files S.rule S.faults S.fault_limit S.calls L.left L.sending L.faults L.fault_limit L.calls)
+        job result (beside storage.old links.old) (beside storage.new links.new) }
+    ensures lacks { is_linked links.old job.number ≡ false →
+        LeavesAll result (beside storage.old links.old) (beside storage.new links.new) }
+    ensures linked { (n : ℕ) → is_linked links.old n ≡ true → is_linked links.new n ≡ true }
+{
+    let Some(link) = links.get_mut(job.number) else {
+        return Answer::None;
+    };
+    let mut job = job;
+    match execute_piece(alloc, &mut job, storage, link) {
+        PieceResult::More { bytes } => Answer::Moved { bytes },
+        PieceResult::Ended(outcome) => Answer::Done(outcome),
     }
 }
 

@@ -1,14 +1,14 @@
 //! One event: what is decided, how the tables change, and what is done.
 
-ghost use Rattle.std.specs.Prelude.{◌≡◌, ◌+◌, ◌-◌, ◌<◌, ◌≤◌, ◌^◌, ◌∷◌, ◌||◌, ℕ, List, IsTrue, true, Some, IfSome, IsSomeAnd, is_some, nat_eq};
-ghost use Rattle.ftp_transfer.specs.Transfer.{suits};
-ghost use Rattle.ftp_events.specs.declared.event.Answer.TheVariants.{Done};
-ghost use Rattle.ftp_events.specs.declared.event.EventKind.TheVariants.{End, Sweep};
+ghost use Rattle.std.specs.Prelude.{◌≡◌, ◌+◌, ◌-◌, ◌<◌, ◌≤◌, ◌^◌, [], ◌∷◌, ◌||◌, ℕ, List, IsTrue, true, false, Some, IfSome, IsSomeAnd, is_some, nat_eq};
+ghost use Rattle.ftp_events.specs.declared.event.Answer.TheVariants.{Done, Moved};
+ghost use Rattle.ftp_events.specs.declared.event.EventKind.TheVariants.{Piece, Sweep};
 ghost use Rattle.std.specs.HashMap as map;
 ghost use Rattle.ftp_switchboard.specs.Board.{HasRoom};
 ghost use Rattle.ftp_numbers.specs.Used.{HasSpare, has};
 ghost use Rattle.ftp_events.specs.declared.entry.Entry.{Entry};
-ghost use Rattle.ftp_events.specs.Log.{is_refusal, named_session, new_number};
+ghost use Rattle.ftp_events.specs.EndRows.{can_end, can_move};
+ghost use Rattle.ftp_events.specs.Log.{is_refusal, job_ticket, named_session, new_number};
 ghost use Rattle.ftp_events.specs.Right.{next_entry};
 ghost use Rattle.ftp_events.specs.Words.{is_number};
 ghost use Rattle.ftp_handlers.specs.Handlers.{can_reply, ends_session, is_command, is_idle_tick, is_port, is_transfer, kept_by, places_for};
@@ -17,7 +17,7 @@ ghost use Rattle.ftp_hub.specs.Endings.{is_over};
 ghost use Rattle.ftp_hub.specs.Stands.{Stands, Serves, SameHead, SameTables, Fits, ended_in, entry, options_of, count_of, kept_for, client_for};
 
 use crate::hub::Hub;
-use crate::jobs::{finish, queue};
+use crate::jobs::{can_end, can_move, cut, finish, is_piece, mark, queue};
 use crate::tables::take;
 use ftp_events::{Answer, Decision, Ended, Entry, EventKind, HubEvent};
 use ftp_handlers::{Room, command, ending, idle_tick};
@@ -64,12 +64,13 @@ impl Hub {
         decision
     }
 
-    // What is counted of the job whose end the event tells, where counts are kept.
+    // What is counted of the job whose end the event may tell, where counts are kept.
     fn ended(&self, kind: &EventKind) -> Option<Ended>
         ensures { result ≡ ended_in self.now kind.now }
     {
         match kind {
-            EventKind::End { ticket } if self.options.collect_metrics => {
+            EventKind::End { ticket } | EventKind::Piece { ticket }
+                if self.options.collect_metrics => {
                 match self.jobs.get(&ticket.session) {
                     Some(running) => Some(Ended::of(&running.job)),
                     None => None,
@@ -105,7 +106,9 @@ impl Hub {
             EventKind::Transfer { session, .. } | EventKind::Stou { session, .. } => {
                 self.transfer(room, event, answer, *session)
             }
-            EventKind::End { ticket } => self.end(room, event, answer, *ticket),
+            EventKind::End { ticket } | EventKind::Piece { ticket } => {
+                self.end(room, event, answer, *ticket)
+            }
             EventKind::Closed { session } | EventKind::Quit { session } => self.close(
                 room, event, answer, *session,
             ),
@@ -158,6 +161,7 @@ impl Hub {
                     &self.options,
                 );
                 use_number(&mut self.numbers, &event.kind, decision);
+                mark(&mut self.jobs, number, decision);
                 decision
             }
         }
@@ -240,30 +244,81 @@ impl Hub {
         }
     }
 
-    // The end of a transfer.
+    // The end of a transfer, or a piece of it, which may be the last.
     fn end(&mut self, room: &mut Room, event: &HubEvent, answer: Answer, ticket: Ticket) -> Decision
         requires fits { Fits room.old self.old event.now }
-        requires of_this_event { event.now.kind ≡ End ticket }
+        requires of_this_event { job_ticket event.now.kind ≡ Some ticket }
         ensures serves { (log : List Entry) → Stands self.old log → Serves self.old self.new log event.now answer result (actions_in room.new) }
         ensures head { SameHead self.old self.new }
         ensures twice { twice_in room.new ≡ twice_in room.old }
     {
-        let Some(job) = self.jobs.get(&ticket.session) else {
+        let Some(running) = self.jobs.get(&ticket.session) else {
             return Decision::UnknownNumber;
         };
-        if job.job.ticket != ticket {
+        if running.job.ticket != ticket {
             return Decision::UnknownNumber;
         }
-        let Answer::Done(outcome) = answer else {
-            return Decision::NotExpected;
-        };
-        if !outcome.suits(&job.job.command) {
-            return Decision::NotExpected;
+        if running.marked {
+            return self.cut(room, event, answer, ticket);
         }
-        self.finish(room, event, ticket, outcome)
+        match answer {
+            Answer::Moved { bytes } => {
+                if !is_piece(&event.kind) {
+                    return Decision::NotExpected;
+                }
+                if !can_move(&running.job, bytes) {
+                    return Decision::NotExpected;
+                }
+                self.go_on(event, bytes, ticket)
+            }
+            Answer::Done(outcome) => {
+                if !can_end(&running.job, outcome) {
+                    return Decision::NotExpected;
+                }
+                self.finish(room, event, ticket, outcome)
+            }
+            Answer::None => Decision::NotExpected,
+            Answer::Header(_) => Decision::NotExpected,
+        }
     }
 
-    // A transfer that runs has ended with an outcome that suits it.
+    // A piece of a transfer that runs has moved, and more may come.
+    fn go_on(&mut self, event: &HubEvent, bytes: u64, ticket: Ticket) -> Decision
+        requires of_this_event { event.now.kind ≡ Piece ticket }
+        requires runs { IsSomeAnd (map.get nat_eq self.old.jobs ticket.session) (λ r. (r.job.ticket ≡ ticket) × (r.marked ≡ false) × (can_move r.job bytes ≡ true)) }
+        ensures serves { (log : List Entry) → Stands self.old log → Serves self.old self.new log event.now (Moved bytes) result [] }
+        ensures head { SameHead self.old self.new }
+    {
+        let Some(running) = self.jobs.get_mut(&ticket.session) else {
+            unreachable!()
+        };
+        running.job.done += bytes;
+        if let Some(session) = self.sessions.get_mut(&ticket.session) {
+            session.active_at = event.at;
+        }
+        Decision::Moved
+    }
+
+    // A transfer that was to stop has stopped.
+    fn cut(&mut self, room: &mut Room, event: &HubEvent, answer: Answer, ticket: Ticket) -> Decision
+        requires fits { Fits room.old self.old event.now }
+        requires of_this_event { job_ticket event.now.kind ≡ Some ticket }
+        requires runs { IsSomeAnd (map.get nat_eq self.old.jobs ticket.session) (λ r. (r.job.ticket ≡ ticket) × (r.marked ≡ true)) }
+        ensures serves { (log : List Entry) → Stands self.old log → Serves self.old self.new log event.now answer result (actions_in room.new) }
+        ensures head { SameHead self.old self.new }
+        ensures twice { twice_in room.new ≡ twice_in room.old }
+    {
+        let Some(job) = take(&mut self.jobs, ticket.session) else {
+            unreachable!()
+        };
+        match self.sessions.get_mut(&ticket.session) {
+            None => room.cut(ticket.session, ticket, job.job.number),
+            Some(session) => cut(session, job, &mut self.jobs, room, event.at),
+        }
+        Decision::Cut
+    }
+
+    // A transfer that runs has ended with an outcome that it accepts.
     fn finish(
         &mut self,
         room: &mut Room,
@@ -272,8 +327,8 @@ impl Hub {
         outcome: Outcome,
     ) -> Decision
         requires fits { Fits room.old self.old event.now }
-        requires of_this_event { event.now.kind ≡ End ticket }
-        requires runs { IsSomeAnd (map.get nat_eq self.old.jobs ticket.session) (λ job. (job.job.ticket ≡ ticket) × (suits outcome.result job.job.command ≡ true)) }
+        requires of_this_event { job_ticket event.now.kind ≡ Some ticket }
+        requires runs { IsSomeAnd (map.get nat_eq self.old.jobs ticket.session) (λ r. (r.job.ticket ≡ ticket) × (r.marked ≡ false) × (can_end r.job outcome ≡ true)) }
         ensures serves { (log : List Entry) → Stands self.old log → Serves self.old self.new log event.now (Done outcome) result (actions_in room.new) }
         ensures head { SameHead self.old self.new }
         ensures twice { twice_in room.new ≡ twice_in room.old }

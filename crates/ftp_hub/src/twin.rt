@@ -266,5 +266,6 @@ fn start(at: Option<(Ticket, u64)>, pending: Option<Pending>) -> Option<Job>
         path: pending.path,
         offset: pending.offset,
         number,
+        done: 0,
     })
 }

@@ -8,7 +8,6 @@ use Rattle.ftp_events.specs.CommandRows.{can_queue, if_logged_in, is_logged_in, 
 use Rattle.ftp_events.specs.declared.event.EventKind.TheVariants as kind
 use Rattle.ftp_events.specs.Ages.{is_activity}
 use Rattle.ftp_handlers.specs.Handlers.{is_transfer, number_of, with_queued}
-use Rattle.ftp_laws.proofs.BalanceLemmas.{no-completion}
 use Rattle.ftp_hub.proofs.Decisions.{starts-none}
 use Rattle.ftp_hub.proofs.jobs.queue.Goals as goal
 
@@ -23,10 +22,10 @@ no-notice : (at : ℕ) (k : EventKind) (d : Decision) (v : Session) → with_que
 no-notice at k d v = λ i. record (with_queued at k d v) { notices = sym (add-zero v.notices) i }
 
 refuses-login : Refuses decision.NotLoggedIn
-refuses-login = record { session = λ at k answer job v active. rw active (no-notice at k decision.NotLoggedIn v); acts = λ o s k answer job v. rw (no-completion decision.NotLoggedIn k true refl) refl; starts = λ k job v. refl }
+refuses-login = record { session = λ at k answer job v active. rw active (no-notice at k decision.NotLoggedIn v); acts = λ o s k answer job v. refl; starts = λ k job v. refl }
 
 refuses-slot : Refuses decision.NoSlot
-refuses-slot = record { session = λ at k answer job v active. rw active (no-notice at k decision.NoSlot v); acts = λ o s k answer job v. rw (no-completion decision.NoSlot k true refl) refl; starts = λ k job v. refl }
+refuses-slot = record { session = λ at k answer job v active. rw active (no-notice at k decision.NoSlot v); acts = λ o s k answer job v. refl; starts = λ k job v. refl }
 
 -- a transfer that is asked for is activity
 transfer-active : (k : EventKind) → is_transfer k ≡ true → is_activity k ≡ true

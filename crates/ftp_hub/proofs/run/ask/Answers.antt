@@ -12,10 +12,11 @@ use Rattle.ftp_hub.proofs.Links.{header-due, header-number, insert-linked}
 use Rattle.ftp_hub.proofs.run.ask.Goals as goal
 
 -- a header is needed where one is to be read
-header-needed : (b : Bool) (job : Option Job) → need_for b job ≡ Header → b ≡ true
-header-needed true job h = refl
-header-needed false None h = cc
-header-needed false (Some job) h = cc
+header-needed : (b piece : Bool) (job : Option Job) → need_for b piece job ≡ Header → b ≡ true
+header-needed true piece job h = refl
+header-needed false piece None h = cc
+header-needed false true (Some job) h = cc
+header-needed false false (Some job) h = cc
 
 -- the header that the event is to be decided by was read from its link
 pub returns-in-Some-get_mut-clause-leads : goal.returns-in-Some-get_mut-clause-leads
@@ -24,7 +25,7 @@ returns-in-Some-get_mut-clause-leads g c log e st same given has =
     let k = c.args.event.now.kind in
     let n = c.in-Some.number in
     let after = c.read_proxy_header.new.source in
-    let read : is_some (header_for hub k) ≡ true = header-needed _ (job_for hub k) (sym c.requires.fits.need ∙ sym c.need.ensures ∙ c.in-Header.is) in
+    let read : is_some (header_for hub k) ≡ true = header-needed _ _ (job_for hub k) (sym c.requires.fits.need ∙ sym c.need.ensures ∙ c.in-Header.is) in
     let due : header_to_read hub.options (past_of log) e.event.kind ≡ Some n =
     ap (λ (event : HubEvent). header_to_read hub.options (past_of log) event.kind) same
     ∙ header-due hub log k st

@@ -4,6 +4,7 @@ use Rattle.std.specs.Option.{option_copied_mut}
 use Rattle.std.specs.FinMap as map
 use Rattle.ftp_hub.proofs.Common.{is_linked}
 use Rattle.ftp_hub.proofs.Links.{insert-linked}
+use Rattle.ftp_hub.proofs.Pieces.{end-fits}
 use Rattle.ftp_hub.proofs.run.run_job.Goals as goal
 
 -- the job was run on its link
@@ -15,7 +16,7 @@ returns-in-Some-clause-ran g c linked =
       before = c.in-Some.link.now;
       after = after;
       given_is = refl;
-      fits = c.execute.ensures.suits;
+      fits = end-fits c.args.job c.execute.result c.execute.ensures.suits c.execute.ensures.ran.counted;
       there = sym c.get_mut.ensures.value ∙ ap option_copied_mut c.in-Some.is;
       links = subst (λ lent. OnSome lent (c.get_mut.follows.lender after ≡ map.insert c.args.links.now c.args.job.number after)) c.in-Some.is (c.get_mut.follows.holds after);
       ran = c.execute.ensures.ran;

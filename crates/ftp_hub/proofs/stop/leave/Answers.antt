@@ -1,5 +1,5 @@
-use Rattle.std.proofs.Common.{◌≡◌, refl, sym, ap, ◌∙◌, subst, ℕ, ◌+◌, ◌*◌, ◌≤◌, ◌∷◌, ◌++◌, List, length, Option, Some, None, arith}
-use Rattle.std.specs.Prelude.{is_some, nat_eq}
+use Rattle.std.proofs.Common.{◌≡◌, sym, ap, ◌∙◌, ◌∷◌, ◌++◌, length, Some, arith}
+use Rattle.std.specs.Prelude.{nat_eq}
 use Rattle.std.specs.HashMap as map
 use Rattle.ftp_handlers.specs.Copies.{Leaver}
 use Rattle.ftp_handlers.specs.Rooms.{RoomState, actions_in, kept_in, leavers_in, len_in, twice_in}

@@ -10,7 +10,7 @@ use Rattle.ftp_events.specs.CommandRows.{Around, command_row, idle_row, is_linke
 use Rattle.ftp_events.specs.Decide.{around}
 use Rattle.ftp_events.specs.Words.{is_number}
 use Rattle.ftp_handlers.specs.Handlers.{ends_session, is_auth, number_of}
-use Rattle.ftp_hub.proofs.Decisions.{put-back}
+use Rattle.ftp_hub.proofs.Decisions.{ending-kept, put-back}
 use Rattle.ftp_hub.specs.Endings.{is_over}
 use Rattle.ftp_hub.proofs.Commands.{at-work, serves-unknown, serves-command, ending-plain}
 use Rattle.ftp_laws.proofs.GrantLemmas.{holder-legacy}
@@ -103,7 +103,7 @@ returns-clause-serves c log st =
             table = λ q. c.take.ensures.updates q ∙ sym (ap (λ b. cond (c.args.number == q) (cond b (Some after) None) (map.get nat_eq c.args.self.now.sessions q)) leaves.ended);
             live = len ∙ sym (leaves.one_less (map.hash_map_len c.args.self.now.sessions));
           };
-          jobs = jobs-stay c.args.self.now.jobs o c.args.number k c.args.answer d _ c.args.number v leaves.idle acts;
+          jobs = jobs-stay c.args.self.now.jobs o c.args.number k c.args.answer d _ c.args.number v leaves.idle (λ job. ending-kept d c.args.answer job c.ending.ensures.ends) acts;
         };
         numbers = λ q. ap (λ (n : Option ℕ). is_number n q || has c.args.self.now.numbers q) (sym (ending-number k d c.requires.of_this_event));
         holders = λ shared a p. after_board a p;

@@ -1,4 +1,4 @@
-use Rattle.std.proofs.Common.{◌≡◌, ap, ◌∙◌, ℕ, List, map, take_all}
+use Rattle.std.proofs.Common.{ap, ◌∙◌, ℕ, List, map, take_all}
 use Rattle.std.specs.Prelude.{nat_eq}
 use Rattle.std.specs.HashMap as table
 use Rattle.ftp_hub.specs.Leavers.{leaver_of}

@@ -1,19 +1,16 @@
-use Rattle.std.proofs.Common.{◌≡◌, refl, sym, ap, ◌∙◌, true, false, Some, None}
+use Rattle.std.proofs.Common.{◌≡◌, refl, sym, ap, ◌∙◌, true, false, Some, None, cond}
 use Rattle.std.specs.Prelude.{nat_eq}
 use Rattle.std.specs.Option.{option_copied}
 use Rattle.std.specs.HashMap as map
 use Rattle.std.proofs.lemmas.Bool.{not-false, not-true}
-use Rattle.ftp_hub.proofs.Common.{Answer, Running}
-use Rattle.ftp_transfer.specs.declared.job.Job.{Job}
-use Rattle.ftp_transfer.specs.declared.job.Outcome.{Outcome}
-use Rattle.ftp_transfer.specs.Transfer.{suits}
+use Rattle.ftp_hub.proofs.Common.{EventKind, Running}
 use Rattle.ftp_events.specs.declared.decision.Decision.TheVariants as decision
-use Rattle.ftp_events.specs.declared.event.Answer.TheVariants.{Done}
 use Rattle.ftp_events.specs.declared.event.Answer.TheVariants as answer
-use Rattle.ftp_events.specs.EndRows.{end_row, outcome_row}
+use Rattle.ftp_events.specs.EndRows.{can_end, can_move, unless_marked}
 use Rattle.ftp_events.specs.Transfer.{same_ticket}
+use Rattle.ftp_hub.specs.Endings.{is_piece}
 use Rattle.ftp_hub.proofs.Refusals.{serves-refused}
-use Rattle.ftp_hub.proofs.Ends.{end-due}
+use Rattle.ftp_hub.proofs.Ends.{end-due, going-due, piece-is, row_of, row-done, row-headed, row-unmoved, row-unrun}
 use Rattle.ftp_hub.proofs.hub.Hub.end.Goals as goal
 
 -- no job runs for the session
@@ -26,33 +23,79 @@ returns-in_default-clause-serves c log st =
 -- another job runs
 pub returns-then-ne-clause-serves : goal.returns-then-ne-clause-serves
 returns-then-ne-clause-serves c log st =
-    let job : Running = c.in-Some.job.now in
+    let k : EventKind = c.args.event.now.kind in
+    let job : Running = c.in-Some.running.now in
     let there : map.get nat_eq c.args.self.now.jobs c.args.ticket.session ≡ Some job = sym c.get.ensures.value ∙ ap option_copied c.in-Some.is in
     let other : same_ticket job.job.ticket c.args.ticket ≡ false = not-true _ (sym c.if-ne.ensures) in
     serves-refused c.args.self.now log c.args.event.now c.args.answer decision.UnknownNumber _ st
-    (sym (end-due c.args.self.now log c.args.event.now c.args.answer c.args.ticket (Some job) st c.requires.of_this_event there ∙ rw other refl)) refl c.requires.fits.ready.actions
+    (sym (end-due c.args.self.now log c.args.event.now c.args.answer c.args.ticket (Some job) st c.requires.of_this_event there
+    ∙ ap (λ b. cond b (unless_marked job (row_of k job.job c.args.answer)) decision.UnknownNumber) other))
+    refl c.requires.fits.ready.actions
 
--- only what was run is an outcome
-unrun : (job : Job) (x : Answer) → ((outcome : Outcome) → x ≡ Done outcome → ⊥) → outcome_row job x ≡ decision.NotExpected
-unrun job answer.None never = refl
-unrun job (answer.Header line) never = refl
-unrun job (Done outcome) never = absurd (never outcome refl)
+-- an answer that the job does not accept
+pub returns-then-not-is_piece-clause-serves : goal.returns-then-not-is_piece-clause-serves
+returns-then-not-is_piece-clause-serves c log st =
+    let k : EventKind = c.args.event.now.kind in
+    let job : Running = c.in-Some.running.now in
+    let there : map.get nat_eq c.args.self.now.jobs c.args.ticket.session ≡ Some job = sym c.get.ensures.value ∙ ap option_copied c.in-Some.is in
+    let same : same_ticket job.job.ticket c.args.ticket ≡ true = not-false _ (sym c.if-ne.ensures) in
+    let whole : is_piece k ≡ false = sym c.if-not-is_piece.ensures in
+    serves-refused c.args.self.now log c.args.event.now c.args.answer decision.NotExpected _ st
+    (sym (going-due c.args.self.now log c.args.event.now c.args.answer c.args.ticket job st c.requires.of_this_event there same c.if-running.false
+    ∙ ap (row_of k job.job) c.in-Moved.is
+    ∙ row-unmoved k job.job c.in-Moved.bytes whole))
+    refl c.requires.fits.ready.actions
+
+pub returns-then-not-can_move-clause-serves : goal.returns-then-not-can_move-clause-serves
+returns-then-not-can_move-clause-serves c log st =
+    let k : EventKind = c.args.event.now.kind in
+    let job : Running = c.in-Some.running.now in
+    let there : map.get nat_eq c.args.self.now.jobs c.args.ticket.session ≡ Some job = sym c.get.ensures.value ∙ ap option_copied c.in-Some.is in
+    let same : same_ticket job.job.ticket c.args.ticket ≡ true = not-false _ (sym c.if-ne.ensures) in
+    let piece : is_piece k ≡ true = sym c.if-not-is_piece.ensures in
+    let unfit : can_move job.job c.in-Moved.bytes ≡ false = sym c.if-not-can_move.ensures in
+    serves-refused c.args.self.now log c.args.event.now c.args.answer decision.NotExpected _ st
+    (sym (going-due c.args.self.now log c.args.event.now c.args.answer c.args.ticket job st c.requires.of_this_event there same c.if-running.false
+    ∙ ap (row_of k job.job) c.in-Moved.is
+    ∙ ap (λ (x : EventKind). row_of x job.job (answer.Moved c.in-Moved.bytes)) (piece-is k c.args.ticket piece c.requires.of_this_event)
+    ∙ ap (λ b. cond b decision.Moved decision.NotExpected) unfit))
+    refl c.requires.fits.ready.actions
+
+pub returns-then-not-can_end-clause-serves : goal.returns-then-not-can_end-clause-serves
+returns-then-not-can_end-clause-serves c log st =
+    let k : EventKind = c.args.event.now.kind in
+    let job : Running = c.in-Some.running.now in
+    let there : map.get nat_eq c.args.self.now.jobs c.args.ticket.session ≡ Some job = sym c.get.ensures.value ∙ ap option_copied c.in-Some.is in
+    let same : same_ticket job.job.ticket c.args.ticket ≡ true = not-false _ (sym c.if-ne.ensures) in
+    let unfit : can_end job.job c.in-Done.outcome ≡ false = sym c.if-not-can_end.ensures in
+    serves-refused c.args.self.now log c.args.event.now c.args.answer decision.NotExpected _ st
+    (sym (going-due c.args.self.now log c.args.event.now c.args.answer c.args.ticket job st c.requires.of_this_event there same c.if-running.false
+    ∙ ap (row_of k job.job) c.in-Done.is
+    ∙ row-done k job.job c.in-Done.outcome
+    ∙ ap (λ b. cond b decision.Finished decision.NotExpected) unfit))
+    refl c.requires.fits.ready.actions
 
 -- it was not run
-pub returns-in_default-answer-clause-serves : goal.returns-in_default-answer-clause-serves
-returns-in_default-answer-clause-serves c log st =
-    let job : Running = c.in-Some.job.now in
+pub returns-in-None-clause-serves : goal.returns-in-None-clause-serves
+returns-in-None-clause-serves c log st =
+    let k : EventKind = c.args.event.now.kind in
+    let job : Running = c.in-Some.running.now in
     let there : map.get nat_eq c.args.self.now.jobs c.args.ticket.session ≡ Some job = sym c.get.ensures.value ∙ ap option_copied c.in-Some.is in
     let same : same_ticket job.job.ticket c.args.ticket ≡ true = not-false _ (sym c.if-ne.ensures) in
     serves-refused c.args.self.now log c.args.event.now c.args.answer decision.NotExpected _ st
-    (sym (end-due c.args.self.now log c.args.event.now c.args.answer c.args.ticket (Some job) st c.requires.of_this_event there ∙ rw same (unrun job.job c.args.answer c.in_default-answer.not-Done))) refl c.requires.fits.ready.actions
+    (sym (going-due c.args.self.now log c.args.event.now c.args.answer c.args.ticket job st c.requires.of_this_event there same c.if-running.false
+    ∙ ap (row_of k job.job) c.in-None.is
+    ∙ row-unrun k job.job))
+    refl c.requires.fits.ready.actions
 
--- it cannot end so
-pub returns-then-not-suits-clause-serves : goal.returns-then-not-suits-clause-serves
-returns-then-not-suits-clause-serves c log st =
-    let job : Running = c.in-Some.job.now in
+pub returns-in-Header-clause-serves : goal.returns-in-Header-clause-serves
+returns-in-Header-clause-serves c log st =
+    let k : EventKind = c.args.event.now.kind in
+    let job : Running = c.in-Some.running.now in
     let there : map.get nat_eq c.args.self.now.jobs c.args.ticket.session ≡ Some job = sym c.get.ensures.value ∙ ap option_copied c.in-Some.is in
     let same : same_ticket job.job.ticket c.args.ticket ≡ true = not-false _ (sym c.if-ne.ensures) in
-    let unfit : suits c.in-Done.outcome.result job.job.command ≡ false = sym c.if-not-suits.ensures in
     serves-refused c.args.self.now log c.args.event.now c.args.answer decision.NotExpected _ st
-    (sym (end-due c.args.self.now log c.args.event.now c.args.answer c.args.ticket (Some job) st c.requires.of_this_event there ∙ ap (λ (x : Answer). end_row c.args.ticket x (Some job)) c.in-Done.is ∙ rw (same, unfit) refl)) refl c.requires.fits.ready.actions
+    (sym (going-due c.args.self.now log c.args.event.now c.args.answer c.args.ticket job st c.requires.of_this_event there same c.if-running.false
+    ∙ ap (row_of k job.job) c.in-Header.is
+    ∙ row-headed k job.job c.in-Header.field-0))
+    refl c.requires.fits.ready.actions

@@ -1,18 +1,21 @@
-use Rattle.std.proofs.Common.{◌≡◌, refl, sym, ap, ◌∙◌, subst, ℕ, ◌+◌, ◌-◌, ◌++◌, ◌||◌, true, false, Option, Some, [], ◌∷◌, cond, arith}
+use Rattle.std.proofs.Common.{◌≡◌, refl, sym, ap, ◌∙◌, subst, ℕ, ◌+◌, ◌++◌, ◌||◌, true, false, Option, Some, None, [], ◌∷◌, cond, arith}
 use Rattle.std.specs.Prelude.{nat_eq, ◌==◌, IsSomeAnd}
 use Rattle.std.specs.HashMap as map
-use Rattle.ftp_hub.proofs.Common.{Answer, EventKind, IsFew, Jobs, Running, Session, Starts, Ticket, has, named_session, new_number, next_lane, notices_of, running_after, session_acts, session_after, starting}
-use Rattle.ftp_transfer.specs.Transfer.{suits}
+use Rattle.ftp_hub.proofs.Common.{Answer, EventKind, IsFew, Jobs, Running, Session, Starts, Ticket, has, new_number, next_running, notices_of, running_after, session_acts, session_after, starting}
 use Rattle.ftp_events.specs.declared.action.Action.TheVariants as action
 use Rattle.ftp_events.specs.declared.decision.Decision.TheVariants as decision
 use Rattle.ftp_events.specs.declared.event.Answer.TheVariants.{Done}
 use Rattle.ftp_events.specs.declared.event.EventKind.TheVariants as kind
+use Rattle.ftp_events.specs.EndRows.{can_end}
 use Rattle.ftp_events.specs.Words.{is_number}
 use Rattle.ftp_handlers.specs.Handlers.{is_auth}
+use Rattle.ftp_laws.proofs.Cases.{job-named}
+use Rattle.ftp_laws.proofs.RunningLemmas.{runs-started}
 use Rattle.ftp_hub.specs.Arrivals.{is_accepted}
 use Rattle.ftp_hub.proofs.Failures.{failures-stay}
+use Rattle.ftp_hub.proofs.Moved.{Sessions}
 use Rattle.ftp_hub.proofs.Named.{few-counts, serves-named}
-use Rattle.ftp_hub.proofs.Ends.{finish-due, jobs-finished, running-finished, serves-lost}
+use Rattle.ftp_hub.proofs.Ends.{by_telling, finish-due, finished-passes, jobs-finished, running-finished, serves-lost}
 use Rattle.ftp_hub.proofs.hub.Hub.finish.Goals as goal
 
 -- what is known of a job that is there
@@ -23,14 +26,22 @@ runs-so P x job e h = subst (λ (y : Option Running). IsSomeAnd y P) e h
 pub returns-in-None-clause-serves : goal.returns-in-None-clause-serves
 returns-in-None-clause-serves c log st =
     let t = c.args.ticket in
+    let k : EventKind = c.args.event.now.kind in
+    let o = c.args.self.now.options in
+    let a : Answer = Done c.args.outcome in
     let job : Running = c.in-Some.job in
     let there : map.get nat_eq c.args.self.now.jobs t.session ≡ Some job = sym c.take.ensures.value ∙ c.in-Some.is in
-    let known = runs-so (λ job. (job.job.ticket ≡ t) × (suits c.args.outcome.result job.job.command ≡ true)) (map.get nat_eq c.args.self.now.jobs t.session) job there c.requires.runs in
-    let fewer : map.hash_map_len c.take.new.table ≡ map.hash_map_len c.args.self.now.jobs - 1 = omega (arith, rw c.in-Some.is at c.take.ensures.len) in
-    serves-lost c.args.self.now _ log c.args.event.now c.args.outcome _ t job st c.requires.of_this_event there known.0 known.1
-    (sym c.in-None.ensures.value) (c.complete.ensures.actions ∙ ap (λ xs. xs ++ action.Completed t false ∷ []) c.requires.fits.ready.actions) refl
-    (λ q. ap (λ (m : map.HashMap ℕ Session _). map.get nat_eq m q) c.get_mut.follows.holds-at-none) (ap map.hash_map_len c.get_mut.follows.holds-at-none)
-    c.take.ensures.updates fewer (λ q. refl) (λ a p. refl) refl refl
+    let known = runs-so (λ r. (r.job.ticket ≡ t) × (r.marked ≡ false) × (can_end r.job c.args.outcome ≡ true)) (map.get nat_eq c.args.self.now.jobs t.session) job there c.requires.runs in
+    let told = c.requires.of_this_event in
+    let done = c.complete.ensures.actions ∙ ap (λ xs. xs ++ action.Completed t false ∷ []) c.requires.fits.ready.actions in
+    serves-lost c.args.self.now _ log c.args.event.now a decision.Finished _ t job _ st finished-passes told there (sym c.in-None.ensures.value)
+    (finish-due c.args.self.now log c.args.event.now c.args.outcome t job st told there known.0 known.1 known.2)
+    (done ∙ rw told refl)
+    (λ number queued l bare ran. rw bare refl)
+    refl (λ q. ap (λ (m : Sessions). map.get nat_eq m q) c.get_mut.follows.holds-at-none) (ap map.hash_map_len c.get_mut.follows.holds-at-none)
+    c.take.ensures.updates
+    (omega (arith, rw c.in-Some.is at c.take.ensures.len, ap (λ xs. running_after decision.Finished xs (map.hash_map_len c.args.self.now.jobs)) done))
+    (λ q. refl) (λ a p. refl) refl refl
 
 -- a live session
 pub returns-in-Some-get_mut-clause-serves : goal.returns-in-Some-get_mut-clause-serves
@@ -44,40 +55,51 @@ returns-in-Some-get_mut-clause-serves c log st =
     let job : Running = c.in-Some.job in
     let v : Session = c.in-Some-get_mut.session.now in
     let jobs : Jobs = c.args.self.now.jobs in
+    let told = c.requires.of_this_event in
     let there_job : map.get nat_eq jobs s ≡ Some job = sym c.take.ensures.value ∙ c.in-Some.is in
-    let known = runs-so (λ job. (job.job.ticket ≡ t) × (suits c.args.outcome.result job.job.command ≡ true)) (map.get nat_eq jobs s) job there_job c.requires.runs in
+    let known = runs-so (λ r. (r.job.ticket ≡ t) × (r.marked ≡ false) × (can_end r.job c.args.outcome ≡ true)) (map.get nat_eq jobs s) job there_job c.requires.runs in
     let there : map.get nat_eq c.args.self.now.sessions s ≡ Some v = sym c.in-Some-get_mut.ensures.value in
     let few : IsFew v = few-counts c.args.self.now log s v st c.requires.fits.below (sym (st.tables.sessions s) ∙ there) in
     let lent = c.get_mut.follows.holds c.finish.new.session in
-    let kind_is : kind.End job.job.ticket ≡ k = ap kind.End known.0 ∙ sym c.requires.of_this_event in
-    let named : named_session k ≡ Some s = rw c.requires.of_this_event refl in
-    let acts = c.finish.ensures.actions few.notices ∙ ap (λ (x : Ticket). session_acts o x.session (kind.End job.job.ticket) a decision.Finished (Some job) (Some v)) known.0 in
+    let acts =
+    c.finish.ensures.actions few.notices
+    ∙ ap (λ (x : Ticket). session_acts o x.session (kind.End x) a decision.Finished (Some job) (Some v)) known.0
+    ∙ by_telling (λ (x : EventKind). session_acts o s (kind.End t) a decision.Finished (Some job) (Some v) ≡ session_acts o s x a decision.Finished (Some job) (Some v)) k t told refl refl
+    in
     let fewer : map.hash_map_len c.take.new.table + 1 ≡ map.hash_map_len jobs = omega (arith, rw c.in-Some.is at c.take.ensures.len) in
-    let begins : Starts c.take.new.table c.finish.new.jobs s (starting (kind.End job.job.ticket) decision.Finished (Some job) v) = subst (λ (x : Ticket). Starts c.take.new.table c.finish.new.jobs x.session (starting (kind.End job.job.ticket) decision.Finished (Some job) v)) known.0 c.finish.ensures.starts in
-    serves-named c.args.self.now _ log c.args.event.now a decision.Finished _ s v c.finish.new.session st named (ap is_accepted c.requires.of_this_event) refl
-    (sym (st.tables.sessions s) ∙ there) (finish-due c.args.self.now log c.args.event.now c.args.outcome t job st c.requires.of_this_event there_job known.0 known.1)
-    (acts ∙ ap (λ (x : EventKind). session_acts o s x a decision.Finished (Some job) (Some v)) kind_is ∙ ap (λ (x : Option Running). session_acts o s k a decision.Finished x (Some v)) (sym there_job))
+    let begins : Starts c.take.new.table c.finish.new.jobs s (starting k decision.Finished (Some job) v) =
+    subst (λ (x : Ticket). Starts c.take.new.table c.finish.new.jobs x.session (starting k decision.Finished (Some job) v)) known.0 c.finish.ensures.starts
+    in
+    serves-named c.args.self.now _ log c.args.event.now a decision.Finished _ s v c.finish.new.session st (job-named k t told)
+    (by_telling (λ (x : EventKind). is_accepted x ≡ false) k t told refl refl) refl
+    (sym (st.tables.sessions s) ∙ there) (finish-due c.args.self.now log c.args.event.now c.args.outcome t job st told there_job known.0 known.1 known.2)
+    (acts ∙ ap (λ (x : Option Running). session_acts o s k a decision.Finished x (Some v)) (sym there_job))
     (record {
       moved = record {
         options = refl;
         session =
-            c.finish.ensures.session few.notices ∙ ap (λ (x : EventKind). session_after at x a decision.Finished (notices_of x decision.Finished a) (Some job) v) kind_is
+            c.finish.ensures.session few.notices
+            ∙ ap (λ (x : Ticket). session_after at (kind.End x) a decision.Finished (notices_of (kind.End x) decision.Finished a) (Some job) v) known.0
+            ∙ by_telling
+            (λ (x : EventKind). session_after at (kind.End t) a decision.Finished (notices_of (kind.End t) decision.Finished a) (Some job) v ≡ session_after at x a decision.Finished (notices_of x decision.Finished a) (Some job) v)
+            k t told refl refl
             ∙ ap (λ (x : Option Running). session_after at k a decision.Finished (notices_of k decision.Finished a) x v) (sym there_job);
         sessions = record { table = (lent.3 (rw there refl)).0; live = lent.2 };
         jobs = record {
           table = λ q.
-              jobs-finished jobs c.take.new.table c.finish.new.jobs s q (kind.End job.job.ticket) job v c.take.ensures.updates begins
-              ∙ ap (λ (x : EventKind). cond (s == q) (next_lane x decision.Finished (Some job) v).running (map.get nat_eq jobs q)) kind_is
-              ∙ ap (λ (x : Option Running). cond (s == q) (next_lane k decision.Finished x v).running (map.get nat_eq jobs q)) (sym there_job);
-          running = running-finished o s job.job.ticket a job v jobs c.take.new.table c.finish.new.jobs fewer begins ∙ ap (λ xs. running_after xs (map.hash_map_len jobs)) (sym acts);
+              jobs-finished jobs c.take.new.table c.finish.new.jobs s q k a decision.Finished job v (sym (runs-started v.slot v.pending None)) c.take.ensures.updates begins
+              ∙ ap (λ (x : Option Running). cond (s == q) (next_running k a decision.Finished x v) (map.get nat_eq jobs q)) (sym there_job);
+          running =
+              running-finished o s k a decision.Finished job v jobs c.take.new.table c.finish.new.jobs (rw told refl) fewer begins
+              ∙ ap (λ xs. running_after decision.Finished xs (map.hash_map_len jobs)) (sym acts);
         };
       };
-      numbers = λ q. ap (λ (n : Option ℕ). is_number n q || has c.args.self.now.numbers q) (sym (ap (λ (x : EventKind). new_number x decision.Finished) c.requires.of_this_event));
+      numbers = λ q. ap (λ (n : Option ℕ). is_number n q || has c.args.self.now.numbers q) (sym (by_telling (λ (x : EventKind). new_number x decision.Finished ≡ None) k t told refl refl));
       holders = λ shared a p. refl;
       alone = λ alone a p. refl;
-      failures = failures-stay c.args.self.now c.args.event.now v (ap is_auth c.requires.of_this_event);
+      failures = failures-stay c.args.self.now c.args.event.now v (by_telling (λ (x : EventKind). is_auth x ≡ false) k t told refl refl);
       stopped = refl;
     })
     (λ said.
-    let clash : true ≡ false = sym said ∙ ap is_auth c.requires.of_this_event in
+    let clash : true ≡ false = sym said ∙ by_telling (λ (x : EventKind). is_auth x ≡ false) k t told refl refl in
     cc)

@@ -1,7 +1,7 @@
 use Rattle.std.proofs.Common.{◌≡◌, refl, sym, ap, ◌∙◌, subst, ℕ, ◌-◌, Bool, true, false, ◌||◌, List, [], Option, Some, None, cond}
-use Rattle.std.specs.Prelude.{IfSome, is_some, nat_eq, nat_lt, ◌==◌, unwrap_or}
+use Rattle.std.specs.Prelude.{nat_eq, nat_lt, unwrap_or}
 use Rattle.std.specs.HashMap as map
-use Rattle.ftp_hub.proofs.Common.{Action, Answer, Decision, Entry, EventKind, Hub, Options, Running, Session, V4, has, held_after, holder_at, ipv4, new_number, notices_of, past_of, session_acts, session_after, waiting_port}
+use Rattle.ftp_hub.proofs.Common.{Answer, Decision, Entry, EventKind, Options, Running, Session, has, held_after, holder_at, ipv4, kept_running, new_number, notices_of, past_of, session_acts, session_after, waiting_port}
 use Rattle.ftp_events.specs.declared.decision.Decision.TheVariants as decision
 use Rattle.ftp_events.specs.declared.event.EventKind.TheVariants as kind
 use Rattle.ftp_events.specs.CommandRows.{command_row, idle_row, is_linked}
@@ -10,7 +10,7 @@ use Rattle.ftp_events.specs.Words.{is_number}
 use Rattle.ftp_handlers.specs.Handlers.{goes_on, is_auth, is_idle_tick, number_of}
 use Rattle.ftp_hub.proofs.Commands.{IsPlain, at-work, serves-command, serves-unknown}
 use Rattle.ftp_hub.proofs.Failures.{failures-stay}
-use Rattle.ftp_hub.proofs.Moved.{Sessions, jobs-stay, session-back, sessions-stay, tables-lent}
+use Rattle.ftp_hub.proofs.Moved.{Sessions, jobs-stay, sessions-stay, tables-lent}
 use Rattle.ftp_hub.proofs.Rows.{LivesOn, goes_on-lives}
 use Rattle.ftp_hub.proofs.hub.Hub.idle.Goals as goal
 
@@ -32,15 +32,16 @@ idle-row : (o : Options) (past : List Entry) (at : ℕ) (k : EventKind) (v : Ses
 idle-row o past at (kind.IdleTick s) v h = refl
 idle-row o past at k v h = cc
 
--- but for the end the session goes on, sends no notice, and keeps what it holds
+-- but for the end the session goes on, sends no notice, and keeps what it holds and its job
 record Stays (d : Decision) : Type 0 where
   goes : goes_on d ≡ true
   silent : (k : EventKind) (answer : Answer) → notices_of k d answer ≡ 0
   held : (s : ℕ) (client waited : Option ℕ) (a p : ℕ) (before : Option ℕ) → held_after d s client waited a p before ≡ before
+  kept : (answer : Answer) (job : Option Running) → kept_running d answer job ≡ job
 
 idle-stays : (early working : Bool) (d : Decision) → d ≡ cond early decision.Early (cond working decision.Waited decision.TimedOut) → (d ≡ decision.TimedOut → ⊥) → Stays d
-idle-stays true working d is other = subst Stays (sym is) (record { goes = refl; silent = λ k answer. refl; held = λ s client waited a p before. refl })
-idle-stays false true d is other = subst Stays (sym is) (record { goes = refl; silent = λ k answer. refl; held = λ s client waited a p before. refl })
+idle-stays true working d is other = subst Stays (sym is) (record { goes = refl; silent = λ k answer. refl; held = λ s client waited a p before. refl; kept = λ answer job. refl })
+idle-stays false true d is other = subst Stays (sym is) (record { goes = refl; silent = λ k answer. refl; held = λ s client waited a p before. refl; kept = λ answer job. refl })
 idle-stays false false d is other = absurd (other is)
 
 -- a session that is not live
@@ -81,7 +82,7 @@ returns-clause-serves c log st =
           options = refl;
           session = c.idle_tick-decision.ensures.session stays.goes c.args.answer job ∙ ap (λ n. session_after c.args.event.now.at k c.args.answer d n job v) (sym (stays.silent k c.args.answer));
           sessions = sessions-stay hub.sessions _ d c.args.number c.idle_tick-decision.new.session lives.lives lives.as_many (lent.3 (rw there refl)).0 lent.2;
-          jobs = jobs-stay hub.jobs o c.args.number k c.args.answer d _ c.args.number v lives.idle done;
+          jobs = jobs-stay hub.jobs o c.args.number k c.args.answer d _ c.args.number v lives.idle (stays.kept c.args.answer) done;
         };
         numbers = λ q. ap (λ (n : Option ℕ). is_number n q || has hub.numbers q) (sym (idle-number k d c.requires.of_this_event));
         holders = λ shared a p. sym (stays.held c.args.number (ipv4 v.opening.client) (waiting_port v.slot) a p (holder_at hub.board a p));

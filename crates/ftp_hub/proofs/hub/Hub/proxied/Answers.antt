@@ -1,4 +1,4 @@
-use Rattle.std.proofs.Common.{◌≡◌, refl, sym, ap, ◌∙◌, true, false, not, ◌||◌, ◌⊎◌, inl, inr, List, Err}
+use Rattle.std.proofs.Common.{◌≡◌, refl, sym, ap, ◌∙◌, ℕ, true, false, not, ◌||◌, ◌⊎◌, inl, inr, List, Err}
 use Rattle.ftp_base.specs.declared.net.SocketAddr.{SocketAddr}
 use Rattle.ftp_base.specs.Net.{is_v6}
 use Rattle.ftp_options.specs.Modes.{is_proxy}
@@ -49,10 +49,11 @@ returns-in-Header-Err-clause-serves c log st =
 -- nothing else is a header
 headless :
     (o : Options) (past : List Entry) (raw : SocketAddr) (x : Answer) →
-    (x ≡ answer.None) ⊎ ((outcome : Outcome) × (x ≡ answer.Done outcome)) →
+    (x ≡ answer.None) ⊎ (((outcome : Outcome) × (x ≡ answer.Done outcome)) ⊎ ((bytes : ℕ) × (x ≡ answer.Moved bytes))) →
     header_row o past raw x ≡ decision.NotExpected
 headless o past raw x (inl h) = rw h refl
-headless o past raw x (inr h) = rw h.1 refl
+headless o past raw x (inr (inl h)) = rw h.1 refl
+headless o past raw x (inr (inr h)) = rw h.1 refl
 
 -- without a header it is refused
 pub returns-in-None : goal.returns-in-None

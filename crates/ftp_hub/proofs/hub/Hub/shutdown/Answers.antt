@@ -1,11 +1,11 @@
-use Rattle.std.proofs.Common.{◌≡◌, refl, sym, ap, ◌∙◌, ◌++◌, List}
+use Rattle.std.proofs.Common.{refl, sym, ap, ◌∙◌, ◌++◌, List}
 use Rattle.std.specs.Prelude.{flat_map, nat_eq}
 use Rattle.std.specs.HashMap as map
 use Rattle.std.specs.FinMap as finmap
 use Rattle.ftp_switchboard.specs.Board.{Held, key, key_cmp}
 use Rattle.ftp_handlers.specs.Rooms.{leavers_in}
-use Rattle.ftp_hub.specs.Leavers.{AreFew, AreLeavers, is_shutdown, numbers_of}
-use Rattle.ftp_hub.proofs.Common.{Action, EventKind}
+use Rattle.ftp_hub.specs.Leavers.{AreFew, AreLeavers, numbers_of}
+use Rattle.ftp_hub.proofs.Common.{Action}
 use Rattle.ftp_hub.proofs.Leaving.{leave_acts}
 use Rattle.ftp_hub.proofs.Named.{few-counts}
 use Rattle.ftp_hub.proofs.Stops.{serves-stopped}

@@ -56,7 +56,7 @@ returns-in-Some-clause-serves c log st =
           options = refl;
           session = c.queue.ensures.session few c.args.answer ∙ ap (λ n. session_after c.args.event.now.at k c.args.answer d n job v) (sym (comes.silent k c.args.answer));
           sessions = sessions-stay c.args.self.now.sessions _ d s c.queue.new.session comes.lives comes.as_many (lent.3 (rw there refl)).0 lent.2;
-          jobs = jobs-start jobs c.queue.new.jobs o k c.args.answer d _ s v comes.unfinished (c.queue.ensures.starts few) (c.queue.ensures.actions few c.args.answer);
+          jobs = jobs-start jobs c.queue.new.jobs o k c.args.answer d _ s v comes.unfinished (comes.kept c.args.answer) (c.queue.ensures.starts few) (c.queue.ensures.actions few c.args.answer);
         };
         numbers = λ q. ap (λ (n : Option ℕ). is_number n q || has c.args.self.now.numbers q) (sym (transfer-number k d c.requires.of_this_event));
         holders = λ shared a p. same_board a p ∙ sym (comes-held d s (ipv4 v.opening.client) (waiting_port v.slot) a p (holder_at c.args.self.now.board a p) comes);

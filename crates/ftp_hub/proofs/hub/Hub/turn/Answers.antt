@@ -1,4 +1,4 @@
-use Rattle.std.proofs.Common.{◌≡◌, refl, sym, ◌∙◌, false, rules}
+use Rattle.std.proofs.Common.{◌≡◌, refl, sym, ◌∙◌, false}
 use Rattle.ftp_hub.proofs.Common.{is_used, past_of}
 use Rattle.ftp_hub.proofs.Stops.{serves-late}
 use Rattle.ftp_hub.proofs.hub.Hub.turn.Goals as goal
