@@ -15,6 +15,7 @@ import shutil
 import sys
 
 sys.dont_write_bytecode = True
+import aborts  # noqa: E402
 import balanced  # noqa: E402
 import operations  # noqa: E402
 import sessions  # noqa: E402
@@ -27,6 +28,7 @@ def run_direct(tally, words, mode, clients=operations.CLIENTS):
     """In proxy mode plain sockets alone, which send the headers themselves."""
     with Server(words, mode) as server, Place(server.door()) as place:
         sessions.run(tally, mode, place)
+        aborts.run(tally, mode, place)
         if mode != "proxy":
             operations.run(tally, mode, place, clients=clients)
         tally.runs_on(mode, server)
@@ -36,6 +38,7 @@ def run_proxied(tally, words):
     """A server behind HAProxy."""
     with Server(words, "proxy") as server, Proxy([server]) as proxy, Place(proxy.door()) as place:
         sessions.run(tally, "haproxy", place)
+        aborts.run(tally, "haproxy", place)
         operations.run(tally, "haproxy", place)
         tally.runs_on("haproxy", server)
 
