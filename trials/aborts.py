@@ -87,9 +87,8 @@ def two_aborts(place, name):
     with place.session() as session:
         stream = session.link()
         session.tell(f"RETR {name}", 150)
-        session.send(b"ABOR\r\nABOR\r\n")
-        for code in 426, 226, 226:
-            session.expect(code)
+        is_stopped(session, plainly)
+        session.tell("ABOR", 226)
         taken(stream)
         session.store(f"STOR {name}", b"")
 
