@@ -105,7 +105,7 @@ def descriptors(server, due=None):
 
 
 def takes_three_descriptors_a_session(command, mode):
-    """Three a session, at most two a transfer, in pooled mode one a passive port; and all come back."""
+    """Three a session, at most three a transfer, in pooled mode one a passive port; and all come back."""
     count, ports = 10, 50
     with Server(command, mode, ports=ports) as server:
         first = descriptors(server, ports + 6 if mode == "pooled" else 6)
@@ -119,8 +119,8 @@ def takes_three_descriptors_a_session(command, mode):
         streams = [session.link() for session in sessions]
         for session in sessions:
             session.tell("RETR large", 150)
-        at_work = descriptors(server, with_sessions + 2 * count) - with_sessions
-        holds(count <= at_work <= 2 * count, f"{at_work} descriptors of {count} transfers")
+        at_work = descriptors(server, with_sessions + 3 * count) - with_sessions
+        holds(count <= at_work <= 3 * count, f"{at_work} descriptors of {count} transfers")
         for stream in streams:
             stream.close()
         same(str(descriptors(server, with_sessions)), str(with_sessions), "those behind the transfers")
