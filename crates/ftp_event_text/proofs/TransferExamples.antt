@@ -1,4 +1,4 @@
--- Worked examples of transfers: an upload and a download as they are printed, and lines of commands and of ends.
+-- Worked examples of transfers: uploads, downloads and pieces as they are printed, and lines of commands, pieces and ends.
 use Rattle.std.proofs.Common.{◌≡◌, ℕ, ◌+◌, ◌*◌, ◌^◌, true, false, List, [], ◌∷◌, ◌++◌, Some, None, refl}
 use Rattle.std.specs.Prelude.{codes}
 use Rattle.std.specs.Fmt.{digits}
@@ -187,6 +187,29 @@ pub bad-upper_word : bad (codes "1 stou 1 0000000000000000000000000000000A")
 unfolding event_of word_value read_as number_at word_at hex_word_at hex_digits digits
 bad-upper_word = refl
 
+-- a piece that moved, an ABOR, and the piece that is cut, as they are printed
+abbrev in_pieces : List Entry
+in_pieces =
+    record { event = later (kind.Piece (transfer 1)); answer = answer.Moved 8192; decision = decision.Moved; actions = [] }
+    ∷ record { event = later (kind.Abor 1); answer = answer.None; decision = decision.Aborting; actions = [] }
+    ∷ record {
+      event = later (kind.Piece (transfer 1));
+      answer = answer.None;
+      decision = decision.Cut;
+      actions =
+          action.Cancelled (transfer 1)
+          ∷ action.Reply 1 0 (reply.CodeAndMsg code.ConnectionClosed (codes "Datachannel unexpectedly closed"))
+          ∷ action.Close 11
+          ∷ action.Reply 1 0 (reply.CodeAndMsg code.ClosingDataConnection (codes "Closed data channel")) ∷ [];
+    } ∷ []
+
+pub print-in_pieces : print in_pieces
+    ≡ codes "> 1 piece 1.1\n? moved 8192\n= moved\n> 1 abor 1\n= aborting\n"
+    ++ codes "> 1 piece 1.1\n= cut\n- cancelled 1.1\n- reply 1 0 426 Datachannel unexpectedly closed\n- close 11\n"
+    ++ codes "- reply 1 0 226 Closed data channel\n"
+unfolding digits
+print-in_pieces = refl
+
 -- ---- lines that are read
 
 -- a path that is there and empty
@@ -202,6 +225,10 @@ read-no_path = refl
 pub read-end : event_of (codes "1 end 1.0") ≡ Some (later (kind.End (record { session = 1; nr = 0 })))
 unfolding event_of word_value read_as number_at word_at digits
 read-end = refl
+
+pub read-piece : event_of (codes "1 piece 1.2") ≡ Some (later (kind.Piece (transfer 2)))
+unfolding event_of word_value read_as number_at word_at digits
+read-piece = refl
 
 pub read-stou : event_of (codes "1 stou 1 f000000000000000000000000000000a") ≡ Some (later (kind.Stou 1 (15 * 2 ^ 124 + 10)))
 unfolding event_of word_value read_as number_at word_at hex_word_at hex_digits digits

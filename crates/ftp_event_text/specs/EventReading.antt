@@ -15,8 +15,8 @@ abbrev pub event_words : List EventWord
 event_words =
     word.Connect ∷ word.Proxied ∷ word.Data ∷ word.Accepted ∷ word.User ∷ word.Pass ∷ word.Auth ∷ word.Pasv
     ∷ word.Port ∷ word.Retr ∷ word.Stor ∷ word.Appe ∷ word.List ∷ word.Nlst ∷ word.Mlsd ∷ word.Stou
-    ∷ word.Rest ∷ word.Cwd ∷ word.Closed ∷ word.Quit ∷ word.Slot ∷ word.End ∷ word.Sweep ∷ word.Abor
-    ∷ word.Internal ∷ word.Idle ∷ word.Scavenge ∷ word.Shutdown ∷ []
+    ∷ word.Rest ∷ word.Cwd ∷ word.Closed ∷ word.Quit ∷ word.Slot ∷ word.End ∷ word.Piece ∷ word.Sweep
+    ∷ word.Abor ∷ word.Internal ∷ word.Idle ∷ word.Scavenge ∷ word.Shutdown ∷ []
 
 -- the word of an event
 abbrev pub event_word_field : Reader EventWord
@@ -46,6 +46,7 @@ maker word.Closed = kind.Closed
 maker word.Quit = kind.Quit
 maker word.Slot = kind.SlotTick
 maker word.End = λ t. kind.End (record { session = t.0; nr = t.1 })
+maker word.Piece = λ t. kind.Piece (record { session = t.0; nr = t.1 })
 maker word.Sweep = kind.Sweep
 maker word.Abor = kind.Abor
 maker word.Internal = kind.Internal

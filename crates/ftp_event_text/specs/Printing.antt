@@ -68,6 +68,8 @@ decision_text decision.PortOk = codes "portok"
 decision_text decision.NoSlot = codes "noslot"
 decision_text (decision.Queued t) = codes "queued"
 decision_text decision.Finished = codes "finished"
+decision_text decision.Moved = codes "moved"
+decision_text decision.Cut = codes "cut"
 decision_text decision.NoRestart = codes "norestart"
 decision_text decision.RestOk = codes "restok"
 decision_text (decision.CwdRefused kind) = codes "cwdrefused"
@@ -78,6 +80,7 @@ decision_text decision.Early = codes "early"
 decision_text decision.SlotDropped = codes "slotdropped"
 decision_text decision.Swept = codes "swept"
 decision_text decision.Aborted = codes "aborted"
+decision_text decision.Aborting = codes "aborting"
 decision_text decision.NothingToAbort = codes "nothingtoabort"
 decision_text decision.Told = codes "told"
 decision_text decision.Waited = codes "waited"
@@ -85,8 +88,11 @@ decision_text decision.TimedOut = codes "timedout"
 decision_text decision.Scavenged = codes "scavenged"
 decision_text decision.Stopped = codes "stopped"
 
--- decided on an event of the server's own: a look at a session or at the tables, or the stop
+-- decided on an event of the server's own: a piece that moved or was the last, a look at a session or at the tables, or the
+-- stop
 abbrev pub is_of_own : Decision → Bool
+is_of_own decision.Moved = true
+is_of_own decision.Cut = true
 is_of_own decision.Early = true
 is_of_own decision.Waited = true
 is_of_own decision.SlotDropped = true
@@ -135,6 +141,7 @@ abbrev pub answer_line : Answer → List ℕ
 answer_line answer.None = []
 answer_line (answer.Header header) = line (codes "? header" ++ header_fields header)
 answer_line (answer.Done o) = line (codes "? done" ++ outcome_fields o)
+answer_line (answer.Moved bytes) = line (codes "? moved" ++ number bytes)
 
 -- ---- actions
 

@@ -37,6 +37,7 @@ fn put_answer(out: &mut Vec<u8>, answer: Answer) -> Result<(), AllocError>
         Answer::None => Ok(()),
         Answer::Header(header) => put_header(out, header),
         Answer::Done(outcome) => put_done(out, outcome),
+        Answer::Moved { bytes } => put_moved(out, bytes),
     }
 }
 
@@ -68,6 +69,14 @@ fn put_done(out: &mut Vec<u8>, outcome: Outcome) -> Result<(), AllocError>
 {
     put(out, b"? done")?;
     put_outcome(out, outcome)?;
+    put_byte(out, b'\n')
+}
+
+fn put_moved(out: &mut Vec<u8>, bytes: u64) -> Result<(), AllocError>
+    ensures { OnOk result (out.new.items ≡ out.old.items ++ answer_line (answer.Moved bytes)) }
+{
+    put(out, b"? moved")?;
+    put_number(out, bytes)?;
     put_byte(out, b'\n')
 }
 
@@ -140,6 +149,7 @@ pub fn decision_text(decision: Decision) -> &'static [u8]
         Decision::Closed => b"closed",
         Decision::Quit => b"quit",
         Decision::Aborted => b"aborted",
+        Decision::Aborting => b"aborting",
         Decision::NothingToAbort => b"nothingtoabort",
         Decision::Told => b"told",
         _ => own_text(decision),
@@ -152,6 +162,8 @@ fn own_text(decision: Decision) -> &'static [u8]
     ensures { result.now ≡ decision_text decision }
 {
     match decision {
+        Decision::Moved => b"moved",
+        Decision::Cut => b"cut",
         Decision::Early => b"early",
         Decision::Waited => b"waited",
         Decision::SlotDropped => b"slotdropped",

@@ -30,6 +30,7 @@ pub enum EventWord {
     Quit,
     Slot,
     End,
+    Piece,
     Sweep,
     Abor,
     Internal,
@@ -38,7 +39,7 @@ pub enum EventWord {
     Shutdown,
 }
 
-const EVENT_WORDS: [EventWord; 28] = [
+const EVENT_WORDS: [EventWord; 29] = [
     EventWord::Connect,
     EventWord::Proxied,
     EventWord::Data,
@@ -61,6 +62,7 @@ const EVENT_WORDS: [EventWord; 28] = [
     EventWord::Quit,
     EventWord::Slot,
     EventWord::End,
+    EventWord::Piece,
     EventWord::Sweep,
     EventWord::Abor,
     EventWord::Internal,
@@ -98,6 +100,7 @@ impl Word for EventWord {
             EventWord::Quit => b"quit",
             EventWord::Slot => b"slot",
             EventWord::End => b"end",
+            EventWord::Piece => b"piece",
             EventWord::Sweep => b"sweep",
             EventWord::Abor => b"abor",
             EventWord::Internal => b"internal",

@@ -3,7 +3,7 @@
 ghost use Rattle.std.specs.Prelude.{◌≡◌, ◌++◌, true, OnOk};
 ghost use Rattle.std.specs.Option.{option_copied};
 ghost use Rattle.ftp_events.specs.declared.event.EventKind.TheVariants as kind;
-ghost use Rattle.ftp_text.specs.Fields.{number, field, escape, optional_text};
+ghost use Rattle.ftp_text.specs.Fields.{number, field, ticket, escape, optional_text};
 ghost use Rattle.ftp_event_text.specs.Events.{is_short, word_field, kind_fields, event_line};
 
 use crate::word::EventWord;
@@ -64,7 +64,8 @@ fn put_kind(out: &mut Vec<u8>, kind: &EventKind) -> Result<(), AllocError>
             path,
             refusal,
         } => put_cwd(out, *session, path, *refusal),
-        EventKind::End { ticket } => put_end(out, *ticket),
+        EventKind::End { ticket } => put_ticketed(out, EventWord::End, *ticket),
+        EventKind::Piece { ticket } => put_ticketed(out, EventWord::Piece, *ticket),
         EventKind::Internal { session, message } => put_internal(out, *session, message),
         _ => put_short(out, kind),
     }
@@ -218,13 +219,6 @@ fn put_cwd(
     put_text_field(out, path.as_slice())
 }
 
-fn put_end(out: &mut Vec<u8>, ticket: Ticket) -> Result<(), AllocError>
-    ensures { OnOk result (out.new.items ≡ out.old.items ++ kind_fields (kind.End ticket)) }
-{
-    put_field(out, EventWord::End.text())?;
-    put_ticket(out, ticket.session, ticket.nr)
-}
-
 fn put_internal(out: &mut Vec<u8>, session: u64, message: &ControlChanMsg) -> Result<(), AllocError>
     ensures { OnOk result (out.new.items ≡ out.old.items ++ kind_fields (kind.Internal session message.now)) }
 {
@@ -238,6 +232,14 @@ fn put_numbered(out: &mut Vec<u8>, word: EventWord, n: u64) -> Result<(), AllocE
 {
     put_field(out, word.text())?;
     put_number(out, n)
+}
+
+// The word of an event, and the transfer that it is about.
+fn put_ticketed(out: &mut Vec<u8>, word: EventWord, of: Ticket) -> Result<(), AllocError>
+    ensures { OnOk result (out.new.items ≡ out.old.items ++ (word_field word ++ ticket of.session of.nr)) }
+{
+    put_field(out, word.text())?;
+    put_ticket(out, of.session, of.nr)
 }
 
 // The word of an event, the number that it is about, and a text.
