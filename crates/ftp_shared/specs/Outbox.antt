@@ -41,6 +41,7 @@ outbox_of box journal s = outbox_in box (newest journal) s
 -- an event of a ticket
 abbrev pub has_ticket : EventKind → Bool
 has_ticket (kind.End ticket) = true
+has_ticket (kind.Piece ticket) = true
 has_ticket _ = false
 
 -- the session that is handed its replies with the entry of an event

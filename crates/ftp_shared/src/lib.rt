@@ -5,8 +5,10 @@
 #![tactic(auto)]
 
 mod locked;
+mod marks;
 mod notifier;
 mod outbox;
+mod pieces;
 mod ready;
 mod receipt;
 mod settle;
@@ -15,7 +17,7 @@ mod shared_hub;
 
 pub use locked::{Locked, Serving};
 pub use notifier::{Listener, Notifier};
-pub use receipt::{JobShare, Others, Receipt, Replies, Submitted, Turn};
+pub use receipt::{FinishError, JobShare, Others, Receipt, Replies, Submitted, Turn};
 pub use settle::SettleError;
 pub use share::StepShare;
-pub use shared_hub::{FinishError, SharedHub};
+pub use shared_hub::SharedHub;

@@ -4,6 +4,7 @@ ghost use Rattle.std.specs.Prelude.{◌≡◌, length};
 ghost use Rattle.ftp_options.specs.declared.options.Options.{Options};
 ghost use Rattle.ftp_shared.specs.Keeps.{Keeps};
 
+use crate::marks::Marks;
 use crate::outbox::Outbox;
 use crate::ready::{keep, make_ready, own_session, share_of};
 use crate::receipt::{Receipt, Replies, Submitted, Turn};
@@ -35,6 +36,7 @@ pub struct Locked<L: Serving> {
     hub: Hub,
     journal: Log,
     outbox: Outbox,
+    marks: Marks,
     steps: Book<L>,
     parts: Parts<L>,
     ghost kept: { ∥ Keeps L.options hub journal.entries outbox ∥₁ },
@@ -79,6 +81,7 @@ impl<L: Serving> Locked<L> {
             hub: Hub::new(alloc, options),
             journal: Log::new(alloc),
             outbox: Outbox::new(alloc),
+            marks: Marks::new(alloc),
             steps,
             parts: Parts::new(share, parts),
         }
@@ -170,11 +173,13 @@ impl<L: Serving> Locked<L> {
             &mut self.hub,
             &mut self.journal,
             &mut self.outbox,
+            &mut self.marks,
             &event,
             &answer,
         )?;
         let place = self.journal.len();
         let Twin { kept, told, job } = self.hub.step_twin(room, event, answer);
+        self.marks.follow(&told);
         keep(&mut self.journal, kept);
         let earlier = self.outbox.hand(own);
         share.add(&mut self.steps);
@@ -182,7 +187,7 @@ impl<L: Serving> Locked<L> {
             earlier: Replies::from_vec(earlier),
             submitted: Submitted {
                 receipt: Receipt { place, entry: told },
-                job: share_of(job),
+                job: share_of(&mut self.marks, job),
             },
         })
     }
@@ -264,6 +269,7 @@ impl<L: Serving> Locked<L> {
             hub: _,
             journal,
             outbox: _,
+            marks: _,
             steps,
             parts,
         } = self;

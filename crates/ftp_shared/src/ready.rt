@@ -6,6 +6,7 @@ ghost use Rattle.ftp_hub.specs.Twin.{FitsTwin};
 ghost use Rattle.ftp_shared.specs.Keeps.{Keeps};
 ghost use Rattle.ftp_shared.specs.Outbox.{newest, outbox_in, own_session};
 
+use crate::marks::Marks;
 use crate::outbox::Outbox;
 use crate::receipt::JobShare;
 use ftp_events::{Action, Answer, Entry, EventKind, HubEvent, Log};
@@ -18,6 +19,7 @@ pub(crate) fn make_ready(
     hub: &mut Hub,
     journal: &mut Log,
     outbox: &mut Outbox,
+    marks: &mut Marks,
     event: &HubEvent,
     answer: &Answer,
 ) -> Result<TwinRoom, AllocError>
@@ -28,6 +30,7 @@ pub(crate) fn make_ready(
     ensures journal { journal.new.entries ≡ journal.old.entries }
     ensures outbox { (s : ℕ) → outbox_in outbox.new (newest journal.old.entries) s ≡ outbox_in outbox.old (newest journal.old.entries) s }
 {
+    marks.reserve()?;
     outbox.catch_up(newest(journal))?;
     journal.make_room()?;
     match hub.prepare_twin(event, answer) {
@@ -63,17 +66,20 @@ pub(crate) fn own_session(kind: &EventKind) -> Option<u64>
     ensures { result ≡ own_session kind.now }
 {
     match kind {
-        EventKind::End { ticket: _ } => None,
+        EventKind::End { ticket: _ } | EventKind::Piece { ticket: _ } => None,
         _ => kind.named_session(),
     }
 }
 
-/// The share of a job.
-pub(crate) fn share_of(job: Option<Job>) -> Option<JobShare>
+/// The share of a job that starts.
+pub(crate) fn share_of(marks: &mut Marks, job: Option<Job>) -> Option<JobShare>
     ensures { result ≡ job }
 {
     match job {
-        Some(job) => Some(JobShare::new(job)),
+        Some(job) => {
+            let mark = marks.start(job.ticket.session);
+            Some(JobShare::new(job, mark))
+        }
         None => None,
     }
 }

@@ -1,14 +1,20 @@
 //! What an append gives.
 
-ghost use Rattle.std.specs.Prelude.{◌≡◌, [], ◌∷◌, IfNone, IfOk, IfSome, None};
+ghost use Rattle.std.specs.Prelude.{◌≡◌, ◌+◌, ◌^◌, ◌<◌, [], ◌∷◌, IfNone, IfOk, IfSome, None};
+ghost use Rattle.ftp_events.specs.EndRows.{can_end, can_move};
+ghost use Rattle.ftp_shared.specs.Jobs.{behind};
 ghost use Rattle.ftp_shared.specs.Outbox.{others_in, own_session, waits};
 
+use crate::marks::Mark;
 use crate::ready::own_session;
-use ftp_base::Reply;
+use ftp_base::{DataChanCmd, Reply};
 use ftp_events::{Action, Actions, Entry};
-use ftp_transfer::{Job, Ticket};
+use ftp_transfer::{Job, Outcome, Ticket};
 use std::alloc::{AllocError, Global};
 use std::marker::Model;
+
+/// No piece of a job has more bytes.
+const MOST_BYTES: u64 = 8192;
 
 /// The entry that an append made, and its place in the journal, counted from 0.
 #[derive(Drop)]
@@ -17,10 +23,11 @@ pub struct Receipt {
     pub entry: Entry,
 }
 
-/// The right to end a job that runs. Contracts see it as the job.
+/// The right to tell what became of a job that runs. Contracts see it as the job.
 #[derive(Drop)]
 pub struct JobShare {
     job: Job,
+    mark: Option<Mark>,
 }
 
 impl Model for JobShare {
@@ -32,16 +39,62 @@ impl Model for JobShare {
 }
 
 impl JobShare {
-    pub(crate) fn new(job: Job) -> JobShare
+    pub(crate) fn new(job: Job, mark: Option<Mark>) -> JobShare
         ensures { result ≡ job }
     {
-        JobShare { job }
+        JobShare { job, mark }
     }
 
-    pub(crate) fn ticket(&self) -> Ticket
+    // The same job, of which so many bytes moved more.
+    pub(crate) fn behind(self, bytes: u64) -> JobShare
+        requires { self.done + bytes < 2 ^ 64 }
+        ensures { result ≡ behind self bytes }
+    {
+        let JobShare { job, mark } = self;
+        let mut job = job;
+        job.done += bytes;
+        JobShare { job, mark }
+    }
+
+    pub fn ticket(&self) -> Ticket
         ensures { result ≡ self.now.ticket }
     {
         self.job.ticket
+    }
+
+    /// How many bytes of it were told.
+    pub fn done(&self) -> u64
+        ensures { result ≡ self.now.done }
+    {
+        self.job.done
+    }
+
+    /// Says whether the job can go on with so many bytes: it moves a file, by 1 to 8,192 bytes, and their count does not pass
+    /// its end.
+    pub fn can_move(&self, bytes: u64) -> bool
+        ensures { result ≡ can_move self.now bytes }
+    {
+        match &self.job.command {
+            DataChanCmd::Retr { .. } | DataChanCmd::Stor { .. } | DataChanCmd::Appe { .. } => {
+                1 <= bytes && bytes <= MOST_BYTES && bytes <= u64::MAX - self.job.done
+            }
+            DataChanCmd::List { .. } | DataChanCmd::Nlst { .. } | DataChanCmd::Mlsd { .. } => false,
+        }
+    }
+
+    /// Says whether the job can end so: the result suits its command, and the bytes that were told are counted.
+    pub fn can_end(&self, outcome: &Outcome) -> bool
+        ensures { result ≡ can_end self.now outcome.now }
+    {
+        outcome.suits(&self.job.command) && self.job.done <= outcome.bytes
+    }
+
+    /// Says whether the job was to stop, at some moment of this call. It takes no lock, and no clause rests on it.
+    pub fn is_marked(&self) -> bool {
+        match &self.mark {
+            Some(mark) => mark.is_set(),
+            None => false,
+        }
     }
 
     /// Gives an equal job.
@@ -52,7 +105,11 @@ impl JobShare {
     }
 }
 
-/// A receipt, and the share of the job that starts with the entry.
+/// No memory was left, and nothing was told of the job.
+#[derive(Drop)]
+pub struct FinishError(pub JobShare);
+
+/// A receipt, and the share of the job that starts with the entry, or of one that goes on.
 #[derive(Drop)]
 pub struct Submitted {
     pub receipt: Receipt,

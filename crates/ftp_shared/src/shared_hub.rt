@@ -2,15 +2,16 @@
 
 ghost use Rattle.std.specs.Vec.{vec_len};
 ghost use Rattle.ftp_events.specs.Right.{IsRight, IsActed};
-ghost use Rattle.std.specs.Prelude.{◌≡◌, ◌≢◌, ◌+◌, ◌<◌, ◌≤◌, length, sum_by, All, [], IfOk, IfErr, IfSome, OnOk, OnErr, IsTrue, false, true};
-ghost use Rattle.ftp_transfer.specs.Transfer.{suits};
+ghost use Rattle.std.specs.Prelude.{◌≡◌, ◌≢◌, ◌+◌, ◌<◌, ◌≤◌, length, sum_by, All, [], IfOk, IfErr, IfSome, OnOk, OnErr, IsTrue, Some, false, true};
 ghost use Rattle.ftp_events.specs.declared.event.Answer.TheVariants as answer;
 ghost use Rattle.ftp_shared.specs.Outbox.{has_ticket};
 ghost use Rattle.ftp_shared.specs.Settled.{IsKept, IsOtherOf, is_missing};
-ghost use Rattle.ftp_shared.specs.Next.{IsNextAt, IsTurnAt, end_of};
+ghost use Rattle.ftp_events.specs.EndRows.{can_end, can_move};
+ghost use Rattle.ftp_shared.specs.Jobs.{behind};
+ghost use Rattle.ftp_shared.specs.Next.{IsNextAt, IsPieceAt, IsTurnAt, end_of, is_moved, piece_of};
 
 use crate::locked::{Locked, Serving};
-use crate::receipt::{JobShare, Receipt, Submitted, Turn};
+use crate::receipt::{FinishError, JobShare, Receipt, Submitted, Turn};
 use crate::settle::SettleError;
 use crate::share::StepShare;
 use ftp_events::{Answer, EventKind, HubEvent, Log};
@@ -20,10 +21,6 @@ use std::alloc::{AllocError, Global};
 use std::sync::atomic::{AtomicU64, Ordering};
 use std::sync::ledger::{Book, Share};
 use std::sync::{Mutex, Wait};
-
-/// No memory was left, and the job has not ended.
-#[derive(Drop)]
-pub struct FinishError(pub JobShare);
 
 /// A locked hub, and the numbers that were drawn for it.
 #[derive(Drop)]
@@ -85,7 +82,29 @@ impl<L: Serving> SharedHub<L> {
         self.lock.lock(rt).append_for(share, event, answer)
     }
 
-    /// Adds the end of a job, and takes its share; an error gives that back.
+    /// Adds a piece of a job, of so many bytes, which moved before. Where the job goes on its share comes back, with these
+    /// bytes counted; else it is spent, and a job that starts with the entry comes in its place.
+    pub fn piece<R: Wait>(
+        &self,
+        rt: &R,
+        share: &mut StepShare<L>,
+        job: JobShare,
+        at: u64,
+        bytes: u64,
+    ) -> Result<Submitted, FinishError>
+        requires { can_move job bytes ≡ true }
+        ensures next { IfOk result (λ s. IsNextAt L.options s.receipt (piece_of job at) (answer.Moved bytes)) }
+        ensures job { IfOk result (λ s. IsPieceAt L.options s job at bytes) }
+        ensures back { IfOk result (λ s. is_moved s.receipt.entry.decision ≡ true → s.job ≡ Some (behind job bytes)) }
+        ensures share { OnOk result (share.new.count ≡ share.old.count + 1) }
+        ensures same_share { OnErr result (share.new.count ≡ share.old.count) }
+        ensures given_back { IfErr result (λ e. e.0 ≡ job) }
+    {
+        self.lock.lock(rt).append_piece(share, job, at, bytes)
+    }
+
+    /// Adds the end of a job, and takes its share; an error gives that back. The outcome's bytes are all that moved, those of
+    /// pieces that were told with them.
     pub fn finish<R: Wait>(
         &self,
         rt: &R,
@@ -94,7 +113,7 @@ impl<L: Serving> SharedHub<L> {
         at: u64,
         outcome: Outcome,
     ) -> Result<Submitted, FinishError>
-        requires { suits outcome.result job.command ≡ true }
+        requires { can_end job outcome ≡ true }
         ensures next { IfOk result (λ s. IsNextAt L.options s.receipt (end_of job at) (answer.Done outcome)) }
         ensures share { OnOk result (share.new.count ≡ share.old.count + 1) }
         ensures same_share { OnErr result (share.new.count ≡ share.old.count) }

@@ -1,0 +1,65 @@
+//! The pieces of jobs that move without the lock.
+
+ghost use Rattle.std.specs.Prelude.{◌≡◌, ◌+◌, ℕ, Some, IfErr, IfOk, OnErr, OnOk, true, if◌then◌else◌};
+ghost use Rattle.ftp_events.specs.declared.event.Answer.TheVariants as answer;
+ghost use Rattle.ftp_events.specs.EndRows.{can_move};
+ghost use Rattle.ftp_shared.specs.Jobs.{behind};
+ghost use Rattle.ftp_shared.specs.Next.{IsNextAt, IsPieceAt, is_moved, piece_of};
+
+use crate::locked::{Locked, Serving};
+use crate::receipt::{FinishError, JobShare, Submitted};
+use crate::share::StepShare;
+use ftp_events::{Answer, Decision, EventKind, HubEvent};
+
+impl<L: Serving> Locked<L> {
+    ghost use Rattle.ftp_shared.specs.Outbox.{outbox_of};
+
+    /// Adds the entry of a piece of a job, of so many bytes, as `append` does. Where the job goes on its share comes back,
+    /// with these bytes counted; else it is spent, and a job that starts with the entry comes in its place.
+    pub fn append_piece(
+        &mut self,
+        share: &mut StepShare<L>,
+        job: JobShare,
+        at: u64,
+        bytes: u64,
+    ) -> Result<Submitted, FinishError>
+        requires { can_move job bytes ≡ true }
+        ensures next { IfOk result (λ s. IsNextAt L.options s.receipt (piece_of job at) (answer.Moved bytes)) }
+        ensures job { IfOk result (λ s. IsPieceAt L.options s job at bytes) }
+        ensures back { IfOk result (λ s. is_moved s.receipt.entry.decision ≡ true → s.job ≡ Some (behind job bytes)) }
+        ensures share { OnOk result (share.new.count ≡ share.old.count + 1) }
+
+        // An error gives the job back, and changes nothing.
+        ensures given_back { IfErr result (λ e. e.0 ≡ job) }
+        ensures same_journal { OnErr result (self.new.journal.entries ≡ self.old.journal.entries) }
+        ensures same_outbox { OnErr result ((s : ℕ) → outbox_of self.new.outbox self.new.journal.entries s ≡ outbox_of self.old.outbox self.old.journal.entries s) }
+        ensures same_share { OnErr result (share.new.count ≡ share.old.count) }
+    {
+        let event = HubEvent {
+            at,
+            kind: EventKind::Piece {
+                ticket: job.ticket(),
+            },
+        };
+        match self.append(share, event, Answer::Moved { bytes }) {
+            Ok(submitted) => Ok(handed_back(submitted, job, bytes)),
+            Err(_) => Err(FinishError(job)),
+        }
+    }
+}
+
+// What was submitted, with the job where its piece was counted.
+fn handed_back(submitted: Submitted, job: JobShare, bytes: u64) -> Submitted
+    requires { can_move job bytes ≡ true }
+    ensures receipt { result.receipt ≡ submitted.receipt }
+    ensures job { result.job ≡ (if is_moved submitted.receipt.entry.decision then Some (behind job bytes) else submitted.job) }
+{
+    let Submitted { receipt, job: next } = submitted;
+    match receipt.entry.decision {
+        Decision::Moved => Submitted {
+            receipt,
+            job: Some(job.behind(bytes)),
+        },
+        _ => Submitted { receipt, job: next },
+    }
+}
