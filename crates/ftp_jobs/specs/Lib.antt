@@ -1,2 +1,4 @@
 pub mod Answers
+pub mod Moments
+pub mod Reports
 pub mod Runs

@@ -1,21 +1,23 @@
-//! One job, from its gate to its end in the journal.
+//! One job, from its gate to its last entry in the journal.
 
-ghost use Rattle.std.specs.Prelude.{◌≡◌, ◌+◌, ◌⊎◌, IfOk, IfErr, IfSome, IsSomeAnd, OnOk, OnErr};
-ghost use Rattle.ftp_base.specs.Edge.{Takes, behind_moment, next_number};
+ghost use Rattle.std.specs.Prelude.{◌≡◌, ◌+◌, ◌-◌, ◌<◌, ◌≤◌, ◌⊎◌, IfOk, IfErr, IfSome, OnOk, OnErr};
 ghost use Rattle.ftp_events.specs.Leads.{views};
-ghost use Rattle.ftp_jobs.specs.Answers.{outcome_in};
-ghost use Rattle.ftp_jobs.specs.Runs.{RunsOn, IsUntouched, IsUntold, site};
-ghost use Rattle.ftp_shared.specs.Next.{IsNextAt, end_of};
+ghost use Rattle.ftp_jobs.specs.Answers.{moved_in, outcome_in};
+ghost use Rattle.ftp_jobs.specs.Moments.{TakesMoments};
+ghost use Rattle.ftp_jobs.specs.Runs.{IsLastOf, RunsOn, StopsOn, IsUntouched, IsUntold, site};
 
+use crate::report::{Reported, report};
 use ftp_base::{Edge, Gate, Link, Storage};
 use ftp_shared::{FinishError, JobShare, Serving, SharedHub, StepShare, Submitted};
-use ftp_transfer::execute;
+use ftp_transfer::{PieceResult, execute_piece};
 use std::alloc::Global;
 use std::sync::Wait;
 
-/// Passes the gate with the number of this call, runs the job on this storage and this link, and adds its end.
+/// Passes the gate with the number of this call, moves the bytes of the job piece by piece, on this storage and this link,
+/// and adds its end. A job that was to stop, of which a piece is told, is over with that entry.
 ///
-/// An error is want of memory, and gives the job back.
+/// Some pieces on the way are told too, so that long transfers are seen to go on. An error is want of memory for the last
+/// entry, and gives the job back.
 pub fn serve_job<R: Wait, H: Serving, S: Storage, L: Link, G: Gate, E: Edge>(
     rt: &R,
     alloc: Global,
@@ -28,26 +30,50 @@ pub fn serve_job<R: Wait, H: Serving, S: Storage, L: Link, G: Gate, E: Edge>(
     link: &mut L,
     edge: &mut E,
 ) -> Result<Submitted, FinishError>
-    ensures next { IfOk result (λ s. IsNextAt H.options s.receipt (end_of job s.receipt.entry.event.at) s.receipt.entry.answer) }
-    ensures runs { IfOk result (λ s. IsSomeAnd (outcome_in s.receipt.entry.answer) (λ outcome.
+    ensures next { IfOk result (λ s. IsLastOf H.options job s.receipt) }
+
+    // At its end the job was run, from the bytes that were moved before.
+    ensures runs { IfOk result (λ s. IfSome (outcome_in s.receipt.entry.answer) (λ outcome.
         RunsOn (site (views S.files S.rule S.faults S.fault_limit S.calls L.left L.sending L.faults L.fault_limit L.calls) S.reads_take_memory L.takes_memory)
         job outcome storage.old storage.new link.old link.new)) }
-    ensures moment { IfOk result (λ s. IfSome (E.view edge.old).feed (λ f. s.receipt.entry.event.at ≡ next_number f.moments)) }
-    ensures moment_taken { OnOk result (Takes behind_moment (E.view edge.old) (E.view edge.new)) }
-    ensures share { OnOk result (share.new.count ≡ share.old.count + 1) }
+
+    // At a piece a front of what such a run moves was moved.
+    ensures stops { IfOk result (λ s. IfSome (moved_in s.receipt.entry.answer) (λ told.
+        StopsOn (site (views S.files S.rule S.faults S.fault_limit S.calls L.left L.sending L.faults L.fault_limit L.calls) S.reads_take_memory L.takes_memory)
+        job told storage.old storage.new link.old link.new)) }
+    ensures moments { IfOk result (λ s. TakesMoments (E.view edge.old) (E.view edge.new) (share.new.count - share.old.count) s.receipt.entry.event.at) }
+    ensures share { OnOk result (share.old.count < share.new.count) }
 
     // An error gives the job back. Nothing was begun, or the job was run and no entry tells what became of it.
-    ensures given_back { IfErr result (λ e. e.0 ≡ job) }
-    ensures same_share { OnErr result (share.new.count ≡ share.old.count) }
+    ensures given_back { IfErr result (λ e. (e.0 ≡ record job { done = e.0.done }) × (job.done ≤ e.0.done)) }
+    ensures kept_share { share.old.count ≤ share.new.count }
     ensures untold { OnErr result (IsUntouched storage.old storage.new link.old link.new edge.old edge.new
         ⊎ IsUntold (site (views S.files S.rule S.faults S.fault_limit S.calls L.left L.sending L.faults L.fault_limit L.calls) S.reads_take_memory L.takes_memory)
-        job storage.old storage.new link.old link.new (E.view edge.old) (E.view edge.new)) }
+        job storage.old storage.new link.old link.new (E.view edge.old) (E.view edge.new) (share.new.count - share.old.count)) }
 {
     let Ok(copy) = job.job(alloc) else {
         return Err(FinishError(job));
     };
     gate.pass(call);
-    let outcome = execute(alloc, copy, storage, link);
-    let at = edge.now();
-    hub.finish(rt, share, job, at, outcome)
+    let mut next = copy;
+    let mut job = job;
+    let mut count: u64 = 0;
+    'pieces: loop {
+        match execute_piece(alloc, &mut next, storage, link) {
+            PieceResult::Ended(outcome) => {
+                let at = edge.now();
+                return hub.finish(rt, share, job, at, outcome);
+            }
+            PieceResult::More { bytes: _ } => {
+                count += 1;
+                match report(rt, hub, share, job, next.done, count, edge) {
+                    Reported::GoesOn(told) => job = told,
+                    Reported::Over(submitted) => {
+                        let _ = link.close();
+                        return Ok(submitted);
+                    }
+                }
+            }
+        }
+    }
 }
