@@ -35,7 +35,7 @@ between-end f g [] (suc i) end = refl
 between-end f g (x ∷ xs) zero end = absurd (omega arith)
 between-end f g (x ∷ xs) (suc i) end = ap (λ l. f x ∷ l) (between-end f g xs i (omega arith))
 
-pub length-names : length names ≡ 43
+pub length-names : length names ≡ 46
 unfolding names
 length-names = refl
 
@@ -87,7 +87,7 @@ counting-fits old now e i name log counting there counts =
     ap (λ (l : List ℕ). get_or l i 0) (counting log counts) ∙ between-next (named_count (e ∷ log)) (named_count log) names i name there in
     omega (arith, value, count_by-le-length (λ (x : Entry). bytes_eq (decision_text x.decision) name) log)
 
-pub counting-end : (old new : List ℕ) (e : Entry) (i : ℕ) → Counting old new e i → 43 ≤ i → (log : List Entry) → AreCounts old log → AreCounts new (e ∷ log)
+pub counting-end : (old new : List ℕ) (e : Entry) (i : ℕ) → Counting old new e i → 46 ≤ i → (log : List Entry) → AreCounts old log → AreCounts new (e ∷ log)
 counting-end old new e i counting end log counts =
     counting log counts ∙ between-end (named_count (e ∷ log)) (named_count log) names i (omega (arith, length-names))
 
@@ -120,7 +120,7 @@ lines-next numbers text i name lines there = λ log counts.
     ∙ sym (flat_map-next line names i name there)
     ∙ ap (λ n. flat_map line (take n names)) (sym (add-one i))
 
-pub lines-end : (numbers text : List ℕ) (i : ℕ) → HasLines numbers text i → 43 ≤ i → (log : List Entry) → AreCounts numbers log → text ≡ count_lines log
+pub lines-end : (numbers text : List ℕ) (i : ℕ) → HasLines numbers text i → 46 ≤ i → (log : List Entry) → AreCounts numbers log → text ≡ count_lines log
 lines-end numbers text i lines end log counts =
     lines log counts ∙ ap (flat_map (λ name. count_line name (named_count log name))) (take_all i names (omega (arith, length-names)))
 

@@ -10,14 +10,14 @@ use Rattle.ftp_event_text.specs.Printing.{decision_text}
 -- the names of all decisions, in byte order
 unfoldable pub names : List (List ℕ)
 names =
-    codes "aborted" ∷ codes "attached" ∷ codes "badaddress" ∷ codes "badsequence" ∷ codes "closed" ∷ codes "cwdok"
-    ∷ codes "cwdrefused" ∷ codes "early" ∷ codes "finished" ∷ codes "full" ∷ codes "granted" ∷ codes "headerfault"
-    ∷ codes "loggedin" ∷ codes "loginfailed" ∷ codes "misplaced" ∷ codes "modeoff" ∷ codes "needpass"
-    ∷ codes "noconnection" ∷ codes "nolookup" ∷ codes "norestart" ∷ codes "noslot" ∷ codes "nosocket" ∷ codes "notexpected"
-    ∷ codes "nothingtoabort" ∷ codes "notloggedin" ∷ codes "opened" ∷ codes "otheraddress" ∷ codes "passout"
-    ∷ codes "portok" ∷ codes "queued" ∷ codes "quit" ∷ codes "reauth" ∷ codes "restok" ∷ codes "scavenged"
-    ∷ codes "slotdropped" ∷ codes "stopped" ∷ codes "swept" ∷ codes "timedout" ∷ codes "told" ∷ codes "turned"
-    ∷ codes "unknown" ∷ codes "used" ∷ codes "waited" ∷ []
+    codes "aborted" ∷ codes "aborting" ∷ codes "attached" ∷ codes "badaddress" ∷ codes "badsequence" ∷ codes "closed"
+    ∷ codes "cut" ∷ codes "cwdok" ∷ codes "cwdrefused" ∷ codes "early" ∷ codes "finished" ∷ codes "full"
+    ∷ codes "granted" ∷ codes "headerfault" ∷ codes "loggedin" ∷ codes "loginfailed" ∷ codes "misplaced"
+    ∷ codes "modeoff" ∷ codes "moved" ∷ codes "needpass" ∷ codes "noconnection" ∷ codes "nolookup" ∷ codes "norestart"
+    ∷ codes "noslot" ∷ codes "nosocket" ∷ codes "notexpected" ∷ codes "nothingtoabort" ∷ codes "notloggedin"
+    ∷ codes "opened" ∷ codes "otheraddress" ∷ codes "passout" ∷ codes "portok" ∷ codes "queued" ∷ codes "quit"
+    ∷ codes "reauth" ∷ codes "restok" ∷ codes "scavenged" ∷ codes "slotdropped" ∷ codes "stopped" ∷ codes "swept"
+    ∷ codes "timedout" ∷ codes "told" ∷ codes "turned" ∷ codes "unknown" ∷ codes "used" ∷ codes "waited" ∷ []
 
 -- each text stands before the next one in byte order
 abbrev pub are_ascending : List (List ℕ) → Bool

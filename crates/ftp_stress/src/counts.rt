@@ -10,12 +10,14 @@ use ftp_text::writing::{put_byte, put_decimal, put_field};
 use std::alloc::{AllocError, Global};
 
 /// The names of all decisions, in byte order.
-const NAMES: [&[u8]; 43] = [
+const NAMES: [&[u8]; 46] = [
     b"aborted",
+    b"aborting",
     b"attached",
     b"badaddress",
     b"badsequence",
     b"closed",
+    b"cut",
     b"cwdok",
     b"cwdrefused",
     b"early",
@@ -27,6 +29,7 @@ const NAMES: [&[u8]; 43] = [
     b"loginfailed",
     b"misplaced",
     b"modeoff",
+    b"moved",
     b"needpass",
     b"noconnection",
     b"nolookup",
@@ -58,7 +61,7 @@ const NAMES: [&[u8]; 43] = [
 
 // The name at a place.
 fn name(place: usize) -> &'static [u8]
-    requires { place < 43 }
+    requires { place < 46 }
     ensures { slice_get names place ≡ Some result.now }
 {
     text_at(&NAMES, place)
