@@ -19,13 +19,14 @@ use Rattle.ftp_events.specs.Log.{past_of}
 use Rattle.ftp_script_text.specs.SetUp.{storage_in}
 use Rattle.ftp_script_run.specs.Clean.{TakenTransfersAreDone}
 use Rattle.ftp_script_run.specs.Legal.{memory_views, start_of}
-use Rattle.ftp_script_run.proofs.LeadsLemmas.{one-of, job-no_header, script-split}
+use Rattle.ftp_script_run.proofs.LeadsLemmas.{one-of, job-ran, script-split}
 
 one-rule : {S L : Type 0} (v : Views S L) (o : Options) (past : List Entry) (e : Entry) (old new : Outside S L) →
     LeadsOne v o past e old new → v.rule new.storage ≡ v.rule old.storage
 one-rule {S} {L} v o past e old new led =
     one-of v o past e old new
     (λ idle. ap (λ (x : Outside S L). v.rule x.storage) idle.same)
+    (λ job moved. moved.went.moves.rule)
     (λ job ran. ran.ran.moves.rule)
     (λ number read. ap v.rule read.storage)
     led
@@ -83,7 +84,7 @@ taken-done o items older newer e end none led =
       x.2,
       one,
       λ job link outcome runs there takes is below.
-          (let run : RunsJob memory_views job e.answer x.0 x.1 = rw (job-no_header o (past_of older) e.event.kind job runs, runs) at one in
+          (let run : RunsJob memory_views job e.answer x.0 x.1 = job-ran memory_views o (past_of older) e x.0 x.1 job outcome runs is one in
           let was = x.3.links job.number link there in
           let storage : fault_limit x.0.storage.calls ≡ 0 = omega (arith, x.3.storage, none.storage) in
           let links : link_fault_limit link.calls ≡ 0 = omega (arith, was.2.limit, none.links job.number was.0 was.1) in

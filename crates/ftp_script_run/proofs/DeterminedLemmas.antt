@@ -17,7 +17,7 @@ use Rattle.ftp_transfer.specs.declared.job.Completion.{Completion}
 use Rattle.ftp_transfer.specs.declared.job.Completion.TheVariants as result
 use Rattle.ftp_transfer.specs.declared.job.Job.{Job}
 use Rattle.ftp_transfer.specs.declared.job.Outcome.{Outcome}
-use Rattle.ftp_transfer.specs.Ran.{StorageFailed, StoresAs, Refuses, first_refusal, IsSentWhole, IsDone, due_of}
+use Rattle.ftp_transfer.specs.Ran.{StorageFailed, StoresAs, Refuses, first_refusal, ByDone, IsSentWhole, IsDone, due_of}
 use Rattle.ftp_transfer.specs.Run.{RefusedBy, IfRefused, RefusedFirst, RefusesStore, IsStopped, Stores, append_place}
 use Rattle.ftp_transfer.specs.Transfer.{suits, is_store}
 use Rattle.ftp_transfer.proofs.RunLemmas.{HasRisen-more}
@@ -92,6 +92,7 @@ files_after c job max files input = files
 
 -- what a run tells, from files and an input, of calls that are refused by the files as they stand later
 record Run (c : DataChanCmd) (job : Job) (max : ℕ) (files : Files) (input : List ℕ) (new : Option Files) (later : Option (List ℕ)) (rose : Type 0) (outcome : Outcome) : Type 0 where
+  fresh : job.done ≡ 0
   held : rose → ⊥
   memory : outcome.result ≡ result.OutOfMemory → ⊥
   exceeded : outcome.result ≡ result.Refused kind.ExceededStorageAllocationError → ⊥
@@ -101,7 +102,7 @@ record Run (c : DataChanCmd) (job : Job) (max : ℕ) (files : Files) (input : Li
   cause : IfRefused (RefusedBy rose (λ k. Refuses c job (memory_rule max) files new (Some input) later outcome.bytes k) outcome.bytes) outcome.result
   whole : IsSentWhole outcome.result → outcome.bytes ≡ length (due_of c files job.path job.offset)
   kept : is_store c ≡ false → new ≡ Some files
-  stored : StoresAs c job files (memory_rule max files) new input outcome
+  stored : StoresAs c job files (memory_rule max files) new input outcome.bytes outcome.result outcome.fault
   written : outcome.result ≡ result.Written → outcome.bytes ≡ length input
   refused : IfSome (first_refusal c job files (memory_rule max files)) (λ k. RefusedFirst rose k outcome.bytes outcome.result × (new ≡ Some files))
 
@@ -185,22 +186,31 @@ listing-cause : (o : Option ErrorKind) (f : ErrorKind → ErrorKind) (k : ErrorK
 listing-cause None f k none some = cc
 listing-cause (Some j) f k none some = cc
 
+-- what is refused where no piece came before
+at-first : (done : ℕ) (first later : Type 0) → done ≡ 0 → ByDone done first later → first
+at-first done first later fresh (inl h) = h.1
+at-first done first later fresh (inr h) = absurd (omega (arith, fresh, h.0))
+
 -- where the first call is not refused, a refusal is for a size
 cause-is : (c : DataChanCmd) (job : Job) (max m : ℕ) (files : Files) (input : List ℕ) (new : Option Files) (later : Option (List ℕ)) (k : ErrorKind) →
+    job.done ≡ 0 →
     first_refusal c job files (memory_rule max files) ≡ None →
     Refuses c job (memory_rule max) files new (Some input) later m k →
     k ≡ kind.ExceededStorageAllocationError
-cause-is (command.Retr x) job max m files input new later k none refused = absurd (not_both _ k none refused)
-cause-is (command.Stor x) job max m files input new later k none refused = store-cause job max job.offset m files input new later k none refused
-cause-is (command.Appe x) job max m files input new later k none refused =
+cause-is (command.Retr x) job max m files input new later k fresh none refused = absurd (not_both _ k none refused)
+cause-is (command.Stor x) job max m files input new later k fresh none refused =
+    store-cause job max job.offset m files input new later k (rw fresh at none) (at-first job.done _ _ fresh refused)
+cause-is (command.Appe x) job max m files input new later k fresh none' refused' =
+    let none = rw fresh at none' in
+    let refused = at-first job.done _ _ fresh refused' in
     let met : Option ErrorKind = memory_rule max files (Metadata job.user job.path) in
     let at = appe-place met (length (old_bytes files job.path)) (λ place. file_refusal files max job.path place) (append_place met (length (old_bytes files job.path))) refl none in
     let here : RefusesStore (memory_rule max) job.user files new job.path at.0 (Some input) later m k =
     subst (λ (o : Option ℕ). MatchOption o ((m ≡ 0) × (met ≡ Some k)) (λ place. RefusesStore (memory_rule max) job.user files new job.path place (Some input) later m k)) at.1 refused in
     store-cause job max at.0 m files input new later k at.2 here
-cause-is (command.List o x) job max m files input new later k none refused = absurd (listing-cause _ _ refused.0 none refused.1)
-cause-is (command.Nlst x) job max m files input new later k none refused = absurd (listing-cause _ _ refused.0 none refused.1)
-cause-is (command.Mlsd x) job max m files input new later k none refused = absurd (listing-cause _ _ refused.0 none refused.1)
+cause-is (command.List o x) job max m files input new later k fresh none refused = absurd (listing-cause _ _ refused.0 none refused.1)
+cause-is (command.Nlst x) job max m files input new later k fresh none refused = absurd (listing-cause _ _ refused.0 none refused.1)
+cause-is (command.Mlsd x) job max m files input new later k fresh none refused = absurd (listing-cause _ _ refused.0 none refused.1)
 
 -- what nothing refused, and nothing stopped, is done
 settled-done : (rose : Type 0) (refuses : ErrorKind → Type 0) (m : ℕ) (r : Completion) →
@@ -228,7 +238,7 @@ done-count (command.Mlsd x) job max files input new later rose outcome r is = r.
 
 -- a whole input was stored
 stored-whole : (job : Job) (files : Files) (new : Option Files) (place : ℕ) (input : List ℕ) (outcome : Outcome) →
-    Stores files new job.path place input outcome → outcome.result ≡ result.Written → outcome.bytes ≡ length input → new ≡ Some (with_input job files place input)
+    Stores files new job.path place input outcome.bytes outcome.result outcome.fault → outcome.result ≡ result.Written → outcome.bytes ≡ length input → new ≡ Some (with_input job files place input)
 stored-whole job files new place input outcome (within, inl stored) is whole =
     stored ∙ ap (λ (bytes : List ℕ). Some (with_input job files place bytes)) (take_all outcome.bytes input (omega arith))
 stored-whole job files new place input outcome (within, inr idle) is whole = absurd (subst IsStopped is idle.1.2)
@@ -241,9 +251,9 @@ done-files : (c : DataChanCmd) (job : Job) (max : ℕ) (files : Files) (input : 
 done-files (command.Stor x) job max files input new later rose outcome r none is = stored-whole job files new job.offset input outcome r.stored is (r.written is)
 done-files (command.Appe x) job max files input new later rose outcome r none is =
     let met : Option ErrorKind = memory_rule max files (Metadata job.user job.path) in
-    let at = appe-place met (length (old_bytes files job.path)) (λ place. file_refusal files max job.path place) (append_place met (length (old_bytes files job.path))) refl none in
-    let stored : Stores files new job.path at.0 input outcome =
-    subst (λ (o : Option ℕ). MatchOption o ((new ≡ Some files) × ((outcome.bytes ≡ 0) × (outcome.fault ≡ None) × IsStopped outcome.result)) (λ place. Stores files new job.path place input outcome)) at.1 r.stored in
+    let at = appe-place met (length (old_bytes files job.path)) (λ place. file_refusal files max job.path place) (append_place met (length (old_bytes files job.path))) refl (rw r.fresh at none) in
+    let stored : Stores files new job.path at.0 input outcome.bytes outcome.result outcome.fault =
+    subst (λ (o : Option ℕ). MatchOption o ((new ≡ Some files) × ((outcome.bytes ≡ 0) × (outcome.fault ≡ None) × IsStopped outcome.result)) (λ place. Stores files new job.path place input outcome.bytes outcome.result outcome.fault)) at.1 r.stored in
     stored-whole job files new at.0 input outcome stored is (r.written is)
     ∙ ap (λ (o : Option ℕ). Some (option_map_or (λ place. with_input job files place input) o files)) (sym at.1)
 done-files (command.Retr x) job max files input new later rose outcome r none is = r.kept refl
@@ -258,7 +268,7 @@ done-ends : (c : DataChanCmd) (job : Job) (max : ℕ) (files : Files) (input : L
 done-ends c job max files input new later rose outcome r none =
     let done : IsDone outcome.result =
     settled-done rose (λ k. Refuses c job (memory_rule max) files new (Some input) later outcome.bytes k) outcome.bytes outcome.result r.held r.count
-    (λ k is refused. r.exceeded (is ∙ ap result.Refused (cause-is c job max outcome.bytes files input new later k none refused)))
+    (λ k is refused. r.exceeded (is ∙ ap result.Refused (cause-is c job max outcome.bytes files input new later k r.fresh none refused)))
     r.memory r.cause in
     let is : outcome.result ≡ good c = good-of c outcome.result done r.fits in (
       outcome-is outcome (good c) (count_of c job files input) is (done-count c job max files input new later rose outcome r is) r.fault,
@@ -268,35 +278,41 @@ done-ends c job max files input new later rose outcome r none =
 -- ---- a run over memory
 
 run-of : (job : Job) (storage later : MemoryState) (link after : LinkState) (outcome : Outcome) →
+    job.done ≡ 0 →
     RunsTo job storage link later after outcome →
     Run job.command job storage.max_file storage.files link.left (Some later.files) (Some after.left) (StorageFailed (told_in_memory storage link) (told_in_memory later after)) outcome
-run-of job storage later link after outcome to =
-    elim to.ran.moves.cause [
+run-of job storage later link after outcome fresh to =
+    let moved : outcome.bytes - job.done ≡ outcome.bytes = omega (arith, fresh) in
+    let total : job.done + outcome.bytes ≡ outcome.bytes = omega (arith, fresh) in
+    let place : job.offset + job.done ≡ job.offset = omega (arith, fresh) in
+    let moves = rw moved at to.ran.moves in
+    elim moves.cause [
       | inl failed ↦ absurd (to.settled.link (HasRisen-more link.calls.faults to.ran.faults after.calls.faults to.ran.not_after failed.1.0))
       | inr held ↦ record {
+        fresh = fresh;
         held = λ failed. to.settled.storage failed.0;
         memory = to.settled.memory;
         exceeded = to.settled.exceeded;
         count = to.settled.count;
         fits = to.fits;
         fault = held.0.0;
-        cause = held.1;
-        whole = to.ran.moves.whole;
-        kept = λ no. (to.ran.moves.kept no).0;
-        stored = to.ran.moves.stored;
-        written = λ is. (to.ran.moves.written is).0;
-        refused = to.ran.moves.refused;
+        cause = rw total at held.1;
+        whole = λ sent. rw place at (moves.whole sent);
+        kept = λ no. (moves.kept no).0;
+        stored = moves.stored fresh;
+        written = λ is. (moves.written is).0;
+        refused = moves.refused;
       }
     ]
 
 pub settled-determined : SettledRunsAreDetermined
-settled-determined job storage left right link near far first second one other =
+settled-determined job storage left right link near far first second fresh one other =
     by (first_refusal job.command job storage.files (memory_rule storage.max_file storage.files)) refl where
       x : Run job.command job storage.max_file storage.files link.left (Some left.files) (Some near.left) (StorageFailed (told_in_memory storage link) (told_in_memory left near)) first
-      x = run-of job storage left link near first one
+      x = run-of job storage left link near first fresh one
 
       y : Run job.command job storage.max_file storage.files link.left (Some right.files) (Some far.left) (StorageFailed (told_in_memory storage link) (told_in_memory right far)) second
-      y = run-of job storage right link far second other
+      y = run-of job storage right link far second fresh other
 
       by : (found : Option ErrorKind) → first_refusal job.command job storage.files (memory_rule storage.max_file storage.files) ≡ found → (first ≡ second) × (left.files ≡ right.files)
       by None e =

@@ -1,7 +1,7 @@
 -- Links under a log: their numbers stay, and one more of them changes nothing.
 use Rattle.std.proofs.Common.{◌≡◌, ◌≢◌, ℕ, Bool, true, false, cond, List, [], ◌∷◌, ◌++◌, Option, Some, None, is_some, refl, sym, ap, subst, ◌∙◌, ◌≤◌, eqb-true, inl, inr, arith}
 use Rattle.std.proofs.lemmas.List.{append-nil}
-use Rattle.std.specs.Prelude.{MatchOption, IfSome, IsSomeAnd, Result, Err, IsErrOf}
+use Rattle.std.specs.Prelude.{◌⊎◌, MatchOption, IfSome, IsSomeAnd, Result, Err, IsErrOf}
 use Rattle.std.specs.Ordering.{nat_cmp, eq_by_cmp}
 use Rattle.std.specs.Cmp.{nat_cmp_total, unsigned_tied}
 use Rattle.std.specs.FinMap as map
@@ -18,46 +18,62 @@ use Rattle.ftp_proxy.specs.declared.error.ReadError.TheVariants.{Fault}
 use Rattle.ftp_proxy.specs.declared.header.ProxyHeader.{ProxyHeader}
 use Rattle.ftp_transfer.specs.declared.job.Job.{Job}
 use Rattle.ftp_transfer.specs.declared.job.Outcome.{Outcome}
-use Rattle.ftp_transfer.specs.Ran.{Told, Ran}
+use Rattle.ftp_transfer.specs.Ran.{Told, Ran, Went}
 use Rattle.ftp_events.specs.declared.entry.Entry.{Entry}
 use Rattle.ftp_events.specs.declared.event.Answer.{Answer}
 use Rattle.ftp_events.specs.declared.event.EventKind.{EventKind}
-use Rattle.ftp_events.specs.declared.event.EventKind.TheVariants.{Proxied}
-use Rattle.ftp_events.specs.Leads.{Views, Outside, told_by, header_to_read, job_to_run, ReadsHeader, RunsJob, LeavesAll, LeadsOne, Leads}
+use Rattle.ftp_events.specs.declared.event.Answer.TheVariants.{Done}
+use Rattle.ftp_events.specs.declared.event.EventKind.TheVariants.{End, Piece}
+use Rattle.ftp_events.specs.Leads.{Views, Outside, told_by, header_to_read, job_to_move, job_to_run, MovesPiece, ReadsHeader, RunsJob, LeavesAll, LeadsOne, Leads}
 use Rattle.ftp_events.specs.Log.{past_of}
 use Rattle.ftp_event_text.specs.declared.setup.Item.{Item}
-use Rattle.ftp_hub.specs.Runs.{is_linked}
+use Rattle.ftp_hub.specs.Runs.{is_linked, job_due}
 use Rattle.ftp_script_run.specs.Legal.{memory_views, start_of}
 
 -- ---- what an entry did
 
--- what an entry did, by the header to be read and the job to be run
-abbrev Did : {S L : Type 0} → Views S L → Answer → Option ℕ → Option Job → Outside S L → Outside S L → Type 0
-Did v given header job old new =
+-- what an entry did, by the header to be read, the job to be run and the one of which a piece is to be moved
+abbrev Did : {S L : Type 0} → Views S L → Answer → Option ℕ → Option Job → Option Job → Outside S L → Outside S L → Type 0
+Did v given header job part old new =
     MatchOption header
-    (MatchOption job (LeavesAll given old new) (λ job. RunsJob v job given old new))
+    (MatchOption job
+    (MatchOption part (LeavesAll given old new) (λ job. MovesPiece v job given old new ⊎ RunsJob v job given old new))
+    (λ job. RunsJob v job given old new))
     (λ number. ReadsHeader v number given old new)
 
 -- what follows from each thing that an entry can do
 pub one-of : {S L X : Type 0} (v : Views S L) (o : Options) (past : List Entry) (e : Entry) (old new : Outside S L) →
     (LeavesAll e.answer old new → X) →
+    ((job : Job) → MovesPiece v job e.answer old new → X) →
     ((job : Job) → RunsJob v job e.answer old new → X) →
     ((number : ℕ) → ReadsHeader v number e.answer old new → X) →
     LeadsOne v o past e old new →
     X
-one-of {S} {L} {X} v o past e old new idle run read led =
-    by (header_to_read o past e.event.kind) (job_to_run o past e.event.kind) led where
-      by : (header : Option ℕ) (job : Option Job) → Did v e.answer header job old new → X
-      by None None did = idle did
-      by None (Some job) did = run job did
-      by (Some number) job did = read number did
+one-of {S} {L} {X} v o past e old new idle move run read led =
+    by (header_to_read o past e.event.kind) (job_to_run o past e.event.kind) (job_to_move o past e.event.kind) led where
+      by : (header : Option ℕ) (job part : Option Job) → Did v e.answer header job part old new → X
+      by None None None did = idle did
+      by None None (Some job) (inl did) = move job did
+      by None None (Some job) (inr did) = run job did
+      by None (Some job) part did = run job did
+      by (Some number) job part did = read number did
 
--- an event that a job is run for has no header
-pub job-no_header : (o : Options) (past : List Entry) (k : EventKind) (job : Job) →
-    job_to_run o past k ≡ Some job →
-    header_to_read o past k ≡ None
-job-no_header o past (Proxied number raw trace) job runs = absurd cc
-job-no_header o past k job runs = refl
+-- what ended a job ran it
+ran-due : {S L : Type 0} (v : Views S L) (o : Options) (past : List Entry) (k : EventKind) (given : Answer) (old new : Outside S L) (job : Job) (outcome : Outcome) →
+    job_due o past k ≡ Some job → given ≡ Done outcome →
+    Did v given (header_to_read o past k) (job_to_run o past k) (job_to_move o past k) old new → RunsJob v job given old new
+ran-due v o past (End ticket) given old new job outcome due is did = rw due at did
+ran-due v o past (Piece ticket) given old new job outcome due is did = moved-or-ran (rw due at did) where
+  moved-or-ran : MovesPiece v job given old new ⊎ RunsJob v job given old new → RunsJob v job given old new
+  moved-or-ran (inl moved) = absurd (cc (sym moved.given_is ∙ is))
+  moved-or-ran (inr ran) = ran
+ran-due v o past k given old new job outcome due is did = absurd (cc due)
+
+-- an entry that ended a job ran it
+pub job-ran : {S L : Type 0} (v : Views S L) (o : Options) (past : List Entry) (e : Entry) (old new : Outside S L) (job : Job) (outcome : Outcome) →
+    job_due o past e.event.kind ≡ Some job → e.answer ≡ Done outcome →
+    LeadsOne v o past e old new → RunsJob v job e.answer old new
+job-ran v o past e old new job outcome due is led = ran-due v o past e.event.kind e.answer old new job outcome due is led
 
 -- ---- numbers
 
@@ -67,6 +83,7 @@ one-numbers : {S L : Type 0} (v : Views S L) (o : Options) (past : List Entry) (
 one-numbers {S} {L} v o past e old new n led =
     one-of v o past e old new
     (λ idle. ap (λ (x : Outside S L). is_linked x.links n) idle.same)
+    (λ job moved. put job.number moved.before moved.after moved.there moved.links)
     (λ job ran. put job.number ran.before ran.after ran.there ran.links)
     (λ number read. put number read.before read.after read.there read.links)
     led where
@@ -121,17 +138,14 @@ one-framed : {S L : Type 0} (v : Views S L) (o : Options) (past : List Entry) (e
     LeadsOne v o past e old new →
     LeadsOne v o past e (with_link old n link) (with_link new n link)
 one-framed {S} {L} v o past e old new n link unlinked led =
-    by (header_to_read o past e.event.kind) (job_to_run o past e.event.kind) led where
+    by (header_to_read o past e.event.kind) (job_to_run o past e.event.kind) (job_to_move o past e.event.kind) led where
       -- what was put at a number that has a link
       put : (number : ℕ) (after : L) → number ≢ n → new.links ≡ map.insert old.links number after → map.insert new.links n link ≡ map.insert (map.insert old.links n link) number after
       put number after other links =
           ap (λ (links : Numbered L). map.insert links n link) links ∙ insert-commutes old.links number n after link other
 
-      by : (header : Option ℕ) (job : Option Job) →
-          Did v e.answer header job old new →
-          Did v e.answer header job (with_link old n link) (with_link new n link)
-      by None None idle = record { given_is = idle.given_is; same = ap (λ (x : Outside S L). with_link x n link) idle.same }
-      by None (Some job) ran =
+      run : (job : Job) → RunsJob v job e.answer old new → RunsJob v job e.answer (with_link old n link) (with_link new n link)
+      run job ran =
           let other : job.number ≢ n = unlinked-other old.links job.number n ran.before ran.there unlinked in
           record {
             outcome = ran.outcome;
@@ -148,7 +162,33 @@ one-framed {S} {L} v o past e old new n link unlinked led =
             storage_limit = ran.storage_limit;
             link_limit = ran.link_limit;
           }
-      by (Some number) job read =
+
+      move : (job : Job) → MovesPiece v job e.answer old new → MovesPiece v job e.answer (with_link old n link) (with_link new n link)
+      move job moved =
+          let other : job.number ≢ n = unlinked-other old.links job.number n moved.before moved.there unlinked in
+          record {
+            bytes = moved.bytes;
+            before = moved.before;
+            after = moved.after;
+            given_is = moved.given_is;
+            fits = moved.fits;
+            there = get-insert-other old.links n link job.number other ∙ moved.there;
+            links = put job.number moved.after other moved.links;
+            went = moved.went;
+            storage_count = moved.storage_count;
+            link_count = moved.link_count;
+            storage_limit = moved.storage_limit;
+            link_limit = moved.link_limit;
+          }
+
+      by : (header : Option ℕ) (job part : Option Job) →
+          Did v e.answer header job part old new →
+          Did v e.answer header job part (with_link old n link) (with_link new n link)
+      by None None None idle = record { given_is = idle.given_is; same = ap (λ (x : Outside S L). with_link x n link) idle.same }
+      by None None (Some job) (inl moved) = inl (move job moved)
+      by None None (Some job) (inr ran) = inr (run job ran)
+      by None (Some job) part ran = run job ran
+      by (Some number) job part read =
           let other : number ≢ n = unlinked-other old.links number n read.before read.there unlinked in
           record {
             header = read.header;
@@ -239,6 +279,10 @@ ListStays-ran job old new outcome ran = ListStays-more old.link_calls ran.calls 
     | inr failed ↦ ListStays-failed ran.calls new.link_calls failed.2
   ]
 
+-- nor does a part of one
+ListStays-went : (job : Job) (old new : Told) (m : ℕ) → Went job old new m → ListStays old.link_calls new.link_calls
+ListStays-went job old new m went = ListStays-well old.link_calls new.link_calls (went.moves.link_well refl)
+
 -- the reading of a header changes no list of calls
 ListStays-read : {S L : Type 0} (v : Views S L) (number : ℕ) (given : Answer) (old new : Outside S L) (read : ReadsHeader v number given old new) →
     ListStays (v.link_calls read.before) (v.link_calls read.after)
@@ -290,6 +334,9 @@ LimitsFall-one : {S L : Type 0} (v : Views S L) (o : Options) (past : List Entry
 LimitsFall-one {S} {L} v o past e old new led =
     one-of v o past e old new
     (λ idle. subst (λ (x : Outside S L). LimitsFall v old x) (sym idle.same) (LimitsFall-same v old))
+    (λ job moved.
+    put job.number moved.before moved.after moved.there moved.links moved.storage_limit
+    (record { limit = moved.link_limit; list = ListStays-went job (told_by v old.storage moved.before) (told_by v new.storage moved.after) moved.bytes moved.went }))
     (λ job ran.
     put job.number ran.before ran.after ran.there ran.links ran.storage_limit
     (record { limit = ran.link_limit; list = ListStays-ran job (told_by v old.storage ran.before) (told_by v new.storage ran.after) ran.outcome ran.ran }))

@@ -19,7 +19,7 @@ use Rattle.ftp_events.specs.Log.{past_of}
 use Rattle.ftp_event_text.specs.declared.setup.Item.{Item}
 use Rattle.ftp_script_run.specs.Legal.{memory_views, start_of}
 use Rattle.ftp_script_run.specs.Listed.{IsListed, ToldFaultsAreListed, ToldHeaderFaultsAreListed}
-use Rattle.ftp_script_run.proofs.LeadsLemmas.{job-no_header, LimitsFall, script-split}
+use Rattle.ftp_script_run.proofs.LeadsLemmas.{job-ran, LimitsFall, script-split}
 
 -- a call to come with the fault that was met
 abbrev pub ToCome : Calls (ℕ × LinkFault) → LinkFault → Type 0
@@ -92,7 +92,7 @@ pub told-listed : ToldFaultsAreListed
 told-listed o items older newer e end job outcome f led runs is fault =
     let x = script-split o items older newer e end led in
     let one = x.4 in
-    let run : RunsJob memory_views job e.answer x.0 x.1 = rw (job-no_header o (past_of older) e.event.kind job runs, runs) at one in
+    let run : RunsJob memory_views job e.answer x.0 x.1 = job-ran memory_views o (past_of older) e x.0 x.1 job outcome runs is one in
     (x.0, x.2, runs-listed items job e.answer x.0 x.1 outcome f x.3 run is fault)
 
 pub told-header-listed : ToldHeaderFaultsAreListed

@@ -14,10 +14,10 @@ use Rattle.ftp_options.specs.Builder.{defaults, settings_of}
 use Rattle.ftp_events.specs.declared.entry.Entry.{Entry}
 use Rattle.ftp_events.specs.declared.event.HubEvent.{HubEvent}
 use Rattle.ftp_events.specs.Covers.{is_covered}
-use Rattle.ftp_events.specs.Leads.{Outside, HasLinks, LeadsOne, Leads, job_to_run}
+use Rattle.ftp_events.specs.Leads.{Outside, HasLinks, LeadsOne, Leads}
 use Rattle.ftp_events.specs.Log.{past_of}
 use Rattle.ftp_hub.specs.declared.hub.Hub.{Hub}
-use Rattle.ftp_hub.specs.Runs.{has_link_of, is_linked}
+use Rattle.ftp_hub.specs.Runs.{has_link_of, is_linked, job_due}
 use Rattle.ftp_hub.specs.Stands.{Stands, options_of}
 use Rattle.ftp_hub.proofs.Links.{has_link_of-due, has_links-under, links-more, insert-linked}
 use Rattle.ftp_event_text.specs.declared.setup.Item.{Item}
@@ -247,7 +247,7 @@ pub keeps-event : (old new : Run) (items : List Item) (log : List Entry) (event 
     e.event ≡ event →
     (Stands old.hub log → Stands new.hub (e ∷ log)) →
     (Stands old.hub log →
-    has_link_of old.links (job_to_run (options_of old.hub) (past_of log) event.kind) ≡ true →
+    has_link_of old.links (job_due (options_of old.hub) (past_of log) event.kind) ≡ true →
     LeadsOne memory_views (options_of old.hub) (past_of log) e (outside old) (outside new)) →
     ((n : ℕ) → is_linked old.links n ≡ true → is_linked new.links n ≡ true) →
     may_stand items (item.Event event) ≡ true →

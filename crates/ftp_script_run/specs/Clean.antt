@@ -11,8 +11,9 @@ use Rattle.ftp_transfer.specs.declared.job.Outcome.{Outcome}
 use Rattle.ftp_transfer.specs.Ran.{Takes, IsDone}
 use Rattle.ftp_events.specs.declared.entry.Entry.{Entry}
 use Rattle.ftp_events.specs.declared.event.Answer.TheVariants as answer
-use Rattle.ftp_events.specs.Leads.{Outside, header_to_read, job_to_run, LeadsOne, Leads}
+use Rattle.ftp_events.specs.Leads.{Outside, header_to_read, LeadsOne, Leads}
 use Rattle.ftp_events.specs.Log.{past_of}
+use Rattle.ftp_hub.specs.Runs.{job_due}
 use Rattle.ftp_event_text.specs.declared.setup.Item.{Item}
 use Rattle.ftp_script_text.specs.SetUp.{storage_in}
 use Rattle.ftp_script_run.specs.Items.{links_in}
@@ -23,12 +24,12 @@ pub record ListsNoFault (items : List Item) : Type 0 where
   pub storage : fault_limit (storage_in items).calls ≡ 0
   pub links : (n : ℕ) (link : LinkState) → map.get (links_in items) n ≡ Some link → link_fault_limit link.calls ≡ 0
 
--- an entry that ran a job from old on, of which the storage's rule refuses no call, says that it was done, or that memory
--- ran out
+-- an entry that ran a job to its end from old on, of which the storage's rule refuses no call, says that it was done, or
+-- that memory ran out
 abbrev pub IsDoneWhereTaken : Options → List Entry → Entry → ℕ → Outside MemoryState LinkState → Type 0
 IsDoneWhereTaken o past e max old =
     (job : Job) (link : LinkState) (outcome : Outcome) →
-    job_to_run o past e.event.kind ≡ Some job →
+    job_due o past e.event.kind ≡ Some job →
     map.get old.links job.number ≡ Some link →
     Takes job.command job (memory_rule max) old.storage.files (Some link.left) →
     e.answer ≡ answer.Done outcome →

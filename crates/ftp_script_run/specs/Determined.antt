@@ -34,10 +34,11 @@ pub record RunsTo (job : Job) (storage : MemoryState) (link : LinkState) (later 
   pub ran : Ran job (told_in_memory storage link) (told_in_memory later after) outcome
   pub settled : IsSettled (told_in_memory storage link) (told_in_memory later after) outcome
 
--- two such runs have the same outcome and leave the same files
+-- two such runs of a job of which no piece moved before have the same outcome and leave the same files
 abbrev pub SettledRunsAreDetermined : Type 0
 SettledRunsAreDetermined =
     (job : Job) (storage left right : MemoryState) (link near far : LinkState) (first second : Outcome) →
+    job.done ≡ 0 →
     RunsTo job storage link left near first → RunsTo job storage link right far second →
     (first ≡ second) × (left.files ≡ right.files)
 

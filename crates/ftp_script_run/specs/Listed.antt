@@ -11,8 +11,9 @@ use Rattle.ftp_transfer.specs.declared.job.Job.{Job}
 use Rattle.ftp_transfer.specs.declared.job.Outcome.{Outcome}
 use Rattle.ftp_events.specs.declared.entry.Entry.{Entry}
 use Rattle.ftp_events.specs.declared.event.Answer.TheVariants as answer
-use Rattle.ftp_events.specs.Leads.{Outside, header_to_read, job_to_run, Leads}
+use Rattle.ftp_events.specs.Leads.{Outside, header_to_read, Leads}
 use Rattle.ftp_events.specs.Log.{past_of}
+use Rattle.ftp_hub.specs.Runs.{job_due}
 use Rattle.ftp_event_text.specs.declared.setup.Item.{Item}
 use Rattle.ftp_script_run.specs.Items.{links_in}
 use Rattle.ftp_script_run.specs.Legal.{memory_views, start_of}
@@ -33,7 +34,7 @@ ToldFaultsAreListed =
     (o : Options) (items : List Item) (older newer : List Entry) (e : Entry) (end : Outside MemoryState LinkState)
     (job : Job) (outcome : Outcome) (f : LinkFault) →
     Leads memory_views o [] (newer ++ e ∷ older) (start_of items) end →
-    job_to_run o (past_of older) e.event.kind ≡ Some job →
+    job_due o (past_of older) e.event.kind ≡ Some job →
     e.answer ≡ answer.Done outcome →
     outcome.fault ≡ Some f →
     (old : Outside MemoryState LinkState)

@@ -11,8 +11,8 @@ pub fn taken_transfers_are_done()
     ensures headers { HeadersAreRead }
 {}
 
-/// A transfer over a storage and a link in memory, of which no call failed and which nothing cut short, has one outcome
-/// and leaves the same files whoever runs it; a header that is read without a fault has one answer, and leaves the same
+/// A whole transfer over a storage and a link in memory, of which no call failed and which nothing cut short, has one
+/// outcome and leaves the same files whoever runs it; a header that is read without a fault has one answer, and leaves the same
 /// bytes behind it.
 pub fn settled_runs_are_determined()
     ensures transfers { SettledRunsAreDetermined }
