@@ -1,1 +1,3 @@
 mod Colons
+mod Examples
+mod TelnetLemmas

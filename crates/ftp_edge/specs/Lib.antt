@@ -2,3 +2,4 @@ pub mod Address
 pub mod Edge
 pub mod Listen
 pub mod Queue
+pub mod Telnet

@@ -6,6 +6,7 @@ ghost use Rattle.ftp_base.specs.declared.fault.Failed.{Failed};
 ghost use Rattle.ftp_base.specs.Outside.{HasRisen};
 
 use crate::link::link_fault;
+use crate::telnet::Telnet;
 use crate::waiting::SLICE;
 use ftp_base::{Control, Failed, Link, LinkFault, Source};
 use mio::net::TcpStream;
@@ -23,13 +24,20 @@ const STREAM: Token = Token(0);
 
 const WAKER: Token = Token(1);
 
+/// How many bytes are looked at, and how often, before a stream is said to have text.
+const FRONT: usize = 64;
+
+const LOOKS: u32 = 64;
+
 /// What waits have told of a stream.
 #[derive(Clone, Copy)]
 struct Seen {
     // There is something to read, or the end.
     readable: bool,
-    // The last read filled its piece, so there may be more.
+    // The last read filled its piece or may have ended at urgent data, so there may be more.
     unsure: bool,
+    // Urgent data came once.
+    urgent: bool,
     // The peer sends no more.
     ended: bool,
     // The waker ended a wait, and `ready` has not said so yet.
@@ -38,7 +46,8 @@ struct Seen {
 
 /// A control connection with a `Poll` of its own, for the stream and for a waker.
 ///
-/// `ready` ends early where another thread wakes it.
+/// `ready` ends early where another thread wakes it, or a Telnet command comes alone. Reads give the stream's text: its
+/// bytes without Telnet commands.
 #[derive(Drop)]
 pub struct SocketControl {
     stream: Arc<TcpStream, Global>,
@@ -46,6 +55,7 @@ pub struct SocketControl {
     poll: Poll,
     events: Events,
     seen: Seen,
+    telnet: Telnet,
     patience: u64,
     limit: u64,
     faults: u64,
@@ -95,8 +105,7 @@ impl SocketControl {
         stream.set_nodelay(true)?;
         let mut stream = TcpStream::from_std(stream);
         let poll = Poll::new(net)?;
-        poll.registry()
-            .register(&mut stream, STREAM, Interest::READABLE)?;
+        poll.registry().register(&mut stream, STREAM, Interest::READABLE | Interest::PRIORITY)?;
         let waker = Waker::new(poll.registry(), WAKER)?;
         Ok(SocketControl {
             stream: Arc::new(alloc, stream)?,
@@ -106,9 +115,11 @@ impl SocketControl {
             seen: Seen {
                 readable: false,
                 unsure: false,
+                urgent: false,
                 ended: false,
                 woken: false,
             },
+            telnet: Telnet::Open,
             patience,
             limit,
             faults: 0,
@@ -151,6 +162,7 @@ fn note(events: &Events, seen: &mut Seen) -> bool {
         if event.token() == STREAM {
             let ended = event.is_read_closed() || event.is_error();
             seen.ended = seen.ended || ended;
+            seen.urgent = seen.urgent || event.is_priority();
             seen.readable = seen.readable || event.is_readable() || ended;
             writable = writable || event.is_writable() || event.is_error();
         } else {
@@ -158,6 +170,16 @@ fn note(events: &Events, seen: &mut Seen) -> bool {
         }
     }
     writable
+}
+
+// What is waited for where the stream is to be read. Urgent data is told of once: where it came last, it would be told of
+// again and again.
+fn reading(seen: &Seen) -> Interest {
+    if seen.urgent {
+        Interest::READABLE
+    } else {
+        Interest::READABLE | Interest::PRIORITY
+    }
 }
 
 // From now on waits for the stream in this direction. What it can do already is told again.
@@ -203,7 +225,7 @@ fn wait_ready(
         return Ok(true);
     }
     if seen.unsure {
-        turn(stream, poll, Interest::READABLE)?;
+        turn(stream, poll, reading(seen))?;
         seen.unsure = false;
     }
     let millis = if seen.woken { 0 } else { millis };
@@ -234,7 +256,7 @@ fn read_patiently(
             Ok(n) => {
                 seen.ended = seen.ended || n == 0;
                 seen.readable = seen.ended;
-                seen.unsure = n == out.len();
+                seen.unsure = n == out.len() || seen.urgent;
                 return Ok(n);
             }
             Err(e) if e.kind() == ErrorKind::Interrupted => {}
@@ -246,6 +268,54 @@ fn read_patiently(
         }
     }
     Err(io::Error::from(ErrorKind::Other))
+}
+
+// Reads until there is text or the end, and keeps the text alone.
+fn read_text(
+    stream: &TcpStream,
+    poll: &mut Poll,
+    events: &mut Events,
+    seen: &mut Seen,
+    telnet: &mut Telnet,
+    limit: u64,
+    out: &mut [u8],
+) -> io::Result<usize>
+    ensures within { ReadsAtMost result out.new }
+{
+    for _ in 0..u64::MAX {
+        let n = read_patiently(stream, poll, events, seen, limit, out)?;
+        let kept = telnet.strip(&mut out[..n]);
+        if n == 0 || kept > 0 {
+            return Ok(kept);
+        }
+    }
+    Err(io::Error::from(ErrorKind::Other))
+}
+
+// Takes Telnet commands off the front of a stream that may be read, and says whether text or the end stands there. Where
+// commands come without end, it says so later.
+fn is_text_next(stream: &TcpStream, seen: &mut Seen, telnet: &mut Telnet) -> bool {
+    let mut front = [0u8; FRONT];
+    let mut reader = stream;
+    for _ in 0..LOOKS {
+        let n = match stream.peek(&mut front) {
+            Ok(n) => n,
+            Err(e) if e.kind() == ErrorKind::Interrupted => continue,
+            Err(e) if e.kind() == ErrorKind::WouldBlock => {
+                seen.readable = false;
+                return false;
+            }
+            // The read will meet it.
+            Err(_) => return true,
+        };
+        if n == 0 || telnet.has_text(&front[..n]) {
+            return true;
+        }
+        if let Ok(taken) = reader.read(&mut front[..n]) {
+            telnet.strip(&mut front[..taken]);
+        }
+    }
+    false
 }
 
 // Writes some bytes, and waits where there is no room yet.
@@ -267,7 +337,7 @@ fn write_patiently(
             Err(e) if e.kind() == ErrorKind::WouldBlock => {
                 turn(stream, poll, Interest::WRITABLE)?;
                 let waited = wait(poll, events, seen, true, limit);
-                turn(stream, poll, Interest::READABLE)?;
+                turn(stream, poll, reading(seen))?;
                 waited?
             }
             Err(e) => return Err(e),
@@ -288,11 +358,12 @@ impl Source for SocketControl {
     ghost is_link = { true };
 
     fn read(&mut self, out: &mut [u8]) -> Result<usize, Failed> {
-        let read = read_patiently(
+        let read = read_text(
             &self.stream,
             &mut self.poll,
             &mut self.events,
             &mut self.seen,
+            &mut self.telnet,
             self.limit,
             out,
         );
@@ -354,7 +425,8 @@ impl Control for SocketControl {
             millis.max(self.patience),
         );
         match waited {
-            Ok(is_ready) => Ok(is_ready),
+            Ok(true) => Ok(is_text_next(&self.stream, &mut self.seen, &mut self.telnet)),
+            Ok(false) => Ok(false),
             Err(_) => {
                 self.faults = self.faults.saturating_add(1);
                 Err(Failed::Fault)

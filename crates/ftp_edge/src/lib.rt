@@ -16,6 +16,7 @@ mod open;
 mod outside;
 mod queue;
 mod shared;
+mod telnet;
 mod threads;
 mod waiting;
 
@@ -31,4 +32,5 @@ pub use open::{NeverAsks, OpenGate};
 pub use outside::Outside;
 pub use queue::{PutError, Queue};
 pub use shared::SharedStorage;
+pub use telnet::Telnet;
 pub use threads::{SystemThreads, start};

@@ -87,3 +87,28 @@ fn another_thread_ends_a_connection(rt: HostRuntime) -> Result<(), Fail> {
     assert!(rt; is_at_end(&client)?);
     Ok(())
 }
+
+#[test]
+fn telnet_commands_are_no_text(rt: HostRuntime) -> Result<(), Fail> {
+    let (client, server) = pair(&rt)?;
+    let mut control = SocketControl::new(&rt, rt.alloc(), server, 0, LONG)?;
+    let begun = now(&rt)?;
+    // A command by itself (RFC 854: IAC NOP) ends a wait, and nothing is to be read.
+    send(&client, &[255, 241])?;
+    assert_eq!(rt; control.ready(LONG), Ok(false));
+    // IAC IP, IAC DM before the line, and in it IAC DO 6 and two bytes 255 for one.
+    send(&client, b"\xff\xf4\xff\xf2AB\xff\xfd\x06OR\xff\xff\r\n")?;
+    let mut line = [0; 16];
+    assert_eq!(rt;
+        (control.ready(LONG), control.read(&mut line)),
+        (Ok(true), Ok(7))
+    );
+    assert_eq!(rt; &line[..7], b"ABOR\xff\r\n".as_slice());
+    drop(client);
+    assert_eq!(rt;
+        (control.ready(LONG), control.read(&mut line)),
+        (Ok(true), Ok(0))
+    );
+    assert!(rt; since(&rt, begun)? < LONG as u128);
+    Ok(())
+}
