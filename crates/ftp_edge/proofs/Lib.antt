@@ -1,3 +1,4 @@
 mod Colons
 mod Examples
 mod TelnetLemmas
+mod UploadLemmas

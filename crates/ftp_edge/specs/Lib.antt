@@ -3,3 +3,4 @@ pub mod Edge
 pub mod Listen
 pub mod Queue
 pub mod Telnet
+pub mod Uploads

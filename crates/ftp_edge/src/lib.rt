@@ -18,6 +18,7 @@ mod queue;
 mod shared;
 mod telnet;
 mod threads;
+mod uploads;
 mod waiting;
 
 pub use address::{std_address, told_address};
@@ -34,3 +35,4 @@ pub use queue::{PutError, Queue};
 pub use shared::SharedStorage;
 pub use telnet::Telnet;
 pub use threads::{SystemThreads, start};
+pub use uploads::Uploads;
