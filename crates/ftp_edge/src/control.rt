@@ -1,48 +1,23 @@
 //! Control connections over sockets.
 
-ghost use Rattle.std.specs.Prelude.{◌≡◌, ◌≤◌, IsSome};
-ghost use Rattle.std.specs.Io.{ReadsAtMost, WritesAtMost};
+ghost use Rattle.std.specs.Prelude.{◌≡◌, ◌≤◌, ◌++◌, ℕ, List, IsSome};
 ghost use Rattle.ftp_base.specs.declared.fault.Failed.{Failed};
 ghost use Rattle.ftp_base.specs.Outside.{HasRisen};
+ghost use Rattle.ftp_edge.specs.Telnet.{text_in};
 
 use crate::link::link_fault;
+use crate::stream::{
+    STREAM, Seen, WAKER, is_text_next, linger, read_text, wait_ready, write_patiently,
+};
 use crate::telnet::Telnet;
-use crate::waiting::SLICE;
 use ftp_base::{Control, Failed, Link, LinkFault, Source};
 use mio::net::TcpStream;
-use mio::unix::SourceFd;
-use mio::{Events, Interest, Poll, Token, Waker};
+use mio::{Events, Interest, Poll, Waker};
 use std::alloc::{AllocError, Global};
 use std::io;
-use std::io::{ErrorKind, Read, Write};
+use std::io::ErrorKind;
 use std::net::{self, Net, Shutdown};
-use std::os::fd::AsRawFd;
 use std::sync::Arc;
-use std::time::Duration;
-
-const STREAM: Token = Token(0);
-
-const WAKER: Token = Token(1);
-
-/// How many bytes are looked at, and how often, before a stream is said to have text.
-const FRONT: usize = 64;
-
-const LOOKS: u32 = 64;
-
-/// What waits have told of a stream.
-#[derive(Clone, Copy)]
-struct Seen {
-    // There is something to read, or the end.
-    readable: bool,
-    // The last read filled its piece or may have ended at urgent data, so there may be more.
-    unsure: bool,
-    // Urgent data came once.
-    urgent: bool,
-    // The peer sends no more.
-    ended: bool,
-    // The waker ended a wait, and `ready` has not said so yet.
-    woken: bool,
-}
 
 /// A control connection with a `Poll` of its own, for the stream and for a waker.
 ///
@@ -141,6 +116,14 @@ impl SocketControl {
         self.patience = patience;
     }
 
+    /// Leaves the text alone of bytes that were read of the stream before.
+    pub fn keep_text(&mut self, bytes: &mut Vec<u8>)
+        ensures text { (more : List ℕ) → text_in self.old.telnet (bytes.old.items ++ more) ≡ bytes.new.items ++ text_in self.new.telnet more }
+    {
+        let kept = self.telnet.strip(bytes.as_mut_slice());
+        bytes.truncate(kept);
+    }
+
     // Counts a read or a write that failed.
     fn failed(&mut self, kind: ErrorKind) -> Failed
         ensures fault { result ≡ Failed.Fault }
@@ -153,197 +136,6 @@ impl SocketControl {
         self.last_fault = Some(link_fault(kind));
         Failed::Fault
     }
-}
-
-// Takes note of the last wait, and says whether the stream may be written.
-fn note(events: &Events, seen: &mut Seen) -> bool {
-    let mut writable = false;
-    for event in events.iter() {
-        if event.token() == STREAM {
-            let ended = event.is_read_closed() || event.is_error();
-            seen.ended = seen.ended || ended;
-            seen.urgent = seen.urgent || event.is_priority();
-            seen.readable = seen.readable || event.is_readable() || ended;
-            writable = writable || event.is_writable() || event.is_error();
-        } else {
-            seen.woken = true;
-        }
-    }
-    writable
-}
-
-// What is waited for where the stream is to be read. Urgent data is told of once: where it came last, it would be told of
-// again and again.
-fn reading(seen: &Seen) -> Interest {
-    if seen.urgent {
-        Interest::READABLE
-    } else {
-        Interest::READABLE | Interest::PRIORITY
-    }
-}
-
-// From now on waits for the stream in this direction. What it can do already is told again.
-fn turn(stream: &TcpStream, poll: &Poll, interest: Interest) -> io::Result<()> {
-    let descriptor = stream.as_raw_fd();
-    poll.registry()
-        .reregister(&mut SourceFd(&descriptor), STREAM, interest)
-}
-
-// Waits until the stream may be read, or where that is asked for be written, so many milliseconds at most.
-fn wait(
-    poll: &mut Poll,
-    events: &mut Events,
-    seen: &mut Seen,
-    to_write: bool,
-    limit: u64,
-) -> io::Result<()> {
-    let mut left = limit;
-    for _ in 0..u64::MAX {
-        if left == 0 {
-            break;
-        }
-        let slice = left.min(SLICE);
-        poll.poll(events, Some(Duration::from_millis(slice)))?;
-        let writable = note(events, seen);
-        if (to_write && writable) || (!to_write && seen.readable) {
-            return Ok(());
-        }
-        left -= slice;
-    }
-    Err(io::Error::from(ErrorKind::TimedOut))
-}
-
-// Waits for bytes, the end, a wake or the time, and says whether there is something to read.
-fn wait_ready(
-    stream: &TcpStream,
-    poll: &mut Poll,
-    events: &mut Events,
-    seen: &mut Seen,
-    millis: u64,
-) -> io::Result<bool> {
-    if seen.readable {
-        return Ok(true);
-    }
-    if seen.unsure {
-        turn(stream, poll, reading(seen))?;
-        seen.unsure = false;
-    }
-    let millis = if seen.woken { 0 } else { millis };
-    poll.poll(events, Some(Duration::from_millis(millis)))?;
-    note(events, seen);
-    // Where there is something to read, the wake is left for a later call to tell.
-    seen.woken = seen.woken && seen.readable;
-    Ok(seen.readable)
-}
-
-// Reads, and waits where there is nothing yet.
-fn read_patiently(
-    stream: &TcpStream,
-    poll: &mut Poll,
-    events: &mut Events,
-    seen: &mut Seen,
-    limit: u64,
-    out: &mut [u8],
-) -> io::Result<usize>
-    ensures within { ReadsAtMost result out.new }
-{
-    if out.is_empty() {
-        return Ok(0);
-    }
-    let mut reader = stream;
-    for _ in 0..u64::MAX {
-        match reader.read(out) {
-            Ok(n) => {
-                seen.ended = seen.ended || n == 0;
-                seen.readable = seen.ended;
-                seen.unsure = n == out.len() || seen.urgent;
-                return Ok(n);
-            }
-            Err(e) if e.kind() == ErrorKind::Interrupted => {}
-            Err(e) if e.kind() == ErrorKind::WouldBlock => {
-                seen.readable = false;
-                wait(poll, events, seen, false, limit)?
-            }
-            Err(e) => return Err(e),
-        }
-    }
-    Err(io::Error::from(ErrorKind::Other))
-}
-
-// Reads until there is text or the end, and keeps the text alone.
-fn read_text(
-    stream: &TcpStream,
-    poll: &mut Poll,
-    events: &mut Events,
-    seen: &mut Seen,
-    telnet: &mut Telnet,
-    limit: u64,
-    out: &mut [u8],
-) -> io::Result<usize>
-    ensures within { ReadsAtMost result out.new }
-{
-    for _ in 0..u64::MAX {
-        let n = read_patiently(stream, poll, events, seen, limit, out)?;
-        let kept = telnet.strip(&mut out[..n]);
-        if n == 0 || kept > 0 {
-            return Ok(kept);
-        }
-    }
-    Err(io::Error::from(ErrorKind::Other))
-}
-
-// Takes Telnet commands off the front of a stream that may be read, and says whether text or the end stands there. Where
-// commands come without end, it says so later.
-fn is_text_next(stream: &TcpStream, seen: &mut Seen, telnet: &mut Telnet) -> bool {
-    let mut front = [0u8; FRONT];
-    let mut reader = stream;
-    for _ in 0..LOOKS {
-        let n = match stream.peek(&mut front) {
-            Ok(n) => n,
-            Err(e) if e.kind() == ErrorKind::Interrupted => continue,
-            Err(e) if e.kind() == ErrorKind::WouldBlock => {
-                seen.readable = false;
-                return false;
-            }
-            // The read will meet it.
-            Err(_) => return true,
-        };
-        if n == 0 || telnet.has_text(&front[..n]) {
-            return true;
-        }
-        if let Ok(taken) = reader.read(&mut front[..n]) {
-            telnet.strip(&mut front[..taken]);
-        }
-    }
-    false
-}
-
-// Writes some bytes, and waits where there is no room yet.
-fn write_patiently(
-    stream: &TcpStream,
-    poll: &mut Poll,
-    events: &mut Events,
-    seen: &mut Seen,
-    limit: u64,
-    bytes: &[u8],
-) -> io::Result<usize>
-    ensures within { WritesAtMost result bytes.now }
-{
-    let mut writer = stream;
-    for _ in 0..u64::MAX {
-        match writer.write(bytes) {
-            Ok(n) => return Ok(n),
-            Err(e) if e.kind() == ErrorKind::Interrupted => {}
-            Err(e) if e.kind() == ErrorKind::WouldBlock => {
-                turn(stream, poll, Interest::WRITABLE)?;
-                let waited = wait(poll, events, seen, true, limit);
-                turn(stream, poll, reading(seen))?;
-                waited?
-            }
-            Err(e) => return Err(e),
-        }
-    }
-    Err(io::Error::from(ErrorKind::Other))
 }
 
 impl Source for SocketControl {
@@ -398,8 +190,22 @@ impl Link for SocketControl {
     }
 
     fn close(&mut self) -> Result<(), Failed> {
+        let is_lost = self.seen.ended || self.last_fault.is_some();
+        if !is_lost && self.stream.shutdown(Shutdown::Write).is_ok() {
+            linger(
+                &self.stream,
+                &mut self.poll,
+                &mut self.events,
+                &mut self.seen,
+            );
+        }
         match self.stream.shutdown(Shutdown::Both) {
             Ok(()) => {
+                self.closed = true;
+                Ok(())
+            }
+            // Both sides had ended.
+            Err(e) if e.kind() == ErrorKind::NotConnected => {
                 self.closed = true;
                 Ok(())
             }

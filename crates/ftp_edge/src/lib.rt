@@ -1,6 +1,5 @@
 //! The edge of a server: sockets, the clock, names, locks and threads behind the traits of the outside.
 //!
-//! What is here tells no content, and counts its faults; that the system does what it is asked is trusted.
 //! Begin with `link` and `control`.
 #![tactic(auto)]
 
@@ -16,6 +15,7 @@ mod open;
 mod outside;
 mod queue;
 mod shared;
+mod stream;
 mod telnet;
 mod threads;
 mod uploads;

@@ -5,7 +5,8 @@ ghost use Rattle.ftp_edge.specs.Queue.{value_of};
 
 use std::alloc::Global;
 use std::collections::VecDeque;
-use std::sync::{Condvar, Mutex, Wait};
+use std::sync::{Condvar, CondvarTimeouts, Mutex, Wait};
+use std::time::{Clock, Duration};
 
 /// What lies under the lock.
 #[derive(Drop)]
@@ -79,6 +80,31 @@ impl<T: Drop> Queue<T> {
             waiting.idle = waiting.idle.saturating_add(1);
             waiting = self.come.wait(rt, waiting);
             waiting.idle = waiting.idle.saturating_sub(1);
+        }
+        unreachable!()
+    }
+
+    /// Takes the oldest value, and sleeps until there is one. None once the queue is closed and empty; and where none came for
+    /// so many milliseconds while more threads than a few slept.
+    pub fn take_or_rest<R: Wait + Clock>(&self, rt: &R, millis: u64, few: u64) -> Option<T> {
+        let mut waiting = self.waiting.lock(rt);
+        for _ in rt.forever() {
+            if let Some(value) = waiting.values.pop_front() {
+                return Some(value);
+            }
+            if waiting.closed {
+                return None;
+            }
+            waiting.idle = waiting.idle.saturating_add(1);
+            let (again, waited) = self
+                .come
+                .wait_timeout(rt, waiting, Duration::from_millis(millis));
+            waiting = again;
+            let are_many = waiting.idle > few;
+            waiting.idle = waiting.idle.saturating_sub(1);
+            if waited.timed_out() && are_many && waiting.values.is_empty() {
+                return None;
+            }
         }
         unreachable!()
     }

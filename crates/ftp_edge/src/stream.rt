@@ -1,0 +1,256 @@
+//! The stream of a control connection: waits for it, reads of its text, and its end.
+
+ghost use Rattle.std.specs.Io.{ReadsAtMost, WritesAtMost};
+
+use crate::telnet::Telnet;
+use crate::waiting::SLICE;
+use mio::net::TcpStream;
+use mio::unix::SourceFd;
+use mio::{Events, Interest, Poll, Token};
+use std::io;
+use std::io::{ErrorKind, Read, Write};
+use std::os::fd::AsRawFd;
+use std::time::Duration;
+
+pub(crate) const STREAM: Token = Token(0);
+
+pub(crate) const WAKER: Token = Token(1);
+
+/// How long a close waits for what still comes, in waits of so many milliseconds, and how many pieces it takes at most.
+const LINGER: u64 = 250;
+
+const LINGERS: u32 = 8;
+
+const PIECES: u32 = 128;
+
+/// How many bytes are looked at, and how often, before a stream is said to have text.
+const FRONT: usize = 64;
+
+const LOOKS: u32 = 64;
+
+/// What waits have told of a stream.
+#[derive(Clone, Copy)]
+pub(crate) struct Seen {
+    // There is something to read, or the end.
+    pub(crate) readable: bool,
+    // The last read filled its piece or may have ended at urgent data, so there may be more.
+    pub(crate) unsure: bool,
+    // Urgent data came once.
+    pub(crate) urgent: bool,
+    // The peer sends no more.
+    pub(crate) ended: bool,
+    // The waker ended a wait, and `ready` has not said so yet.
+    pub(crate) woken: bool,
+}
+
+// Takes note of the last wait, and says whether the stream may be written.
+fn note(events: &Events, seen: &mut Seen) -> bool {
+    let mut writable = false;
+    for event in events.iter() {
+        if event.token() == STREAM {
+            let ended = event.is_read_closed() || event.is_error();
+            seen.ended = seen.ended || ended;
+            seen.urgent = seen.urgent || event.is_priority();
+            seen.readable = seen.readable || event.is_readable() || ended;
+            writable = writable || event.is_writable() || event.is_error();
+        } else {
+            seen.woken = true;
+        }
+    }
+    writable
+}
+
+// What is waited for where the stream is to be read. Urgent data is told of once: where it came last, it would be told of
+// again and again.
+fn reading(seen: &Seen) -> Interest {
+    if seen.urgent {
+        Interest::READABLE
+    } else {
+        Interest::READABLE | Interest::PRIORITY
+    }
+}
+
+// From now on waits for the stream in this direction. What it can do already is told again.
+fn turn(stream: &TcpStream, poll: &Poll, interest: Interest) -> io::Result<()> {
+    let descriptor = stream.as_raw_fd();
+    poll.registry()
+        .reregister(&mut SourceFd(&descriptor), STREAM, interest)
+}
+
+// Waits until the stream may be read, or where that is asked for be written, so many milliseconds at most.
+fn wait(
+    poll: &mut Poll,
+    events: &mut Events,
+    seen: &mut Seen,
+    to_write: bool,
+    limit: u64,
+) -> io::Result<()> {
+    let mut left = limit;
+    for _ in 0..u64::MAX {
+        if left == 0 {
+            break;
+        }
+        let slice = left.min(SLICE);
+        poll.poll(events, Some(Duration::from_millis(slice)))?;
+        let writable = note(events, seen);
+        if (to_write && writable) || (!to_write && seen.readable) {
+            return Ok(());
+        }
+        left -= slice;
+    }
+    Err(io::Error::from(ErrorKind::TimedOut))
+}
+
+// Waits for bytes, the end, a wake or the time, and says whether there is something to read.
+pub(crate) fn wait_ready(
+    stream: &TcpStream,
+    poll: &mut Poll,
+    events: &mut Events,
+    seen: &mut Seen,
+    millis: u64,
+) -> io::Result<bool> {
+    if seen.readable {
+        return Ok(true);
+    }
+    if seen.unsure {
+        turn(stream, poll, reading(seen))?;
+        seen.unsure = false;
+    }
+    let millis = if seen.woken { 0 } else { millis };
+    poll.poll(events, Some(Duration::from_millis(millis)))?;
+    note(events, seen);
+    // Where there is something to read, the wake is left for a later call to tell.
+    seen.woken = seen.woken && seen.readable;
+    Ok(seen.readable)
+}
+
+// Reads, and waits where there is nothing yet.
+fn read_patiently(
+    stream: &TcpStream,
+    poll: &mut Poll,
+    events: &mut Events,
+    seen: &mut Seen,
+    limit: u64,
+    out: &mut [u8],
+) -> io::Result<usize>
+    ensures within { ReadsAtMost result out.new }
+{
+    if out.is_empty() {
+        return Ok(0);
+    }
+    let mut reader = stream;
+    for _ in 0..u64::MAX {
+        match reader.read(out) {
+            Ok(n) => {
+                seen.ended = seen.ended || n == 0;
+                seen.readable = seen.ended;
+                seen.unsure = n == out.len() || seen.urgent;
+                return Ok(n);
+            }
+            Err(e) if e.kind() == ErrorKind::Interrupted => {}
+            Err(e) if e.kind() == ErrorKind::WouldBlock => {
+                seen.readable = false;
+                wait(poll, events, seen, false, limit)?
+            }
+            Err(e) => return Err(e),
+        }
+    }
+    Err(io::Error::from(ErrorKind::Other))
+}
+
+// Reads until there is text or the end, and keeps the text alone.
+pub(crate) fn read_text(
+    stream: &TcpStream,
+    poll: &mut Poll,
+    events: &mut Events,
+    seen: &mut Seen,
+    telnet: &mut Telnet,
+    limit: u64,
+    out: &mut [u8],
+) -> io::Result<usize>
+    ensures within { ReadsAtMost result out.new }
+{
+    for _ in 0..u64::MAX {
+        let n = read_patiently(stream, poll, events, seen, limit, out)?;
+        let kept = telnet.strip(&mut out[..n]);
+        if n == 0 || kept > 0 {
+            return Ok(kept);
+        }
+    }
+    Err(io::Error::from(ErrorKind::Other))
+}
+
+// Takes Telnet commands off the front of a stream that may be read, and says whether text or the end stands there. Where
+// commands come without end, it says so later.
+pub(crate) fn is_text_next(stream: &TcpStream, seen: &mut Seen, telnet: &mut Telnet) -> bool {
+    let mut front = [0u8; FRONT];
+    let mut reader = stream;
+    for _ in 0..LOOKS {
+        let n = match stream.peek(&mut front) {
+            Ok(n) => n,
+            Err(e) if e.kind() == ErrorKind::Interrupted => continue,
+            Err(e) if e.kind() == ErrorKind::WouldBlock => {
+                seen.readable = false;
+                return false;
+            }
+            // The read will meet it.
+            Err(_) => return true,
+        };
+        if n == 0 || telnet.has_text(&front[..n]) {
+            return true;
+        }
+        if let Ok(taken) = reader.read(&mut front[..n]) {
+            telnet.strip(&mut front[..taken]);
+        }
+    }
+    false
+}
+
+// Writes some bytes, and waits where there is no room yet.
+pub(crate) fn write_patiently(
+    stream: &TcpStream,
+    poll: &mut Poll,
+    events: &mut Events,
+    seen: &mut Seen,
+    limit: u64,
+    bytes: &[u8],
+) -> io::Result<usize>
+    ensures within { WritesAtMost result bytes.now }
+{
+    let mut writer = stream;
+    for _ in 0..u64::MAX {
+        match writer.write(bytes) {
+            Ok(n) => return Ok(n),
+            Err(e) if e.kind() == ErrorKind::Interrupted => {}
+            Err(e) if e.kind() == ErrorKind::WouldBlock => {
+                turn(stream, poll, Interest::WRITABLE)?;
+                let waited = wait(poll, events, seen, true, limit);
+                turn(stream, poll, reading(seen))?;
+                waited?
+            }
+            Err(e) => return Err(e),
+        }
+    }
+    Err(io::Error::from(ErrorKind::Other))
+}
+
+// Reads what still comes once nothing more is sent, up to the end or for a while: a socket that is closed before takes from
+// its peer what that has not read yet.
+pub(crate) fn linger(stream: &TcpStream, poll: &mut Poll, events: &mut Events, seen: &mut Seen) {
+    let mut piece = [0u8; 512];
+    let mut reader = stream;
+    let mut waits = 0;
+    for _ in 0..PIECES {
+        match reader.read(&mut piece) {
+            Ok(0) => return,
+            Ok(_) => {}
+            Err(e) if e.kind() == ErrorKind::WouldBlock && waits < LINGERS => {
+                waits += 1;
+                seen.readable = false;
+                // A wait that was too long counts as any other.
+                let _ = wait(poll, events, seen, false, LINGER);
+            }
+            Err(_) => return,
+        }
+    }
+}
