@@ -1,4 +1,5 @@
 pub mod Address
+pub mod Counts
 pub mod Edge
 pub mod Listen
 pub mod Queue

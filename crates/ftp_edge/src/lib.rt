@@ -1,11 +1,13 @@
 //! The edge of a server: sockets, the clock, names, locks and threads behind the traits of the outside.
 //!
+//! What is here tells no content, and counts its faults; that the system does what it is asked is trusted.
 //! Begin with `link` and `control`.
 #![tactic(auto)]
 
 mod address;
 mod ahead;
 mod control;
+mod counts;
 mod doors;
 mod edge;
 mod gathered;
@@ -24,6 +26,7 @@ mod waiting;
 pub use address::{std_address, told_address};
 pub use ahead::Ahead;
 pub use control::{ControlHandle, SocketControl};
+pub use counts::{SessionCounts, SessionLimits};
 pub use doors::{Doors, Front, SystemFront};
 pub use edge::SystemEdge;
 pub use gathered::{GATHERED, Gathered, gathering_buffer};
