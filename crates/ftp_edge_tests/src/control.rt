@@ -3,6 +3,7 @@
 use crate::loopback::{is_at_end, now, pair, receive, send, since};
 use ftp_base::{Control, Failed, Link, LinkFault, Source};
 use ftp_edge::{ControlHandle, SocketControl};
+use std::net::Shutdown;
 use std::test::Fail;
 use std::thread;
 use std::time::{Clock, Duration};
@@ -110,5 +111,21 @@ fn telnet_commands_are_no_text(rt: HostRuntime) -> Result<(), Fail> {
         (Ok(true), Ok(0))
     );
     assert!(rt; since(&rt, begun)? < LONG as u128);
+    Ok(())
+}
+
+#[test]
+fn a_close_leaves_what_was_sent(rt: HostRuntime) -> Result<(), Fail> {
+    let (client, server) = pair(&rt)?;
+    let mut control = SocketControl::new(&rt, rt.alloc(), server, 0, LONG)?;
+    send(&client, &[b'x'; 4096])?;
+    client.shutdown(Shutdown::Write)?;
+    assert_eq!(rt; control.write(b"221 Bye"), Ok(7));
+    assert_eq!(rt; control.close(), Ok(()));
+    drop(control);
+    let mut reply = [0; 7];
+    receive(&client, &mut reply)?;
+    assert_eq!(rt; &reply, b"221 Bye");
+    assert!(rt; is_at_end(&client)?);
     Ok(())
 }

@@ -69,3 +69,15 @@ fn a_thread_that_sleeps_takes_the_next_value(rt: HostRuntime) -> Result<(), Fail
     assert_eq!(rt; taken?.as_slice(), wanted.as_slice());
     Ok(())
 }
+
+#[test]
+fn a_thread_that_rests_too_long_ends(rt: HostRuntime) -> Result<(), Fail> {
+    let queue = Queue::new(rt.alloc());
+    assert!(rt; matches!(queue.put(&rt, 1), Ok(true)));
+    for value in [Some(1), None] {
+        assert_eq!(rt; queue.take_or_rest(&rt, 10, 0), value);
+    }
+    // It sleeps no more.
+    assert!(rt; matches!(queue.put(&rt, 2), Ok(true)));
+    Ok(())
+}
