@@ -1,0 +1,4 @@
+pub mod MarkLemmas
+pub mod UserLemmas
+pub mod ListingLemmas
+mod Examples
