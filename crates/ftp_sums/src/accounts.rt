@@ -47,17 +47,17 @@ impl Accounts {
     }
 
     /// Adds what the notification tells of the user, at a place that no mark is above.
-    pub fn add(&mut self, place: u64, user: &Bytes, what: &Notice) -> Result<(), AllocError>
+    pub fn add(&mut self, place: u64, user: &[u8], what: &Notice) -> Result<(), AllocError>
         requires { (name : List ℕ) → UpTo place (marks_of self.old name) }
         ensures added { OnOk result ((name : List ℕ) → marks_of self.new name ≡ with_told place user.now what.now name (marks_of self.old name)) }
         ensures unchanged { OnErr result ((name : List ℕ) → marks_of self.new name ≡ marks_of self.old name) }
     {
-        if let Some(account) = self.users.get_mut(user.as_slice()) {
+        if let Some(account) = self.users.get_mut(user) {
             return account.add(place, what);
         }
         let mut account = Account::new(self.alloc);
         account.add(place, what)?;
-        let name = Vec::from_slice(self.alloc, user.as_slice())?;
+        let name = Vec::from_slice(self.alloc, user)?;
         self.users.insert(name, account)?;
         Ok(())
     }

@@ -11,7 +11,7 @@ use Rattle.ftp_sums.proofs.accounts.Accounts.add.Goals as goal
 
 pub add-requires : goal.add-requires
 add-requires c =
-    let found = marks-found c.self.inside.users.entries c.args.user.now c.as_slice.result.now (Some c.in-Some.account.now) c.as_slice.ensures c.in-Some.ensures.value in
+    let found = marks-found c.self.inside.users.entries c.args.user.now c.args.user.now (Some c.in-Some.account.now) refl c.in-Some.ensures.value in
     subst (UpTo c.args.place) (ap (λ (us : List (List ℕ × List Mark)). marks_of us c.args.user.now) (sym c.self.view_is) ∙ found) (c.requires c.args.user.now)
 
 -- where the marks of the user grew, those under each name are what is due
@@ -47,22 +47,22 @@ kept users old user had marks new view was none h name =
 
 pub returns-in-Some-clause-added : goal.returns-in-Some-clause-added
 returns-in-Some-clause-added c =
-    let found = marks-found c.self.inside.users.entries c.args.user.now c.as_slice.result.now (Some c.in-Some.account.now) c.as_slice.ensures c.in-Some.ensures.value in
-    let written = marks-written c.self.inside.users.entries (c.get_mut.follows.lender c.add.new.self).entries c.args.user.now c.as_slice.result.now c.in-Some.account.now c.add.new.self c.as_slice.ensures c.in-Some.ensures.value (c.get_mut.follows.holds c.add.new.self).0 in
+    let found = marks-found c.self.inside.users.entries c.args.user.now c.args.user.now (Some c.in-Some.account.now) refl c.in-Some.ensures.value in
+    let written = marks-written c.self.inside.users.entries (c.get_mut.follows.lender c.add.new.self).entries c.args.user.now c.args.user.now c.in-Some.account.now c.add.new.self refl c.in-Some.ensures.value (c.get_mut.follows.holds c.add.new.self).0 in
     on_ok_weaker c.add.result (λ more.
     grown c.args.place c.self.inside.users.entries c.args.self.now c.args.user.now c.args.what.now c.in-Some.account.now c.add.new.self (c.get_mut.follows.lender c.add.new.self).entries c.self.view_is found more written) c.add.ensures.added
 
 pub returns-in-Some-clause-unchanged : goal.returns-in-Some-clause-unchanged
 returns-in-Some-clause-unchanged c =
-    let found = marks-found c.self.inside.users.entries c.args.user.now c.as_slice.result.now (Some c.in-Some.account.now) c.as_slice.ensures c.in-Some.ensures.value in
-    let written = marks-written c.self.inside.users.entries (c.get_mut.follows.lender c.add.new.self).entries c.args.user.now c.as_slice.result.now c.in-Some.account.now c.add.new.self c.as_slice.ensures c.in-Some.ensures.value (c.get_mut.follows.holds c.add.new.self).0 in
+    let found = marks-found c.self.inside.users.entries c.args.user.now c.args.user.now (Some c.in-Some.account.now) refl c.in-Some.ensures.value in
+    let written = marks-written c.self.inside.users.entries (c.get_mut.follows.lender c.add.new.self).entries c.args.user.now c.args.user.now c.in-Some.account.now c.add.new.self refl c.in-Some.ensures.value (c.get_mut.follows.holds c.add.new.self).0 in
     on_err_weaker c.add.result (λ none.
     kept c.self.inside.users.entries c.args.self.now c.args.user.now c.in-Some.account.now c.add.new.self (c.get_mut.follows.lender c.add.new.self).entries c.self.view_is found none written) c.add.ensures.unchanged
 
 pub returns-clause-added : goal.returns-clause-added
 returns-clause-added c =
-    let found = marks-found c.self.inside.users.entries c.args.user.now c.as_slice.result.now None c.as_slice.ensures c.in_default.ensures.value in
+    let found = marks-found c.self.inside.users.entries c.args.user.now c.args.user.now None refl c.in_default.ensures.value in
     let none = c.get_mut.follows.holds-at-none in
-    let put = marks-put c.self.inside.users.entries c.insert.new.self.entries c.in_ok-name.name c.args.user.now c.add-2.new.self (c.in_ok-name.ensures.items ∙ c.as_slice-2.ensures) (rw none at c.in_ok-insert.ensures.entries) in
+    let put = marks-put c.self.inside.users.entries c.insert.new.self.entries c.in_ok-name.name c.args.user.now c.add-2.new.self c.in_ok-name.ensures.items (rw none at c.in_ok-insert.ensures.entries) in
     grown c.args.place c.self.inside.users.entries c.args.self.now c.args.user.now c.args.what.now [] c.add-2.new.self c.insert.new.self.entries c.self.view_is found
     (rw c.new-account.ensures at c.in_ok-add.ensures.added) put
