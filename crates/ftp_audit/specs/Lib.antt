@@ -1,0 +1,4 @@
+pub mod Owner
+pub mod Sums
+pub mod Heard
+pub mod Laws
