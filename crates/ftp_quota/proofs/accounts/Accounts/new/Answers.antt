@@ -1,0 +1,7 @@
+use Rattle.std.proofs.Common.{ℕ, List, Vec, Global}
+use Rattle.ftp_quota.specs.declared.accounts.Held.{Held}
+use Rattle.ftp_quota.proofs.Balance.{balance_of_none}
+use Rattle.ftp_quota.proofs.accounts.Accounts.new.Goals as goal
+
+pub invariant_of-result : goal.invariant_of-result
+invariant_of-result c = record { ordered = c.new-2.ensures.ordered; balance = rw (c.new-3.ensures.empty, c.new-2.ensures.empty) balance_of_none }

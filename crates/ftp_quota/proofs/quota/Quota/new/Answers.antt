@@ -1,0 +1,13 @@
+use Rattle.std.proofs.Common.{sym, subst, ap}
+use Rattle.std.specs.Prelude.{IsSomeAnd}
+use Rattle.ftp_quota.specs.Usage.{Agrees}
+use Rattle.ftp_quota.specs.Book.{Book, IsWithin}
+use Rattle.ftp_quota.proofs.Begun.{within-new, agrees-new}
+use Rattle.ftp_quota.proofs.quota.Quota.new.Goals as goal
+
+pub returns-clause-within : goal.returns-clause-within
+returns-clause-within g c = subst IsWithin (sym c.new.ensures) (within-new c.args.default)
+
+pub returns-clause-agreed : goal.returns-clause-agreed
+returns-clause-agreed g c files told =
+    subst (λ (b : Book). IsSomeAnd (g.S.Storage.files c.args.inner) (Agrees b.owners)) (sym c.new.ensures) (rw told (agrees-new files))

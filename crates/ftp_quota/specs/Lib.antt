@@ -1,0 +1,4 @@
+pub mod Names
+pub mod Usage
+pub mod Book
+pub mod Quota
