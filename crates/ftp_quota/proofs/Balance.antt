@@ -1,17 +1,17 @@
 -- The running counts, as owners come and files grow.
-use Rattle.std.proofs.Common.{◌≡◌, ◌≢◌, ℕ, ◌+◌, ◌-◌, ◌^◌, ◌<◌, ◌≤◌, Bool, true, false, cond, List, [], ◌∷◌, Option, Some, None, refl, sym, ap, subst, ◌∙◌, arith, length}
+use Rattle.std.proofs.Common.{◌≡◌, ◌≢◌, ℕ, ◌+◌, ◌-◌, ◌^◌, ◌<◌, ◌≤◌, true, false, cond, List, [], ◌∷◌, Option, Some, None, refl, sym, ap, subst, ◌∙◌, arith, length}
 use Rattle.std.specs.Prelude.{IfSome, IsSomeAnd, is_some, unwrap_or, map as map_list, sum_by}
 use Rattle.std.specs.FinMap as map
 use Rattle.std.specs.Ordering.{nat_cmp, eq_by_cmp}
 use Rattle.std.specs.Cmp.Lexicographic.{slice_cmp, nat_list_cmp_total}
 use Rattle.ftp_quota.specs.declared.accounts.Held.{Held}
 use Rattle.ftp_quota.specs.Names.{ByName, OpensCount}
-use Rattle.ftp_quota.specs.Usage.{Owners, is_of, share, given}
+use Rattle.ftp_quota.specs.Usage.{Owners, share, given}
 use Rattle.ftp_quota.specs.Book.{Balances}
 use Rattle.ftp_quota.proofs.ByName.{tied, itself}
 use Rattle.ftp_quota.proofs.Maps.{get-insert-same, remove_none}
 use Rattle.ftp_quota.proofs.Sums.{given-insert, given-remove, no_share}
-use Rattle.ftp_quota.proofs.Shares.{given-new, given-changed, given-others, share-le, share-own}
+use Rattle.ftp_quota.proofs.Shares.{given-changed, given-others, share-le, share-own}
 
 none_there : {A : Type 0} (es : List A) → length es ≡ 0 → es ≡ []
 none_there [] e = refl

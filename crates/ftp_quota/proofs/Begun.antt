@@ -1,8 +1,8 @@
 -- The book and the files after a file was begun or grew.
-use Rattle.std.proofs.Common.{◌≡◌, ◌≢◌, ℕ, ◌+◌, ◌-◌, ◌≤◌, ◌<◌, Bool, true, false, cond, not, List, [], ◌∷◌, ◌++◌, length, take, Option, Some, None, IsSome, nat_lt, refl, sym, ap, subst, ◌∙◌, arith, length-append}
+use Rattle.std.proofs.Common.{◌≡◌, ◌≢◌, ℕ, ◌+◌, ◌-◌, ◌≤◌, Bool, true, false, cond, List, [], ◌++◌, length, Option, Some, None, IsSome, nat_lt, refl, sym, ap, subst, ◌∙◌, arith, length-append}
 use Rattle.std.specs.Prelude.{IfSome, IsSomeAnd, unwrap_or, Result, Ok, Err, OnOk, OnErr}
 use Rattle.std.specs.FinMap as map
-use Rattle.std.specs.Option.{option_map, option_and_then}
+use Rattle.std.specs.Option.{option_and_then}
 use Rattle.std.specs.Ordering.{nat_cmp, eq_by_cmp}
 use Rattle.std.specs.Cmp.Lexicographic.{slice_cmp, nat_list_cmp_total}
 use Rattle.std.specs.Str.{bytes_eq}
@@ -10,13 +10,12 @@ use Rattle.std.proofs.lemmas.Bool.{ltb-false}
 use Rattle.std.proofs.lemmas.Grind.{common_steps}
 use Rattle.ftp_base.specs.declared.error_kind.ErrorKind.{ErrorKind}
 use Rattle.ftp_base.specs.declared.error_kind.ErrorKind.TheVariants as kind
-use Rattle.ftp_base.specs.Storage.{Item, Directory, File, Files, Begin, Append, root, item, bytes_of, contents, old_bytes, cut, with_file, Begins, Grows}
+use Rattle.ftp_base.specs.Storage.{Item, Directory, File, Files, Begin, Append, root, bytes_of, contents, old_bytes, cut, with_file, Begins, Grows}
 use Rattle.ftp_quota.specs.declared.accounts.Held.{Held}
 use Rattle.ftp_quota.specs.Names.{ByName}
 use Rattle.ftp_quota.specs.Usage.{Owners, is_of, bytes_at, usage, given, Agrees}
 use Rattle.ftp_quota.specs.Book.{Book, new_book, budget_of, IsWithin, if_above, begin_refusal, append_refusal, own_refusal, with_file_of, Takes}
 use Rattle.ftp_quota.specs.Quota.{book_after}
-use Rattle.ftp_quota.proofs.ByName.{tied, itself}
 use Rattle.ftp_quota.proofs.Maps.{never_some, get-insert-same, insert-insert, remove-insert}
 use Rattle.ftp_quota.proofs.Sums.{usage-given}
 use Rattle.ftp_quota.proofs.Balance.{given-empty}

@@ -1,6 +1,6 @@
 -- Maps by names of which the entries are kept under vectors.
-use Rattle.std.proofs.Common.{◌≡◌, ◌≢◌, ℕ, Bool, true, false, cond, List, [], ◌∷◌, Vec, Global, Option, Some, None, refl, sym, ap, ◌∙◌}
-use Rattle.std.specs.Prelude.{IsSome, map as map_list}
+use Rattle.std.proofs.Common.{◌≡◌, ℕ, Bool, true, false, cond, List, [], ◌∷◌, Vec, Global, Some, None, refl, sym, ap, ◌∙◌}
+use Rattle.std.specs.Prelude.{IsSome}
 use Rattle.std.specs.FinMap as map
 use Rattle.std.specs.Map.{lookup, set_value, remove_entry, keys_of}
 use Rattle.std.specs.BTreeMap.{insert_entry, is_at}
@@ -9,13 +9,13 @@ use Rattle.std.specs.List.Sorted.{IsStrictlySortedBy}
 use Rattle.std.proofs.lemmas.Map.{lookup-remove_entry, lookup-set_value}
 use Rattle.std.proofs.lemmas.Map.Keys.{IsDistinct-from_sorted}
 use Rattle.std.specs.declared.cmp.Ordering.TheVariants.{Less, Equal, Greater}
-use Rattle.std.specs.Ordering.{nat_cmp, eq_by_cmp, is_eq}
+use Rattle.std.specs.Ordering.{nat_cmp, eq_by_cmp}
 use Rattle.std.specs.Cmp.Lexicographic.{slice_cmp, nat_list_cmp_total}
 use Rattle.std.specs.Cmp.{Equal-is, eq_by_cmp_equiv}
 use Rattle.std.specs.FinMap.{find, put}
 use Rattle.std.specs.FinMap.Entries.{find-put}
 use Rattle.ftp_base.proofs.Files.{paths_apart}
-use Rattle.ftp_quota.specs.Names.{ByName, named, by_name}
+use Rattle.ftp_quota.specs.Names.{named, by_name}
 
 -- the test by which a name is looked up
 abbrev pub at_name : List ℕ → Vec ℕ Global → Bool

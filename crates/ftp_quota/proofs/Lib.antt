@@ -5,3 +5,5 @@ pub mod Shares
 pub mod Balance
 pub mod Begun
 pub mod Examples
+pub mod Alone
+pub mod Replayed

@@ -1,5 +1,5 @@
 -- What a file adds to what a user's files were given.
-use Rattle.std.proofs.Common.{◌≡◌, ◌≢◌, ℕ, ◌+◌, ◌-◌, ◌≤◌, Bool, true, false, cond, List, [], Option, Some, None, refl, sym, ap, ◌∙◌, arith}
+use Rattle.std.proofs.Common.{◌≡◌, ◌≢◌, ℕ, ◌+◌, ◌-◌, ◌≤◌, Bool, true, false, List, Option, Some, None, refl, sym, ◌∙◌, arith}
 use Rattle.std.specs.Prelude.{not, unwrap_or, Result, Ok, Err, MatchResult, OnOk}
 use Rattle.std.specs.FinMap as map
 use Rattle.std.specs.Option.{option_map}

@@ -1,5 +1,5 @@
 -- What a user's files were given, as owners come, and as the files have it.
-use Rattle.std.proofs.Common.{◌≡◌, ◌≢◌, ℕ, ◌+◌, Bool, ◌&&◌, true, false, cond, List, [], ◌∷◌, Option, Some, None, T, refl, sym, ap, ◌∙◌, arith, length}
+use Rattle.std.proofs.Common.{◌≡◌, ℕ, ◌+◌, Bool, ◌&&◌, true, false, cond, List, [], ◌∷◌, Option, Some, None, T, refl, sym, ap, ◌∙◌, arith, length}
 use Rattle.std.specs.Prelude.{IfSome, IsTrue, sum_by, filter, unwrap_or, map as map_list}
 use Rattle.std.specs.FinMap as map
 use Rattle.std.specs.FinMap.{find, put, is_sorted}
@@ -21,7 +21,7 @@ use Rattle.std.proofs.lemmas.List.Sums.{sum_by-cons}
 use Rattle.ftp_base.specs.Storage.{Files}
 use Rattle.ftp_quota.specs.declared.accounts.Held.{Held}
 use Rattle.ftp_quota.specs.Names.{ByName}
-use Rattle.ftp_quota.specs.Usage.{Owners, is_of, owned, bytes_at, usage, share, given, Agrees}
+use Rattle.ftp_quota.specs.Usage.{Owners, is_of, bytes_at, usage, share, given, Agrees}
 use Rattle.ftp_quota.proofs.ByName.{itself}
 use Rattle.ftp_quota.proofs.Maps.{get-remove-same, insert-remove}
 

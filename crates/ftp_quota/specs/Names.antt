@@ -1,5 +1,5 @@
 -- Maps by names of users and paths of files.
-use Rattle.std.specs.Prelude.{◌≡◌, ℕ, List, map as map_list, Vec, Option, Some, unwrap_or}
+use Rattle.std.specs.Prelude.{◌≡◌, ℕ, List, map as map_list, Vec, Some, unwrap_or}
 use Rattle.std.specs.Global.{Global}
 use Rattle.std.specs.FinMap as map
 use Rattle.std.specs.Ordering.{nat_cmp}

@@ -5,8 +5,10 @@
 #![tactic(auto)]
 
 mod accounts;
+mod calls;
 mod owned;
 mod quota;
 
 pub use accounts::Held;
+pub use calls::{QuotaCall, Verdict, replay};
 pub use quota::Quota;

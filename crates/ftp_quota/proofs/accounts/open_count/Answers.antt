@@ -1,7 +1,7 @@
-use Rattle.std.proofs.Common.{◌≡◌, ℕ, List, true, false, is_some, Option, Some, None, refl, sym, ap, ◌∙◌}
+use Rattle.std.proofs.Common.{◌≡◌, ℕ, List, true, false, is_some, sym, ap, ◌∙◌}
 use Rattle.std.specs.FinMap as map
 use Rattle.std.specs.Map.{lookup}
-use Rattle.ftp_quota.specs.Names.{by_name, OpensCount}
+use Rattle.ftp_quota.specs.Names.{by_name}
 use Rattle.ftp_quota.proofs.ByName.{at_name, get-by_name, by_name-insert_entry}
 use Rattle.ftp_quota.proofs.Balance.{opened_before, opened_now}
 use Rattle.ftp_quota.proofs.accounts.open_count.Goals as goal

@@ -1,4 +1,4 @@
-use Rattle.std.proofs.Common.{◌≡◌, ℕ, ◌<◌, ◌^◌, Bool, true, false, Option, sym, subst, ◌∙◌}
+use Rattle.std.proofs.Common.{◌<◌, ◌^◌, Bool, Option, sym, subst, ◌∙◌}
 use Rattle.std.specs.Prelude.{IsSomeAnd}
 use Rattle.ftp_base.specs.Storage.{Files}
 use Rattle.ftp_quota.specs.Usage.{given, Agrees}

@@ -2,7 +2,7 @@ use Rattle.std.proofs.Common.{◌≡◌, ℕ, List, Option, Some, None, sym, ap,
 use Rattle.std.specs.Prelude.{unwrap_or}
 use Rattle.std.specs.FinMap as map
 use Rattle.std.specs.Map.{lookup}
-use Rattle.ftp_quota.specs.Book.{Book, budget_of}
+use Rattle.ftp_quota.specs.Book.{Book}
 use Rattle.ftp_quota.proofs.ByName.{at_name, get-by_name}
 use Rattle.ftp_quota.proofs.accounts.Accounts.budget.Goals as goal
 

@@ -1,11 +1,9 @@
-use Rattle.std.proofs.Common.{◌≡◌, ℕ, List, Option, Some, None, sym, ap, subst, ◌∙◌}
+use Rattle.std.proofs.Common.{◌≡◌, ℕ, List, ap, ◌∙◌}
 use Rattle.std.specs.Prelude.{IfSome}
 use Rattle.std.specs.FinMap as map
 use Rattle.std.specs.Map.{remove_entry}
-use Rattle.ftp_quota.specs.declared.accounts.Held.{Held}
-use Rattle.ftp_quota.specs.Names.{ByName, by_name}
+use Rattle.ftp_quota.specs.Names.{by_name}
 use Rattle.ftp_quota.specs.Usage.{Owners}
-use Rattle.ftp_quota.specs.Book.{Book, Balances}
 use Rattle.ftp_quota.proofs.ByName.{at_name, by_name-remove_entry}
 use Rattle.ftp_quota.proofs.Balance.{balance-removed}
 use Rattle.ftp_quota.proofs.accounts.Accounts.give_up.Goals as goal

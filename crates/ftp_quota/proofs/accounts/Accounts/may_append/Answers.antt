@@ -1,6 +1,4 @@
-use Rattle.std.proofs.Common.{◌≡◌, ℕ, ◌+◌, ◌-◌, ◌≤◌, Bool, true, false, List, Option, Some, None, refl, sym, ap, ◌∙◌, arith}
-use Rattle.std.specs.Str.{bytes_eq}
-use Rattle.std.specs.FinMap as map
+use Rattle.std.proofs.Common.{◌≡◌, ◌+◌, sym, arith}
 use Rattle.ftp_quota.proofs.Shares.{equal_owner, share-own, share-le, given-changed}
 use Rattle.ftp_quota.proofs.accounts.Accounts.may_append.Goals as goal
 

@@ -1,5 +1,4 @@
-use Rattle.std.proofs.Common.{◌≡◌, ℕ, ◌+◌, ◌-◌, ◌^◌, ◌<◌, ◌≤◌, Bool, true, false, List, Option, Some, None, Result, refl, sym, ap, ◌∙◌, arith}
-use Rattle.std.specs.FinMap as map
+use Rattle.std.proofs.Common.{◌≡◌, sym, arith}
 use Rattle.ftp_quota.proofs.Shares.{on_ok, equal_owner, share-own, share-le, given-changed, given-new}
 use Rattle.ftp_quota.proofs.accounts.Accounts.may_begin.Goals as goal
 use Rattle.ftp_quota.proofs.accounts.Accounts.may_begin.Goals.{in-None, in-Some+else-ne}

@@ -1,5 +1,3 @@
-use Rattle.std.proofs.Common.{ℕ, List, Vec, Global}
-use Rattle.ftp_quota.specs.declared.accounts.Held.{Held}
 use Rattle.ftp_quota.proofs.Balance.{balance_of_none}
 use Rattle.ftp_quota.proofs.accounts.Accounts.new.Goals as goal
 

@@ -1,10 +1,8 @@
-use Rattle.std.proofs.Common.{◌≡◌, ℕ, ◌+◌, ◌-◌, ◌^◌, ◌<◌, ◌≤◌, List, Option, Some, None, refl, sym, ap, ◌∙◌, arith}
-use Rattle.std.specs.Prelude.{IsSomeAnd, IfSome}
+use Rattle.std.proofs.Common.{◌≡◌, ◌^◌, ◌<◌, ap}
+use Rattle.std.specs.Prelude.{IsSomeAnd}
 use Rattle.std.specs.FinMap as map
-use Rattle.ftp_quota.specs.declared.accounts.Held.{Held}
-use Rattle.ftp_quota.specs.Names.{ByName, by_name}
+use Rattle.ftp_quota.specs.Names.{by_name}
 use Rattle.ftp_quota.specs.Usage.{Owners, given}
-use Rattle.ftp_quota.specs.Book.{Book, Balances}
 use Rattle.ftp_quota.proofs.Balance.{put_so, put_now}
 use Rattle.ftp_quota.proofs.accounts.Accounts.put.Goals as goal
 

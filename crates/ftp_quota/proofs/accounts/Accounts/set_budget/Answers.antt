@@ -1,7 +1,6 @@
 use Rattle.std.proofs.Common.{◌≡◌, ℕ, List, ap, ◌∙◌}
 use Rattle.std.specs.FinMap as map
 use Rattle.ftp_quota.specs.Names.{ByName, by_name}
-use Rattle.ftp_quota.specs.Book.{Book}
 use Rattle.ftp_quota.proofs.ByName.{by_name-insert_entry}
 use Rattle.ftp_quota.proofs.accounts.Accounts.set_budget.Goals as goal
 

@@ -1,10 +1,9 @@
-use Rattle.std.proofs.Common.{◌≡◌, ℕ, List, true, false, is_some, Option, Some, None, refl, sym, ap, ◌∙◌}
+use Rattle.std.proofs.Common.{◌≡◌, ℕ, List, true, is_some, None, refl, sym, ap, ◌∙◌}
 use Rattle.std.specs.FinMap as map
 use Rattle.std.specs.Map.{lookup}
 use Rattle.ftp_quota.specs.declared.accounts.Held.{Held}
-use Rattle.ftp_quota.specs.Names.{ByName, by_name}
+use Rattle.ftp_quota.specs.Names.{by_name}
 use Rattle.ftp_quota.specs.Usage.{Owners}
-use Rattle.ftp_quota.specs.Book.{Book}
 use Rattle.ftp_quota.proofs.ByName.{at_name, get-by_name, by_name-insert_entry}
 use Rattle.ftp_quota.proofs.Balance.{not_there, balance-opened, balance-taken}
 use Rattle.ftp_quota.proofs.accounts.Accounts.take.Goals as goal

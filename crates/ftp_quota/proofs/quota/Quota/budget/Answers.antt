@@ -1,6 +1,5 @@
 use Rattle.std.proofs.Common.{◌≡◌, ◌∙◌}
 use Rattle.std.specs.FinMap as map
-use Rattle.ftp_quota.specs.Quota.{IsUnused}
 use Rattle.ftp_quota.proofs.Begun.{within-unused, same_after}
 use Rattle.ftp_quota.proofs.quota.Quota.budget.Goals as goal
 

@@ -1,4 +1,4 @@
-use Rattle.std.proofs.Common.{sym, subst, ap}
+use Rattle.std.proofs.Common.{sym, subst}
 use Rattle.std.specs.Prelude.{IsSomeAnd}
 use Rattle.ftp_quota.specs.Usage.{Agrees}
 use Rattle.ftp_quota.specs.Book.{Book, IsWithin}
