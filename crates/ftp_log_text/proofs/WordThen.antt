@@ -1,0 +1,44 @@
+-- A word, and what stands behind it, by the word: what is spelled so is read exactly.
+use Rattle.std.proofs.Common.{◌≡◌, ℕ, List, ◌∷◌, ◌++◌, Option, Some, sym, ap, ◌∙◌, append_assoc}
+use Rattle.ftp_text.specs.Reading.{◌>>=◌, Reader, word_value}
+use Rattle.ftp_text.proofs.Exact.{Ends, IsNil, IsExact, bind_ok}
+
+-- what stands behind each word is read exactly, and tells the word
+pub record Behind {W V : Type 0} (text : W → List ℕ) (word_for : V → W) (spell : V → List ℕ) (Fits : V → Type 0) (read : W → Reader V) : Type 0 where
+  pub takes : (w : W) (bytes : List ℕ) (x : V × List ℕ) → read w bytes ≡ Some x → (bytes ≡ spell x.0 ++ x.1) × (Fits x.0 × (text (word_for x.0) ≡ text w))
+  pub again : (v : V) (rest : List ℕ) → Fits v → IsNil rest → read (word_for v) (spell v ++ rest) ≡ Some (v, rest)
+  pub starts : (v : V) (rest : List ℕ) → Fits v → IsNil rest → Ends (spell v ++ rest)
+
+-- a word of a table, and what stands behind it
+pub word_then : {W V : Type 0} {text : W → List ℕ} (table : List W) {word_for : V → W} {spell : V → List ℕ} {Fits : V → Type 0} {read : W → Reader V} {Found : W → Type 0} →
+    IsExact (λ (w : W). 32 ∷ text w) Found Ends (word_value text table) →
+    ((v : V) → Fits v → Found (word_for v)) →
+    Behind text word_for spell Fits read →
+    IsExact (λ (v : V). 32 ∷ text (word_for v) ++ spell v) Fits IsNil (λ bytes. word_value text table bytes >>= λ w. read w.0 w.1)
+word_then {W} {V} {text} table {word_for} {spell} {Fits} {read} {Found} words found behind = record {
+  takes = λ bytes x e.
+      let first = bind_ok (word_value text table bytes) (λ w. read w.0 w.1) x e in
+      let word = words.takes bytes first.0 first.1 in
+      let t = behind.takes first.0.0 first.0.1 x first.2 in
+      let front : List ℕ = 32 ∷ text (word_for x.0) in (
+        word.0
+            ∙ ap (λ (w : List ℕ). (32 ∷ w) ++ first.0.1) (sym t.1.1)
+            ∙ ap (λ (rest : List ℕ). front ++ rest) t.0
+            ∙ sym (append_assoc front (spell x.0) x.1),
+        t.1.0,
+      );
+  again = λ v rest fits follows.
+      ap (λ (bytes : List ℕ). word_value text table bytes >>= λ w. read w.0 w.1) (append_assoc (32 ∷ text (word_for v)) (spell v) rest)
+      ∙ rw (words.again (word_for v) (spell v ++ rest) (found v fits) (behind.starts v rest fits follows)) (behind.again v rest fits follows);
+}
+
+-- the same, spelled in another way
+pub exact_spelled : {A : Type 0} {s t : A → List ℕ} {F : A → Type 0} {W : List ℕ → Type 0} {r : List ℕ → Option (A × List ℕ)} →
+    IsExact s F W r →
+    ((x : A) → F x → s x ≡ t x) →
+    IsExact t F W r
+exact_spelled {A} {s} {t} {F} {W} {r} a same = record {
+  takes = λ bytes x e.
+      let p = a.takes bytes x e in (p.0 ∙ ap (λ (u : List ℕ). u ++ x.1) (same x.0 p.1), p.1);
+  again = λ x rest fits follows. ap (λ (u : List ℕ). r (u ++ rest)) (sym (same x fits)) ∙ a.again x rest fits follows;
+}
