@@ -6,3 +6,5 @@ pub mod NoticeLemmas
 pub mod ActionLemmas
 pub mod LineLemmas
 pub mod PlaceLemmas
+pub mod FeedLemmas
+pub mod PrintedLemmas

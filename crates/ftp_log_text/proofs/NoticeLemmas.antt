@@ -140,12 +140,12 @@ read-again (notice.Data (RemovedDir path)) = record { same = refl; suit = refl; 
 read-again (notice.Data (Renamed from to)) = record { same = refl; suit = refl; word = refl }
 
 -- the bytes and the paths of a notice fit their types
-record AreInRange (what : Notice) : Type 0 where
-  bytes : IsNumber (notice_bytes what)
-  first : IsPath (first_path what)
-  second : IsText (second_path what)
+pub record AreInRange (what : Notice) : Type 0 where
+  pub bytes : IsNumber (notice_bytes what)
+  pub first : IsPath (first_path what)
+  pub second : IsText (second_path what)
 
-in-range : (what : Notice) → IsNotice what → AreInRange what
+pub in-range : (what : Notice) → IsNotice what → AreInRange what
 in-range (notice.Presence p) f = record { bytes = omega arith; first = (tt, omega arith); second = tt }
 in-range (notice.Data (Got path bytes)) f = record { bytes = f.1; first = f.0; second = tt }
 in-range (notice.Data (Put path bytes)) f = record { bytes = f.1; first = f.0; second = tt }

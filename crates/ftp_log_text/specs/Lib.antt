@@ -5,3 +5,4 @@ pub mod ActionReading
 pub mod LineReading
 pub mod LogText
 pub mod Place
+pub mod Laws
