@@ -1,0 +1,8 @@
+pub mod WideLemmas
+pub mod FieldsLemmas
+pub mod FieldsReading
+pub mod HeaderLemmas
+pub mod ReadLemmas
+pub mod BodyLemmas
+pub mod OutcomeLemmas
+pub mod HeaderLaws
