@@ -6,3 +6,4 @@ pub mod ReadLemmas
 pub mod BodyLemmas
 pub mod OutcomeLemmas
 pub mod HeaderLaws
+mod Examples
