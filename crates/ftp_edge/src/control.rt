@@ -223,16 +223,18 @@ impl Link for SocketControl {
 
 impl Control for SocketControl {
     fn ready(&mut self, millis: u64) -> Result<bool, Failed> {
-        let waited = wait_ready(
+        let mut waited = wait_ready(
             &self.stream,
             &mut self.poll,
             &mut self.events,
             &mut self.seen,
             millis.max(self.patience),
         );
+        if let Ok(true) = waited {
+            waited = is_text_next(&self.stream, &mut self.seen, &mut self.telnet);
+        }
         match waited {
-            Ok(true) => Ok(is_text_next(&self.stream, &mut self.seen, &mut self.telnet)),
-            Ok(false) => Ok(false),
+            Ok(is_ready) => Ok(is_ready),
             Err(_) => {
                 self.faults = self.faults.saturating_add(1);
                 Err(Failed::Fault)

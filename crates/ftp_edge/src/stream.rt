@@ -182,7 +182,11 @@ pub(crate) fn read_text(
 
 // Takes Telnet commands off the front of a stream that may be read, and says whether text or the end stands there. Where
 // commands come without end, it says so later.
-pub(crate) fn is_text_next(stream: &TcpStream, seen: &mut Seen, telnet: &mut Telnet) -> bool {
+pub(crate) fn is_text_next(
+    stream: &TcpStream,
+    seen: &mut Seen,
+    telnet: &mut Telnet,
+) -> io::Result<bool> {
     let mut front = [0u8; FRONT];
     let mut reader = stream;
     for _ in 0..LOOKS {
@@ -191,19 +195,23 @@ pub(crate) fn is_text_next(stream: &TcpStream, seen: &mut Seen, telnet: &mut Tel
             Err(e) if e.kind() == ErrorKind::Interrupted => continue,
             Err(e) if e.kind() == ErrorKind::WouldBlock => {
                 seen.readable = false;
-                return false;
+                return Ok(false);
             }
-            // The read will meet it.
-            Err(_) => return true,
+            // It is told once, so no read would meet it.
+            Err(e) => return Err(e),
         };
         if n == 0 || telnet.has_text(&front[..n]) {
-            return true;
+            return Ok(true);
         }
-        if let Ok(taken) = reader.read(&mut front[..n]) {
-            telnet.strip(&mut front[..taken]);
+        match reader.read(&mut front[..n]) {
+            Ok(taken) => {
+                telnet.strip(&mut front[..taken]);
+            }
+            Err(e) if e.kind() == ErrorKind::Interrupted || e.kind() == ErrorKind::WouldBlock => {}
+            Err(e) => return Err(e),
         }
     }
-    false
+    Ok(false)
 }
 
 // Writes some bytes, and waits where there is no room yet.
