@@ -1,6 +1,7 @@
 -- What an entry asks of its server.
 --   is_closed actions n    an action closes the connection of this number
 --   first_link actions     the link of the job that starts first
+--   to_stop e              the session whose job is to stop
 --   not_taken e            the connection that came with the event and was not taken
 use Rattle.std.specs.Prelude.{ℕ, Bool, true, false, ◌==◌, List, [], ◌∷◌, Option, Some, None, if◌then◌else◌}
 use Rattle.std.specs.List.{list_any}
@@ -8,9 +9,10 @@ use Rattle.std.specs.Option.{option_or}
 use Rattle.ftp_events.specs.declared.action.Action.{Action}
 use Rattle.ftp_events.specs.declared.action.Action.TheVariants.{Close, Notify, Start}
 use Rattle.ftp_events.specs.declared.decision.Decision.{Decision}
-use Rattle.ftp_events.specs.declared.decision.Decision.TheVariants.{Attached, Opened, PortOk}
+use Rattle.ftp_events.specs.declared.decision.Decision.TheVariants.{Aborting, Attached, Opened, PortOk}
 use Rattle.ftp_events.specs.declared.entry.Entry.{Entry}
 use Rattle.ftp_events.specs.Covers.{link_number}
+use Rattle.ftp_events.specs.Log.{named_session}
 
 -- the action closes a connection
 abbrev pub is_close : Action → Bool
@@ -40,6 +42,15 @@ link_of _ = None
 abbrev pub first_link : List Action → Option ℕ
 first_link [] = None
 first_link (a ∷ actions) = option_or (link_of a) (first_link actions)
+
+-- a job that runs is to stop
+abbrev pub is_aborting : Decision → Bool
+is_aborting Aborting = true
+is_aborting _ = false
+
+-- the session whose job is to stop
+abbrev pub to_stop : Entry → Option ℕ
+to_stop e = if is_aborting e.decision then named_session e.event.kind else None
 
 -- a session takes the connection that comes with the event
 abbrev pub takes : Decision → Bool

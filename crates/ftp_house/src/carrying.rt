@@ -2,7 +2,7 @@
 
 ghost use Rattle.std.specs.Prelude.{◌≡◌};
 ghost use Rattle.std.specs.List.{list_any};
-ghost use Rattle.ftp_house.specs.Carried.{first_link, is_notice, link_of};
+ghost use Rattle.ftp_house.specs.Carried.{first_link, is_notice, link_of, to_stop};
 
 use crate::audience::Audience;
 use crate::exchange::Exchange;
@@ -20,10 +20,14 @@ impl<
     S: Storage + Drop,
     G: Gate + Drop,
 > House<L, A, N, S, G> {
-    /// Hands the job to a worker, closes the links that the entry closes, and tells the listeners.
+    /// Hands the job to a worker, shuts down the link of a job that is to stop, closes the links that the entry closes, and
+    /// tells the listeners.
     pub(crate) fn carry_out<R: Wait>(&self, rt: &R, entry: &Entry, job: Option<JobShare>) {
         if let Some(job) = job {
             self.exchange.start(rt, entry, job);
+        }
+        if let Some(session) = to_stop(entry) {
+            self.exchange.stop_job(rt, session);
         }
         self.exchange.close_links(rt, entry);
         if tells_any(entry.actions.as_slice()) {
@@ -54,6 +58,16 @@ impl Exchange {
                 }
             }
         }
+    }
+}
+
+// The session whose job is to stop.
+fn to_stop(entry: &Entry) -> Option<u64>
+    ensures { result ≡ to_stop entry.now }
+{
+    match entry.decision {
+        Decision::Aborting => entry.event.kind.named_session(),
+        _ => None,
     }
 }
 

@@ -1,6 +1,7 @@
 //! What threads hand to one another.
 
 use crate::closing::{close_all, closes_any, not_taken};
+use crate::link_handle::LinkHandle;
 use crate::task::Task;
 use ftp_edge::{ControlHandle, Queue};
 use ftp_events::Entry;
@@ -19,12 +20,15 @@ pub(crate) struct Waiting {
     pub(crate) ahead: Vec<u8>,
 }
 
-/// Links that wait for a job, ports that were bound for sessions, the handles of control connections, and tasks.
+/// Links that wait for a job, those of jobs that run, ports that were bound for sessions, the handles of control connections,
+/// and tasks.
 ///
 /// Each stands behind a lock of its own, and no two of them are held together.
 #[derive(Drop)]
 pub(crate) struct Exchange {
     links: Mutex<IndexMap<u64, Waiting>>,
+    // By session, with their numbers.
+    running: Mutex<IndexMap<u64, (u64, LinkHandle)>>,
     bound: Mutex<IndexMap<u64, (u16, TcpListener)>>,
     controls: Mutex<IndexMap<u64, ControlHandle>>,
     tasks: Queue<Task>,
@@ -38,6 +42,7 @@ impl Exchange {
     pub(crate) fn new(alloc: Global, doors: Arc<Waker, Global>) -> Exchange {
         Exchange {
             links: Mutex::new(IndexMap::new(alloc)),
+            running: Mutex::new(IndexMap::new(alloc)),
             bound: Mutex::new(IndexMap::new(alloc)),
             controls: Mutex::new(IndexMap::new(alloc)),
             tasks: Queue::new(alloc),
@@ -73,6 +78,39 @@ impl Exchange {
     pub(crate) fn forget<R: Wait>(&self, rt: &R, number: Option<u64>) {
         if let Some(number) = number {
             drop(self.take_link(rt, number));
+        }
+    }
+
+    /// From now on others can shut down the link of the session's job, unless there is no handle or no room for one.
+    pub(crate) fn begin_job<R: Wait>(&self, rt: &R, session: u64, number: u64, stream: &TcpStream) {
+        if let Ok(handle) = LinkHandle::new(stream) {
+            let _ = self.running.lock(rt).insert(session, (number, handle));
+        }
+    }
+
+    /// The job on the link of this number has ended.
+    pub(crate) fn end_job<R: Wait>(&self, rt: &R, session: u64, number: u64) {
+        drop(self.take_running(rt, session, number));
+    }
+
+    // The handle of this link, unless the session has a job on another link by now.
+    fn take_running<R: Wait>(
+        &self,
+        rt: &R,
+        session: u64,
+        number: u64,
+    ) -> Option<(u64, LinkHandle)> {
+        let mut running = self.running.lock(rt);
+        match running.get(&session) {
+            Some((link, _)) if *link == number => running.swap_remove(&session),
+            _ => None,
+        }
+    }
+
+    /// Shuts down the link of the session's job.
+    pub(crate) fn stop_job<R: Wait>(&self, rt: &R, session: u64) {
+        if let Some((_, handle)) = self.running.lock(rt).get(&session) {
+            handle.shut_down();
         }
     }
 

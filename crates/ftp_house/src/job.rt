@@ -36,6 +36,14 @@ impl<
             return;
         };
         let Waiting { stream, ahead } = waiting;
+        let session = job.ticket().session;
+        self.house
+            .exchange
+            .begin_job(&self.rt, session, number, &stream);
+        // An ABOR that came before found no link to shut down.
+        if job.is_marked() {
+            self.house.exchange.stop_job(&self.rt, session);
+        }
         let buffer = self.take_buffer();
         let link = SocketLink::new(self.rt, self.alloc, stream, LIMIT);
         let mut link = Gathered::new(Ahead::new(link, ahead), buffer);
@@ -53,6 +61,7 @@ impl<
             &mut self.edge,
         );
         self.buffer = link.into_buffer();
+        self.house.exchange.end_job(&self.rt, session, number);
         // Where memory ran out the job never ends.
         if let Ok(submitted) = served {
             self.desk.carry_out(submitted);

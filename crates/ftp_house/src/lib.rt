@@ -14,6 +14,7 @@ mod exchange;
 mod house;
 mod inside;
 mod job;
+mod link_handle;
 mod proxied;
 mod session_edge;
 mod task;
