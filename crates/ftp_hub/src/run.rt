@@ -263,6 +263,9 @@ pub fn run_events<S: Storage, L: Link>(
     ensures stopped { IfErr result (λ e. done_of e < length events.now) }
     ensures exhausted { IfErr result (λ e.
         IsExhausted e ↔ (count_of hub.old + done_of e ≡ 2 ^ 64 - 1)) }
+
+    // A hub that has counted nothing is stopped by want of memory alone.
+    ensures complete { count_of hub.old ≡ 0 → IfErr result (λ e. ¬ (IsExhausted e)) }
     ensures count { OnOk result (count_of hub.new ≡ count_of hub.old + length events.now) }
     ensures count_stopped { IfErr result (λ e. count_of hub.new ≡ count_of hub.old + done_of e) }
     ensures options { options_of hub.new ≡ options_of hub.old }
