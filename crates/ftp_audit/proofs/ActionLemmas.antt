@@ -12,7 +12,7 @@ use Rattle.ftp_events.specs.declared.action.Action.TheVariants as action
 use Rattle.ftp_events.specs.declared.decision.Decision.TheVariants as decision
 use Rattle.ftp_events.specs.Login.{login_by, logged_user}
 use Rattle.ftp_events.specs.Reply.{message_for, reply_for, delay_of}
-use Rattle.ftp_events.specs.Acts.{session_acts, notice_and_reply, notifications, reply_acts, notice_for, presence_for, farewells}
+use Rattle.ftp_events.specs.Acts.{session_acts, notice_and_reply, notifications, reply_acts, notice_for, presence_for, farewells, cuttings}
 use Rattle.ftp_laws.proofs.Common.{Options, Running, Action, Decision, EventKind, Answer, Pending, Session, Slot, is_ending, new_number, drops, completions, cancellations, stays, drop_acts, pending_in, start_acts, starting, link_in, closings, refused_link, slot_of}
 use Rattle.ftp_laws.proofs.Cases.{by_completion}
 use Rattle.ftp_audit.specs.Sums.{told_end}
@@ -37,8 +37,12 @@ same-both false x = refl
 
 -- ---- notifications
 
-on-completions : (user : List ℕ) (k : EventKind) (d : Decision) (delivered : Bool) → notices_on user (completions k d delivered) ≡ []
-on-completions user k d delivered = by_completion (λ xs. notices_on user xs ≡ []) k d delivered refl (λ t x y. refl)
+on-cuttings : (user : List ℕ) (t : ℕ) (staying : Bool) (r : Running) → notices_on user (cuttings t staying (Some r)) ≡ []
+on-cuttings user t true r = refl
+on-cuttings user t false r = refl
+
+on-completions : (user : List ℕ) (t : ℕ) (k : EventKind) (d : Decision) (delivered : Bool) (job : Option Running) → notices_on user (completions t k d delivered job) ≡ []
+on-completions user t k d delivered job = by_completion (λ xs. notices_on user xs ≡ []) t k d delivered job refl (λ u x y. refl) (λ r x y. on-cuttings user t delivered r)
 
 on-drop_acts : (user : List ℕ) (t : ℕ) (staying : Bool) (d : Decision) (slot : Slot) (pending : Option Pending) → notices_on user (drop_acts t staying d slot pending) ≡ []
 on-drop_acts user t staying d slot pending = go (drops d slot) staying pending (link_in slot)
@@ -92,10 +96,10 @@ pub on-session_acts :
     (o : Options) (user : List ℕ) (t : ℕ) (k : EventKind) (answer : Answer) (d : Decision) (job : Option Running) (v : Option Session) →
     notices_on user (session_acts o t k answer d job v) ≡ told_on user k answer d job v
 on-session_acts o user t k answer d job v =
-    rw (split, on-completions user k d (stays d v), on-drop_acts user t (stays d v) d (slot_of v) (pending_in v), on-refused_link user k d, on-start_acts user (option_and_then (starting k d job) v), on-farewells user t d)
+    rw (split, on-completions user t k d (stays d v) job, on-drop_acts user t (stays d v) d (slot_of v) (pending_in v), on-refused_link user k d, on-start_acts user (option_and_then (starting k d job) v), on-farewells user t d)
     (append-nil (notices_on user (option_map_or (notice_and_reply o t k answer d job) v []) ++ []) ∙ (append-nil (notices_on user (option_map_or (notice_and_reply o t k answer d job) v [])) ∙ told v))
   where
-    split : notices_on user (session_acts o t k answer d job v) ≡ notices_on user (completions k d (stays d v)) ++ notices_on user (drop_acts t (stays d v) d (slot_of v) (pending_in v)) ++ notices_on user (refused_link k d) ++ notices_on user (option_map_or (notice_and_reply o t k answer d job) v []) ++ notices_on user (start_acts (option_and_then (starting k d job) v)) ++ notices_on user (farewells t d)
+    split : notices_on user (session_acts o t k answer d job v) ≡ notices_on user (completions t k d (stays d v) job) ++ notices_on user (drop_acts t (stays d v) d (slot_of v) (pending_in v)) ++ notices_on user (refused_link k d) ++ notices_on user (option_map_or (notice_and_reply o t k answer d job) v []) ++ notices_on user (start_acts (option_and_then (starting k d job) v)) ++ notices_on user (farewells t d)
     split = simp filter_map-append
 
     told : (v : Option Session) → notices_on user (option_map_or (notice_and_reply o t k answer d job) v []) ≡ told_on user k answer d job v
@@ -112,6 +116,11 @@ on-session_acts o user t k answer d job v =
 -- the sessions that actions tell that their transfers have ended
 abbrev pub told_ends : List Action → List ℕ
 told_ends actions = filter_map told_end actions
+
+-- a transfer that is cut is told of as none that has ended
+pub ends-cuttings : (t : ℕ) (staying : Bool) (r : Running) → told_ends (cuttings t staying (Some r)) ≡ []
+ends-cuttings t true r = refl
+ends-cuttings t false r = refl
 
 ends-drop_acts : (t : ℕ) (staying : Bool) (d : Decision) (slot : Slot) (pending : Option Pending) → told_ends (drop_acts t staying d slot pending) ≡ []
 ends-drop_acts t staying d slot pending = go (drops d slot) staying pending (link_in slot)
@@ -157,12 +166,12 @@ ends-notifications t v name (Some what) = refl
 -- what an event does for a session tells the end that it completes
 pub ends-session_acts :
     (o : Options) (t : ℕ) (k : EventKind) (answer : Answer) (d : Decision) (job : Option Running) (v : Option Session) →
-    told_ends (session_acts o t k answer d job v) ≡ told_ends (completions k d (stays d v))
+    told_ends (session_acts o t k answer d job v) ≡ told_ends (completions t k d (stays d v) job)
 ends-session_acts o t k answer d job v =
     rw (split, ends-drop_acts t (stays d v) d (slot_of v) (pending_in v), ends-refused_link k d, rest v, ends-start_acts (option_and_then (starting k d job) v), ends-farewells t d)
-    (append-nil ((((told_ends (completions k d (stays d v)) ++ []) ++ []) ++ []) ++ []) ∙ (append-nil (((told_ends (completions k d (stays d v)) ++ []) ++ []) ++ []) ∙ (append-nil ((told_ends (completions k d (stays d v)) ++ []) ++ []) ∙ (append-nil (told_ends (completions k d (stays d v)) ++ []) ∙ append-nil (told_ends (completions k d (stays d v)))))))
+    (append-nil ((((told_ends (completions t k d (stays d v) job) ++ []) ++ []) ++ []) ++ []) ∙ (append-nil (((told_ends (completions t k d (stays d v) job) ++ []) ++ []) ++ []) ∙ (append-nil ((told_ends (completions t k d (stays d v) job) ++ []) ++ []) ∙ (append-nil (told_ends (completions t k d (stays d v) job) ++ []) ∙ append-nil (told_ends (completions t k d (stays d v) job))))))
   where
-    split : told_ends (session_acts o t k answer d job v) ≡ told_ends (completions k d (stays d v)) ++ told_ends (drop_acts t (stays d v) d (slot_of v) (pending_in v)) ++ told_ends (refused_link k d) ++ told_ends (option_map_or (notice_and_reply o t k answer d job) v []) ++ told_ends (start_acts (option_and_then (starting k d job) v)) ++ told_ends (farewells t d)
+    split : told_ends (session_acts o t k answer d job v) ≡ told_ends (completions t k d (stays d v) job) ++ told_ends (drop_acts t (stays d v) d (slot_of v) (pending_in v)) ++ told_ends (refused_link k d) ++ told_ends (option_map_or (notice_and_reply o t k answer d job) v []) ++ told_ends (start_acts (option_and_then (starting k d job) v)) ++ told_ends (farewells t d)
     split = simp filter_map-append
 
     rest : (v : Option Session) → told_ends (option_map_or (notice_and_reply o t k answer d job) v []) ≡ []

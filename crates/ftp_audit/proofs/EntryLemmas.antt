@@ -1,5 +1,5 @@
 -- What an entry of a right and acted log notifies is what it decided.
-use Rattle.std.proofs.Common.{◌≡◌, refl, sym, ◌∙◌, ap, ap₂, ℕ, Bool, true, false, cond, List, [], ◌∷◌, ◌++◌, Option, Some, None, arith}
+use Rattle.std.proofs.Common.{◌≡◌, refl, sym, ◌∙◌, ap, ap₂, ℕ, Bool, true, false, true≢false, cond, List, [], ◌∷◌, ◌++◌, Option, Some, None, arith}
 use Rattle.std.specs.Prelude.{filter, is_some}
 use Rattle.std.specs.List.{flat_map, AllByRecursion}
 use Rattle.std.specs.Option.{option_map, option_to_list}
@@ -13,6 +13,7 @@ use Rattle.ftp_base.specs.declared.notice.Notice.TheVariants.{Presence, Data}
 use Rattle.ftp_base.specs.declared.notice.PresenceEvent.TheVariants as presence
 use Rattle.ftp_transfer.specs.declared.job.Completion.{Completion}
 use Rattle.ftp_transfer.specs.declared.job.Completion.TheVariants as result
+use Rattle.ftp_transfer.specs.declared.job.Job.{Job}
 use Rattle.ftp_transfer.specs.declared.job.Outcome.{Outcome}
 use Rattle.ftp_events.specs.declared.decision.Decision.TheVariants as decision
 use Rattle.ftp_events.specs.declared.event.EventKind.TheVariants as kind
@@ -20,17 +21,17 @@ use Rattle.ftp_events.specs.declared.event.Answer.TheVariants as answer
 use Rattle.ftp_events.specs.Acts.{notice_for, presence_for}
 use Rattle.ftp_events.specs.CommandRows.{internal_row}
 use Rattle.ftp_events.specs.Classes.{is_stop}
-use Rattle.ftp_events.specs.EndRows.{end_row, outcome_row}
+use Rattle.ftp_events.specs.EndRows.{can_move, end_row, moved_row, outcome_row, piece_row, unless_marked}
 use Rattle.ftp_events.specs.History.{Nobody, One, All}
 use Rattle.ftp_events.specs.Message.{notice_of, is_for_control, message_of_outcome}
 use Rattle.ftp_events.specs.Reply.{message_for, path_of_job}
 use Rattle.ftp_events.specs.Session.{live_sessions, opened_sessions}
 use Rattle.ftp_events.specs.Transfer.{same_ticket}
-use Rattle.ftp_laws.proofs.Common.{acts, acts_of, acts_for, subject_acts, due, decide, completions, stays, refused_link, ends, life, is_ending, lives_on, Options, Action, Running, Decision, Entry, EventKind, Answer, Session, Ticket, is_refusal, named_session, past_of, session, running_job, subject, IsRight, IsActed}
-use Rattle.ftp_laws.proofs.BalanceLemmas.{is_finished, no-completion, IsEnd, finished-known}
-use Rattle.ftp_laws.proofs.Cases.{by_test, by_option, by_completion}
+use Rattle.ftp_laws.proofs.Common.{acts, acts_of, acts_for, subject_acts, due, decide, completions, stays, refused_link, ends, life, is_ending, lives_on, Options, Action, Running, Decision, Entry, EventKind, Answer, Session, Ticket, is_refusal, job_ticket, named_session, past_of, session, running_job, subject, IsRight, IsActed}
+use Rattle.ftp_laws.proofs.BalanceLemmas.{IsEnd, finished-known}
+use Rattle.ftp_laws.proofs.Cases.{by_test, by_option, by_completion, job-named}
 use Rattle.ftp_laws.proofs.ClassLemmas.{stop-is}
-use Rattle.ftp_laws.proofs.DecisionLemmas.{IsLive, live-row, first-chosen}
+use Rattle.ftp_laws.proofs.DecisionLemmas.{IsLive, live-row, first-chosen, other-chosen}
 use Rattle.ftp_laws.proofs.EndingLemmas.{ending-live}
 use Rattle.ftp_laws.proofs.EntryLemmas.{Comes}
 use Rattle.ftp_laws.proofs.SubjectLemmas.{by_subject, all-stop, named-one, one-own, one-same, one-plain, stop-all, stop-concerns}
@@ -40,7 +41,7 @@ use Rattle.ftp_audit.specs.Owner.{let_in, owner}
 use Rattle.ftp_audit.specs.Sums.{one_login, one_logout, file_of, moved_file, told_end, for_each, added}
 use Rattle.ftp_audit.specs.Heard.{notice_on, notices_on, told_by_all}
 use Rattle.ftp_audit.proofs.PlusLemmas.{plus-nothing, nothing-plus, told_by_all-append}
-use Rattle.ftp_audit.proofs.ActionLemmas.{user_then, notified, told_on, on-session_acts, on-refused_link, told_ends, ends-session_acts, ends-refused_link}
+use Rattle.ftp_audit.proofs.ActionLemmas.{user_then, notified, told_on, on-session_acts, on-refused_link, told_ends, ends-session_acts, ends-refused_link, ends-cuttings}
 use Rattle.ftp_audit.proofs.OwnerLemmas.{let_in-named, let_in-decided, refused-let_in, IsLetIn, let-in-known, owner-then}
 
 -- ---- one session
@@ -82,17 +83,41 @@ told-control o past at (kind.Internal q m) a e =
     (q, m, refl, (first-chosen (is_for_control m) decision.Told decision.NotExpected decision.Told (λ x. cc) live.2).0)
 told-control o past at k a e = grind arith
 
--- a transfer that is finished has an outcome
-finished-done : (o : Options) (past : List Entry) (at : ℕ) (t : Ticket) (a : Answer) → due o past at (kind.End t) a ≡ decision.Finished → (outcome : Outcome) × (a ≡ answer.Done outcome)
-finished-done o past at t a e = by_job (running_job o past t.session) e
-  where
-    by_answer : (r : Running) (a : Answer) → outcome_row r.job a ≡ decision.Finished → (outcome : Outcome) × (a ≡ answer.Done outcome)
-    by_answer r (answer.Done outcome) h = (outcome, refl)
-    by_answer r a h = cc
+-- an answer that has an outcome
+abbrev IsDone : Answer → Type 0
+IsDone a = (outcome : Outcome) × (a ≡ answer.Done outcome)
 
-    by_job : (j : Option Running) → end_row t a j ≡ decision.Finished → (outcome : Outcome) × (a ≡ answer.Done outcome)
+-- a job ends by an outcome
+outcome-done : (job : Job) (a : Answer) → outcome_row job a ≡ decision.Finished → IsDone a
+outcome-done job (answer.Done outcome) h = (outcome, refl)
+outcome-done job a h = cc
+
+-- and so does one whose last piece comes
+moved-done : (job : Job) (a : Answer) → moved_row job a ≡ decision.Finished → IsDone a
+moved-done job (answer.Moved bytes) h =
+    let z = (first-chosen (can_move job bytes) decision.Moved decision.NotExpected decision.Finished (λ x. cc) h).1 in
+    cc
+moved-done job a h = outcome-done job a h
+
+-- what is decided as finished on a job that runs is its row
+row-done : (r : Running) (t : Ticket) (row : Decision) → cond (same_ticket r.job.ticket t) (unless_marked r row) decision.UnknownNumber ≡ decision.Finished → row ≡ decision.Finished
+row-done r t row h =
+    (other-chosen r.marked decision.Cut row decision.Finished (λ x. cc)
+    (first-chosen (same_ticket r.job.ticket t) (unless_marked r row) decision.UnknownNumber decision.Finished (λ x. cc) h).1).1
+
+-- a transfer that is finished has an outcome
+finished-done : (o : Options) (past : List Entry) (at : ℕ) (k : EventKind) (a : Answer) → due o past at k a ≡ decision.Finished → IsDone a
+finished-done o past at (kind.End t) a e = by_job (running_job o past t.session) e
+  where
+    by_job : (j : Option Running) → end_row t a j ≡ decision.Finished → IsDone a
     by_job None h = cc
-    by_job (Some r) h = by_answer r a (first-chosen (same_ticket r.job.ticket t) (outcome_row r.job a) decision.UnknownNumber decision.Finished (λ x. cc) h).1
+    by_job (Some r) h = outcome-done r.job a (row-done r t (outcome_row r.job a) h)
+finished-done o past at (kind.Piece t) a e = by_job (running_job o past t.session) e
+  where
+    by_job : (j : Option Running) → piece_row t a j ≡ decision.Finished → IsDone a
+    by_job None h = cc
+    by_job (Some r) h = moved-done r.job a (row-done r t (moved_row r.job a) h)
+finished-done o past at k a e = grind arith
 
 -- decisions of which listeners may hear
 abbrev is_loud : Decision → Bool
@@ -137,13 +162,23 @@ ending-let_in : (d : Decision) (k : EventKind) → is_ending d ≡ true → let_
 ending-let_in decision.LoggedIn k h = cc
 ending-let_in d k h = refl
 
-ending-unfinished : (d : Decision) → is_ending d ≡ true → is_finished d ≡ false
-ending-unfinished decision.Finished h = cc
-ending-unfinished d h = refl
+-- a transfer was finished, and not cut
+abbrev is_done : Decision → Bool
+is_done decision.Finished = true
+is_done d = false
+
+ending-undone : (d : Decision) → is_ending d ≡ true → is_done d ≡ false
+ending-undone decision.Finished h = cc
+ending-undone d h = refl
 
 -- no end that is lost is told
-ends-lost : (k : EventKind) (d : Decision) → told_ends (completions k d false) ≡ []
-ends-lost k d = by_completion (λ xs. told_ends xs ≡ []) k d false refl (λ t x y. refl)
+ends-lost : (s : ℕ) (k : EventKind) (d : Decision) (job : Option Running) → told_ends (completions s k d false job) ≡ []
+ends-lost s k d job = by_completion (λ xs. told_ends xs ≡ []) s k d false job refl (λ t x y. refl) (λ r x y. ends-cuttings s false r)
+
+-- no other decision tells an end
+ends-none : (s : ℕ) (k : EventKind) (d : Decision) (told_to : Bool) (job : Option Running) → is_done d ≡ false → told_ends (completions s k d told_to job) ≡ []
+ends-none s k d told_to job u =
+    by_completion (λ xs. told_ends xs ≡ []) s k d told_to job refl (λ t x y. absurd (true≢false (sym (ap is_done y) ∙ u))) (λ r x y. ends-cuttings s told_to r)
 
 -- a transfer that is finished notifies what its message does, and moves its file
 finished-notified :
@@ -155,9 +190,9 @@ finished-file : (a : Answer) (d : Decision) (outcome : Outcome) → d ≡ decisi
 finished-file a d outcome x y = rw (x, y) refl
 
 finished-ends :
-    (k : EventKind) (d : Decision) (t : Ticket) (s : ℕ) → d ≡ decision.Finished → k ≡ kind.End t → t.session ≡ s →
-    told_ends (completions k d (lives_on d)) ≡ s ∷ []
-finished-ends k d t s x y z = rw (x, y) (ap (λ n. n ∷ []) z)
+    (k : EventKind) (d : Decision) (job : Option Running) (t : Ticket) (s : ℕ) → d ≡ decision.Finished → job_ticket k ≡ Some t → t.session ≡ s →
+    told_ends (completions s k d (lives_on d) job) ≡ s ∷ []
+finished-ends k d job t s x y z = rw (x, y) (ap (λ n. n ∷ []) z)
 
 -- a message that is told notifies what it does
 told-notified :
@@ -174,18 +209,18 @@ abbrev ended : EventKind → Decision → List ℕ
 ended k d = cond (is_ending d) (option_to_list (named_session k)) []
 
 -- what is added, in three parts
-abbrev parts : List Entry → List ℕ → EventKind → Answer → Decision → Bool → Total
-parts p user k a d told =
-    plus (for_each p user (moved_file d a) (told_ends (completions k d told)))
+abbrev parts : List Entry → List ℕ → ℕ → EventKind → Answer → Decision → Bool → Option Running → Total
+parts p user s k a d told job =
+    plus (for_each p user (moved_file d a) (told_ends (completions s k d told job)))
     (plus (for_each p user one_login (option_to_list (let_in d k)))
     (for_each p user one_logout (ended k d)))
 
 -- where all three are known
 three :
-    (p : List Entry) (user : List ℕ) (k : EventKind) (a : Answer) (d : Decision) (told : Bool) (ends ins outs : List ℕ) →
-    told_ends (completions k d told) ≡ ends → option_to_list (let_in d k) ≡ ins → ended k d ≡ outs →
-    parts p user k a d told ≡ plus (for_each p user (moved_file d a) ends) (plus (for_each p user one_login ins) (for_each p user one_logout outs))
-three p user k a d told ends ins outs x y z = rw (x, y, z) refl
+    (p : List Entry) (user : List ℕ) (s : ℕ) (k : EventKind) (a : Answer) (d : Decision) (told : Bool) (job : Option Running) (ends ins outs : List ℕ) →
+    told_ends (completions s k d told job) ≡ ends → option_to_list (let_in d k) ≡ ins → ended k d ≡ outs →
+    parts p user s k a d told job ≡ plus (for_each p user (moved_file d a) ends) (plus (for_each p user one_login ins) (for_each p user one_logout outs))
+three p user s k a d told job ends ins outs x y z = rw (x, y, z) refl
 
 -- of an event about a live session, which its entry's owner is
 module _ (o : Options) (past : List Entry) (at : ℕ) (p : List Entry) (user : List ℕ) (s : ℕ) where
@@ -194,7 +229,7 @@ module _ (o : Options) (past : List Entry) (at : ℕ) (p : List Entry) (user : L
       due o past at k a ≡ d → is_stop d ≡ false →
       ((q : ℕ) → named_session k ≡ Some q → q ≡ s) →
       owner p s ≡ user_then d v →
-      told_by_all (cond (bytes_eq (user_then d v) user) (notified k a d job v) []) ≡ parts p user k a d (lives_on d)
+      told_by_all (cond (bytes_eq (user_then d v) user) (notified k a d job v) []) ≡ parts p user s k a d (lives_on d) job
   one-live k a d job v fit plain about own = by_test (is_ending d) ending (λ lives. go d refl lives)
     where
       b : Bool
@@ -207,7 +242,7 @@ module _ (o : Options) (past : List Entry) (at : ℕ) (p : List Entry) (user : L
       none-left : (t : Total) → t ≡ plus nothing (plus nothing t)
       none-left t = sym (nothing-plus (plus nothing t) ∙ nothing-plus t)
 
-      ending : is_ending d ≡ true → told_by_all (cond (bytes_eq (user_then d v) user) (notified k a d job v) []) ≡ parts p user k a d (lives_on d)
+      ending : is_ending d ≡ true → told_by_all (cond (bytes_eq (user_then d v) user) (notified k a d job v) []) ≡ parts p user s k a d (lives_on d) job
       ending h =
           let live : IsLive o past k = ending-live o past at k a (ap is_stop fit ∙ plain) (ap (λ x. ends (life x)) fit ∙ h) in
           let named : named_session k ≡ Some s = live.named ∙ ap Some (about live.number live.named) in
@@ -215,21 +250,21 @@ module _ (o : Options) (past : List Entry) (at : ℕ) (p : List Entry) (user : L
           ∙ (ap (λ t. cond b t nothing) (told-one (Presence presence.LoggedOut))
           ∙ (none-left (cond b one_logout nothing)
           ∙ (ap (λ t. plus nothing (plus nothing t)) (sym (one-each p user one_logout s))
-          ∙ sym (three p user k a d (lives_on d) [] [] (s ∷ []) (ap told_ends (no-completion d k (lives_on d) (ending-unfinished d h))) (ap option_to_list (ending-let_in d k h)) (rw (h, named) refl)))))
+          ∙ sym (three p user s k a d (lives_on d) job [] [] (s ∷ []) (ends-none s k d (lives_on d) job (ending-undone d h)) (ap option_to_list (ending-let_in d k h)) (rw (h, named) refl)))))
 
       -- where listeners hear nothing that counts
-      silence : (notices : List Notice) → notified k a d job v ≡ notices → told_by_all notices ≡ nothing → let_in d k ≡ None → is_finished d ≡ false → is_ending d ≡ false →
-          told_by_all (cond (bytes_eq (user_then d v) user) (notified k a d job v) []) ≡ parts p user k a d (lives_on d)
-      silence notices x quiet out unfinished lives =
+      silence : (notices : List Notice) → notified k a d job v ≡ notices → told_by_all notices ≡ nothing → let_in d k ≡ None → is_done d ≡ false → is_ending d ≡ false →
+          told_by_all (cond (bytes_eq (user_then d v) user) (notified k a d job v) []) ≡ parts p user s k a d (lives_on d) job
+      silence notices x quiet out undone lives =
           by_owner notices x
           ∙ (ap (λ t. cond b t nothing) quiet ∙ same b
-          ∙ sym (three p user k a d (lives_on d) [] [] [] (ap told_ends (no-completion d k (lives_on d) unfinished)) (ap option_to_list out) (rw lives refl)))
+          ∙ sym (three p user s k a d (lives_on d) job [] [] [] (ends-none s k d (lives_on d) job undone) (ap option_to_list out) (rw lives refl)))
         where
           same : (b : Bool) → cond b nothing nothing ≡ plus nothing (plus nothing nothing)
           same true = refl
           same false = refl
 
-      go : (e : Decision) → d ≡ e → is_ending d ≡ false → told_by_all (cond (bytes_eq (user_then d v) user) (notified k a d job v) []) ≡ parts p user k a d (lives_on d)
+      go : (e : Decision) → d ≡ e → is_ending d ≡ false → told_by_all (cond (bytes_eq (user_then d v) user) (notified k a d job v) []) ≡ parts p user s k a d (lives_on d) job
       go decision.LoggedIn x lives =
           let in_ : IsLetIn o past k = let-in-known o past at k a (fit ∙ x) in
           let same : in_.number ≡ s = about in_.number (ap named_session in_.is) in
@@ -238,33 +273,33 @@ module _ (o : Options) (past : List Entry) (at : ℕ) (p : List Entry) (user : L
           ∙ (ap (λ t. cond b t nothing) (told-one (Presence presence.LoggedIn))
           ∙ (sym (nothing-plus (plus (cond b one_login nothing) nothing) ∙ plus-nothing (cond b one_login nothing))
           ∙ (ap (λ t. plus nothing (plus t nothing)) (sym (one-each p user one_login s))
-          ∙ sym (three p user k a d (lives_on d) [] (s ∷ []) [] (ap told_ends (no-completion d k (lives_on d) (ap is_finished x))) ins (rw lives refl)))))
+          ∙ sym (three p user s k a d (lives_on d) job [] (s ∷ []) [] (ends-none s k d (lives_on d) job (ap is_done x)) ins (rw lives refl)))))
       go decision.Finished x lives =
           let end : IsEnd o past k = finished-known o past at k a (fit ∙ x) in
-          let done = finished-done o past at end.ticket a (ap (λ kd. due o past at kd a) (sym end.kind_is) ∙ (fit ∙ x)) in
-          let same : end.ticket.session ≡ s = about end.ticket.session (ap named_session end.kind_is) in
-          let told_is : told_ends (completions k d (lives_on d)) ≡ s ∷ [] = finished-ends k d end.ticket s x end.kind_is same in
+          let done = finished-done o past at k a (fit ∙ x) in
+          let same : end.ticket.session ≡ s = about end.ticket.session (job-named k end.ticket end.kind_is) in
+          let told_is : told_ends (completions s k d (lives_on d) job) ≡ s ∷ [] = finished-ends k d job end.ticket s x end.kind_is same in
           let file : moved_file d a ≡ file_of done.0.result done.0.bytes = finished-file a d done.0 x done.1 in
           let notices : List Notice = option_to_list (option_map Data (notice_of (message_of_outcome (path_of_job job) done.0 done.0.result))) in
           by_owner notices (finished-notified k a d job v done.0 x done.1)
           ∙ (ap (λ t. cond b t nothing) (outcome-told (path_of_job job) done.0 done.0.result ∙ sym file)
           ∙ (sym (plus-nothing (cond b (moved_file d a) nothing))
           ∙ (ap (λ t. plus t (plus nothing nothing)) (sym (one-each p user (moved_file d a) s))
-          ∙ sym (three p user k a d (lives_on d) (s ∷ []) [] [] told_is (rw x refl) (rw lives refl)))))
+          ∙ sym (three p user s k a d (lives_on d) job (s ∷ []) [] [] told_is (rw x refl) (rw lives refl)))))
       go decision.Told x lives =
           let by = told-control o past at k a (fit ∙ x) in
-          silence (option_to_list (option_map Data (notice_of by.1))) (told-notified k a d job v by.0 by.1 x by.2) (control-quiet by.1 by.3) (rw x refl) (ap is_finished x) lives
+          silence (option_to_list (option_map Data (notice_of by.1))) (told-notified k a d job v by.0 by.1 x by.2) (control-quiet by.1 by.3) (rw x refl) (ap is_done x) lives
       go e x lives =
-          silence [] (ap option_to_list (quiet-notice k a d job v (ap is_loud x ∙ (sym (ap is_ending x) ∙ lives)))) refl (rw x refl) (ap is_finished x) lives
+          silence [] (ap option_to_list (quiet-notice k a d job v (ap is_loud x ∙ (sym (ap is_ending x) ∙ lives)))) refl (rw x refl) (ap is_done x) lives
 
   -- of an event about a session that is not live
   one-gone :
-      (k : EventKind) (a : Answer) (d : Decision) →
+      (k : EventKind) (a : Answer) (d : Decision) (job : Option Running) →
       due o past at k a ≡ d → is_stop d ≡ false →
       ((q : ℕ) → named_session k ≡ Some q → q ≡ s) → session o past s ≡ None →
-      nothing ≡ parts p user k a d false
-  one-gone k a d fit plain about none =
-      sym (three p user k a d false [] [] [] (ends-lost k d) (ap option_to_list no_login) (rw lives refl))
+      nothing ≡ parts p user s k a d false job
+  one-gone k a d job fit plain about none =
+      sym (three p user s k a d false job [] [] [] (ends-lost s k d job) (ap option_to_list no_login) (rw lives refl))
     where
       no_login : let_in d k ≡ None
       no_login = by_option (let_in d k) (λ h. h) (λ q h. absurd (login q h))
@@ -322,7 +357,7 @@ stop-told o log e user (s ∷ xs) comes d all = go (session o (past_of log) s) r
         in
         let ends_is : told_ends (acts_for o past e s) ≡ [] =
         ends-session_acts o s e.event.kind e.answer e.decision (running_job o past s) (session o past s)
-        ∙ ap told_ends (no-completion e.decision e.event.kind (stays e.decision (session o past s)) (ap is_finished d))
+        ∙ ends-none s e.event.kind e.decision (stays e.decision (session o past s)) (running_job o past s) (ap is_done d)
         in (
           ap told_by_all (filter_map-append (notice_on user) (acts_for o past e s) rest) ∙ (told_by_all-append (notices_on user (acts_for o past e s)) (notices_on user rest) ∙ ap₂ plus first h.0),
           filter_map-append told_end (acts_for o past e s) rest ∙ ap₂ (λ (xs ys : List ℕ). xs ++ ys) ends_is h.1,
@@ -370,8 +405,10 @@ counted-told o log e user comes acted = by_subject o past e nobody one all
     done = acted ∙ rw comes.counts refl
 
     -- the three parts of what is added, where the ends that are told are those of a completion and no stop came
-    split : (delivered : Bool) → told_ends e.actions ≡ told_ends (completions k d delivered) → is_stop d ≡ false → added o log e user ≡ parts (e ∷ log) user k e.answer d delivered
-    split delivered x plain = rw (x, plain) refl
+    split :
+        (s : ℕ) (delivered : Bool) (job : Option Running) → told_ends e.actions ≡ told_ends (completions s k d delivered job) → is_stop d ≡ false →
+        added o log e user ≡ parts (e ∷ log) user s k e.answer d delivered job
+    split s delivered job x plain = rw (x, plain) refl
 
     nobody : subject o past e ≡ Nobody → entry_told user e.actions ≡ added o log e user
     nobody h =
@@ -390,16 +427,16 @@ counted-told o log e user comes acted = by_subject o past e nobody one all
         let acts_is : e.actions ≡ acts_for o past e s = done ∙ ap (subject_acts o past e) h in
         let about : (q : ℕ) → named_session k ≡ Some q → q ≡ s = λ q named. one-same o past e q s (named-one o past e q plain named) h in
         let told_is : notices_on user e.actions ≡ told_on user k e.answer d (running_job o past s) (session o past s) = ap (notices_on user) acts_is ∙ on-session_acts o user s k e.answer d (running_job o past s) (session o past s) in
-        let ends_is : told_ends e.actions ≡ told_ends (completions k d (stays d (session o past s))) = ap told_ends acts_is ∙ ends-session_acts o s k e.answer d (running_job o past s) (session o past s) in
+        let ends_is : told_ends e.actions ≡ told_ends (completions s k d (stays d (session o past s)) (running_job o past s)) = ap told_ends acts_is ∙ ends-session_acts o s k e.answer d (running_job o past s) (session o past s) in
         by_option (session o past s)
         (λ none.
         ap told_by_all (told_is ∙ ap (told_on user k e.answer d (running_job o past s)) none)
-        ∙ (one-gone o past e.event.at (e ∷ log) user s k e.answer d fit plain about none
-        ∙ sym (split false (ends_is ∙ ap (λ (w : Option Session). told_ends (completions k d (stays d w))) none) plain)))
+        ∙ (one-gone o past e.event.at (e ∷ log) user s k e.answer d (running_job o past s) fit plain about none
+        ∙ sym (split s false (running_job o past s) (ends_is ∙ ap (λ (w : Option Session). told_ends (completions s k d (stays d w) (running_job o past s))) none) plain)))
         (λ v known.
         ap told_by_all (told_is ∙ ap (told_on user k e.answer d (running_job o past s)) known)
         ∙ (one-live o past e.event.at (e ∷ log) user s k e.answer d (running_job o past s) v fit plain about (owner-then o log e s v comes (one-own o past e s h) known)
-        ∙ sym (split (lives_on d) (ends_is ∙ ap (λ (w : Option Session). told_ends (completions k d (stays d w))) known) plain)))
+        ∙ sym (split s (lives_on d) (running_job o past s) (ends_is ∙ ap (λ (w : Option Session). told_ends (completions s k d (stays d w) (running_job o past s))) known) plain)))
 
     all : subject o past e ≡ All → entry_told user e.actions ≡ added o log e user
     all h =

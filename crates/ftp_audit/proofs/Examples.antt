@@ -6,9 +6,10 @@ use Rattle.ftp_base.specs.declared.message.ControlChanMsg.TheVariants.{DelFileSu
 use Rattle.ftp_transfer.specs.declared.job.Completion.{Completion}
 use Rattle.ftp_transfer.specs.declared.job.Completion.TheVariants.{Sent, Written}
 use Rattle.ftp_events.specs.declared.entry.Entry.{Entry}
+use Rattle.ftp_events.specs.declared.event.Answer.TheVariants as answer
 use Rattle.ftp_events.specs.declared.event.EventKind.TheVariants as kind
 use Rattle.ftp_events.specs.Right.{log_of}
-use Rattle.ftp_events.proofs.Script.{Event, everything, two_ports, addr, a1, event, opened, login, pasv, data_in, ended}
+use Rattle.ftp_events.proofs.Script.{Event, everything, two_ports, addr, a1, event, opened, login, pasv, data_in, ended, done, piece}
 use Rattle.ftp_sums.specs.Totals.{nothing}
 use Rattle.ftp_audit.specs.Owner.{owner}
 use Rattle.ftp_audit.specs.Sums.{sums, one_logout}
@@ -52,6 +53,19 @@ stopped =
 lost : sums two_ports (log stopped) (codes "ann") 0 9 ≡ record nothing { logins = 1; logouts = 1 }
 unfolding everything
 lost = refl
+
+-- a download in pieces counts once, with all its bytes, where its last piece ends it
+abbrev running : List Event
+running = login 1 a1 ++ pasv 1 0 ∷ data_in 11 (addr a1 4001) 50000 ∷ event 1 (kind.Transfer 1 (Retr (codes "/a"))) ∷ piece 1 1 (answer.Moved 5) ∷ []
+
+in_pieces : sums two_ports (log (running ++ piece 1 1 (done Sent 5) ∷ [])) (codes "ann") 0 9 ≡ record nothing { got_files = 1; got_bytes = 5; logins = 1 }
+unfolding everything
+in_pieces = refl
+
+-- one that is cut adds nothing, whatever its outcome
+cut_off : sums two_ports (log (running ++ event 1 (kind.Abor 1) ∷ ended 1 1 Sent 5 ∷ [])) (codes "ann") 0 10 ≡ record nothing { logins = 1 }
+unfolding everything
+cut_off = refl
 
 -- a session that never logged in is nobody's that is known
 abbrev closed : List Event
