@@ -113,6 +113,7 @@ fn job(alloc: Global, command: DataChanCmd) -> Result<Job, AllocError>
     ensures command { IfOk result (λ job. job.command ≡ command) }
     ensures path { IfOk result (λ job. job.path ≡ codes "/a") }
     ensures front { IfOk result (λ job. job.offset ≡ 0) }
+    ensures begun { IfOk result (λ job. job.done ≡ 0) }
 {
     Ok(Job {
         ticket: Ticket { session: 1, nr: 1 },
