@@ -5,6 +5,8 @@
 #![tactic(auto)]
 
 #[cfg(test)]
+mod aborts;
+#[cfg(test)]
 mod client;
 #[cfg(test)]
 mod doubles;

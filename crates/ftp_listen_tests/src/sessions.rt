@@ -88,7 +88,7 @@ fn pooled_session<R: Outside>(rt: &R, alloc: Global) -> Result<(), Stopped> {
     let (met, ended) = thread::join(
         rt,
         || last_visit(rt, alloc, &way, &board),
-        || listen_pooled(rt, alloc, &board, text.as_str()),
+        || listen_pooled(rt, alloc, &board, text.as_str(), 0),
     );
     agreed(met, ended?)
 }

@@ -11,8 +11,11 @@ use std::alloc::{AllocError, Global};
 use std::net::TcpStream;
 use std::sync::Arc;
 
-/// What the only file holds.
+/// What the short file holds.
 pub const FILE: &[u8] = b"hello";
+
+/// The most that a file holds.
+const MAX_FILE: u64 = 1 << 24;
 
 /// Why a test did not come to its end.
 #[derive(Debug, Drop)]
@@ -47,14 +50,18 @@ fn options(alloc: Global, mode: ListenerMode) -> Result<Options, Stopped> {
     }
 }
 
-/// A storage with the file `/a.txt`.
-fn storage(alloc: Global) -> Result<MemoryStorage, Stopped> {
-    let mut storage = MemoryStorage::new(alloc, 1 << 20, Vec::new(alloc));
-    let path = Bytes::from_slice(alloc, b"/a.txt")?;
-    match storage.put_file(path, FILE.to_vec(alloc)?) {
-        Ok(()) => Ok(storage),
-        Err(_) => Err(Stopped::NotSet),
+/// A storage with the files `/a.txt` and `/zeros`, which holds so many of them.
+fn storage(alloc: Global, zeros: usize) -> Result<MemoryStorage, Stopped> {
+    let mut storage = MemoryStorage::new(alloc, MAX_FILE, Vec::new(alloc));
+    let short = Bytes::from_slice(alloc, b"/a.txt")?;
+    let long = Bytes::from_slice(alloc, b"/zeros")?;
+    let zeros = Vec::from_elem(alloc, 0, zeros)?;
+    if storage.put_file(short, FILE.to_vec(alloc)?).is_err()
+        || storage.put_file(long, zeros).is_err()
+    {
+        return Err(Stopped::NotSet);
     }
+    Ok(storage)
 }
 
 /// What both said where both came to their ends.
@@ -68,9 +75,9 @@ pub fn agreed(met: Result<(), Met>, ended: Result<(), ServerError>) -> Result<()
     }
 }
 
-/// Everybody may log in, nobody is told, the board says when to shut down, and there is one file.
+/// Everybody may log in, nobody is told, the board says when to shut down, and there are two files.
 macro_rules! parts {
-    ($alloc:expr, $board:expr) => {{
+    ($alloc:expr, $board:expr, $zeros:expr) => {{
         let alloc = $alloc;
         let asks = Asks {
             board: Arc::try_clone($board)?,
@@ -90,7 +97,7 @@ macro_rules! parts {
             data_listener,
             presence_listener,
             indicator,
-            storage: storage(alloc)?,
+            storage: storage(alloc, $zeros)?,
         }
     }};
 }
@@ -106,17 +113,23 @@ pub fn listen<R: Outside>(
     mode: ListenerMode,
     text: &str,
 ) -> Ended {
-    let server = Server::with_options(alloc, options(alloc, mode)?, parts!(alloc, board));
+    let server = Server::with_options(alloc, options(alloc, mode)?, parts!(alloc, board, 0));
     Ok(server.listen(rt, text.as_bytes()))
 }
 
-/// Listens at the text with all ports bound before.
-pub fn listen_pooled<R: Outside>(rt: &R, alloc: Global, board: &SharedBoard, text: &str) -> Ended {
+/// Listens at the text with all ports bound before, and so many zeros in the long file.
+pub fn listen_pooled<R: Outside>(
+    rt: &R,
+    alloc: Global,
+    board: &SharedBoard,
+    text: &str,
+    zeros: usize,
+) -> Ended {
     let options = options(alloc, ListenerMode::Pooled)?;
     if !options.mode.is_pooled() {
         return Err(Stopped::NotSet);
     }
-    let server = PreboundListener::with_options(alloc, options, parts!(alloc, board));
+    let server = PreboundListener::with_options(alloc, options, parts!(alloc, board, zeros));
     Ok(server.listen_pooled(rt, text.as_bytes()))
 }
 
@@ -132,7 +145,7 @@ pub fn listen_behind_proxy<R: Outside>(
     if !options.mode.is_proxy() {
         return Err(Stopped::NotSet);
     }
-    let server = PreboundListener::with_options(alloc, options, parts!(alloc, board));
+    let server = PreboundListener::with_options(alloc, options, parts!(alloc, board, 0));
     Ok(server.listen_proxy_protocol(rt, text.as_bytes()))
 }
 
@@ -141,7 +154,7 @@ pub fn serve<R: Outside>(rt: &R, alloc: Global, board: &SharedBoard, stream: Tcp
     let server = Server::with_options(
         alloc,
         options(alloc, ListenerMode::Pooled)?,
-        parts!(alloc, board),
+        parts!(alloc, board, 0),
     );
     Ok(server.service(rt, stream))
 }
@@ -157,7 +170,7 @@ pub fn listen_watched<R: Outside, F: Front + Drop, G: Gate + Send + Sync + Drop 
     gate: G,
     shutdown: Shutdown,
 ) -> Ended {
-    let server = Server::with_options(alloc, options(alloc, mode)?, parts!(alloc, board));
+    let server = Server::with_options(alloc, options(alloc, mode)?, parts!(alloc, board, 0));
     let mut front = Watched {
         front,
         board: Arc::try_clone(board)?,

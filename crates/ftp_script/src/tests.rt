@@ -3,6 +3,7 @@
 mod commands;
 mod endings;
 mod options;
+mod pieces;
 mod proxied;
 mod strays;
 mod transcripts;

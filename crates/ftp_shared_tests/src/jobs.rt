@@ -29,8 +29,8 @@ pub struct Course {
     pub drained: bool,
 }
 
-/// One event of session 1.
-fn act<L: Serving, R: Wait>(
+/// One event of a session.
+pub fn act<L: Serving, R: Wait>(
     rt: &R,
     hub: &SharedHub<L>,
     share: &mut StepShare<L>,
@@ -41,25 +41,37 @@ fn act<L: Serving, R: Wait>(
     hub.submit_for(rt, share, HubEvent { at: 0, kind }, Answer::None)
 }
 
-/// Session 1 logs in, gets a data connection and asks for the file `a`.
-fn start<L: Serving, R: Wait>(
+/// A session logs in.
+fn log_in<L: Serving, R: Wait>(
     rt: &R,
     alloc: Global,
     hub: &SharedHub<L>,
     share: &mut StepShare<L>,
-) -> Result<Option<JobShare>, AllocError> {
-    let session = 1;
+    session: u64,
+) -> Result<(), AllocError> {
     let name = Bytes::from_slice(alloc, b"ann")?;
-    let path = Bytes::from_slice(alloc, b"a")?;
     let answer = AuthAnswer::Good;
-    let raw = SocketAddr {
-        ip: IpAddr::V4(0x0a00_0001),
-        port: 4001,
-    };
     act(rt, hub, share, connect(session))?;
     act(rt, hub, share, EventKind::User { session, name })?;
     act(rt, hub, share, EventKind::Pass { session })?;
     act(rt, hub, share, EventKind::AuthDone { session, answer })?;
+    Ok(())
+}
+
+/// A session logs in, gets a data connection and asks for the file `a`.
+pub fn start<L: Serving, R: Wait>(
+    rt: &R,
+    alloc: Global,
+    hub: &SharedHub<L>,
+    share: &mut StepShare<L>,
+    session: u64,
+) -> Result<Option<JobShare>, AllocError> {
+    let path = Bytes::from_slice(alloc, b"a")?;
+    let raw = SocketAddr {
+        ip: IpAddr::V4(0x0a00_0001),
+        port: 4001,
+    };
+    log_in(rt, alloc, hub, share, session)?;
     let pasv = EventKind::Pasv {
         session,
         word: 0,
@@ -68,7 +80,7 @@ fn start<L: Serving, R: Wait>(
     };
     act(rt, hub, share, pasv)?;
     let arrival = EventKind::DataIn {
-        number: 11,
+        number: session | 16,
         raw,
         port: 50000,
     };
@@ -83,21 +95,20 @@ fn start<L: Serving, R: Wait>(
     Ok(job)
 }
 
-/// Ends the job with 5 bytes sent.
-fn finish<L: Serving, R: Wait>(
+/// Ends the job with so many bytes sent.
+pub fn finish<L: Serving, R: Wait>(
     rt: &R,
-    alloc: Global,
     hub: &SharedHub<L>,
     share: &mut StepShare<L>,
     job: JobShare,
+    bytes: u64,
 ) -> Result<Submitted, Stopped> {
     let outcome = Outcome {
         result: Completion::Sent,
-        bytes: 5,
+        bytes,
         fault: None,
     };
-    let copy = job.job(alloc)?;
-    if !outcome.suits(&copy.command) {
+    if !job.can_end(&outcome) {
         return Err(Stopped::NoJob);
     }
     match hub.finish(rt, share, job, 0, outcome) {
@@ -122,12 +133,12 @@ fn transfer_shared<L: Serving, R: Wait>(
     let (steps, parts) = blank.open::<L>();
     let hub = SharedHub::new(alloc, options, steps, parts, 2);
     let mut share = hub.share(rt).ok_or(Stopped::NoShare)?;
-    let job = start(rt, alloc, &hub, &mut share)?.ok_or(Stopped::NoJob)?;
+    let job = start(rt, alloc, &hub, &mut share, 1)?.ok_or(Stopped::NoJob)?;
     if stops_early {
         act(rt, &hub, &mut share, EventKind::Shutdown)?;
     }
     let drained_early = hub.drained(rt);
-    let submitted = finish(rt, alloc, &hub, &mut share, job)?;
+    let submitted = finish(rt, &hub, &mut share, job, 5)?;
     let end = submitted.receipt.entry.decision;
     let woken = submitted.others().next();
     let turn = act(rt, &hub, &mut share, EventKind::Quit { session: 1 })?;

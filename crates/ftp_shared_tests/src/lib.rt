@@ -5,6 +5,7 @@
 #![tactic(auto)]
 
 mod jobs;
+mod pieces;
 mod settled;
 #[cfg(test)]
 mod tests;
@@ -12,6 +13,7 @@ mod threads;
 mod values;
 
 pub use jobs::{Course, transfer};
+pub use pieces::{move_two, settled_by};
 pub use settled::{Told, settle_two, strange_receipt};
 pub use threads::connect_two;
 pub use values::Stopped;

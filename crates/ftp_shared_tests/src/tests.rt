@@ -1,12 +1,14 @@
 //! The locked hub, used by one thread and by two.
 
 use crate::jobs::{Course, transfer};
+use crate::pieces::{move_two, settled_by};
 use crate::settled::{Told, settle_two, strange_receipt};
 use crate::threads::connect_two;
 use ftp_base::{Bytes, Reply, ReplyCode};
 use ftp_events::Decision;
 use ftp_options::{Options, ServerBuilder};
 use ftp_shared::{Notifier, SettleError};
+use ftp_transfer::Ticket;
 use std::alloc::Global;
 use std::test::Fail;
 use std::thread;
@@ -116,6 +118,17 @@ fn a_job_is_out_across_a_stop(rt: HostRuntime) -> Result<(), Fail> {
     assert_eq!(rt; course.woken, None);
     assert_eq!(rt; course.earlier.as_slice().len(), 0);
     assert!(rt; course.drained);
+    Ok(())
+}
+
+#[test]
+fn a_job_is_stopped_while_two_move(rt: HostRuntime) -> Result<(), Fail> {
+    let options = pooled(rt.alloc())?;
+    let log = move_two(&rt, rt.alloc(), options).ok().ok_or("no journal")?;
+    for (session, decision) in [(1, Decision::Cut), (2, Decision::Finished)] {
+        let ticket = Ticket { session, nr: 1 };
+        assert_eq!(rt; settled_by(&log, ticket), Some(decision));
+    }
     Ok(())
 }
 
