@@ -9,7 +9,7 @@ use Rattle.ftp_base.specs.declared.net.IpAddr.{IpAddr}
 use Rattle.ftp_base.specs.declared.net.IpAddr.TheVariants.{V4, V6}
 use Rattle.ftp_base.specs.declared.net.SocketAddr.{SocketAddr}
 use Rattle.ftp_base.specs.Net.{is_v6}
-use Rattle.ftp_edge.specs.Listen.{IsHostText, IsBindText}
+use Rattle.ftp_system.specs.Listen.{IsHostText, IsBindText}
 
 own : IsNumeralModel (AllDigits 10) (digits_value 10)
 own = numerals_by_value (AllDigits 10) tells_digits

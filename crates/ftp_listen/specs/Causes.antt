@@ -7,7 +7,7 @@
 use Rattle.std.specs.Prelude.{◌≡◌, ℕ, ◌+◌, ◌<◌, Bool, true, false, List, Option, IsSomeAnd}
 use Rattle.ftp_base.specs.declared.net.SocketAddr.{SocketAddr}
 use Rattle.ftp_base.specs.Net.{is_v6}
-use Rattle.ftp_edge.specs.Listen.{IsBindText}
+use Rattle.ftp_system.specs.Listen.{IsBindText}
 use Rattle.ftp_options.specs.declared.error.ServerError.{ServerError}
 use Rattle.ftp_options.specs.declared.error.ServerError.TheVariants as error
 

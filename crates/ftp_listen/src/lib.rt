@@ -4,15 +4,15 @@
 //! Begin with `Server`.
 #![tactic(auto)]
 
-mod doorkeeper;
-mod entrance;
-mod hiring;
-mod keeping;
+mod acceptor;
+mod listening;
 mod parts;
 mod place;
 mod prebound;
+mod running;
 mod server;
 mod single;
+mod spawning;
 
 pub use parts::Parts;
 pub use prebound::PreboundListener;

@@ -1,8 +1,8 @@
 //! What a server is made with, beside its options.
 
 use ftp_base::{Authenticator, DataListener, PresenceListener, Storage};
-use ftp_house::Listeners;
 use ftp_options::Indicator;
+use ftp_workers::Listeners;
 
 /// Who may log in, who is told, who asks for a shutdown, and the files.
 #[derive(Drop)]
@@ -17,16 +17,16 @@ pub struct Parts<S: Storage + Drop> {
     pub storage: S,
 }
 
-/// The parts of a house: who may log in, who is told, and the files.
+/// The parts of a state: who may log in, who is told, and the files.
 #[derive(Drop)]
-pub(crate) struct Staff<A, N, S> {
+pub(crate) struct ServerParts<A, N, S> {
     pub(crate) authenticator: A,
-    pub(crate) audience: N,
+    pub(crate) sinks: N,
     pub(crate) storage: S,
 }
 
 /// Anybody whom boxes hold.
-pub(crate) type Boxed<S> = Staff<
+pub(crate) type Boxed<S> = ServerParts<
     Box<dyn Authenticator + Send + Sync + Drop>,
     Listeners<Box<dyn DataListener + Send + Drop>, Box<dyn PresenceListener + Send + Drop>>,
     S,
@@ -42,15 +42,15 @@ impl<S: Storage + Drop> Parts<S> {
             indicator,
             storage,
         } = self;
-        let audience = Listeners {
+        let sinks = Listeners {
             data: data_listener,
             presence: presence_listener,
         };
-        let staff = Staff {
+        let server_parts = ServerParts {
             authenticator,
-            audience,
+            sinks,
             storage,
         };
-        (indicator, staff)
+        (indicator, server_parts)
     }
 }

@@ -2,13 +2,13 @@
 
 ghost use Rattle.std.specs.Prelude.{◌≡◌, ◌≤◌, ◌↔◌, ◌⊎◌, false, IfOk, IfErr, IsErrOf};
 ghost use Rattle.ftp_base.specs.Outside.{HasRisen};
-ghost use Rattle.ftp_edge.specs.Listen.{IsBindText};
+ghost use Rattle.ftp_system.specs.Listen.{IsBindText};
 ghost use Rattle.ftp_options.specs.Modes.{is_legacy};
 ghost use Rattle.ftp_listen.specs.Causes.{WritesNone, WritesV6};
 
 use ftp_base::SocketAddr;
-use ftp_edge::{Doors, Front, bind_address};
 use ftp_options::{ListenerMode, Options, ServerError};
+use ftp_system::{Doors, Front, bind_address};
 
 /// The address that the text writes, where a server of this mode can listen there.
 pub(crate) fn place_of(text: &[u8], mode: ListenerMode) -> Result<SocketAddr, ServerError>

@@ -7,8 +7,8 @@ ghost use Rattle.ftp_listen.specs.Causes.{WritesNone, WritesV6, is_of_listening}
 use crate::parts::Parts;
 use crate::server::Server;
 use ftp_base::Storage;
-use ftp_edge::Outside;
 use ftp_options::{Built, Options, ServerError};
+use ftp_system::ServerRuntime;
 use std::alloc::Global;
 
 /// A server that does not listen yet, and whose sessions share the ports.
@@ -36,7 +36,11 @@ impl<S: Storage + Send + Drop + 'static> PreboundListener<S> {
     }
 
     /// Listens at an address and at each passive port there, as `Server::listen` does.
-    pub fn listen_pooled<R: Outside>(self, rt: &R, bind_address: &[u8]) -> Result<(), ServerError>
+    pub fn listen_pooled<R: ServerRuntime>(
+        self,
+        rt: &R,
+        bind_address: &[u8],
+    ) -> Result<(), ServerError>
         requires pooled { is_pooled self.server.options.mode ≡ true }
         ensures address { IsErrOf result ServerError.Address ↔ WritesNone bind_address.now }
         ensures ipv6 { IsErrOf result ServerError.Ipv6OutsideLegacy ↔ WritesV6 bind_address.now }
@@ -47,7 +51,7 @@ impl<S: Storage + Send + Drop + 'static> PreboundListener<S> {
     }
 
     /// Listens at an address for connections that a proxy passes on, as `Server::listen` does.
-    pub fn listen_proxy_protocol<R: Outside>(
+    pub fn listen_proxy_protocol<R: ServerRuntime>(
         self,
         rt: &R,
         bind_address: &[u8],

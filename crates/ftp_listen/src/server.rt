@@ -5,14 +5,14 @@ ghost use Rattle.ftp_base.specs.Outside.{HasRisen};
 ghost use Rattle.ftp_options.specs.Modes.{is_legacy};
 ghost use Rattle.ftp_listen.specs.Causes.{WritesNone, WritesV6, IsPastGrace, is_of_listening, is_of_running};
 
-use crate::keeping::{PARTS, keep_house};
-use crate::parts::{Boxed, Parts, Staff};
+use crate::parts::{Boxed, Parts, ServerParts};
 use crate::place::{doors_at, place_of};
+use crate::running::{PARTS, run_server};
 use crate::single::serve_one;
 use ftp_base::{Authenticator, Gate, SocketAddr, Spawner, Storage};
-use ftp_edge::{Front, OpenGate, Outside, SystemFront, SystemThreads};
-use ftp_house::Audience;
 use ftp_options::{Built, Indicator, Options, ServerError};
+use ftp_system::{Front, OpenGate, ServerRuntime, SystemFront, SystemThreads};
+use ftp_workers::EventSinks;
 use std::alloc::Global;
 use std::marker::Brand;
 use std::net::TcpStream;
@@ -56,7 +56,7 @@ impl<S: Storage + Send + Drop + 'static> Server<S> {
 
     /// Listens at an address such as `127.0.0.1:21` or `[::1]:21`, until the indicator asks for a shutdown and all
     /// transfers are over.
-    pub fn listen<R: Outside>(self, rt: &R, bind_address: &[u8]) -> Result<(), ServerError>
+    pub fn listen<R: ServerRuntime>(self, rt: &R, bind_address: &[u8]) -> Result<(), ServerError>
         ensures address { IsErrOf result ServerError.Address ↔ WritesNone bind_address.now }
         ensures ipv6 { IsErrOf result ServerError.Ipv6OutsideLegacy ↔ (WritesV6 bind_address.now × (is_legacy self.options.mode ≡ false)) }
         ensures only { IfErr result (λ e. is_of_listening e ≡ true) }
@@ -66,7 +66,7 @@ impl<S: Storage + Send + Drop + 'static> Server<S> {
             options,
             parts,
         } = self;
-        let (indicator, staff) = parts.open();
+        let (indicator, server_parts) = parts.open();
         let mut indicator = indicator;
         let at = match place_of(bind_address, options.mode) {
             Ok(at) => at,
@@ -79,7 +79,7 @@ impl<S: Storage + Send + Drop + 'static> Server<S> {
             rt,
             alloc,
             options,
-            staff,
+            server_parts,
             at,
             gate,
             &mut SystemThreads::new(),
@@ -92,7 +92,12 @@ impl<S: Storage + Send + Drop + 'static> Server<S> {
     /// caller's; that of the parts is not asked.
     ///
     /// In each turn the indicator is given the moment that the front gave last.
-    pub fn listen_with<R: Outside, G: Gate + Send + Sync + Drop + 'static, P: Spawner, F: Front>(
+    pub fn listen_with<
+        R: ServerRuntime,
+        G: Gate + Send + Sync + Drop + 'static,
+        P: Spawner,
+        F: Front,
+    >(
         self,
         rt: &R,
         bind_address: &[u8],
@@ -115,21 +120,29 @@ impl<S: Storage + Send + Drop + 'static> Server<S> {
             options,
             parts,
         } = self;
-        let (own, staff) = parts.open();
+        let (own, server_parts) = parts.open();
         drop(own);
         let at = match place_of(bind_address, options.mode) {
             Ok(at) => at,
             Err(error) => return Err(error),
         };
         listen_boxed(
-            rt, alloc, options, staff, at, gate, spawner, front, indicator,
+            rt,
+            alloc,
+            options,
+            server_parts,
+            at,
+            gate,
+            spawner,
+            front,
+            indicator,
         )
     }
 
     /// Serves one control connection to its end, in legacy mode whatever mode was built. The indicator is not asked.
     ///
     /// A fault of the connection is `Io`.
-    pub fn service<R: Outside>(self, rt: &R, stream: TcpStream) -> Result<(), ServerError>
+    pub fn service<R: ServerRuntime>(self, rt: &R, stream: TcpStream) -> Result<(), ServerError>
         ensures only { IfErr result (λ e. (e ≡ ServerError.Io) ⊎ (e ≡ ServerError.OutOfMemory)) }
     {
         let Server {
@@ -137,15 +150,15 @@ impl<S: Storage + Send + Drop + 'static> Server<S> {
             options,
             parts,
         } = self;
-        let (own, staff) = parts.open();
+        let (own, server_parts) = parts.open();
         drop(own);
-        serve_one(rt, alloc, options, staff, stream)
+        serve_one(rt, alloc, options, server_parts, stream)
     }
 }
 
 // Listens at an address, with parts that boxes hold.
 fn listen_boxed<
-    R: Outside,
+    R: ServerRuntime,
     S: Storage + Send + Drop + 'static,
     G: Gate + Send + Sync + Drop + 'static,
     P: Spawner,
@@ -155,7 +168,7 @@ fn listen_boxed<
     rt: &R,
     alloc: Global,
     options: Options,
-    staff: Boxed<S>,
+    server_parts: Boxed<S>,
     at: SocketAddr,
     gate: Arc<G, Global>,
     spawner: &mut P,
@@ -170,15 +183,23 @@ fn listen_boxed<
     ensures only { IfErr result (λ e. is_of_running e ≡ true) }
 {
     listen_at(
-        rt, alloc, options, staff, at, gate, spawner, front, indicator,
+        rt,
+        alloc,
+        options,
+        server_parts,
+        at,
+        gate,
+        spawner,
+        front,
+        indicator,
     )
 }
 
 // Listens at an address, until the indicator asks for a shutdown and all transfers are over.
 fn listen_at<
-    R: Outside,
+    R: ServerRuntime,
     A: Authenticator + Send + Sync + Drop + 'static,
-    N: Audience + Send + Drop + 'static,
+    N: EventSinks + Send + Drop + 'static,
     S: Storage + Send + Drop + 'static,
     G: Gate + Send + Sync + Drop + 'static,
     P: Spawner,
@@ -188,7 +209,7 @@ fn listen_at<
     rt: &R,
     alloc: Global,
     options: Options,
-    staff: Staff<A, N, S>,
+    server_parts: ServerParts<A, N, S>,
     at: SocketAddr,
     gate: Arc<G, Global>,
     spawner: &mut P,
@@ -206,12 +227,12 @@ fn listen_at<
         Ok(doors) => doors,
         Err(error) => return Err(error),
     };
-    keep_house::<Brand, R, A, N, S, G, P, F, I>(
+    run_server::<Brand, R, A, N, S, G, P, F, I>(
         rt,
         alloc,
         options,
         Blank::new(PARTS),
-        staff,
+        server_parts,
         gate,
         doors,
         spawner,

@@ -2,16 +2,16 @@
 
 ghost use Rattle.std.specs.Prelude.{◌≡◌, ◌⊎◌, IfErr};
 
-use crate::entrance::Watch;
-use crate::hiring::hire_all;
-use crate::keeping::{PARTS, house_of};
-use crate::parts::{Boxed, Staff};
+use crate::listening::AcceptPoll;
+use crate::parts::{Boxed, ServerParts};
+use crate::running::{PARTS, new_state};
+use crate::spawning::spawn_wanted;
 use ftp_base::{Authenticator, Gate, Storage};
-use ftp_edge::{OpenGate, Outside, SystemThreads};
-use ftp_house::{Audience, House, Worker};
 use ftp_options::{ListenerMode, Options, ServerError};
 use ftp_shared::{Serving, StepShare};
+use ftp_system::{OpenGate, ServerRuntime, SystemThreads};
 use ftp_talk::ServeEnd;
+use ftp_workers::{EventSinks, ServerState, Worker};
 use std::alloc::Global;
 use std::marker::Brand;
 use std::net::{SocketAddr, TcpStream};
@@ -44,22 +44,22 @@ fn in_legacy_mode(options: Options) -> Options {
 
 // Serves a connection that came from there to its end.
 fn served<
-    R: Outside,
+    R: ServerRuntime,
     L: Serving,
     A: Authenticator + Drop,
-    N: Audience + Drop,
+    N: EventSinks + Drop,
     S: Storage + Drop,
     G: Gate + Drop,
 >(
     rt: &R,
-    house: Arc<House<L, A, N, S, G>, Global>,
+    state: Arc<ServerState<L, A, N, S, G>, Global>,
     share: StepShare<L>,
     stream: TcpStream,
     raw: SocketAddr,
 ) -> Result<(), ServerError>
     ensures only { IfErr result (λ e. (e ≡ ServerError.Io) ⊎ (e ≡ ServerError.OutOfMemory)) }
 {
-    let Ok(worker) = Worker::new(*rt, house, share) else {
+    let Ok(worker) = Worker::new(*rt, state, share) else {
         return Err(ServerError::OutOfMemory);
     };
     let mut worker = worker;
@@ -73,40 +73,45 @@ fn served<
 }
 
 // Starts the threads that are wanted, until the connection is over and all transfers are.
-fn hire_on<
-    R: Outside,
+fn spawn_on<
+    R: ServerRuntime,
     L: Serving + Send + Sync + 'static,
     A: Authenticator + Send + Sync + Drop + 'static,
-    N: Audience + Send + Drop + 'static,
+    N: EventSinks + Send + Drop + 'static,
     S: Storage + Send + Drop + 'static,
     G: Gate + Send + Sync + Drop + 'static,
->(rt: &R, house: &Arc<House<L, A, N, S, G>, Global>, watch: &mut Watch, is_over: &AtomicBool) {
+>(
+    rt: &R,
+    state: &Arc<ServerState<L, A, N, S, G>, Global>,
+    poll: &mut AcceptPoll,
+    is_over: &AtomicBool,
+) {
     let mut threads = SystemThreads::new();
     let mut owed = 0;
     for _ in rt.forever() {
-        owed = hire_all(rt, house, &mut threads, owed);
-        if is_over.load(Ordering::SeqCst) && house.drained(rt) {
+        owed = spawn_wanted(rt, state, &mut threads, owed);
+        if is_over.load(Ordering::SeqCst) && state.drained(rt) {
             return;
         }
-        if watch.wait(TURN).is_err() {
+        if poll.wait(TURN).is_err() {
             thread::sleep(rt, Duration::from_millis(TURN));
         }
     }
 }
 
-// Serves a connection in a house of its own.
+// Serves a connection in a state of its own.
 fn serve_inside<
     L: Serving + Send + Sync + 'static,
-    R: Outside,
+    R: ServerRuntime,
     A: Authenticator + Send + Sync + Drop + 'static,
-    N: Audience + Send + Drop + 'static,
+    N: EventSinks + Send + Drop + 'static,
     S: Storage + Send + Drop + 'static,
 >(
     rt: &R,
     alloc: Global,
     options: Options,
     blank: Blank,
-    staff: Staff<A, N, S>,
+    server_parts: ServerParts<A, N, S>,
     stream: TcpStream,
     raw: SocketAddr,
 ) -> Result<(), ServerError>
@@ -116,21 +121,27 @@ fn serve_inside<
     requires options { options ≡ L.options }
     ensures only { IfErr result (λ e. (e ≡ ServerError.Io) ⊎ (e ≡ ServerError.OutOfMemory)) }
 {
-    let (Ok((watch, waker)), Ok(gate)) = (Watch::inside(rt, alloc), Arc::new(alloc, OpenGate))
+    let (Ok((poll, waker)), Ok(gate)) = (AcceptPoll::inside(rt, alloc), Arc::new(alloc, OpenGate))
     else {
         return Err(ServerError::OutOfMemory);
     };
     let Ok(theirs) = Arc::try_clone(&waker) else {
         return Err(ServerError::OutOfMemory);
     };
-    let Ok(house) = house_of::<L, A, N, S, OpenGate>(alloc, options, blank, staff, gate, theirs)
-    else {
+    let Ok(state) = new_state::<L, A, N, S, OpenGate>(
+        alloc,
+        options,
+        blank,
+        server_parts,
+        gate,
+        theirs,
+    ) else {
         return Err(ServerError::OutOfMemory);
     };
-    let (Some(share), Ok(theirs)) = (house.share(rt), Arc::try_clone(&house)) else {
+    let (Some(share), Ok(theirs)) = (state.share(rt), Arc::try_clone(&state)) else {
         return Err(ServerError::OutOfMemory);
     };
-    let mut watch = watch;
+    let mut poll = poll;
     let over = AtomicBool::new(false);
     let is_over = &over;
     let bell = &*waker;
@@ -142,18 +153,18 @@ fn serve_inside<
             let _ = bell.wake();
             end
         },
-        || hire_on(rt, &house, &mut watch, is_over),
+        || spawn_on(rt, &state, &mut poll, is_over),
     );
-    house.close(rt);
+    state.close(rt);
     end
 }
 
 /// Serves one control connection to its end, in legacy mode.
-pub(crate) fn serve_one<R: Outside, S: Storage + Send + Drop + 'static>(
+pub(crate) fn serve_one<R: ServerRuntime, S: Storage + Send + Drop + 'static>(
     rt: &R,
     alloc: Global,
     options: Options,
-    staff: Boxed<S>,
+    server_parts: Boxed<S>,
     stream: TcpStream,
 ) -> Result<(), ServerError>
     ensures only { IfErr result (λ e. (e ≡ ServerError.Io) ⊎ (e ≡ ServerError.OutOfMemory)) }
@@ -163,5 +174,13 @@ pub(crate) fn serve_one<R: Outside, S: Storage + Send + Drop + 'static>(
         return Ok(());
     };
     let options = in_legacy_mode(options);
-    serve_inside::<Brand, R, _, _, S>(rt, alloc, options, Blank::new(PARTS), staff, stream, raw)
+    serve_inside::<Brand, R, _, _, S>(
+        rt,
+        alloc,
+        options,
+        Blank::new(PARTS),
+        server_parts,
+        stream,
+        raw,
+    )
 }

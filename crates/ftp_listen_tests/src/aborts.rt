@@ -4,7 +4,7 @@ use crate::client::{Client, Met, data_connection};
 use crate::doubles::{Board, new_board};
 use crate::place::Place;
 use crate::setting::{Stopped, agreed, listen_pooled};
-use ftp_edge::Outside;
+use ftp_system::ServerRuntime;
 use std::alloc::Global;
 use std::net::{Net, TcpListener, TcpStream};
 use std::sync::atomic::Ordering;
@@ -48,7 +48,7 @@ fn last_visit<R: Net<Stream = TcpStream> + Clock>(
     met
 }
 
-fn aborted_session<R: Outside>(rt: &R, alloc: Global) -> Result<(), Stopped> {
+fn aborted_session<R: ServerRuntime>(rt: &R, alloc: Global) -> Result<(), Stopped> {
     let place = Place::drawn(rt).ok().ok_or(Stopped::NoPlace)?;
     let (text, entering) = (place.text(alloc)?, place.entering(alloc)?);
     let board = new_board(alloc)?;

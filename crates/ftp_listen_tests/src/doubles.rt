@@ -1,8 +1,8 @@
 //! What a test puts in the place of the system: a front, an indicator and gates.
 
 use ftp_base::{Gate, SocketAddr};
-use ftp_edge::{Doors, Front};
 use ftp_options::{Indicator, Shutdown};
+use ftp_system::{Doors, Front};
 use std::alloc::{AllocError, Global};
 use std::sync::Arc;
 use std::sync::atomic::{AtomicBool, AtomicU64, Ordering};

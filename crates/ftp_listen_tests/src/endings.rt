@@ -4,8 +4,8 @@ use crate::client::{Client, Met, data_connection};
 use crate::doubles::{Board, Held, SharedBoard, Shut, new_board};
 use crate::place::Place;
 use crate::setting::{Ended, Stopped, listen_watched};
-use ftp_edge::{OpenGate, Outside, SystemFront};
 use ftp_options::{ListenerMode, ServerError, Shutdown};
+use ftp_system::{OpenGate, ServerRuntime, SystemFront};
 use std::alloc::Global;
 use std::net::{Net, TcpListener, TcpStream};
 use std::sync::Arc;
@@ -17,7 +17,7 @@ use std::time::{Clock, Duration};
 const POOLED: ListenerMode = ListenerMode::Pooled;
 
 /// Listens with doors that stay shut.
-fn shut_out<R: Outside>(rt: &R, alloc: Global, board: &SharedBoard) -> Ended {
+fn shut_out<R: ServerRuntime>(rt: &R, alloc: Global, board: &SharedBoard) -> Ended {
     let front = Shut {
         faults: 0,
         latest: 0,
@@ -36,7 +36,7 @@ fn shut_out<R: Outside>(rt: &R, alloc: Global, board: &SharedBoard) -> Ended {
 }
 
 /// Listens where nobody comes, with an indicator that asks at once.
-fn shut_down_at_once<R: Outside>(rt: &R, alloc: Global, board: &SharedBoard) -> Ended {
+fn shut_down_at_once<R: ServerRuntime>(rt: &R, alloc: Global, board: &SharedBoard) -> Ended {
     board.asks.store(true, Ordering::SeqCst);
     let text = Place::drawn(rt).ok().ok_or(Stopped::NoPlace)?.text(alloc)?;
     let front = SystemFront::new(*rt, alloc);
@@ -77,7 +77,7 @@ fn ask_and_wait<R: Net<Stream = TcpStream> + Clock>(
 }
 
 /// Listens with a gate that holds a transfer back, and with an indicator that asks then, without a grace period.
-fn shut_down_early<R: Outside>(rt: &R, alloc: Global, board: &SharedBoard) -> Ended {
+fn shut_down_early<R: ServerRuntime>(rt: &R, alloc: Global, board: &SharedBoard) -> Ended {
     let place = Place::drawn(rt).ok().ok_or(Stopped::NoPlace)?;
     let (text, entering) = (place.text(alloc)?, place.entering(alloc)?);
     let front = SystemFront::new(*rt, alloc);

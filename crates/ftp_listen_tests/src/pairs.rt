@@ -4,8 +4,8 @@ use crate::client::{Client, Met, data_connection, fetch};
 use crate::doubles::{Board, InPairs, SharedBoard, new_board};
 use crate::place::Place;
 use crate::setting::{FILE, Stopped, agreed, listen_watched};
-use ftp_edge::{Outside, SystemFront};
 use ftp_options::{ListenerMode, Shutdown};
+use ftp_system::{ServerRuntime, SystemFront};
 use std::alloc::Global;
 use std::net::{Net, TcpListener, TcpStream};
 use std::sync::Arc;
@@ -75,7 +75,11 @@ fn fetch_both_last<R: Net<Stream = TcpStream> + Clock>(
 }
 
 /// Serves both, and says whether the first waited in vain for the second.
-fn serve_both<R: Outside>(rt: &R, alloc: Global, board: &SharedBoard) -> Result<bool, Stopped> {
+fn serve_both<R: ServerRuntime>(
+    rt: &R,
+    alloc: Global,
+    board: &SharedBoard,
+) -> Result<bool, Stopped> {
     let place = Place::drawn(rt).ok().ok_or(Stopped::NoPlace)?;
     let text = place.text(alloc)?;
     let Ok(is_late) = Arc::new(alloc, AtomicBool::new(false)) else {

@@ -4,8 +4,8 @@ use crate::client::Met;
 use crate::doubles::new_board;
 use crate::place::Place;
 use crate::setting::{Stopped, listen, listen_behind_proxy, listen_pooled, serve};
-use ftp_edge::Outside;
 use ftp_options::{ListenerMode, ServerError};
+use ftp_system::ServerRuntime;
 use std::alloc::Global;
 use std::io;
 use std::io::Read;
@@ -59,7 +59,7 @@ fn what_is_no_address_is_told(rt: HostRuntime) -> Result<(), Fail> {
 }
 
 /// The two ends of a connection, of which the first sends nothing more.
-fn ended_stream<R: Outside>(rt: &R) -> io::Result<(TcpStream, TcpStream)> {
+fn ended_stream<R: ServerRuntime>(rt: &R) -> io::Result<(TcpStream, TcpStream)> {
     let listener = TcpListener::bind(rt, Place::drawn(rt)?.door())?;
     let client = TcpStream::connect(rt, listener.local_addr()?)?;
     client.shutdown(Shutdown::Write)?;
@@ -68,7 +68,7 @@ fn ended_stream<R: Outside>(rt: &R) -> io::Result<(TcpStream, TcpStream)> {
 }
 
 /// Serves a connection whose client sends nothing, and gives what the client is sent.
-fn serve_ended<R: Outside>(rt: &R, alloc: Global) -> Result<Vec<u8>, Stopped> {
+fn serve_ended<R: ServerRuntime>(rt: &R, alloc: Global) -> Result<Vec<u8>, Stopped> {
     let Ok((client, stream)) = ended_stream(rt) else {
         return Err(Stopped::NoPlace);
     };

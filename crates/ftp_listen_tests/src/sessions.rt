@@ -4,8 +4,8 @@ use crate::client::{Client, Met, data_connection, fetch};
 use crate::doubles::{Board, new_board};
 use crate::place::Place;
 use crate::setting::{FILE, Stopped, agreed, listen, listen_behind_proxy, listen_pooled};
-use ftp_edge::Outside;
 use ftp_options::ListenerMode;
+use ftp_system::ServerRuntime;
 use std::alloc::Global;
 use std::net::{Net, SocketAddr, TcpListener, TcpStream};
 use std::sync::atomic::Ordering;
@@ -55,7 +55,7 @@ fn last_visit<R: Net<Stream = TcpStream> + Clock>(
     met
 }
 
-fn legacy_session<R: Outside>(rt: &R, alloc: Global) -> Result<(), Stopped> {
+fn legacy_session<R: ServerRuntime>(rt: &R, alloc: Global) -> Result<(), Stopped> {
     let place = Place::drawn(rt).ok().ok_or(Stopped::NoPlace)?;
     let (text, entering) = (place.text(alloc)?, place.entering(alloc)?);
     let board = new_board(alloc)?;
@@ -74,7 +74,7 @@ fn legacy_session<R: Outside>(rt: &R, alloc: Global) -> Result<(), Stopped> {
     agreed(met, ended?)
 }
 
-fn pooled_session<R: Outside>(rt: &R, alloc: Global) -> Result<(), Stopped> {
+fn pooled_session<R: ServerRuntime>(rt: &R, alloc: Global) -> Result<(), Stopped> {
     let place = Place::drawn(rt).ok().ok_or(Stopped::NoPlace)?;
     let (text, entering) = (place.text(alloc)?, place.entering(alloc)?);
     let board = new_board(alloc)?;
@@ -93,7 +93,7 @@ fn pooled_session<R: Outside>(rt: &R, alloc: Global) -> Result<(), Stopped> {
     agreed(met, ended?)
 }
 
-fn proxy_session<R: Outside>(rt: &R, alloc: Global) -> Result<(), Stopped> {
+fn proxy_session<R: ServerRuntime>(rt: &R, alloc: Global) -> Result<(), Stopped> {
     let place = Place::drawn(rt).ok().ok_or(Stopped::NoPlace)?;
     let text = place.text(alloc)?;
     let board = new_board(alloc)?;

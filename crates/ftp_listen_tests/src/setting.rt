@@ -4,9 +4,9 @@ use crate::client::Met;
 use crate::doubles::{Asks, SharedBoard, Watched};
 use crate::place::PASSIVE;
 use ftp_base::{AuthAnswer, Bytes, Gate, MemoryStorage, NopListener, SameAnswer};
-use ftp_edge::{Front, Outside, SystemThreads};
 use ftp_listen::{Parts, PreboundListener, Server};
 use ftp_options::{Indicator, ListenerMode, Options, ServerBuilder, ServerError, Shutdown};
+use ftp_system::{Front, ServerRuntime, SystemThreads};
 use std::alloc::{AllocError, Global};
 use std::net::TcpStream;
 use std::sync::Arc;
@@ -106,7 +106,7 @@ macro_rules! parts {
 pub type Ended = Result<Result<(), ServerError>, Stopped>;
 
 /// Listens at the text in this mode.
-pub fn listen<R: Outside>(
+pub fn listen<R: ServerRuntime>(
     rt: &R,
     alloc: Global,
     board: &SharedBoard,
@@ -118,7 +118,7 @@ pub fn listen<R: Outside>(
 }
 
 /// Listens at the text with all ports bound before, and so many zeros in the long file.
-pub fn listen_pooled<R: Outside>(
+pub fn listen_pooled<R: ServerRuntime>(
     rt: &R,
     alloc: Global,
     board: &SharedBoard,
@@ -134,7 +134,7 @@ pub fn listen_pooled<R: Outside>(
 }
 
 /// Listens at the text behind a proxy whose clients call this control port.
-pub fn listen_behind_proxy<R: Outside>(
+pub fn listen_behind_proxy<R: ServerRuntime>(
     rt: &R,
     alloc: Global,
     board: &SharedBoard,
@@ -150,7 +150,12 @@ pub fn listen_behind_proxy<R: Outside>(
 }
 
 /// Serves one connection to its end.
-pub fn serve<R: Outside>(rt: &R, alloc: Global, board: &SharedBoard, stream: TcpStream) -> Ended {
+pub fn serve<R: ServerRuntime>(
+    rt: &R,
+    alloc: Global,
+    board: &SharedBoard,
+    stream: TcpStream,
+) -> Ended {
     let server = Server::with_options(
         alloc,
         options(alloc, ListenerMode::Pooled)?,
@@ -160,7 +165,7 @@ pub fn serve<R: Outside>(rt: &R, alloc: Global, board: &SharedBoard, stream: Tcp
 }
 
 /// Listens in this mode with this front and this gate, and with an indicator that looks at the moments it is given.
-pub fn listen_watched<R: Outside, F: Front + Drop, G: Gate + Send + Sync + Drop + 'static>(
+pub fn listen_watched<R: ServerRuntime, F: Front + Drop, G: Gate + Send + Sync + Drop + 'static>(
     rt: &R,
     alloc: Global,
     board: &SharedBoard,

@@ -1,8 +1,8 @@
 -- How far a script is read.
 use Rattle.std.specs.Prelude.{◌≡◌, ℕ, ◌≤◌, ◌⊎◌, true, List, [], ◌∷◌, ◌++◌, length, Option, Some, None, Result, Ok, Err}
-use Rattle.ftp_stream.specs.Lines.{bytes_in, IsWithin, Rest, HasNoFeed, IsNext}
-use Rattle.ftp_stream.specs.declared.lines.Span.{Span}
-use Rattle.ftp_stream.specs.declared.lines.LineError.TheVariants as line_error
+use Rattle.ftp_lines.specs.Lines.{bytes_in, IsWithin, Rest, HasNoFeed, IsNext}
+use Rattle.ftp_lines.specs.declared.lines.Span.{Span}
+use Rattle.ftp_lines.specs.declared.lines.LineError.TheVariants as line_error
 use Rattle.ftp_event_text.specs.declared.setup.Item.{Item}
 use Rattle.ftp_script_text.specs.declared.script.TheConstants.{BUFFER_SIZE}
 use Rattle.ftp_script_text.specs.declared.script.ScriptReader.{ScriptReader}

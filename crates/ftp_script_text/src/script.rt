@@ -2,7 +2,7 @@
 
 ghost use Rattle.std.specs.Prelude.{◌≡◌, ℕ, ◌<◌, ◌≤◌, ◌+◌, ◌-◌, ◌++◌, List, [], length, Option, Some, None, IfOk, IfSome, OnOk, IsErrOf};
 ghost use Rattle.ftp_base.specs.Outside.{HasRisen};
-ghost use Rattle.ftp_stream.specs.Lines.{bytes_in, behind_line, IsWithin, TakesAtMost};
+ghost use Rattle.ftp_lines.specs.Lines.{bytes_in, behind_line, IsWithin, TakesAtMost};
 ghost use Rattle.ftp_event_text.specs.declared.setup.Item.{Item};
 ghost use Rattle.ftp_event_text.specs.Setup.{IsItem};
 ghost use Rattle.ftp_script_text.specs.SetUp.{IsSetUp};
@@ -11,7 +11,7 @@ ghost use Rattle.ftp_script_text.specs.ScriptReader.{IsLawful, Follows, HasRead,
 use crate::admission::{Admission, LONGEST_LINE};
 use ftp_base::{MemoryStorage, Source};
 use ftp_event_text::Item;
-use ftp_stream::{LineError, Span, next_line};
+use ftp_lines::{LineError, Span, next_line};
 use ftp_text::LineFault;
 use std::alloc::Global;
 

@@ -6,8 +6,8 @@ ghost use Rattle.ftp_serve.specs.declared.command.Command.{Command};
 ghost use Rattle.ftp_serve.specs.declared.command.Service.{Service};
 ghost use Rattle.ftp_serve.specs.Words.{Asks, AsksService, IsMode, command_of};
 
-use ftp_edge::port_of;
 use ftp_options::ListenerMode;
+use ftp_system::port_of;
 
 /// How it is served.
 #[derive(Clone, Copy, Debug, PartialEq, Eq)]

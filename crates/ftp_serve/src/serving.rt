@@ -6,9 +6,9 @@ ghost use Rattle.ftp_serve.specs.Settings.{settings_for, IsAtZero};
 
 use crate::command::Service;
 use ftp_base::{AuthAnswer, MemoryStorage, NopListener, SameAnswer};
-use ftp_edge::{NeverAsks, Outside};
 use ftp_listen::{Parts, Server};
 use ftp_options::{ListenerMode, Options, ServerBuilder, ServerError};
+use ftp_system::{NeverAsks, ServerRuntime};
 use std::alloc::Global;
 
 /// The largest file, in bytes.
@@ -35,7 +35,7 @@ fn options(alloc: Global, service: Service) -> Result<Options, ServerError>
 }
 
 /// Listens at the address that the first word says. Everybody may log in, nobody is told, and no shutdown is asked for.
-pub fn serve<R: Outside>(
+pub fn serve<R: ServerRuntime>(
     rt: &R,
     alloc: Global,
     words: &[String],

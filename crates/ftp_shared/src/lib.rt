@@ -1,23 +1,36 @@
-//! The hub behind one lock, with its journal, and what its users hold outside of the lock.
+//! How events are submitted: under a lock that threads share, by a control loop through its desk, and by a worker for its job.
 //!
-//! Whenever the lock is free the journal is the right one, and the hub stands for it.
-//! Begin with `Locked::append`.
+//! Whenever the lock is free the journal is the right one, and the hub stands for it. The last entry of a job tells what its
+//! transfer did to the storage and the link of its worker.
+//! Begin with `Locked::append`, `Desk` and `serve_job`.
 #![tactic(auto)]
 
+mod desk;
 mod locked;
 mod marks;
 mod notifier;
+mod number;
 mod outbox;
 mod pieces;
+mod proxied;
 mod ready;
 mod receipt;
+mod report;
+mod serve;
 mod settle;
 mod share;
 mod shared_hub;
+mod shown;
+mod solo_desk;
 
+pub use desk::{Desk, Told};
 pub use locked::{Locked, Serving};
 pub use notifier::{Listener, Notifier};
+pub use proxied::answer_proxied;
 pub use receipt::{FinishError, JobShare, Others, Receipt, Replies, Submitted, Turn};
+pub use serve::serve_job;
 pub use settle::SettleError;
 pub use share::StepShare;
 pub use shared_hub::SharedHub;
+pub use shown::ShowsDirectories;
+pub use solo_desk::SoloDesk;

@@ -3,7 +3,7 @@
 ghost use Rattle.std.specs.Prelude.{◌≡◌, ◌*◌, ◌≤◌, ◌∷◌, [], List, map, flat_map, None, OnOk, OnErr, IfOk, IsErrOf};
 ghost use Rattle.ftp_base.specs.declared.fault.Failed.TheVariants.{Fault};
 ghost use Rattle.ftp_base.specs.Outside.{HasRisen, Writes};
-ghost use Rattle.ftp_stream.specs.Writing.{WritesFront};
+ghost use Rattle.ftp_lines.specs.Writing.{WritesFront};
 ghost use Rattle.std.specs.List.{range_with_len};
 ghost use Rattle.ftp_options.specs.Builder.{settings_of};
 ghost use Rattle.ftp_stress.specs.Events.{login_of, drawn};
@@ -16,8 +16,8 @@ use crate::events::{chosen, connect};
 use ftp_base::{AuthAnswer, Bytes, Failed, Sink};
 use ftp_events::{Answer, EventKind, HubEvent};
 use ftp_hub::{Hub, PrepareError};
+use ftp_lines::write_all;
 use ftp_options::{Options, ServerBuilder};
-use ftp_stream::write_all;
 use std::alloc::{AllocError, Global};
 
 /// The passive ports, the first and the last.

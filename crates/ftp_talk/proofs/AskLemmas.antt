@@ -11,22 +11,22 @@ use Rattle.ftp_events.specs.declared.event.EventKind.{EventKind}
 use Rattle.ftp_events.specs.declared.event.EventKind.TheVariants as kind
 use Rattle.ftp_events.specs.Place.{cwd}
 use Rattle.ftp_control.specs.declared.command.Command.TheVariants as command
-use Rattle.ftp_desk.specs.Desk.{DeskView, MaySay, drawn_after}
-use Rattle.ftp_talk.specs.declared.talker.Talker.{Talker}
+use Rattle.ftp_shared.specs.Desk.{DeskView, MaySay, drawn_after}
+use Rattle.ftp_talk.specs.declared.control_session.ControlSession.{ControlSession}
 use Rattle.ftp_talk.specs.Ground.{Ground}
 use Rattle.ftp_talk.specs.Commands.{asked_of, asked_name, asked_range, asked_target, MayBe, MayConnect}
 use Rattle.ftp_talk.specs.Seen.{IsAsked, behind_asked, IsDrawn, behind_kind, missing_in, failed_in}
 use Rattle.ftp_talk.specs.Speaking.{Knows, IsGround, Asked, IsPort, IsMade, IsMadeTo, target_for}
 use Rattle.ftp_talk.proofs.ServeLemmas.{told_self}
 
-target-same : (g : Ground) (talker : Talker) (h : List Entry) (text : List ℕ) → Knows g talker h → target_for talker text ≡ asked_target g h text
-target-same g talker h text knows = rw (knows.login, knows.active, knows.raw) refl
+target-same : (g : Ground) (state : ControlSession) (h : List Entry) (text : List ℕ) → Knows g state h → target_for state text ≡ asked_target g h text
+target-same g state h text knows = rw (knows.login, knows.active, knows.raw) refl
 
-name-same : (g : Ground) (talker : Talker) (h : List Entry) → Knows g talker h → asked_of talker.login talker.host ≡ asked_name g h
-name-same g talker h knows = rw (knows.login, knows.host) refl
+name-same : (g : Ground) (state : ControlSession) (h : List Entry) → Knows g state h → asked_of state.login state.host ≡ asked_name g h
+name-same g state h knows = rw (knows.login, knows.host) refl
 
-range-same : (g : Ground) (talker : Talker) (h : List Entry) → Knows g talker h → asked_of talker.login talker.range ≡ asked_range g h
-range-same g talker h knows = rw (knows.login, knows.range) refl
+range-same : (g : Ground) (state : ControlSession) (h : List Entry) → Knows g state h → asked_of state.login state.range ≡ asked_range g h
+range-same g state h knows = rw (knows.login, knows.range) refl
 
 next-number : (o journal : Option (List Entry)) (h : List Entry) (n : ℕ) →
     IfSome o (λ J. journal ≡ Some (h ++ J)) → IfSome journal (λ J. n ≡ drawn_after J) → IfSome o (λ J. n ≡ drawn_after (h ++ J))
@@ -47,14 +47,14 @@ may-connect g h (Some to) draws journal old new number same means is m = (
 )
 
 -- a PORT
-pub port-asked : (g : Ground) (h : List Entry) (talker : Talker) (text : List ℕ) (number : Option ℕ) (draws : Bool) (old new : EdgeView) (desk desk1 : DeskView) (k : EventKind) →
-    g.start.draws_next ≡ draws → Knows g talker h → IsGround g h old desk →
-    k ≡ kind.Port talker.session text number →
-    IsMade (target_for talker text) (λ n. draws ≡ true → IfSome desk.journal (λ J. n ≡ drawn_after J)) old new number →
+pub port-asked : (g : Ground) (h : List Entry) (state : ControlSession) (text : List ℕ) (number : Option ℕ) (draws : Bool) (old new : EdgeView) (desk desk1 : DeskView) (k : EventKind) →
+    g.start.draws_next ≡ draws → Knows g state h → IsGround g h old desk →
+    k ≡ kind.Port state.session text number →
+    IsMade (target_for state text) (λ n. draws ≡ true → IfSome desk.journal (λ J. n ≡ drawn_after J)) old new number →
     desk.faults ≤ desk1.faults →
     Asked g h (command.Port text) k old new desk.faults desk1.faults
-port-asked g h talker text number draws old new desk desk1 k same knows ground is made le =
-    let m = subst (λ (t : Option SocketAddr). IsMade t (λ n. draws ≡ true → IfSome desk.journal (λ J. n ≡ drawn_after J)) old new number) (target-same g talker h text knows) made in
+port-asked g h state text number draws old new desk desk1 k same knows ground is made le =
+    let m = subst (λ (t : Option SocketAddr). IsMade t (λ n. draws ≡ true → IfSome desk.journal (λ J. n ≡ drawn_after J)) old new number) (target-same g state h text knows) made in
     let named : k ≡ kind.Port g.session text number = is ∙ ap (λ (s : ℕ). kind.Port s text number) knows.session in
     record {
       gives = (number, named, may-connect g h (asked_target g h text) draws desk.journal old new number same ground.meaning ground.journal m.made);
@@ -64,15 +64,15 @@ port-asked g h talker text number draws old new desk desk1 k same knows ground i
     }
 
 -- a PASV
-pub pasv-asked : (g : Ground) (h : List Entry) (talker : Talker) (word : ℕ) (lookup bound : Option ℕ) (old new : EdgeView) (desk desk1 : DeskView) (k : EventKind) →
-    Knows g talker h → IsGround g h old desk →
-    k ≡ kind.Pasv talker.session word lookup bound →
-    IsPort (asked_of talker.login talker.host) (asked_of talker.login talker.range) old new word lookup bound →
+pub pasv-asked : (g : Ground) (h : List Entry) (state : ControlSession) (word : ℕ) (lookup bound : Option ℕ) (old new : EdgeView) (desk desk1 : DeskView) (k : EventKind) →
+    Knows g state h → IsGround g h old desk →
+    k ≡ kind.Pasv state.session word lookup bound →
+    IsPort (asked_of state.login state.host) (asked_of state.login state.range) old new word lookup bound →
     desk.faults ≤ desk1.faults →
     Asked g h command.Pasv k old new desk.faults desk1.faults
-pasv-asked g h talker word lookup bound old new desk desk1 k knows ground is port le =
-    let p = subst (λ (r : Option (ℕ × ℕ)). IsPort (asked_name g h) r old new word lookup bound) (range-same g talker h knows)
-    (subst (λ (n : Option (List ℕ)). IsPort n (asked_of talker.login talker.range) old new word lookup bound) (name-same g talker h knows) port) in
+pasv-asked g h state word lookup bound old new desk desk1 k knows ground is port le =
+    let p = subst (λ (r : Option (ℕ × ℕ)). IsPort (asked_name g h) r old new word lookup bound) (range-same g state h knows)
+    (subst (λ (n : Option (List ℕ)). IsPort n (asked_of state.login state.range) old new word lookup bound) (name-same g state h knows) port) in
     let named : k ≡ kind.Pasv g.session word lookup bound = is ∙ ap (λ (s : ℕ). kind.Pasv s word lookup bound) knows.session in
     record {
       gives = (
@@ -95,13 +95,13 @@ pasv-asked g h talker word lookup bound old new desk desk1 k knows ground is por
       pasv-feed (Some f) q = ((q.0, q.1, q.2), q.3)
 
 -- a CWD
-pub cwd-asked : (g : Ground) (h : List Entry) (talker : Talker) (path : List ℕ) (refusal : Option ErrorKind) (old : EdgeView) (desk desk1 : DeskView) (k : EventKind) →
-    Knows g talker h → IsGround g h old desk →
-    k ≡ kind.Cwd talker.session path refusal →
-    MaySay desk.files (join_path talker.cwd path) refusal →
+pub cwd-asked : (g : Ground) (h : List Entry) (state : ControlSession) (path : List ℕ) (refusal : Option ErrorKind) (old : EdgeView) (desk desk1 : DeskView) (k : EventKind) →
+    Knows g state h → IsGround g h old desk →
+    k ≡ kind.Cwd state.session path refusal →
+    MaySay desk.files (join_path state.cwd path) refusal →
     IsCounted (failed_in k) desk.faults desk1.faults →
     Asked g h (command.Cwd path) k old old desk.faults desk1.faults
-cwd-asked g h talker path refusal old desk desk1 k knows ground is may counted =
+cwd-asked g h state path refusal old desk desk1 k knows ground is may counted =
     let named : k ≡ kind.Cwd g.session path refusal = is ∙ ap (λ (s : ℕ). kind.Cwd s path refusal) knows.session in
     record {
       gives = (

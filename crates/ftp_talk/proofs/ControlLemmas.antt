@@ -12,12 +12,12 @@ use Rattle.ftp_events.specs.declared.event.EventKind.{EventKind}
 use Rattle.ftp_events.specs.declared.event.EventKind.TheVariants as kind
 use Rattle.ftp_events.specs.declared.event.HubEvent.{HubEvent}
 use Rattle.ftp_events.specs.Log.{new_number}
-use Rattle.ftp_stream.specs.Writing.{WritesFront}
-use Rattle.ftp_stream.specs.Lines.{Rest}
-use Rattle.ftp_desk.specs.Desk.{DeskView, Appends, RisesBy}
-use Rattle.ftp_dialogue.specs.Saying.{greeting_line}
-use Rattle.ftp_talk.specs.declared.talker.Peer.{Peer}
-use Rattle.ftp_talk.specs.declared.talker.Talker.{Talker}
+use Rattle.ftp_lines.specs.Writing.{WritesFront}
+use Rattle.ftp_lines.specs.Lines.{Rest}
+use Rattle.ftp_shared.specs.Desk.{DeskView, Appends, RisesBy}
+use Rattle.ftp_talk.specs.Saying.{greeting_line}
+use Rattle.ftp_talk.specs.declared.control_session.Peer.{Peer}
+use Rattle.ftp_talk.specs.declared.control_session.ControlSession.{ControlSession}
 use Rattle.ftp_talk.specs.declared.serving.ServeEnd.{ServeEnd}
 use Rattle.ftp_talk.specs.declared.serving.ServeEnd.TheVariants as end
 use Rattle.ftp_talk.specs.Ground.{Start, Ground}
@@ -42,9 +42,9 @@ number-of (kind.Proxied number raw trace) a d peer h = ap session_in h
 number-of _ a d peer h = cc
 
 -- what is known of a session that was opened
-pub knows-open : (e : Entry) (peer : Peer) (start : Start) (talker : Talker) →
-    e.decision ≡ Opened → Begins talker peer start.desk.options → Knows (ground_of e peer start) talker (e ∷ [])
-knows-open e peer start talker opened t =
+pub knows-open : (e : Entry) (peer : Peer) (start : Start) (state : ControlSession) →
+    e.decision ≡ Opened → Begins state peer start.desk.options → Knows (ground_of e peer start) state (e ∷ [])
+knows-open e peer start state opened t =
     record {
       session = t.session;
       raw = t.raw;
@@ -81,16 +81,16 @@ read-begin None = ([], tt, tt)
 read-begin (Some all) = (all, refl, refl)
 
 -- the greeting was sent, and the first line is due
-pub begin-talking : (e : Entry) (peer : Peer) (a : Answer) (start : Start) (desk1 : DeskView) (earlier : List (ℕ × Reply)) (talker : Talker) (sent1 left1 : Option (List ℕ)) →
+pub begin-talking : (e : Entry) (peer : Peer) (a : Answer) (start : Start) (desk1 : DeskView) (earlier : List (ℕ × Reply)) (state : ControlSession) (sent1 left1 : Option (List ℕ)) →
     e.decision ≡ Opened → peer_of e.event.kind a ≡ Some peer →
     IfSome start.desk.journal (λ J. Appends J start.desk desk1 earlier e) →
     RisesBy 1 start.desk.share desk1.share →
     desk1.options ≡ start.desk.options → desk1.files ≡ start.desk.files → start.desk.faults ≤ desk1.faults →
-    Knows (ground_of e peer start) talker (e ∷ []) → talker.is_over ≡ false →
+    Knows (ground_of e peer start) state (e ∷ []) → state.is_over ≡ false →
     Writes start.sent sent1 (greeting_line start.desk.options.greeting) →
     left1 ≡ start.input →
-    Talking (ground_of e peer start) talker start.edge desk1 sent1 [] left1
-begin-talking e peer a start desk1 earlier talker sent1 left1 opened named added share options files count knows live wrote is =
+    Talking (ground_of e peer start) state start.edge desk1 sent1 [] left1
+begin-talking e peer a start desk1 earlier state sent1 left1 opened named added share options files count knows live wrote is =
     let g = ground_of e peer start in
     let r = read-begin start.input in
     record {
@@ -117,15 +117,15 @@ begin-talking e peer a start desk1 earlier talker sent1 left1 opened named added
     }
 
 -- a part of the greeting was sent
-pub begin-cut : (e : Entry) (peer : Peer) (a : Answer) (start : Start) (desk1 : DeskView) (earlier : List (ℕ × Reply)) (talker : Talker) (sent1 : Option (List ℕ)) →
+pub begin-cut : (e : Entry) (peer : Peer) (a : Answer) (start : Start) (desk1 : DeskView) (earlier : List (ℕ × Reply)) (state : ControlSession) (sent1 : Option (List ℕ)) →
     e.decision ≡ Opened → peer_of e.event.kind a ≡ Some peer →
     IfSome start.desk.journal (λ J. Appends J start.desk desk1 earlier e) →
     RisesBy 1 start.desk.share desk1.share →
     desk1.options ≡ start.desk.options → start.desk.faults ≤ desk1.faults →
-    talker.session ≡ peer.session → talker.is_over ≡ false →
+    state.session ≡ peer.session → state.is_over ≡ false →
     WritesFront start.sent sent1 (greeting_line start.desk.options.greeting) →
-    IsCut (ground_of e peer start) talker start.edge desk1 sent1
-begin-cut e peer a start desk1 earlier talker sent1 opened named added share options count session live wrote =
+    IsCut (ground_of e peer start) state start.edge desk1 sent1
+begin-cut e peer a start desk1 earlier state sent1 opened named added share options count session live wrote =
     let g = ground_of e peer start in
     let r = read-begin start.input in
     record {

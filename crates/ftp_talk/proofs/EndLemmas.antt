@@ -27,13 +27,13 @@ use Rattle.ftp_control.specs.declared.command.Command.TheVariants as command
 use Rattle.ftp_control.specs.declared.line.LineError.{LineError}
 use Rattle.ftp_control.specs.declared.line.LineError.TheVariants as error
 use Rattle.ftp_control.specs.Line.{parsed}
-use Rattle.ftp_stream.specs.Lines.{Rest}
-use Rattle.ftp_desk.specs.Desk.{DeskView, SameDesk, IsVouched}
-use Rattle.ftp_dialogue.specs.Lines.{RanOut, IsLong}
-use Rattle.ftp_dialogue.specs.Saying.{said}
-use Rattle.ftp_dialogue.proofs.LineLemmas.{long-append}
-use Rattle.ftp_dialogue.proofs.Written.{front-longer}
-use Rattle.ftp_talk.specs.declared.talker.Talker.{Talker}
+use Rattle.ftp_lines.specs.Lines.{Rest}
+use Rattle.ftp_shared.specs.Desk.{DeskView, SameDesk, IsVouched}
+use Rattle.ftp_lines.specs.ControlLine.{RanOut, IsLong}
+use Rattle.ftp_talk.specs.Saying.{said}
+use Rattle.ftp_lines.proofs.ControlLineLemmas.{long-append}
+use Rattle.ftp_talk.proofs.Written.{front-longer}
+use Rattle.ftp_talk.specs.declared.control_session.ControlSession.{ControlSession}
 use Rattle.ftp_talk.specs.Ground.{Step, ALine, AnAnswer, AnIdleTick, ASlotTick, ALongLine, AClose, Turn, Ground, history, lines_in}
 use Rattle.ftp_talk.specs.Turns.{Due, LineDue, AnswerDue, SlotTickDue, CloseDue, NothingDue, is_end, due, due_by, due_after, due_behind}
 use Rattle.ftp_talk.specs.Seen.{AreFed, all_missing, all_failed, missing_in, failed_in}
@@ -142,9 +142,9 @@ closed-ends o earlier e s vouched is =
 -- ---- a talk
 
 -- the last entry ended the session
-pub talk-over : (g : Ground) (talker : Talker) (edge : EdgeView) (desk : DeskView) (sent : Option (List ℕ)) (rest : List ℕ) →
-    Standing NothingDue g talker edge desk sent rest → Talk g edge desk sent
-talk-over g talker edge desk sent rest s =
+pub talk-over : (g : Ground) (state : ControlSession) (edge : EdgeView) (desk : DeskView) (sent : Option (List ℕ)) (rest : List ℕ) →
+    Standing NothingDue g state edge desk sent rest → Talk g edge desk sent
+talk-over g state edge desk sent rest s =
     let over = over-due s.turns s.stands in
     record {
       turns = s.turns;
@@ -163,12 +163,12 @@ talk-over g talker edge desk sent rest s =
     }
 
 -- the connection was closed behind the lines
-pub talk-closed : (g : Ground) (talker0 talker : Talker) (edge0 edge : EdgeView) (desk0 desk : DeskView) (sent0 sent : Option (List ℕ))
-    (d : Due) (rest : List ℕ) (d0 : Decision) (s : Standing d g talker0 edge0 desk0 sent0 rest) →
-    Spoken g talker edge desk sent s.turns AClose (kind.Closed g.session) d0 →
+pub talk-closed : (g : Ground) (state0 state : ControlSession) (edge0 edge : EdgeView) (desk0 desk : DeskView) (sent0 sent : Option (List ℕ))
+    (d : Due) (rest : List ℕ) (d0 : Decision) (s : Standing d g state0 edge0 desk0 sent0 rest) →
+    Spoken g state edge desk sent s.turns AClose (kind.Closed g.session) d0 →
     MayClose d rest →
     Talk g edge desk sent
-talk-closed g talker0 talker edge0 edge desk0 desk sent0 sent d rest d0 s spoken may =
+talk-closed g state0 state edge0 edge desk0 desk sent0 sent d rest d0 s spoken may =
     let close = turn_of AClose spoken.earlier spoken.entry in
     record {
       turns = s.turns;
@@ -195,12 +195,12 @@ fed-less g None t ts h = tt
 fed-less g (Some f) t ts h = h.0
 
 -- the connection was to be closed, and that was cut short
-pub front-halted : (g : Ground) (talker0 talker : Talker) (edge0 edge : EdgeView) (desk0 desk : DeskView) (sent0 sent : Option (List ℕ))
-    (d : Due) (rest : List ℕ) (s : Standing d g talker0 edge0 desk0 sent0 rest) →
-    Halted g talker edge desk sent s.turns AClose (kind.Closed g.session) →
+pub front-halted : (g : Ground) (state0 state : ControlSession) (edge0 edge : EdgeView) (desk0 desk : DeskView) (sent0 sent : Option (List ℕ))
+    (d : Due) (rest : List ℕ) (s : Standing d g state0 edge0 desk0 sent0 rest) →
+    Halted g state edge desk sent s.turns AClose (kind.Closed g.session) →
     MayClose d rest →
     TalkFront g edge desk sent
-front-halted g talker0 talker edge0 edge desk0 desk sent0 sent d rest s (inl f) may =
+front-halted g state0 state edge0 edge desk0 desk sent0 sent d rest s (inl f) may =
     record {
       turns = s.turns;
       close = None;
@@ -215,7 +215,7 @@ front-halted g talker0 talker edge0 edge desk0 desk sent0 sent d rest s (inl f) 
       share = f.share;
       written = f.written;
     }
-front-halted g talker0 talker edge0 edge desk0 desk sent0 sent d rest s (inr heard) may =
+front-halted g state0 state edge0 edge desk0 desk sent0 sent d rest s (inr heard) may =
     let t = turn_of AClose heard.earlier heard.entry in
     let f = heard.front in
     record {
@@ -238,8 +238,8 @@ front-halted g talker0 talker edge0 edge desk0 desk sent0 sent d rest s (inr hea
     }
 
 -- the session had ended where the talk was cut short
-pub left-over : (g : Ground) (talker : Talker) (edge : EdgeView) (desk : DeskView) (sent : Option (List ℕ)) → IsCut g talker edge desk sent → TalkFront g edge desk sent
-left-over g talker edge desk sent c =
+pub left-over : (g : Ground) (state : ControlSession) (edge : EdgeView) (desk : DeskView) (sent : Option (List ℕ)) → IsCut g state edge desk sent → TalkFront g edge desk sent
+left-over g state edge desk sent c =
     record {
       turns = c.turns;
       close = None;
@@ -256,9 +256,9 @@ left-over g talker edge desk sent c =
     }
 
 -- after the cut nothing was submitted
-pub left-alone : (g : Ground) (talker : Talker) (edge edge1 : EdgeView) (desk desk1 : DeskView) (sent : Option (List ℕ)) →
-    IsCut g talker edge desk sent → edge.faults ≤ edge1.faults → SameDesk desk desk1 → TalkFront g edge1 desk1 sent
-left-alone g talker edge edge1 desk desk1 sent c count same =
+pub left-alone : (g : Ground) (state : ControlSession) (edge edge1 : EdgeView) (desk desk1 : DeskView) (sent : Option (List ℕ)) →
+    IsCut g state edge desk sent → edge.faults ≤ edge1.faults → SameDesk desk desk1 → TalkFront g edge1 desk1 sent
+left-alone g state edge edge1 desk desk1 sent c count same =
     let f = c.front in
     record {
       turns = c.turns;
@@ -280,12 +280,12 @@ left-alone g talker edge edge1 desk desk1 sent c count same =
     }
 
 -- after the cut the connection was closed
-pub left-closed : (g : Ground) (vouches : Bool) (talker : Talker) (edge edge1 : EdgeView) (desk desk1 : DeskView) (sent : Option (List ℕ))
+pub left-closed : (g : Ground) (vouches : Bool) (state : ControlSession) (edge edge1 : EdgeView) (desk desk1 : DeskView) (sent : Option (List ℕ))
     (earlier : List (ℕ × Reply)) (e : Entry) (s : ℕ) →
-    IsCut g talker edge desk sent → talker.is_over ≡ false → s ≡ talker.session → g.start.vouches ≡ vouches →
+    IsCut g state edge desk sent → state.is_over ≡ false → s ≡ state.session → g.start.vouches ≡ vouches →
     Entered vouches edge edge1 desk desk1 earlier e (kind.Closed s) →
     TalkFront g edge1 desk1 sent
-left-closed g vouches talker edge edge1 desk desk1 sent earlier e s c live named same n =
+left-closed g vouches state edge edge1 desk desk1 sent earlier e s c live named same n =
     let f = c.front in
     let t = turn_of AClose earlier e in
     let closed : e.event.kind ≡ kind.Closed g.session = n.kind ∙ ap (λ (n : ℕ). kind.Closed n) (named ∙ f.session) in
@@ -331,11 +331,11 @@ read-on (Some all) a line held held1 rest (Some l) (Some l1) input read told = (
 )
 
 -- a line was found, or nothing: it stands before the rest
-pub standing-line : (g : Ground) (talker : Talker) (edge : EdgeView) (desk : DeskView) (sent : Option (List ℕ)) (line held held1 : List ℕ) (left left1 : Option (List ℕ)) →
-    Talking g talker edge desk sent held left →
+pub standing-line : (g : Ground) (state : ControlSession) (edge : EdgeView) (desk : DeskView) (sent : Option (List ℕ)) (line held held1 : List ℕ) (left left1 : Option (List ℕ)) →
+    Talking g state edge desk sent held left →
     IfSome left (λ l. Rest (line ++ held1) left1 (held ++ l)) →
-    (rest1 : List ℕ) × Standing LineDue g talker edge desk sent (line ++ rest1) × IfSome g.start.input (λ all. Rest held1 left1 rest1)
-standing-line g talker edge desk sent line held held1 left left1 t told =
+    (rest1 : List ℕ) × Standing LineDue g state edge desk sent (line ++ rest1) × IfSome g.start.input (λ all. Rest held1 left1 rest1)
+standing-line g state edge desk sent line held held1 left left1 t told =
     let s = t.standing in
     let r = read-on g.start.input (lines_in s.turns) line held held1 t.rest left left1 s.cut t.read told in (
       r.0,
@@ -369,13 +369,13 @@ read-shown (Some all) a held held1 rest (Some l) (Some l1) P input read told alo
 )
 
 -- what is held shows of the rest that it is too long, or that no line is left
-standing-shown : (g : Ground) (talker : Talker) (edge : EdgeView) (desk : DeskView) (sent : Option (List ℕ)) (held held1 : List ℕ) (left left1 : Option (List ℕ)) (P : List ℕ → Type 0) →
-    Talking g talker edge desk sent held left →
+standing-shown : (g : Ground) (state : ControlSession) (edge : EdgeView) (desk : DeskView) (sent : Option (List ℕ)) (held held1 : List ℕ) (left left1 : Option (List ℕ)) (P : List ℕ → Type 0) →
+    Talking g state edge desk sent held left →
     IfSome left (λ l. Rest held1 left1 (held ++ l)) →
     P held1 →
     ((l more : List ℕ) → left ≡ Some l → left1 ≡ Some more → P (held1 ++ more)) →
-    (rest1 : List ℕ) × Standing LineDue g talker edge desk sent rest1 × P rest1 × IfSome g.start.input (λ all. Rest held1 left1 rest1)
-standing-shown g talker edge desk sent held held1 left left1 P t told alone more =
+    (rest1 : List ℕ) × Standing LineDue g state edge desk sent rest1 × P rest1 × IfSome g.start.input (λ all. Rest held1 left1 rest1)
+standing-shown g state edge desk sent held held1 left left1 P t told alone more =
     let s = t.standing in
     let r = read-shown g.start.input (lines_in s.turns) held held1 t.rest left left1 P s.cut t.read told alone more in (
       r.0,
@@ -392,13 +392,13 @@ standing-shown g talker edge desk sent held held1 left left1 P t told alone more
     )
 
 -- a line that is too long stands next
-pub standing-long : (g : Ground) (talker : Talker) (edge : EdgeView) (desk : DeskView) (sent : Option (List ℕ)) (held held1 : List ℕ) (left left1 : Option (List ℕ)) →
-    Talking g talker edge desk sent held left →
+pub standing-long : (g : Ground) (state : ControlSession) (edge : EdgeView) (desk : DeskView) (sent : Option (List ℕ)) (held held1 : List ℕ) (left left1 : Option (List ℕ)) →
+    Talking g state edge desk sent held left →
     IfSome left (λ l. Rest held1 left1 (held ++ l)) →
     IsLong held1 →
-    (rest1 : List ℕ) × Standing LineDue g talker edge desk sent rest1 × IsLong rest1 × IfSome g.start.input (λ all. Rest held1 left1 rest1)
-standing-long g talker edge desk sent held held1 left left1 t told long =
-    standing-shown g talker edge desk sent held held1 left left1 IsLong t told long (λ l more isl is. long-append held1 more long)
+    (rest1 : List ℕ) × Standing LineDue g state edge desk sent rest1 × IsLong rest1 × IfSome g.start.input (λ all. Rest held1 left1 rest1)
+standing-long g state edge desk sent held held1 left left1 t told long =
+    standing-shown g state edge desk sent held held1 left left1 IsLong t told long (λ l more isl is. long-append held1 more long)
 
 ended-none : (left left1 : Option (List ℕ)) (held l more : List ℕ) → IfSome left (λ l. left1 ≡ Some []) → RanOut held → left ≡ Some l → left1 ≡ Some more → RanOut (held ++ more)
 ended-none left left1 held l more end out isl is =
@@ -407,22 +407,22 @@ ended-none left left1 held l more end out isl is =
     subst RanOut (sym (append-nil held) ∙ ap (λ (x : List ℕ). held ++ x) (sym none)) out
 
 -- no line is left
-pub standing-out : (g : Ground) (talker : Talker) (edge : EdgeView) (desk : DeskView) (sent : Option (List ℕ)) (held held1 : List ℕ) (left left1 : Option (List ℕ)) →
-    Talking g talker edge desk sent held left →
+pub standing-out : (g : Ground) (state : ControlSession) (edge : EdgeView) (desk : DeskView) (sent : Option (List ℕ)) (held held1 : List ℕ) (left left1 : Option (List ℕ)) →
+    Talking g state edge desk sent held left →
     IfSome left (λ l. Rest held1 left1 (held ++ l)) →
     IfSome left (λ l. left1 ≡ Some []) →
     RanOut held1 →
-    (rest1 : List ℕ) × Standing LineDue g talker edge desk sent rest1 × RanOut rest1 × IfSome g.start.input (λ all. Rest held1 left1 rest1)
-standing-out g talker edge desk sent held held1 left left1 t told end out =
-    standing-shown g talker edge desk sent held held1 left left1 RanOut t told out (λ l more isl is. ended-none left left1 held1 l more end out isl is)
+    (rest1 : List ℕ) × Standing LineDue g state edge desk sent rest1 × RanOut rest1 × IfSome g.start.input (λ all. Rest held1 left1 rest1)
+standing-out g state edge desk sent held held1 left left1 t told end out =
+    standing-shown g state edge desk sent held held1 left left1 RanOut t told out (λ l more isl is. ended-none left left1 held1 l more end out isl is)
 
 -- the control says the same of what was sent
-pub talking-sent : (g : Ground) (talker : Talker) (edge : EdgeView) (desk : DeskView) (sent sent1 : Option (List ℕ)) (held : List ℕ) (left : Option (List ℕ)) →
-    sent1 ≡ sent → Talking g talker edge desk sent held left → Talking g talker edge desk sent1 held left
-talking-sent g talker edge desk sent sent1 held left same t = subst (λ (o : Option (List ℕ)). Talking g talker edge desk o held left) (sym same) t
+pub talking-sent : (g : Ground) (state : ControlSession) (edge : EdgeView) (desk : DeskView) (sent sent1 : Option (List ℕ)) (held : List ℕ) (left : Option (List ℕ)) →
+    sent1 ≡ sent → Talking g state edge desk sent held left → Talking g state edge desk sent1 held left
+talking-sent g state edge desk sent sent1 held left same t = subst (λ (o : Option (List ℕ)). Talking g state edge desk o held left) (sym same) t
 
 -- a line is due again
-pub talking-on : (g : Ground) (talker : Talker) (edge : EdgeView) (desk : DeskView) (sent : Option (List ℕ)) (held rest : List ℕ) (left left1 : Option (List ℕ)) →
-    Standing LineDue g talker edge desk sent rest → IfSome g.start.input (λ all. Rest held left rest) → left1 ≡ left → Talking g talker edge desk sent held left1
-talking-on g talker edge desk sent held rest left left1 s read same =
+pub talking-on : (g : Ground) (state : ControlSession) (edge : EdgeView) (desk : DeskView) (sent : Option (List ℕ)) (held rest : List ℕ) (left left1 : Option (List ℕ)) →
+    Standing LineDue g state edge desk sent rest → IfSome g.start.input (λ all. Rest held left rest) → left1 ≡ left → Talking g state edge desk sent held left1
+talking-on g state edge desk sent held rest left left1 s read same =
     record { rest = rest; standing = s; read = subst (λ (o : Option (List ℕ)). IfSome g.start.input (λ all. Rest held o rest)) (sym same) read }

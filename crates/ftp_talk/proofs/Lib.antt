@@ -4,3 +4,4 @@ mod ServeLemmas
 mod EndLemmas
 mod ResultLemmas
 mod ControlLemmas
+mod Written

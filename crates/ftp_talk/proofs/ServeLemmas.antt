@@ -15,9 +15,9 @@ use Rattle.ftp_control.specs.declared.command.Command.TheVariants as command
 use Rattle.ftp_control.specs.declared.line.LineError.{LineError}
 use Rattle.ftp_control.specs.declared.line.LineError.TheVariants as error
 use Rattle.ftp_control.specs.Line.{parsed}
-use Rattle.ftp_desk.specs.Desk.{DeskView, SameDesk, RisesBy}
-use Rattle.ftp_dialogue.specs.Lines.{IsLong}
-use Rattle.ftp_talk.specs.declared.talker.Talker.{Talker}
+use Rattle.ftp_shared.specs.Desk.{DeskView, SameDesk, RisesBy}
+use Rattle.ftp_lines.specs.ControlLine.{IsLong}
+use Rattle.ftp_talk.specs.declared.control_session.ControlSession.{ControlSession}
 use Rattle.ftp_talk.specs.declared.serving.Next.{Next}
 use Rattle.ftp_talk.specs.declared.serving.Next.TheVariants as next
 use Rattle.ftp_talk.specs.Ground.{Step, ALine, Turn, Ground, history, line_of, lines_in}
@@ -75,16 +75,16 @@ ground-same g h edge edge1 desk desk1 is edges desks =
     }
 
 -- what was asked for an event, behind turns that were spoken
-pub asking-from : (g : Ground) (talker : Talker) (edge edge1 : EdgeView) (desk desk1 : DeskView) (sent : Option (List ℕ)) (ts : List Turn) (k : EventKind) →
-    Speaking g talker edge desk sent ts →
+pub asking-from : (g : Ground) (state : ControlSession) (edge edge1 : EdgeView) (desk desk1 : DeskView) (sent : Option (List ℕ)) (ts : List Turn) (k : EventKind) →
+    Speaking g state edge desk sent ts →
     own_session k ≡ Some g.session →
     IfSome edge.feed (λ f. IsDrawn g (history g ts) k f × (edge1.feed ≡ Some (behind_kind g (history g ts) k f))) →
     IsCounted (missing_in g (history g ts) k) edge.faults edge1.faults →
     IsCounted (failed_in k) desk.faults desk1.faults →
     SameEdge edge edge1 →
     SameDesk desk desk1 →
-    Asking g talker edge1 desk1 sent ts k
-asking-from g talker edge edge1 desk desk1 sent ts k s named drawn missing failed edges desks =
+    Asking g state edge1 desk1 sent ts k
+asking-from g state edge edge1 desk desk1 sent ts k s named drawn missing failed edges desks =
     record {
       named = named;
       fed = s.seen.fed;
@@ -101,16 +101,16 @@ asking-from g talker edge edge1 desk desk1 sent ts k s named drawn missing faile
     }
 
 -- an event for which nothing is asked
-pub asking-plain : (g : Ground) (talker : Talker) (edge : EdgeView) (desk : DeskView) (sent : Option (List ℕ)) (ts : List Turn) (k : EventKind) →
-    Speaking g talker edge desk sent ts →
+pub asking-plain : (g : Ground) (state : ControlSession) (edge : EdgeView) (desk : DeskView) (sent : Option (List ℕ)) (ts : List Turn) (k : EventKind) →
+    Speaking g state edge desk sent ts →
     own_session k ≡ Some g.session →
     ((f : Feed) → IsDrawn g (history g ts) k f) →
     ((f : Feed) → behind_kind g (history g ts) k f ≡ f) →
     missing_in g (history g ts) k ≡ 0 →
     failed_in k ≡ 0 →
-    Asking g talker edge desk sent ts k
-asking-plain g talker edge desk sent ts k s named drawn same missing failed =
-    asking-from g talker edge edge desk desk sent ts k s named
+    Asking g state edge desk sent ts k
+asking-plain g state edge desk sent ts k s named drawn same missing failed =
+    asking-from g state edge edge desk desk sent ts k s named
     (told_self edge.feed (λ f is. (drawn f, is ∙ ap Some (sym (same f)))))
     (λ lt. omega (arith, missing)) (λ lt. omega (arith, failed)) (same_edge edge) (same_desk desk)
 
@@ -131,12 +131,12 @@ own-of g h command.TypeCmd k e = ap own_session e
 own-of g h (command.Other word) k e = ap own_session e
 
 -- the answer to a line that is refused, and what is asked for it: nothing
-pub refused-plain : (g : Ground) (talker : Talker) (edge : EdgeView) (desk : DeskView) (sent : Option (List ℕ)) (ts : List Turn) (s : ℕ) (e : LineError) →
-    Speaking g talker edge desk sent ts → s ≡ g.session → Asking g talker edge desk sent ts (refused_as s e)
-refused-plain g talker edge desk sent ts s error.Utf8 spoken is = asking-plain g talker edge desk sent ts (refused_as s error.Utf8) spoken (ap Some is) (λ f. tt) (λ f. refl) refl refl
-refused-plain g talker edge desk sent ts s error.InvalidEol spoken is = asking-plain g talker edge desk sent ts (refused_as s error.InvalidEol) spoken (ap Some is) (λ f. tt) (λ f. refl) refl refl
-refused-plain g talker edge desk sent ts s error.InvalidCommand spoken is = asking-plain g talker edge desk sent ts (refused_as s error.InvalidCommand) spoken (ap Some is) (λ f. tt) (λ f. refl) refl refl
-refused-plain g talker edge desk sent ts s error.OutOfMemory spoken is = asking-plain g talker edge desk sent ts (refused_as s error.OutOfMemory) spoken (ap Some is) (λ f. tt) (λ f. refl) refl refl
+pub refused-plain : (g : Ground) (state : ControlSession) (edge : EdgeView) (desk : DeskView) (sent : Option (List ℕ)) (ts : List Turn) (s : ℕ) (e : LineError) →
+    Speaking g state edge desk sent ts → s ≡ g.session → Asking g state edge desk sent ts (refused_as s e)
+refused-plain g state edge desk sent ts s error.Utf8 spoken is = asking-plain g state edge desk sent ts (refused_as s error.Utf8) spoken (ap Some is) (λ f. tt) (λ f. refl) refl refl
+refused-plain g state edge desk sent ts s error.InvalidEol spoken is = asking-plain g state edge desk sent ts (refused_as s error.InvalidEol) spoken (ap Some is) (λ f. tt) (λ f. refl) refl refl
+refused-plain g state edge desk sent ts s error.InvalidCommand spoken is = asking-plain g state edge desk sent ts (refused_as s error.InvalidCommand) spoken (ap Some is) (λ f. tt) (λ f. refl) refl refl
+refused-plain g state edge desk sent ts s error.OutOfMemory spoken is = asking-plain g state edge desk sent ts (refused_as s error.OutOfMemory) spoken (ap Some is) (λ f. tt) (λ f. refl) refl refl
 
 -- ---- what is due
 
@@ -190,15 +190,15 @@ pub input-same : (input : Option (List ℕ)) (a b : List ℕ) → a ≡ b → Is
 input-same input a b e h = subst (IsInput input) e h
 
 -- a step was spoken behind turns
-pub standing-spoken : (g : Ground) (talker0 talker : Talker) (edge0 edge : EdgeView) (desk0 desk : DeskView) (sent0 sent : Option (List ℕ))
+pub standing-spoken : (g : Ground) (state0 state : ControlSession) (edge0 edge : EdgeView) (desk0 desk : DeskView) (sent0 sent : Option (List ℕ))
     (old new : Due) (step : Step) (k : EventKind) (d : Decision) (rest : List ℕ)
-    (s : Standing old g talker0 edge0 desk0 sent0 (line_of step ++ rest)) →
-    Spoken g talker edge desk sent s.turns step k d →
+    (s : Standing old g state0 edge0 desk0 sent0 (line_of step ++ rest)) →
+    Spoken g state edge desk sent s.turns step k d →
     Comes g (history g s.turns) old step k →
     (is_long step ≡ true → IsLong rest) →
     due_by step d ≡ new →
-    Standing new g talker edge desk sent rest
-standing-spoken g talker0 talker edge0 edge desk0 desk sent0 sent old new step k d rest s spoken comes long is =
+    Standing new g state edge desk sent rest
+standing-spoken g state0 state edge0 edge desk0 desk sent0 sent old new step k d rest s spoken comes long is =
     record {
       turns = turn_of step spoken.earlier spoken.entry ∷ s.turns;
       cut = input-same g.start.input (lines_in s.turns ++ (line_of step ++ rest)) ((lines_in s.turns ++ line_of step) ++ rest) (sym (append_assoc (lines_in s.turns) (line_of step) rest)) s.cut;
@@ -216,16 +216,16 @@ standing-spoken g talker0 talker edge0 edge desk0 desk sent0 sent old new step k
     }
 
 -- a step was cut short behind turns
-pub cut-spoken : (g : Ground) (talker0 talker : Talker) (edge0 edge : EdgeView) (desk0 desk : DeskView) (sent0 sent : Option (List ℕ))
+pub cut-spoken : (g : Ground) (state0 state : ControlSession) (edge0 edge : EdgeView) (desk0 desk : DeskView) (sent0 sent : Option (List ℕ))
     (old : Due) (step : Step) (k : EventKind) (rest : List ℕ)
-    (s : Standing old g talker0 edge0 desk0 sent0 (line_of step ++ rest)) →
-    Halted g talker edge desk sent s.turns step k →
+    (s : Standing old g state0 edge0 desk0 sent0 (line_of step ++ rest)) →
+    Halted g state edge desk sent s.turns step k →
     Comes g (history g s.turns) old step k →
     (is_long step ≡ true → IsLong rest) →
-    IsCut g talker edge desk sent
-cut-spoken g talker0 talker edge0 edge desk0 desk sent0 sent old step k rest s (inl front) comes long =
+    IsCut g state edge desk sent
+cut-spoken g state0 state edge0 edge desk0 desk sent0 sent old step k rest s (inl front) comes long =
     record { turns = s.turns; rest = line_of step ++ rest; cut = s.cut; ruled = s.ruled; long = s.long; front = front }
-cut-spoken g talker0 talker edge0 edge desk0 desk sent0 sent old step k rest s (inr heard) comes long =
+cut-spoken g state0 state edge0 edge desk0 desk sent0 sent old step k rest s (inr heard) comes long =
     record {
       turns = turn_of step heard.earlier heard.entry ∷ s.turns;
       rest = rest;
@@ -243,16 +243,16 @@ cut-spoken g talker0 talker edge0 edge desk0 desk sent0 sent old step k rest s (
     }
 
 -- turns that stand are cut where nothing was submitted since
-pub cut-standing : (g : Ground) (talker : Talker) (edge edge1 : EdgeView) (desk desk1 : DeskView) (sent : Option (List ℕ)) (d : Due) (rest : List ℕ) →
-    Standing d g talker edge desk sent rest → SameEdge edge edge1 → SameDesk desk desk1 → IsCut g talker edge1 desk1 sent
-cut-standing g talker edge edge1 desk desk1 sent d rest s edges desks =
+pub cut-standing : (g : Ground) (state : ControlSession) (edge edge1 : EdgeView) (desk desk1 : DeskView) (sent : Option (List ℕ)) (d : Due) (rest : List ℕ) →
+    Standing d g state edge desk sent rest → SameEdge edge edge1 → SameDesk desk desk1 → IsCut g state edge1 desk1 sent
+cut-standing g state edge edge1 desk desk1 sent d rest s edges desks =
     record {
       turns = s.turns;
       rest = rest;
       cut = s.cut;
       ruled = s.ruled;
       long = s.long;
-      front = front-same g talker edge edge1 desk desk1 sent s.turns s.speaking edges.count desks;
+      front = front-same g state edge edge1 desk desk1 sent s.turns s.speaking edges.count desks;
     }
 
 -- ---- what follows from what is said of a result
@@ -265,13 +265,13 @@ pub on_err-then : {T E P Q : Type 0} (r : Result T E) → (P → Q) → OnErr r 
 on_err-then (Ok x) f p = tt
 on_err-then (Err e) f p = f p
 
--- an answer on what the talker knows is one on what the entries tell
-pub may_be : (g : Ground) (talker : Talker) (h : List Entry) (may : List ℕ → List ℕ → IpAddr → AuthAnswer → Bool) (password : List ℕ) (said : AuthAnswer) →
-    Knows g talker h →
+-- an answer on what the state knows is one on what the entries tell
+pub may_be : (g : Ground) (state : ControlSession) (h : List Entry) (may : List ℕ → List ℕ → IpAddr → AuthAnswer → Bool) (password : List ℕ) (said : AuthAnswer) →
+    Knows g state h →
     g.start.answers ≡ may →
-    may (unwrap_or talker.name []) password talker.client said ≡ true →
+    may (unwrap_or state.name []) password state.client said ≡ true →
     g.start.answers (unwrap_or (user_name h) []) password g.client said ≡ true
-may_be g talker h may password said knows same is =
+may_be g state h may password said knows same is =
     subst (λ (m : List ℕ → List ℕ → IpAddr → AuthAnswer → Bool). m (unwrap_or (user_name h) []) password g.client said ≡ true) (sym same)
     (subst (λ (n : Option (List ℕ)). may (unwrap_or n []) password g.client said ≡ true) knows.name
-    (subst (λ (a : IpAddr). may (unwrap_or talker.name []) password a said ≡ true) knows.client is))
+    (subst (λ (a : IpAddr). may (unwrap_or state.name []) password a said ≡ true) knows.client is))

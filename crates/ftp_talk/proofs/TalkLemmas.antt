@@ -11,11 +11,11 @@ use Rattle.ftp_events.specs.declared.entry.Entry.{Entry}
 use Rattle.ftp_events.specs.declared.event.EventKind.{EventKind}
 use Rattle.ftp_events.specs.declared.event.EventKind.TheVariants as kind
 use Rattle.ftp_shared.specs.Outbox.{own_session, outbox_after, replies_in}
-use Rattle.ftp_stream.specs.Writing.{WritesFront}
-use Rattle.ftp_desk.specs.Desk.{DeskView, SameDesk, Appends, IsVouched, RisesBy}
-use Rattle.ftp_dialogue.specs.Saying.{said}
-use Rattle.ftp_dialogue.proofs.Written.{writes-more, front-more, front-all}
-use Rattle.ftp_talk.specs.declared.talker.Talker.{Talker}
+use Rattle.ftp_lines.specs.Writing.{WritesFront}
+use Rattle.ftp_shared.specs.Desk.{DeskView, SameDesk, Appends, IsVouched, RisesBy}
+use Rattle.ftp_talk.specs.Saying.{said}
+use Rattle.ftp_talk.proofs.Written.{writes-more, front-more, front-all}
+use Rattle.ftp_talk.specs.declared.control_session.ControlSession.{ControlSession}
 use Rattle.ftp_talk.specs.Ground.{Step, Turn, Ground, history}
 use Rattle.ftp_talk.specs.Commands.{asked_name, asked_range, asked_target}
 use Rattle.ftp_talk.specs.Turns.{is_end}
@@ -148,18 +148,18 @@ shares-more g desk desk1 ts step earlier e before more =
 -- ---- a turn
 
 -- an event was submitted and answered
-pub spoken-is : (g : Ground) (vouches : Bool) (talker talker1 : Talker) (edge edge1 edge2 : EdgeView) (desk desk1 : DeskView) (sent sent1 : Option (List ℕ))
+pub spoken-is : (g : Ground) (vouches : Bool) (state state1 : ControlSession) (edge edge1 edge2 : EdgeView) (desk desk1 : DeskView) (sent sent1 : Option (List ℕ))
     (ts : List Turn) (step : Step) (earlier : List (ℕ × Reply)) (e : Entry) (k : EventKind) →
-    Asking g talker edge desk sent ts k →
+    Asking g state edge desk sent ts k →
     g.start.vouches ≡ vouches →
     Entered vouches edge edge1 desk desk1 earlier e k →
     Takes (λ f. f) edge1 edge2 →
-    Knows g talker1 (e ∷ history g ts) →
-    talker1.is_over ≡ is_end e.decision →
+    Knows g state1 (e ∷ history g ts) →
+    state1.is_over ≡ is_end e.decision →
     Writes sent sent1 (said g.session earlier e.actions) →
-    Speaking g talker1 edge2 desk1 sent1 (turn_of step earlier e ∷ ts)
-spoken-is g vouches talker talker1 edge edge1 edge2 desk desk1 sent sent1 ts step earlier e k asking same n two knows over wrote =
-    let a = subst (Asking g talker edge desk sent ts) (sym n.kind) asking in
+    Speaking g state1 edge2 desk1 sent1 (turn_of step earlier e ∷ ts)
+spoken-is g vouches state state1 edge edge1 edge2 desk desk1 sent sent1 ts step earlier e k asking same n two knows over wrote =
+    let a = subst (Asking g state edge desk sent ts) (sym n.kind) asking in
     let kept = kept-more g desk desk1 ts step earlier e a.kept n.appended a.named in
     record {
       seen = record {
@@ -183,18 +183,18 @@ spoken-is g vouches talker talker1 edge edge1 edge2 desk desk1 sent sent1 ts ste
     }
 
 -- an event was submitted, and a part of what is due was said
-pub front-after : (g : Ground) (vouches : Bool) (talker talker1 : Talker) (edge edge1 edge2 : EdgeView) (desk desk1 : DeskView) (sent sent1 : Option (List ℕ))
+pub front-after : (g : Ground) (vouches : Bool) (state state1 : ControlSession) (edge edge1 edge2 : EdgeView) (desk desk1 : DeskView) (sent sent1 : Option (List ℕ))
     (ts : List Turn) (step : Step) (earlier : List (ℕ × Reply)) (e : Entry) (k : EventKind) →
-    Asking g talker edge desk sent ts k →
+    Asking g state edge desk sent ts k →
     g.start.vouches ≡ vouches →
     Entered vouches edge edge1 desk desk1 earlier e k →
     edge1.faults ≤ edge2.faults →
-    talker1.session ≡ talker.session →
-    talker1.is_over ≡ is_end e.decision →
+    state1.session ≡ state.session →
+    state1.is_over ≡ is_end e.decision →
     WritesFront sent sent1 (said g.session earlier e.actions) →
-    Front g talker1 edge2 desk1 sent1 (turn_of step earlier e ∷ ts)
-front-after g vouches talker talker1 edge edge1 edge2 desk desk1 sent sent1 ts step earlier e k asking same n two session over wrote =
-    let a = subst (Asking g talker edge desk sent ts) (sym n.kind) asking in
+    Front g state1 edge2 desk1 sent1 (turn_of step earlier e ∷ ts)
+front-after g vouches state state1 edge edge1 edge2 desk desk1 sent sent1 ts step earlier e k asking same n two session over wrote =
+    let a = subst (Asking g state edge desk sent ts) (sym n.kind) asking in
     record {
       session = session ∙ a.known.session;
       over = over;
@@ -211,12 +211,12 @@ front-after g vouches talker talker1 edge edge1 edge2 desk desk1 sent sent1 ts s
     }
 
 -- an event was not submitted
-pub front-before : (g : Ground) (talker : Talker) (edge edge1 : EdgeView) (desk desk1 : DeskView) (sent : Option (List ℕ)) (ts : List Turn) (k : EventKind) →
-    Asking g talker edge desk sent ts k →
+pub front-before : (g : Ground) (state : ControlSession) (edge edge1 : EdgeView) (desk desk1 : DeskView) (sent : Option (List ℕ)) (ts : List Turn) (k : EventKind) →
+    Asking g state edge desk sent ts k →
     edge.faults ≤ edge1.faults →
     SameDesk desk desk1 →
-    Front g talker edge1 desk1 sent ts
-front-before g talker edge edge1 desk desk1 sent ts k a count same =
+    Front g state edge1 desk1 sent ts
+front-before g state edge edge1 desk desk1 sent ts k a count same =
     record {
       session = a.known.session;
       over = a.over;
@@ -233,12 +233,12 @@ front-before g talker edge edge1 desk desk1 sent ts k a count same =
     }
 
 -- the turns that were spoken, where nothing was submitted since
-pub front-same : (g : Ground) (talker : Talker) (edge edge1 : EdgeView) (desk desk1 : DeskView) (sent : Option (List ℕ)) (ts : List Turn) →
-    Speaking g talker edge desk sent ts →
+pub front-same : (g : Ground) (state : ControlSession) (edge edge1 : EdgeView) (desk desk1 : DeskView) (sent : Option (List ℕ)) (ts : List Turn) →
+    Speaking g state edge desk sent ts →
     edge.faults ≤ edge1.faults →
     SameDesk desk desk1 →
-    Front g talker edge1 desk1 sent ts
-front-same g talker edge edge1 desk desk1 sent ts s count same =
+    Front g state edge1 desk1 sent ts
+front-same g state edge edge1 desk desk1 sent ts s count same =
     record {
       session = s.known.session;
       over = s.over;

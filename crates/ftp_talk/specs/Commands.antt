@@ -32,7 +32,7 @@ use Rattle.ftp_control.specs.declared.command.Command.{Command}
 use Rattle.ftp_control.specs.declared.command.Command.TheVariants as command
 use Rattle.ftp_control.specs.declared.line.LineError.{LineError}
 use Rattle.ftp_control.specs.declared.line.LineError.TheVariants as error
-use Rattle.ftp_desk.specs.Desk.{MaySay, drawn_after}
+use Rattle.ftp_shared.specs.Desk.{MaySay, drawn_after}
 use Rattle.ftp_talk.specs.Ground.{Ground}
 
 -- the user is logged in

@@ -11,8 +11,8 @@ use Rattle.ftp_events.specs.declared.event.Answer.TheVariants.{Header}
 use Rattle.ftp_events.specs.declared.event.EventKind.{EventKind}
 use Rattle.ftp_events.specs.declared.event.EventKind.TheVariants as kind
 use Rattle.ftp_events.specs.declared.event.HubEvent.{HubEvent}
-use Rattle.ftp_desk.specs.Desk.{DeskView, IsVouched, RisesBy}
-use Rattle.ftp_talk.specs.declared.talker.Peer.{Peer}
+use Rattle.ftp_shared.specs.Desk.{DeskView, IsVouched, RisesBy}
+use Rattle.ftp_talk.specs.declared.control_session.Peer.{Peer}
 use Rattle.ftp_talk.specs.declared.serving.ServeEnd.{ServeEnd}
 use Rattle.ftp_talk.specs.declared.serving.ServeEnd.TheVariants as end
 use Rattle.ftp_talk.specs.Ground.{Start, Ground}

@@ -8,7 +8,7 @@ use Rattle.ftp_base.specs.declared.net.IpAddr.{IpAddr}
 use Rattle.ftp_base.specs.declared.login.AuthAnswer.{AuthAnswer}
 use Rattle.ftp_base.specs.Edge.{EdgeView}
 use Rattle.ftp_events.specs.declared.entry.Entry.{Entry}
-use Rattle.ftp_desk.specs.Desk.{DeskView}
+use Rattle.ftp_shared.specs.Desk.{DeskView}
 
 -- what a turn stands for: a line of the client with its line feed, the authenticator's answer, a look at the idle time, a
 -- look at the slot, a line that is too long and stands next, or the end of the connection

@@ -6,3 +6,4 @@ pub mod Talk
 pub mod Control
 pub mod Speaking
 pub mod Serving
+pub mod Saying

@@ -22,12 +22,12 @@ use Rattle.ftp_options.specs.Modes.{is_active_off}
 use Rattle.ftp_events.specs.declared.session.Login.TheVariants as login
 use Rattle.ftp_shared.specs.Outbox.{own_session}
 use Rattle.ftp_control.specs.declared.command.Command.{Command}
-use Rattle.ftp_stream.specs.Lines.{Rest}
-use Rattle.ftp_stream.specs.Writing.{WritesFront}
-use Rattle.ftp_desk.specs.Desk.{DeskView, IsVouched, Appends, RisesBy}
-use Rattle.ftp_dialogue.specs.Lines.{IsLong}
-use Rattle.ftp_talk.specs.declared.talker.Peer.{Peer}
-use Rattle.ftp_talk.specs.declared.talker.Talker.{Talker}
+use Rattle.ftp_lines.specs.Lines.{Rest}
+use Rattle.ftp_lines.specs.Writing.{WritesFront}
+use Rattle.ftp_shared.specs.Desk.{DeskView, IsVouched, Appends, RisesBy}
+use Rattle.ftp_lines.specs.ControlLine.{IsLong}
+use Rattle.ftp_talk.specs.declared.control_session.Peer.{Peer}
+use Rattle.ftp_talk.specs.declared.control_session.ControlSession.{ControlSession}
 use Rattle.ftp_talk.specs.declared.serving.Next.{Next}
 use Rattle.ftp_talk.specs.declared.serving.Next.TheVariants as next
 use Rattle.ftp_talk.specs.declared.serving.ServeEnd.{ServeEnd}
@@ -38,30 +38,30 @@ use Rattle.ftp_talk.specs.Turns.{Due, LineDue, CloseDue, NothingDue, due, Turns}
 use Rattle.ftp_talk.specs.Seen.{IsSeen, IsDrawn, IsAsked, missing, behind_asked, AreFed, behind_kind, missing_in, failed_in, feed_after, all_missing, all_failed}
 use Rattle.ftp_talk.specs.Talk.{Talk, TalkFront, IsInput, AreVouched, Shares, due_text, is_over, is_long_last}
 
--- what a talker knows is what these entries tell
-pub record Knows (g : Ground) (talker : Talker) (h : List Entry) : Type 0 where
-  pub session : talker.session ≡ g.session
-  pub raw : talker.raw ≡ g.raw
-  pub client : talker.client ≡ g.client
-  pub host : talker.host ≡ looked_up g.start.desk.options
-  pub range : talker.range ≡ bound_in g.start.desk.options
-  pub active : talker.is_active_off ≡ is_active_off g.start.desk.options.active_passive
-  pub login : talker.login ≡ login_state h
-  pub name : talker.name ≡ user_name h
-  pub cwd : talker.cwd ≡ cwd h
+-- what a state knows is what these entries tell
+pub record Knows (g : Ground) (state : ControlSession) (h : List Entry) : Type 0 where
+  pub session : state.session ≡ g.session
+  pub raw : state.raw ≡ g.raw
+  pub client : state.client ≡ g.client
+  pub host : state.host ≡ looked_up g.start.desk.options
+  pub range : state.range ≡ bound_in g.start.desk.options
+  pub active : state.is_active_off ≡ is_active_off g.start.desk.options.active_passive
+  pub login : state.login ≡ login_state h
+  pub name : state.name ≡ user_name h
+  pub cwd : state.cwd ≡ cwd h
 
--- what a talker knows as it begins
-pub record Begins (talker : Talker) (peer : Peer) (o : Options) : Type 0 where
-  pub session : talker.session ≡ peer.session
-  pub raw : talker.raw ≡ peer.raw
-  pub client : talker.client ≡ peer.client
-  pub host : talker.host ≡ looked_up o
-  pub range : talker.range ≡ bound_in o
-  pub active : talker.is_active_off ≡ is_active_off o.active_passive
-  pub login : talker.login ≡ login.New
-  pub name : talker.name ≡ None
-  pub cwd : talker.cwd ≡ root
-  pub live : talker.is_over ≡ false
+-- what a state knows as it begins
+pub record Begins (state : ControlSession) (peer : Peer) (o : Options) : Type 0 where
+  pub session : state.session ≡ peer.session
+  pub raw : state.raw ≡ peer.raw
+  pub client : state.client ≡ peer.client
+  pub host : state.host ≡ looked_up o
+  pub range : state.range ≡ bound_in o
+  pub active : state.is_active_off ≡ is_active_off o.active_passive
+  pub login : state.login ≡ login.New
+  pub name : state.name ≡ None
+  pub cwd : state.cwd ≡ root
+  pub live : state.is_over ≡ false
 
 -- edge and desk are those that the talk rests on, after these entries
 pub record IsGround (g : Ground) (h : List Entry) (edge : EdgeView) (desk : DeskView) : Type 0 where
@@ -91,9 +91,9 @@ pub record IsPort (asked : Option (List ℕ)) (within : Option (ℕ × ℕ)) (ol
       × (new.feed ≡ Some (behind_asked within behind_port (behind_asked asked behind_lookup (behind_word f)))))
   pub missing : IsCounted (missing asked lookup + missing within bound) old.faults new.faults
 
--- the address to which a talker connects
-abbrev pub target_for : Talker → List ℕ → Option SocketAddr
-target_for talker text = asked_of talker.login (connected_to talker.is_active_off talker.raw text)
+-- the address to which a state connects
+abbrev pub target_for : ControlSession → List ℕ → Option SocketAddr
+target_for state text = asked_of state.login (connected_to state.is_active_off state.raw text)
 
 -- a number was drawn, and a connection was asked for
 pub record IsMadeTo (to : SocketAddr) (May : ℕ → Type 0) (old new : EdgeView) (given : Option ℕ) : Type 0 where
@@ -115,11 +115,11 @@ Keeps g desk ts =
     IfSome g.start.desk.journal (λ J. (desk.journal ≡ Some (history g ts ++ J)) × (desk.outbox g.session ≡ []) × AllByRecursion (λ (t : Turn). t.earlier ≡ []) ts)
 
 -- the turns so far gave their entries, and all that is due was sent
-pub record Speaking (g : Ground) (talker : Talker) (edge : EdgeView) (desk : DeskView) (sent : Option (List ℕ)) (ts : List Turn) : Type 0 where
+pub record Speaking (g : Ground) (state : ControlSession) (edge : EdgeView) (desk : DeskView) (sent : Option (List ℕ)) (ts : List Turn) : Type 0 where
   pub seen : IsSeen g ts edge desk.faults
   pub feed : IfSome g.start.edge.feed (λ f. edge.feed ≡ Some (feed_after g f ts))
-  pub known : Knows g talker (history g ts)
-  pub over : talker.is_over ≡ is_over ts
+  pub known : Knows g state (history g ts)
+  pub over : state.is_over ≡ is_over ts
   pub ground : IsGround g (history g ts) edge desk
   pub kept : Keeps g desk ts
   pub vouched : AreVouched g ts
@@ -127,14 +127,14 @@ pub record Speaking (g : Ground) (talker : Talker) (edge : EdgeView) (desk : Des
   pub written : Writes g.start.sent sent (due_text g ts)
 
 -- edge and storage were asked, besides, for the next event
-pub record Asking (g : Ground) (talker : Talker) (edge : EdgeView) (desk : DeskView) (sent : Option (List ℕ)) (ts : List Turn) (k : EventKind) : Type 0 where
+pub record Asking (g : Ground) (state : ControlSession) (edge : EdgeView) (desk : DeskView) (sent : Option (List ℕ)) (ts : List Turn) (k : EventKind) : Type 0 where
   pub named : own_session k ≡ Some g.session
   pub fed : IfSome g.start.edge.feed (λ f. AreFed g f ts)
   pub feed : IfSome g.start.edge.feed (λ f. IsDrawn g (history g ts) k (feed_after g f ts) × (edge.feed ≡ Some (behind_kind g (history g ts) k (feed_after g f ts))))
   pub missing : IsCounted (all_missing g ts + missing_in g (history g ts) k) g.start.edge.faults edge.faults
   pub failed : IsCounted (all_failed ts + failed_in k) g.start.desk.faults desk.faults
-  pub known : Knows g talker (history g ts)
-  pub over : talker.is_over ≡ is_over ts
+  pub known : Knows g state (history g ts)
+  pub over : state.is_over ≡ is_over ts
   pub ground : IsGround g (history g ts) edge desk
   pub kept : Keeps g desk ts
   pub vouched : AreVouched g ts
@@ -142,9 +142,9 @@ pub record Asking (g : Ground) (talker : Talker) (edge : EdgeView) (desk : DeskV
   pub written : Writes g.start.sent sent (due_text g ts)
 
 -- the turns so far gave their entries, and of what is due a front was sent
-pub record Front (g : Ground) (talker : Talker) (edge : EdgeView) (desk : DeskView) (sent : Option (List ℕ)) (ts : List Turn) : Type 0 where
-  pub session : talker.session ≡ g.session
-  pub over : talker.is_over ≡ is_over ts
+pub record Front (g : Ground) (state : ControlSession) (edge : EdgeView) (desk : DeskView) (sent : Option (List ℕ)) (ts : List Turn) : Type 0 where
+  pub session : state.session ≡ g.session
+  pub over : state.is_over ≡ is_over ts
   pub options : desk.options ≡ g.start.desk.options
   pub seen : IsSeen g ts edge desk.faults
   pub kept : Keeps g desk ts
@@ -170,43 +170,43 @@ abbrev pub turn_of : Step → List (ℕ × Reply) → Entry → Turn
 turn_of step earlier e = record { step = step; earlier = earlier; entry = e }
 
 -- the event was submitted, decided so, and answered
-pub record Spoken (g : Ground) (talker : Talker) (edge : EdgeView) (desk : DeskView) (sent : Option (List ℕ)) (ts : List Turn) (step : Step) (k : EventKind) (d : Decision) : Type 0 where
+pub record Spoken (g : Ground) (state : ControlSession) (edge : EdgeView) (desk : DeskView) (sent : Option (List ℕ)) (ts : List Turn) (step : Step) (k : EventKind) (d : Decision) : Type 0 where
   pub earlier : List (ℕ × Reply)
   pub entry : Entry
   pub kind : entry.event.kind ≡ k
   pub answer : entry.answer ≡ answer.None
   pub decision : entry.decision ≡ d
-  pub speaking : Speaking g talker edge desk sent (turn_of step earlier entry ∷ ts)
+  pub speaking : Speaking g state edge desk sent (turn_of step earlier entry ∷ ts)
 
 -- the event was submitted, and of what is due a front was said
-pub record Heard (g : Ground) (talker : Talker) (edge : EdgeView) (desk : DeskView) (sent : Option (List ℕ)) (ts : List Turn) (step : Step) (k : EventKind) : Type 0 where
+pub record Heard (g : Ground) (state : ControlSession) (edge : EdgeView) (desk : DeskView) (sent : Option (List ℕ)) (ts : List Turn) (step : Step) (k : EventKind) : Type 0 where
   pub earlier : List (ℕ × Reply)
   pub entry : Entry
   pub kind : entry.event.kind ≡ k
   pub answer : entry.answer ≡ answer.None
-  pub front : Front g talker edge desk sent (turn_of step earlier entry ∷ ts)
+  pub front : Front g state edge desk sent (turn_of step earlier entry ∷ ts)
 
 -- the event was not submitted, or it was and not all was said
-abbrev pub Halted : Ground → Talker → EdgeView → DeskView → Option (List ℕ) → List Turn → Step → EventKind → Type 0
-Halted g talker edge desk sent ts step k = Front g talker edge desk sent ts ⊎ Heard g talker edge desk sent ts step k
+abbrev pub Halted : Ground → ControlSession → EdgeView → DeskView → Option (List ℕ) → List Turn → Step → EventKind → Type 0
+Halted g state edge desk sent ts step k = Front g state edge desk sent ts ⊎ Heard g state edge desk sent ts step k
 
 -- turns were spoken, this is due behind them, and this is the rest of the input
-pub record Standing (d : Due) (g : Ground) (talker : Talker) (edge : EdgeView) (desk : DeskView) (sent : Option (List ℕ)) (rest : List ℕ) : Type 0 where
+pub record Standing (d : Due) (g : Ground) (state : ControlSession) (edge : EdgeView) (desk : DeskView) (sent : Option (List ℕ)) (rest : List ℕ) : Type 0 where
   pub turns : List Turn
   pub cut : IsInput g.start.input (lines_in turns ++ rest)
   pub ruled : Turns g turns
   pub long : is_long_last turns ≡ true → IsLong rest
-  pub speaking : Speaking g talker edge desk sent turns
+  pub speaking : Speaking g state edge desk sent turns
   pub stands : due turns ≡ d
 
 -- some turns were spoken, the last perhaps in part
-pub record IsCut (g : Ground) (talker : Talker) (edge : EdgeView) (desk : DeskView) (sent : Option (List ℕ)) : Type 0 where
+pub record IsCut (g : Ground) (state : ControlSession) (edge : EdgeView) (desk : DeskView) (sent : Option (List ℕ)) : Type 0 where
   pub turns : List Turn
   pub rest : List ℕ
   pub cut : IsInput g.start.input (lines_in turns ++ rest)
   pub ruled : Turns g turns
   pub long : is_long_last turns ≡ true → IsLong rest
-  pub front : Front g talker edge desk sent turns
+  pub front : Front g state edge desk sent turns
 
 -- what is due where this comes next
 abbrev pub due_at : Next → Due
@@ -215,9 +215,9 @@ due_at next.Over = NothingDue
 due_at next.Close = CloseDue
 
 -- a line is due, and what is held and left of the input is the rest, where the input is told
-pub record Talking (g : Ground) (talker : Talker) (edge : EdgeView) (desk : DeskView) (sent : Option (List ℕ)) (held : List ℕ) (left : Option (List ℕ)) : Type 0 where
+pub record Talking (g : Ground) (state : ControlSession) (edge : EdgeView) (desk : DeskView) (sent : Option (List ℕ)) (held : List ℕ) (left : Option (List ℕ)) : Type 0 where
   pub rest : List ℕ
-  pub standing : Standing LineDue g talker edge desk sent rest
+  pub standing : Standing LineDue g state edge desk sent rest
   pub read : IfSome g.start.input (λ all. Rest held left rest)
 
 -- how a talk ended

@@ -5,10 +5,10 @@ use Rattle.ftp_base.specs.Edge.{EdgeView}
 use Rattle.ftp_base.specs.Outside.{Writes}
 use Rattle.ftp_events.specs.declared.event.Answer.TheVariants as answer
 use Rattle.ftp_events.specs.declared.event.EventKind.TheVariants as kind
-use Rattle.ftp_stream.specs.Writing.{WritesFront}
-use Rattle.ftp_desk.specs.Desk.{DeskView, IsVouched, RisesBy}
-use Rattle.ftp_dialogue.specs.Lines.{RanOut, IsLong}
-use Rattle.ftp_dialogue.specs.Saying.{greeting_line, said}
+use Rattle.ftp_lines.specs.Writing.{WritesFront}
+use Rattle.ftp_shared.specs.Desk.{DeskView, IsVouched, RisesBy}
+use Rattle.ftp_lines.specs.ControlLine.{RanOut, IsLong}
+use Rattle.ftp_talk.specs.Saying.{greeting_line, said}
 use Rattle.ftp_talk.specs.Ground.{Step, ALongLine, AClose, Turn, Ground, history, lines_in}
 use Rattle.ftp_talk.specs.Turns.{Due, LineDue, CloseDue, is_end, due, Turns}
 use Rattle.ftp_talk.specs.Seen.{IsSeen}

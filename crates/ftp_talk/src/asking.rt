@@ -9,21 +9,21 @@ ghost use Rattle.ftp_events.specs.declared.entry.Entry.{Entry};
 ghost use Rattle.ftp_events.specs.declared.event.EventKind.TheVariants as kind;
 ghost use Rattle.ftp_shared.specs.Outbox.{has_ticket};
 ghost use Rattle.ftp_transfer.specs.Path.{join_path};
-ghost use Rattle.ftp_desk.specs.Desk.{SameDesk, MaySay, drawn_after};
+ghost use Rattle.ftp_shared.specs.Desk.{SameDesk, MaySay, drawn_after};
 ghost use Rattle.ftp_talk.specs.Commands.{asked_of, connected_to, of_peer, MayBe, told_as, refused_as, too_long};
 ghost use Rattle.ftp_talk.specs.Ground.{Ground};
 ghost use Rattle.ftp_talk.specs.Seen.{IsAsked, missing, behind_asked, failed_in};
 ghost use Rattle.ftp_talk.specs.Speaking.{Knows, IsGround, SameEdge, Asked, IsPort, IsMade, target_for};
 
-use crate::talker::Talker;
+use crate::control_session::ControlSession;
 use ftp_base::{Bytes, ControlChanMsg, Edge, ErrorKind, Reply, ReplyCode, SocketAddr};
 use ftp_control::{Command, LineError};
-use ftp_desk::Desk;
 use ftp_events::{EventKind, Login, port_target};
+use ftp_shared::Desk;
 use ftp_transfer::join_path;
 use std::alloc::AllocError;
 
-impl Talker {
+impl ControlSession {
     // Asks edge and storage for what the command needs, and gives its event.
     pub(crate) fn ask<D: Desk, E: Edge>(
         &self,

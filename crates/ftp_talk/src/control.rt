@@ -4,20 +4,20 @@ ghost use Rattle.std.specs.Prelude.{◌≡◌, ◌-◌, ◌^◌, ◌<◌, ◌≤
 ghost use Rattle.ftp_base.specs.declared.fault.Failed.TheVariants.{Fault};
 ghost use Rattle.ftp_base.specs.Outside.{HasRisen, Writes};
 ghost use Rattle.ftp_events.specs.declared.entry.Entry.{Entry};
-ghost use Rattle.ftp_stream.specs.Writing.{WritesFront};
-ghost use Rattle.ftp_dialogue.specs.Saying.{greeting_line};
+ghost use Rattle.ftp_lines.specs.Writing.{WritesFront};
+ghost use Rattle.ftp_talk.specs.Saying.{greeting_line};
 ghost use Rattle.ftp_talk.specs.Ground.{Ground};
 ghost use Rattle.ftp_talk.specs.Speaking.{Knows};
 ghost use Rattle.ftp_talk.specs.Control.{client_of, peer_of, is_opening, is_opened, is_fault, Serves};
 
+use crate::control_session::{ControlSession, Peer};
 use crate::ending::end_by;
+use crate::saying::{put_greeting, write_all};
 use crate::serve::serve_lines;
 use crate::serving::ServeEnd;
-use crate::talker::{Peer, Talker};
 use ftp_base::{Authenticator, Bytes, Control, Edge, Failed, IpAddr, Link};
-use ftp_desk::Desk;
-use ftp_dialogue::{put_greeting, write_all};
 use ftp_events::{Answer, Decision, EventKind, HubEvent};
+use ftp_shared::Desk;
 use std::alloc::Global;
 
 // A buffer in which any line fits, and one byte more.
@@ -59,7 +59,7 @@ fn is_opened(decision: Decision) -> bool
     matches!(decision, Decision::Opened)
 }
 
-impl Talker {
+impl ControlSession {
     // Says the greeting.
     fn greet<L: Link>(&mut self, link: &mut L, greeting: &Option<Bytes>) -> Result<(), Failed>
         ensures wrote { OnOk result (Writes (L.sending link.old).sent (L.sending link.new).sent (greeting_line greeting.now)) }
@@ -116,20 +116,20 @@ pub fn serve_control<D: Desk, C: Control, E: Edge, A: Authenticator>(
     let Some(peer) = peer_of(&opening.kind, &answer) else {
         unreachable!()
     };
-    let Ok(talker) = Talker::open(alloc, desk.options(), peer) else {
+    let Ok(state) = ControlSession::open(alloc, desk.options(), peer) else {
         return ServeEnd::OutOfMemory;
     };
-    let mut talker = talker;
+    let mut state = state;
     let Ok(told) = desk.submit(opening, answer) else {
         return ServeEnd::OutOfMemory;
     };
     if !is_opened(told.entry.decision) {
         return ServeEnd::Refused(told.entry.decision);
     }
-    if let Err(failed) = talker.greet(control, &desk.options().greeting) {
-        talker.leave(desk, edge);
+    if let Err(failed) = state.greet(control, &desk.options().greeting) {
+        state.leave(desk, edge);
         return end_by(failed);
     }
     let mut buffer = [0u8; BUFFER_SIZE];
-    serve_lines(&mut talker, desk, control, edge, auth, &mut buffer)
+    serve_lines(&mut state, desk, control, edge, auth, &mut buffer)
 }

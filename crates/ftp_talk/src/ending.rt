@@ -3,18 +3,18 @@
 ghost use Rattle.std.specs.Prelude.{◌≡◌, ◌≤◌, ◌++◌, [], ℕ, List, Option, Some, true, false, IfSome, IfNone, IfOk, OnErr, IsErrOf, ◌⊎◌};
 ghost use Rattle.ftp_base.specs.declared.fault.Failed.TheVariants.{Fault};
 ghost use Rattle.ftp_base.specs.Outside.{HasRisen};
-ghost use Rattle.ftp_dialogue.specs.Lines.{IsLong};
+ghost use Rattle.ftp_lines.specs.ControlLine.{IsLong};
 ghost use Rattle.ftp_talk.specs.Ground.{Ground};
 ghost use Rattle.ftp_talk.specs.Turns.{Due, LineDue, SlotTickDue};
 ghost use Rattle.ftp_talk.specs.Talk.{TalkFront, MayClose};
 ghost use Rattle.ftp_talk.specs.Speaking.{IsCut, Standing, Outcome, due_at, end_by, IsAbout};
 
-use crate::conversing::submit;
+use crate::control_session::{ControlSession, is_end};
 use crate::serving::{Next, ServeEnd, next_of};
-use crate::talker::{Talker, is_end};
+use crate::submitting::submit;
 use ftp_base::{Control, Edge, Failed};
-use ftp_desk::Desk;
 use ftp_events::EventKind;
+use ftp_shared::Desk;
 
 // How a talk ends where a reply was not sent.
 pub(crate) fn end_by(failed: Failed) -> ServeEnd
@@ -26,7 +26,7 @@ pub(crate) fn end_by(failed: Failed) -> ServeEnd
     }
 }
 
-impl Talker {
+impl ControlSession {
     // Closes the connection where that is due, or no line is left.
     pub(crate) fn close<D: Desk, C: Control, E: Edge>(
         &mut self,
@@ -42,7 +42,7 @@ impl Talker {
         ensures count { C.faults control.old ≤ C.faults control.new }
     {
         let session = self.session;
-        match self.converse(desk, control, edge, EventKind::Closed { session }) {
+        match self.submit_and_reply(desk, control, edge, EventKind::Closed { session }) {
             Ok(_) => ServeEnd::Ended,
             Err(failed) => end_by(failed),
         }
@@ -65,7 +65,7 @@ impl Talker {
     }
 
     // Ends where a line, a look or a reply was cut short; else goes on as it says. It gives the end where that comes.
-    pub(crate) fn go_on<D: Desk, C: Control, E: Edge>(
+    pub(crate) fn proceed<D: Desk, C: Control, E: Edge>(
         &mut self,
         desk: &mut D,
         control: &mut C,
@@ -112,7 +112,7 @@ impl Talker {
         ensures count { C.faults control.old ≤ C.faults control.new }
     {
         let session = self.session;
-        match self.converse(desk, control, edge, EventKind::IdleTick { session }) {
+        match self.submit_and_reply(desk, control, edge, EventKind::IdleTick { session }) {
             Ok(decision) => {
                 if is_end(decision) {
                     Ok(Next::Over)
@@ -142,7 +142,7 @@ impl Talker {
         ensures count { C.faults control.old ≤ C.faults control.new }
     {
         let session = self.session;
-        match self.converse(desk, control, edge, EventKind::SlotTick { session }) {
+        match self.submit_and_reply(desk, control, edge, EventKind::SlotTick { session }) {
             Ok(decision) => Ok(next_of(decision, Next::GoOn)),
             Err(failed) => Err(failed),
         }
@@ -168,7 +168,7 @@ impl Talker {
         let Ok(kind) = self.too_long() else {
             return Err(Failed::Memory);
         };
-        match self.converse(desk, control, edge, kind) {
+        match self.submit_and_reply(desk, control, edge, kind) {
             Ok(decision) => Ok(next_of(decision, Next::Close)),
             Err(failed) => Err(failed),
         }

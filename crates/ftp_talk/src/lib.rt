@@ -6,12 +6,13 @@
 
 mod asking;
 mod control;
-mod conversing;
+mod control_session;
 mod ending;
+mod saying;
 mod serve;
 mod serving;
-mod talker;
+mod submitting;
 
 pub use control::serve_control;
+pub use control_session::Peer;
 pub use serving::ServeEnd;
-pub use talker::Peer;

@@ -2,20 +2,19 @@
 
 ghost use Rattle.std.specs.Prelude.{◌≡◌, ◌≤◌, [], Option, Some, length, IfSome, IfNone};
 ghost use Rattle.ftp_base.specs.Outside.{HasRisen};
-ghost use Rattle.ftp_dialogue.specs.Lines.{IsHeld, held_in};
+ghost use Rattle.ftp_lines.specs.ControlLine.{IsHeld, held_in};
 ghost use Rattle.ftp_talk.specs.Ground.{Ground};
 ghost use Rattle.ftp_talk.specs.Speaking.{Talking, Outcome, IsOf};
 
+use crate::control_session::ControlSession;
 use crate::serving::ServeEnd;
-use crate::talker::Talker;
 use ftp_base::{Authenticator, Control, Edge};
-use ftp_desk::Desk;
-use ftp_dialogue::{Got, Held, next_line};
-use ftp_stream::Span;
+use ftp_lines::{Got, Held, Span, next_control_line};
+use ftp_shared::Desk;
 
-impl Talker {
+impl ControlSession {
     // Reads a line and serves it. It gives the end where that comes.
-    fn turn<D: Desk, C: Control, E: Edge, A: Authenticator>(
+    fn serve_next<D: Desk, C: Control, E: Edge, A: Authenticator>(
         &mut self,
         desk: &mut D,
         control: &mut C,
@@ -38,19 +37,19 @@ impl Talker {
         ensures held { IsHeld buffer.new held.new }
         ensures len { length buffer.new ≡ length buffer.old }
     {
-        match next_line(buffer, held, control) {
+        match next_control_line(buffer, held, control) {
             Ok(Got::Line(span)) => {
                 let line = &buffer[span.start..span.end];
                 let next = self.serve_line(desk, control, edge, auth, line);
-                self.go_on(desk, control, edge, next)
+                self.proceed(desk, control, edge, next)
             }
             Ok(Got::Wait) => {
                 let next = self.tick(desk, control, edge);
-                self.go_on(desk, control, edge, next)
+                self.proceed(desk, control, edge, next)
             }
             Ok(Got::Long) => {
                 let next = self.serve_long(desk, control, edge);
-                self.go_on(desk, control, edge, next)
+                self.proceed(desk, control, edge, next)
             }
             Ok(Got::End) => Some(self.close(desk, control, edge)),
             Err(_) => {
@@ -63,7 +62,7 @@ impl Talker {
 
 // Serves the lines to their end, by way of a buffer in which any line fits.
 pub(crate) fn serve_lines<D: Desk, C: Control, E: Edge, A: Authenticator>(
-    talker: &mut Talker,
+    state: &mut ControlSession,
     desk: &mut D,
     control: &mut C,
     edge: &mut E,
@@ -72,7 +71,7 @@ pub(crate) fn serve_lines<D: Desk, C: Control, E: Edge, A: Authenticator>(
 ) -> ServeEnd
     requires room { length buffer.old ≡ 8193 }
     ensures ended { (g : Ground) → IsOf g D.vouches D.draws_next C.is_always_ready (A.may_answer auth.now) →
-        Talking g talker.old (E.view edge.old) (D.view desk.old) (C.sending control.old).sent [] (C.left control.old) →
+        Talking g state.old (E.view edge.old) (D.view desk.old) (C.sending control.old).sent [] (C.left control.old) →
         Outcome result g (E.view edge.new) (D.view desk.new) (C.sending control.new).sent }
     ensures read_fault { result ≡ ServeEnd.ReadFault → HasRisen (C.faults control.old) (C.faults control.new) }
     ensures write_fault { result ≡ ServeEnd.WriteFault → HasRisen (C.faults control.old) (C.faults control.new) }
@@ -83,10 +82,10 @@ pub(crate) fn serve_lines<D: Desk, C: Control, E: Edge, A: Authenticator>(
         scanned: 0,
     };
     for _ in 0..u64::MAX {
-        if let Some(end) = talker.turn(desk, control, edge, auth, buffer, &mut held) {
+        if let Some(end) = state.serve_next(desk, control, edge, auth, buffer, &mut held) {
             return end;
         }
     }
-    talker.leave(desk, edge);
+    state.leave(desk, edge);
     ServeEnd::OutOfMemory
 }

@@ -5,17 +5,17 @@ ghost use Rattle.ftp_base.specs.declared.fault.Failed.TheVariants.{Fault};
 ghost use Rattle.ftp_base.specs.Outside.{HasRisen};
 ghost use Rattle.ftp_control.specs.declared.command.Command.TheVariants as command;
 ghost use Rattle.ftp_control.specs.Line.{parsed};
-ghost use Rattle.ftp_dialogue.specs.Lines.{IsLine};
+ghost use Rattle.ftp_lines.specs.ControlLine.{IsLine};
 ghost use Rattle.ftp_talk.specs.Ground.{Ground, ALine};
 ghost use Rattle.ftp_talk.specs.Turns.{LineDue, AnswerDue};
 ghost use Rattle.ftp_talk.specs.Speaking.{IsCut, Standing, due_at, IsAbout};
 ghost use Rattle.ftp_talk.specs.Serving.{is_pass, is_out, next_of, behind_refusal};
 
-use crate::talker::{Talker, is_end};
+use crate::control_session::{ControlSession, is_end};
 use ftp_base::{AuthAnswer, Authenticator, Bytes, Control, Edge, Failed};
 use ftp_control::{Command, LineError, Password, parse_line};
-use ftp_desk::Desk;
 use ftp_events::{Decision, EventKind};
+use ftp_shared::Desk;
 
 /// How serving a control connection ended.
 #[derive(Clone, Copy, Debug, PartialEq, Eq)]
@@ -65,7 +65,7 @@ fn is_out(decision: Decision) -> bool
     matches!(decision, Decision::PassOut)
 }
 
-impl Talker {
+impl ControlSession {
     // Serves a command that gives no password.
     fn serve_command<D: Desk, C: Control, E: Edge>(
         &mut self,
@@ -88,7 +88,7 @@ impl Talker {
         ensures count { C.faults control.old ≤ C.faults control.new }
     {
         match self.ask(desk, edge, command) {
-            Ok(kind) => match self.converse(desk, control, edge, kind) {
+            Ok(kind) => match self.submit_and_reply(desk, control, edge, kind) {
                 Ok(decision) => Ok(next_of(decision, Next::GoOn)),
                 Err(failed) => Err(failed),
             },
@@ -119,7 +119,7 @@ impl Talker {
         let Ok(kind) = self.refused_as(error) else {
             return Err(Failed::Memory);
         };
-        match self.converse(desk, control, edge, kind) {
+        match self.submit_and_reply(desk, control, edge, kind) {
             Ok(decision) => Ok(next_of(decision, behind_refusal(error))),
             Err(failed) => Err(failed),
         }
@@ -147,7 +147,7 @@ impl Talker {
         ensures count { C.faults control.old ≤ C.faults control.new }
     {
         let session = self.session;
-        match self.converse(desk, control, edge, EventKind::Pass { session }) {
+        match self.submit_and_reply(desk, control, edge, EventKind::Pass { session }) {
             Ok(decision) => {
                 if is_out(decision) {
                     self.check(desk, control, edge, auth, password)
@@ -180,7 +180,7 @@ impl Talker {
     {
         let session = self.session;
         let answer = self.ask_authenticator(auth, &password);
-        match self.converse(desk, control, edge, EventKind::AuthDone { session, answer }) {
+        match self.submit_and_reply(desk, control, edge, EventKind::AuthDone { session, answer }) {
             Ok(decision) => Ok(next_of(decision, Next::GoOn)),
             Err(failed) => Err(failed),
         }

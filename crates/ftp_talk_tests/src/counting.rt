@@ -1,9 +1,9 @@
 //! A desk that counts what is submitted to another.
 
 use ftp_base::{Bytes, ErrorKind};
-use ftp_desk::{Desk, Told};
 use ftp_events::{Answer, EventKind, HubEvent};
 use ftp_options::Options;
+use ftp_shared::{Desk, Told};
 use std::alloc::AllocError;
 
 /// How many events of each kind were submitted.

@@ -4,10 +4,8 @@ ghost use Rattle.std.specs.Prelude.{◌≡◌};
 
 use crate::values::pooled;
 use ftp_base::{Bytes, ErrorKind, MemoryStorage};
-use ftp_desk::Desk;
 use ftp_options::Options;
-use ftp_shared::Serving;
-use ftp_solo::SoloDesk;
+use ftp_shared::{Desk, Serving, SoloDesk};
 use std::alloc::{AllocError, Global};
 use std::marker::Brand;
 use std::sync::ledger::Blank;

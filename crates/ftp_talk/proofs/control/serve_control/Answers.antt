@@ -2,8 +2,8 @@ use Rattle.std.proofs.Common.{[], ◌∷◌, ap, subst, sym, ◌∙◌, refl}
 use Rattle.ftp_base.specs.Outside.{Writes}
 use Rattle.ftp_options.specs.declared.options.Options.{Options}
 use Rattle.ftp_events.specs.declared.event.HubEvent.{HubEvent}
-use Rattle.ftp_stream.specs.Writing.{WritesFront}
-use Rattle.ftp_dialogue.specs.Saying.{greeting_line}
+use Rattle.ftp_lines.specs.Writing.{WritesFront}
+use Rattle.ftp_talk.specs.Saying.{greeting_line}
 use Rattle.ftp_talk.specs.Ground.{Start}
 use Rattle.ftp_talk.specs.Control.{peer_of, ground_of, IsSubmitted}
 use Rattle.ftp_talk.proofs.EndLemmas.{ends-front}
@@ -60,7 +60,7 @@ returns-in-Err-clause-served g c =
     let named1 = ap (λ (x : HubEvent). peer_of x.kind c.args.answer) k.event ∙ named in
     let ground = ground_of e peer start in
     let begins = rw c.options.ensures.told at c.in-Ok.ensures in
-    let knows = c.greet.ensures.known ground (e ∷ []) (knows-open e peer start c.in-Ok.talker opened begins) in
+    let knows = c.greet.ensures.known ground (e ∷ []) (knows-open e peer start c.in-Ok.state opened begins) in
     let live = c.greet.ensures.over ∙ begins.live in
     let sent1 = (g.C.Source.sending c.greet.new.link).sent in
     let front = subst (λ (o : Options). WritesFront start.sent sent1 (greeting_line o.greeting)) (c.options-2.ensures.told ∙ k.options) c.in-Err.ensures.front in
@@ -99,7 +99,7 @@ returns-clause-served g c =
     let named1 = ap (λ (x : HubEvent). peer_of x.kind c.args.answer) k.event ∙ named in
     let ground = ground_of e peer start in
     let begins = rw c.options.ensures.told at c.in-Ok.ensures in
-    let knows = c.greet.ensures.known ground (e ∷ []) (knows-open e peer start c.in-Ok.talker opened begins) in
+    let knows = c.greet.ensures.known ground (e ∷ []) (knows-open e peer start c.in-Ok.state opened begins) in
     let live = c.greet.ensures.over ∙ begins.live in
     let sent1 = (g.C.Source.sending c.greet.new.link).sent in
     let wrote = subst (λ (o : Options). Writes start.sent sent1 (greeting_line o.greeting)) (c.options-2.ensures.told ∙ k.options) c.in_default-greet.ensures.wrote in

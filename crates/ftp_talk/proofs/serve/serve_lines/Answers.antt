@@ -5,4 +5,4 @@ pub returns-clause-ended : goal.returns-clause-ended
 returns-clause-ended g c = λ q is first.
     let t = c.loop.invariant.talking q is first in
     c.leave.ensures q (g.C.Source.sending c.loop.control).sent is.about
-    (cut-standing q c.loop.talker _ _ _ _ _ _ _ t.standing (same_edge (g.E.Edge.view c.loop.edge)) (same_desk (g.D.Desk.view c.loop.desk)))
+    (cut-standing q c.loop.state _ _ _ _ _ _ _ t.standing (same_edge (g.E.Edge.view c.loop.edge)) (same_desk (g.D.Desk.view c.loop.desk)))

@@ -1,5 +1,5 @@
 use Rattle.std.proofs.Common.{◌≡◌, ◌≤◌, [], length}
-use Rattle.ftp_dialogue.specs.Lines.{IsHeld, held_in}
+use Rattle.ftp_lines.specs.ControlLine.{IsHeld, held_in}
 use Rattle.ftp_talk.specs.Ground.{Ground}
 use Rattle.ftp_talk.specs.Speaking.{Talking, IsOf}
 use Rattle.ftp_talk.proofs.serve.serve_lines.Given as goal
@@ -10,7 +10,7 @@ invariant-loop g l = record {
   held : IsHeld l.buffer l.held;
   len : length l.buffer ≡ 8193;
   talking : (q : Ground) → IsOf q g.D.Desk.vouches g.D.Desk.draws_next g.C.Control.is_always_ready (g.A.Authenticator.may_answer l.auth) →
-      Talking q l.initial.talker (g.E.Edge.view l.initial.edge) (g.D.Desk.view l.initial.desk) (g.C.Source.sending l.initial.control).sent [] (g.C.Source.left l.initial.control) →
-      Talking q l.talker (g.E.Edge.view l.edge) (g.D.Desk.view l.desk) (g.C.Source.sending l.control).sent (held_in l.buffer l.held) (g.C.Source.left l.control);
+      Talking q l.initial.state (g.E.Edge.view l.initial.edge) (g.D.Desk.view l.initial.desk) (g.C.Source.sending l.initial.control).sent [] (g.C.Source.left l.initial.control) →
+      Talking q l.state (g.E.Edge.view l.edge) (g.D.Desk.view l.desk) (g.C.Source.sending l.control).sent (held_in l.buffer l.held) (g.C.Source.left l.control);
   count : g.C.Source.faults l.initial.control ≤ g.C.Source.faults l.control;
 }

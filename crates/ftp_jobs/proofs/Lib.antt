@@ -1,3 +1,0 @@
-mod EndLemmas
-mod MomentLemmas
-mod ProgressLemmas

@@ -1,4 +1,0 @@
-pub mod Answers
-pub mod Moments
-pub mod Reports
-pub mod Runs

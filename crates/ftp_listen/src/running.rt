@@ -1,0 +1,215 @@
+//! The life of a state: its doors are kept until a shutdown is asked for, and then it is drained.
+
+ghost use Rattle.std.specs.Prelude.{◌≡◌, ◌≤◌, ◌<◌, ◌+◌, ◌⊎◌, None, Some, IfErr, IsErrOf, IsSome, OnOk};
+ghost use Rattle.ftp_base.specs.Outside.{HasRisen};
+ghost use Rattle.ftp_listen.specs.Causes.{IsPastGrace};
+
+use crate::acceptor::Acceptor;
+use crate::listening::{AcceptPoll, ListeningSockets};
+use crate::parts::ServerParts;
+use crate::spawning::spawn_worker;
+use ftp_base::{Authenticator, Gate, Spawner, Storage};
+use ftp_options::{Indicator, Options, ServerError, Shutdown};
+use ftp_shared::Serving;
+use ftp_system::{Doors, Front, ServerRuntime};
+use ftp_workers::{EventSinks, ServerDesk, ServerState};
+use mio::Waker;
+use std::alloc::{AllocError, Global};
+use std::sync::Arc;
+use std::sync::ledger::Blank;
+
+/// How many parts a book of steps has: more than there are ever threads.
+pub(crate) const PARTS: u64 = 1 << 48;
+
+/// How long one wait at the doors is, in milliseconds.
+const TURN: u64 = 100;
+
+/// How long one wait is while the state is drained, in milliseconds.
+const DRAINING_TURN: u64 = 10;
+
+/// A state to which nothing has happened.
+pub(crate) fn new_state<
+    L: Serving,
+    A: Authenticator + Drop,
+    N: EventSinks + Drop,
+    S: Storage + Drop,
+    G: Gate + Drop,
+>(
+    alloc: Global,
+    options: Options,
+    blank: Blank,
+    server_parts: ServerParts<A, N, S>,
+    gate: Arc<G, Global>,
+    waker: Arc<Waker, Global>,
+) -> Result<Arc<ServerState<L, A, N, S, G>, Global>, AllocError>
+    requires name { blank.name ≡ L.name }
+    requires parts { blank.parts ≡ L.parts }
+    requires all { blank.parts ≡ PARTS }
+    requires options { options ≡ L.options }
+{
+    let ServerParts {
+        authenticator,
+        sinks,
+        storage,
+    } = server_parts;
+    let (steps, parts) = blank.open::<L>();
+    let state = ServerState::new(
+        alloc,
+        options,
+        (steps, parts, PARTS),
+        authenticator,
+        sinks,
+        storage,
+        gate,
+        waker,
+    )?;
+    match Arc::new(alloc, state) {
+        Ok(state) => Ok(state),
+        Err(_) => Err(AllocError),
+    }
+}
+
+// Keeps the doors until a shutdown is asked for. It gives the moment of asking, which is the front's latest.
+fn accept_until_shutdown<
+    R: ServerRuntime,
+    L: Serving + Send + Sync + 'static,
+    A: Authenticator + Send + Sync + Drop + 'static,
+    N: EventSinks + Send + Drop + 'static,
+    S: Storage + Send + Drop + 'static,
+    G: Gate + Send + Sync + Drop + 'static,
+    P: Spawner,
+    F: Front,
+    I: Indicator,
+>(
+    rt: &R,
+    acceptor: &mut Acceptor<R, L, A, N, S, G>,
+    poll: &mut AcceptPoll,
+    sockets: &ListeningSockets,
+    spawner: &mut P,
+    front: &mut F,
+    indicator: &mut I,
+) -> (u64, Shutdown)
+    ensures asked { I.asked indicator.old ≡ None → I.asked indicator.new ≡ Some (result.0, result.1.grace_ms) }
+    ensures has_asked { IsSome (I.asked indicator.new) }
+    ensures spawner { P.faults spawner.old ≤ P.faults spawner.new }
+    ensures front { F.faults front.old ≤ F.faults front.new }
+{
+    for _ in rt.forever() {
+        acceptor.wait(poll, TURN);
+        let at = front.now();
+        acceptor.accept_ready(poll, sockets, at);
+        acceptor.spawn_wanted(spawner);
+        acceptor.run_timers(at);
+        if let Some(shutdown) = indicator.poll(at) {
+            return (at, shutdown);
+        }
+    }
+    unreachable!()
+}
+
+// Ends all sessions, and waits for the jobs that run, but not beyond the grace period of a shutdown that was asked for at
+// this moment.
+fn drain<
+    R: ServerRuntime,
+    L: Serving + Send + Sync + 'static,
+    A: Authenticator + Send + Sync + Drop + 'static,
+    N: EventSinks + Send + Drop + 'static,
+    S: Storage + Send + Drop + 'static,
+    G: Gate + Send + Sync + Drop + 'static,
+    P: Spawner,
+    F: Front,
+>(
+    rt: &R,
+    acceptor: &mut Acceptor<R, L, A, N, S, G>,
+    poll: &mut AcceptPoll,
+    spawner: &mut P,
+    front: &mut F,
+    asked: (u64, Shutdown),
+) -> Result<(), ServerError>
+    ensures shutdown { IsErrOf result ServerError.Shutdown → asked.0 + asked.1.grace_ms < F.latest front.new }
+    ensures only { IfErr result (λ e. e ≡ ServerError.Shutdown) }
+    ensures spawner { P.faults spawner.old ≤ P.faults spawner.new }
+    ensures front { F.faults front.old ≤ F.faults front.new }
+{
+    let (asked_at, shutdown) = asked;
+    let mut is_stopped = false;
+    for _ in rt.forever() {
+        let now = front.now();
+        is_stopped = is_stopped || acceptor.stop(now);
+        if is_stopped && acceptor.is_drained() {
+            return Ok(());
+        }
+        if now.saturating_sub(asked_at) > shutdown.grace_ms {
+            return Err(ServerError::Shutdown);
+        }
+        acceptor.wait(poll, DRAINING_TURN);
+        acceptor.spawn_wanted(spawner);
+    }
+    unreachable!()
+}
+
+/// Keeps a state with these doors, until a shutdown was asked for and is over.
+pub(crate) fn run_server<
+    L: Serving + Send + Sync + 'static,
+    R: ServerRuntime,
+    A: Authenticator + Send + Sync + Drop + 'static,
+    N: EventSinks + Send + Drop + 'static,
+    S: Storage + Send + Drop + 'static,
+    G: Gate + Send + Sync + Drop + 'static,
+    P: Spawner,
+    F: Front,
+    I: Indicator,
+>(
+    rt: &R,
+    alloc: Global,
+    options: Options,
+    blank: Blank,
+    server_parts: ServerParts<A, N, S>,
+    gate: Arc<G, Global>,
+    doors: Doors,
+    spawner: &mut P,
+    front: &mut F,
+    indicator: &mut I,
+) -> Result<(), ServerError>
+    requires name { blank.name ≡ L.name }
+    requires parts { blank.parts ≡ L.parts }
+    requires all { blank.parts ≡ PARTS }
+    requires options { options ≡ L.options }
+    ensures ok { OnOk result (IsSome (I.asked indicator.new)) }
+    ensures listener { IsErrOf result ServerError.Listener → HasRisen (P.faults spawner.old) (P.faults spawner.new) }
+    ensures shutdown { IsErrOf result ServerError.Shutdown → I.asked indicator.old ≡ None → IsPastGrace (I.asked indicator.new) (F.latest front.new) }
+    ensures has_asked { IsErrOf result ServerError.Shutdown → IsSome (I.asked indicator.new) }
+    ensures only { IfErr result (λ e. (e ≡ ServerError.Listener) ⊎ ((e ≡ ServerError.Shutdown) ⊎ (e ≡ ServerError.OutOfMemory))) }
+    ensures front { F.faults front.old ≤ F.faults front.new }
+{
+    let is_behind_proxy = options.mode.is_proxy();
+    let Ok((poll, sockets, waker)) = AcceptPoll::over(rt, alloc, doors) else {
+        return Err(ServerError::OutOfMemory);
+    };
+    let Ok(state) = new_state::<L, A, N, S, G>(alloc, options, blank, server_parts, gate, waker)
+    else {
+        return Err(ServerError::OutOfMemory);
+    };
+    let (Some(share), Ok(theirs)) = (state.share(rt), Arc::try_clone(&state)) else {
+        return Err(ServerError::OutOfMemory);
+    };
+    if !spawn_worker(rt, &state, spawner) {
+        return Err(ServerError::Listener);
+    }
+    let desk = ServerDesk::new(*rt, theirs, share);
+    let mut poll = poll;
+    let mut acceptor = Acceptor::new(*rt, state, desk, is_behind_proxy, front.now());
+    let asked = accept_until_shutdown(
+        rt,
+        &mut acceptor,
+        &mut poll,
+        &sockets,
+        spawner,
+        front,
+        indicator,
+    );
+    drop(sockets);
+    let ended = drain(rt, &mut acceptor, &mut poll, spawner, front, asked);
+    acceptor.close();
+    ended
+}

@@ -1,0 +1,57 @@
+//! Threads for the tasks of a state.
+
+ghost use Rattle.std.specs.Prelude.{◌≡◌, ◌≤◌, false};
+ghost use Rattle.ftp_base.specs.Outside.{HasRisen};
+
+use ftp_base::{Authenticator, Gate, Spawner, Storage};
+use ftp_shared::Serving;
+use ftp_system::{ServerRuntime, start};
+use ftp_workers::{EventSinks, ServerState, work};
+use std::alloc::Global;
+use std::sync::Arc;
+
+/// Starts a thread that does tasks, and says whether the spawner did. Where nothing is left for one more thread to be
+/// counted by, none is started either.
+pub(crate) fn spawn_worker<
+    R: ServerRuntime,
+    L: Serving + Send + Sync + 'static,
+    A: Authenticator + Send + Sync + Drop + 'static,
+    N: EventSinks + Send + Drop + 'static,
+    S: Storage + Send + Drop + 'static,
+    G: Gate + Send + Sync + Drop + 'static,
+    P: Spawner,
+>(rt: &R, state: &Arc<ServerState<L, A, N, S, G>, Global>, spawner: &mut P) -> bool
+    ensures fault_rose { result ≡ false → HasRisen (P.faults spawner.old) (P.faults spawner.new) }
+    ensures count { P.faults spawner.old ≤ P.faults spawner.new }
+{
+    let Some(share) = state.share(rt) else {
+        return true;
+    };
+    let Ok(theirs) = Arc::try_clone(state) else {
+        state.take_back(rt, share);
+        return true;
+    };
+    let rt = *rt;
+    start(&rt, spawner, move || work(rt, theirs, share)).is_none()
+}
+
+/// Starts the threads that the state wants and those that are still owed to it, and says how many are owed then.
+pub(crate) fn spawn_wanted<
+    R: ServerRuntime,
+    L: Serving + Send + Sync + 'static,
+    A: Authenticator + Send + Sync + Drop + 'static,
+    N: EventSinks + Send + Drop + 'static,
+    S: Storage + Send + Drop + 'static,
+    G: Gate + Send + Sync + Drop + 'static,
+    P: Spawner,
+>(rt: &R, state: &Arc<ServerState<L, A, N, S, G>, Global>, spawner: &mut P, owed: u64) -> u64
+    ensures count { P.faults spawner.old ≤ P.faults spawner.new }
+{
+    let wanted = owed.saturating_add(state.wanted());
+    for started in 0..wanted {
+        if !spawn_worker(rt, state, spawner) {
+            return wanted - started;
+        }
+    }
+    0
+}

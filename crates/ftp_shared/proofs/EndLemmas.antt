@@ -1,0 +1,91 @@
+-- The entry that a receipt tells has the event and the answer that were handed in.
+use Rattle.std.proofs.Common.{◌≡◌, inl, inr, refl, sym, ap, subst, ℕ, false}
+use Rattle.std.proofs.Math.Logic.{∥∥₁_elim}
+use Rattle.std.specs.Coded.{Coded-set}
+use Rattle.std.specs.Prelude.{IfOk, IfSome, IsSome, OnErr, OnOk, Result, Ok, Err}
+use Rattle.ftp_events.specs.contracts.event.Answer.{the_row as answer_row}
+use Rattle.ftp_events.specs.contracts.event.HubEvent.{the_row as event_row}
+use Rattle.ftp_events.specs.declared.entry.Entry.{Entry}
+use Rattle.ftp_events.specs.declared.event.Answer.{Answer}
+use Rattle.ftp_events.specs.declared.event.Answer.TheVariants.{Done, Moved}
+use Rattle.ftp_events.specs.declared.event.EventKind.{EventKind}
+use Rattle.ftp_events.specs.declared.event.EventKind.TheVariants.{End, Piece}
+use Rattle.ftp_events.specs.declared.event.HubEvent.{HubEvent}
+use Rattle.ftp_options.specs.declared.options.Options.{Options}
+use Rattle.ftp_transfer.specs.declared.job.Job.{Job}
+use Rattle.ftp_transfer.specs.declared.job.Outcome.{Outcome}
+use Rattle.ftp_transfer.specs.declared.job.Ticket.{Ticket}
+use Rattle.ftp_shared.specs.Answers.{moved_in, outcome_in}
+use Rattle.ftp_shared.specs.Runs.{IsLastOf}
+use Rattle.ftp_shared.specs.declared.receipt.Receipt.{Receipt}
+use Rattle.ftp_shared.specs.Next.{IsNextAt, end_of, is_moved, piece_of}
+
+-- its event
+event-told : (o : Options) (r : Receipt) (event : HubEvent) (answer : Answer) → IsNextAt o r event answer → r.entry.event ≡ event
+event-told o r event answer next =
+    ∥∥₁_elim next (Coded-set event_row.coded r.entry.event event) (λ n. ap (λ (e : Entry). e.event) n.entry)
+
+-- its answer
+pub answer-told : (o : Options) (r : Receipt) (event : HubEvent) (answer : Answer) → IsNextAt o r event answer → r.entry.answer ≡ answer
+answer-told o r event answer next =
+    ∥∥₁_elim next (Coded-set answer_row.coded r.entry.answer answer) (λ n. ap (λ (e : Entry). e.answer) n.entry)
+
+-- its moment
+pub moment-told : (o : Options) (r : Receipt) (k : EventKind) (at : ℕ) (answer : Answer) → IsNextAt o r (record { at = at; kind = k }) answer → at ≡ r.entry.event.at
+moment-told o r k at answer next = sym (ap (λ (e : HubEvent). e.at) (event-told o r (record { at = at; kind = k }) answer next))
+
+-- so it is the next one of what it tells itself
+next-told : (o : Options) (r : Receipt) (k : EventKind) (at : ℕ) (answer : Answer) →
+    IsNextAt o r (record { at = at; kind = k }) answer → IsNextAt o r (record { at = r.entry.event.at; kind = k }) r.entry.answer
+next-told o r k at answer next =
+    subst (λ (at : ℕ). IsNextAt o r (record { at = at; kind = k }) r.entry.answer) (moment-told o r k at answer next)
+    (subst (λ (given : Answer). IsNextAt o r (record { at = at; kind = k }) given) (sym (answer-told o r (record { at = at; kind = k }) answer next)) next)
+
+-- the end of a job, of which more was told by then
+pub last-end : (o : Options) (r : Receipt) (job told : Job) (at : ℕ) (outcome : Outcome) → told ≡ record job { done = told.done } →
+    IsNextAt o r (end_of told at) (Done outcome) → IsLastOf o job r
+last-end o r job told at outcome same next =
+    let here : IsNextAt o r (end_of job at) (Done outcome) =
+    subst (λ (t : Ticket). IsNextAt o r (record { at = at; kind = End t }) (Done outcome)) (ap (λ (j : Job). j.ticket) same) next in
+    inl (
+      next-told o r (End job.ticket) at (Done outcome) here,
+      subst (λ (given : Answer). IsSome (outcome_in given)) (sym (answer-told o r (end_of job at) (Done outcome) here)) refl,
+    )
+
+-- a piece of a job that is over
+pub last-piece : (o : Options) (r : Receipt) (job told : Job) (at bytes : ℕ) → told ≡ record job { done = told.done } → is_moved r.entry.decision ≡ false →
+    IsNextAt o r (piece_of told at) (Moved bytes) → IsLastOf o job r
+last-piece o r job told at bytes same over next =
+    let here : IsNextAt o r (piece_of job at) (Moved bytes) =
+    subst (λ (t : Ticket). IsNextAt o r (record { at = at; kind = Piece t }) (Moved bytes)) (ap (λ (j : Job). j.ticket) same) next in
+    inr (
+      next-told o r (Piece job.ticket) at (Moved bytes) here,
+      subst (λ (given : Answer). IsSome (moved_in given)) (sym (answer-told o r (piece_of job at) (Moved bytes) here)) refl,
+      over,
+    )
+
+-- what is true of an outcome is true of that in its answer
+pub outcome-told : (P : Outcome → Type 0) (given : Answer) (outcome : Outcome) → given ≡ Done outcome → P outcome → IfSome (outcome_in given) P
+outcome-told P given outcome same holds = subst (λ (given : Answer). IfSome (outcome_in given) P) (sym same) holds
+
+-- there are no bytes of a piece in it
+pub outcome-alone : (P : ℕ → Type 0) (given : Answer) (outcome : Outcome) → given ≡ Done outcome → IfSome (moved_in given) P
+outcome-alone P given outcome same = subst (λ (given : Answer). IfSome (moved_in given) P) (sym same) tt
+
+-- what is true of a piece's bytes is true of those in its answer
+pub bytes-told : (P : ℕ → Type 0) (given : Answer) (bytes : ℕ) → given ≡ Moved bytes → P bytes → IfSome (moved_in given) P
+bytes-told P given bytes same holds = subst (λ (given : Answer). IfSome (moved_in given) P) (sym same) holds
+
+-- there is no outcome in it
+pub bytes-alone : (P : Outcome → Type 0) (given : Answer) (bytes : ℕ) → given ≡ Moved bytes → IfSome (outcome_in given) P
+bytes-alone P given bytes same = subst (λ (given : Answer). IfSome (outcome_in given) P) (sym same) tt
+
+-- what follows from a success and what came with it
+pub with-ok : {T X : Type 0} {Q : Type 0} (r : Result T X) (P R : T → Type 0) → OnOk r Q → IfOk r P → ((x : T) → Q → P x → R x) → IfOk r R
+with-ok (Ok x) P R also holds next = next x also holds
+with-ok (Err e) P R also holds next = tt
+
+-- what follows from an error
+pub with-err : {T X : Type 0} {Q R : Type 0} (r : Result T X) → OnErr r Q → (Q → R) → OnErr r R
+with-err (Ok x) also next = tt
+with-err (Err e) also next = next also

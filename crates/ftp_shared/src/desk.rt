@@ -1,0 +1,64 @@
+//! The desk, and what it tells.
+
+ghost use Rattle.std.specs.Prelude.{◌≡◌, ◌≤◌, ℕ, Bool, true, false, Some, None, IfOk, IfSome, OnOk, OnErr};
+ghost use Rattle.ftp_base.specs.declared.error_kind.ErrorKind.TheVariants.{LocalError};
+ghost use Rattle.ftp_base.specs.Outside.{HasRisen};
+ghost use Rattle.ftp_shared.specs.Desk.{DeskView, SameDesk, IsVouched, Appends, MaySay, RisesBy, drawn_after};
+ghost use Rattle.ftp_shared.specs.Outbox.{has_ticket};
+
+use crate::Replies;
+use ftp_base::{Bytes, ErrorKind};
+use ftp_events::{Answer, Entry, HubEvent};
+use ftp_options::Options;
+use std::alloc::AllocError;
+
+/// An entry, and the replies to the session that its event names which came before it and were not handed out yet.
+#[derive(Drop)]
+pub struct Told {
+    pub earlier: Replies,
+    pub entry: Entry,
+}
+
+/// Decides events, and tells what was decided.
+///
+/// The end of a job is not submitted here: its event names a ticket.
+pub trait Desk {
+    // What it tells.
+    ghost view: { Self → DeskView };
+
+    // Whether each entry is the next one of some right and acted log.
+    ghost vouches: { Bool } = { false };
+
+    // Whether a number that is drawn is the one behind the greatest of the journal.
+    ghost draws_next: { Bool } = { false };
+
+    /// The options under which its logs are right.
+    fn options(&self) -> &Options
+        ensures told { result.now ≡ (view self.now).options };
+
+    /// Has the event decided, with the answer to it.
+    fn submit(&mut self, event: HubEvent, answer: Answer) -> Result<Told, AllocError>
+        requires unticketed { has_ticket event.kind ≡ false }
+        ensures event { IfOk result (λ told. told.entry.event ≡ event) }
+        ensures answer { IfOk result (λ told. told.entry.answer ≡ answer) }
+        ensures vouched { IfOk result (λ told. vouches ≡ true → IsVouched (view self.old).options told.earlier told.entry) }
+        ensures appended { IfOk result (λ told. IfSome (view self.old).journal (λ J. Appends J (view self.old) (view self.new) told.earlier told.entry)) }
+        ensures share { OnOk result (RisesBy 1 (view self.old).share (view self.new).share) }
+        ensures options { (view self.new).options ≡ (view self.old).options }
+        ensures files { (view self.new).files ≡ (view self.old).files }
+        ensures count { (view self.old).faults ≤ (view self.new).faults }
+        ensures refused { OnErr result (SameDesk (view self.old) (view self.new)) };
+
+    /// A number for a new session or connection; it may come again.
+    fn draw(&mut self) -> u64
+        ensures drawn { draws_next ≡ true → IfSome (view self.old).journal (λ J. result ≡ drawn_after J) }
+        ensures files { (view self.new).files ≡ (view self.old).files }
+        ensures same { SameDesk (view self.old) (view self.new) };
+
+    /// Why a path is no directory of the storage, where it is none.
+    fn directory(&mut self, user: &Bytes, path: &Bytes) -> Result<Option<ErrorKind>, AllocError>
+        ensures may { IfOk result (λ refusal. MaySay (view self.old).files path.now refusal) }
+        ensures fault_rose { IfOk result (λ refusal. refusal ≡ Some LocalError → HasRisen (view self.old).faults (view self.new).faults) }
+        ensures files { (view self.new).files ≡ (view self.old).files }
+        ensures same { SameDesk (view self.old) (view self.new) };
+}

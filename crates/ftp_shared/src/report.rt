@@ -1,0 +1,80 @@
+//! What is told of a job on its way.
+
+ghost use Rattle.std.specs.Prelude.{◌≡◌, ◌<◌, ◌&&◌, false, nat_lt};
+ghost use Rattle.std.specs.Int.{is_power_of_two};
+ghost use Rattle.ftp_shared.specs.Reports.{HasTold};
+ghost use Rattle.ftp_shared.specs.Next.{is_moved};
+ghost use Rattle.ftp_transfer.specs.Transfer.{is_listing};
+
+use crate::{FinishError, JobShare, Serving, SharedHub, StepShare, Submitted};
+use ftp_base::Edge;
+use ftp_events::Decision;
+use std::sync::Wait;
+
+/// No piece that is told has more bytes.
+const MOST_BYTES: u64 = 8192;
+
+/// What became of a job of which a piece may have been told.
+#[derive(Drop)]
+pub(crate) enum Reported {
+    GoesOn(JobShare),
+    /// It is over, by this entry.
+    Over(Submitted),
+}
+
+/// Tells a piece of a job, where it is to stop or enough pieces have moved since one was told.
+///
+/// The piece has the bytes that were not told yet, but for those above 8,192. Where memory runs out nothing is told.
+pub(crate) fn report<R: Wait, H: Serving, E: Edge>(
+    rt: &R,
+    hub: &SharedHub<H>,
+    share: &mut StepShare<H>,
+    job: JobShare,
+    done: u64,
+    count: u64,
+    edge: &mut E,
+) -> Reported
+    requires file { is_listing job.command ≡ false }
+    requires more { job.done < done }
+    ensures { HasTold H.options job done (E.view edge.old) (E.view edge.new) share.old.count share.new.count result }
+{
+    if !is_due(count) && !job.is_marked() {
+        return Reported::GoesOn(job);
+    }
+    let bytes = (done - job.done()).min(MOST_BYTES);
+    let at = edge.now();
+    match hub.piece(rt, share, job, at, bytes) {
+        Err(FinishError(job)) => Reported::GoesOn(job),
+        Ok(submitted) => {
+            if !is_moved(submitted.receipt.entry.decision) {
+                return Reported::Over(submitted);
+            }
+            match job_in(submitted) {
+                Some(job) => Reported::GoesOn(job),
+                None => unreachable!(),
+            }
+        }
+    }
+}
+
+// Says whether a piece of a job that is not to stop is told: from the second on each whose number is a power of two.
+fn is_due(count: u64) -> bool
+    ensures { result ≡ (nat_lt 1 count && is_power_of_two count) }
+{
+    count > 1 && count.is_power_of_two()
+}
+
+// The job that comes with an entry.
+fn job_in(submitted: Submitted) -> Option<JobShare>
+    ensures { result ≡ submitted.job }
+{
+    let Submitted { receipt: _, job } = submitted;
+    job
+}
+
+// Says whether a piece was counted, and its job goes on.
+fn is_moved(decision: Decision) -> bool
+    ensures { result ≡ is_moved decision }
+{
+    matches!(decision, Decision::Moved)
+}

@@ -1,0 +1,79 @@
+//! One job, from its gate to its last entry in the journal.
+
+ghost use Rattle.std.specs.Prelude.{◌≡◌, ◌+◌, ◌-◌, ◌<◌, ◌≤◌, ◌⊎◌, IfOk, IfErr, IfSome, OnOk, OnErr};
+ghost use Rattle.ftp_events.specs.Leads.{views};
+ghost use Rattle.ftp_shared.specs.Answers.{moved_in, outcome_in};
+ghost use Rattle.ftp_shared.specs.Moments.{TakesMoments};
+ghost use Rattle.ftp_shared.specs.Runs.{IsLastOf, RunsOn, StopsOn, IsUntouched, IsUntold, site};
+
+use crate::report::{Reported, report};
+use crate::{FinishError, JobShare, Serving, SharedHub, StepShare, Submitted};
+use ftp_base::{Edge, Gate, Link, Storage};
+use ftp_transfer::{PieceResult, execute_piece};
+use std::alloc::Global;
+use std::sync::Wait;
+
+/// Passes the gate with the number of this call, moves the bytes of the job piece by piece, on this storage and this link,
+/// and adds its end. A job that was to stop, of which a piece is told, is over with that entry.
+///
+/// Some pieces on the way are told too, so that long transfers are seen to go on. An error is want of memory for the last
+/// entry, and gives the job back.
+pub fn serve_job<R: Wait, H: Serving, S: Storage, L: Link, G: Gate, E: Edge>(
+    rt: &R,
+    alloc: Global,
+    hub: &SharedHub<H>,
+    share: &mut StepShare<H>,
+    job: JobShare,
+    gate: &G,
+    call: u64,
+    storage: &mut S,
+    link: &mut L,
+    edge: &mut E,
+) -> Result<Submitted, FinishError>
+    ensures next { IfOk result (λ s. IsLastOf H.options job s.receipt) }
+
+    // At its end the job was run, from the bytes that were moved before.
+    ensures runs { IfOk result (λ s. IfSome (outcome_in s.receipt.entry.answer) (λ outcome.
+        RunsOn (site (views S.files S.rule S.faults S.fault_limit S.calls L.left L.sending L.faults L.fault_limit L.calls) S.reads_take_memory L.takes_memory)
+        job outcome storage.old storage.new link.old link.new)) }
+
+    // At a piece a front of what such a run moves was moved.
+    ensures stops { IfOk result (λ s. IfSome (moved_in s.receipt.entry.answer) (λ told.
+        StopsOn (site (views S.files S.rule S.faults S.fault_limit S.calls L.left L.sending L.faults L.fault_limit L.calls) S.reads_take_memory L.takes_memory)
+        job told storage.old storage.new link.old link.new)) }
+    ensures moments { IfOk result (λ s. TakesMoments (E.view edge.old) (E.view edge.new) (share.new.count - share.old.count) s.receipt.entry.event.at) }
+    ensures share { OnOk result (share.old.count < share.new.count) }
+
+    // An error gives the job back. Nothing was begun, or the job was run and no entry tells what became of it.
+    ensures given_back { IfErr result (λ e. (e.0 ≡ record job { done = e.0.done }) × (job.done ≤ e.0.done)) }
+    ensures kept_share { share.old.count ≤ share.new.count }
+    ensures untold { OnErr result (IsUntouched storage.old storage.new link.old link.new edge.old edge.new
+        ⊎ IsUntold (site (views S.files S.rule S.faults S.fault_limit S.calls L.left L.sending L.faults L.fault_limit L.calls) S.reads_take_memory L.takes_memory)
+        job storage.old storage.new link.old link.new (E.view edge.old) (E.view edge.new) (share.new.count - share.old.count)) }
+{
+    let Ok(copy) = job.job(alloc) else {
+        return Err(FinishError(job));
+    };
+    gate.pass(call);
+    let mut next = copy;
+    let mut job = job;
+    let mut count: u64 = 0;
+    'pieces: loop {
+        match execute_piece(alloc, &mut next, storage, link) {
+            PieceResult::Ended(outcome) => {
+                let at = edge.now();
+                return hub.finish(rt, share, job, at, outcome);
+            }
+            PieceResult::More { bytes: _ } => {
+                count += 1;
+                match report(rt, hub, share, job, next.done, count, edge) {
+                    Reported::GoesOn(told) => job = told,
+                    Reported::Over(submitted) => {
+                        let _ = link.close();
+                        return Ok(submitted);
+                    }
+                }
+            }
+        }
+    }
+}

@@ -1,0 +1,92 @@
+//! Where a server listens, as a text says it.
+
+ghost use Rattle.std.specs.Prelude.{◌≡◌, ◌≢◌, ℕ, ◌-◌, ◌<◌, ◌≤◌, ◌==◌, ◌++◌, true, false, List, length, get_or, codes, IfSome, IsNone, MatchOption};
+ghost use Rattle.std.specs.List.{list_all};
+ghost use Rattle.std.specs.Char.{is_ascii_digit};
+ghost use Rattle.ftp_base.specs.declared.net.IpAddr.{IpAddr};
+ghost use Rattle.ftp_base.specs.declared.net.SocketAddr.{SocketAddr};
+ghost use Rattle.ftp_system.specs.Listen.{IsHostText, IsBindText};
+ghost use Rattle.ftp_proxy.specs.Header.{is_decimal, number_of};
+
+use ftp_base::{IpAddr, SocketAddr};
+use ftp_proxy::value_below;
+use std::net::{Ipv4Addr, Ipv6Addr};
+
+/// The address and the port that the text writes: `127.0.0.1:21` or `[::1]:21`.
+pub fn bind_address(text: &[u8]) -> Option<SocketAddr>
+    ensures written { IfSome result (IsBindText text.now) }
+    ensures none { IsNone result → (at : SocketAddr) → ¬ (IsBindText text.now at) }
+{
+    let behind = behind_last_colon(text);
+    if behind == 0 {
+        return None;
+    }
+    let ip = host_ip(&text[..behind - 1])?;
+    let port = port_of(&text[behind..])?;
+    Some(SocketAddr { ip, port })
+}
+
+// The place behind the last colon, or 0 where there is none.
+fn behind_last_colon(text: &[u8]) -> usize
+    ensures within { result ≤ length text.now }
+    ensures colon { 0 < result → get_or text.now (result - 1) 0 ≡ 58 }
+    ensures last { (k : ℕ) → result ≤ k → k < length text.now → (get_or text.now k 0 == 58) ≡ false }
+{
+    let mut behind = 0;
+    for (i, b) in text.iter().enumerate() {
+        if *b == b':' {
+            behind = i + 1;
+        }
+    }
+    behind
+}
+
+/// The port that decimal digits write, of which a zero leads no other.
+pub fn port_of(text: &[u8]) -> Option<u16>
+    ensures number { result ≡ number_of 65536 text.now }
+{
+    if !is_decimal(text) {
+        return None;
+    }
+    let port = value_below(text, 65536)?;
+    Some(port as u16)
+}
+
+fn is_decimal(text: &[u8]) -> bool
+    ensures decimal { result ≡ is_decimal text.now }
+    ensures digits { result ≡ true → list_all is_ascii_digit text.now ≡ true }
+{
+    !text.is_empty() && are_digits(text) && (text[0] != b'0' || text.len() == 1)
+}
+
+fn are_digits(text: &[u8]) -> bool
+    ensures { result ≡ list_all is_ascii_digit text.now }
+{
+    text.iter().all(|b| b.is_ascii_digit())
+}
+
+// The address that the text writes.
+fn host_ip(text: &[u8]) -> Option<IpAddr>
+    ensures written { IfSome result (IsHostText text.now) }
+    ensures none { IsNone result → (ip : IpAddr) → ¬ (IsHostText text.now ip) }
+{
+    if let Ok(ip) = Ipv4Addr::parse_ascii(text) {
+        return Some(IpAddr::V4(ip.to_bits()));
+    }
+    let inner = in_brackets(text)?;
+    match Ipv6Addr::parse_ascii(inner) {
+        Ok(ip) => Some(IpAddr::V6(ip.to_bits())),
+        Err(_) => None,
+    }
+}
+
+// What stands between brackets.
+fn in_brackets(text: &[u8]) -> Option<&[u8]>
+    ensures found { IfSome result (λ inner. text.now ≡ codes "[" ++ inner.now ++ codes "]") }
+    ensures none { IsNone result → (inner : List ℕ) → text.now ≢ codes "[" ++ inner ++ codes "]" }
+{
+    if let [b'[', inner @ .., b']'] = text {
+        return Some(inner);
+    }
+    None
+}

@@ -1,0 +1,131 @@
+//! Control connections over sockets.
+
+use crate::loopback::{is_at_end, now, pair, receive, send, since};
+use ftp_base::{Control, Failed, Link, LinkFault, Source};
+use ftp_system::{ControlHandle, SocketControl};
+use std::net::Shutdown;
+use std::test::Fail;
+use std::thread;
+use std::time::{Clock, Duration};
+
+/// Longer than any test takes, in milliseconds.
+const LONG: u64 = 50_000;
+
+#[test]
+fn a_wait_ends_by_its_time(rt: HostRuntime) -> Result<(), Fail> {
+    let (client, server) = pair(&rt)?;
+    let mut control = SocketControl::new(&rt, rt.alloc(), server, 0, LONG)?;
+    let begun = now(&rt)?;
+    assert_eq!(rt; control.ready(100), Ok(false));
+    assert!(rt; since(&rt, begun)? >= 100);
+    control.set_patience(100);
+    let begun = now(&rt)?;
+    assert_eq!(rt; control.ready(0), Ok(false));
+    assert!(rt; since(&rt, begun)? >= 100);
+    drop(client);
+    Ok(())
+}
+
+#[test]
+fn a_line_and_its_reply_go_at_once(rt: HostRuntime) -> Result<(), Fail> {
+    let (client, server) = pair(&rt)?;
+    let mut control = SocketControl::new(&rt, rt.alloc(), server, LONG, LONG)?;
+    let begun = now(&rt)?;
+    let mut line = [0; 6];
+    send(&client, b"NOOP\r\n")?;
+    assert_eq!(rt;
+        (control.ready(LONG), control.read(&mut line), &line),
+        (Ok(true), Ok(6), b"NOOP\r\n")
+    );
+    assert_eq!(rt; control.write(b"200 OK"), Ok(6));
+    receive(&client, &mut line)?;
+    assert_eq!(rt; &line, b"200 OK");
+    drop(client);
+    assert_eq!(rt;
+        (control.ready(LONG), control.read(&mut line)),
+        (Ok(true), Ok(0))
+    );
+    assert!(rt; since(&rt, begun)? < LONG as u128);
+    Ok(())
+}
+
+/// Wakes the control connection after so many milliseconds.
+fn wake_later<C: Clock>(clock: &C, handle: &ControlHandle, millis: u64) {
+    thread::sleep(clock, Duration::from_millis(millis));
+    handle.wake();
+}
+
+#[test]
+fn another_thread_ends_a_wait(rt: HostRuntime) -> Result<(), Fail> {
+    let (client, server) = pair(&rt)?;
+    let mut control = SocketControl::new(&rt, rt.alloc(), server, 0, LONG)?;
+    let handle = control.handle()?;
+    let begun = now(&rt)?;
+    let (_, waited) = thread::join(&rt, || wake_later(&rt, &handle, 50), || control.ready(LONG));
+    assert_eq!(rt; waited, Ok(false));
+    // A wake ends one wait, also where it came before that.
+    handle.try_clone()?.wake();
+    assert_eq!(rt; control.ready(LONG), Ok(false));
+    assert!(rt; since(&rt, begun)? < LONG as u128);
+    let begun = now(&rt)?;
+    assert_eq!(rt; control.ready(100), Ok(false));
+    assert!(rt; since(&rt, begun)? >= 100);
+    drop(client);
+    Ok(())
+}
+
+#[test]
+fn another_thread_ends_a_connection(rt: HostRuntime) -> Result<(), Fail> {
+    let (client, server) = pair(&rt)?;
+    let mut control = SocketControl::new(&rt, rt.alloc(), server, 0, LONG)?;
+    control.handle()?.shut_down();
+    assert_eq!(rt;
+        (control.ready(LONG), control.read(&mut [0; 4])),
+        (Ok(true), Ok(0))
+    );
+    assert_eq!(rt; control.write(b"x"), Err(Failed::Fault));
+    assert_eq!(rt; control.last_fault(), Some(LinkFault::BrokenPipe));
+    assert!(rt; is_at_end(&client)?);
+    Ok(())
+}
+
+#[test]
+fn telnet_commands_are_no_text(rt: HostRuntime) -> Result<(), Fail> {
+    let (client, server) = pair(&rt)?;
+    let mut control = SocketControl::new(&rt, rt.alloc(), server, 0, LONG)?;
+    let begun = now(&rt)?;
+    // A command by itself (RFC 854: IAC NOP) ends a wait, and nothing is to be read.
+    send(&client, &[255, 241])?;
+    assert_eq!(rt; control.ready(LONG), Ok(false));
+    // IAC IP, IAC DM before the line, and in it IAC DO 6 and two bytes 255 for one.
+    send(&client, b"\xff\xf4\xff\xf2AB\xff\xfd\x06OR\xff\xff\r\n")?;
+    let mut line = [0; 16];
+    assert_eq!(rt;
+        (control.ready(LONG), control.read(&mut line)),
+        (Ok(true), Ok(7))
+    );
+    assert_eq!(rt; &line[..7], b"ABOR\xff\r\n".as_slice());
+    drop(client);
+    assert_eq!(rt;
+        (control.ready(LONG), control.read(&mut line)),
+        (Ok(true), Ok(0))
+    );
+    assert!(rt; since(&rt, begun)? < LONG as u128);
+    Ok(())
+}
+
+#[test]
+fn a_close_leaves_what_was_sent(rt: HostRuntime) -> Result<(), Fail> {
+    let (client, server) = pair(&rt)?;
+    let mut control = SocketControl::new(&rt, rt.alloc(), server, 0, LONG)?;
+    send(&client, &[b'x'; 4096])?;
+    client.shutdown(Shutdown::Write)?;
+    assert_eq!(rt; control.write(b"221 Bye"), Ok(7));
+    assert_eq!(rt; control.close(), Ok(()));
+    drop(control);
+    let mut reply = [0; 7];
+    receive(&client, &mut reply)?;
+    assert_eq!(rt; &reply, b"221 Bye");
+    assert!(rt; is_at_end(&client)?);
+    Ok(())
+}

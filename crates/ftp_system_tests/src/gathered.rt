@@ -1,0 +1,122 @@
+//! Pieces over a link in memory, some of whose calls fail: a call that is made too early or too often meets a fault.
+
+use ftp_base::{Failed, Link, LinkFault, MemoryLink, Source};
+use ftp_system::{Gathered, gathering_buffer};
+use std::alloc::{AllocError, Global};
+use std::test::Fail;
+
+/// A transfer's piece, which is gathered. What is shorter goes at once.
+const PIECE: usize = 8192;
+
+/// A link that gives `abcdef`, moves all that it is handed, and fails at this call.
+fn link(alloc: Global, fails: u64) -> Result<MemoryLink, AllocError> {
+    let fails = [(fails, LinkFault::Reset)].to_vec(alloc)?;
+    Ok(MemoryLink::new(alloc, b"abcdef".to_vec(alloc)?, 1_000_000, fails))
+}
+
+/// What is done after the pieces were written.
+#[derive(Clone, Copy, Debug)]
+enum Last {
+    Nothing,
+    Close,
+    Read,
+    Short,
+}
+
+/// Does the last thing, and says whether it went well.
+fn done<L: Link>(gathered: &mut Gathered<L>, last: Last) -> bool {
+    match last {
+        Last::Nothing => true,
+        Last::Close => gathered.close().is_ok(),
+        Last::Read => gathered.read(&mut [0; 3]) == Ok(3),
+        Last::Short => gathered.write(b"end") == Ok(3),
+    }
+}
+
+/// A piece of one letter.
+fn piece(alloc: Global, letter: u8) -> Result<Vec<u8>, AllocError> {
+    Vec::from_elem(alloc, letter, PIECE)
+}
+
+/// So many letters of each piece that was sent, in their order, and of an end of three.
+fn sent_pieces(alloc: Global, letters: &[u8], end: &[u8]) -> Result<Vec<u8>, AllocError> {
+    let mut sent = Vec::new(alloc);
+    for letter in letters {
+        sent.extend_from_slice(piece(alloc, *letter)?.as_slice())?;
+    }
+    sent.extend_from_slice(end)?;
+    Ok(sent)
+}
+
+#[test]
+fn pieces_go_together_in_their_order(rt: HostRuntime) -> Result<(), Fail> {
+    let alloc = rt.alloc();
+    // How many pieces the buffer takes, which call fails, what is done last, whether that goes well; what was sent then,
+    // and whether the link is closed.
+    for (room, fails, last, goes, letters, end, is_closed) in [
+        // Nothing goes before it has to.
+        (
+            3,
+            1,
+            Last::Nothing,
+            true,
+            b"".as_slice(),
+            b"".as_slice(),
+            false,
+        ),
+        // All goes in one call, and then the link is closed.
+        (3, 3, Last::Close, true, b"xyz", b"", true),
+        (3, 2, Last::Close, false, b"xyz", b"", false),
+        // What is shorter than a piece takes all with it.
+        (4, 2, Last::Short, true, b"xyz", b"end", false),
+        (4, 1, Last::Short, false, b"", b"", false),
+        // All goes before anything is read, and that in one call.
+        (3, 3, Last::Read, true, b"xyz", b"", false),
+        (3, 2, Last::Read, false, b"xyz", b"", false),
+        // What the buffer has no more room for goes ahead of what comes.
+        (2, 2, Last::Nothing, true, b"xy", b"", false),
+    ] {
+        let buffer = Vec::from_elem(alloc, 0u8, room * PIECE)?;
+        let mut gathered = Gathered::new(link(alloc, fails)?, buffer);
+        for letter in b"xyz" {
+            assert_eq!(rt;
+                gathered.write(piece(alloc, *letter)?.as_slice()),
+                Ok(PIECE)
+            );
+        }
+        assert_eq!(rt; done(&mut gathered, last), goes, "{last:?}, {fails}");
+        let (link, _, _) = gathered.into_rest(alloc)?;
+        assert_eq!(rt;
+            (link.sent(), link.is_closed()),
+            (sent_pieces(alloc, letters, end)?.as_slice(), is_closed),
+            "{last:?}, {fails}"
+        );
+    }
+    Ok(())
+}
+
+#[test]
+fn small_reads_are_answered_from_a_large_one(rt: HostRuntime) -> Result<(), Fail> {
+    let alloc = rt.alloc();
+    let mut gathered = Gathered::new(link(alloc, 2)?, gathering_buffer(alloc)?);
+    let mut taken = [0; 2];
+    for pair in [b"ab", b"cd"] {
+        assert_eq!(rt; (gathered.read(&mut taken), &taken), (Ok(2), pair));
+    }
+    let (_, buffer, rest) = gathered.into_rest(alloc)?;
+    assert_eq!(rt;
+        (buffer.len(), rest.as_slice()),
+        (131_072, b"ef".as_slice())
+    );
+    Ok(())
+}
+
+#[test]
+fn a_fault_of_the_link_is_told(rt: HostRuntime) -> Result<(), Fail> {
+    let alloc = rt.alloc();
+    let mut gathered = Gathered::new(link(alloc, 1)?, gathering_buffer(alloc)?);
+    assert_eq!(rt; gathered.last_fault(), None);
+    assert_eq!(rt; gathered.read(&mut [0; 2]), Err(Failed::Fault));
+    assert_eq!(rt; gathered.last_fault(), Some(LinkFault::Reset));
+    Ok(())
+}

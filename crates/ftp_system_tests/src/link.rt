@@ -1,0 +1,94 @@
+//! Data connections over sockets.
+
+use crate::loopback::{is_at_end, pair, receive, send};
+use ftp_base::{Failed, Link, LinkFault, Source};
+use ftp_system::SocketLink;
+use mio::net::TcpStream;
+use std::alloc::Global;
+use std::net::{self, Net, Shutdown};
+use std::test::Fail;
+use std::time::{Clock, Duration};
+use std::{io, thread};
+
+/// A link that waits for so many milliseconds at most.
+fn link<N: Net + Drop>(
+    net: N,
+    alloc: Global,
+    stream: net::TcpStream,
+    limit: u64,
+) -> io::Result<SocketLink<N>> {
+    stream.set_nonblocking(true)?;
+    let stream = TcpStream::from_std(stream);
+    Ok(SocketLink::new(net, alloc, stream, limit))
+}
+
+#[test]
+fn bytes_go_both_ways_up_to_the_end(rt: HostRuntime) -> Result<(), Fail> {
+    let (client, server) = pair(&rt)?;
+    let mut link = link(rt, rt.alloc(), server, 10_000)?;
+    let mut taken = [0; 4];
+    send(&client, b"abcdef")?;
+    assert_eq!(rt; (link.read(&mut taken), &taken), (Ok(4), b"abcd"));
+    assert_eq!(rt; (link.read(&mut taken), &taken), (Ok(2), b"efcd"));
+    assert_eq!(rt; link.write(b"wxyz"), Ok(4));
+    receive(&client, &mut taken)?;
+    assert_eq!(rt; &taken, b"wxyz");
+    client.shutdown(Shutdown::Write)?;
+    assert_eq!(rt; link.read(&mut taken), Ok(0));
+    assert_eq!(rt; (link.close(), link.last_fault()), (Ok(()), None));
+    assert!(rt; is_at_end(&client)?);
+    Ok(())
+}
+
+/// Sends bytes after so many milliseconds.
+fn send_later<C: Clock>(clock: &C, client: &net::TcpStream, bytes: &[u8], millis: u64) -> bool {
+    thread::sleep(clock, Duration::from_millis(millis));
+    send(client, bytes).is_ok()
+}
+
+#[test]
+fn a_read_waits_for_what_comes(rt: HostRuntime) -> Result<(), Fail> {
+    let (client, server) = pair(&rt)?;
+    let mut link = link(rt, rt.alloc(), server, 30_000)?;
+    let mut taken = [0; 4];
+    let (sent, read) = thread::join(
+        &rt,
+        || send_later(&rt, &client, b"late", 50),
+        || link.read(&mut taken),
+    );
+    assert_eq!(rt; (sent, read, &taken), (true, Ok(4), b"late"));
+    Ok(())
+}
+
+#[test]
+fn a_wait_beyond_the_limit_is_a_fault(rt: HostRuntime) -> Result<(), Fail> {
+    let (client, server) = pair(&rt)?;
+    let mut link = link(rt, rt.alloc(), server, 50)?;
+    assert_eq!(rt; link.read(&mut [0; 4]), Err(Failed::Fault));
+    assert_eq!(rt; link.last_fault(), Some(LinkFault::Other));
+    drop(client);
+    Ok(())
+}
+
+#[test]
+fn a_peer_that_resets_is_a_fault(rt: HostRuntime) -> Result<(), Fail> {
+    let (client, server) = pair(&rt)?;
+    let mut link = link(rt, rt.alloc(), server, 10_000)?;
+    // A connection that is closed with bytes which were not read is reset.
+    assert_eq!(rt; link.write(b"x"), Ok(1));
+    drop(client);
+    assert_eq!(rt; link.read(&mut [0; 4]), Err(Failed::Fault));
+    assert_eq!(rt; link.last_fault(), Some(LinkFault::Reset));
+    Ok(())
+}
+
+#[test]
+fn a_write_to_a_closed_connection_is_a_fault(rt: HostRuntime) -> Result<(), Fail> {
+    let (client, server) = pair(&rt)?;
+    let mut link = link(rt, rt.alloc(), server, 10_000)?;
+    assert_eq!(rt; link.close(), Ok(()));
+    assert_eq!(rt; link.write(b"x"), Err(Failed::Fault));
+    assert_eq!(rt; link.last_fault(), Some(LinkFault::BrokenPipe));
+    assert!(rt; is_at_end(&client)?);
+    Ok(())
+}

@@ -1,0 +1,52 @@
+//! Threads of the system.
+
+use ftp_base::Spawner;
+use ftp_system::{Queue, SystemThreads, start};
+use std::sync::Arc;
+use std::test::Fail;
+
+/// Lets no thread be started, and counts those that were asked for.
+#[derive(Drop)]
+struct NoThreads {
+    faults: u64,
+}
+
+impl Spawner for NoThreads {
+    ghost faults = { λ s. s.faults };
+
+    fn admits(&mut self) -> bool {
+        self.faults = self.faults.saturating_add(1);
+        false
+    }
+
+    fn refused(&mut self) {
+        self.faults = self.faults.saturating_add(1);
+    }
+}
+
+#[test]
+fn work_is_done_by_a_thread_of_its_own(rt: HostRuntime) -> Result<(), Fail> {
+    let queue = Arc::new(rt.alloc(), Queue::new(rt.alloc()))?;
+    let theirs = Arc::try_clone(&queue)?;
+    let refused = start(&rt, &mut SystemThreads::new(), move || {
+        let _ = theirs.put(&rt, 7u64);
+    });
+    assert!(rt; refused.is_none());
+    // It comes from the other thread, for which this one waits.
+    assert_eq!(rt; queue.take(&rt), Some(7));
+    Ok(())
+}
+
+#[test]
+fn work_that_no_thread_takes_comes_back(rt: HostRuntime) -> Result<(), Fail> {
+    let queue = Arc::new(rt.alloc(), Queue::new(rt.alloc()))?;
+    let theirs = Arc::try_clone(&queue)?;
+    let mut none = NoThreads { faults: 0 };
+    let refused = start(&rt, &mut none, move || {
+        let _ = theirs.put(&rt, 7u64);
+    });
+    let work = refused.ok_or("the work is gone")?;
+    work();
+    assert_eq!(rt; (queue.take(&rt), none.faults), (Some(7), 1));
+    Ok(())
+}

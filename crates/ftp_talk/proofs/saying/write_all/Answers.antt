@@ -1,0 +1,7 @@
+use Rattle.ftp_lines.proofs.WritingLemmas.{so_far_front, on_err}
+use Rattle.ftp_talk.proofs.saying.write_all.Goals as goal
+
+pub returns-in_err-n-clause-front : goal.returns-in_err-n-clause-front
+returns-in_err-n-clause-front g c =
+    on_err c.from_residual.result
+    (so_far_front (g.L.Source.sending c.args.link.now).sent (g.L.Source.sending c.loop-rest.link).sent (g.L.Source.sending c.write.new.self).sent c.args.bytes.now c.loop-rest.rest.now c.loop-rest.invariant.so_far c.in_err-n.ensures.unchanged)

@@ -1,0 +1,212 @@
+//! Replies on their way to the client, by way of one buffer that is used again and again.
+
+ghost use Rattle.std.specs.Prelude.{◌≡◌, ◌≤◌, ◌++◌, [], OnOk, OnErr, IsErrOf};
+ghost use Rattle.std.specs.List.{flat_map};
+ghost use Rattle.ftp_base.specs.declared.fault.Failed.TheVariants.{Fault};
+ghost use Rattle.ftp_base.specs.Edge.{Takes};
+ghost use Rattle.ftp_base.specs.Outside.{HasRisen, Writes};
+ghost use Rattle.ftp_base.specs.Reply.{encoding};
+ghost use Rattle.ftp_lines.specs.Writing.{WritesFront};
+ghost use Rattle.ftp_talk.specs.Saying.{encodings, greeting_line, said_in, said, WritesBut};
+
+use ftp_base::{Bytes, Edge, Failed, Link, Reply};
+use ftp_events::Action;
+use std::alloc::AllocError;
+
+/// Sends all of the bytes, in as many calls as the link needs.
+pub(crate) fn write_all<L: Link>(link: &mut L, bytes: &[u8]) -> Result<(), Failed>
+    ensures wrote { OnOk result (Writes (L.sending link.old).sent (L.sending link.new).sent bytes.now) }
+    ensures left { L.left link.new ≡ L.left link.old }
+    ensures fault_rose { IsErrOf result Fault → HasRisen (L.faults link.old) (L.faults link.new) }
+    ensures count { L.faults link.old ≤ L.faults link.new }
+
+    // After an error a part from the front was sent.
+    ensures front { OnErr result (WritesFront (L.sending link.old).sent (L.sending link.new).sent bytes.now) }
+{
+    let mut rest = bytes;
+    while !rest.is_empty() {
+        let n = link.write(rest)?;
+        rest = &rest[n..];
+    }
+    Ok(())
+}
+
+/// Puts the line of the greeting behind the text: with the words, or those of the profile.
+pub(crate) fn put_greeting(text: &mut Vec<u8>, words: &Option<Bytes>) -> Result<(), AllocError>
+    ensures { OnOk result (text.new.items ≡ text.old.items ++ greeting_line words.now) }
+{
+    text.extend_from_slice(b"220 ")?;
+    match words {
+        Some(words) => text.extend_from_slice(words.as_slice())?,
+        None => text.extend_from_slice(b"Welcome to the libunftp FTP server")?,
+    }
+    text.extend_from_slice(b"\r\n")
+}
+
+// Puts the line of a reply behind the text.
+fn put_reply(text: &mut Vec<u8>, reply: &Reply) -> Result<(), AllocError>
+    ensures { OnOk result (text.new.items ≡ text.old.items ++ encoding reply.now) }
+{
+    match reply {
+        Reply::None => Ok(()),
+        Reply::CodeAndMsg { code, msg } => {
+            text.extend_from_slice(code.digits())?;
+            text.extend_from_slice(b" ")?;
+            text.extend_from_slice(msg.as_slice())?;
+            text.extend_from_slice(b"\r\n")
+        }
+    }
+}
+
+// Sends the text that waits, and empties it.
+fn flush<L: Link>(link: &mut L, text: &mut Vec<u8>) -> Result<(), Failed>
+    ensures wrote { OnOk result (Writes (L.sending link.old).sent (L.sending link.new).sent text.old.items) }
+    ensures empty { OnOk result (text.new.items ≡ []) }
+    ensures left { L.left link.new ≡ L.left link.old }
+    ensures fault_rose { IsErrOf result Fault → HasRisen (L.faults link.old) (L.faults link.new) }
+    ensures count { L.faults link.old ≤ L.faults link.new }
+    ensures front { OnErr result (WritesFront (L.sending link.old).sent (L.sending link.new).sent text.old.items) }
+{
+    write_all(link, text.as_slice())?;
+    text.clear();
+    Ok(())
+}
+
+// Lets the delay of a reply pass, where it has one. What waits before it is sent before that.
+fn pause<L: Link, E: Edge>(
+    link: &mut L,
+    edge: &mut E,
+    text: &mut Vec<u8>,
+    delay: u32,
+) -> Result<(), Failed>
+    ensures wrote { OnOk result (WritesBut (L.sending link.old).sent (L.sending link.new).sent text.old.items text.new.items []) }
+    ensures left { L.left link.new ≡ L.left link.old }
+    ensures edge { Takes (λ f. f) (E.view edge.old) (E.view edge.new) }
+    ensures fault_rose { IsErrOf result Fault → HasRisen (L.faults link.old) (L.faults link.new) }
+    ensures count { L.faults link.old ≤ L.faults link.new }
+    ensures front { OnErr result (WritesFront (L.sending link.old).sent (L.sending link.new).sent text.old.items) }
+{
+    if delay > 0 {
+        flush(link, text)?;
+        edge.pause(u64::from(delay));
+    }
+    Ok(())
+}
+
+// Adds a reply to the text that waits.
+fn add<L: Link, E: Edge>(
+    link: &mut L,
+    edge: &mut E,
+    text: &mut Vec<u8>,
+    delay: u32,
+    reply: &Reply,
+) -> Result<(), Failed>
+    ensures wrote { OnOk result (WritesBut (L.sending link.old).sent (L.sending link.new).sent text.old.items text.new.items (encoding reply.now)) }
+    ensures left { L.left link.new ≡ L.left link.old }
+    ensures edge { Takes (λ f. f) (E.view edge.old) (E.view edge.new) }
+    ensures fault_rose { IsErrOf result Fault → HasRisen (L.faults link.old) (L.faults link.new) }
+    ensures count { L.faults link.old ≤ L.faults link.new }
+    ensures front { OnErr result (WritesFront (L.sending link.old).sent (L.sending link.new).sent text.old.items) }
+{
+    pause(link, edge, text, delay)?;
+    match put_reply(text, reply) {
+        Ok(()) => Ok(()),
+        Err(_) => Err(Failed::Memory),
+    }
+}
+
+// Adds the reply of the action, where it is one to the session.
+fn add_action<L: Link, E: Edge>(
+    link: &mut L,
+    edge: &mut E,
+    text: &mut Vec<u8>,
+    session: u64,
+    action: &Action,
+) -> Result<(), Failed>
+    ensures wrote { OnOk result (WritesBut (L.sending link.old).sent (L.sending link.new).sent text.old.items text.new.items (said_in session action.now)) }
+    ensures left { L.left link.new ≡ L.left link.old }
+    ensures edge { Takes (λ f. f) (E.view edge.old) (E.view edge.new) }
+    ensures fault_rose { IsErrOf result Fault → HasRisen (L.faults link.old) (L.faults link.new) }
+    ensures count { L.faults link.old ≤ L.faults link.new }
+    ensures front { OnErr result (WritesFront (L.sending link.old).sent (L.sending link.new).sent text.old.items) }
+{
+    if let Action::Reply {
+        session: to,
+        delay,
+        reply,
+    } = action
+    {
+        if *to == session {
+            return add(link, edge, text, *delay, reply);
+        }
+    }
+    Ok(())
+}
+
+// Adds replies in their order.
+fn add_replies<L: Link, E: Edge>(
+    link: &mut L,
+    edge: &mut E,
+    text: &mut Vec<u8>,
+    replies: &[(u32, Reply)],
+) -> Result<(), Failed>
+    ensures wrote { OnOk result (WritesBut (L.sending link.old).sent (L.sending link.new).sent text.old.items text.new.items (encodings replies.now)) }
+    ensures left { L.left link.new ≡ L.left link.old }
+    ensures edge { Takes (λ f. f) (E.view edge.old) (E.view edge.new) }
+    ensures fault_rose { IsErrOf result Fault → HasRisen (L.faults link.old) (L.faults link.new) }
+    ensures count { L.faults link.old ≤ L.faults link.new }
+    ensures front { OnErr result (WritesFront (L.sending link.old).sent (L.sending link.new).sent (text.old.items ++ encodings replies.now)) }
+{
+    for (delay, reply) in replies {
+        add(link, edge, text, *delay, reply)?;
+    }
+    Ok(())
+}
+
+// Adds the replies to the session among the actions.
+fn add_actions<L: Link, E: Edge>(
+    link: &mut L,
+    edge: &mut E,
+    text: &mut Vec<u8>,
+    session: u64,
+    actions: &[Action],
+) -> Result<(), Failed>
+    ensures wrote { OnOk result (WritesBut (L.sending link.old).sent (L.sending link.new).sent text.old.items text.new.items (flat_map (said_in session) actions.now)) }
+    ensures left { L.left link.new ≡ L.left link.old }
+    ensures edge { Takes (λ f. f) (E.view edge.old) (E.view edge.new) }
+    ensures fault_rose { IsErrOf result Fault → HasRisen (L.faults link.old) (L.faults link.new) }
+    ensures count { L.faults link.old ≤ L.faults link.new }
+    ensures front { OnErr result (WritesFront (L.sending link.old).sent (L.sending link.new).sent (text.old.items ++ flat_map (said_in session) actions.now)) }
+{
+    for action in actions {
+        add_action(link, edge, text, session, action)?;
+    }
+    Ok(())
+}
+
+/// Says the earlier replies, and then those to the session among the actions.
+///
+/// Replies without a delay that stand side by side go in one write, where the link takes them so. The text is a buffer
+/// that may hold anything.
+pub(crate) fn say<L: Link, E: Edge>(
+    link: &mut L,
+    edge: &mut E,
+    text: &mut Vec<u8>,
+    session: u64,
+    earlier: &[(u32, Reply)],
+    actions: &[Action],
+) -> Result<(), Failed>
+    ensures wrote { OnOk result (Writes (L.sending link.old).sent (L.sending link.new).sent (said session earlier.now actions.now)) }
+    ensures left { L.left link.new ≡ L.left link.old }
+    ensures edge { Takes (λ f. f) (E.view edge.old) (E.view edge.new) }
+    ensures fault_rose { IsErrOf result Fault → HasRisen (L.faults link.old) (L.faults link.new) }
+    ensures count { L.faults link.old ≤ L.faults link.new }
+
+    // After an error a part from the front was sent.
+    ensures front { OnErr result (WritesFront (L.sending link.old).sent (L.sending link.new).sent (said session earlier.now actions.now)) }
+{
+    text.clear();
+    add_replies(link, edge, text, earlier)?;
+    add_actions(link, edge, text, session, actions)?;
+    flush(link, text)
+}

@@ -1,0 +1,109 @@
+//! What an entry asks for is done, once the hub is free.
+
+ghost use Rattle.std.specs.Prelude.{◌≡◌};
+ghost use Rattle.std.specs.List.{list_any};
+ghost use Rattle.ftp_workers.specs.Carried.{first_link, is_notice, link_of, to_stop};
+
+use crate::event_sinks::EventSinks;
+use crate::handoff::Handoff;
+use crate::server_state::ServerState;
+use crate::task::Task;
+use ftp_base::{Authenticator, Gate, Storage};
+use ftp_events::{Action, Decision, Entry, EventKind};
+use ftp_shared::{JobShare, Serving};
+use std::sync::Wait;
+
+impl<
+    L: Serving,
+    A: Authenticator + Drop,
+    N: EventSinks + Drop,
+    S: Storage + Drop,
+    G: Gate + Drop,
+> ServerState<L, A, N, S, G> {
+    /// Hands the job to a worker, shuts down the link of a job that is to stop, closes the links that the entry closes, and
+    /// tells the listeners.
+    pub(crate) fn carry_out<R: Wait>(&self, rt: &R, entry: &Entry, job: Option<JobShare>) {
+        if let Some(job) = job {
+            self.handoff.start(rt, entry, job);
+        }
+        if let Some(session) = to_stop(entry) {
+            self.handoff.stop_job(rt, session);
+        }
+        self.handoff.close_links(rt, entry);
+        if tells_any(entry.actions.as_slice()) {
+            self.sinks.lock(rt).hear(entry);
+        }
+    }
+}
+
+impl Handoff {
+    // Gives a worker the job that starts with the entry. Where there is no room for it, it never ends.
+    fn start<R: Wait>(&self, rt: &R, entry: &Entry, job: JobShare) {
+        if let Some(number) = first_link(entry.actions.as_slice()) {
+            self.put(rt, Task::Job(number, job));
+        }
+    }
+
+    /// Has a thread wait at the port that was bound for a session, where the entry grants it; else the port is closed.
+    pub(crate) fn open_port<R: Wait>(&self, rt: &R, entry: &Entry) {
+        if let EventKind::Pasv {
+            session,
+            bound: Some(bound),
+            ..
+        } = &entry.event.kind
+        {
+            if let Some((port, listener)) = self.take_bound(rt, *session) {
+                if port == *bound && matches!(entry.decision, Decision::Granted { .. }) {
+                    self.put(rt, Task::Wait(*session, listener));
+                }
+            }
+        }
+    }
+}
+
+// The session whose job is to stop.
+fn to_stop(entry: &Entry) -> Option<u64>
+    ensures { result ≡ to_stop entry.now }
+{
+    match entry.decision {
+        Decision::Aborting => entry.event.kind.named_session(),
+        _ => None,
+    }
+}
+
+// The link of the job that starts first.
+fn first_link(actions: &[Action]) -> Option<u64>
+    ensures { result ≡ first_link actions.now }
+{
+    for action in actions {
+        let found = link_of(action);
+        if found.is_some() {
+            return found;
+        }
+    }
+    None
+}
+
+// The link of the job that the action starts.
+fn link_of(action: &Action) -> Option<u64>
+    ensures { result ≡ link_of action.now }
+{
+    match action {
+        Action::Start { number, .. } => Some(*number),
+        _ => None,
+    }
+}
+
+// Says whether the action tells listeners something.
+fn is_notice(action: &Action) -> bool
+    ensures { result ≡ is_notice action.now }
+{
+    matches!(action, Action::Notify { .. })
+}
+
+// Says whether an action tells listeners something.
+fn tells_any(actions: &[Action]) -> bool
+    ensures { result ≡ list_any is_notice actions.now }
+{
+    actions.iter().any(|action| is_notice(action))
+}

@@ -1,0 +1,100 @@
+//! A control connection, from its first byte to its last.
+
+ghost use Rattle.std.specs.Prelude.{◌≡◌, ◌≤◌, ◌/◌, true};
+ghost use Rattle.ftp_talk.specs.Control.{is_opening};
+
+use crate::event_sinks::EventSinks;
+use crate::runtime::WorkerRuntime;
+use crate::session_edge::SessionEdge;
+use crate::worker::Worker;
+use ftp_base::{Authenticator, Control, Edge, Gate, Link, Storage};
+use ftp_events::{Answer, EventKind, HubEvent};
+use ftp_shared::Serving;
+use ftp_system::{ControlHandle, LIMIT, SocketControl, SystemEdge, told_address};
+use ftp_talk::{ServeEnd, serve_control};
+use std::net::{IpAddr, SocketAddr, TcpStream};
+
+// How often an idle control connection is looked at, in milliseconds: four times in its idle time, but not more often
+// than once in a second, and once in a minute at least; once in ten seconds where its passive port waits a few seconds only.
+fn patience(idle_ms: u64, is_legacy: bool) -> u64
+    ensures between { (1000 ≤ result) × (result ≤ 60000) }
+    ensures legacy { is_legacy ≡ true → result ≤ 10000 }
+    ensures quarter { 4000 ≤ idle_ms → idle_ms ≤ 40000 → result ≡ idle_ms / 4 }
+{
+    let most = if is_legacy { 10_000 } else { 60_000 };
+    (idle_ms / 4).max(1000).min(most)
+}
+
+impl<
+    R: WorkerRuntime,
+    L: Serving,
+    A: Authenticator + Drop,
+    N: EventSinks + Drop,
+    S: Storage + Drop,
+    G: Gate + Drop,
+> Worker<R, L, A, N, S, G> {
+    /// Serves a control connection to its end. None where its socket could not be set up.
+    pub fn serve(&mut self, stream: TcpStream, raw: SocketAddr) -> Option<ServeEnd> {
+        let local = stream.local_addr().ok()?;
+        let control = self.control(stream)?;
+        let handle = control.handle().ok()?;
+        let session = self.state.hub.draw();
+        let trace = self.trace();
+        let opening = HubEvent {
+            at: self.edge.now(),
+            kind: EventKind::Connect {
+                session,
+                raw: told_address(raw),
+                local: told_address(local),
+                trace,
+            },
+        };
+        self.talk(control, handle, session, local.ip(), opening, Answer::None)
+    }
+
+    // A random word for the trace of a session.
+    pub(crate) fn trace(&mut self) -> u64 {
+        (self.edge.word() & 0xffff_ffff_ffff_ffff) as u64
+    }
+
+    // The control connection over a stream.
+    pub(crate) fn control(&self, stream: TcpStream) -> Option<SocketControl> {
+        let options = &self.state.options;
+        let patience = patience(options.idle_ms, options.mode.is_legacy());
+        SocketControl::new(&self.rt, self.alloc, stream, patience, LIMIT).ok()
+    }
+
+    // Serves a control connection while others can wake its loop, and closes it then.
+    pub(crate) fn talk<C: Control + Drop>(
+        &mut self,
+        control: C,
+        handle: ControlHandle,
+        session: u64,
+        at: IpAddr,
+        opening: HubEvent,
+        answer: Answer,
+    ) -> Option<ServeEnd>
+        requires opening { is_opening opening.kind ≡ true }
+    {
+        if !self.state.handoff.enter(&self.rt, session, handle) {
+            return None;
+        }
+        let mut control = control;
+        // A connection may last, and moves no files.
+        self.buffer = Vec::new(self.alloc);
+        let system = SystemEdge::new(self.rt, self.alloc, at, LIMIT);
+        let mut edge = SessionEdge::new(self.rt, self.alloc, session, &self.state.handoff, system);
+        let end = serve_control(
+            self.alloc,
+            &mut self.desk,
+            &mut control,
+            &mut edge,
+            &self.state.authenticator,
+            opening,
+            answer,
+        );
+        self.state.handoff.leave(&self.rt, session);
+        let _ = control.close();
+        Some(end)
+    }
+}

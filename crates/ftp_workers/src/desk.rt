@@ -1,0 +1,167 @@
+//! Where the threads of a server submit their events.
+
+ghost use Rattle.std.specs.Prelude.{◌≡◌, ◌+◌, Some, None, [], true, false, IfOk, OnOk, OnErr};
+ghost use Rattle.ftp_shared.specs.Outbox.{has_ticket};
+ghost use Rattle.ftp_shared.specs.Next.{IsTurnAt};
+
+use crate::event_sinks::EventSinks;
+use crate::server_state::ServerState;
+use ftp_base::{Authenticator, Bytes, ErrorKind, Gate, Storage, StoreError};
+use ftp_events::{Answer, HubEvent};
+use ftp_options::Options;
+use ftp_shared::{Desk, Receipt, Serving, StepShare, Submitted, Told, Turn};
+use std::alloc::{AllocError, Global};
+use std::sync::{Arc, Wait};
+
+/// A desk over the hub that all threads share, with the share of one thread.
+///
+/// What an entry asks for is carried out before the entry is told.
+#[derive(Drop)]
+pub struct ServerDesk<
+    R: Wait + Drop,
+    L: Serving,
+    A: Authenticator + Drop,
+    N: EventSinks + Drop,
+    S: Storage + Drop,
+    G: Gate + Drop,
+> {
+    pub(crate) rt: R,
+    pub(crate) state: Arc<ServerState<L, A, N, S, G>, Global>,
+    pub(crate) share: StepShare<L>,
+    faults: u64,
+}
+
+impl<
+    R: Wait + Drop,
+    L: Serving,
+    A: Authenticator + Drop,
+    N: EventSinks + Drop,
+    S: Storage + Drop,
+    G: Gate + Drop,
+> ServerDesk<R, L, A, N, S, G> {
+    pub fn new(
+        rt: R,
+        state: Arc<ServerState<L, A, N, S, G>, Global>,
+        share: StepShare<L>,
+    ) -> ServerDesk<R, L, A, N, S, G>
+        ensures share { result.share ≡ share }
+    {
+        ServerDesk {
+            rt,
+            state,
+            share,
+            faults: 0,
+        }
+    }
+
+    /// The share, for another desk of the same state.
+    pub fn into_share(self) -> StepShare<L>
+        ensures { result ≡ self.share }
+    {
+        let ServerDesk {
+            rt: _,
+            state: _,
+            share,
+            faults: _,
+        } = self;
+        share
+    }
+
+    /// Has an event decided that no control loop has a part in, and does what its entry asks for.
+    pub(crate) fn submit_event(&mut self, event: HubEvent, answer: Answer) -> Result<(), AllocError>
+        requires unticketed { has_ticket event.kind ≡ false }
+        ensures share { OnOk result (self.new.share.count ≡ self.old.share.count + 1) }
+        ensures same_share { OnErr result (self.new.share.count ≡ self.old.share.count) }
+    {
+        let submitted = self
+            .state
+            .hub
+            .submit(&self.rt, &mut self.share, event, answer)?;
+        self.carry_out(submitted);
+        Ok(())
+    }
+
+    // Has an event of this thread's session decided. Where memory runs out, the connection that came with it is closed.
+    fn submit_turn(&mut self, event: HubEvent, answer: Answer) -> Result<Turn, AllocError>
+        requires unticketed { has_ticket event.kind ≡ false }
+        ensures next { IfOk result (λ t. IsTurnAt L.options t event answer) }
+        ensures share { OnOk result (self.new.share.count ≡ self.old.share.count + 1) }
+        ensures same_share { OnErr result (self.new.share.count ≡ self.old.share.count) }
+        ensures faults { self.new.faults ≡ self.old.faults }
+    {
+        let link = event.kind.link_number();
+        let turn = self
+            .state
+            .hub
+            .submit_for(&self.rt, &mut self.share, event, answer);
+        if turn.is_err() {
+            self.state.handoff.forget(&self.rt, link);
+        }
+        turn
+    }
+
+    /// Does what an entry asks for.
+    pub(crate) fn carry_out(&self, submitted: Submitted) {
+        self.state.handoff.wake_all(&self.rt, submitted.others());
+        let Submitted { receipt, job } = submitted;
+        self.state.carry_out(&self.rt, &receipt.entry, job);
+    }
+}
+
+impl<
+    R: Wait + Drop,
+    L: Serving,
+    A: Authenticator + Drop,
+    N: EventSinks + Drop,
+    S: Storage + Drop,
+    G: Gate + Drop,
+> Desk for ServerDesk<R, L, A, N, S, G> {
+    ghost view = { λ d. record {
+      options = L.options;
+      files = None;
+      faults = d.faults;
+      journal = None;
+      outbox = λ _. [];
+      share = Some d.share.count;
+    } };
+
+    ghost vouches = { true };
+
+    fn options(&self) -> &Options {
+        &self.state.options
+    }
+
+    fn submit(&mut self, event: HubEvent, answer: Answer) -> Result<Told, AllocError> {
+        let turn = self.submit_turn(event, answer)?;
+        self.state.handoff.wake_all(&self.rt, turn.others());
+        let Turn { earlier, submitted } = turn;
+        let Submitted { receipt, job } = submitted;
+        let Receipt { place: _, entry } = receipt;
+        self.state.handoff.open_port(&self.rt, &entry);
+        self.state.carry_out(&self.rt, &entry, job);
+        Ok(Told { earlier, entry })
+    }
+
+    fn draw(&mut self) -> u64 {
+        self.state.hub.draw()
+    }
+
+    fn directory(&mut self, user: &Bytes, path: &Bytes) -> Result<Option<ErrorKind>, AllocError> {
+        let found = self.state.files.lock(&self.rt).metadata(user, path);
+        match found {
+            Ok(meta) => {
+                if meta.is_dir {
+                    Ok(None)
+                } else {
+                    Ok(Some(ErrorKind::PermanentDirectoryNotAvailable))
+                }
+            }
+            Err(StoreError::Kind(_)) => Ok(Some(ErrorKind::PermanentDirectoryNotAvailable)),
+            Err(StoreError::Failed) => {
+                self.faults = self.faults.saturating_add(1);
+                Ok(Some(ErrorKind::LocalError))
+            }
+            Err(StoreError::OutOfMemory) => Err(AllocError),
+        }
+    }
+}

@@ -1,0 +1,146 @@
+//! What the thread at the doors does.
+
+ghost use Rattle.std.specs.Prelude.{◌≡◌, ◌+◌, ◌≤◌, true, false, IfSome};
+ghost use Rattle.ftp_shared.specs.Outbox.{has_ticket};
+
+use crate::desk::ServerDesk;
+use crate::event_sinks::EventSinks;
+use crate::handoff::PendingConnection;
+use crate::server_state::ServerState;
+use crate::task::Task;
+use ftp_base::{Authenticator, Gate, Storage};
+use ftp_events::{Answer, EventKind, HubEvent};
+use ftp_shared::{Serving, StepShare};
+use ftp_system::told_address;
+use std::net::{SocketAddr, TcpStream};
+use std::sync::Wait;
+
+impl<
+    L: Serving,
+    A: Authenticator + Drop,
+    N: EventSinks + Drop,
+    S: Storage + Drop,
+    G: Gate + Drop,
+> ServerState<L, A, N, S, G> {
+    /// Has a control connection served by a thread. Where there is no room for it, it is closed.
+    pub fn queue_control<R: Wait>(&self, rt: &R, stream: TcpStream, raw: SocketAddr) {
+        let _ = self.handoff.put(rt, Task::Control(stream, raw));
+    }
+
+    /// Has the header of a connection read that a proxy passed on. Where there is no room for it, it is closed.
+    pub fn queue_proxied<R: Wait>(&self, rt: &R, stream: TcpStream, raw: SocketAddr) {
+        let _ = self.handoff.put(rt, Task::Proxied(stream, raw));
+    }
+
+    /// How many more threads are wanted than were when this was asked last.
+    pub fn wanted(&self) -> u64 {
+        self.handoff.wanted()
+    }
+
+    /// A share for one more thread, with no step counted, unless a single part is left.
+    pub fn share<R: Wait>(&self, rt: &R) -> Option<StepShare<L>>
+        ensures { IfSome result (λ share. share.count ≡ 0) }
+    {
+        self.hub.share(rt)
+    }
+
+    /// Takes a share back.
+    pub fn take_back<R: Wait>(&self, rt: &R, share: StepShare<L>) {
+        self.hub.take_back(rt, share);
+    }
+
+    /// Says whether no job runs and no session is live.
+    pub fn drained<R: Wait>(&self, rt: &R) -> bool {
+        self.hub.drained(rt)
+    }
+
+    /// From now on no task comes, and threads end once none is left.
+    pub fn close<R: Wait>(&self, rt: &R) {
+        self.handoff.close(rt);
+    }
+}
+
+impl<
+    R: Wait + Drop,
+    L: Serving,
+    A: Authenticator + Drop,
+    N: EventSinks + Drop,
+    S: Storage + Drop,
+    G: Gate + Drop,
+> ServerDesk<R, L, A, N, S, G> {
+    /// Takes in a data connection that came to a passive port, at this moment in milliseconds. It is closed where no
+    /// session takes it.
+    pub fn receive(&mut self, at: u64, stream: mio::net::TcpStream, raw: SocketAddr, port: u16)
+        ensures share { self.old.share.count ≤ self.new.share.count }
+    {
+        let number = self.state.hub.draw();
+        let event = HubEvent {
+            at,
+            kind: EventKind::DataIn {
+                number,
+                raw: told_address(raw),
+                port,
+            },
+        };
+        let ahead = Vec::new(self.state.alloc);
+        self.submit_connection(
+            number,
+            PendingConnection { stream, ahead },
+            event,
+            Answer::None,
+        );
+    }
+
+    // Puts a data connection where its job finds it, and has its event decided then.
+    pub(crate) fn submit_connection(
+        &mut self,
+        number: u64,
+        link: PendingConnection,
+        event: HubEvent,
+        answer: Answer,
+    )
+        requires unticketed { has_ticket event.kind ≡ false }
+        ensures share { self.old.share.count ≤ self.new.share.count }
+    {
+        // A job may start at once, in another thread: the link has to be in its place before.
+        if self.state.handoff.keep_link(&self.rt, number, link)
+            && self.submit_event(event, answer).is_err()
+        {
+            drop(self.state.handoff.take_link(&self.rt, number));
+        }
+    }
+
+    /// Has failed logins forgotten that are too old.
+    pub fn sweep(&mut self, at: u64)
+        ensures share { self.old.share.count ≤ self.new.share.count }
+    {
+        let _ = self.submit_timer(at, EventKind::Sweep);
+    }
+
+    /// Has ports freed that are held for sessions which have ended.
+    pub fn scavenge(&mut self, at: u64)
+        ensures share { self.old.share.count ≤ self.new.share.count }
+    {
+        let _ = self.submit_timer(at, EventKind::Scavenge);
+    }
+
+    /// Ends all sessions and their control connections, and says whether there was memory for it. No other is opened.
+    pub fn stop(&mut self, at: u64) -> bool
+        ensures told { result ≡ true → self.new.share.count ≡ self.old.share.count + 1 }
+        ensures same_share { result ≡ false → self.new.share.count ≡ self.old.share.count }
+    {
+        let is_told = self.submit_timer(at, EventKind::Shutdown);
+        self.state.handoff.shut_down(&self.rt);
+        is_told
+    }
+
+    // Has an event decided that nobody waits for.
+    fn submit_timer(&mut self, at: u64, kind: EventKind) -> bool
+        requires unticketed { has_ticket kind ≡ false }
+        ensures told { result ≡ true → self.new.share.count ≡ self.old.share.count + 1 }
+        ensures same_share { result ≡ false → self.new.share.count ≡ self.old.share.count }
+    {
+        self.submit_event(HubEvent { at, kind }, Answer::None)
+            .is_ok()
+    }
+}

@@ -1,0 +1,202 @@
+//! What threads hand to one another.
+
+use crate::closing::{close_all, closes_any, not_taken};
+use crate::link_handle::LinkHandle;
+use crate::task::Task;
+use ftp_events::Entry;
+use ftp_shared::Others;
+use ftp_system::{ControlHandle, Queue};
+use indexmap::IndexMap;
+use mio::Waker;
+use mio::net::{TcpListener, TcpStream};
+use std::alloc::Global;
+use std::sync::atomic::{AtomicU64, Ordering};
+use std::sync::{Arc, Mutex, Wait};
+
+/// A connection that waits for its job, and what was read of it already.
+#[derive(Drop)]
+pub(crate) struct PendingConnection {
+    pub(crate) stream: TcpStream,
+    pub(crate) ahead: Vec<u8>,
+}
+
+/// Links that wait for a job, those of jobs that run, ports that were bound for sessions, the handles of control connections,
+/// and tasks.
+///
+/// Each stands behind a lock of its own, and no two of them are held together.
+#[derive(Drop)]
+pub(crate) struct Handoff {
+    links: Mutex<IndexMap<u64, PendingConnection>>,
+    // By session, with their numbers.
+    running: Mutex<IndexMap<u64, (u64, LinkHandle)>>,
+    bound: Mutex<IndexMap<u64, (u16, TcpListener)>>,
+    controls: Mutex<IndexMap<u64, ControlHandle>>,
+    tasks: Queue<Task>,
+    wanted: AtomicU64,
+    calls: AtomicU64,
+    doors: Arc<Waker, Global>,
+}
+
+impl Handoff {
+    /// Nothing waits. The waker tells the thread at the doors that one more thread is wanted.
+    pub(crate) fn new(alloc: Global, doors: Arc<Waker, Global>) -> Handoff {
+        Handoff {
+            links: Mutex::new(IndexMap::new(alloc)),
+            running: Mutex::new(IndexMap::new(alloc)),
+            bound: Mutex::new(IndexMap::new(alloc)),
+            controls: Mutex::new(IndexMap::new(alloc)),
+            tasks: Queue::new(alloc),
+            wanted: AtomicU64::new(0),
+            calls: AtomicU64::new(0),
+            doors,
+        }
+    }
+
+    /// Puts a connection where the worker of its job finds it, and says whether there was room under its number.
+    pub(crate) fn keep_link<R: Wait>(&self, rt: &R, number: u64, link: PendingConnection) -> bool {
+        let mut links = self.links.lock(rt);
+        if links.contains_key(&number) {
+            return false;
+        }
+        links.insert(number, link).is_ok()
+    }
+
+    pub(crate) fn take_link<R: Wait>(&self, rt: &R, number: u64) -> Option<PendingConnection> {
+        self.links.lock(rt).swap_remove(&number)
+    }
+
+    /// Closes the links that the entry closes, and those that it does not take.
+    pub(crate) fn close_links<R: Wait>(&self, rt: &R, entry: &Entry) {
+        let actions = entry.actions.as_slice();
+        if closes_any(actions) {
+            close_all(&mut self.links.lock(rt), actions);
+        }
+        self.forget(rt, not_taken(entry));
+    }
+
+    /// Closes the link that came with an event and was not taken.
+    pub(crate) fn forget<R: Wait>(&self, rt: &R, number: Option<u64>) {
+        if let Some(number) = number {
+            drop(self.take_link(rt, number));
+        }
+    }
+
+    /// From now on others can shut down the link of the session's job, unless there is no handle or no room for one.
+    pub(crate) fn begin_job<R: Wait>(&self, rt: &R, session: u64, number: u64, stream: &TcpStream) {
+        if let Ok(handle) = LinkHandle::new(stream) {
+            let _ = self.running.lock(rt).insert(session, (number, handle));
+        }
+    }
+
+    /// The job on the link of this number has ended.
+    pub(crate) fn end_job<R: Wait>(&self, rt: &R, session: u64, number: u64) {
+        drop(self.take_running(rt, session, number));
+    }
+
+    // The handle of this link, unless the session has a job on another link by now.
+    fn take_running<R: Wait>(
+        &self,
+        rt: &R,
+        session: u64,
+        number: u64,
+    ) -> Option<(u64, LinkHandle)> {
+        let mut running = self.running.lock(rt);
+        match running.get(&session) {
+            Some((link, _)) if *link == number => running.swap_remove(&session),
+            _ => None,
+        }
+    }
+
+    /// Shuts down the link of the session's job.
+    pub(crate) fn stop_job<R: Wait>(&self, rt: &R, session: u64) {
+        if let Some((_, handle)) = self.running.lock(rt).get(&session) {
+            handle.shut_down();
+        }
+    }
+
+    /// Keeps the port that was bound for a session last, and says whether there was room.
+    pub(crate) fn keep_bound<R: Wait>(
+        &self,
+        rt: &R,
+        session: u64,
+        port: u16,
+        listener: TcpListener,
+    ) -> bool {
+        self.bound
+            .lock(rt)
+            .insert(session, (port, listener))
+            .is_ok()
+    }
+
+    pub(crate) fn take_bound<R: Wait>(&self, rt: &R, session: u64) -> Option<(u16, TcpListener)> {
+        self.bound.lock(rt).swap_remove(&session)
+    }
+
+    /// From now on others can wake the loop of the session, unless there is no room.
+    pub(crate) fn enter<R: Wait>(&self, rt: &R, session: u64, handle: ControlHandle) -> bool {
+        self.controls.lock(rt).insert(session, handle).is_ok()
+    }
+
+    /// The loop of the session has ended.
+    pub(crate) fn leave<R: Wait>(&self, rt: &R, session: u64) {
+        drop(self.controls.lock(rt).swap_remove(&session));
+        drop(self.take_bound(rt, session));
+    }
+
+    /// Wakes the loops of sessions that have replies waiting.
+    pub(crate) fn wake_all<R: Wait>(&self, rt: &R, others: Others<'_>) {
+        let mut others = others;
+        for _ in 0..u64::MAX {
+            match others.next() {
+                Some(session) => self.wake(rt, session),
+                None => return,
+            }
+        }
+    }
+
+    fn wake<R: Wait>(&self, rt: &R, session: u64) {
+        if let Some(handle) = self.controls.lock(rt).get(&session) {
+            handle.wake();
+        }
+    }
+
+    /// Ends the control connections of all sessions.
+    pub(crate) fn shut_down<R: Wait>(&self, rt: &R) {
+        for handle in self.controls.lock(rt).values() {
+            handle.shut_down();
+        }
+    }
+
+    /// Has the task done by a thread, and says whether there was room for it. What is not taken is dropped.
+    pub(crate) fn put<R: Wait>(&self, rt: &R, task: Task) -> bool {
+        match self.tasks.put(rt, task) {
+            Ok(false) => true,
+            Ok(true) => {
+                self.wanted.fetch_add(1, Ordering::SeqCst);
+                let _ = self.doors.wake();
+                true
+            }
+            Err(_) => false,
+        }
+    }
+
+    /// The next task, once there is one. None once no more come.
+    pub(crate) fn take<R: Wait>(&self, rt: &R) -> Option<Task> {
+        self.tasks.take(rt)
+    }
+
+    /// From now on no task comes.
+    pub(crate) fn close<R: Wait>(&self, rt: &R) {
+        self.tasks.close(rt);
+    }
+
+    /// How many threads are wanted that were not asked for before.
+    pub(crate) fn wanted(&self) -> u64 {
+        self.wanted.swap(0, Ordering::SeqCst)
+    }
+
+    /// The number of the next job, from 1.
+    pub(crate) fn next_call(&self) -> u64 {
+        self.calls.fetch_add(1, Ordering::SeqCst).wrapping_add(1)
+    }
+}

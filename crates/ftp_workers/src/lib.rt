@@ -1,0 +1,28 @@
+//! What the threads of a server share, and what each of them does.
+//!
+//! Each entry that is made here is the next one of a right log, and what it asks for is carried out once the hub is free.
+//! Begin with `ServerState` and `work`.
+#![tactic(auto)]
+
+mod carrying;
+mod closing;
+mod control;
+mod desk;
+mod door;
+mod event_sinks;
+mod handoff;
+mod job;
+mod link_handle;
+mod proxied;
+mod runtime;
+mod server_state;
+mod session_edge;
+mod task;
+mod waiting;
+mod worker;
+
+pub use desk::ServerDesk;
+pub use event_sinks::{EventSinks, Listeners};
+pub use runtime::WorkerRuntime;
+pub use server_state::ServerState;
+pub use worker::{Worker, work};

@@ -1,0 +1,112 @@
+//! A connection that a proxy passed on.
+
+ghost use Rattle.std.specs.Prelude.{◌≡◌, true, false};
+ghost use Rattle.ftp_shared.specs.Outbox.{has_ticket};
+ghost use Rattle.ftp_workers.specs.Proxied.{leads_to_control};
+ghost use Rattle.ftp_talk.specs.Control.{is_opening};
+
+use crate::event_sinks::EventSinks;
+use crate::handoff::PendingConnection;
+use crate::runtime::WorkerRuntime;
+use crate::worker::Worker;
+use ftp_base::{Authenticator, Edge, Gate, Storage};
+use ftp_events::{Answer, HubEvent};
+use ftp_options::ListenerMode;
+use ftp_shared::{Serving, answer_proxied};
+use ftp_system::{Ahead, Gathered, LIMIT, SocketLink, told_address};
+use mio::net::TcpStream;
+use std::net;
+use std::net::SocketAddr;
+
+/// How many bytes are read at once where a header stands in front.
+const HEADER_BUFFER: usize = 512;
+
+// Says whether the header leads to the control port.
+fn leads_to_control(mode: ListenerMode, answer: &Answer) -> bool
+    ensures { result ≡ leads_to_control mode answer.now }
+{
+    match answer {
+        Answer::Header(Ok(line)) => mode.is_control_port(line.destination.port),
+        _ => false,
+    }
+}
+
+impl<
+    R: WorkerRuntime,
+    L: Serving,
+    A: Authenticator + Drop,
+    N: EventSinks + Drop,
+    S: Storage + Drop,
+    G: Gate + Drop,
+> Worker<R, L, A, N, S, G> {
+    // Reads the header of a connection, and serves its session or keeps it for a job.
+    pub(crate) fn pass_on(&mut self, stream: net::TcpStream, raw: SocketAddr) {
+        if stream.set_nonblocking(true).is_err() {
+            return;
+        }
+        let stream = TcpStream::from_std(stream);
+        let number = self.state.hub.draw();
+        let trace = self.trace();
+        let Ok(buffer) = Vec::from_elem(self.alloc, 0u8, HEADER_BUFFER) else {
+            return;
+        };
+        let link = SocketLink::new(self.rt, self.alloc, stream, LIMIT);
+        let mut link = Gathered::new(link, buffer);
+        let (event, answer) = answer_proxied(
+            number,
+            told_address(raw),
+            trace,
+            &mut link,
+            &mut self.edge,
+        );
+        let Ok((link, _, ahead)) = link.into_rest(self.alloc) else {
+            return;
+        };
+        let link = PendingConnection {
+            stream: link.into_stream(),
+            ahead,
+        };
+        if leads_to_control(self.state.options.mode, &answer) {
+            self.serve_proxied(number, link, event, answer);
+        } else {
+            self.submit_connection(number, link, event, answer);
+        }
+    }
+
+    // Serves the session of a connection whose header was read.
+    fn serve_proxied(
+        &mut self,
+        number: u64,
+        link: PendingConnection,
+        event: HubEvent,
+        answer: Answer,
+    )
+        requires opening { is_opening event.kind ≡ true }
+    {
+        let PendingConnection { stream, ahead } = link;
+        let Ok(local) = stream.local_addr() else {
+            return;
+        };
+        let Some(control) = self.control(net::TcpStream::from(stream)) else {
+            return;
+        };
+        let Ok(handle) = control.handle() else {
+            return;
+        };
+        let control = Ahead::new(control, ahead);
+        let _ = self.talk(control, handle, number, local.ip(), event, answer);
+    }
+
+    // Keeps a data connection for its job, and has its event decided; it is closed where no session takes it.
+    pub(crate) fn submit_connection(
+        &mut self,
+        number: u64,
+        link: PendingConnection,
+        event: HubEvent,
+        answer: Answer,
+    )
+        requires unticketed { has_ticket event.kind ≡ false }
+    {
+        self.desk.submit_connection(number, link, event, answer);
+    }
+}

@@ -1,0 +1,79 @@
+//! What all threads share.
+
+ghost use Rattle.std.specs.Prelude.{◌≡◌};
+ghost use Rattle.ftp_options.specs.declared.options.Options.{Options};
+
+use crate::event_sinks::EventSinks;
+use crate::handoff::Handoff;
+use ftp_base::{Authenticator, Gate, Storage};
+use ftp_options::Options;
+use ftp_shared::{Serving, SharedHub};
+use mio::Waker;
+use std::alloc::{AllocError, Global};
+use std::sync::ledger::{Book, Share};
+use std::sync::{Arc, Mutex};
+
+/// The hub of a server, and all that its threads use beside it.
+#[derive(Drop)]
+pub struct ServerState<
+    L: Serving,
+    A: Authenticator + Drop,
+    N: EventSinks + Drop,
+    S: Storage + Drop,
+    G: Gate + Drop,
+> {
+    pub(crate) alloc: Global,
+    pub(crate) options: Options,
+    pub(crate) hub: SharedHub<L>,
+    pub(crate) handoff: Handoff,
+    pub(crate) authenticator: A,
+    pub(crate) sinks: Mutex<N>,
+    pub(crate) files: Arc<Mutex<S>, Global>,
+    pub(crate) gate: Arc<G, Global>,
+    ghost told: { options ≡ L.options },
+}
+
+impl<
+    L: Serving,
+    A: Authenticator + Drop,
+    N: EventSinks + Drop,
+    S: Storage + Drop,
+    G: Gate + Drop,
+> ServerState<L, A, N, S, G> {
+    ghost use Rattle.std.specs.Prelude.{◌<◌};
+
+    /// A state to whose hub nothing has happened, and which no thread serves.
+    ///
+    /// The book has counted no step, and the share has every part, of which there are so many. The waker is that of the
+    /// thread that starts others: it is told so where one more is wanted.
+    pub fn new(
+        alloc: Global,
+        options: Options,
+        ledger: (Book<L>, Share<L>, u64),
+        authenticator: A,
+        sinks: N,
+        storage: S,
+        gate: Arc<G, Global>,
+        doors: Arc<Waker, Global>,
+    ) -> Result<ServerState<L, A, N, S, G>, AllocError>
+        requires options { options ≡ L.options }
+        requires none { ledger.0.total ≡ 0 }
+        requires some { 0 < ledger.2 }
+        requires all { ledger.1.parts ≡ ledger.2 }
+        requires fresh { ledger.1.amount ≡ 0 }
+    {
+        let (steps, share, parts) = ledger;
+        let told = options.copy(alloc)?;
+        let files = Arc::new(alloc, Mutex::new(storage))?;
+        Ok(ServerState {
+            alloc,
+            options: told,
+            hub: SharedHub::new(alloc, options, steps, share, parts),
+            handoff: Handoff::new(alloc, doors),
+            authenticator,
+            sinks: Mutex::new(sinks),
+            files,
+            gate,
+        })
+    }
+}

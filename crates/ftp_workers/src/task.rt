@@ -1,0 +1,18 @@
+//! What threads are asked to do.
+
+use ftp_shared::JobShare;
+use mio::net::TcpListener;
+use std::net::{SocketAddr, TcpStream};
+
+/// What one thread does at a time.
+#[derive(Drop)]
+pub(crate) enum Task {
+    /// Serve a control connection.
+    Control(TcpStream, SocketAddr),
+    /// Read the header of a connection that a proxy passed on, and do what it says.
+    Proxied(TcpStream, SocketAddr),
+    /// Run a job, on the link of this number.
+    Job(u64, JobShare),
+    /// Wait for the data connection of a session at a port of its own.
+    Wait(u64, TcpListener),
+}

@@ -1,0 +1,114 @@
+//! A thread of a server.
+
+use crate::desk::ServerDesk;
+use crate::event_sinks::EventSinks;
+use crate::runtime::WorkerRuntime;
+use crate::server_state::ServerState;
+use crate::task::Task;
+use ftp_base::{Authenticator, Gate, Storage};
+use ftp_shared::{Serving, StepShare};
+use ftp_system::{LIMIT, SharedStorage, SystemEdge};
+use std::alloc::{AllocError, Global};
+use std::net::{IpAddr, Ipv4Addr};
+use std::sync::Arc;
+
+/// A thread that does one task after another, with what it keeps from task to task.
+#[derive(Drop)]
+pub struct Worker<
+    R: WorkerRuntime,
+    L: Serving,
+    A: Authenticator + Drop,
+    N: EventSinks + Drop,
+    S: Storage + Drop,
+    G: Gate + Drop,
+> {
+    pub(crate) rt: R,
+    pub(crate) alloc: Global,
+    pub(crate) state: Arc<ServerState<L, A, N, S, G>, Global>,
+    pub(crate) desk: ServerDesk<R, L, A, N, S, G>,
+    pub(crate) edge: SystemEdge<R>,
+    pub(crate) storage: SharedStorage<R, S>,
+    // Where the pieces of transfers are gathered; empty before the first transfer, and after a control connection.
+    pub(crate) buffer: Vec<u8>,
+}
+
+impl<
+    R: WorkerRuntime,
+    L: Serving,
+    A: Authenticator + Drop,
+    N: EventSinks + Drop,
+    S: Storage + Drop,
+    G: Gate + Drop,
+> Worker<R, L, A, N, S, G> {
+    /// A thread that has done nothing yet.
+    pub fn new(
+        rt: R,
+        state: Arc<ServerState<L, A, N, S, G>, Global>,
+        share: StepShare<L>,
+    ) -> Result<Worker<R, L, A, N, S, G>, AllocError> {
+        let theirs = Arc::try_clone(&state)?;
+        let files = Arc::try_clone(&state.files)?;
+        let alloc = state.alloc;
+        Ok(Worker {
+            rt,
+            alloc,
+            desk: ServerDesk::new(rt, theirs, share),
+            edge: SystemEdge::new(rt, alloc, IpAddr::V4(Ipv4Addr::from_bits(0)), LIMIT),
+            storage: SharedStorage::new(rt, files),
+            buffer: Vec::new(alloc),
+            state,
+        })
+    }
+
+    /// Does one task after another, until no more come.
+    pub fn work(&mut self) {
+        let rt = self.rt;
+        for _ in rt.forever() {
+            match self.state.handoff.take(&rt) {
+                Some(task) => self.perform(task),
+                None => return,
+            }
+        }
+    }
+
+    fn perform(&mut self, task: Task) {
+        match task {
+            Task::Control(stream, raw) => {
+                let _ = self.serve(stream, raw);
+            }
+            Task::Proxied(stream, raw) => self.pass_on(stream, raw),
+            Task::Job(number, job) => self.run(number, job),
+            Task::Wait(session, listener) => self.wait(session, listener),
+        }
+    }
+
+    /// Ends the thread's part in the state, which takes its share back.
+    pub fn leave(self) {
+        let Worker {
+            rt,
+            alloc: _,
+            state,
+            desk,
+            edge: _,
+            storage: _,
+            buffer: _,
+        } = self;
+        state.take_back(&rt, desk.into_share());
+    }
+}
+
+/// What a thread of a server does, with its share, until no more tasks come.
+pub fn work<
+    R: WorkerRuntime,
+    L: Serving,
+    A: Authenticator + Drop,
+    N: EventSinks + Drop,
+    S: Storage + Drop,
+    G: Gate + Drop,
+>(rt: R, state: Arc<ServerState<L, A, N, S, G>, Global>, share: StepShare<L>) {
+    if let Ok(worker) = Worker::new(rt, state, share) {
+        let mut worker = worker;
+        worker.work();
+        worker.leave();
+    }
+}
