@@ -17,6 +17,7 @@ import sys
 sys.dont_write_bytecode = True
 import aborts  # noqa: E402
 import balanced  # noqa: E402
+import interrupts  # noqa: E402
 import operations  # noqa: E402
 import sessions  # noqa: E402
 import starting  # noqa: E402
@@ -31,6 +32,7 @@ def run_direct(tally, words, mode, clients=operations.CLIENTS):
         aborts.run(tally, mode, place)
         if mode != "proxy":
             operations.run(tally, mode, place, clients=clients)
+            interrupts.run(tally, mode, place)
         tally.runs_on(mode, server)
 
 
@@ -40,6 +42,7 @@ def run_proxied(tally, words):
         sessions.run(tally, "haproxy", place)
         aborts.run(tally, "haproxy", place)
         operations.run(tally, "haproxy", place)
+        interrupts.run(tally, "haproxy", place)
         tally.runs_on("haproxy", server)
 
 
