@@ -49,8 +49,8 @@ def lftp(place, name):
     place.put(name, body(LENGTH))
     place.put(name + "-next", place.bytes)
     words = place.words(name)
-    open_it = "set net:limit-rate 65536; set ftp:use-feat false; set ftp:use-size false; set ftp:use-stat false; set cmd:remote-completion false; "
-    open_it += f"set net:socket-bind-ipv4 {place.source}; debug 5; open -u ann,secret ftp://{place.door.ip}:{place.door.port}\n"
+    open_it = f"set net:limit-rate 65536; set net:socket-bind-ipv4 {place.source}; debug 5; "
+    open_it += f"open -u ann,secret ftp://{place.door.ip}:{place.door.port}\n"
     with Terminal("lftp", "--norc") as program:
         program.types(open_it.encode())
         program.types(f"get {name} -o {words['got']}\n".encode())
@@ -58,12 +58,13 @@ def lftp(place, name):
         time.sleep(1)
         program.types(INTERRUPT)
         at = program.shows(b"---> ABOR", at)
+        # It reads the replies with its next command.
+        program.types(f"set net:limit-rate 0; get {name}-next -o {words['got']}-next\n".encode())
         began = time.monotonic()
         at = program.shows(b"<--- 426", at)
         at = program.shows(b"<--- 226", at)
         took = time.monotonic() - began
         holds(took < WITHIN, f"the replies took {took:.1f} seconds")
-        program.types(f"set net:limit-rate 0; get {name}-next -o {words['got']}-next\n".encode())
         at = program.shows(b"<--- 226", at)
         program.types(b"exit kill\n")
     holds(program.text.count(b"---> USER") == 1, "a second login")
