@@ -1,9 +1,7 @@
 -- What an answer has in it.
-use Rattle.std.specs.Prelude.{ℕ, Option, Some, None, Result}
+use Rattle.std.specs.Prelude.{ℕ, Option, Some, None}
 use Rattle.ftp_events.specs.declared.event.Answer.{Answer}
-use Rattle.ftp_events.specs.declared.event.Answer.TheVariants.{Done, Header, Moved}
-use Rattle.ftp_proxy.specs.declared.error.ProxyError.{ProxyError}
-use Rattle.ftp_proxy.specs.declared.header.ProxyHeader.{ProxyHeader}
+use Rattle.ftp_events.specs.declared.event.Answer.TheVariants.{Done, Moved}
 use Rattle.ftp_transfer.specs.declared.job.Outcome.{Outcome}
 
 -- the outcome of a job
@@ -15,8 +13,3 @@ outcome_in _ = None
 abbrev pub moved_in : Answer → Option ℕ
 moved_in (Moved bytes) = Some bytes
 moved_in _ = None
-
--- the header of a connection, or why there is none
-abbrev pub header_in : Answer → Option (Result ProxyHeader ProxyError)
-header_in (Header header) = Some header
-header_in _ = None

@@ -14,6 +14,7 @@ mod handoff;
 mod job;
 mod link_handle;
 mod proxied;
+mod proxy_header;
 mod runtime;
 mod server_state;
 mod session_edge;
@@ -23,6 +24,7 @@ mod worker;
 
 pub use desk::ServerDesk;
 pub use event_sinks::{EventSinks, Listeners};
+pub use proxy_header::answer_proxied;
 pub use runtime::WorkerRuntime;
 pub use server_state::ServerState;
 pub use worker::{Worker, work};

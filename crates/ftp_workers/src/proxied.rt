@@ -7,12 +7,13 @@ ghost use Rattle.ftp_talk.specs.Control.{is_opening};
 
 use crate::event_sinks::EventSinks;
 use crate::handoff::PendingConnection;
+use crate::proxy_header::answer_proxied;
 use crate::runtime::WorkerRuntime;
 use crate::worker::Worker;
 use ftp_base::{Authenticator, Edge, Gate, Storage};
 use ftp_events::{Answer, HubEvent};
 use ftp_options::ListenerMode;
-use ftp_shared::{Serving, answer_proxied};
+use ftp_shared::Serving;
 use ftp_system::{Ahead, Gathered, LIMIT, SocketLink, told_address};
 use mio::net::TcpStream;
 use std::net;

@@ -7,7 +7,7 @@ ghost use Rattle.ftp_base.specs.Kept.{OnlyReads};
 ghost use Rattle.ftp_base.specs.Memory.{LinkMet};
 ghost use Rattle.ftp_base.specs.Outside.{HasRisen};
 ghost use Rattle.ftp_events.specs.declared.event.EventKind.TheVariants.{Proxied};
-ghost use Rattle.ftp_shared.specs.Answers.{header_in};
+ghost use Rattle.ftp_workers.specs.Header.{header_in};
 ghost use Rattle.ftp_proxy.specs.declared.error.ProxyError.TheVariants.{ReadError};
 ghost use Rattle.ftp_proxy.specs.declared.error.ReadError.TheVariants.{Fault};
 ghost use Rattle.ftp_proxy.specs.Line.{IsAnswer, IsTaken};
