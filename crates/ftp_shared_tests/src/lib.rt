@@ -4,16 +4,15 @@
 //! Begin with `threads`.
 #![tactic(auto)]
 
+#[cfg(test)]
 mod jobs;
+#[cfg(test)]
 mod pieces;
+#[cfg(test)]
 mod settled;
 #[cfg(test)]
 mod tests;
+#[cfg(test)]
 mod threads;
+#[cfg(test)]
 mod values;
-
-pub use jobs::{Course, transfer};
-pub use pieces::{move_two, settled_by};
-pub use settled::{Told, settle_two, strange_receipt};
-pub use threads::connect_two;
-pub use values::Stopped;
