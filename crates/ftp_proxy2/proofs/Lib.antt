@@ -6,4 +6,6 @@ pub mod ReadLemmas
 pub mod BodyLemmas
 pub mod OutcomeLemmas
 pub mod HeaderLaws
+pub mod LineLemmas
+pub mod AnyLemmas
 mod Examples

@@ -4,6 +4,7 @@
 //! Begin with `read_proxy_any`.
 #![tactic(auto)]
 
+mod any;
 mod encode;
 mod error;
 mod fields;
@@ -11,7 +12,9 @@ mod head;
 mod header;
 mod laws;
 mod reader;
+mod version1;
 
+pub use any::{AnyError, AnyHeader, read_proxy_any, to_answer};
 pub use encode::encode2;
 pub use error::{Encode2Error, Proxy2Error};
 pub use header::{Body, Field, Fields, Header2};

@@ -53,13 +53,16 @@ impl<
         };
         let link = SocketLink::new(self.rt, self.alloc, stream, LIMIT);
         let mut link = Gathered::new(link, buffer);
-        let (event, answer) = answer_proxied(
+        let Some((event, answer)) = answer_proxied(
+            self.alloc,
             number,
             told_address(raw),
             trace,
             &mut link,
             &mut self.edge,
-        );
+        ) else {
+            return;
+        };
         let Ok((link, _, ahead)) = link.into_rest(self.alloc) else {
             return;
         };

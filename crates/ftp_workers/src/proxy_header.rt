@@ -1,47 +1,51 @@
 //! The header of a connection that a proxy passes on.
 
-ghost use Rattle.std.specs.Prelude.{◌≡◌, IfSome, IsErrOf, IsSome, IsSomeAnd};
+ghost use Rattle.std.specs.Prelude.{◌≡◌, IfSome, IsNone, IsSome, true, false};
 ghost use Rattle.ftp_base.specs.Calls.{AllWell};
 ghost use Rattle.ftp_base.specs.Edge.{Takes, behind_moment, next_number};
 ghost use Rattle.ftp_base.specs.Kept.{OnlyReads};
 ghost use Rattle.ftp_base.specs.Memory.{LinkMet};
 ghost use Rattle.ftp_base.specs.Outside.{HasRisen};
 ghost use Rattle.ftp_events.specs.declared.event.EventKind.TheVariants.{Proxied};
-ghost use Rattle.ftp_workers.specs.Header.{header_in};
-ghost use Rattle.ftp_proxy.specs.declared.error.ProxyError.TheVariants.{ReadError};
-ghost use Rattle.ftp_proxy.specs.declared.error.ReadError.TheVariants.{Fault};
-ghost use Rattle.ftp_proxy.specs.Line.{IsAnswer, IsTaken};
+ghost use Rattle.ftp_workers.specs.Header.{IsHeaderOf, header_in, header_of, is_read_fault};
 
 use ftp_base::{Edge, Link, SocketAddr};
 use ftp_events::{Answer, EventKind, HubEvent};
-use ftp_proxy::read_proxy_header;
+use ftp_proxy2::{read_proxy_any, to_answer};
+use std::alloc::Global;
 
-/// The event of a connection behind a proxy, and the header that it is to be decided by.
+/// The event of a connection behind a proxy, and the header that it is to be decided by; none for want of memory.
 ///
-/// The header is read as `read_proxy_header` reads it: at most 108 bytes, and nothing behind its line feed.
+/// The header is read as `read_proxy_any` reads it, of either version, and nothing behind it.
 pub fn answer_proxied<L: Link, E: Edge>(
+    alloc: Global,
     number: u64,
     raw: SocketAddr,
     trace: u64,
     link: &mut L,
     edge: &mut E,
-) -> (HubEvent, Answer)
-    ensures event { result.0.kind ≡ Proxied number raw trace }
-    ensures moment { IfSome (E.view edge.old).feed (λ f. result.0.at ≡ next_number f.moments) }
-    ensures moment_taken { Takes behind_moment (E.view edge.old) (E.view edge.new) }
-    ensures line { IsSomeAnd (header_in result.1) (λ header. IfSome (L.left link.old) (λ left. IsAnswer left header)) }
-    ensures taken { IsSomeAnd (header_in result.1) (λ header. IfSome (L.left link.old) (λ left. IsTaken left header (L.left link.new))) }
-    ensures last_fault { IsSomeAnd (header_in result.1) (λ header. (IsErrOf header (ReadError Fault) → ⊥) → (L.sending link.new).last_fault ≡ (L.sending link.old).last_fault) }
-    ensures met { IsSomeAnd (header_in result.1) (λ header. IsErrOf header (ReadError Fault) → IsSome (L.sending link.new).last_fault) }
-    ensures unlisted { IsSomeAnd (header_in result.1) (λ header. (IsErrOf header (ReadError Fault) → ⊥) → AllWell (λ call. call.0) (L.calls link.old) (L.calls link.new)) }
-    ensures as_listed { IsSomeAnd (header_in result.1) (λ header. IsErrOf header (ReadError Fault) → LinkMet (L.calls link.old) (L.calls link.new) (L.sending link.new).last_fault) }
-    ensures fault_rose { IsSomeAnd (header_in result.1) (λ header. IsErrOf header (ReadError Fault) → HasRisen (L.faults link.old) (L.faults link.new)) }
+) -> Option<(HubEvent, Answer)>
+    ensures event { IfSome result (λ made. made.0.kind ≡ Proxied number raw trace) }
+    ensures moment { IfSome result (λ made. IfSome (E.view edge.old).feed (λ f. made.0.at ≡ next_number f.moments)) }
+    ensures moment_taken { IsSome result → Takes behind_moment (E.view edge.old) (E.view edge.new) }
+    ensures answer { IfSome result (λ made. IsSome (header_in made.1)) }
+
+    // Of what was read, nothing is told where there was no memory for it.
+    ensures header { IfSome (L.left link.old) (λ left. IsHeaderOf left (header_of result) (L.left link.new)) }
+    ensures unchanged { IsNone result → E.view edge.new ≡ E.view edge.old }
+
+    // What the link met, also where there is no event.
+    ensures last_fault { is_read_fault (header_of result) ≡ false → (L.sending link.new).last_fault ≡ (L.sending link.old).last_fault }
+    ensures met { is_read_fault (header_of result) ≡ true → IsSome (L.sending link.new).last_fault }
+    ensures unlisted { is_read_fault (header_of result) ≡ false → AllWell (λ call. call.0) (L.calls link.old) (L.calls link.new) }
+    ensures as_listed { is_read_fault (header_of result) ≡ true → LinkMet (L.calls link.old) (L.calls link.new) (L.sending link.new).last_fault }
+    ensures fault_rose { is_read_fault (header_of result) ≡ true → HasRisen (L.faults link.old) (L.faults link.new) }
     ensures only_reads { OnlyReads L.sending L.faults L.fault_limit link.old link.new }
 {
-    let header = read_proxy_header(link);
+    let header = to_answer(read_proxy_any(alloc, link))?;
     let event = HubEvent {
         at: edge.now(),
         kind: EventKind::Proxied { number, raw, trace },
     };
-    (event, Answer::Header(header))
+    Some((event, Answer::Header(header)))
 }
