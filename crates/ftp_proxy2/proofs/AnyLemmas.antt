@@ -18,7 +18,7 @@ use Rattle.ftp_proxy2.specs.declared.any.AnyHeader.{AnyHeader}
 use Rattle.ftp_proxy2.specs.declared.any.AnyError.{AnyError}
 use Rattle.ftp_proxy2.specs.declared.any.AnyError.TheVariants as error
 use Rattle.ftp_proxy2.specs.Reading.{ReadsWell, ReadsToFault, IsRefused, IsRead, ReadsFrom, Begun, refusal_at}
-use Rattle.ftp_proxy2.specs.Any.{begins_with_cr, IsAnyAnswer, IsAnyTaken, IsAnyRead, is_fault, IsLineRefused, IsLineRead, as_version1, as_version2}
+use Rattle.ftp_proxy2.specs.Any.{begins_with_cr, IsAnyAnswer, IsAnyTaken, IsAnyRead, any_failed, IsLineRefused, IsLineRead, as_version1, as_version2}
 use Rattle.ftp_proxy2.proofs.ReadLemmas.{IfSome_by, ReadsWell-more, ReadsToFault-more}
 
 -- ---- what reads do to a source
@@ -34,7 +34,7 @@ line_more {S} {sending} {faults} {limit} {calls} {a} {b} {c} is_link e first nex
     subst (λ (d : ProxyError). IsLineRefused sending faults limit calls is_link a c d) (sym is) (ReadsToFault-more first next)
 
 pub any_line : {S : Type 0} (sending : S → Sending) (faults limit : S → ℕ) (calls : S → Option (Calls (ℕ × LinkFault))) (is_link : Bool) (a b : S) (r : Result ProxyHeader ProxyError) →
-    IsLineRead sending faults limit calls is_link a b r → IsAnyRead sending faults limit calls is_link a b (is_fault (as_version1 r))
+    IsLineRead sending faults limit calls is_link a b r → IsAnyRead sending faults limit calls is_link a b (any_failed (as_version1 r))
 any_line sending faults limit calls is_link a b (Ok h) went = went
 any_line sending faults limit calls is_link a b (Err (line_error.ReadError read.Fault)) went = went
 any_line sending faults limit calls is_link a b (Err (line_error.ReadError read.UnexpectedEof)) went = went
@@ -46,7 +46,7 @@ any_line sending faults limit calls is_link a b (Err line_error.IPv4Required) we
 any_line sending faults limit calls is_link a b (Err line_error.UnsupportedVersion) went = went
 
 pub any_block : {S : Type 0} (sending : S → Sending) (faults limit : S → ℕ) (calls : S → Option (Calls (ℕ × LinkFault))) (is_link : Bool) (a b : S) (r : Result Header2 Proxy2Error) →
-    IsRead sending faults limit calls is_link a b r → IsAnyRead sending faults limit calls is_link a b (is_fault (as_version2 r))
+    IsRead sending faults limit calls is_link a b r → IsAnyRead sending faults limit calls is_link a b (any_failed (as_version2 r))
 any_block sending faults limit calls is_link a b (Ok h) went = went
 any_block sending faults limit calls is_link a b (Err block_error.Fault) went = went
 any_block sending faults limit calls is_link a b (Err block_error.OutOfMemory) went = went

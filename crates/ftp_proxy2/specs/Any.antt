@@ -43,34 +43,34 @@ IsAnyTaken bytes (Ok (header.V2 h)) left = reading.IsTaken bytes (Ok h) left
 IsAnyTaken bytes (Err (error.V2 e)) left = reading.IsTaken bytes (Err e) left
 
 -- whether the source failed
-abbrev pub is_fault : Result AnyHeader AnyError → Bool
-is_fault (Err (error.V1 (line_error.ReadError read.Fault))) = true
-is_fault (Err (error.V2 block_error.Fault)) = true
-is_fault _ = false
+abbrev pub any_failed : Result AnyHeader AnyError → Bool
+any_failed (Err (error.V1 (line_error.ReadError read.Fault))) = true
+any_failed (Err (error.V2 block_error.Fault)) = true
+any_failed _ = false
 
 -- ---- what it counts as
 
 -- a header of version 2, by its family and its body
-abbrev pub counted : ℕ → Body → Result ProxyHeader ProxyError
-counted family (Inet pair fields) =
+abbrev pub counts_as : ℕ → Body → Result ProxyHeader ProxyError
+counts_as family (Inet pair fields) =
     if family == 17 then Ok (record { source = pair.source; destination = pair.destination }) else Err line_error.UnsupportedVersion
-counted family (Inet6 pair fields) = Err (if family == 33 then line_error.IPv4Required else line_error.UnsupportedVersion)
-counted family _ = Err line_error.UnsupportedVersion
+counts_as family (Inet6 pair fields) = Err (if family == 33 then line_error.IPv4Required else line_error.UnsupportedVersion)
+counts_as family _ = Err line_error.UnsupportedVersion
 
 -- a refusal of version 2; nothing where memory ran out
-abbrev pub refused_as : Proxy2Error → Option ProxyError
-refused_as (block_error.BadVersion byte) = Some line_error.UnsupportedVersion
-refused_as block_error.UnexpectedEof = Some (line_error.ReadError read.UnexpectedEof)
-refused_as block_error.Fault = Some (line_error.ReadError read.Fault)
-refused_as block_error.OutOfMemory = None
-refused_as _ = Some line_error.DecodeError
+abbrev pub refusal_as : Proxy2Error → Option ProxyError
+refusal_as (block_error.BadVersion byte) = Some line_error.UnsupportedVersion
+refusal_as block_error.UnexpectedEof = Some (line_error.ReadError read.UnexpectedEof)
+refusal_as block_error.Fault = Some (line_error.ReadError read.Fault)
+refusal_as block_error.OutOfMemory = None
+refusal_as _ = Some line_error.DecodeError
 
 -- what a connection is decided by; nothing where memory ran out
 abbrev pub answered : Result AnyHeader AnyError → Option (Result ProxyHeader ProxyError)
 answered (Ok (header.V1 h)) = Some (Ok h)
 answered (Err (error.V1 e)) = Some (Err e)
-answered (Ok (header.V2 h)) = Some (counted h.family h.body)
-answered (Err (error.V2 e)) = option_map (λ d. Err d) (refused_as e)
+answered (Ok (header.V2 h)) = Some (counts_as h.family h.body)
+answered (Err (error.V2 e)) = option_map (λ d. Err d) (refusal_as e)
 
 -- ---- in between
 

@@ -5,7 +5,7 @@ ghost use Rattle.ftp_base.specs.Calls.{AllWell};
 ghost use Rattle.ftp_base.specs.Kept.{OnlyReads};
 ghost use Rattle.ftp_base.specs.Memory.{LinkMet};
 ghost use Rattle.ftp_base.specs.Outside.{HasRisen};
-ghost use Rattle.ftp_proxy2.specs.Any.{IsAnyAnswer, IsAnyTaken, IsAnyRead, is_fault, as_version1, as_version2, counted, refused_as, answered};
+ghost use Rattle.ftp_proxy2.specs.Any.{IsAnyAnswer, IsAnyTaken, IsAnyRead, any_failed, as_version1, as_version2, counts_as, refusal_as, answered};
 
 use crate::error::Proxy2Error;
 use crate::head::{HEAD, SIGNATURE};
@@ -52,11 +52,11 @@ impl From<ProxyError> for AnyError {
 pub fn read_proxy_any<S: Source>(alloc: Global, source: &mut S) -> Result<AnyHeader, AnyError>
     ensures header { IfSome (S.left source.old) (λ left. IsAnyAnswer left result) }
     ensures taken { IfSome (S.left source.old) (λ left. IsAnyTaken left result (S.left source.new)) }
-    ensures last_fault { is_fault result ≡ false → (S.sending source.new).last_fault ≡ (S.sending source.old).last_fault }
-    ensures met { is_fault result ≡ true → S.is_link ≡ true → IsSome (S.sending source.new).last_fault }
-    ensures unlisted { is_fault result ≡ false → AllWell (λ call. call.0) (S.calls source.old) (S.calls source.new) }
-    ensures as_listed { is_fault result ≡ true → LinkMet (S.calls source.old) (S.calls source.new) (S.sending source.new).last_fault }
-    ensures fault_rose { is_fault result ≡ true → HasRisen (S.faults source.old) (S.faults source.new) }
+    ensures last_fault { any_failed result ≡ false → (S.sending source.new).last_fault ≡ (S.sending source.old).last_fault }
+    ensures met { any_failed result ≡ true → S.is_link ≡ true → IsSome (S.sending source.new).last_fault }
+    ensures unlisted { any_failed result ≡ false → AllWell (λ call. call.0) (S.calls source.old) (S.calls source.new) }
+    ensures as_listed { any_failed result ≡ true → LinkMet (S.calls source.old) (S.calls source.new) (S.sending source.new).last_fault }
+    ensures fault_rose { any_failed result ≡ true → HasRisen (S.faults source.old) (S.faults source.new) }
     ensures only_reads { OnlyReads S.sending S.faults S.fault_limit source.old source.new }
 {
     read_any(alloc, source)
@@ -65,7 +65,7 @@ pub fn read_proxy_any<S: Source>(alloc: Global, source: &mut S) -> Result<AnyHea
 // Reads the first byte, and then the header of its version.
 fn read_any<S: Source>(alloc: Global, source: &mut S) -> Result<AnyHeader, AnyError>
     ensures read { IfSome (S.left source.old) (λ left. IsAnyAnswer left result × IsAnyTaken left result (S.left source.new)) }
-    ensures went { IsAnyRead S.sending S.faults S.fault_limit S.calls S.is_link source.old source.new (is_fault result) }
+    ensures went { IsAnyRead S.sending S.faults S.fault_limit S.calls S.is_link source.old source.new (any_failed result) }
 {
     let Some(first) = read_byte(source)? else {
         return Err(AnyError::V1(ProxyError::ReadError(ReadError::UnexpectedEof)));
@@ -80,7 +80,7 @@ fn read_any_behind<S: Source>(
     first: u8,
 ) -> Result<AnyHeader, AnyError>
     ensures read { IfSome (S.left source.old) (λ left. IsAnyAnswer (first ∷ left) result × IsAnyTaken (first ∷ left) result (S.left source.new)) }
-    ensures went { IsAnyRead S.sending S.faults S.fault_limit S.calls S.is_link source.old source.new (is_fault result) }
+    ensures went { IsAnyRead S.sending S.faults S.fault_limit S.calls S.is_link source.old source.new (any_failed result) }
 {
     if is_version2(first) {
         let mut head = [0; HEAD];
@@ -124,14 +124,14 @@ pub fn to_answer(read: Result<AnyHeader, AnyError>) -> Option<Result<ProxyHeader
     match read {
         Ok(AnyHeader::V1(header)) => Some(Ok(header)),
         Err(AnyError::V1(e)) => Some(Err(e)),
-        Ok(AnyHeader::V2(header)) => Some(counted(header.family, &header.body)),
-        Err(AnyError::V2(e)) => Some(Err(refused_as(e)?)),
+        Ok(AnyHeader::V2(header)) => Some(counts_as(header.family, &header.body)),
+        Err(AnyError::V2(e)) => Some(Err(refusal_as(e)?)),
     }
 }
 
 // A header of version 2, by its family and its body.
-fn counted(family: u8, body: &Body) -> Result<ProxyHeader, ProxyError>
-    ensures { result ≡ counted family body.now }
+fn counts_as(family: u8, body: &Body) -> Result<ProxyHeader, ProxyError>
+    ensures { result ≡ counts_as family body.now }
 {
     match body {
         Body::Inet { pair, .. } if family == STREAM4 => Ok(ProxyHeader {
@@ -144,8 +144,8 @@ fn counted(family: u8, body: &Body) -> Result<ProxyHeader, ProxyError>
 }
 
 // A refusal of version 2; nothing where memory ran out.
-fn refused_as(e: Proxy2Error) -> Option<ProxyError>
-    ensures { result ≡ refused_as e }
+fn refusal_as(e: Proxy2Error) -> Option<ProxyError>
+    ensures { result ≡ refusal_as e }
 {
     match e {
         Proxy2Error::BadVersion(_) => Some(ProxyError::UnsupportedVersion),

@@ -17,9 +17,9 @@ header_in (Header header) = Some header
 header_in _ = None
 
 -- what a connection is to be decided by; nothing where there is no event of it
-abbrev pub header_of : Option (HubEvent × Answer) → Option (Result ProxyHeader ProxyError)
-header_of (Some made) = header_in made.1
-header_of None = None
+abbrev pub header_told : Option (HubEvent × Answer) → Option (Result ProxyHeader ProxyError)
+header_told (Some made) = header_in made.1
+header_told None = None
 
 -- whether a link failed before its header was read
 abbrev pub is_read_fault : Option (Result ProxyHeader ProxyError) → Bool

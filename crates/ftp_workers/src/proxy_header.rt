@@ -7,7 +7,7 @@ ghost use Rattle.ftp_base.specs.Kept.{OnlyReads};
 ghost use Rattle.ftp_base.specs.Memory.{LinkMet};
 ghost use Rattle.ftp_base.specs.Outside.{HasRisen};
 ghost use Rattle.ftp_events.specs.declared.event.EventKind.TheVariants.{Proxied};
-ghost use Rattle.ftp_workers.specs.Header.{IsHeaderOf, header_in, header_of, is_read_fault};
+ghost use Rattle.ftp_workers.specs.Header.{IsHeaderOf, header_in, header_told, is_read_fault};
 
 use ftp_base::{Edge, Link, SocketAddr};
 use ftp_events::{Answer, EventKind, HubEvent};
@@ -31,15 +31,15 @@ pub fn answer_proxied<L: Link, E: Edge>(
     ensures answer { IfSome result (λ made. IsSome (header_in made.1)) }
 
     // Of what was read, nothing is told where there was no memory for it.
-    ensures header { IfSome (L.left link.old) (λ left. IsHeaderOf left (header_of result) (L.left link.new)) }
+    ensures header { IfSome (L.left link.old) (λ left. IsHeaderOf left (header_told result) (L.left link.new)) }
     ensures unchanged { IsNone result → E.view edge.new ≡ E.view edge.old }
 
     // What the link met, also where there is no event.
-    ensures last_fault { is_read_fault (header_of result) ≡ false → (L.sending link.new).last_fault ≡ (L.sending link.old).last_fault }
-    ensures met { is_read_fault (header_of result) ≡ true → IsSome (L.sending link.new).last_fault }
-    ensures unlisted { is_read_fault (header_of result) ≡ false → AllWell (λ call. call.0) (L.calls link.old) (L.calls link.new) }
-    ensures as_listed { is_read_fault (header_of result) ≡ true → LinkMet (L.calls link.old) (L.calls link.new) (L.sending link.new).last_fault }
-    ensures fault_rose { is_read_fault (header_of result) ≡ true → HasRisen (L.faults link.old) (L.faults link.new) }
+    ensures last_fault { is_read_fault (header_told result) ≡ false → (L.sending link.new).last_fault ≡ (L.sending link.old).last_fault }
+    ensures met { is_read_fault (header_told result) ≡ true → IsSome (L.sending link.new).last_fault }
+    ensures unlisted { is_read_fault (header_told result) ≡ false → AllWell (λ call. call.0) (L.calls link.old) (L.calls link.new) }
+    ensures as_listed { is_read_fault (header_told result) ≡ true → LinkMet (L.calls link.old) (L.calls link.new) (L.sending link.new).last_fault }
+    ensures fault_rose { is_read_fault (header_told result) ≡ true → HasRisen (L.faults link.old) (L.faults link.new) }
     ensures only_reads { OnlyReads L.sending L.faults L.fault_limit link.old link.new }
 {
     let header = to_answer(read_proxy_any(alloc, link))?;
