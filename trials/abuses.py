@@ -270,16 +270,24 @@ def changes_its_mind(abuse):
         same(session.fetch("RETR kept"), body(10000))
 
 
+# What a header of version 2 begins with.
+SIGNATURE = b"\r\n\r\n\0\r\nQUIT\n"
+
+
 def headers():
-    """Lines that are no header of a connection from a proxy; the last is longer than any."""
+    """What is no header of a client that a proxy passes on; the last is longer than any."""
     yield from (b"", b"\n", b"\r\n", b"GET / HTTP/1.1\r\n", b"PROXY\r\n", b"PROXY UNKNOWN\r\n", b"PROXY TCP4 1.2.3.4\r\n")
     yield from (b"PROXY TCP4 1.2.3.4 1.2.3.4 1 99999\r\n", b"PROXY TCP4 01.2.3.4 1.2.3.4 1 2\r\n")
     yield from (b"PROXY TCP4 1.2.3.4 1.2.3.4 1 2\n", b"PROXY TCP6 ::1 ::1 1 2\r\n")
-    yield from (b"\r\n\r\n\0\r\nQUIT\n\x21\x11\0\x0c" + b"x" * 12, b"x" * 300)
+    # Of version 2: those of health checks, without addresses and with some; other families; a field too long; a cut one.
+    for rest in (b"\x20\0\0\0", b"\x20\x11\0\x0c" + b"x" * 12, b"\x21\0\0\0", b"\x21\x12\0\x0c" + b"x" * 12):
+        yield SIGNATURE + rest
+    yield from (SIGNATURE + b"\x21\x21\0\x24" + b"x" * 36, SIGNATURE + b"\x21\x11\0\x0e" + b"x" * 14)
+    yield from (SIGNATURE + b"\x31\x11\0\x0c" + b"x" * 12, SIGNATURE + b"\x21\x11\xff\xff" + b"x" * 300, b"x" * 300)
 
 
 def sends_no_header(abuse):
-    """Connections whose first line is no header are closed."""
+    """Connections whose header names no client are closed, without a word."""
     door = wire.Door(abuse.door.ip, abuse.door.port)
     for line in list(headers()) * 5:
         with door.dial() as stream:

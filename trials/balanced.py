@@ -89,20 +89,20 @@ def is_back(words, door, gone, address):
             same(session.fetch("RETR again"), data_of(address))
 
 
-def run_all(tally, words, servers, door):
-    tally.case("two servers, each address finds its own", each_finds_its_own, door)
-    tally.case("two servers, each address has one of them", each_has_one_server, door, servers)
-    tally.case("two servers, all addresses at once", all_at_once, door)
+def run_all(tally, name, words, servers, door):
+    tally.case(f"{name}, each address finds its own", each_finds_its_own, door)
+    tally.case(f"{name}, each address has one of them", each_has_one_server, door, servers)
+    tally.case(f"{name}, all addresses at once", all_at_once, door)
     for address in BOUND:
         with Place(door, address) as place:
-            operations.run(tally, f"two servers, {address},", place, only_bound=True)
+            operations.run(tally, f"{name}, {address},", place, only_bound=True)
             for case in sessions.FTPLIB:
-                tally.case(f"two servers, {address}, {case.__name__.replace('_', ' ')}", case, place, place.name())
-    tally.case("two servers, one goes on without the other", goes_on_without_the_other, words, door, servers)
+                tally.case(f"{name}, {address}, {case.__name__.replace('_', ' ')}", case, place, place.name())
+    tally.case(f"{name}, one goes on without the other", goes_on_without_the_other, words, door, servers)
 
 
-def run(tally, words):
+def run(tally, name, words, header):
     with Server(words, "proxy") as one:
         with Server(words, "proxy", called=(one.control, one.first, one.last)) as two:
-            with Proxy([one, two]) as proxy:
-                run_all(tally, words, (one, two), proxy.door())
+            with Proxy([one, two], header) as proxy:
+                run_all(tally, name, words, (one, two), proxy.door())

@@ -17,12 +17,13 @@ import sys
 sys.dont_write_bytecode = True
 import aborts  # noqa: E402
 import balanced  # noqa: E402
+import health  # noqa: E402
 import interrupts  # noqa: E402
 import operations  # noqa: E402
 import sessions  # noqa: E402
 import starting  # noqa: E402
 from cases import Place, begin  # noqa: E402
-from programs import Proxy, Server  # noqa: E402
+from programs import HEADER_1, HEADER_2, Proxy, Server  # noqa: E402
 
 
 def run_direct(tally, words, mode, clients=operations.CLIENTS):
@@ -36,14 +37,18 @@ def run_direct(tally, words, mode, clients=operations.CLIENTS):
         tally.runs_on(mode, server)
 
 
-def run_proxied(tally, words):
+# What the cases behind HAProxy are called, by the header that it sends.
+VERSIONS = {HEADER_2: "", HEADER_1: ", version 1"}
+
+
+def run_proxied(tally, name, words, header):
     """A server behind HAProxy."""
-    with Server(words, "proxy") as server, Proxy([server]) as proxy, Place(proxy.door()) as place:
-        sessions.run(tally, "haproxy", place)
-        aborts.run(tally, "haproxy", place)
-        operations.run(tally, "haproxy", place)
-        interrupts.run(tally, "haproxy", place)
-        tally.runs_on("haproxy", server)
+    with Server(words, "proxy") as server, Proxy([server], header) as proxy, Place(proxy.door()) as place:
+        sessions.run(tally, name, place)
+        aborts.run(tally, name, place)
+        operations.run(tally, name, place)
+        interrupts.run(tally, name, place)
+        tally.runs_on(name, server)
 
 
 def main():
@@ -57,8 +62,10 @@ def main():
     for mode in "pooled", "proxy":
         tally.group(f"{mode} with one port", sessions.run_addresses, words, mode)
     if shutil.which("haproxy"):
-        tally.group("haproxy", run_proxied, words)
-        tally.group("two servers", balanced.run, words)
+        for header, version in VERSIONS.items():
+            tally.group(f"haproxy{version}", run_proxied, f"haproxy{version}", words, header)
+            tally.group(f"two servers{version}", balanced.run, f"two servers{version}", words, header)
+        tally.group("health checks", health.run, words)
     else:
         tally.skip("haproxy", "it is not installed")
     return tally.end()

@@ -17,6 +17,8 @@ import wire
 TOP = Path(__file__).resolve().parent.parent
 PROGRAM = TOP / "crates" / "ftp_serve" / "out" / "ftp_serve"
 HAPROXY = TOP / "examples" / "haproxy.cfg"
+# What HAProxy sends ahead of connections: a header of version 2, or of version 1.
+HEADER_2, HEADER_1 = "send-proxy-v2", "send-proxy"
 HOST = "127.0.0.1"
 # Ports that the system gives to nobody by itself.
 LOWEST, HIGHEST = 10000, 32000
@@ -130,15 +132,19 @@ class Server(Program):
 
 
 class Proxy(Program):
-    """HAProxy as examples/haproxy.cfg has it, in front of two servers, or of one in the place of both."""
+    """HAProxy as examples/haproxy.cfg has it, in front of two servers, or of one in the place of both.
 
-    def __init__(self, servers):
+    `header` is what it sends ahead of connections, in the words of its setting; `more` are files of further settings.
+    """
+
+    def __init__(self, servers, header=HEADER_2, more=()):
         first = servers[0]
         self.port = first.control
         at = [f"{HOST}:{server.port}" for server in (servers * 2)[:2]]
         super().__init__(
-            ["haproxy", "-db", "-f", str(HAPROXY)],
+            ["haproxy", "-db", *(word for file in [HAPROXY, *more] for word in ("-f", str(file)))],
             FTP_ADDRESS=HOST,
+            FTP_HEADER=header,
             FTP_CONTROL=str(first.control),
             FTP_PASSIVE=f"{first.first}-{first.last}",
             FTP_SERVER_1=at[0],
