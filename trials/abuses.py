@@ -11,6 +11,9 @@ LARGE = 15 * 1024 * 1024
 # More lines than fit in all buffers between, with their replies.
 UNREAD = 64 * 1024 * 1024
 MANY = 1000
+# How many sessions one client may have at a time.
+MOST = 500
+STRANGER = "127.0.0.9"
 # A wait of the server is a minute at most; then the transfer or the session is over.
 LIMIT = 60
 # What it may take longer where the machine has much else to do.
@@ -127,16 +130,106 @@ def a_byte_a_second(abuse):
 
 
 def opens_many(abuse):
-    """A thousand connections at once: each is greeted."""
-    streams = []
+    """A thousand connections at once: as many are greeted as one client may have, and the others are told 421 and closed."""
+    streams, greeted = [], 0
     try:
         for _ in range(MANY):
             streams.append(abuse.door.dial(abuse.source))
         for stream in streams:
-            same(stream.recv(4), b"220 ", "the first bytes of a greeting")
+            first = stream.recv(4)
+            holds(first in (b"220 ", b"421 "), f"the first bytes are {first}")
+            greeted += first == b"220 "
+            holds(first == b"220 " or ended(stream), "a connection too many goes on")
+        holds(MOST // 2 < greeted <= MOST, f"{greeted} are greeted")
     finally:
         for stream in streams:
             stream.close()
+    comes_again(abuse)
+
+
+def comes_again(abuse):
+    """Once sessions have ended, others of their client are served."""
+    for _ in range(SLACK * 10):
+        try:
+            abuse.session().quit()
+            return
+        except wire.Unexpected:
+            time.sleep(0.1)
+    raise wire.Unexpected("nobody of its address is served again")
+
+
+def asks_for_ports_in_a_loop(abuse):
+    """A session that asks for more ports than there are has one at a time, and none behind its end."""
+    with abuse.session() as session:
+        for _ in range(3 * (abuse.server.last - abuse.server.first + 1)):
+            session.tell("PASV", 227)
+        with abuse.session(STRANGER) as other:
+            other.store("STOR beside", b"others have ports")
+        session.store("STOR own", b"and so has it")
+        session.tell("PASV", 227)
+        session.quit()
+    # A port is drawn a few times: with most of them free there is one for each.
+    sessions = [abuse.session(STRANGER) for _ in range((abuse.server.last - abuse.server.first + 1) // 10)]
+    try:
+        for session in sessions:
+            session.tell("PASV", 227)
+    finally:
+        for session in sessions:
+            session.close()
+
+
+# ABOR behind IAC IP, IAC DM, as parts that go out in one go each, the last byte of a part as urgent data where it is so:
+# with IAC before DM so, as tnftp and inetutils have it; with the first IAC; with DM (RFC 854); with none.
+INTERRUPTS = (
+    ((b"\xff\xf4\xff", True), (b"\xf2ABOR\r\n", False)),
+    ((b"\xff", True), (b"\xf4\xff\xf2ABOR\r\n", False)),
+    ((b"\xff\xf4\xff\xf2", True), (b"ABOR\r\n", False)),
+    ((b"\xff\xf4\xff\xf2ABOR\r\n", False),),
+    ((b"AB", False), (b"\xff\xf1", True), (b"OR\r\n", False)),
+)
+
+
+def sends_urgent_bytes(abuse):
+    """ABOR behind Telnet commands and urgent data is answered within a second, in a transfer too, and the session goes on."""
+    with abuse.session() as session:
+        session.control.settimeout(1)
+        for parts in INTERRUPTS * 4:
+            for part, urgent in parts:
+                session.control.send(part, socket.MSG_OOB if urgent else 0)
+            session.expect(226)
+            session.tell("NOOP", 200)
+        # IAC NOP by itself asks for nothing, and a reply that comes later is not kept back by it.
+        session.control.sendall(b"\xff\xf1")
+        session.control.settimeout(wire.PATIENCE)
+        moves(session, "behind-urgent-bytes")
+
+
+def moves(session, name):
+    session.store(f"STOR {name}", body(50000))
+    same(session.fetch(f"RETR {name}"), body(50000))
+
+
+def stores_one_name_twice(abuse):
+    """A path that is written to refuses a second upload until the first has ended; meanwhile it is read as it is."""
+    with abuse.session() as first, abuse.session() as second:
+        with first.link() as stream:
+            first.tell("STOR twice", 150)
+            stream.sendall(b"x" * 8192)
+            while second_upload(second) != 450:
+                time.sleep(0.05)
+            stream.sendall(b"y" * 8192)
+        first.expect(226)
+        same(second.fetch("RETR twice"), b"x" * 8192 + b"y" * 8192)
+        second.store("STOR twice", b"once more")
+        same(first.fetch("RETR twice"), b"once more")
+
+
+def second_upload(session):
+    """The code that an upload of nothing to the same path ends with. Before the first has begun it is 226."""
+    with session.link():
+        session.tell("STOR twice", 150)
+        time.sleep(wire.PASSED_ON)
+    return session.reply()[0]
 
 
 def resets_downloads(abuse):
@@ -337,6 +430,9 @@ SLOW = {
 QUICK = {
     never_connects: SHARED,
     opens_many: EVERY,
+    asks_for_ports_in_a_loop: ("legacy",),
+    sends_urgent_bytes: EVERY,
+    stores_one_name_twice: EVERY,
     resets_downloads: EVERY,
     resets_uploads: EVERY,
     resets_sessions: EVERY,

@@ -66,6 +66,8 @@ def lftp(place, name):
         took = time.monotonic() - began
         holds(took < WITHIN, f"the replies took {took:.1f} seconds")
         at = program.shows(b"<--- 226", at)
+        # The reply may be there before the last bytes are in the file.
+        program.shows(b"bytes transferred", at)
         program.types(b"exit kill\n")
     holds(program.text.count(b"---> USER") == 1, "a second login")
     same((place.folder / (words["got"].name + "-next")).read_bytes(), place.bytes)

@@ -108,12 +108,12 @@ def takes_three_descriptors_a_session(command, mode):
     """Three a session, at most three a transfer, in pooled mode one a passive port; and all come back."""
     count, ports = 10, 50
     with Server(command, mode, ports=ports) as server:
-        first = descriptors(server, ports + 6 if mode == "pooled" else 6)
+        first = descriptors(server, ports + 7 if mode == "pooled" else 7)
         sessions = [wire.Session(server.door(), f"127.0.0.{10 + i}").login() for i in range(count)]
         with_sessions = descriptors(server, first + 3 * count)
         if with_sessions == first:
             raise Skipped("it is another process that serves")
-        same(str(first), str(ports + 6 if mode == "pooled" else 6), "the descriptors at the start")
+        same(str(first), str(ports + 7 if mode == "pooled" else 7), "the descriptors at the start")
         same(str(with_sessions - first), str(3 * count), "those of the sessions")
         sessions[0].store("STOR large", body(15 << 20))
         streams = [session.link() for session in sessions]

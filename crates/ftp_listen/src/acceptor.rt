@@ -1,4 +1,4 @@
-//! The thread at the doors.
+//! The thread that accepts connections.
 
 ghost use Rattle.std.specs.Prelude.{◌≡◌, ◌≤◌};
 
@@ -11,16 +11,20 @@ use ftp_workers::{EventSinks, ServerDesk, ServerState};
 use mio::Token;
 use mio::net::TcpStream;
 use std::alloc::Global;
+use std::collections::BTreeMap;
 use std::net::SocketAddr;
 use std::sync::Arc;
 use std::time::Duration;
 use std::{net, thread};
 
-/// How many connections are taken in at a door before the next door is looked at.
+/// How many connections are accepted at one socket before the next socket is looked at.
 const ROUND: u32 = 256;
 
-/// How long nobody is taken in after a door failed, in milliseconds.
+/// How long a socket whose accept failed is left alone, in milliseconds.
 const REST: u64 = 200;
+
+/// How often ports of sessions that have waited too long are looked for, in milliseconds.
+const LISTENERS: u64 = 1000;
 
 /// How often failed logins that are too old are forgotten, in milliseconds.
 const SWEEP: u64 = 10_000;
@@ -28,7 +32,7 @@ const SWEEP: u64 = 10_000;
 /// How often ports of sessions that have ended are looked for, in milliseconds.
 const SCAVENGE: u64 = 60_000;
 
-/// Takes connections in, and sees to it that there are threads for them.
+/// Accepts connections, and starts threads for them.
 #[derive(Drop)]
 pub(crate) struct Acceptor<
     R: ServerRuntime,
@@ -41,9 +45,12 @@ pub(crate) struct Acceptor<
     rt: R,
     state: Arc<ServerState<L, A, N, S, G>, Global>,
     desk: ServerDesk<R, L, A, N, S, G>,
-    // A proxy passes on whoever comes to the control door.
+    // All connections to the control port come from a proxy.
     is_behind_proxy: bool,
-    // When failed logins were forgotten last, and ports looked for.
+    // Sockets whose accept failed, by their tokens, and from when on they are looked at again.
+    resting: BTreeMap<usize, u64>,
+    // When ports that wait too long were looked for last, failed logins forgotten, and ports freed.
+    closed: u64,
     swept: u64,
     scavenged: u64,
     // How many threads were wanted and are not started yet.
@@ -58,9 +65,10 @@ impl<
     S: Storage + Send + Drop + 'static,
     G: Gate + Send + Sync + Drop + 'static,
 > Acceptor<R, L, A, N, S, G> {
-    /// Nobody has come yet, at this moment in milliseconds.
+    /// No connection has come yet, at this moment in milliseconds.
     pub(crate) fn new(
         rt: R,
+        alloc: Global,
         state: Arc<ServerState<L, A, N, S, G>, Global>,
         desk: ServerDesk<R, L, A, N, S, G>,
         is_behind_proxy: bool,
@@ -71,39 +79,64 @@ impl<
             state,
             desk,
             is_behind_proxy,
+            resting: BTreeMap::new(alloc),
+            closed: at,
             swept: at,
             scavenged: at,
             owed: 0,
         }
     }
 
-    /// Waits until somebody comes, a thread is wanted, or so many milliseconds are over.
+    /// Waits for a connection or for a wish for one more thread, this many milliseconds at most.
     pub(crate) fn wait(&self, poll: &mut AcceptPoll, millis: u64) {
         if poll.wait(millis).is_err() {
             thread::sleep(&self.rt, Duration::from_millis(millis));
         }
     }
 
-    /// Takes in all who came, as the last wait told.
+    /// Accepts the connections that the last wait reported.
     pub(crate) fn accept_ready(&mut self, poll: &AcceptPoll, sockets: &ListeningSockets, at: u64) {
         for event in poll.events().iter() {
-            self.accept_at(poll, sockets, event.token(), at);
+            let token = event.token();
+            match sockets.session_at(token) {
+                Some(session) => self.desk.accept_for(at, session),
+                None if self.resting.contains_key(&token.0) => {}
+                None => self.accept_at(poll, sockets, token, at),
+            }
         }
+        self.look_again(poll, sockets, at);
     }
 
-    // Takes in those who wait at a door. Where it fails, or too many wait, the others are left for a later wait.
+    // Accepts the connections of one socket. If there are too many, the rest waits for the next turn; a socket that fails is
+    // left alone for a while.
     fn accept_at(&mut self, poll: &AcceptPoll, sockets: &ListeningSockets, token: Token, at: u64) {
         for _ in 0..ROUND {
             match sockets.next(token) {
                 Ok(Some((door, stream, raw))) => self.dispatch(door, stream, raw, at),
                 Ok(None) => return,
                 Err(_) => {
-                    thread::sleep(&self.rt, Duration::from_millis(REST));
+                    if self
+                        .resting
+                        .insert(token.0, at.saturating_add(REST))
+                        .is_ok()
+                    {
+                        return;
+                    }
                     break;
                 }
             }
         }
         sockets.tell_again(poll, token);
+    }
+
+    // From now on the sockets that failed a while ago are looked at again.
+    fn look_again(&mut self, poll: &AcceptPoll, sockets: &ListeningSockets, at: u64) {
+        for (token, until) in self.resting.iter() {
+            if *until <= at {
+                sockets.tell_again(poll, Token(*token));
+            }
+        }
+        self.resting.retain(|_, until| at < *until);
     }
 
     // Has a connection served, or given to the session that it is for.
@@ -130,6 +163,10 @@ impl<
 
     /// Does what is due from time to time.
     pub(crate) fn run_timers(&mut self, at: u64) {
+        if at.saturating_sub(self.closed) >= LISTENERS {
+            self.closed = at;
+            self.desk.close_listeners(at);
+        }
         if at.saturating_sub(self.swept) >= SWEEP {
             self.swept = at;
             self.desk.sweep(at);

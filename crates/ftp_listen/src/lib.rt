@@ -1,4 +1,4 @@
-//! A server that listens: at its doors, with a thread for each session and for each transfer.
+//! A server that listens, with a thread for each session and for each transfer.
 //!
 //! It ends well only where a shutdown was asked for, and each error has its cause.
 //! Begin with `Server`.

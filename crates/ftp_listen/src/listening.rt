@@ -1,6 +1,7 @@
-//! The doors of a server, and a wait at them.
+//! The listening sockets of a server, and the wait for connections.
 
 use ftp_system::Doors;
+use ftp_workers::AcceptorHandle;
 use mio::net::{TcpListener, TcpStream};
 use mio::unix::SourceFd;
 use mio::{Events, Interest, Poll, Token, Waker};
@@ -12,26 +13,26 @@ use std::os::fd::AsRawFd;
 use std::sync::Arc;
 use std::time::Duration;
 
-/// How many doors one wait can tell of.
+/// How many sockets one wait can report.
 const CAPACITY: usize = 256;
 
-/// Which door it is.
+/// What a listening socket is for.
 #[derive(Clone, Copy, Debug, PartialEq, Eq)]
 pub(crate) enum Door {
-    /// That of control connections, and behind a proxy of all.
+    /// Control connections, and behind a proxy all connections.
     Control,
-    /// That of this passive port.
+    /// Data connections to this passive port.
     Passive(u16),
 }
 
-/// The listeners. The token of a passive port is its place, and that of the control door the number behind the last.
+/// The listeners. The token of a passive port is its place; that of the control port comes after the last of them.
 #[derive(Drop)]
 pub(crate) struct ListeningSockets {
     control: TcpListener,
     ports: Vec<(u16, TcpListener)>,
 }
 
-/// Waits until somebody comes, or is wanted inside.
+/// Waits for connections, and for workers that want one more thread.
 #[derive(Drop)]
 pub(crate) struct AcceptPoll {
     poll: Poll,
@@ -39,12 +40,12 @@ pub(crate) struct AcceptPoll {
 }
 
 impl AcceptPoll {
-    /// A poll over the doors, and a waker that ends its wait.
+    /// A poll over the listening sockets, and a handle to the thread that waits there.
     pub(crate) fn over<N: Net>(
         net: &N,
         alloc: Global,
         doors: Doors,
-    ) -> io::Result<(AcceptPoll, ListeningSockets, Arc<Waker, Global>)> {
+    ) -> io::Result<(AcceptPoll, ListeningSockets, AcceptorHandle)> {
         let Doors {
             control,
             ports,
@@ -61,24 +62,32 @@ impl AcceptPoll {
             .register(&mut control, Token(place), Interest::READABLE)?;
         let waker = Waker::new(poll.registry(), Token(place + 1))?;
         let events = Events::with_capacity(alloc, CAPACITY)?;
-        let waker = Arc::new(alloc, waker)?;
+        let acceptor = AcceptorHandle {
+            waker: Arc::new(alloc, waker)?,
+            registry: poll.registry().try_clone()?,
+            first: place + 2,
+        };
         Ok((
             AcceptPoll { poll, events },
             ListeningSockets { control, ports },
-            waker,
+            acceptor,
         ))
     }
 
-    /// A poll over no door.
+    /// A poll over no socket.
     pub(crate) fn inside<N: Net>(
         net: &N,
         alloc: Global,
-    ) -> io::Result<(AcceptPoll, Arc<Waker, Global>)> {
+    ) -> io::Result<(AcceptPoll, AcceptorHandle)> {
         let poll = Poll::new(net)?;
         let waker = Waker::new(poll.registry(), Token(0))?;
-        let events = Events::with_capacity(alloc, 1)?;
-        let waker = Arc::new(alloc, waker)?;
-        Ok((AcceptPoll { poll, events }, waker))
+        let events = Events::with_capacity(alloc, 2)?;
+        let acceptor = AcceptorHandle {
+            waker: Arc::new(alloc, waker)?,
+            registry: poll.registry().try_clone()?,
+            first: 1,
+        };
+        Ok((AcceptPoll { poll, events }, acceptor))
     }
 
     /// Waits so many milliseconds at most. After an error nothing is told.
@@ -94,7 +103,7 @@ impl AcceptPoll {
 }
 
 impl ListeningSockets {
-    // The door under the token, and its listener.
+    // What the socket with this token is for, and its listener.
     fn door(&self, token: Token) -> Option<(Door, &TcpListener)> {
         if token.0 == self.ports.len() {
             return Some((Door::Control, &self.control));
@@ -103,7 +112,16 @@ impl ListeningSockets {
         Some((Door::Passive(*port), listener))
     }
 
-    /// The next connection at the door under the token, and which door that is. None where nobody waits, or there is no such door.
+    /// The session whose passive port has the token, if no listening socket of the server has it.
+    pub(crate) fn session_at(&self, token: Token) -> Option<u64> {
+        token
+            .0
+            .checked_sub(self.ports.len() + 2)
+            .map(|session| session as u64)
+    }
+
+    /// The next connection at the socket with this token, and what that socket is for. None if no connection waits or no socket
+    /// has the token.
     pub(crate) fn next(&self, token: Token) -> io::Result<Option<(Door, TcpStream, SocketAddr)>> {
         let Some((door, listener)) = self.door(token) else {
             return Ok(None);
@@ -115,7 +133,7 @@ impl ListeningSockets {
         }
     }
 
-    /// Has the poll tell of the door under the token once more, if anybody waits there.
+    /// Has the poll report the socket with this token once more, if a connection waits there.
     pub(crate) fn tell_again(&self, poll: &AcceptPoll, token: Token) {
         if let Some((_, listener)) = self.door(token) {
             let descriptor = listener.as_raw_fd();

@@ -17,7 +17,7 @@ pub struct Parts<S: Storage + Drop> {
     pub storage: S,
 }
 
-/// The parts of a state: who may log in, who is told, and the files.
+/// What a server's threads share: who may log in, who is told, and the files.
 #[derive(Drop)]
 pub(crate) struct ServerParts<A, N, S> {
     pub(crate) authenticator: A,

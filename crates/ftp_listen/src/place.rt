@@ -26,7 +26,7 @@ pub(crate) fn place_of(text: &[u8], mode: ListenerMode) -> Result<SocketAddr, Se
     Ok(at)
 }
 
-/// The doors at the address, in pooled mode with the passive ports.
+/// The listening sockets at the address, in pooled mode with those of the passive ports.
 pub(crate) fn doors_at<F: Front>(
     front: &mut F,
     at: SocketAddr,

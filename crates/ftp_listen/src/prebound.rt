@@ -35,6 +35,20 @@ impl<S: Storage + Send + Drop + 'static> PreboundListener<S> {
         }
     }
 
+    /// There are at most so many sessions at a time, as `Server::most_sessions` says it.
+    pub fn most_sessions(&mut self, all: u64)
+        ensures options { self.new.server.options ≡ self.old.server.options }
+    {
+        self.server.most_sessions(all);
+    }
+
+    /// There are at most so many sessions of one client address, as `Server::most_sessions_of_one` says it.
+    pub fn most_sessions_of_one(&mut self, of_one: u64)
+        ensures options { self.new.server.options ≡ self.old.server.options }
+    {
+        self.server.most_sessions_of_one(of_one);
+    }
+
     /// Listens at an address and at each passive port there, as `Server::listen` does.
     pub fn listen_pooled<R: ServerRuntime>(
         self,

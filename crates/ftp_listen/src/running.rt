@@ -1,4 +1,4 @@
-//! The life of a state: its doors are kept until a shutdown is asked for, and then it is drained.
+//! The life of a server: it accepts connections until a shutdown is asked for, and is then drained.
 
 ghost use Rattle.std.specs.Prelude.{◌≡◌, ◌≤◌, ◌<◌, ◌+◌, ◌⊎◌, None, Some, IfErr, IsErrOf, IsSome, OnOk};
 ghost use Rattle.ftp_base.specs.Outside.{HasRisen};
@@ -11,9 +11,8 @@ use crate::spawning::spawn_worker;
 use ftp_base::{Authenticator, Gate, Spawner, Storage};
 use ftp_options::{Indicator, Options, ServerError, Shutdown};
 use ftp_shared::Serving;
-use ftp_system::{Doors, Front, ServerRuntime};
-use ftp_workers::{EventSinks, ServerDesk, ServerState};
-use mio::Waker;
+use ftp_system::{Doors, Front, ServerRuntime, SessionLimits};
+use ftp_workers::{AcceptorHandle, EventSinks, ServerDesk, ServerState};
 use std::alloc::{AllocError, Global};
 use std::sync::Arc;
 use std::sync::ledger::Blank;
@@ -21,13 +20,13 @@ use std::sync::ledger::Blank;
 /// How many parts a book of steps has: more than there are ever threads.
 pub(crate) const PARTS: u64 = 1 << 48;
 
-/// How long one wait at the doors is, in milliseconds.
+/// How long one wait for connections is, in milliseconds.
 const TURN: u64 = 100;
 
-/// How long one wait is while the state is drained, in milliseconds.
+/// How long one wait is while the server is drained, in milliseconds.
 const DRAINING_TURN: u64 = 10;
 
-/// A state to which nothing has happened.
+/// A server to which nothing has happened.
 pub(crate) fn new_state<
     L: Serving,
     A: Authenticator + Drop,
@@ -37,10 +36,11 @@ pub(crate) fn new_state<
 >(
     alloc: Global,
     options: Options,
+    limits: SessionLimits,
     blank: Blank,
     server_parts: ServerParts<A, N, S>,
     gate: Arc<G, Global>,
-    waker: Arc<Waker, Global>,
+    acceptor: AcceptorHandle,
 ) -> Result<Arc<ServerState<L, A, N, S, G>, Global>, AllocError>
     requires name { blank.name ≡ L.name }
     requires parts { blank.parts ≡ L.parts }
@@ -56,12 +56,13 @@ pub(crate) fn new_state<
     let state = ServerState::new(
         alloc,
         options,
+        limits,
         (steps, parts, PARTS),
         authenticator,
         sinks,
         storage,
         gate,
-        waker,
+        acceptor,
     )?;
     match Arc::new(alloc, state) {
         Ok(state) => Ok(state),
@@ -69,7 +70,7 @@ pub(crate) fn new_state<
     }
 }
 
-// Keeps the doors until a shutdown is asked for. It gives the moment of asking, which is the front's latest.
+// Accepts connections until a shutdown is asked for. It gives the moment of asking, which is the front's latest.
 fn accept_until_shutdown<
     R: ServerRuntime,
     L: Serving + Send + Sync + 'static,
@@ -148,7 +149,7 @@ fn drain<
     unreachable!()
 }
 
-/// Keeps a state with these doors, until a shutdown was asked for and is over.
+/// Serves at these sockets until a shutdown was asked for and is over.
 pub(crate) fn run_server<
     L: Serving + Send + Sync + 'static,
     R: ServerRuntime,
@@ -163,6 +164,7 @@ pub(crate) fn run_server<
     rt: &R,
     alloc: Global,
     options: Options,
+    limits: SessionLimits,
     blank: Blank,
     server_parts: ServerParts<A, N, S>,
     gate: Arc<G, Global>,
@@ -183,11 +185,18 @@ pub(crate) fn run_server<
     ensures front { F.faults front.old ≤ F.faults front.new }
 {
     let is_behind_proxy = options.mode.is_proxy();
-    let Ok((poll, sockets, waker)) = AcceptPoll::over(rt, alloc, doors) else {
+    let Ok((poll, sockets, acceptor)) = AcceptPoll::over(rt, alloc, doors) else {
         return Err(ServerError::OutOfMemory);
     };
-    let Ok(state) = new_state::<L, A, N, S, G>(alloc, options, blank, server_parts, gate, waker)
-    else {
+    let Ok(state) = new_state::<L, A, N, S, G>(
+        alloc,
+        options,
+        limits,
+        blank,
+        server_parts,
+        gate,
+        acceptor,
+    ) else {
         return Err(ServerError::OutOfMemory);
     };
     let (Some(share), Ok(theirs)) = (state.share(rt), Arc::try_clone(&state)) else {
@@ -198,7 +207,7 @@ pub(crate) fn run_server<
     }
     let desk = ServerDesk::new(*rt, theirs, share);
     let mut poll = poll;
-    let mut acceptor = Acceptor::new(*rt, state, desk, is_behind_proxy, front.now());
+    let mut acceptor = Acceptor::new(*rt, alloc, state, desk, is_behind_proxy, front.now());
     let asked = accept_until_shutdown(
         rt,
         &mut acceptor,

@@ -11,7 +11,7 @@ use crate::running::{PARTS, run_server};
 use crate::single::serve_one;
 use ftp_base::{Authenticator, Gate, SocketAddr, Spawner, Storage};
 use ftp_options::{Built, Indicator, Options, ServerError};
-use ftp_system::{Front, OpenGate, ServerRuntime, SystemFront, SystemThreads};
+use ftp_system::{Front, OpenGate, ServerRuntime, SessionLimits, SystemFront, SystemThreads};
 use ftp_workers::EventSinks;
 use std::alloc::Global;
 use std::marker::Brand;
@@ -19,11 +19,25 @@ use std::net::TcpStream;
 use std::sync::Arc;
 use std::sync::ledger::Blank;
 
+/// How many sessions there may be at a time where the server is told no other number, in all and of one client address.
+pub const MOST_SESSIONS: u64 = 10_000;
+
+pub const MOST_SESSIONS_OF_ONE: u64 = 500;
+
+/// The limits of a server that is told no others.
+fn usual_limits() -> SessionLimits {
+    SessionLimits {
+        all: MOST_SESSIONS,
+        of_one: MOST_SESSIONS_OF_ONE,
+    }
+}
+
 /// A server that does not listen yet.
 #[derive(Drop)]
 pub struct Server<S: Storage + Drop> {
     alloc: Global,
     options: Options,
+    limits: SessionLimits,
     parts: Parts<S>,
 }
 
@@ -39,6 +53,7 @@ impl<S: Storage + Send + Drop + 'static> Server<S> {
         Server {
             alloc,
             options,
+            limits: usual_limits(),
             parts,
         }
     }
@@ -50,8 +65,25 @@ impl<S: Storage + Send + Drop + 'static> Server<S> {
         Server {
             alloc,
             options,
+            limits: usual_limits(),
             parts,
         }
+    }
+
+    /// There are at most so many sessions at a time. A connection that is one too many is told 421 and closed.
+    pub fn most_sessions(&mut self, all: u64)
+        ensures limit { self.new.limits ≡ record self.old.limits { all = all } }
+        ensures options { self.new.options ≡ self.old.options }
+    {
+        self.limits.all = all;
+    }
+
+    /// There are at most so many sessions of one client address at a time; else as `most_sessions`.
+    pub fn most_sessions_of_one(&mut self, of_one: u64)
+        ensures limit { self.new.limits ≡ record self.old.limits { of_one = of_one } }
+        ensures options { self.new.options ≡ self.old.options }
+    {
+        self.limits.of_one = of_one;
     }
 
     /// Listens at an address such as `127.0.0.1:21` or `[::1]:21`, until the indicator asks for a shutdown and all
@@ -64,6 +96,7 @@ impl<S: Storage + Send + Drop + 'static> Server<S> {
         let Server {
             alloc,
             options,
+            limits,
             parts,
         } = self;
         let (indicator, server_parts) = parts.open();
@@ -79,6 +112,7 @@ impl<S: Storage + Send + Drop + 'static> Server<S> {
             rt,
             alloc,
             options,
+            limits,
             server_parts,
             at,
             gate,
@@ -118,6 +152,7 @@ impl<S: Storage + Send + Drop + 'static> Server<S> {
         let Server {
             alloc,
             options,
+            limits,
             parts,
         } = self;
         let (own, server_parts) = parts.open();
@@ -130,6 +165,7 @@ impl<S: Storage + Send + Drop + 'static> Server<S> {
             rt,
             alloc,
             options,
+            limits,
             server_parts,
             at,
             gate,
@@ -148,11 +184,12 @@ impl<S: Storage + Send + Drop + 'static> Server<S> {
         let Server {
             alloc,
             options,
+            limits,
             parts,
         } = self;
         let (own, server_parts) = parts.open();
         drop(own);
-        serve_one(rt, alloc, options, server_parts, stream)
+        serve_one(rt, alloc, options, limits, server_parts, stream)
     }
 }
 
@@ -168,6 +205,7 @@ fn listen_boxed<
     rt: &R,
     alloc: Global,
     options: Options,
+    limits: SessionLimits,
     server_parts: Boxed<S>,
     at: SocketAddr,
     gate: Arc<G, Global>,
@@ -186,6 +224,7 @@ fn listen_boxed<
         rt,
         alloc,
         options,
+        limits,
         server_parts,
         at,
         gate,
@@ -209,6 +248,7 @@ fn listen_at<
     rt: &R,
     alloc: Global,
     options: Options,
+    limits: SessionLimits,
     server_parts: ServerParts<A, N, S>,
     at: SocketAddr,
     gate: Arc<G, Global>,
@@ -231,6 +271,7 @@ fn listen_at<
         rt,
         alloc,
         options,
+        limits,
         Blank::new(PARTS),
         server_parts,
         gate,

@@ -9,9 +9,9 @@ use crate::spawning::spawn_wanted;
 use ftp_base::{Authenticator, Gate, Storage};
 use ftp_options::{ListenerMode, Options, ServerError};
 use ftp_shared::{Serving, StepShare};
-use ftp_system::{OpenGate, ServerRuntime, SystemThreads};
+use ftp_system::{Front, OpenGate, ServerRuntime, SessionLimits, SystemFront, SystemThreads};
 use ftp_talk::ServeEnd;
-use ftp_workers::{EventSinks, ServerState, Worker};
+use ftp_workers::{EventSinks, ServerDesk, ServerState, Worker};
 use std::alloc::Global;
 use std::marker::Brand;
 use std::net::{SocketAddr, TcpStream};
@@ -72,7 +72,7 @@ fn served<
     }
 }
 
-// Starts the threads that are wanted, until the connection is over and all transfers are.
+// Starts the threads that are wanted and takes data connections in, until the connection is over and all transfers are.
 fn spawn_on<
     R: ServerRuntime,
     L: Serving + Send + Sync + 'static,
@@ -82,10 +82,14 @@ fn spawn_on<
     G: Gate + Send + Sync + Drop + 'static,
 >(
     rt: &R,
+    alloc: Global,
     state: &Arc<ServerState<L, A, N, S, G>, Global>,
+    desk: ServerDesk<R, L, A, N, S, G>,
     poll: &mut AcceptPoll,
     is_over: &AtomicBool,
 ) {
+    let mut desk = desk;
+    let mut front = SystemFront::new(*rt, alloc);
     let mut threads = SystemThreads::new();
     let mut owed = 0;
     for _ in rt.forever() {
@@ -96,10 +100,17 @@ fn spawn_on<
         if poll.wait(TURN).is_err() {
             thread::sleep(rt, Duration::from_millis(TURN));
         }
+        let at = front.now();
+        for event in poll.events().iter() {
+            if let Some(session) = event.token().0.checked_sub(1) {
+                desk.accept_for(at, session as u64);
+            }
+        }
+        desk.close_listeners(at);
     }
 }
 
-// Serves a connection in a state of its own.
+// Serves a connection with a hub of its own.
 fn serve_inside<
     L: Serving + Send + Sync + 'static,
     R: ServerRuntime,
@@ -110,6 +121,7 @@ fn serve_inside<
     rt: &R,
     alloc: Global,
     options: Options,
+    limits: SessionLimits,
     blank: Blank,
     server_parts: ServerParts<A, N, S>,
     stream: TcpStream,
@@ -121,26 +133,33 @@ fn serve_inside<
     requires options { options ≡ L.options }
     ensures only { IfErr result (λ e. (e ≡ ServerError.Io) ⊎ (e ≡ ServerError.OutOfMemory)) }
 {
-    let (Ok((poll, waker)), Ok(gate)) = (AcceptPoll::inside(rt, alloc), Arc::new(alloc, OpenGate))
-    else {
+    let (Ok((poll, acceptor)), Ok(gate)) = (
+        AcceptPoll::inside(rt, alloc),
+        Arc::new(alloc, OpenGate),
+    ) else {
         return Err(ServerError::OutOfMemory);
     };
-    let Ok(theirs) = Arc::try_clone(&waker) else {
+    let Ok(waker) = Arc::try_clone(&acceptor.waker) else {
         return Err(ServerError::OutOfMemory);
     };
     let Ok(state) = new_state::<L, A, N, S, OpenGate>(
         alloc,
         options,
+        limits,
         blank,
         server_parts,
         gate,
-        theirs,
+        acceptor,
     ) else {
         return Err(ServerError::OutOfMemory);
     };
     let (Some(share), Ok(theirs)) = (state.share(rt), Arc::try_clone(&state)) else {
         return Err(ServerError::OutOfMemory);
     };
+    let (Some(own), Ok(ours)) = (state.share(rt), Arc::try_clone(&state)) else {
+        return Err(ServerError::OutOfMemory);
+    };
+    let desk = ServerDesk::new(*rt, ours, own);
     let mut poll = poll;
     let over = AtomicBool::new(false);
     let is_over = &over;
@@ -153,7 +172,7 @@ fn serve_inside<
             let _ = bell.wake();
             end
         },
-        || spawn_on(rt, &state, &mut poll, is_over),
+        || spawn_on(rt, alloc, &state, desk, &mut poll, is_over),
     );
     state.close(rt);
     end
@@ -164,12 +183,13 @@ pub(crate) fn serve_one<R: ServerRuntime, S: Storage + Send + Drop + 'static>(
     rt: &R,
     alloc: Global,
     options: Options,
+    limits: SessionLimits,
     server_parts: Boxed<S>,
     stream: TcpStream,
 ) -> Result<(), ServerError>
     ensures only { IfErr result (λ e. (e ≡ ServerError.Io) ⊎ (e ≡ ServerError.OutOfMemory)) }
 {
-    // Where nobody is there any more, nobody is served.
+    // If the peer has gone, nothing is served.
     let Ok(raw) = stream.peer_addr() else {
         return Ok(());
     };
@@ -178,6 +198,7 @@ pub(crate) fn serve_one<R: ServerRuntime, S: Storage + Send + Drop + 'static>(
         rt,
         alloc,
         options,
+        limits,
         Blank::new(PARTS),
         server_parts,
         stream,

@@ -1,4 +1,4 @@
-//! Threads for the tasks of a state.
+//! Worker threads.
 
 ghost use Rattle.std.specs.Prelude.{◌≡◌, ◌≤◌, false};
 ghost use Rattle.ftp_base.specs.Outside.{HasRisen};
@@ -35,7 +35,7 @@ pub(crate) fn spawn_worker<
     start(&rt, spawner, move || work(rt, theirs, share)).is_none()
 }
 
-/// Starts the threads that the state wants and those that are still owed to it, and says how many are owed then.
+/// Starts the threads that are wanted and those still missing from before, and says how many are missing then.
 pub(crate) fn spawn_wanted<
     R: ServerRuntime,
     L: Serving + Send + Sync + 'static,

@@ -20,6 +20,10 @@ pub enum Met {
     Fault(ErrorKind),
     /// This came, in place of what was due.
     Other(Vec<u8>),
+    /// A count was another than was due.
+    OtherCount,
+    /// A reply came before its time, or something did not come to be in time.
+    NotInTime,
     OutOfMemory,
 }
 
@@ -62,13 +66,13 @@ impl Client {
         door: SocketAddr,
         header: &str,
     ) -> Result<Client, Met> {
-        let mut client = Client {
+        first_line(
+            rt,
             alloc,
-            stream: connected(rt, door)?,
-        };
-        client.stream.write_all(header.as_bytes())?;
-        client.hear("220 Welcome to the libunftp FTP server\r\n")?;
-        Ok(client)
+            door,
+            header,
+            "220 Welcome to the libunftp FTP server\r\n",
+        )
     }
 
     /// Waits for a line, with its end, which has to be this one.
@@ -93,10 +97,25 @@ impl Client {
         }
     }
 
+    /// Waits for the end, before which nothing may come.
+    pub fn hear_end(&mut self) -> Result<(), Met> {
+        self.hear("")
+    }
+
     /// Sends a line, and waits for its reply, both with their ends.
     pub fn ask(&mut self, line: &str, reply: &str) -> Result<(), Met> {
         self.stream.write_all(line.as_bytes())?;
         self.hear(reply)
+    }
+
+    /// Closes the connection with a reply that it has not read, which resets it.
+    pub fn vanish(self) -> Result<(), Met> {
+        let Client { alloc: _, stream } = self;
+        let mut stream = stream;
+        stream.write_all(b"NOOP\r\n")?;
+        // The reply has come, and is left where it is.
+        stream.peek(&mut [0; 1])?;
+        Ok(())
     }
 
     /// Logs in.
@@ -104,6 +123,23 @@ impl Client {
         self.ask("USER ann\r\n", "331 Password Required\r\n")?;
         self.ask("PASS x\r\n", "230 User logged in, proceed\r\n")
     }
+}
+
+/// Connects, sends what stands before the first line, and is told this line first.
+pub fn first_line<R: Net<Stream = TcpStream> + Clock>(
+    rt: &R,
+    alloc: Global,
+    door: SocketAddr,
+    header: &str,
+    line: &str,
+) -> Result<Client, Met> {
+    let mut client = Client {
+        alloc,
+        stream: connected(rt, door)?,
+    };
+    client.stream.write_all(header.as_bytes())?;
+    client.hear(line)?;
+    Ok(client)
 }
 
 /// A data connection, on which this is sent first.

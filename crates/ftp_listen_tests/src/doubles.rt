@@ -1,6 +1,9 @@
-//! What a test puts in the place of the system: a front, an indicator and gates.
+//! What a test puts in the place of the system and of a server's user: a front, an indicator, gates, listeners, an authenticator.
 
-use ftp_base::{Gate, SocketAddr};
+use ftp_base::{
+    AuthAnswer, Authenticator, Bytes, DataEvent, DataListener, EventMeta, Gate, IpAddr,
+    PresenceEvent, PresenceListener, SocketAddr,
+};
 use ftp_options::{Indicator, Shutdown};
 use ftp_system::{Doors, Front};
 use std::alloc::{AllocError, Global};
@@ -9,11 +12,13 @@ use std::sync::atomic::{AtomicBool, AtomicU64, Ordering};
 use std::thread;
 use std::time::{Clock, Duration};
 
-/// What fronts, indicators and gates tell each other and their test.
+/// What fronts, indicators, gates and listeners tell each other and their test.
 #[derive(Drop)]
 pub struct Board {
     /// The moment that the front gave last.
     pub latest: AtomicU64,
+    /// How much later than its clock's the front's moments are.
+    pub leap: AtomicU64,
     /// How often the indicator was asked, and how often with another moment.
     pub polls: AtomicU64,
     pub strange_polls: AtomicU64,
@@ -22,6 +27,12 @@ pub struct Board {
     /// A transfer has come to the gate, and the gate is open.
     pub has_come: AtomicBool,
     pub is_open: AtomicBool,
+    /// What listeners were told: logins, ends of sessions, downloads, uploads and all else.
+    pub logins: AtomicU64,
+    pub logouts: AtomicU64,
+    pub gots: AtomicU64,
+    pub puts: AtomicU64,
+    pub others: AtomicU64,
 }
 
 pub type SharedBoard = Arc<Board, Global>;
@@ -30,11 +41,17 @@ pub type SharedBoard = Arc<Board, Global>;
 pub fn new_board(alloc: Global) -> Result<SharedBoard, AllocError> {
     let board = Board {
         latest: AtomicU64::new(0),
+        leap: AtomicU64::new(0),
         polls: AtomicU64::new(0),
         strange_polls: AtomicU64::new(0),
         asks: AtomicBool::new(false),
         has_come: AtomicBool::new(false),
         is_open: AtomicBool::new(false),
+        logins: AtomicU64::new(0),
+        logouts: AtomicU64::new(0),
+        gots: AtomicU64::new(0),
+        puts: AtomicU64::new(0),
+        others: AtomicU64::new(0),
     };
     match Arc::new(alloc, board) {
         Ok(board) => Ok(board),
@@ -42,17 +59,76 @@ pub fn new_board(alloc: Global) -> Result<SharedBoard, AllocError> {
     }
 }
 
-/// A front that tells its latest moment.
+/// Lets ann in by the password x, from 127.0.0.1 and from 192.0.2.0 to 192.0.2.255.
+#[derive(Clone, Copy, Debug, PartialEq, Eq)]
+pub struct OnlyAnn;
+
+impl Authenticator for OnlyAnn {
+    ghost use Rattle.std.specs.Prelude.{true};
+
+    ghost may_answer = { λ _ _ _ _ _. true };
+
+    fn check(&self, user: &Bytes, password: &Bytes, source: IpAddr) -> AuthAnswer {
+        let is_near = match source {
+            IpAddr::V4(bits) => bits == 0x7f00_0001 || bits >> 8 == 0x00c0_0002,
+            IpAddr::V6(_) => false,
+        };
+        if is_near
+            && user.as_slice() == b"ann".as_slice()
+            && password.as_slice() == b"x".as_slice()
+        {
+            AuthAnswer::Good
+        } else {
+            AuthAnswer::Refused
+        }
+    }
+}
+
+/// Counts on the board what it is told.
+#[derive(Drop)]
+pub struct Counting {
+    pub board: SharedBoard,
+}
+
+impl DataListener for Counting {
+    ghost use Rattle.std.specs.Prelude.{None};
+
+    ghost heard = { λ _. None };
+
+    fn receive_data_event(&mut self, e: &DataEvent, _m: &EventMeta) {
+        match e {
+            DataEvent::Got { .. } => self.board.gots.fetch_add(1, Ordering::SeqCst),
+            DataEvent::Put { .. } => self.board.puts.fetch_add(1, Ordering::SeqCst),
+            _ => self.board.others.fetch_add(1, Ordering::SeqCst),
+        };
+    }
+}
+
+impl PresenceListener for Counting {
+    ghost use Rattle.std.specs.Prelude.{None};
+
+    ghost heard = { λ _. None };
+
+    fn receive_presence_event(&mut self, e: &PresenceEvent, _m: &EventMeta) {
+        match e {
+            PresenceEvent::LoggedIn => self.board.logins.fetch_add(1, Ordering::SeqCst),
+            PresenceEvent::LoggedOut => self.board.logouts.fetch_add(1, Ordering::SeqCst),
+        };
+    }
+}
+
+/// A front that tells its latest moment, which is later by the board's leap.
 #[derive(Drop)]
 pub struct Watched<F: Front + Drop> {
     pub front: F,
     pub board: SharedBoard,
+    pub latest: u64,
 }
 
 impl<F: Front + Drop> Front for Watched<F> {
     ghost faults = { λ w. F.faults w.front };
 
-    ghost latest = { λ w. F.latest w.front };
+    ghost latest = { λ w. w.latest };
 
     fn open_doors(
         &mut self,
@@ -63,7 +139,9 @@ impl<F: Front + Drop> Front for Watched<F> {
     }
 
     fn now(&mut self) -> u64 {
-        let at = self.front.now();
+        let leap = self.board.leap.load(Ordering::SeqCst);
+        let at = self.front.now().saturating_add(leap);
+        self.latest = at;
         self.board.latest.store(at, Ordering::SeqCst);
         at
     }
@@ -146,11 +224,11 @@ impl<C: Clock + Drop> Gate for Held<C> {
 /// How many turns the first transfer waits for the second.
 const TURNS: u32 = 1_000_000;
 
-/// Holds the first transfer back until the second has come, and says where it did not come in time.
+/// Holds the first transfer back until the second has come, and says whether the first came and did not wait in vain.
 #[derive(Drop)]
 pub struct InPairs {
     pub second_has_come: AtomicBool,
-    pub is_late: Arc<AtomicBool, Global>,
+    pub have_met: Arc<AtomicBool, Global>,
 }
 
 impl Gate for InPairs {
@@ -161,10 +239,10 @@ impl Gate for InPairs {
         }
         for _ in 0..TURNS {
             if self.second_has_come.load(Ordering::SeqCst) {
+                self.have_met.store(true, Ordering::SeqCst);
                 return;
             }
             thread::yield_now();
         }
-        self.is_late.store(true, Ordering::SeqCst);
     }
 }

@@ -13,6 +13,14 @@ mod doubles;
 #[cfg(test)]
 mod endings;
 #[cfg(test)]
+mod files;
+#[cfg(test)]
+mod limits;
+#[cfg(test)]
+mod listeners;
+#[cfg(test)]
+mod logins;
+#[cfg(test)]
 mod pairs;
 #[cfg(test)]
 mod place;
@@ -22,3 +30,7 @@ mod refusals;
 mod sessions;
 #[cfg(test)]
 mod setting;
+#[cfg(test)]
+mod strangers;
+#[cfg(test)]
+mod uploads;

@@ -3,7 +3,7 @@
 use crate::client::{Client, Met, data_connection, fetch};
 use crate::doubles::{Board, InPairs, SharedBoard, new_board};
 use crate::place::Place;
-use crate::setting::{FILE, Stopped, agreed, listen_watched};
+use crate::setting::{FILE, OTHER, Stopped, agreed, listen_watched};
 use ftp_options::{ListenerMode, Shutdown};
 use ftp_system::{ServerRuntime, SystemFront};
 use std::alloc::Global;
@@ -32,7 +32,7 @@ fn enter<R: Net<Stream = TcpStream> + Clock>(
     Ok((client, data))
 }
 
-/// Two clients, who ask for the file at a time and wait for it one after the other.
+/// Two clients, who ask for a file each at a time and wait for them one after the other.
 fn fetch_both<R: Net<Stream = TcpStream> + Clock>(
     rt: &R,
     alloc: Global,
@@ -53,10 +53,10 @@ fn fetch_both<R: Net<Stream = TcpStream> + Clock>(
         "PROXY TCP4 192.0.2.8 198.51.100.1 40001 50000\r\n",
     )?;
     first.ask("RETR a.txt\r\n", "150 Sending data\r\n")?;
-    second.ask("RETR a.txt\r\n", "150 Sending data\r\n")?;
+    second.ask("RETR b.txt\r\n", "150 Sending data\r\n")?;
     fetch(alloc, first_data, FILE)?;
     first.hear("226 Successfully sent\r\n")?;
-    fetch(alloc, second_data, FILE)?;
+    fetch(alloc, second_data, OTHER)?;
     second.hear("226 Successfully sent\r\n")?;
     first.ask("QUIT\r\n", "221 Bye!\r\n")?;
     second.ask("QUIT\r\n", "221 Bye!\r\n")
@@ -74,7 +74,7 @@ fn fetch_both_last<R: Net<Stream = TcpStream> + Clock>(
     met
 }
 
-/// Serves both, and says whether the first waited in vain for the second.
+/// Serves both, and says whether the first transfer saw the second started.
 fn serve_both<R: ServerRuntime>(
     rt: &R,
     alloc: Global,
@@ -82,12 +82,12 @@ fn serve_both<R: ServerRuntime>(
 ) -> Result<bool, Stopped> {
     let place = Place::drawn(rt).ok().ok_or(Stopped::NoPlace)?;
     let text = place.text(alloc)?;
-    let Ok(is_late) = Arc::new(alloc, AtomicBool::new(false)) else {
+    let Ok(have_met) = Arc::new(alloc, AtomicBool::new(false)) else {
         return Err(Stopped::OutOfMemory);
     };
     let gate = InPairs {
         second_has_come: AtomicBool::new(false),
-        is_late: Arc::try_clone(&is_late)?,
+        have_met: Arc::try_clone(&have_met)?,
     };
     let mode = ListenerMode::Proxy { control_port: 2121 };
     let front = SystemFront::new(*rt, alloc);
@@ -98,7 +98,7 @@ fn serve_both<R: ServerRuntime>(
         move || listen_watched(rt, alloc, board, mode, text.as_str(), front, gate, shutdown),
     );
     agreed(met, ended?)?;
-    Ok(is_late.load(Ordering::SeqCst))
+    Ok(have_met.load(Ordering::SeqCst))
 }
 
 #[test]
@@ -106,7 +106,7 @@ fn two_transfers_see_each_other_started(rt: HostRuntime) -> Result<(), Fail> {
     let types: Option<(TcpListener, TcpStream)> = None;
     drop(types);
     let board = new_board(rt.alloc())?;
-    let is_late = serve_both(&rt, rt.alloc(), &board)?;
-    assert!(rt; !is_late);
+    let have_met = serve_both(&rt, rt.alloc(), &board)?;
+    assert!(rt; have_met);
     Ok(())
 }

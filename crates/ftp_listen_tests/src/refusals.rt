@@ -23,7 +23,7 @@ fn an_address_in_use_is_a_fault(rt: HostRuntime) -> Result<(), Fail> {
     let board = new_board(alloc)?;
     let legacy = listen(&rt, alloc, &board, ListenerMode::Legacy, text.as_str())?;
     assert_eq!(rt; legacy, Err(ServerError::Io));
-    let pooled = listen_pooled(&rt, alloc, &board, text.as_str(), 0)?;
+    let pooled = listen_pooled(&rt, alloc, &board, text.as_str())?;
     assert_eq!(rt; pooled, Err(ServerError::Io));
     let proxy = listen_behind_proxy(&rt, alloc, &board, 21, text.as_str())?;
     assert_eq!(rt; proxy, Err(ServerError::Io));
@@ -53,7 +53,7 @@ fn what_is_no_address_is_told(rt: HostRuntime) -> Result<(), Fail> {
         let ended = listen(&rt, rt.alloc(), &board, ListenerMode::Legacy, text)?;
         assert_eq!(rt; ended, Err(ServerError::Address), "at {text}");
     }
-    let ended = listen_pooled(&rt, rt.alloc(), &board, "[::1]:2121", 0)?;
+    let ended = listen_pooled(&rt, rt.alloc(), &board, "[::1]:2121")?;
     assert_eq!(rt; ended, Err(ServerError::Ipv6OutsideLegacy));
     Ok(())
 }

@@ -88,7 +88,7 @@ fn pooled_session<R: ServerRuntime>(rt: &R, alloc: Global) -> Result<(), Stopped
     let (met, ended) = thread::join(
         rt,
         || last_visit(rt, alloc, &way, &board),
-        || listen_pooled(rt, alloc, &board, text.as_str(), 0),
+        || listen_pooled(rt, alloc, &board, text.as_str()),
     );
     agreed(met, ended?)
 }

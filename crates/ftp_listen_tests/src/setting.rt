@@ -1,21 +1,29 @@
 //! What several tests serve, and how a client and its server meet.
 
 use crate::client::Met;
-use crate::doubles::{Asks, SharedBoard, Watched};
-use crate::place::PASSIVE;
-use ftp_base::{AuthAnswer, Bytes, Gate, MemoryStorage, NopListener, SameAnswer};
+use crate::doubles::{Asks, Board, Counting, OnlyAnn, SharedBoard, Watched};
+use crate::files::AnnsFiles;
+use crate::place::{PASSIVE, Place};
+use ftp_base::{Bytes, Gate, MemoryStorage};
 use ftp_listen::{Parts, PreboundListener, Server};
-use ftp_options::{Indicator, ListenerMode, Options, ServerBuilder, ServerError, Shutdown};
+use ftp_options::{
+    FailedLoginsBlock, FailedLoginsPolicy, Indicator, ListenerMode, Options, ServerBuilder,
+    ServerError, Shutdown,
+};
 use ftp_system::{Front, ServerRuntime, SystemThreads};
 use std::alloc::{AllocError, Global};
-use std::net::TcpStream;
+use std::net::{Net, TcpStream};
 use std::sync::Arc;
+use std::sync::atomic::Ordering;
+use std::thread;
+use std::time::Clock;
 
-/// What the short file holds.
+/// What the files hold: `/a.txt` and `/b.txt`; `/big` has so many bytes.
 pub const FILE: &[u8] = b"hello";
 
-/// The most that a file holds.
-const MAX_FILE: u64 = 1 << 24;
+pub const OTHER: &[u8] = b"goodbye";
+
+const BIG: usize = 1 << 20;
 
 /// Why a test did not come to its end.
 #[derive(Debug, Drop)]
@@ -44,24 +52,29 @@ fn options(alloc: Global, mode: ListenerMode) -> Result<Options, Stopped> {
         ListenerMode::Proxy { control_port } => builder.proxy_protocol_mode(control_port),
     }
     builder.passive_ports(PASSIVE, PASSIVE);
+    let block = FailedLoginsBlock::UserAndIP;
+    builder.failed_logins_policy(FailedLoginsPolicy::new(3, 3_600_000, block));
     match builder.build() {
         Ok(built) => Ok(built.options),
         Err(error) => Err(Stopped::Server(error)),
     }
 }
 
-/// A storage with the files `/a.txt` and `/zeros`, which holds so many of them.
-fn storage(alloc: Global, zeros: usize) -> Result<MemoryStorage, Stopped> {
-    let mut storage = MemoryStorage::new(alloc, MAX_FILE, Vec::new(alloc));
-    let short = Bytes::from_slice(alloc, b"/a.txt")?;
-    let long = Bytes::from_slice(alloc, b"/zeros")?;
-    let zeros = Vec::from_elem(alloc, 0, zeros)?;
-    if storage.put_file(short, FILE.to_vec(alloc)?).is_err()
-        || storage.put_file(long, zeros).is_err()
-    {
-        return Err(Stopped::NotSet);
+/// A storage with three files.
+fn storage(alloc: Global) -> Result<AnnsFiles, Stopped> {
+    let mut files = MemoryStorage::new(alloc, 1 << 20, Vec::new(alloc));
+    let big = Vec::from_elem(alloc, b'x', BIG)?;
+    for (path, bytes) in [
+        (b"/a.txt".as_slice(), FILE.to_vec(alloc)?),
+        (b"/b.txt".as_slice(), OTHER.to_vec(alloc)?),
+        (b"/big".as_slice(), big),
+    ] {
+        let path = Bytes::from_slice(alloc, path)?;
+        if files.put_file(path, bytes).is_err() {
+            return Err(Stopped::NotSet);
+        }
     }
-    Ok(storage)
+    Ok(AnnsFiles::new(files))
 }
 
 /// What both said where both came to their ends.
@@ -75,9 +88,9 @@ pub fn agreed(met: Result<(), Met>, ended: Result<(), ServerError>) -> Result<()
     }
 }
 
-/// Everybody may log in, nobody is told, the board says when to shut down, and there are two files.
+/// Ann may log in, the board counts what is told and says when to shut down, and there are three files of hers.
 macro_rules! parts {
-    ($alloc:expr, $board:expr, $zeros:expr) => {{
+    ($alloc:expr, $board:expr) => {{
         let alloc = $alloc;
         let asks = Asks {
             board: Arc::try_clone($board)?,
@@ -85,9 +98,13 @@ macro_rules! parts {
             asked: None,
         };
         let (Ok(authenticator), Ok(data_listener), Ok(presence_listener), Ok(indicator)) = (
-            Box::new(alloc, SameAnswer(AuthAnswer::Good)),
-            Box::new(alloc, NopListener),
-            Box::new(alloc, NopListener),
+            Box::new(alloc, OnlyAnn),
+            Box::new(alloc, Counting {
+                board: Arc::try_clone($board)?,
+            }),
+            Box::new(alloc, Counting {
+                board: Arc::try_clone($board)?,
+            }),
             Box::new(alloc, asks),
         ) else {
             return Err(Stopped::OutOfMemory);
@@ -97,7 +114,7 @@ macro_rules! parts {
             data_listener,
             presence_listener,
             indicator,
-            storage: storage(alloc, $zeros)?,
+            storage: storage(alloc)?,
         }
     }};
 }
@@ -113,23 +130,79 @@ pub fn listen<R: ServerRuntime>(
     mode: ListenerMode,
     text: &str,
 ) -> Ended {
-    let server = Server::with_options(alloc, options(alloc, mode)?, parts!(alloc, board, 0));
+    let server = Server::with_options(alloc, options(alloc, mode)?, parts!(alloc, board));
     Ok(server.listen(rt, text.as_bytes()))
 }
 
-/// Listens at the text with all ports bound before, and so many zeros in the long file.
+/// Listens at the text in this mode, with at most so many sessions of one client.
+pub fn listen_to_few<R: ServerRuntime>(
+    rt: &R,
+    alloc: Global,
+    board: &SharedBoard,
+    mode: ListenerMode,
+    text: &str,
+    most: u64,
+) -> Ended {
+    let mut server = Server::with_options(alloc, options(alloc, mode)?, parts!(alloc, board));
+    server.most_sessions_of_one(most);
+    Ok(server.listen(rt, text.as_bytes()))
+}
+
+/// What a client does at a server.
+pub trait Visit {
+    fn pay<R: Net<Stream = TcpStream> + Clock>(
+        &self,
+        rt: &R,
+        alloc: Global,
+        place: Place,
+        board: &Board,
+    ) -> Result<(), Met>;
+}
+
+/// Serves a visit in this mode with at most so many sessions of one client, and shuts down then.
+pub fn served<R: ServerRuntime, V: Visit + Sync>(
+    rt: &R,
+    alloc: Global,
+    board: &SharedBoard,
+    mode: ListenerMode,
+    most: u64,
+    visit: &V,
+) -> Result<(), Stopped> {
+    let place = Place::drawn(rt).ok().ok_or(Stopped::NoPlace)?;
+    let text = place.text(alloc)?;
+    let (met, ended) = thread::join(
+        rt,
+        || paid(rt, alloc, place, board, visit),
+        || listen_to_few(rt, alloc, board, mode, text.as_str(), most),
+    );
+    agreed(met, ended?)
+}
+
+/// The visit, after which the server is asked to shut down.
+fn paid<R: Net<Stream = TcpStream> + Clock, V: Visit>(
+    rt: &R,
+    alloc: Global,
+    place: Place,
+    board: &Board,
+    visit: &V,
+) -> Result<(), Met> {
+    let met = visit.pay(rt, alloc, place, board);
+    board.asks.store(true, Ordering::SeqCst);
+    met
+}
+
+/// Listens at the text with all ports bound before.
 pub fn listen_pooled<R: ServerRuntime>(
     rt: &R,
     alloc: Global,
     board: &SharedBoard,
     text: &str,
-    zeros: usize,
 ) -> Ended {
     let options = options(alloc, ListenerMode::Pooled)?;
     if !options.mode.is_pooled() {
         return Err(Stopped::NotSet);
     }
-    let server = PreboundListener::with_options(alloc, options, parts!(alloc, board, zeros));
+    let server = PreboundListener::with_options(alloc, options, parts!(alloc, board));
     Ok(server.listen_pooled(rt, text.as_bytes()))
 }
 
@@ -145,7 +218,7 @@ pub fn listen_behind_proxy<R: ServerRuntime>(
     if !options.mode.is_proxy() {
         return Err(Stopped::NotSet);
     }
-    let server = PreboundListener::with_options(alloc, options, parts!(alloc, board, 0));
+    let server = PreboundListener::with_options(alloc, options, parts!(alloc, board));
     Ok(server.listen_proxy_protocol(rt, text.as_bytes()))
 }
 
@@ -159,7 +232,7 @@ pub fn serve<R: ServerRuntime>(
     let server = Server::with_options(
         alloc,
         options(alloc, ListenerMode::Pooled)?,
-        parts!(alloc, board, 0),
+        parts!(alloc, board),
     );
     Ok(server.service(rt, stream))
 }
@@ -175,10 +248,11 @@ pub fn listen_watched<R: ServerRuntime, F: Front + Drop, G: Gate + Send + Sync +
     gate: G,
     shutdown: Shutdown,
 ) -> Ended {
-    let server = Server::with_options(alloc, options(alloc, mode)?, parts!(alloc, board, 0));
+    let server = Server::with_options(alloc, options(alloc, mode)?, parts!(alloc, board));
     let mut front = Watched {
         front,
         board: Arc::try_clone(board)?,
+        latest: 0,
     };
     let asks = Asks {
         board: Arc::try_clone(board)?,

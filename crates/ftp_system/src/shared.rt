@@ -1,27 +1,67 @@
 //! One storage for all threads.
 
-use ftp_base::{Bytes, FileInfo, Meta, Storage, StoreError};
-use std::alloc::Global;
+ghost use Rattle.std.specs.Prelude.{◌≡◌};
+
+use crate::uploads::Uploads;
+use ftp_base::{Bytes, ErrorKind, FileInfo, Meta, Storage, StoreError};
+use std::alloc::{AllocError, Global};
 use std::sync::{Arc, Mutex, Wait};
 
-/// A storage behind a lock, which is taken for each call.
+/// A storage behind a lock, which is taken for each call. Beside it stands which paths are being written, each of which
+/// refuses a second upload.
 #[derive(Drop)]
 pub struct SharedStorage<R: Wait + Drop, S: Storage + Drop> {
     rt: R,
+    alloc: Global,
     files: Arc<Mutex<S>, Global>,
+    uploads: Arc<Mutex<Uploads>, Global>,
+    // The path to which this one's upload writes.
+    own: Option<Bytes>,
     features: u32,
     faults: u64,
 }
 
 impl<R: Wait + Drop, S: Storage + Drop> SharedStorage<R, S> {
     /// What the storage can do is asked once.
-    pub fn new(rt: R, files: Arc<Mutex<S>, Global>) -> SharedStorage<R, S> {
+    pub fn new(
+        rt: R,
+        alloc: Global,
+        files: Arc<Mutex<S>, Global>,
+        uploads: Arc<Mutex<Uploads>, Global>,
+    ) -> SharedStorage<R, S> {
         let features = files.lock(&rt).features();
         SharedStorage {
             rt,
+            alloc,
             files,
+            uploads,
+            own: None,
             features,
             faults: 0,
+        }
+    }
+
+    // Has an upload to the path begin, and says whether no other is under way there. One that began before is over.
+    fn begin_upload(&mut self, path: &Bytes) -> Result<bool, AllocError>
+        ensures features { self.new.features ≡ self.old.features }
+        ensures faults { self.new.faults ≡ self.old.faults }
+    {
+        self.end_upload();
+        let own = path.copy(self.alloc)?;
+        let is_free = self.uploads.lock(&self.rt).begin(path.as_slice())?;
+        if is_free {
+            self.own = Some(own);
+        }
+        Ok(is_free)
+    }
+
+    /// The upload that began last is over.
+    pub fn end_upload(&mut self)
+        ensures features { self.new.features ≡ self.old.features }
+        ensures faults { self.new.faults ≡ self.old.faults }
+    {
+        if let Some(path) = std::mem::replace(&mut self.own, None) {
+            self.uploads.lock(&self.rt).end(path.as_slice());
         }
     }
 }
@@ -74,9 +114,15 @@ impl<R: Wait + Drop, S: Storage + Drop> Storage for SharedStorage<R, S> {
     }
 
     fn begin(&mut self, user: &Bytes, path: &Bytes, start: u64) -> Result<(), StoreError> {
+        if !self.begin_upload(path)? {
+            return Err(StoreError::Kind(ErrorKind::TransientFileNotAvailable));
+        }
         let begun = self.files.lock(&self.rt).begin(user, path, start);
         if let Err(StoreError::Failed) = &begun {
             self.faults = self.faults.saturating_add(1);
+        }
+        if begun.is_err() {
+            self.end_upload();
         }
         begun
     }

@@ -129,3 +129,14 @@ fn a_close_leaves_what_was_sent(rt: HostRuntime) -> Result<(), Fail> {
     assert!(rt; is_at_end(&client)?);
     Ok(())
 }
+
+#[test]
+fn a_reset_is_a_fault_of_the_wait(rt: HostRuntime) -> Result<(), Fail> {
+    let (client, server) = pair(&rt)?;
+    let mut control = SocketControl::new(&rt, rt.alloc(), server, 0, LONG)?;
+    assert_eq!(rt; control.write(b"220 Hello"), Ok(9));
+    // What it has not read makes its end a reset.
+    drop(client);
+    assert_eq!(rt; control.ready(LONG), Err(Failed::Fault));
+    Ok(())
+}

@@ -3,7 +3,7 @@
 use ftp_base::{
     Bytes, ErrorKind, FEATURE_RESTART, FileInfo, MemoryStorage, Meta, Storage, StoreError,
 };
-use ftp_system::SharedStorage;
+use ftp_system::{SharedStorage, Uploads};
 use std::alloc::{AllocError, Global};
 use std::sync::{Arc, Mutex, Wait};
 use std::test::Fail;
@@ -27,10 +27,11 @@ fn both<R: Wait + Drop + Copy>(
 > {
     let storage = MemoryStorage::new(alloc, u64::MAX, [fails].to_vec(alloc)?);
     let files = Arc::new(alloc, Mutex::new(storage))?;
-    let others = Arc::try_clone(&files)?;
+    let uploads = Arc::new(alloc, Mutex::new(Uploads::new(alloc)))?;
+    let (other_files, other_uploads) = (Arc::try_clone(&files)?, Arc::try_clone(&uploads)?);
     Ok((
-        SharedStorage::new(rt, files),
-        SharedStorage::new(rt, others),
+        SharedStorage::new(rt, alloc, files, uploads),
+        SharedStorage::new(rt, alloc, other_files, other_uploads),
     ))
 }
 
@@ -70,5 +71,29 @@ fn a_call_that_fails_or_is_refused_is_told(rt: HostRuntime) -> Result<(), Fail> 
     for error in [StoreError::Failed, absent] {
         assert_eq!(rt; one.metadata(&ann, &path), Err(error));
     }
+    Ok(())
+}
+
+#[test]
+fn a_path_has_one_upload_at_a_time(rt: HostRuntime) -> Result<(), Fail> {
+    let alloc = rt.alloc();
+    let (mut one, mut two) = both(rt, alloc, 99)?;
+    let ann = Bytes::from_slice(alloc, b"ann")?;
+    let path = Bytes::from_slice(alloc, b"/a")?;
+    let other = Bytes::from_slice(alloc, b"/b")?;
+    let busy = StoreError::Kind(ErrorKind::TransientFileNotAvailable);
+    assert_eq!(rt; one.begin(&ann, &path, 0), Ok(()));
+    assert_eq!(rt; one.append(&ann, &path, b"Hello"), Ok(()));
+    assert_eq!(rt;
+        (two.begin(&ann, &path, 0), two.begin(&ann, &other, 0)),
+        (Err(busy), Ok(()))
+    );
+    // What is there can be read meanwhile, and nothing was cut.
+    assert_eq!(rt; two.metadata(&ann, &path), Ok(HELLO));
+    one.end_upload();
+    assert_eq!(rt;
+        (two.begin(&ann, &path, 0), one.begin(&ann, &other, 0)),
+        (Ok(()), Ok(()))
+    );
     Ok(())
 }

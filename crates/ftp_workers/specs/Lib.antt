@@ -1,3 +1,4 @@
 pub mod Carried
 pub mod Header
+pub mod Listening
 pub mod Proxied

@@ -9,7 +9,7 @@ use crate::handoff::Handoff;
 use crate::server_state::ServerState;
 use crate::task::Task;
 use ftp_base::{Authenticator, Gate, Storage};
-use ftp_events::{Action, Decision, Entry, EventKind};
+use ftp_events::{Action, Decision, Entry};
 use ftp_shared::{JobShare, Serving};
 use std::sync::Wait;
 
@@ -41,22 +41,6 @@ impl Handoff {
     fn start<R: Wait>(&self, rt: &R, entry: &Entry, job: JobShare) {
         if let Some(number) = first_link(entry.actions.as_slice()) {
             self.put(rt, Task::Job(number, job));
-        }
-    }
-
-    /// Has a thread wait at the port that was bound for a session, where the entry grants it; else the port is closed.
-    pub(crate) fn open_port<R: Wait>(&self, rt: &R, entry: &Entry) {
-        if let EventKind::Pasv {
-            session,
-            bound: Some(bound),
-            ..
-        } = &entry.event.kind
-        {
-            if let Some((port, listener)) = self.take_bound(rt, *session) {
-                if port == *bound && matches!(entry.decision, Decision::Granted { .. }) {
-                    self.put(rt, Task::Wait(*session, listener));
-                }
-            }
         }
     }
 }

@@ -1,8 +1,10 @@
 //! Where the threads of a server submit their events.
 
-ghost use Rattle.std.specs.Prelude.{◌≡◌, ◌+◌, Some, None, [], true, false, IfOk, OnOk, OnErr};
+ghost use Rattle.std.specs.Prelude.{◌≡◌, ◌+◌, ◌≤◌, Some, None, [], true, false, IfOk, OnOk, OnErr};
 ghost use Rattle.ftp_shared.specs.Outbox.{has_ticket};
+ghost use Rattle.ftp_shared.specs.Desk.{IsVouched};
 ghost use Rattle.ftp_shared.specs.Next.{IsTurnAt};
+ghost use Rattle.ftp_workers.specs.Listening.{may_end_wait};
 
 use crate::event_sinks::EventSinks;
 use crate::server_state::ServerState;
@@ -28,7 +30,7 @@ pub struct ServerDesk<
     pub(crate) rt: R,
     pub(crate) state: Arc<ServerState<L, A, N, S, G>, Global>,
     pub(crate) share: StepShare<L>,
-    faults: u64,
+    pub(crate) faults: u64,
 }
 
 impl<
@@ -54,7 +56,7 @@ impl<
         }
     }
 
-    /// The share, for another desk of the same state.
+    /// The share, for another desk over the same server.
     pub fn into_share(self) -> StepShare<L>
         ensures { result ≡ self.share }
     {
@@ -72,6 +74,7 @@ impl<
         requires unticketed { has_ticket event.kind ≡ false }
         ensures share { OnOk result (self.new.share.count ≡ self.old.share.count + 1) }
         ensures same_share { OnErr result (self.new.share.count ≡ self.old.share.count) }
+        ensures faults { self.new.faults ≡ self.old.faults }
     {
         let submitted = self
             .state
@@ -131,13 +134,27 @@ impl<
         &self.state.options
     }
 
-    fn submit(&mut self, event: HubEvent, answer: Answer) -> Result<Told, AllocError> {
+    fn submit(&mut self, event: HubEvent, answer: Answer) -> Result<Told, AllocError>
+        requires unticketed { has_ticket event.kind ≡ false }
+        ensures event { IfOk result (λ told. told.entry.event ≡ event) }
+        ensures answer { IfOk result (λ told. told.entry.answer ≡ answer) }
+        ensures vouched { IfOk result (λ told. IsVouched L.options told.earlier told.entry) }
+        ensures share { OnOk result (self.old.share.count + 1 ≤ self.new.share.count) }
+        // Only an event that may end its session's wait has another before it.
+        ensures alone { may_end_wait event.kind ≡ false → OnOk result (self.new.share.count ≡ self.old.share.count + 1) }
+        ensures second { OnOk result (self.new.share.count ≤ self.old.share.count + 2) }
+        ensures same_share { OnErr result (self.old.share.count ≤ self.new.share.count) }
+        ensures faults { self.new.faults ≡ self.old.faults }
+    {
+        self.accept_before(&event);
         let turn = self.submit_turn(event, answer)?;
         self.state.handoff.wake_all(&self.rt, turn.others());
         let Turn { earlier, submitted } = turn;
         let Submitted { receipt, job } = submitted;
         let Receipt { place: _, entry } = receipt;
-        self.state.handoff.open_port(&self.rt, &entry);
+        if let Some(session) = entry.event.kind.named_session() {
+            self.state.handoff.open_port(&self.rt, session, &entry);
+        }
         self.state.carry_out(&self.rt, &entry, job);
         Ok(Told { earlier, entry })
     }

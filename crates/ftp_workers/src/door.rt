@@ -1,4 +1,4 @@
-//! What the thread at the doors does.
+//! What the acceptor's thread submits.
 
 ghost use Rattle.std.specs.Prelude.{◌≡◌, ◌+◌, ◌≤◌, true, false, IfSome};
 ghost use Rattle.ftp_shared.specs.Outbox.{has_ticket};
@@ -22,9 +22,15 @@ impl<
     S: Storage + Drop,
     G: Gate + Drop,
 > ServerState<L, A, N, S, G> {
-    /// Has a control connection served by a thread. Where there is no room for it, it is closed.
+    /// Has a control connection served by a thread. Where there is no room for it, it is closed, and told so where it is one
+    /// too many.
     pub fn queue_control<R: Wait>(&self, rt: &R, stream: TcpStream, raw: SocketAddr) {
-        let _ = self.handoff.put(rt, Task::Control(stream, raw));
+        let mut stream = stream;
+        if self.enter(rt, raw.ip(), &mut stream)
+            && !self.handoff.put(rt, Task::Control(stream, raw))
+        {
+            self.exit(rt, raw.ip());
+        }
     }
 
     /// Has the header of a connection read that a proxy passed on. Where there is no room for it, it is closed.
@@ -101,6 +107,8 @@ impl<
     )
         requires unticketed { has_ticket event.kind ≡ false }
         ensures share { self.old.share.count ≤ self.new.share.count }
+        ensures once { self.new.share.count ≤ self.old.share.count + 1 }
+        ensures faults { self.new.faults ≡ self.old.faults }
     {
         // A job may start at once, in another thread: the link has to be in its place before.
         if self.state.handoff.keep_link(&self.rt, number, link)

@@ -2,16 +2,17 @@
 
 use crate::closing::{close_all, closes_any, not_taken};
 use crate::link_handle::LinkHandle;
+use crate::listening::{AcceptorHandle, Listening};
 use crate::task::Task;
 use ftp_events::Entry;
 use ftp_shared::Others;
 use ftp_system::{ControlHandle, Queue};
 use indexmap::IndexMap;
-use mio::Waker;
 use mio::net::{TcpListener, TcpStream};
 use std::alloc::Global;
 use std::sync::atomic::{AtomicU64, Ordering};
-use std::sync::{Arc, Mutex, Wait};
+use std::sync::{Mutex, Wait};
+use std::time::Clock;
 
 /// A connection that waits for its job, and what was read of it already.
 #[derive(Drop)]
@@ -20,8 +21,13 @@ pub(crate) struct PendingConnection {
     pub(crate) ahead: Vec<u8>,
 }
 
-/// Links that wait for a job, those of jobs that run, ports that were bound for sessions, the handles of control connections,
-/// and tasks.
+/// How long a thread rests without a task, in milliseconds, and how many may rest longer.
+const REST: u64 = 60_000;
+
+const FEW: u64 = 4;
+
+/// Links that wait for a job, those of jobs that run, ports that were bound for sessions, those that wait for their connections, the handles of
+/// control connections, and tasks.
 ///
 /// Each stands behind a lock of its own, and no two of them are held together.
 #[derive(Drop)]
@@ -30,25 +36,27 @@ pub(crate) struct Handoff {
     // By session, with their numbers.
     running: Mutex<IndexMap<u64, (u64, LinkHandle)>>,
     bound: Mutex<IndexMap<u64, (u16, TcpListener)>>,
+    pub(crate) listeners: Mutex<IndexMap<u64, Listening>>,
     controls: Mutex<IndexMap<u64, ControlHandle>>,
     tasks: Queue<Task>,
     wanted: AtomicU64,
     calls: AtomicU64,
-    doors: Arc<Waker, Global>,
+    pub(crate) acceptor: AcceptorHandle,
 }
 
 impl Handoff {
-    /// Nothing waits. The waker tells the thread at the doors that one more thread is wanted.
-    pub(crate) fn new(alloc: Global, doors: Arc<Waker, Global>) -> Handoff {
+    /// Nothing waits. The thread that accepts connections is told that one more thread is wanted.
+    pub(crate) fn new(alloc: Global, acceptor: AcceptorHandle) -> Handoff {
         Handoff {
             links: Mutex::new(IndexMap::new(alloc)),
             running: Mutex::new(IndexMap::new(alloc)),
             bound: Mutex::new(IndexMap::new(alloc)),
+            listeners: Mutex::new(IndexMap::new(alloc)),
             controls: Mutex::new(IndexMap::new(alloc)),
             tasks: Queue::new(alloc),
             wanted: AtomicU64::new(0),
             calls: AtomicU64::new(0),
-            doors,
+            acceptor,
         }
     }
 
@@ -141,6 +149,7 @@ impl Handoff {
     pub(crate) fn leave<R: Wait>(&self, rt: &R, session: u64) {
         drop(self.controls.lock(rt).swap_remove(&session));
         drop(self.take_bound(rt, session));
+        self.stop_listening(rt, session);
     }
 
     /// Wakes the loops of sessions that have replies waiting.
@@ -160,8 +169,9 @@ impl Handoff {
         }
     }
 
-    /// Ends the control connections of all sessions.
+    /// Ends the control connections of all sessions, and closes their ports.
     pub(crate) fn shut_down<R: Wait>(&self, rt: &R) {
+        self.stop_all_listening(rt);
         for handle in self.controls.lock(rt).values() {
             handle.shut_down();
         }
@@ -173,16 +183,16 @@ impl Handoff {
             Ok(false) => true,
             Ok(true) => {
                 self.wanted.fetch_add(1, Ordering::SeqCst);
-                let _ = self.doors.wake();
+                let _ = self.acceptor.waker.wake();
                 true
             }
             Err(_) => false,
         }
     }
 
-    /// The next task, once there is one. None once no more come.
-    pub(crate) fn take<R: Wait>(&self, rt: &R) -> Option<Task> {
-        self.tasks.take(rt)
+    /// The next task, once there is one. None once no more come, or where many rest and none came for a while.
+    pub(crate) fn take<R: Wait + Clock>(&self, rt: &R) -> Option<Task> {
+        self.tasks.take_or_rest(rt, REST, FEW)
     }
 
     /// From now on no task comes.

@@ -61,6 +61,8 @@ impl<
         );
         self.buffer = link.into_buffer();
         self.state.handoff.end_job(&self.rt, session, number);
+        // However the job ended, its upload is over, and was before its session is woken.
+        self.storage.end_upload();
         // Where memory ran out the job never ends.
         if let Ok(submitted) = served {
             self.desk.carry_out(submitted);

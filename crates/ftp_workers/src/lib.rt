@@ -4,6 +4,7 @@
 //! Begin with `ServerState` and `work`.
 #![tactic(auto)]
 
+mod admitting;
 mod carrying;
 mod closing;
 mod control;
@@ -13,17 +14,18 @@ mod event_sinks;
 mod handoff;
 mod job;
 mod link_handle;
+mod listening;
 mod proxied;
 mod proxy_header;
 mod runtime;
 mod server_state;
 mod session_edge;
 mod task;
-mod waiting;
 mod worker;
 
 pub use desk::ServerDesk;
 pub use event_sinks::{EventSinks, Listeners};
+pub use listening::AcceptorHandle;
 pub use proxy_header::answer_proxied;
 pub use runtime::WorkerRuntime;
 pub use server_state::ServerState;

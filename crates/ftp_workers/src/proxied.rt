@@ -14,10 +14,10 @@ use ftp_base::{Authenticator, Edge, Gate, Storage};
 use ftp_events::{Answer, HubEvent};
 use ftp_options::ListenerMode;
 use ftp_shared::Serving;
-use ftp_system::{Ahead, Gathered, LIMIT, SocketLink, told_address};
+use ftp_system::{Ahead, Gathered, LIMIT, SocketLink, std_address, told_address};
 use mio::net::TcpStream;
 use std::net;
-use std::net::SocketAddr;
+use std::net::{IpAddr, SocketAddr};
 
 /// How many bytes are read at once where a header stands in front.
 const HEADER_BUFFER: usize = 512;
@@ -29,6 +29,14 @@ fn leads_to_control(mode: ListenerMode, answer: &Answer) -> bool
     match answer {
         Answer::Header(Ok(line)) => mode.is_control_port(line.destination.port),
         _ => false,
+    }
+}
+
+// The client that the header names.
+fn source_of(answer: &Answer) -> Option<IpAddr> {
+    match answer {
+        Answer::Header(Ok(line)) => Some(std_address(line.source).ip()),
+        _ => None,
     }
 }
 
@@ -71,9 +79,29 @@ impl<
             ahead,
         };
         if leads_to_control(self.state.options.mode, &answer) {
-            self.serve_proxied(number, link, event, answer);
+            self.enter_proxied(number, link, event, answer);
         } else {
             self.submit_connection(number, link, event, answer);
+        }
+    }
+
+    // Serves the session of a connection whose header was read, unless it is one too many.
+    fn enter_proxied(
+        &mut self,
+        number: u64,
+        link: PendingConnection,
+        event: HubEvent,
+        answer: Answer,
+    )
+        requires opening { is_opening event.kind ≡ true }
+    {
+        let Some(client) = source_of(&answer) else {
+            return;
+        };
+        let mut link = link;
+        if self.state.enter(&self.rt, client, &mut link.stream) {
+            self.serve_proxied(number, link, event, answer);
+            self.state.exit(&self.rt, client);
         }
     }
 
@@ -97,6 +125,8 @@ impl<
         let Ok(handle) = control.handle() else {
             return;
         };
+        let (mut control, mut ahead) = (control, ahead);
+        control.keep_text(&mut ahead);
         let control = Ahead::new(control, ahead);
         let _ = self.talk(control, handle, number, local.ip(), event, answer);
     }

@@ -5,10 +5,11 @@ ghost use Rattle.ftp_options.specs.declared.options.Options.{Options};
 
 use crate::event_sinks::EventSinks;
 use crate::handoff::Handoff;
+use crate::listening::AcceptorHandle;
 use ftp_base::{Authenticator, Gate, Storage};
 use ftp_options::Options;
 use ftp_shared::{Serving, SharedHub};
-use mio::Waker;
+use ftp_system::{SessionCounts, SessionLimits, Uploads};
 use std::alloc::{AllocError, Global};
 use std::sync::ledger::{Book, Share};
 use std::sync::{Arc, Mutex};
@@ -29,6 +30,9 @@ pub struct ServerState<
     pub(crate) authenticator: A,
     pub(crate) sinks: Mutex<N>,
     pub(crate) files: Arc<Mutex<S>, Global>,
+    pub(crate) uploads: Arc<Mutex<Uploads>, Global>,
+    pub(crate) limits: SessionLimits,
+    pub(crate) counts: Mutex<SessionCounts>,
     pub(crate) gate: Arc<G, Global>,
     ghost told: { options ≡ L.options },
 }
@@ -42,19 +46,20 @@ impl<
 > ServerState<L, A, N, S, G> {
     ghost use Rattle.std.specs.Prelude.{◌<◌};
 
-    /// A state to whose hub nothing has happened, and which no thread serves.
+    /// A fresh hub, and what its threads will share; no thread serves it yet.
     ///
-    /// The book has counted no step, and the share has every part, of which there are so many. The waker is that of the
-    /// thread that starts others: it is told so where one more is wanted.
+    /// The book has counted no step, and the share has every part, of which there are so many. The thread that accepts
+    /// connections also starts threads: it is told where one more is wanted.
     pub fn new(
         alloc: Global,
         options: Options,
+        limits: SessionLimits,
         ledger: (Book<L>, Share<L>, u64),
         authenticator: A,
         sinks: N,
         storage: S,
         gate: Arc<G, Global>,
-        doors: Arc<Waker, Global>,
+        acceptor: AcceptorHandle,
     ) -> Result<ServerState<L, A, N, S, G>, AllocError>
         requires options { options ≡ L.options }
         requires none { ledger.0.total ≡ 0 }
@@ -65,14 +70,18 @@ impl<
         let (steps, share, parts) = ledger;
         let told = options.copy(alloc)?;
         let files = Arc::new(alloc, Mutex::new(storage))?;
+        let uploads = Arc::new(alloc, Mutex::new(Uploads::new(alloc)))?;
         Ok(ServerState {
             alloc,
             options: told,
             hub: SharedHub::new(alloc, options, steps, share, parts),
-            handoff: Handoff::new(alloc, doors),
+            handoff: Handoff::new(alloc, acceptor),
             authenticator,
             sinks: Mutex::new(sinks),
             files,
+            uploads,
+            limits,
+            counts: Mutex::new(SessionCounts::new(alloc)),
             gate,
         })
     }

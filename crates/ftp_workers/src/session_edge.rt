@@ -1,8 +1,8 @@
 //! The edge of one session.
 
-ghost use Rattle.std.specs.Prelude.{◌≡◌, ◌≤◌, None};
+ghost use Rattle.std.specs.Prelude.{◌≡◌, ◌≤◌, true, None};
 ghost use Rattle.ftp_base.specs.Outside.{HasRisen};
-ghost use Rattle.ftp_system.specs.Edge.{system_meaning};
+ghost use Rattle.ftp_system.specs.Edge.{is_between, system_meaning};
 
 use crate::handoff::{Handoff, PendingConnection};
 use ftp_base::{Bytes, Edge, SocketAddr};
@@ -49,6 +49,15 @@ impl<'a, R: Net + Wait + Clock + RandomSource + Copy + Drop> SessionEdge<'a, R> 
         ensures count { self.old.faults ≤ self.new.faults }
     {
         self.faults = self.faults.saturating_add(1);
+    }
+
+    // Binds the port at which the session waits once more: it may be the last.
+    fn bind_own(&mut self, lo: u16, hi: u16) -> Option<u16>
+        ensures may { is_between lo hi result ≡ true }
+        ensures faults { self.new.faults ≡ self.old.faults }
+    {
+        let port = self.handoff.free_port(&self.rt, self.session)?;
+        self.system.bind(lo.max(port), hi.min(port))
     }
 
     // Keeps the listener of the port that was bound last, and says whether there is room.
@@ -99,7 +108,10 @@ impl<'a, R: Net + Wait + Clock + RandomSource + Copy + Drop> Edge for SessionEdg
     }
 
     fn bind(&mut self, lo: u16, hi: u16) -> Option<u16> {
-        let bound = self.system.bind(lo, hi);
+        let mut bound = self.system.bind(lo, hi);
+        if bound.is_none() {
+            bound = self.bind_own(lo, hi);
+        }
         match bound {
             Some(port) if self.keep_bound(port) => bound,
             _ => {

@@ -1,7 +1,6 @@
 //! What threads are asked to do.
 
 use ftp_shared::JobShare;
-use mio::net::TcpListener;
 use std::net::{SocketAddr, TcpStream};
 
 /// What one thread does at a time.
@@ -13,6 +12,4 @@ pub(crate) enum Task {
     Proxied(TcpStream, SocketAddr),
     /// Run a job, on the link of this number.
     Job(u64, JobShare),
-    /// Wait for the data connection of a session at a port of its own.
-    Wait(u64, TcpListener),
 }

@@ -48,19 +48,20 @@ impl<
     ) -> Result<Worker<R, L, A, N, S, G>, AllocError> {
         let theirs = Arc::try_clone(&state)?;
         let files = Arc::try_clone(&state.files)?;
+        let uploads = Arc::try_clone(&state.uploads)?;
         let alloc = state.alloc;
         Ok(Worker {
             rt,
             alloc,
             desk: ServerDesk::new(rt, theirs, share),
             edge: SystemEdge::new(rt, alloc, IpAddr::V4(Ipv4Addr::from_bits(0)), LIMIT),
-            storage: SharedStorage::new(rt, files),
+            storage: SharedStorage::new(rt, alloc, files, uploads),
             buffer: Vec::new(alloc),
             state,
         })
     }
 
-    /// Does one task after another, until no more come.
+    /// Does one task after another, until no more come or it has rested for long.
     pub fn work(&mut self) {
         let rt = self.rt;
         for _ in rt.forever() {
@@ -75,14 +76,14 @@ impl<
         match task {
             Task::Control(stream, raw) => {
                 let _ = self.serve(stream, raw);
+                self.state.exit(&self.rt, raw.ip());
             }
             Task::Proxied(stream, raw) => self.pass_on(stream, raw),
             Task::Job(number, job) => self.run(number, job),
-            Task::Wait(session, listener) => self.wait(session, listener),
         }
     }
 
-    /// Ends the thread's part in the state, which takes its share back.
+    /// Ends this worker; the server takes its share back.
     pub fn leave(self) {
         let Worker {
             rt,
@@ -97,7 +98,7 @@ impl<
     }
 }
 
-/// What a thread of a server does, with its share, until no more tasks come.
+/// What a thread of a server does, with its share, until no more tasks come or it has rested for long.
 pub fn work<
     R: WorkerRuntime,
     L: Serving,
