@@ -66,6 +66,16 @@ impl Client {
         door: SocketAddr,
         header: &str,
     ) -> Result<Client, Met> {
+        Client::greeted_behind(rt, alloc, door, header.as_bytes())
+    }
+
+    /// The same, where it is no text that stands before the first line.
+    pub fn greeted_behind<R: Net<Stream = TcpStream> + Clock>(
+        rt: &R,
+        alloc: Global,
+        door: SocketAddr,
+        header: &[u8],
+    ) -> Result<Client, Met> {
         first_line(
             rt,
             alloc,
@@ -130,14 +140,14 @@ pub fn first_line<R: Net<Stream = TcpStream> + Clock>(
     rt: &R,
     alloc: Global,
     door: SocketAddr,
-    header: &str,
+    header: &[u8],
     line: &str,
 ) -> Result<Client, Met> {
     let mut client = Client {
         alloc,
         stream: connected(rt, door)?,
     };
-    client.stream.write_all(header.as_bytes())?;
+    client.stream.write_all(header)?;
     client.hear(line)?;
     Ok(client)
 }
@@ -148,8 +158,17 @@ pub fn data_connection<R: Net<Stream = TcpStream> + Clock>(
     to: SocketAddr,
     header: &str,
 ) -> Result<TcpStream, Met> {
+    data_connection_behind(rt, to, header.as_bytes())
+}
+
+/// The same, where it is no text that is sent first.
+pub fn data_connection_behind<R: Net<Stream = TcpStream> + Clock>(
+    rt: &R,
+    to: SocketAddr,
+    header: &[u8],
+) -> Result<TcpStream, Met> {
     let mut stream = connected(rt, to)?;
-    stream.write_all(header.as_bytes())?;
+    stream.write_all(header)?;
     Ok(stream)
 }
 

@@ -25,6 +25,8 @@ mod pairs;
 #[cfg(test)]
 mod place;
 #[cfg(test)]
+mod proxy2;
+#[cfg(test)]
 mod refusals;
 #[cfg(test)]
 mod sessions;

@@ -37,7 +37,7 @@ impl Visit for OneTooMany {
         let header = "PROXY TCP4 192.0.2.7 198.51.100.1 40000 2121\r\n";
         let mut first = enter(rt, alloc, place, header)?;
         let too_many = "421 Too many sessions, closing control connection\r\n";
-        let mut other = first_line(rt, alloc, place.door(), header, too_many)?;
+        let mut other = first_line(rt, alloc, place.door(), header.as_bytes(), too_many)?;
         other.hear_end()?;
         let another = "PROXY TCP4 192.0.2.8 198.51.100.1 40000 2121\r\n";
         drop(enter(rt, alloc, place, another)?);

@@ -1,6 +1,6 @@
 //! A session of each mode, whose client compares every reply.
 
-use crate::client::{Client, Met, data_connection, fetch};
+use crate::client::{Client, Met, data_connection_behind, fetch};
 use crate::doubles::{Board, new_board};
 use crate::place::Place;
 use crate::setting::{FILE, Stopped, agreed, listen, listen_behind_proxy, listen_pooled};
@@ -14,9 +14,9 @@ use std::thread;
 use std::time::Clock;
 
 /// What a proxy sends ahead of a control connection, and of a data connection.
-const CONTROL_HEADER: &str = "PROXY TCP4 192.0.2.7 198.51.100.1 40000 2121\r\n";
+const CONTROL_HEADER: &[u8] = b"PROXY TCP4 192.0.2.7 198.51.100.1 40000 2121\r\n";
 
-const DATA_HEADER: &str = "PROXY TCP4 192.0.2.7 198.51.100.1 40001 50000\r\n";
+const DATA_HEADER: &[u8] = b"PROXY TCP4 192.0.2.7 198.51.100.1 40001 50000\r\n";
 
 /// The reply that advertises the passive port of the proxy.
 const PROXY_ENTERING: &str = "227 Entering Passive Mode (198,51,100,1,195,80)\r\n";
@@ -25,18 +25,18 @@ const PROXY_ENTERING: &str = "227 Entering Passive Mode (198,51,100,1,195,80)\r\
 #[derive(Clone, Copy)]
 struct Way<'a> {
     door: SocketAddr,
-    header: &'a str,
+    header: &'a [u8],
     passive: SocketAddr,
-    data_header: &'a str,
+    data_header: &'a [u8],
     entering: &'a str,
 }
 
 /// Logs in, fetches the file and leaves.
 fn visit<R: Net<Stream = TcpStream> + Clock>(rt: &R, alloc: Global, way: &Way) -> Result<(), Met> {
-    let mut client = Client::greeted(rt, alloc, way.door, way.header)?;
+    let mut client = Client::greeted_behind(rt, alloc, way.door, way.header)?;
     client.log_in()?;
     client.ask("PASV\r\n", way.entering)?;
-    let data = data_connection(rt, way.passive, way.data_header)?;
+    let data = data_connection_behind(rt, way.passive, way.data_header)?;
     client.ask("RETR a.txt\r\n", "150 Sending data\r\n")?;
     fetch(alloc, data, FILE)?;
     client.hear("226 Successfully sent\r\n")?;
@@ -61,9 +61,9 @@ fn legacy_session<R: ServerRuntime>(rt: &R, alloc: Global) -> Result<(), Stopped
     let board = new_board(alloc)?;
     let way = Way {
         door: place.door(),
-        header: "",
+        header: b"",
         passive: place.passive(),
-        data_header: "",
+        data_header: b"",
         entering: entering.as_str(),
     };
     let (met, ended) = thread::join(
@@ -80,9 +80,9 @@ fn pooled_session<R: ServerRuntime>(rt: &R, alloc: Global) -> Result<(), Stopped
     let board = new_board(alloc)?;
     let way = Way {
         door: place.door(),
-        header: "",
+        header: b"",
         passive: place.passive(),
-        data_header: "",
+        data_header: b"",
         entering: entering.as_str(),
     };
     let (met, ended) = thread::join(
@@ -93,15 +93,21 @@ fn pooled_session<R: ServerRuntime>(rt: &R, alloc: Global) -> Result<(), Stopped
     agreed(met, ended?)
 }
 
-fn proxy_session<R: ServerRuntime>(rt: &R, alloc: Global) -> Result<(), Stopped> {
+/// A session behind a proxy that sends these headers ahead of its control connection and of its data connection.
+pub fn proxy_session<R: ServerRuntime>(
+    rt: &R,
+    alloc: Global,
+    header: &[u8],
+    data_header: &[u8],
+) -> Result<(), Stopped> {
     let place = Place::drawn(rt).ok().ok_or(Stopped::NoPlace)?;
     let text = place.text(alloc)?;
     let board = new_board(alloc)?;
     let way = Way {
         door: place.door(),
-        header: CONTROL_HEADER,
+        header,
         passive: place.door(),
-        data_header: DATA_HEADER,
+        data_header,
         entering: PROXY_ENTERING,
     };
     let (met, ended) = thread::join(
@@ -130,5 +136,5 @@ fn a_file_is_fetched_in_pooled_mode(rt: HostRuntime) -> Result<(), Fail> {
 fn a_file_is_fetched_behind_a_proxy(rt: HostRuntime) -> Result<(), Fail> {
     let types: Option<(TcpListener, TcpStream)> = None;
     drop(types);
-    Ok(proxy_session(&rt, rt.alloc())?)
+    Ok(proxy_session(&rt, rt.alloc(), CONTROL_HEADER, DATA_HEADER)?)
 }
