@@ -21,6 +21,8 @@ class Terminal:
         self.text = b""
         self.pid, self.terminal = pty.fork()
         if self.pid == 0:
+            # A script that runs in the background ignores it.
+            signal.signal(signal.SIGINT, signal.SIG_DFL)
             os.execvpe(words[0], words, {**os.environ, "TERM": "dumb", "LC_ALL": "C"})
 
     def __enter__(self):
