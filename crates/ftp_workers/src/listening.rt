@@ -8,7 +8,7 @@ use crate::desk::ServerDesk;
 use crate::event_sinks::EventSinks;
 use crate::handoff::{Handoff, PendingConnection};
 use ftp_base::{Authenticator, Gate, Storage};
-use ftp_events::{Answer, Decision, Entry, EventKind, HubEvent};
+use ftp_events::{Answer, Decision, Entry, EventKind, HubEvent, SlotMove};
 use ftp_shared::Serving;
 use ftp_system::told_address;
 use mio::net::{TcpListener, TcpStream};
@@ -60,14 +60,8 @@ fn ends_wait(decision: Decision) -> bool
     ensures { result ≡ ends_wait decision }
 {
     matches!(
-        decision,
-        Decision::PortOk
-            | Decision::Aborted
-            | Decision::SlotDropped
-            | Decision::Quit
-            | Decision::Closed
-            | Decision::TimedOut
-            | Decision::Stopped
+        decision.slot_move(),
+        SlotMove::Empties | SlotMove::Connects | SlotMove::Expires
     )
 }
 

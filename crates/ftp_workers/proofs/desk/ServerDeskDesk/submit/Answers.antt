@@ -12,4 +12,4 @@ returns-clause-answer g c = turn-answer g.L.Serving.options c.in_ok-turn.turn c.
 -- and is vouched for
 pub returns-clause-vouched : goal.returns-clause-vouched
 returns-clause-vouched g c =
-    λ _. turn-vouched g.L.Serving.options c.in_ok-turn.turn c.args.event c.args.answer c.in_ok-turn.ensures.next
+    turn-vouched g.L.Serving.options c.in_ok-turn.turn c.args.event c.args.answer c.in_ok-turn.ensures.next
