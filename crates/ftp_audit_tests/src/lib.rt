@@ -5,3 +5,5 @@
 
 #[cfg(test)]
 mod audit;
+#[cfg(test)]
+mod caller;

@@ -1,5 +1,6 @@
 //! Whole scripts, with the lines that are written for them.
 
+mod audits;
 mod commands;
 mod endings;
 mod options;

@@ -14,7 +14,7 @@ use Rattle.ftp_base.specs.declared.fault.Failed.TheVariants.{Fault, Memory}
 use Rattle.ftp_lines.specs.Writing.{WritesFront}
 use Rattle.ftp_text.proofs.Numerals.{own}
 use Rattle.ftp_script_run.specs.declared.command.Command.{Command}
-use Rattle.ftp_script_run.specs.declared.command.Command.TheVariants.{Script, Tell}
+use Rattle.ftp_script_run.specs.declared.command.Command.TheVariants.{Script, Audit, Tell}
 use Rattle.ftp_script_run.specs.declared.command.Told.{Told}
 use Rattle.ftp_script_run.specs.declared.status.Status.{Status}
 use Rattle.ftp_script_run.specs.declared.status.Status.TheVariants as status
@@ -131,6 +131,19 @@ script_tells_nothing words found t same is asks = let one : Script ≡ Tell t = 
 
 pub told_is_no_script : {X : Type 0} (words : List (List ℕ)) (found : Option Command) (t : Told) → IsCommandOf words found → found ≡ Some (Tell t) → Asks words Script → X
 told_is_no_script words found t same is asks = let one : Tell t ≡ Script = one_command words found (Tell t) Script same is asks in absurd (cc)
+
+-- the log and the audit are two commands
+pub script_is_no_audit : {X : Type 0} (words : List (List ℕ)) (found : Option Command) → IsCommandOf words found → found ≡ Some Script → Asks words Audit → X
+script_is_no_audit words found same is asks = let one : Script ≡ Audit = one_command words found Script Audit same is asks in absurd (cc)
+
+pub audit_is_no_script : {X : Type 0} (words : List (List ℕ)) (found : Option Command) → IsCommandOf words found → found ≡ Some Audit → Asks words Script → X
+audit_is_no_script words found same is asks = let one : Audit ≡ Script = one_command words found Audit Script same is asks in absurd (cc)
+
+pub audit_tells_nothing : {X : Type 0} (words : List (List ℕ)) (found : Option Command) (t : Told) → IsCommandOf words found → found ≡ Some Audit → Asks words (Tell t) → X
+audit_tells_nothing words found t same is asks = let one : Audit ≡ Tell t = one_command words found Audit (Tell t) same is asks in absurd (cc)
+
+pub told_is_no_audit : {X : Type 0} (words : List (List ℕ)) (found : Option Command) (t : Told) → IsCommandOf words found → found ≡ Some (Tell t) → Asks words Audit → X
+told_is_no_audit words found t same is asks = let one : Tell t ≡ Audit = one_command words found (Tell t) Audit same is asks in absurd (cc)
 
 -- where a command was found, the status is no other
 pub usage-asked : (words : List (List ℕ)) (found : Option Command) (c : Command) (s : Status) →

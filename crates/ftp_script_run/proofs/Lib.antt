@@ -10,3 +10,4 @@ pub mod DeterminedLemmas
 pub mod ListedLemmas
 pub mod HeaderLemmas
 pub mod CommandLemmas
+pub mod AuditLemmas

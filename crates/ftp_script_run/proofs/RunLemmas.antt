@@ -51,7 +51,7 @@ pub kept-numbers : (run : Run) (items : List Item) (log : List Entry) (n : ℕ) 
 kept-numbers run items log n kept = leads-numbers memory_views (options_of run.hub) [] log (start_of items) (outside run) n kept.hub.led ∙ is_some-links_in items n
 
 -- no more calls failed than the items list
-kept-listed : (run : Run) (items : List Item) (log : List Entry) → Keeps run items log → FailsAsListed (start_of items) (outside run)
+pub kept-listed : (run : Run) (items : List Item) (log : List Entry) → Keeps run items log → FailsAsListed (start_of items) (outside run)
 kept-listed run items log kept = record {
   storage = omega (arith, falls.storage);
   links = λ n before after was there.

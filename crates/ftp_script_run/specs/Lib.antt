@@ -4,6 +4,7 @@ pub mod Legal
 pub mod Statuses
 pub mod Outcome
 pub mod Runs
+pub mod Audited
 pub mod Clean
 pub mod Determined
 pub mod Listed

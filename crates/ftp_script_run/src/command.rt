@@ -11,6 +11,8 @@ use std::str;
 pub enum Command {
     /// It runs the script that the source gives.
     Script,
+    /// It runs the script too, and tells what its users moved in place of its log.
+    Audit,
     /// It tells something, and reads nothing.
     Tell(Told),
 }
@@ -42,6 +44,8 @@ fn lone(word: &[u8]) -> Option<Command>
 {
     if word == b"script".as_slice() {
         Some(Command::Script)
+    } else if word == b"audit".as_slice() {
+        Some(Command::Audit)
     } else if word == b"--help".as_slice() {
         Some(Command::Tell(Told::Help))
     } else if word == b"--version".as_slice() {

@@ -1,10 +1,12 @@
-//! What the program does: runs a script of events from a source, and writes the log that is due for it to a sink; or tells
-//! how often each decision came in a run of drawn events.
+//! What the program does: runs a script of events from a source, and writes the log that is due for it to a sink, or what
+//! its users moved; or tells how often each decision came in a run of drawn events.
 //!
-//! What is written is the printed log of exactly the script that was read, or the number of the first bad line.
+//! What is written is the printed log of exactly the script that was read, or the report on it, or the number of the first
+//! bad line.
 //! Begin with `run_script`.
 #![tactic(auto)]
 
+mod auditing;
 mod command;
 mod laws;
 mod printing;

@@ -8,15 +8,18 @@ ghost use Rattle.ftp_events.specs.declared.entry.Entry.{Entry};
 ghost use Rattle.ftp_lines.specs.Writing.{WritesFront};
 ghost use Rattle.ftp_event_text.specs.declared.setup.Item.{Item};
 ghost use Rattle.ftp_event_text.specs.declared.setup.Item.TheVariants as item;
-ghost use Rattle.ftp_script_run.specs.Items.{features_of};
+ghost use Rattle.ftp_script_run.specs.Items.{event_in, features_of};
 ghost use Rattle.ftp_script_run.specs.Left.{end_lines};
 ghost use Rattle.ftp_script_run.specs.Outcome.{log_lines, bad_line};
+ghost use Rattle.ftp_audit.specs.Heard.{HasHeard};
 ghost use Rattle.ftp_script_run.specs.Runs.{Keeps, MayTake, Takes, IsTaken, IsPartlyTaken};
+ghost use Rattle.ftp_script_run.specs.Audited.{IsNoted};
 ghost use Rattle.ftp_options.specs.Builder.{refusal, settings_of};
 ghost use Rattle.ftp_hub.specs.Stands.{Stands, options_of};
 ghost use Rattle.ftp_script_text.specs.Script.{may_stand};
 
 use crate::printing::{print_bad_line, print_entry, print_files, print_links};
+use ftp_audit::Audit;
 use ftp_base::{
     Bytes, FEATURE_RESTART, Failed, InsertError, LinkFault, LinkTable, MemoryLink, MemoryStorage,
     Sink, StoreError,
@@ -76,6 +79,19 @@ impl Run {
             IsPartlyTaken self.new (items ++ item ∷ []) log (K.written sink.old) (K.written sink.new)) }
     {
         match item {
+            Item::Event(event) => self.event(event, sink),
+            other => self.set_up(other),
+        }
+    }
+
+    // Does what an item asks for that is no event.
+    fn set_up(&mut self, item: Item) -> Result<(), Failed>
+        requires may { MayTake self.old item }
+        requires quiet { event_in item ≡ None }
+        ensures took { OnOk result (Takes self.old item self.new []) }
+        ensures only_memory { IfErr result (λ e. e ≡ Memory) }
+    {
+        match item {
             Item::Skip => Ok(()),
             Item::Options {
                 mode,
@@ -105,7 +121,28 @@ impl Run {
                 fails,
                 bytes,
             } => self.link(number, chunk, fails, bytes),
-            Item::Event(event) => self.event(event, sink),
+            Item::Event(_) => unreachable!(),
+        }
+    }
+
+    /// Does what the item asks for, and has the entry of an event taken by the audit.
+    ///
+    /// Neither the hub's count of events nor that of the audit can end in a script, which has far fewer lines.
+    pub fn note(&mut self, item: Item, audit: &mut Audit) -> Result<(), Failed>
+        requires { MayTake self.old item }
+        ensures noted { OnOk result ((items : List Item) (log : List Entry) → Keeps self.old items log → may_stand items item ≡ true → HasHeard audit.old log →
+            IsNoted self.new (items ++ item ∷ []) log audit.new) }
+        ensures only_memory { IfErr result (λ e. e ≡ Memory) }
+    {
+        match item {
+            Item::Event(event) => {
+                let entry = self.step(event)?;
+                match audit.take(&entry) {
+                    Ok(()) => Ok(()),
+                    Err(_) => Err(Failed::Memory),
+                }
+            }
+            other => self.set_up(other),
         }
     }
 

@@ -9,15 +9,17 @@ ghost use Rattle.ftp_script_text.specs.Script.{may_stand, IsScriptOf};
 ghost use Rattle.ftp_script_text.specs.ScriptReader.{IsLawful};
 ghost use Rattle.ftp_script_run.specs.Statuses.{IsCutShort, HasNotRisen};
 ghost use Rattle.ftp_script_run.specs.declared.command.Command.{Command};
-ghost use Rattle.ftp_script_run.specs.declared.command.Command.TheVariants.{Script, Tell};
+ghost use Rattle.ftp_script_run.specs.declared.command.Command.TheVariants.{Script, Audit, Tell};
 ghost use Rattle.ftp_script_run.specs.declared.command.Told.{Told};
 ghost use Rattle.ftp_script_run.specs.declared.command.Told.TheVariants.{Stress};
 ghost use Rattle.ftp_script_run.specs.Commands.{Asks, text_of};
 ghost use Rattle.ftp_lines.specs.Writing.{WritesFront};
 ghost use Rattle.ftp_stress.specs.Stress.{stress_lines};
 ghost use Rattle.ftp_script_run.specs.Outcome.{IsDone, HasBadLine, WritesWhole, WritesPart, Outcome};
+ghost use Rattle.ftp_script_run.specs.Audited.{IsAudited, IsAuditedTo, AuditsWhole, AuditsPart};
 ghost use Rattle.ftp_script_run.specs.Runs.{Keeps, MayTake, IsTaken, IsPartlyTaken, Running};
 
+use crate::auditing::audit_lines;
 use crate::command::{Command, command_of};
 use crate::run::Run;
 use crate::status::Status;
@@ -27,11 +29,12 @@ use ftp_event_text::Item;
 use ftp_script_text::{BUFFER_SIZE, ScriptError, ScriptReader};
 use std::alloc::Global;
 
-/// Does what the words ask for: runs the script that the source gives, event by event, and writes its printed log; or
-/// writes how often each decision came in a run of drawn events, the commands, or the version.
+/// Does what the words ask for: runs the script that the source gives, event by event, and writes its printed log, or in
+/// place of it a line for each user on what it moved and how often it came and went; or writes how often each decision
+/// came in a run of drawn events, the commands, or the version.
 ///
 /// A line has at most 65,536 bytes, its line feed not counted, and a script 16,777,216. An entry is let go as soon as it
-/// is written or counted.
+/// is written or heard.
 pub fn run_script<S: Source, K: Sink>(
     alloc: Global,
     words: &[Vec<u8>],
@@ -44,11 +47,11 @@ pub fn run_script<S: Source, K: Sink>(
     // All was read and is a script, and its log was written.
     ensures done { Asks (map (λ w. w.items) words.now) Script → result ≡ Status.Done →
         IfSome (S.left source.old) (λ bytes. IsDone bytes (S.left source.new) (K.written sink.old) (K.written sink.new)) }
-    ensures bad_line { (k : ℕ) → result ≡ Status.BadLine k → IfSome (S.left source.old) (λ bytes. HasBadLine k bytes (S.left source.new) (K.written sink.old) (K.written sink.new)) }
+    ensures bad_line { Asks (map (λ w. w.items) words.now) Script → (k : ℕ) → result ≡ Status.BadLine k → IfSome (S.left source.old) (λ bytes. HasBadLine k bytes (S.left source.new) (K.written sink.old) (K.written sink.new)) }
 
     // After a fault of the source the log of the whole lines that were read was written.
     ensures read_fault { result ≡ Status.ReadFault → HasRisen (S.faults source.old) (S.faults source.new) }
-    ensures read_whole { result ≡ Status.ReadFault → IfSome (S.left source.old) (λ bytes. WritesWhole bytes (S.left source.new) (K.written sink.old) (K.written sink.new)) }
+    ensures read_whole { Asks (map (λ w. w.items) words.now) Script → result ≡ Status.ReadFault → IfSome (S.left source.old) (λ bytes. WritesWhole bytes (S.left source.new) (K.written sink.old) (K.written sink.new)) }
 
     // After a fault of the sink, or where memory ran out, a part from the front was written.
     ensures write_fault { result ≡ Status.WriteFault → HasRisen (K.faults sink.old) (K.faults sink.new) }
@@ -60,6 +63,22 @@ pub fn run_script<S: Source, K: Sink>(
         HasNotRisen (S.faults source.old) (S.faults source.new) → HasNotRisen (K.faults sink.old) (K.faults sink.new) →
         (result ≡ Status.Done) ⊎ (result ≡ Status.OutOfMemory)) }
     ensures first_bad { Asks (map (λ w. w.items) words.now) Script → (k : ℕ) → IfSome (S.left source.old) (λ bytes. (items : List Item) → IsScriptOf bytes items (Some k) →
+        HasNotRisen (S.faults source.old) (S.faults source.new) → HasNotRisen (K.faults sink.old) (K.faults sink.new) →
+        (result ≡ Status.BadLine k) ⊎ (result ≡ Status.OutOfMemory)) }
+
+    // The same of an audit: in place of the log the report on it is written, a line for each user.
+    ensures audit_done { Asks (map (λ w. w.items) words.now) Audit → result ≡ Status.Done →
+        IfSome (S.left source.old) (λ bytes. IsAudited bytes (S.left source.new) (K.written sink.old) (K.written sink.new)) }
+    ensures audit_bad_line { Asks (map (λ w. w.items) words.now) Audit → (k : ℕ) → result ≡ Status.BadLine k →
+        IfSome (S.left source.old) (λ bytes. IsAuditedTo k bytes (S.left source.new) (K.written sink.old) (K.written sink.new)) }
+    ensures audit_whole { Asks (map (λ w. w.items) words.now) Audit → result ≡ Status.ReadFault →
+        IfSome (S.left source.old) (λ bytes. AuditsWhole bytes (S.left source.new) (K.written sink.old) (K.written sink.new)) }
+    ensures audit_front { Asks (map (λ w. w.items) words.now) Audit → IsCutShort result →
+        IfSome (S.left source.old) (λ bytes. AuditsPart (HasRisen (S.faults source.old) (S.faults source.new)) bytes (S.left source.new) (K.written sink.old) (K.written sink.new)) }
+    ensures audit_complete { Asks (map (λ w. w.items) words.now) Audit → IfSome (S.left source.old) (λ bytes. (items : List Item) → IsScriptOf bytes items None →
+        HasNotRisen (S.faults source.old) (S.faults source.new) → HasNotRisen (K.faults sink.old) (K.faults sink.new) →
+        (result ≡ Status.Done) ⊎ (result ≡ Status.OutOfMemory)) }
+    ensures audit_first_bad { Asks (map (λ w. w.items) words.now) Audit → (k : ℕ) → IfSome (S.left source.old) (λ bytes. (items : List Item) → IsScriptOf bytes items (Some k) →
         HasNotRisen (S.faults source.old) (S.faults source.new) → HasNotRisen (K.faults sink.old) (K.faults sink.new) →
         (result ≡ Status.BadLine k) ⊎ (result ≡ Status.OutOfMemory)) }
 
@@ -86,6 +105,10 @@ pub fn run_script<S: Source, K: Sink>(
         Some(Command::Script) => {
             let mut buffer = [0u8; BUFFER_SIZE];
             run_lines(alloc, &mut buffer, source, sink)
+        }
+        Some(Command::Audit) => {
+            let mut buffer = [0u8; BUFFER_SIZE];
+            audit_lines(alloc, &mut buffer, source, sink)
         }
         Some(Command::Tell(told)) => Status::Done.after(tell(alloc, told, sink)),
         None => Status::Usage,

@@ -1,0 +1,303 @@
+-- How an audit of a script ends, from what it keeps.
+use Rattle.std.proofs.Common.{◌≡◌, ◌⊎◌, ℕ, ◌-◌, ◌^◌, ◌≤◌, inl, inr, List, [], ◌∷◌, ◌++◌, Option, Some, None, refl, subst, append-nil, arith}
+use Rattle.std.specs.Prelude.{IfSome, Result, Ok, Err, OnOk, OnErr}
+use Rattle.std.proofs.lemmas.Option.{IfSome_then}
+use Rattle.std.proofs.lemmas.Bool.{cases_lt}
+use Rattle.ftp_base.specs.Outside.{Writes, HasRisen}
+use Rattle.ftp_base.specs.declared.fault.Failed.{Failed}
+use Rattle.ftp_base.specs.declared.fault.Failed.TheVariants.{Fault, Memory}
+use Rattle.ftp_options.specs.declared.options.Options.{Options}
+use Rattle.ftp_events.specs.declared.entry.Entry.{Entry}
+use Rattle.ftp_lines.specs.Writing.{WritesFront}
+use Rattle.ftp_hub.specs.Stands.{options_of}
+use Rattle.ftp_event_text.specs.declared.setup.Item.{Item}
+use Rattle.ftp_script_text.specs.declared.script.ScriptReader.{ScriptReader}
+use Rattle.ftp_script_text.specs.Script.{IsScriptOf}
+use Rattle.ftp_script_text.specs.ScriptReader.{HasRead, ReadsAhead, StopsBehind, IsLetIn}
+use Rattle.ftp_script_text.proofs.Reading.{script-once}
+use Rattle.ftp_audit.specs.Heard.{AuditState, HasHeard, Stands}
+use Rattle.ftp_script_run.specs.declared.run.Run.{Run}
+use Rattle.ftp_script_run.specs.declared.status.Status.{Status}
+use Rattle.ftp_script_run.specs.declared.status.Status.TheVariants as status
+use Rattle.ftp_script_run.specs.Statuses.{ended_by}
+use Rattle.ftp_script_run.specs.Outcome.{bad_line}
+use Rattle.ftp_script_run.specs.Legal.{IsLegal}
+use Rattle.ftp_script_run.specs.Runs.{Keeps}
+use Rattle.ftp_script_run.specs.Audited.{IsNoted, Hearing, Reports, ReportsPart, behind_report, AuditsPart, AuditOutcome}
+use Rattle.ftp_script_run.proofs.RunLemmas.{kept-listed}
+use Rattle.ftp_script_run.proofs.Written.{front-more, front-longer}
+
+-- the log of a run is legal, by the options of its hub
+abbrev legal_log : (run : Run) (items : List Item) (log : List Entry) → Keeps run items log → IsLegal items log run.links run.storage
+legal_log run items log kept = record {
+  events = kept.events;
+  due = record {
+    options = options_of run.hub;
+    set = kept.hub.options;
+    right = kept.hub.stands.right;
+    acted = kept.hub.stands.acted;
+    led = kept.hub.led;
+  };
+  listed = kept-listed run items log kept;
+}
+
+-- the audit stands for the log of the run
+heard-stands : (run : Run) (items : List Item) (log : List Entry) (audit : AuditState) → Keeps run items log → HasHeard audit log → Stands (options_of run.hub) audit log
+heard-stands run items log audit kept heard = record { right = kept.hub.stands.right; acted = kept.hub.stands.acted; heard = heard }
+
+-- ---- reports
+
+-- a part of a report is a part of it with something behind it
+pub part-longer : (o : Options) (log : List Entry) (behind : List ℕ) (old new : Option (List ℕ)) → ReportsPart o log [] old new → ReportsPart o log behind old new
+part-longer o log behind old new (inl same) = inl same
+part-longer o log behind old new (inr part) =
+    inr (part.0, part.1, front-longer old new part.0 behind (subst (WritesFront old new) (append-nil part.0) part.2))
+
+-- a report, and then a part of what stands behind it
+pub part-more : (o : Options) (log : List Entry) (behind : List ℕ) (old now new : Option (List ℕ)) → Reports o log [] old now → WritesFront now new behind → ReportsPart o log behind old new
+part-more o log behind old now new report more =
+    inr (report.0, report.1, front-more old now new report.0 behind (subst (Writes old now) (append-nil report.0) report.2) more)
+
+-- ---- the steps
+
+-- one more item was read, and its entry was heard
+pub hearing-more : (all left later : Option (List ℕ)) (reader next : ScriptReader) (run after : Run) (audit heard : AuditState) (buffer out : List ℕ) (i : Item) (r : Hearing all reader run audit buffer left) →
+    IsLetIn r.items i next →
+    ((bytes : List ℕ) → HasRead r.items bytes reader buffer left → HasRead (r.items ++ i ∷ []) bytes next out later) →
+    IsNoted after (r.items ++ i ∷ []) r.log heard →
+    Hearing all next after heard out later
+hearing-more all left later reader next run after audit heard buffer out i r in_place told noted = record {
+  items = r.items ++ i ∷ [];
+  log = noted.0 ++ r.log;
+  known = in_place.1;
+  kept = noted.1;
+  heard = noted.2;
+  read = IfSome_then all r.read told;
+}
+
+-- nothing was written
+pub heard-memory : (failed : Type 0) (all left later old new : Option (List ℕ)) (reader : ScriptReader) (run : Run) (audit : AuditState) (buffer : List ℕ) (r : Hearing all reader run audit buffer left) →
+    ((bytes : List ℕ) → HasRead r.items bytes reader buffer left → ReadsAhead r.items bytes later) →
+    new ≡ old →
+    IfSome all (λ bytes. AuditsPart failed bytes later old new)
+heard-memory failed all left later old new reader run audit buffer r ahead same =
+    IfSome_then all r.read
+    (λ bytes h. record {
+      read = h.read;
+      rest = h.bytes;
+      items = r.items;
+      bad = None;
+      log = r.log;
+      all_is = h.all_is;
+      whole = h.whole;
+      script = h.items;
+      reads = ahead bytes h;
+      links = run.links;
+      storage = run.storage;
+      legal = legal_log run r.items r.log r.kept;
+      begun = inl same;
+      reported = inl same;
+    })
+
+-- all bytes were read, and the report was begun
+part-all : (failed : Type 0) (bytes : List ℕ) (later old new : Option (List ℕ)) (run : Run) (items : List Item) (log : List Entry) (bad : Option ℕ) →
+    IsScriptOf bytes items bad →
+    ReadsAhead items bytes later →
+    Keeps run items log →
+    ReportsPart (options_of run.hub) log (behind_report bad) old new →
+    AuditsPart failed bytes later old new
+part-all failed bytes later old new run items log bad script ahead kept part = record {
+  read = bytes;
+  rest = [];
+  items = items;
+  bad = bad;
+  log = log;
+  all_is = append-nil bytes;
+  whole = inr refl;
+  script = script;
+  reads = ahead;
+  links = run.links;
+  storage = run.storage;
+  legal = legal_log run items log kept;
+  begun = inr (inl refl);
+  reported = part;
+}
+
+-- the source has failed, and the report was begun
+part-failed : (failed : Type 0) (bytes : List ℕ) (left later old new : Option (List ℕ)) (reader : ScriptReader) (buffer : List ℕ) (run : Run) (items : List Item) (log : List Entry) →
+    failed →
+    HasRead items bytes reader buffer left →
+    ReadsAhead items bytes later →
+    Keeps run items log →
+    ReportsPart (options_of run.hub) log [] old new →
+    AuditsPart failed bytes later old new
+part-failed failed bytes left later old new reader buffer run items log risen h ahead kept part = record {
+  read = h.read;
+  rest = h.bytes;
+  items = items;
+  bad = None;
+  log = log;
+  all_is = h.all_is;
+  whole = h.whole;
+  script = h.items;
+  reads = ahead;
+  links = run.links;
+  storage = run.storage;
+  legal = legal_log run items log kept;
+  begun = inr (inr risen);
+  reported = part;
+}
+
+pub heard-end : (failed : Type 0) (all left later old new : Option (List ℕ)) (reader : ScriptReader) (run : Run) (audit : AuditState) (buffer : List ℕ) (last : Result Unit Failed) (r : Hearing all reader run audit buffer left) →
+    ((bytes : List ℕ) → HasRead r.items bytes reader buffer left → IsScriptOf bytes r.items None × (later ≡ Some [])) →
+    ((bytes : List ℕ) → HasRead r.items bytes reader buffer left → ReadsAhead r.items bytes later) →
+    OnOk last ((o : Options) (log : List Entry) → Stands o audit log → Reports o log [] old new) →
+    OnErr last ((o : Options) (log : List Entry) → Stands o audit log → ReportsPart o log [] old new) →
+    IfSome all (λ bytes. AuditOutcome (ended_by last status.Done) failed bytes later old new)
+heard-end failed all left later old new reader run audit buffer (Ok x) r told ahead wrote front =
+    IfSome_then all r.read
+    (λ bytes h. record {
+      items = r.items;
+      log = r.log;
+      script = (told bytes h).0;
+      end = (told bytes h).1;
+      links = run.links;
+      storage = run.storage;
+      legal = legal_log run r.items r.log r.kept;
+      reported = wrote (options_of run.hub) r.log (heard-stands run r.items r.log audit r.kept r.heard);
+    })
+heard-end failed all left later old new reader run audit buffer (Err Fault) r told ahead wrote front =
+    IfSome_then all r.read (λ bytes h. part-all failed bytes later old new run r.items r.log None (told bytes h).0 (ahead bytes h) r.kept (front (options_of run.hub) r.log (heard-stands run r.items r.log audit r.kept r.heard)))
+heard-end failed all left later old new reader run audit buffer (Err Memory) r told ahead wrote front =
+    IfSome_then all r.read (λ bytes h. part-all failed bytes later old new run r.items r.log None (told bytes h).0 (ahead bytes h) r.kept (front (options_of run.hub) r.log (heard-stands run r.items r.log audit r.kept r.heard)))
+
+pub heard-bad : (failed : Type 0) (all left later old new : Option (List ℕ)) (reader : ScriptReader) (run : Run) (audit : AuditState) (buffer : List ℕ) (k : ℕ) (last : Result Unit Failed) (r : Hearing all reader run audit buffer left) →
+    ((bytes : List ℕ) → HasRead r.items bytes reader buffer left → IsScriptOf bytes r.items (Some k)) →
+    ((bytes : List ℕ) → HasRead r.items bytes reader buffer left → ReadsAhead r.items bytes later) →
+    OnOk last ((o : Options) (log : List Entry) → Stands o audit log → Reports o log (bad_line k) old new) →
+    OnErr last ((o : Options) (log : List Entry) → Stands o audit log → ReportsPart o log (bad_line k) old new) →
+    IfSome all (λ bytes. AuditOutcome (ended_by last (status.BadLine k)) failed bytes later old new)
+heard-bad failed all left later old new reader run audit buffer k (Ok x) r told ahead wrote front =
+    IfSome_then all r.read
+    (λ bytes h. record {
+      items = r.items;
+      log = r.log;
+      script = told bytes h;
+      reads = ahead bytes h;
+      links = run.links;
+      storage = run.storage;
+      legal = legal_log run r.items r.log r.kept;
+      reported = wrote (options_of run.hub) r.log (heard-stands run r.items r.log audit r.kept r.heard);
+    })
+heard-bad failed all left later old new reader run audit buffer k (Err Fault) r told ahead wrote front =
+    IfSome_then all r.read (λ bytes h. part-all failed bytes later old new run r.items r.log (Some k) (told bytes h) (ahead bytes h) r.kept (front (options_of run.hub) r.log (heard-stands run r.items r.log audit r.kept r.heard)))
+heard-bad failed all left later old new reader run audit buffer k (Err Memory) r told ahead wrote front =
+    IfSome_then all r.read (λ bytes h. part-all failed bytes later old new run r.items r.log (Some k) (told bytes h) (ahead bytes h) r.kept (front (options_of run.hub) r.log (heard-stands run r.items r.log audit r.kept r.heard)))
+
+pub heard-fault : (failed : Type 0) (all left later old new : Option (List ℕ)) (reader : ScriptReader) (run : Run) (audit : AuditState) (buffer : List ℕ) (last : Result Unit Failed) (r : Hearing all reader run audit buffer left) →
+    failed →
+    ((bytes : List ℕ) → HasRead r.items bytes reader buffer left → StopsBehind r.items bytes later) →
+    ((bytes : List ℕ) → HasRead r.items bytes reader buffer left → ReadsAhead r.items bytes later) →
+    OnOk last ((o : Options) (log : List Entry) → Stands o audit log → Reports o log [] old new) →
+    OnErr last ((o : Options) (log : List Entry) → Stands o audit log → ReportsPart o log [] old new) →
+    IfSome all (λ bytes. AuditOutcome (ended_by last status.ReadFault) failed bytes later old new)
+heard-fault failed all left later old new reader run audit buffer (Ok x) r risen told ahead wrote front =
+    IfSome_then all r.read
+    (λ bytes h. record {
+      items = r.items;
+      log = r.log;
+      stopped = told bytes h;
+      links = run.links;
+      storage = run.storage;
+      legal = legal_log run r.items r.log r.kept;
+      reported = wrote (options_of run.hub) r.log (heard-stands run r.items r.log audit r.kept r.heard);
+    })
+heard-fault failed all left later old new reader run audit buffer (Err Fault) r risen told ahead wrote front =
+    IfSome_then all r.read (λ bytes h. part-failed failed bytes left later old new reader buffer run r.items r.log risen h (ahead bytes h) r.kept (front (options_of run.hub) r.log (heard-stands run r.items r.log audit r.kept r.heard)))
+heard-fault failed all left later old new reader run audit buffer (Err Memory) r risen told ahead wrote front =
+    IfSome_then all r.read (λ bytes h. part-failed failed bytes left later old new reader buffer run r.items r.log risen h (ahead bytes h) r.kept (front (options_of run.hub) r.log (heard-stands run r.items r.log audit r.kept r.heard)))
+
+-- ---- what a status says
+
+pub audited-of : (failed : Type 0) (all left old new : Option (List ℕ)) (s t : Status) → s ≡ t → IfSome all (λ bytes. AuditOutcome s failed bytes left old new) → IfSome all (λ bytes. AuditOutcome t failed bytes left old new)
+audited-of failed all left old new s t same h = subst (λ (u : Status). IfSome all (λ bytes. AuditOutcome u failed bytes left old new)) same h
+
+-- a source that failed later has failed since
+pub risen-earlier : (old now new : ℕ) → old ≤ now → HasRisen now new → now ≤ new → HasRisen old new
+risen-earlier old now new up risen more low = elim (cases_lt now (2 ^ 64 - 1)) [
+  | inl below ↦ omega (arith, up, risen below)
+  | inr last ↦ omega (arith, up, more, low, last)
+]
+
+part-earlier : (failed since : Type 0) (bytes : List ℕ) (left old new : Option (List ℕ)) → (failed → since) → AuditsPart failed bytes left old new → AuditsPart since bytes left old new
+part-earlier failed since bytes left old new f p = record {
+  read = p.read;
+  rest = p.rest;
+  items = p.items;
+  bad = p.bad;
+  log = p.log;
+  all_is = p.all_is;
+  whole = p.whole;
+  script = p.script;
+  reads = p.reads;
+  links = p.links;
+  storage = p.storage;
+  legal = p.legal;
+  begun = begun-earlier p.begun;
+  reported = p.reported;
+} where
+  begun-earlier : (new ≡ old) ⊎ ((p.rest ≡ []) ⊎ failed) → (new ≡ old) ⊎ ((p.rest ≡ []) ⊎ since)
+  begun-earlier (inl same) = inl same
+  begun-earlier (inr (inl all)) = inr (inl all)
+  begun-earlier (inr (inr risen)) = inr (inr (f risen))
+
+pub audited-earlier : (s : Status) (failed since : Type 0) (bytes : List ℕ) (left old new : Option (List ℕ)) → (failed → since) → AuditOutcome s failed bytes left old new → AuditOutcome s since bytes left old new
+audited-earlier status.Done failed since bytes left old new f out = out
+audited-earlier (status.BadLine k) failed since bytes left old new f out = out
+audited-earlier status.ReadFault failed since bytes left old new f out = out
+audited-earlier status.WriteFault failed since bytes left old new f out = part-earlier failed since bytes left old new f out
+audited-earlier status.OutOfMemory failed since bytes left old new f out = part-earlier failed since bytes left old new f out
+audited-earlier status.Usage failed since bytes left old new f out = out
+
+-- what the last step tells is so from the first on
+pub audit-ends : (all left now old new : Option (List ℕ)) (first since last : ℕ) (s : Status) →
+    first ≤ since →
+    since ≤ last →
+    now ≡ old →
+    IfSome all (λ bytes. AuditOutcome s (HasRisen since last) bytes left now new) →
+    IfSome all (λ bytes. AuditOutcome s (HasRisen first last) bytes left old new)
+audit-ends all left now old new first since last s up more same out =
+    IfSome_then all out
+    (λ bytes o. subst (λ (w : Option (List ℕ)). AuditOutcome s (HasRisen first last) bytes left w new) same
+    (audited-earlier s (HasRisen since last) (HasRisen first last) bytes left now new (λ risen. risen-earlier first since last up risen more) o))
+
+-- of a script that was audited while nothing failed, all was run
+pub audits_whole : (s : Status) (failed : Type 0) (bytes : List ℕ) (left old new : Option (List ℕ)) (items : List Item) →
+    AuditOutcome s failed bytes left old new →
+    IsScriptOf bytes items None →
+    (s ≡ status.ReadFault → ⊥) →
+    (s ≡ status.WriteFault → ⊥) →
+    (s ≡ status.Done) ⊎ (s ≡ status.OutOfMemory)
+audits_whole status.Done failed bytes left old new items out is no_read no_write = inl refl
+audits_whole (status.BadLine k) failed bytes left old new items out is no_read no_write =
+    let other : Some k ≡ None = (script-once bytes items out.items None (Some k) is out.script).1 in absurd cc
+audits_whole status.ReadFault failed bytes left old new items out is no_read no_write = absurd (no_read refl)
+audits_whole status.WriteFault failed bytes left old new items out is no_read no_write = absurd (no_write refl)
+audits_whole status.OutOfMemory failed bytes left old new items out is no_read no_write = inr refl
+audits_whole status.Usage failed bytes left old new items out is no_read no_write = absurd out
+
+-- and of other bytes the first bad line was named
+pub audits_to_bad : (s : Status) (k : ℕ) (failed : Type 0) (bytes : List ℕ) (left old new : Option (List ℕ)) (items : List Item) →
+    AuditOutcome s failed bytes left old new →
+    IsScriptOf bytes items (Some k) →
+    (s ≡ status.ReadFault → ⊥) →
+    (s ≡ status.WriteFault → ⊥) →
+    (s ≡ status.BadLine k) ⊎ (s ≡ status.OutOfMemory)
+audits_to_bad status.Done k failed bytes left old new items out is no_read no_write =
+    let other : None ≡ Some k = (script-once bytes items out.items (Some k) None is out.script).1 in absurd cc
+audits_to_bad (status.BadLine j) k failed bytes left old new items out is no_read no_write =
+    let same : Some j ≡ Some k = (script-once bytes items out.items (Some k) (Some j) is out.script).1 in inl cc
+audits_to_bad status.ReadFault k failed bytes left old new items out is no_read no_write = absurd (no_read refl)
+audits_to_bad status.WriteFault k failed bytes left old new items out is no_read no_write = absurd (no_write refl)
+audits_to_bad status.OutOfMemory k failed bytes left old new items out is no_read no_write = inr refl
+audits_to_bad status.Usage k failed bytes left old new items out is no_read no_write = absurd out

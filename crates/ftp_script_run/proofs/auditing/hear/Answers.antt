@@ -1,0 +1,97 @@
+use Rattle.std.proofs.Common.{◌≡◌, ◌∙◌, Option, Some, None, ap, refl, subst, sym}
+use Rattle.std.specs.Prelude.{Result, Ok, Err, IfOk, OnOk, IfSome}
+use Rattle.std.proofs.lemmas.Option.{IfSome_then}
+use Rattle.ftp_base.specs.Outside.{HasRisen}
+use Rattle.ftp_event_text.specs.declared.setup.Item.{Item}
+use Rattle.ftp_event_text.specs.Setup.{IsItem}
+use Rattle.ftp_script_text.specs.declared.script.ScriptError.{ScriptError}
+use Rattle.ftp_script_text.specs.declared.script.ScriptError.TheVariants as error
+use Rattle.ftp_script_text.specs.ScriptReader.{Answers, IsLetIn}
+use Rattle.ftp_script_run.specs.declared.status.Status.TheVariants as status
+use Rattle.ftp_script_run.specs.Statuses.{ended_by}
+use Rattle.ftp_script_run.proofs.Written.{if_none-then}
+use Rattle.ftp_script_run.proofs.OutcomeLemmas.{kept-set_up}
+use Rattle.ftp_script_run.proofs.AuditLemmas.{hearing-more, heard-memory, heard-end, heard-bad, heard-fault, audited-of}
+use Rattle.ftp_script_run.proofs.auditing.hear.Goals as goal
+
+abbrev Found : Type 0
+Found = Result (Option Item) ScriptError
+
+pub noted-requires : goal.noted-requires
+noted-requires g c =
+    let found : c.next_item.result ≡ Ok (Some c.in-Ok-Some.item) = c.in-Ok-Some.is ∙ ap Ok c.in-Ok-Some.field-0-is in
+    let r = c.requires.hearing.1 in
+    let placed = subst (λ (f : Found). IfOk f (λ o. IfSome o (λ i. IsLetIn r.items i c.next_item.new.self))) found (c.next_item.ensures.let_in r.items r.known (kept-set_up c.args.run.now r.items r.log c.storage.result.now r.kept c.storage.ensures)) in
+    (subst (λ (f : Found). IfOk f (λ o. IfSome o IsItem)) found c.next_item.ensures.item, (r.items, r.log, r.kept, placed.0))
+
+pub returns-in-Ok-Some-clause-goes_on : goal.returns-in-Ok-Some-clause-goes_on
+returns-in-Ok-Some-clause-goes_on g c =
+    let found : c.next_item.result ≡ Ok (Some c.in-Ok-Some.item) = c.in-Ok-Some.is ∙ ap Ok c.in-Ok-Some.field-0-is in
+    let left = g.S.Source.left c.args.source.now in
+    let later = g.S.Source.left c.next_item.new.source in
+    if_none-then c.noted.result c.noted.ensures.noted (λ noted all r.
+    let placed = subst (λ (f : Found). IfOk f (λ o. IfSome o (λ i. IsLetIn r.items i c.next_item.new.self))) found (c.next_item.ensures.let_in r.items r.known (kept-set_up c.args.run.now r.items r.log c.storage.result.now r.kept c.storage.ensures)) in
+    hearing-more all left later c.args.reader.now c.next_item.new.self c.args.run.now c.noted.new.run c.args.audit.now c.noted.new.audit c.args.buffer.now c.next_item.new.buffer c.in-Ok-Some.item r
+    placed
+    (λ bytes h. subst (λ (f : Found). Answers r.items bytes f c.next_item.new.self c.next_item.new.buffer later) found (c.next_item.ensures.told r.items bytes h (kept-set_up c.args.run.now r.items r.log c.storage.result.now r.kept c.storage.ensures)))
+    (noted r.items r.log r.kept placed.0 r.heard))
+
+pub returns-in-Ok-Some-clause-ended : goal.returns-in-Ok-Some-clause-ended
+returns-in-Ok-Some-clause-ended g c =
+    let later = g.S.Source.left c.next_item.new.source in
+    let risen = HasRisen (g.S.Source.faults c.args.source.now) (g.S.Source.faults c.next_item.new.source) in
+    let written = g.K.Sink.written c.args.sink.now in
+    IfSome_then c.noted.result c.noted.ensures.only_memory (λ s e all r.
+    audited-of risen all later written written status.OutOfMemory s (sym e)
+    (heard-memory risen all (g.S.Source.left c.args.source.now) later written written c.args.reader.now c.args.run.now c.args.audit.now c.args.buffer.now r
+    (λ bytes h. c.next_item.ensures.ahead r.items bytes h)
+    refl))
+
+pub returns-in-Ok-None-clause-ended : goal.returns-in-Ok-None-clause-ended
+returns-in-Ok-None-clause-ended g c =
+    let found : c.next_item.result ≡ Ok None = c.in-Ok-None.is ∙ ap Ok c.in-Ok-None.field-0-is in
+    let later = g.S.Source.left c.next_item.new.source in
+    let risen = HasRisen (g.S.Source.faults c.args.source.now) (g.S.Source.faults c.next_item.new.source) in
+    let old = g.K.Sink.written c.args.sink.now in
+    let new = g.K.Sink.written c.write_report.new.sink in
+    λ all r.
+    audited-of risen all later old new (ended_by c.write_report.result status.Done) c.after.result (sym c.after.ensures)
+    (heard-end risen all (g.S.Source.left c.args.source.now) later old new c.args.reader.now c.args.run.now c.args.audit.now c.args.buffer.now c.write_report.result r
+    (λ bytes h. subst (λ (f : Found). Answers r.items bytes f c.next_item.new.self c.next_item.new.buffer later) found (c.next_item.ensures.told r.items bytes h (kept-set_up c.args.run.now r.items r.log c.storage.result.now r.kept c.storage.ensures)))
+    (λ bytes h. c.next_item.ensures.ahead r.items bytes h)
+    c.write_report.ensures.wrote c.write_report.ensures.front)
+
+pub returns-in-Err-BadLine-clause-ended : goal.returns-in-Err-BadLine-clause-ended
+returns-in-Err-BadLine-clause-ended g c =
+    let found : c.next_item.result ≡ Err (error.BadLine c.in-Err-BadLine.k) = c.in-Err-BadLine.is ∙ ap Err c.in-Err-BadLine.field-0-is in
+    let later = g.S.Source.left c.next_item.new.source in
+    let risen = HasRisen (g.S.Source.faults c.args.source.now) (g.S.Source.faults c.next_item.new.source) in
+    let old = g.K.Sink.written c.args.sink.now in
+    let new = g.K.Sink.written c.write_to.new.sink in
+    λ all r.
+    audited-of risen all later old new (ended_by c.write_to.result (status.BadLine c.in-Err-BadLine.k)) c.after-in-Err-BadLine.result (sym c.after-in-Err-BadLine.ensures)
+    (heard-bad risen all (g.S.Source.left c.args.source.now) later old new c.args.reader.now c.args.run.now c.args.audit.now c.args.buffer.now c.in-Err-BadLine.k c.write_to.result r
+    (λ bytes h. subst (λ (f : Found). Answers r.items bytes f c.next_item.new.self c.next_item.new.buffer later) found (c.next_item.ensures.told r.items bytes h (kept-set_up c.args.run.now r.items r.log c.storage.result.now r.kept c.storage.ensures)))
+    (λ bytes h. c.next_item.ensures.ahead r.items bytes h)
+    c.write_to.ensures.wrote c.write_to.ensures.front)
+
+pub returns-in-Err-Fault-clause-ended : goal.returns-in-Err-Fault-clause-ended
+returns-in-Err-Fault-clause-ended g c =
+    let found : c.next_item.result ≡ Err error.Fault = c.in-Err-Fault.is ∙ ap Err c.in-Err-Fault.field-0-is in
+    let later = g.S.Source.left c.next_item.new.source in
+    let risen = HasRisen (g.S.Source.faults c.args.source.now) (g.S.Source.faults c.next_item.new.source) in
+    let old = g.K.Sink.written c.args.sink.now in
+    let new = g.K.Sink.written c.write_report-in-Err-Fault.new.sink in
+    λ all r.
+    audited-of risen all later old new (ended_by c.write_report-in-Err-Fault.result status.ReadFault) c.after-in-Err-Fault.result (sym c.after-in-Err-Fault.ensures)
+    (heard-fault risen all (g.S.Source.left c.args.source.now) later old new c.args.reader.now c.args.run.now c.args.audit.now c.args.buffer.now c.write_report-in-Err-Fault.result r
+    (c.next_item.ensures.fault_rose found)
+    (λ bytes h. subst (λ (f : Found). Answers r.items bytes f c.next_item.new.self c.next_item.new.buffer later) found (c.next_item.ensures.told r.items bytes h (kept-set_up c.args.run.now r.items r.log c.storage.result.now r.kept c.storage.ensures)))
+    (λ bytes h. c.next_item.ensures.ahead r.items bytes h)
+    c.write_report-in-Err-Fault.ensures.wrote c.write_report-in-Err-Fault.ensures.front)
+
+pub returns-in-Err-Memory-clause-ended : goal.returns-in-Err-Memory-clause-ended
+returns-in-Err-Memory-clause-ended g c = λ all r.
+    heard-memory _ all (g.S.Source.left c.args.source.now) (g.S.Source.left c.next_item.new.source) (g.K.Sink.written c.args.sink.now) (g.K.Sink.written c.args.sink.now) c.args.reader.now c.args.run.now c.args.audit.now c.args.buffer.now r
+    (λ bytes h. c.next_item.ensures.ahead r.items bytes h)
+    refl

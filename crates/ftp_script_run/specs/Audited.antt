@@ -1,0 +1,120 @@
+-- What an audit of a script has read and written, by the status of its run.
+use Rattle.std.specs.Prelude.{◌≡◌, ℕ, ◌⊎◌, List, [], ◌∷◌, ◌++◌, Option, Some, None, IfSome}
+use Rattle.std.specs.List.{flat_map}
+use Rattle.ftp_base.specs.LinkTable.{Numbered}
+use Rattle.ftp_base.specs.Memory.{LinkState}
+use Rattle.ftp_base.specs.MemoryStorage.{MemoryState}
+use Rattle.ftp_base.specs.Outside.{Writes}
+use Rattle.ftp_options.specs.declared.options.Options.{Options}
+use Rattle.ftp_events.specs.declared.entry.Entry.{Entry}
+use Rattle.ftp_lines.specs.Writing.{WritesFront}
+use Rattle.ftp_event_text.specs.declared.setup.Item.{Item}
+use Rattle.ftp_script_text.specs.declared.script.ScriptReader.{ScriptReader}
+use Rattle.ftp_script_text.specs.Script.{IsScriptOf}
+use Rattle.ftp_script_text.specs.ScriptReader.{AreWhole, Follows, HasRead, ReadsAhead, StopsBehind}
+use Rattle.ftp_sums.specs.declared.total.Total.{Total}
+use Rattle.ftp_sums.specs.Listing.{IsListing, row_line}
+use Rattle.ftp_audit.specs.Heard.{AuditState, HasHeard, total_in}
+use Rattle.ftp_script_run.specs.declared.run.Run.{Run}
+use Rattle.ftp_script_run.specs.declared.status.Status.{Status}
+use Rattle.ftp_script_run.specs.declared.status.Status.TheVariants as status
+use Rattle.ftp_script_run.specs.Legal.{IsLegal}
+use Rattle.ftp_script_run.specs.Outcome.{bad_line}
+use Rattle.ftp_script_run.specs.Runs.{Keeps}
+
+-- ---- while it goes on
+
+-- an item was taken behind others, and the audit has heard the entries that came
+abbrev pub IsNoted : Run → List Item → List Entry → AuditState → Type 0
+IsNoted run items log audit = (entries : List Entry) × Keeps run items (entries ++ log) × HasHeard audit (entries ++ log)
+
+-- items were read and their log was heard, on the way through these bytes, where they are told
+pub record Hearing (all : Option (List ℕ)) (reader : ScriptReader) (run : Run) (audit : AuditState) (buffer : List ℕ) (left : Option (List ℕ)) : Type 0 where
+  pub items : List Item
+  pub log : List Entry
+  pub known : Follows reader items
+  pub kept : Keeps run items log
+  pub heard : HasHeard audit log
+  pub read : IfSome all (λ bytes. HasRead items bytes reader buffer left)
+
+-- ---- what is written
+
+-- a line for each user whom the notifications of the log name, in byte order of names, with the sums of what was decided
+abbrev pub IsReport : Options → List Entry → List ℕ → Type 0
+IsReport o log text = (rows : List (List ℕ × Total)) × IsListing (total_in o log) rows × (text ≡ flat_map row_line rows)
+
+-- the report on the log was written, and these bytes behind it
+abbrev pub Reports : Options → List Entry → List ℕ → Option (List ℕ) → Option (List ℕ) → Type 0
+Reports o log behind old new = (text : List ℕ) × IsReport o log text × Writes old new (text ++ behind)
+
+-- nothing was written, or a part from the front of the report on the log and of these bytes behind it
+abbrev pub ReportsPart : Options → List Entry → List ℕ → Option (List ℕ) → Option (List ℕ) → Type 0
+ReportsPart o log behind old new = (new ≡ old) ⊎ ((text : List ℕ) × IsReport o log text × WritesFront old new (text ++ behind))
+
+-- what stands behind a report: the line that names a bad line, or nothing
+abbrev pub behind_report : Option ℕ → List ℕ
+behind_report (Some k) = bad_line k
+behind_report None = []
+
+-- ---- how it ends
+
+-- all bytes are a script, and are read; the report on its legal log was written, and nothing else
+pub record IsAudited (bytes : List ℕ) (left old new : Option (List ℕ)) : Type 0 where
+  pub items : List Item
+  pub log : List Entry
+  pub script : IsScriptOf bytes items None
+  pub end : left ≡ Some []
+  pub links : Numbered LinkState
+  pub storage : MemoryState
+  pub legal : IsLegal items log links storage
+  pub reported : Reports legal.due.options log [] old new
+
+-- line k is the first bad one; behind the lines before it at most one buffer was taken from the source; the report on the legal
+-- log of these lines was written, and the line that names the bad one
+pub record IsAuditedTo (k : ℕ) (bytes : List ℕ) (left old new : Option (List ℕ)) : Type 0 where
+  pub items : List Item
+  pub log : List Entry
+  pub script : IsScriptOf bytes items (Some k)
+  pub reads : ReadsAhead items bytes left
+  pub links : Numbered LinkState
+  pub storage : MemoryState
+  pub legal : IsLegal items log links storage
+  pub reported : Reports legal.due.options log (bad_line k) old new
+
+-- whole lines were read, and of the line behind them a part, at most one buffer; exactly the report on the legal log of the
+-- whole lines was written
+pub record AuditsWhole (bytes : List ℕ) (left old new : Option (List ℕ)) : Type 0 where
+  pub items : List Item
+  pub log : List Entry
+  pub stopped : StopsBehind items bytes left
+  pub links : Numbered LinkState
+  pub storage : MemoryState
+  pub legal : IsLegal items log links storage
+  pub reported : Reports legal.due.options log [] old new
+
+-- a part from the front of the whole output was written, as a front of whole lines tells it; nothing, unless these are all
+-- lines, or the source has failed
+pub record AuditsPart (failed : Type 0) (bytes : List ℕ) (left old new : Option (List ℕ)) : Type 0 where
+  pub read : List ℕ
+  pub rest : List ℕ
+  pub items : List Item
+  pub bad : Option ℕ
+  pub log : List Entry
+  pub all_is : read ++ rest ≡ bytes
+  pub whole : AreWhole read rest
+  pub script : IsScriptOf read items bad
+  pub reads : ReadsAhead items bytes left
+  pub links : Numbered LinkState
+  pub storage : MemoryState
+  pub legal : IsLegal items log links storage
+  pub begun : (new ≡ old) ⊎ ((rest ≡ []) ⊎ failed)
+  pub reported : ReportsPart legal.due.options log (behind_report bad) old new
+
+-- what was read of these bytes and what was written, by the status, where a source may have failed
+abbrev pub AuditOutcome : Status → Type 0 → List ℕ → Option (List ℕ) → Option (List ℕ) → Option (List ℕ) → Type 0
+AuditOutcome status.Done failed bytes left old new = IsAudited bytes left old new
+AuditOutcome (status.BadLine k) failed bytes left old new = IsAuditedTo k bytes left old new
+AuditOutcome status.ReadFault failed bytes left old new = AuditsWhole bytes left old new
+AuditOutcome status.WriteFault failed bytes left old new = AuditsPart failed bytes left old new
+AuditOutcome status.OutOfMemory failed bytes left old new = AuditsPart failed bytes left old new
+AuditOutcome status.Usage failed bytes left old new = ⊥
