@@ -3,6 +3,7 @@
 use ftp_base::{MemorySink, MemorySource};
 use ftp_script_run::{Status, run_script};
 use std::alloc::{AllocError, Global};
+use std::process::Abort;
 use std::test::Fail;
 
 /// How an audit of a script ends and what it prints.
@@ -83,11 +84,24 @@ const AUDITS: [(&str, Status, &str); 5] = [
     ),
 ];
 
+/// An audit of the script ends so, and has printed these lines.
+fn prints(
+    rt: &impl Abort,
+    alloc: Global,
+    script: &str,
+    ends: Status,
+    lines: &str,
+) -> Result<(), AllocError> {
+    let (status, printed) = audit(alloc, script)?;
+    assert_eq!(rt; status, ends);
+    assert_eq!(rt; printed.as_slice(), lines.as_bytes());
+    Ok(())
+}
+
 #[test]
 fn an_audit_has_a_line_for_each_user(rt: HostRuntime) -> Result<(), Fail> {
     for (script, ends, lines) in AUDITS {
-        let (status, printed) = audit(rt.alloc(), script)?;
-        assert_eq!(rt; (status, printed.as_slice()), (ends, lines.as_bytes()));
+        prints(&rt, rt.alloc(), script, ends, lines)?;
     }
     Ok(())
 }
