@@ -1,0 +1,15 @@
+use denote.Param.Send.{param_send}
+use Rattle.ftp_listen.proofs.single.fn.serve_inside.join+arg3.Goals as goal
+
+-- what the closure requires of the types of its server is what the call does
+pub spawn_on-requires-send-L : goal.spawn_on-requires-send-L
+spawn_on-requires-send-L g c κs within = param_send 1 _ c.requires.1.1.1.1.1.1.1.1.1.1.0
+
+pub spawn_on-requires-send-A : goal.spawn_on-requires-send-A
+spawn_on-requires-send-A g c κs within = param_send 2 _ c.requires.1.1.1.1.1.1.1.1.1.1.2
+
+pub spawn_on-requires-send-N : goal.spawn_on-requires-send-N
+spawn_on-requires-send-N g c κs within = param_send 3 _ c.requires.1.1.1.1.1.1.1.1.1.1.3
+
+pub spawn_on-requires-send-S : goal.spawn_on-requires-send-S
+spawn_on-requires-send-S g c κs within = param_send 4 _ c.requires.1.1.1.1.1.1.1.1.1.1.4
