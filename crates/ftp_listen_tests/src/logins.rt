@@ -140,7 +140,7 @@ fn lock_and_wait<R: Net<Stream = TcpStream> + Clock>(
     board.leap.store(LEAP, Ordering::SeqCst);
     let polls = board.polls.load(Ordering::SeqCst);
     for _ in 0..LOOKS {
-        if board.polls.load(Ordering::SeqCst) > polls + 2 {
+        if board.polls.load(Ordering::SeqCst).saturating_sub(polls) > 2 {
             break;
         }
         thread::sleep(rt, Duration::from_millis(10));
