@@ -1,6 +1,6 @@
 //! Both directions of a connection in memory.
 
-ghost use Rattle.std.specs.Prelude.{◌≡◌, ◌↔◌, ◌<◌, ◌≤◌, [], ◌++◌, true, false, IsTrue, min, length, take, Some, None, refl, IsSome, IfOk, IfErr, OnOk, OnErr, IsErrOf, IsPermutation};
+ghost use Rattle.std.specs.Prelude.{◌≡◌, ◌↔◌, ◌<◌, ◌≤◌, [], ◌++◌, true, false, IsTrue, min, length, take, Some, None, refl, IsSome, IsOk, IfOk, IfErr, OnOk, OnErr, IsErrOf, IsPermutation};
 ghost use Rattle.ftp_base.specs.declared.fault.Failed.TheVariants.{Fault, Memory};
 ghost use Rattle.ftp_base.specs.declared.fault.LinkFault.{LinkFault};
 ghost use Rattle.ftp_base.specs.Calls.{rises_above, after_call, after_fault, NoneFailed};
@@ -166,6 +166,13 @@ impl Link for MemoryLink {
         };
         self.calls.count_call();
         Ok(n)
+    }
+
+    fn flush(&mut self) -> Result<(), Failed>
+        ensures ok { IsOk result }
+        ensures unchanged { self.new ≡ self.old }
+    {
+        Ok(())
     }
 
     fn close(&mut self) -> Result<(), Failed>

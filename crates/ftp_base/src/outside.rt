@@ -102,6 +102,19 @@ pub trait Link: Source {
         ensures unchanged { OnErr result ((Self.sending self.new).sent ≡ (Self.sending self.old).sent) }
         ensures only_sends { OnlySends Self.left Self.sending Self.faults Self.fault_limit self.old self.new };
 
+    /// Sends what was gathered of the bytes that writes took.
+    fn flush(&mut self) -> Result<(), Failed>
+        ensures last_fault { OnOk result ((Self.sending self.new).last_fault ≡ (Self.sending self.old).last_fault) }
+        ensures only_fault { IfErr result (λ e. e ≡ Fault) }
+        ensures met { OnErr result (IsSome (Self.sending self.new).last_fault) }
+        ensures fault_rose { OnErr result (HasRisen (Self.faults self.old) (Self.faults self.new)) }
+
+        // It is none of the calls that are counted: where they are told, it does not fail.
+        ensures as_listed { OnErr result (LinkMet (Self.calls self.old) (Self.calls self.new) (Self.sending self.new).last_fault) }
+        ensures uncounted { Self.calls self.new ≡ Self.calls self.old }
+        ensures unchanged { (Self.sending self.new).sent ≡ (Self.sending self.old).sent }
+        ensures only_sends { OnlySends Self.left Self.sending Self.faults Self.fault_limit self.old self.new };
+
     /// Closes both directions. What was sent and what is left to be read stay as they are.
     fn close(&mut self) -> Result<(), Failed>
         ensures closed { OnOk result ((Self.sending self.new).closed ≡ true) }
