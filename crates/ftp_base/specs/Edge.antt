@@ -3,7 +3,7 @@
 --   Meaning    which answers a call may give
 --   next_x     what the next call gives, by the list of its answers
 --   behind_x   the lists after a call that took its answer
-use Rattle.std.specs.Prelude.{◌≡◌, ℕ, ◌-◌, ◌+◌, ◌^◌, ◌<◌, ◌≤◌, Bool, true, false, List, [], ◌∷◌, drop, slice_index, Option, Some, None, IfSome}
+use Rattle.std.specs.Prelude.{◌≡◌, ℕ, ◌-◌, ◌+◌, ◌^◌, ◌<◌, ◌≤◌, Bool, true, false, List, [], ◌∷◌, drop, min, slice_index, Option, Some, None, IfSome}
 use Rattle.ftp_base.specs.declared.net.SocketAddr.{SocketAddr}
 
 -- what is still to come, in the order of the calls; behind the end of a list comes 0, none or false
@@ -25,20 +25,23 @@ pub record Meaning : Type 0 where
 abbrev pub any_answer : Meaning
 any_answer = record { names = λ name answer. true; ports = λ lo hi answer. true; connects = λ to number answer. true }
 
--- an edge as callers see it: its lists, where they are told, the answers that may come, and how many calls failed
+-- an edge as callers see it: its lists, where they are told, the answers that may come, how many calls failed, and how
+-- many milliseconds were paused
 pub record EdgeView : Type 0 where
   pub feed : Option Feed
   pub meaning : Meaning
   pub faults : ℕ
+  pub paused : ℕ
 
--- an edge in memory: its lists, and how many calls failed
+-- an edge in memory: its lists, how many calls failed, and how many milliseconds were paused
 pub record EdgeState : Type 0 where
   pub feed : Feed
   pub faults : ℕ
+  pub paused : ℕ
 
 -- an edge in memory as other callers see it: it tells its lists, and every answer may come
 abbrev pub edge_view : EdgeState → EdgeView
-edge_view e = record { feed = Some e.feed; meaning = any_answer; faults = e.faults }
+edge_view e = record { feed = Some e.feed; meaning = any_answer; faults = e.faults; paused = e.paused }
 
 -- the next number of a list
 abbrev pub next_number : List ℕ → ℕ
@@ -79,6 +82,10 @@ pub record Takes (after : Feed → Feed) (old new : EdgeView) : Type 0 where
   pub feed : IfSome old.feed (λ f. new.feed ≡ Some (after f))
   pub meaning : new.meaning ≡ old.meaning
   pub count : old.faults ≤ new.faults
+
+-- a count of milliseconds after a pause; at its last value it stands still
+abbrev pub after_pause : ℕ → ℕ → ℕ
+after_pause millis paused = min (paused + millis) (2 ^ 64 - 1)
 
 -- n answers failed; a count that stands at its last value sets no bound
 abbrev pub IsCounted : ℕ → ℕ → ℕ → Type 0

@@ -2,7 +2,7 @@
 
 ghost use Rattle.std.specs.Prelude.{◌≡◌, true, false, None, is_none, not, if◌then◌else◌};
 ghost use Rattle.ftp_base.specs.Calls.{one_more};
-ghost use Rattle.ftp_base.specs.Edge.{edge_view, next_number, next_answer, next_connect, behind_moment, behind_word, behind_lookup, behind_port, behind_connect};
+ghost use Rattle.ftp_base.specs.Edge.{edge_view, next_number, next_answer, next_connect, behind_moment, behind_word, behind_lookup, behind_port, behind_connect, after_pause};
 
 use crate::bytes::Bytes;
 use crate::coming::Coming;
@@ -21,6 +21,7 @@ pub struct MemoryEdge {
     ports: Coming<Option<u16>>,
     connects: Coming<bool>,
     faults: u64,
+    paused: u64,
 }
 
 impl Model for MemoryEdge {
@@ -31,6 +32,7 @@ impl Model for MemoryEdge {
     ghost view = { λ e. record {
       feed = record { moments = e.moments; words = e.words; lookups = e.lookups; ports = e.ports; connects = e.connects };
       faults = e.faults;
+      paused = e.paused;
     } };
 }
 
@@ -48,6 +50,7 @@ impl MemoryEdge {
         ensures ports { result.feed.ports ≡ ports.items }
         ensures connects { result.feed.connects ≡ connects.items }
         ensures no_fault { result.faults ≡ 0 }
+        ensures unpaused { result.paused ≡ 0 }
     {
         MemoryEdge {
             words: Coming::new(words),
@@ -56,6 +59,7 @@ impl MemoryEdge {
             ports: Coming::new(ports),
             connects: Coming::new(connects),
             faults: 0,
+            paused: 0,
         }
     }
 
@@ -64,6 +68,13 @@ impl MemoryEdge {
         ensures { result ≡ self.now.faults }
     {
         self.faults
+    }
+
+    /// How many milliseconds were paused. At its last value the count stands still.
+    pub fn paused(&self) -> u64
+        ensures { result ≡ self.now.paused }
+    {
+        self.paused
     }
 
     // Counts a call that failed.
@@ -100,6 +111,7 @@ impl Edge for MemoryEdge {
     fn lookup(&mut self, _name: &Bytes) -> Option<u32>
         ensures next { result ≡ next_answer self.old.feed.lookups }
         ensures taken { self.new.feed ≡ behind_lookup self.old.feed }
+        ensures unpaused { self.new.paused ≡ self.old.paused }
         ensures fault_counted { self.new.faults ≡ (if is_none result then one_more self.old.faults else self.old.faults) }
     {
         match self.lookups.next() {
@@ -114,6 +126,7 @@ impl Edge for MemoryEdge {
     fn bind(&mut self, _lo: u16, _hi: u16) -> Option<u16>
         ensures next { result ≡ next_answer self.old.feed.ports }
         ensures taken { self.new.feed ≡ behind_port self.old.feed }
+        ensures unpaused { self.new.paused ≡ self.old.paused }
         ensures fault_counted { self.new.faults ≡ (if is_none result then one_more self.old.faults else self.old.faults) }
     {
         match self.ports.next() {
@@ -128,6 +141,7 @@ impl Edge for MemoryEdge {
     fn connect(&mut self, _to: SocketAddr, _number: u64) -> bool
         ensures next { result ≡ next_connect self.old.feed.connects }
         ensures taken { self.new.feed ≡ behind_connect self.old.feed }
+        ensures unpaused { self.new.paused ≡ self.old.paused }
         ensures fault_counted { self.new.faults ≡ (if result then self.old.faults else one_more self.old.faults) }
     {
         match self.connects.next() {
@@ -139,7 +153,9 @@ impl Edge for MemoryEdge {
         }
     }
 
-    fn pause(&mut self, _millis: u64)
-        ensures unchanged { self.new ≡ self.old }
-    {}
+    fn pause(&mut self, millis: u64)
+        ensures counted { self.new ≡ record self.old { paused = after_pause millis self.old.paused } }
+    {
+        self.paused = self.paused.saturating_add(millis);
+    }
 }
