@@ -21,6 +21,8 @@ mod proxy;
 #[cfg(test)]
 mod storage;
 #[cfg(test)]
+mod stuck;
+#[cfg(test)]
 mod switchboard;
 #[cfg(test)]
 mod transfers;

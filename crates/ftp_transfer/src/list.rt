@@ -13,7 +13,7 @@ ghost use Rattle.ftp_transfer.specs.Turn.{StopsListing, listing_end, result_of, 
 
 use crate::job::{Completion, Job};
 use crate::listing::listing_text;
-use crate::send::send;
+use crate::send::send_out;
 use crate::turn::{Turn, stopped_by};
 use ftp_base::{DataChanCmd, ErrorKind, Failed, FileInfo, Link, Storage, StoreError};
 use std::alloc::Global;
@@ -93,7 +93,7 @@ fn send_text<L: Link>(text: &[u8], moved: u64, link: &mut L) -> Turn
     ensures link_well { fault_of result.end ≡ None → AllWell (λ call. call.0) (L.calls link.old) (L.calls link.new) }
 {
     let room = listing_room(text.len(), moved);
-    let sending = send(link, &text[..room]);
+    let sending = send_out(link, &text[..room]);
     let sent = sending.sent as u64;
     match sending.stopped {
         None if moved + sent == u64::MAX => {

@@ -18,7 +18,7 @@ use crate::send::send;
 use crate::turn::{PIECE_LEN, Turn, piece_room, stopped_by};
 use ftp_base::{ErrorKind, Failed, Link, Storage, StoreError};
 
-/// Sends what one read of the file gives, from where earlier pieces ended; past the end nothing.
+/// Sends what one read of the file gives, from where earlier pieces ended; past the end what the link gathered.
 pub fn retrieve<S: Storage, L: Link>(
     job: &Job,
     buffer: &mut [u8],
@@ -59,7 +59,14 @@ pub fn retrieve<S: Storage, L: Link>(
     let room = piece_room(job.done);
     match read_next(job, &mut buffer[..room], storage) {
         Ok(0) if room == 0 => Turn::last(0, Completion::Refused(ErrorKind::LocalError), None),
-        Ok(0) => Turn::last(0, Completion::Sent, None),
+        Ok(0) => match link.flush() {
+            Ok(()) => Turn::last(0, Completion::Sent, None),
+            Err(_) => Turn::last(
+                0,
+                Completion::Refused(ErrorKind::ConnectionClosed),
+                link.last_fault(),
+            ),
+        },
         Ok(n) => send_read(link, &buffer[..n]),
         Err(error) => Turn::last(0, stopped_by(error), None),
     }

@@ -16,6 +16,31 @@ pub struct SendResult {
     pub stopped: Option<Failed>,
 }
 
+/// Sends bytes until all of them went, or the link does not take more, and then what the link gathered of them.
+pub fn send_out<L: Link>(link: &mut L, bytes: &[u8]) -> SendResult
+    ensures within { result.sent ≤ length bytes.now }
+    ensures all { result.stopped ≡ None → result.sent ≡ length bytes.now }
+    ensures wrote { Writes (L.sending link.old).sent (L.sending link.new).sent (take result.sent bytes.now) }
+    ensures only_sends { OnlySends L.left L.sending L.faults L.fault_limit link.old link.new }
+    ensures last_fault { result.stopped ≢ Some Fault → (L.sending link.new).last_fault ≡ (L.sending link.old).last_fault }
+    ensures met { result.stopped ≡ Some Fault → IsSome (L.sending link.new).last_fault }
+    ensures fault_rose { result.stopped ≡ Some Fault → LinkRose (L.faults link.old) (L.faults link.new) (L.calls link.old) (L.calls link.new) (L.sending link.new).last_fault }
+    ensures link_well { result.stopped ≢ Some Fault → AllWell (λ call. call.0) (L.calls link.old) (L.calls link.new) }
+    ensures no_memory { L.takes_memory ≡ false → result.stopped ≡ Some Memory → ⊥ }
+{
+    let sending = send(link, bytes);
+    if sending.stopped.is_some() {
+        return sending;
+    }
+    match link.flush() {
+        Ok(()) => sending,
+        Err(failed) => SendResult {
+            sent: sending.sent,
+            stopped: Some(failed),
+        },
+    }
+}
+
 /// Sends bytes from the front until all of them went, or the link does not take more.
 pub fn send<L: Link>(link: &mut L, bytes: &[u8]) -> SendResult
     ensures within { result.sent ≤ length bytes.now }
