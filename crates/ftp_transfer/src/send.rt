@@ -1,10 +1,11 @@
 //! Bytes that are sent whole.
 
-ghost use Rattle.std.specs.Prelude.{◌≡◌, ◌≢◌, ◌≤◌, false, length, take, Some, None, IsSome};
+ghost use Rattle.std.specs.Prelude.{◌≡◌, ◌≢◌, ◌<◌, ◌≤◌, true, false, length, take, Some, None, IsSome, IfOk, OnOk, OnErr, IsErrOf};
 ghost use Rattle.ftp_base.specs.declared.fault.Failed.TheVariants.{Fault, Memory};
 ghost use Rattle.ftp_base.specs.Calls.{AllWell};
 ghost use Rattle.ftp_base.specs.Kept.{OnlySends};
-ghost use Rattle.ftp_base.specs.Outside.{Writes};
+ghost use Rattle.ftp_base.specs.Memory.{LinkMet};
+ghost use Rattle.ftp_base.specs.Outside.{HasRisen, Writes};
 ghost use Rattle.ftp_transfer.specs.Run.{LinkRose};
 
 use ftp_base::{Failed, Link};
@@ -55,7 +56,7 @@ pub fn send<L: Link>(link: &mut L, bytes: &[u8]) -> SendResult
 {
     let mut sent = 0;
     while sent < bytes.len() {
-        match link.write(&bytes[sent..]) {
+        match send_some(link, &bytes[sent..]) {
             Ok(n) => sent += n,
             Err(failed) => {
                 return SendResult {
@@ -69,4 +70,25 @@ pub fn send<L: Link>(link: &mut L, bytes: &[u8]) -> SendResult
         sent,
         stopped: None,
     }
+}
+
+/// Sends bytes from the front, at least one of them, and says how many.
+fn send_some<L: Link>(link: &mut L, bytes: &[u8]) -> Result<usize, Failed>
+    requires left { 0 < length bytes.now }
+
+    ensures within { IfOk result (λ n. n ≤ length bytes.now) }
+    ensures some { IfOk result (λ n. 0 < n) }
+    ensures wrote { IfOk result (λ n. Writes (L.sending link.old).sent (L.sending link.new).sent (take n bytes.now)) }
+    ensures last_fault { OnOk result ((L.sending link.new).last_fault ≡ (L.sending link.old).last_fault) }
+    ensures met { IsErrOf result Fault → IsSome (L.sending link.new).last_fault }
+    ensures fault_rose { IsErrOf result Fault → HasRisen (L.faults link.old) (L.faults link.new) }
+    ensures takes_memory { IsErrOf result Memory → L.takes_memory ≡ true }
+    ensures unlisted { OnOk result (AllWell (λ call. call.0) (L.calls link.old) (L.calls link.new)) }
+    ensures as_listed { IsErrOf result Fault → LinkMet (L.calls link.old) (L.calls link.new) (L.sending link.new).last_fault }
+    ensures uncounted { IsErrOf result Memory → L.calls link.new ≡ L.calls link.old }
+    ensures memory_last { IsErrOf result Memory → (L.sending link.new).last_fault ≡ (L.sending link.old).last_fault }
+    ensures unchanged { OnErr result ((L.sending link.new).sent ≡ (L.sending link.old).sent) }
+    ensures only_sends { OnlySends L.left L.sending L.faults L.fault_limit link.old link.new }
+{
+    link.write(bytes)
 }

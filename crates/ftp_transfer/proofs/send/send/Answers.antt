@@ -15,7 +15,7 @@ loop-sent-preserved g c =
     record {
       within = omega (arith, ok.within, length-drop c.loop-sent.sent c.args.bytes.now);
       wrote = Writes-more _ _ _ c.loop-sent.sent c.in-Ok.n c.args.bytes.now kept.wrote ok.wrote;
-      only_sends = OnlySends-more kept.only_sends c.write.ensures.only_sends;
+      only_sends = OnlySends-more kept.only_sends c.send_some.ensures.only_sends;
       last_fault = ok.last_fault ∙ kept.last_fault;
       link_well = AllWell-more (λ (call : ℕ × LinkFault). call.0) _ _ _ kept.link_well ok.unlisted;
     }
@@ -24,4 +24,4 @@ pub returns-in-Err-clause-fault_rose : goal.returns-in-Err-clause-fault_rose
 returns-in-Err-clause-fault_rose g c stopped =
     let kept = c.loop-sent.invariant in
     let fault : c.in-Err.failed ≡ Fault = cc in
-    LinkRose_later _ _ _ _ kept.only_sends.counts c.write.ensures.only_sends.counts kept.link_well (c.in-Err.ensures.fault_rose (ap Err fault), c.in-Err.ensures.as_listed (ap Err fault))
+    LinkRose_later _ _ _ _ kept.only_sends.counts c.send_some.ensures.only_sends.counts kept.link_well (c.in-Err.ensures.fault_rose (ap Err fault), c.in-Err.ensures.as_listed (ap Err fault))
