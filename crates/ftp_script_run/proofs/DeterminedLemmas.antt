@@ -104,7 +104,7 @@ record Run (c : DataChanCmd) (job : Job) (max : ℕ) (files : Files) (input : Li
   kept : is_store c ≡ false → new ≡ Some files
   stored : StoresAs c job files (memory_rule max files) new input outcome.bytes outcome.result outcome.fault
   written : outcome.result ≡ result.Written → outcome.bytes ≡ length input
-  refused : IfSome (first_refusal c job files (memory_rule max files)) (λ k. RefusedFirst rose k outcome.bytes outcome.result × (new ≡ Some files))
+  refused : IfSome (first_refusal c job files (memory_rule max files)) (λ k. RefusedFirst rose k outcome.bytes outcome.result × (new ≡ Some files) × (later ≡ Some input))
 
 -- the outcome of such a run and the files that it leaves, by how the first call is refused
 abbrev EndsSo : DataChanCmd → Job → ℕ → Files → List ℕ → Option Files → Outcome → Option ErrorKind → Type 0
@@ -127,10 +127,10 @@ refused-ends : (c : DataChanCmd) (job : Job) (max : ℕ) (files : Files) (input 
     first_refusal c job files (memory_rule max files) ≡ Some k →
     EndsSo c job max files input new outcome (Some k)
 refused-ends c job max files input new later rose outcome k r is =
-    let told : RefusedFirst rose k outcome.bytes outcome.result × (new ≡ Some files) =
-    subst (λ (o : Option ErrorKind). IfSome o (λ j. RefusedFirst rose j outcome.bytes outcome.result × (new ≡ Some files))) is r.refused in (
+    let told : RefusedFirst rose k outcome.bytes outcome.result × (new ≡ Some files) × (later ≡ Some input) =
+    subst (λ (o : Option ErrorKind). IfSome o (λ j. RefusedFirst rose j outcome.bytes outcome.result × (new ≡ Some files) × (later ≡ Some input))) is r.refused in (
       outcome-is outcome (result.Refused k) 0 (refused-result rose outcome.bytes k outcome.result r.held r.memory told.0) told.0.0 r.fault,
-      told.1,
+      told.1.0,
     )
 
 -- ---- one that is not refused

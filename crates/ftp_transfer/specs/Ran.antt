@@ -152,9 +152,9 @@ pub record Moves (job : Job) (old new : Told) (m : ℕ) (r : Completion) (fault 
       (StorageFailed old new)
       (λ k. IfSome old.files (λ f. Refuses job.command job old.rule f new.files old.left new.left m k))
       (job.done + m) r fault
-  -- a refusal of the first call is the result, and then nothing is stored
+  -- a refusal of the first call is the result, and then nothing is stored, and nothing taken of the link
   pub refused : IfSome old.files (λ f. IfSome (first_refusal job.command job f (old.rule f)) (λ k.
-      RefusedFirst (StorageFailed old new) k m r × (new.files ≡ Some f)))
+      RefusedFirst (StorageFailed old new) k m r × (new.files ≡ Some f) × (new.left ≡ old.left)))
   -- a file was sent to its end only where no read there is refused
   pub unrefused : r ≡ result.Sent →
       IfSome old.files (λ f. old.rule f (ReadAt job.user job.path (read_place job.offset (job.done + m))) ≡ None)

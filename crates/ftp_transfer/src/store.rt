@@ -48,7 +48,7 @@ pub fn store<S: Storage, L: Link>(
         (L.left link.old) (L.left link.new) result.bytes k))
         (job.now.done + result.bytes) (result_of result.end) (fault_of result.end) }
     ensures refused { IfSome (S.files storage.old) (λ f. IfSome (S.rule storage.old f (Begin job.now.user job.now.path start))
-        (λ k. RefusedFirst (StorageRose (S.faults storage.old) (S.faults storage.new) (S.calls storage.old) (S.calls storage.new)) k result.bytes (result_of result.end) × (S.files storage.new ≡ Some f))) }
+        (λ k. RefusedFirst (StorageRose (S.faults storage.old) (S.faults storage.new) (S.calls storage.old) (S.calls storage.new)) k result.bytes (result_of result.end) × (S.files storage.new ≡ Some f) × (L.left link.new ≡ L.left link.old))) }
     ensures refused_last { IsSome (S.files storage.old) →
         RefusedLast (StorageRose (S.faults storage.old) (S.faults storage.new) (S.calls storage.old) (S.calls storage.new)) (meaning_of (S.rule storage.old) (S.files storage.new)) job.now.user job.now.path
         (option_map (drop result.bytes) (L.left link.old)) (L.left link.new) (result_of result.end) }
@@ -95,7 +95,7 @@ pub fn append<S: Storage, L: Link>(
         (L.left link.old) (L.left link.new) result.bytes k))
         (job.now.done + result.bytes) (result_of result.end) (fault_of result.end) }
     ensures refused { IfSome (S.files storage.old) (λ f. IfSome (append_refusal (S.rule storage.old f) job.now.user job.now.path (length (old_bytes f job.now.path)))
-        (λ k. RefusedFirst (StorageRose (S.faults storage.old) (S.faults storage.new) (S.calls storage.old) (S.calls storage.new)) k result.bytes (result_of result.end) × (S.files storage.new ≡ Some f))) }
+        (λ k. RefusedFirst (StorageRose (S.faults storage.old) (S.faults storage.new) (S.calls storage.old) (S.calls storage.new)) k result.bytes (result_of result.end) × (S.files storage.new ≡ Some f) × (L.left link.new ≡ L.left link.old))) }
     ensures refused_last { IsSome (S.files storage.old) →
         RefusedLast (StorageRose (S.faults storage.old) (S.faults storage.new) (S.calls storage.old) (S.calls storage.new)) (meaning_of (S.rule storage.old) (S.files storage.new)) job.now.user job.now.path
         (option_map (drop result.bytes) (L.left link.old)) (L.left link.new) (result_of result.end) }

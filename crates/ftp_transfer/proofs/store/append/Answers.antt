@@ -19,8 +19,8 @@ returns-in-Ok-clause-refused g c =
     let refused = rw (c.metadata.ensures.unchanged, c.metadata.ensures.storage_kept.same_rule) at c.store.ensures.refused in
     let rose = StorageRose_later _ _ _ c.metadata.ensures.storage_kept.counts c.store.ensures.storage_kept.counts (c.metadata.ensures.unlisted (λ e. absurd (went-on c.metadata.result c.in-Ok.start (sym c.start_after.ensures ∙ c.in-Ok.is) e))) in
     append_refusal-begin (g.S.Storage.files c.args.storage.now) (g.S.Storage.rule c.args.storage.now) c.args.job.now.user c.args.job.now.path c.in-Ok.start
-    (λ (f : Files) (k : ErrorKind). RefusedFirst (StorageRose (g.S.Storage.faults c.metadata.new.self) (g.S.Storage.faults c.store.new.storage) (g.S.Storage.calls c.metadata.new.self) (g.S.Storage.calls c.store.new.storage)) k c.store.result.bytes (result_of c.store.result.end) × (g.S.Storage.files c.store.new.storage ≡ Some f))
-    (λ (f : Files) (k : ErrorKind). RefusedFirst (StorageRose (g.S.Storage.faults c.args.storage.now) (g.S.Storage.faults c.store.new.storage) (g.S.Storage.calls c.args.storage.now) (g.S.Storage.calls c.store.new.storage)) k c.store.result.bytes (result_of c.store.result.end) × (g.S.Storage.files c.store.new.storage ≡ Some f))
+    (λ (f : Files) (k : ErrorKind). RefusedFirst (StorageRose (g.S.Storage.faults c.metadata.new.self) (g.S.Storage.faults c.store.new.storage) (g.S.Storage.calls c.metadata.new.self) (g.S.Storage.calls c.store.new.storage)) k c.store.result.bytes (result_of c.store.result.end) × (g.S.Storage.files c.store.new.storage ≡ Some f) × (g.L.Source.left c.store.new.link ≡ g.L.Source.left c.args.link.now))
+    (λ (f : Files) (k : ErrorKind). RefusedFirst (StorageRose (g.S.Storage.faults c.args.storage.now) (g.S.Storage.faults c.store.new.storage) (g.S.Storage.calls c.args.storage.now) (g.S.Storage.calls c.store.new.storage)) k c.store.result.bytes (result_of c.store.result.end) × (g.S.Storage.files c.store.new.storage ≡ Some f) × (g.L.Source.left c.store.new.link ≡ g.L.Source.left c.args.link.now))
     (λ f k h. (RefusedFirst_more _ _ k c.store.result.bytes (result_of c.store.result.end) rose h.0, h.1))
     (λ f told.
     append_place-start f c.args.job.now.path (g.S.Storage.rule c.args.storage.now f (Metadata c.args.job.now.user c.args.job.now.path)) c.metadata.result c.in-Ok.start

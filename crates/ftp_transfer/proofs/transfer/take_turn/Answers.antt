@@ -1,4 +1,4 @@
-use Rattle.std.proofs.Common.{suc, zero, ◌≡◌, inl, inr, ℕ, ◌<◌, Option, Some, None, refl, arith, rules}
+use Rattle.std.proofs.Common.{suc, zero, ◌≡◌, inl, inr, ℕ, ◌<◌, List, Option, Some, None, refl, arith, rules}
 use Rattle.std.specs.Prelude.{IsSome, IfSome}
 use Rattle.std.proofs.lemmas.Option.{IfSome_then}
 use Rattle.ftp_base.specs.declared.error_kind.ErrorKind.{ErrorKind}
@@ -23,11 +23,11 @@ fill-refused None done P Q R begun grown refused = tt
 fill-refused (Some f) done P Q R begun grown refused = inr (begun, (grown, refused refl))
 
 -- a first call that is refused, by the files where they are told, changes nothing
-first-refused : (files new : Option Files) (rule : Rule) (call : Call) (R : ErrorKind → Type 0) →
-    new ≡ files → (IsSome files → IfSome (meaning_of rule files call) R) →
-    IfSome files (λ f. IfSome (rule f call) (λ k. R k × (new ≡ Some f)))
-first-refused None new rule call R same refused = tt
-first-refused (Some f) new rule call R same refused = IfSome_then (rule f call) (refused refl) (λ k h. (h, same))
+first-refused : (files new : Option Files) (left later : Option (List ℕ)) (rule : Rule) (call : Call) (R : ErrorKind → Type 0) →
+    new ≡ files → later ≡ left → (IsSome files → IfSome (meaning_of rule files call) R) →
+    IfSome files (λ f. IfSome (rule f call) (λ k. R k × (new ≡ Some f) × (later ≡ left)))
+first-refused None new left later rule call R same kept refused = tt
+first-refused (Some f) new left later rule call R same kept refused = IfSome_then (rule f call) (refused refl) (λ k h. (h, same, kept))
 
 pub returns-in-Retr-clause-moves : goal.returns-in-Retr-clause-moves
 returns-in-Retr-clause-moves g c =
@@ -43,7 +43,7 @@ returns-in-Retr-clause-moves g c =
       written = search rules;
       countable = search rules;
       cause = search rules;
-      refused = rw c.in-Retr.is (first-refused (g.S.Storage.files c.args.storage.now) _ (g.S.Storage.rule c.args.storage.now) (ReadAt c.args.job.now.user c.args.job.now.path (read_place c.args.job.now.offset c.args.job.now.done)) _ c.retrieve.ensures.files c.retrieve.ensures.refused);
+      refused = rw c.in-Retr.is (first-refused (g.S.Storage.files c.args.storage.now) _ _ _ (g.S.Storage.rule c.args.storage.now) (ReadAt c.args.job.now.user c.args.job.now.path (read_place c.args.job.now.offset c.args.job.now.done)) _ c.retrieve.ensures.files c.retrieve.ensures.only_sends.same_left c.retrieve.ensures.refused);
       unrefused = search rules;
       refused_last = search rules;
       link_well = search rules;
