@@ -64,6 +64,10 @@ impl<L: Link> Link for Ahead<L> {
         self.inner.write(bytes)
     }
 
+    fn flush(&mut self) -> Result<(), Failed> {
+        self.inner.flush()
+    }
+
     fn close(&mut self) -> Result<(), Failed> {
         self.inner.close()
     }

@@ -189,6 +189,10 @@ impl Link for SocketControl {
         }
     }
 
+    fn flush(&mut self) -> Result<(), Failed> {
+        Ok(())
+    }
+
     fn close(&mut self) -> Result<(), Failed> {
         let is_lost = self.seen.ended || self.last_fault.is_some();
         if !is_lost && self.stream.shutdown(Shutdown::Write).is_ok() {

@@ -23,7 +23,8 @@ pub fn gathering_buffer(alloc: Global) -> Result<Vec<u8>, AllocError>
 /// A link whose small writes go on together, and whose small reads are answered from a large one.
 ///
 /// What was written is sent where the buffer is full, at a write that is shorter than a transfer's piece, before the
-/// link is read, and at `close`; where that fails the rest is lost. Bytes that were read ahead stay for the next read.
+/// link is read, at `flush` and at `close`; where that fails the rest is lost. Bytes that were read ahead stay for the
+/// next read.
 #[derive(Drop)]
 pub struct Gathered<L: Link> {
     inner: L,
@@ -109,7 +110,7 @@ impl<L: Link> Gathered<L> {
     }
 
     // Sends all that waits. Where that fails, the rest is lost.
-    fn flush(&mut self) -> bool
+    fn send_gathered(&mut self) -> bool
         ensures faults { self.new.faults ≡ self.old.faults }
         ensures last_fault { self.new.last_fault ≡ self.old.last_fault }
         ensures closed { self.new.closed ≡ self.old.closed }
@@ -151,7 +152,7 @@ impl<L: Link> Source for Gathered<L> {
     ghost is_link = { true };
 
     fn read(&mut self, out: &mut [u8]) -> Result<usize, Failed> {
-        if !self.flush() {
+        if !self.send_gathered() {
             return Err(self.failed());
         }
         if self.from >= self.to {
@@ -185,7 +186,7 @@ impl<L: Link> Link for Gathered<L> {
     fn write(&mut self, bytes: &[u8]) -> Result<usize, Failed> {
         // Nothing is written over what was read ahead, and what is larger than the buffer goes at once.
         if self.from < self.to || bytes.len() > self.buffer.len() {
-            if !self.flush() {
+            if !self.send_gathered() {
                 return Err(self.failed());
             }
             return match self.inner.write(bytes) {
@@ -193,20 +194,27 @@ impl<L: Link> Link for Gathered<L> {
                 Err(_) => Err(self.failed()),
             };
         }
-        if bytes.len() > self.buffer.len() - self.out && !self.flush() {
+        if bytes.len() > self.buffer.len() - self.out && !self.send_gathered() {
             return Err(self.failed());
         }
         let at = self.out;
         self.buffer.as_mut_slice()[at..at + bytes.len()].copy_from_slice(bytes);
         self.out = at + bytes.len();
-        if bytes.len() < PIECE && !self.flush() {
+        if bytes.len() < PIECE && !self.send_gathered() {
             return Err(self.failed());
         }
         Ok(bytes.len())
     }
 
+    fn flush(&mut self) -> Result<(), Failed> {
+        if self.send_gathered() && self.inner.flush().is_ok() {
+            return Ok(());
+        }
+        Err(self.failed())
+    }
+
     fn close(&mut self) -> Result<(), Failed> {
-        let flushed = self.flush();
+        let flushed = self.send_gathered();
         let closed = self.inner.close().is_ok();
         if flushed && closed {
             self.closed = true;

@@ -187,6 +187,10 @@ impl<N: Net + Drop> Link for SocketLink<N> {
         }
     }
 
+    fn flush(&mut self) -> Result<(), Failed> {
+        Ok(())
+    }
+
     fn close(&mut self) -> Result<(), Failed> {
         match self.stream.shutdown(Shutdown::Both) {
             Ok(()) => {

@@ -18,6 +18,7 @@ fn link(alloc: Global, fails: u64) -> Result<MemoryLink, AllocError> {
 #[derive(Clone, Copy, Debug)]
 enum Last {
     Nothing,
+    Flush,
     Close,
     Read,
     Short,
@@ -27,6 +28,7 @@ enum Last {
 fn done<L: Link>(gathered: &mut Gathered<L>, last: Last) -> bool {
     match last {
         Last::Nothing => true,
+        Last::Flush => gathered.flush().is_ok(),
         Last::Close => gathered.close().is_ok(),
         Last::Read => gathered.read(&mut [0; 3]) == Ok(3),
         Last::Short => gathered.write(b"end") == Ok(3),
@@ -64,6 +66,9 @@ fn pieces_go_together_in_their_order(rt: HostRuntime) -> Result<(), Fail> {
             b"".as_slice(),
             false,
         ),
+        // All goes in one call, and the link stays open.
+        (3, 2, Last::Flush, true, b"xyz", b"", false),
+        (3, 1, Last::Flush, false, b"", b"", false),
         // All goes in one call, and then the link is closed.
         (3, 3, Last::Close, true, b"xyz", b"", true),
         (3, 2, Last::Close, false, b"xyz", b"", false),

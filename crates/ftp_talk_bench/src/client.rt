@@ -116,6 +116,10 @@ impl Link for Client {
         Ok(bytes.len())
     }
 
+    fn flush(&mut self) -> Result<(), Failed> {
+        Ok(())
+    }
+
     fn close(&mut self) -> Result<(), Failed> {
         self.closed = true;
         Ok(())

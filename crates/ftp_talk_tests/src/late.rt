@@ -59,6 +59,10 @@ impl Link for LateControl {
         }
     }
 
+    fn flush(&mut self) -> Result<(), Failed> {
+        Ok(())
+    }
+
     fn close(&mut self) -> Result<(), Failed> {
         self.closed = true;
         Ok(())
