@@ -32,6 +32,7 @@ pub struct SystemEdge<R: Net + Clock + RandomSource + Drop> {
     made: Option<(u64, TcpStream)>,
     latest: u64,
     faults: u64,
+    paused: u64,
 }
 
 impl<R: Net + Clock + RandomSource + Drop> SystemEdge<R> {
@@ -46,6 +47,7 @@ impl<R: Net + Clock + RandomSource + Drop> SystemEdge<R> {
             made: None,
             latest: 0,
             faults: 0,
+            paused: 0,
         }
     }
 
@@ -136,7 +138,7 @@ fn connected<N: Net>(net: &N, alloc: Global, to: SocketAddr, limit: u64) -> io::
 impl<R: Net + Clock + RandomSource + Drop> Edge for SystemEdge<R> {
     ghost use Rattle.std.specs.Prelude.{None};
 
-    ghost view = { λ s. record { feed = None; meaning = system_meaning; faults = s.faults } };
+    ghost view = { λ s. record { feed = None; meaning = system_meaning; faults = s.faults; paused = s.paused } };
 
     fn now(&mut self) -> u64 {
         match moment(&self.rt) {
@@ -194,5 +196,6 @@ impl<R: Net + Clock + RandomSource + Drop> Edge for SystemEdge<R> {
 
     fn pause(&mut self, millis: u64) {
         thread::sleep(&self.rt, Duration::from_millis(millis));
+        self.paused = self.paused.saturating_add(millis);
     }
 }

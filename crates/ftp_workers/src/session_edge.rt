@@ -23,6 +23,7 @@ pub(crate) struct SessionEdge<'a, R: Net + Wait + Clock + RandomSource + Copy + 
     handoff: &'a Handoff,
     system: SystemEdge<R>,
     faults: u64,
+    paused: u64,
 }
 
 impl<'a, R: Net + Wait + Clock + RandomSource + Copy + Drop> SessionEdge<'a, R> {
@@ -40,6 +41,7 @@ impl<'a, R: Net + Wait + Clock + RandomSource + Copy + Drop> SessionEdge<'a, R> 
             handoff,
             system,
             faults: 0,
+            paused: 0,
         }
     }
 
@@ -47,6 +49,7 @@ impl<'a, R: Net + Wait + Clock + RandomSource + Copy + Drop> SessionEdge<'a, R> 
     fn count(&mut self)
         ensures fault_rose { HasRisen self.old.faults self.new.faults }
         ensures count { self.old.faults ≤ self.new.faults }
+        ensures unpaused { self.new.paused ≡ self.old.paused }
     {
         self.faults = self.faults.saturating_add(1);
     }
@@ -63,6 +66,7 @@ impl<'a, R: Net + Wait + Clock + RandomSource + Copy + Drop> SessionEdge<'a, R> 
     // Keeps the listener of the port that was bound last, and says whether there is room.
     fn keep_bound(&mut self, port: u16) -> bool
         ensures faults { self.new.faults ≡ self.old.faults }
+        ensures unpaused { self.new.paused ≡ self.old.paused }
     {
         match self.system.take_bound() {
             Some((_, listener)) => {
@@ -76,6 +80,7 @@ impl<'a, R: Net + Wait + Clock + RandomSource + Copy + Drop> SessionEdge<'a, R> 
     // Keeps the connection that was made last, and says whether there is room.
     fn keep_made(&mut self) -> bool
         ensures faults { self.new.faults ≡ self.old.faults }
+        ensures unpaused { self.new.paused ≡ self.old.paused }
     {
         match self.system.take_made() {
             Some((number, stream)) => {
@@ -89,7 +94,7 @@ impl<'a, R: Net + Wait + Clock + RandomSource + Copy + Drop> SessionEdge<'a, R> 
 }
 
 impl<'a, R: Net + Wait + Clock + RandomSource + Copy + Drop> Edge for SessionEdge<'a, R> {
-    ghost view = { λ s. record { feed = None; meaning = system_meaning; faults = s.faults } };
+    ghost view = { λ s. record { feed = None; meaning = system_meaning; faults = s.faults; paused = s.paused } };
 
     fn now(&mut self) -> u64 {
         self.system.now()
@@ -131,5 +136,6 @@ impl<'a, R: Net + Wait + Clock + RandomSource + Copy + Drop> Edge for SessionEdg
 
     fn pause(&mut self, millis: u64) {
         self.system.pause(millis);
+        self.paused = self.paused.saturating_add(millis);
     }
 }
