@@ -78,13 +78,18 @@ impl Eq for Actions {
 impl Actions {
     ghost use Rattle.std.specs.Prelude.{◌≡◌};
 
-    /// Takes over the actions of a vector, and gives back the room that they do not need.
+    /// Takes over the actions of a vector.
     pub fn from_vec(items: Vec<Action>) -> Actions
         ensures { result ≡ items.items }
     {
-        let mut items = items;
-        items.shrink_to_fit();
         Actions { items }
+    }
+
+    /// Gives back the room that the actions do not need.
+    pub fn shrink_to_fit(&mut self)
+        ensures { self.new ≡ self.old }
+    {
+        self.items.shrink_to_fit();
     }
 
     /// Lends the actions.

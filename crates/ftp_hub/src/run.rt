@@ -326,7 +326,8 @@ fn run_next<S: Storage, L: Link>(
     if log.make_room().is_err() {
         return Err(RunError::OutOfMemory { done: 0 });
     }
-    let entry = run_event(hub, storage, links, event)?;
+    let mut entry = run_event(hub, storage, links, event)?;
+    entry.actions.shrink_to_fit();
     log.push_reserved(entry);
     Ok(())
 }

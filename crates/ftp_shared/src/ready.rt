@@ -58,6 +58,8 @@ pub(crate) fn keep(journal: &mut Log, entry: Entry)
     requires { 0 < journal.old.room }
     ensures { journal.new.entries ≡ entry ∷ journal.old.entries }
 {
+    let mut entry = entry;
+    entry.actions.shrink_to_fit();
     journal.push_reserved(entry);
 }
 
