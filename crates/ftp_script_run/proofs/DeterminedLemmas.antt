@@ -130,7 +130,7 @@ refused-ends c job max files input new later rose outcome k r is =
     let told : RefusedFirst rose k outcome.bytes outcome.result × (new ≡ Some files) × (later ≡ Some input) =
     subst (λ (o : Option ErrorKind). IfSome o (λ j. RefusedFirst rose j outcome.bytes outcome.result × (new ≡ Some files) × (later ≡ Some input))) is r.refused in (
       outcome-is outcome (result.Refused k) 0 (refused-result rose outcome.bytes k outcome.result r.held r.memory told.0) told.0.0 r.fault,
-      told.1.0,
+      told.1,
     )
 
 -- ---- one that is not refused

@@ -21,7 +21,7 @@ returns-in-Ok-clause-refused g c =
     append_refusal-begin (g.S.Storage.files c.args.storage.now) (g.S.Storage.rule c.args.storage.now) c.args.job.now.user c.args.job.now.path c.in-Ok.start
     (λ (f : Files) (k : ErrorKind). RefusedFirst (StorageRose (g.S.Storage.faults c.metadata.new.self) (g.S.Storage.faults c.store.new.storage) (g.S.Storage.calls c.metadata.new.self) (g.S.Storage.calls c.store.new.storage)) k c.store.result.bytes (result_of c.store.result.end) × (g.S.Storage.files c.store.new.storage ≡ Some f) × (g.L.Source.left c.store.new.link ≡ g.L.Source.left c.args.link.now))
     (λ (f : Files) (k : ErrorKind). RefusedFirst (StorageRose (g.S.Storage.faults c.args.storage.now) (g.S.Storage.faults c.store.new.storage) (g.S.Storage.calls c.args.storage.now) (g.S.Storage.calls c.store.new.storage)) k c.store.result.bytes (result_of c.store.result.end) × (g.S.Storage.files c.store.new.storage ≡ Some f) × (g.L.Source.left c.store.new.link ≡ g.L.Source.left c.args.link.now))
-    (λ f k h. (RefusedFirst_more _ _ k c.store.result.bytes (result_of c.store.result.end) rose h.0, h.1))
+    (λ f k h. (RefusedFirst_more _ _ k c.store.result.bytes (result_of c.store.result.end) rose h.0, h.1, h.2))
     (λ f told.
     append_place-start f c.args.job.now.path (g.S.Storage.rule c.args.storage.now f (Metadata c.args.job.now.user c.args.job.now.path)) c.metadata.result c.in-Ok.start
     ((rw told at c.metadata.ensures.refused) refl)
