@@ -46,6 +46,11 @@ impl Audit {
     ghost use Rattle.ftp_audit.specs.Heard.{heard, is_named, HasHeard, Stands, SameAudit, total_in};
 
     /// No entry was taken.
+    ///
+    /// # Proved
+    ///
+    /// - After the entries of a right and acted log were taken in order the audit stands for it (`stands`; also
+    ///   `Audit::take`: `stands`; `audited`: `stands`).
     pub fn new(alloc: Global) -> Audit
         ensures heard { HasHeard result [] }
         ensures stands { (o : Options) → Stands o result [] }
@@ -57,6 +62,13 @@ impl Audit {
     }
 
     /// Takes the next entry of a log, of which it reads the notifications.
+    ///
+    /// # Proved
+    ///
+    /// - Of any entries at all, the sums are those that their notifications tell, if the audit has heard the entries
+    ///   (`heard`; also `Audit::total`: `heard`; `Audit::between`: `heard`; `audited`: `heard`).
+    /// - An entry is not taken for the count's sake exactly at the end of the count, and after each error all is as it
+    ///   was (`exhausted`, `unchanged`).
     pub fn take(&mut self, entry: &Entry) -> Result<(), AuditError>
         ensures heard { OnOk result ((log : List Entry) → HasHeard self.old log → HasHeard self.new (entry.now ∷ log)) }
         ensures stands { OnOk result ((o : Options) (log : List Entry) → Stands o self.old log →
@@ -76,6 +88,11 @@ impl Audit {
     }
 
     /// The sums of the user over all entries, where a notification named it.
+    ///
+    /// # Proved
+    ///
+    /// - So is the total of a user, which is there exactly where a notification named the user (`total_in`), if the
+    ///   audit stands for the log (`total`).
     pub fn total(&self, user: &Bytes) -> Option<Total>
         ensures heard { (log : List Entry) → HasHeard self.now log → result ≡ (if is_named log user.now then Some (heard log user.now 0 (length log)) else None) }
         ensures total { (o : Options) (log : List Entry) → Stands o self.now log → result ≡ total_in o log user.now }
@@ -84,6 +101,11 @@ impl Audit {
     }
 
     /// The sums of the user over the entries with places from one below another, counted from 0, by two searches.
+    ///
+    /// # Proved
+    ///
+    /// - Then the sums over the entries with places from one below another are those of what was decided (`sums`), if
+    ///   the audit stands for the log; the places do not fall (`sums`).
     pub fn between(&self, user: &Bytes, from: u64, to: u64) -> Total
         requires in_order { from ≤ to }
         ensures heard { (log : List Entry) → HasHeard self.now log → result ≡ heard log user.now from to }
@@ -93,6 +115,11 @@ impl Audit {
     }
 
     /// The first `k` users by the bytes that they got and put, from the most; names in byte order where these are as many.
+    ///
+    /// # Proved
+    ///
+    /// - The first users by bytes, the most first, as a permutation of all that is in order; and a line for each user,
+    ///   in byte order of names (also `Audit::report`).
     pub fn top(&self, k: u32) -> Result<Vec<(Bytes, Total)>, AllocError>
         ensures { (o : Options) (log : List Entry) → Stands o self.now log →
             IfOk result (λ found. (rows : List (List ℕ × Total)) × IsListing (total_in o log) rows × AreTop k rows found.items) }

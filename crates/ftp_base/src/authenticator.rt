@@ -15,6 +15,11 @@ pub trait Authenticator {
     ghost may_answer: { Self → List ℕ → List ℕ → IpAddr → AuthAnswer → Bool };
 
     /// Says whether the user logs in with the password from the client's address.
+    ///
+    /// # Proved
+    ///
+    /// - An authenticator gives one of the answers that its meaning allows for the name, the password and the address
+    ///   (`may`).
     fn check(&self, user: &Bytes, password: &Bytes, source: IpAddr) -> AuthAnswer
         ensures may { may_answer self.now user.now password.now source result ≡ true };
 }

@@ -41,6 +41,11 @@ impl Bytes {
     ghost use Rattle.std.specs.Prelude.{◌≡◌, IfOk};
 
     /// Copies the bytes.
+    ///
+    /// # Proved
+    ///
+    /// - Copies are equal (also `Bytes::copy`; `Reply::copy`; `ControlChanMsg::copy`; `DataEvent::copy`;
+    ///   `EventMeta::copy`; `Notice::copy`).
     pub fn from_slice(alloc: Global, b: &[u8]) -> Result<Bytes, AllocError>
         ensures { IfOk result (λ copy. copy ≡ b.now) }
     {

@@ -14,6 +14,12 @@ pub trait Control: Link {
     ghost is_always_ready: { Bool } = { false };
 
     /// Waits for bytes or the end, for so many milliseconds at most, and says whether one of them came.
+    ///
+    /// # Proved
+    ///
+    /// - To ask a control connection whether it can be read fails only where its count rose, takes and sends nothing,
+    ///   and is none of its calls. One that is always ready, as that in memory, never says that it can not; when
+    ///   another one says so is no clause (`fault_rose`, `left`, `sent`, `uncounted`, `always`).
     fn ready(&mut self, millis: u64) -> Result<bool, Failed>
         ensures always { is_always_ready ≡ true → result ≢ Ok false }
         ensures only_fault { IfErr result (λ e. e ≡ Fault) }

@@ -27,6 +27,13 @@ pub trait Edge {
         ensures unpaused { (view self.new).paused ≡ (view self.old).paused };
 
     /// The address of a name in IP version 4, as one number in network order.
+    ///
+    /// # Proved
+    ///
+    /// - Each answer of the clock, the random words, the names and the sockets of an edge is one that its meaning
+    ///   allows, and the next of its lists where it tells them; none or a no comes only where its count rose (`may`,
+    ///   `next`, `fault_rose`, `taken`; also `Edge::bind`: `may`, `next`, `fault_rose`, `taken`; `Edge::connect`:
+    ///   `may`, `next`, `fault_rose`, `taken`).
     fn lookup(&mut self, name: &Bytes) -> Option<u32>
         ensures may { (view self.old).meaning.names name.now result ≡ true }
         ensures next { IfSome (view self.old).feed (λ f. result ≡ next_answer f.lookups) }

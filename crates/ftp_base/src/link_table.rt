@@ -87,6 +87,12 @@ impl<L> LinkTable<L> {
     }
 
     /// Puts a link at a number that has none.
+    ///
+    /// # Proved
+    ///
+    /// - A table of links is a map from numbers: put, refused exactly where taken, found, lent, listed in order
+    ///   (`inserted`, `taken`, `returned`, `unchanged`; also `LinkTable::get`; `LinkTable::get_mut`: `writes_back`,
+    ///   `value`; `LinkTable::has`; `LinkTable::numbers`).
     pub fn insert(&mut self, number: u64, link: L) -> Result<(), InsertError<L>>
         ensures inserted { OnOk result (self.new ≡ map.insert self.old number link) }
         ensures taken { IsErrOf result (InsertError.Taken link) ↔ IsSome (map.get self.old number) }

@@ -13,6 +13,10 @@ pub trait DataListener {
     // What it heard, the oldest first, where it tells that.
     ghost heard: { Self → Option (List (DataEvent × EventMeta)) };
 
+    // # Proved
+    //
+    // - A listener that tells what it heard has heard one thing more with each call, and that last; a box hears what it
+    //   holds hears (`hears`; also `PresenceListener::receive_presence_event`: `hears`).
     fn receive_data_event(&mut self, e: &DataEvent, m: &EventMeta)
         ensures hears { Hears (heard self.old) (heard self.new) e.now m.now };
 }

@@ -43,6 +43,11 @@ impl Model for MemoryLink {
 
 impl MemoryLink {
     /// Where `fails` names a call twice, it meets one of the faults that stand there.
+    ///
+    /// # Proved
+    ///
+    /// - Calls that are listed in rising order are kept as they are listed, and whether they rise (`kept`; also
+    ///   `MemoryStorage::new`; also `rise`).
     pub fn new(
         alloc: Global,
         bytes: Vec<u8>,

@@ -35,6 +35,12 @@ impl Model for MemorySource {
 
 impl MemorySource {
     /// Calls are counted from 1.
+    ///
+    /// # Proved
+    ///
+    /// - No more calls of an object in memory fail than are listed: the limit of its faults is at first the length of
+    ///   its list, where that rises, and no call raises it (`limit`; also `MemorySink::new`, `MemoryLink::new`,
+    ///   `MemoryStorage::new`).
     pub fn new(bytes: Vec<u8>, chunk: u32, fails: Vec<u64>) -> MemorySource
         requires { 1 ≤ chunk }
         ensures left { result.left ≡ bytes.items }

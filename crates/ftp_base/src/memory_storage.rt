@@ -120,6 +120,14 @@ impl MemoryStorage {
     }
 
     /// Makes a directory. It is not counted among the calls.
+    ///
+    /// # Proved
+    ///
+    /// - The storage in memory: directories and files are made where nothing refuses, how a directory is refused can be
+    ///   asked, files are cut, grown and read at a place, listings are in order of names, and exactly the listed calls
+    ///   fail (`made`, `refused`, `unchanged`; also `MemoryStorage::directory_refusal`; `MemoryStorage::put_file`:
+    ///   `stored`, `refused`, `unchanged`; `MemoryStorage::begin`: `begun`, `counted`; `MemoryStorage::append`:
+    ///   `grown`, `counted`; `MemoryStorage::read_at`: `read`, `counted`; `MemoryStorage::list`: `listed`, `counted`).
     pub fn mkdir(&mut self, path: Bytes) -> Result<(), StoreError>
         ensures made { OnOk result (self.new ≡ record self.old { files = map.insert self.old.files path Directory }) }
         ensures refused { MatchResult result (λ _. directory_refusal self.old.files path ≡ None) (Refuses (directory_refusal self.old.files path)) }
@@ -156,6 +164,10 @@ impl MemoryStorage {
     }
 
     /// The files, each with its path and its bytes, in byte order of paths.
+    ///
+    /// # Proved
+    ///
+    /// - The files of a storage in memory, each with its bytes, in byte order of their paths.
     pub fn files(&self) -> StoredFiles<'_>
         ensures { result ≡ files_in_order self.now.files }
     {

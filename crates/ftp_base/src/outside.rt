@@ -34,6 +34,18 @@ pub trait Source {
     ghost calls: { Self → Option (Calls (ℕ × LinkFault)) } = { λ _. None };
 
     /// Reads to the front of `out`, and says how many bytes: none exactly at the end, where `out` has room.
+    ///
+    /// # Proved
+    ///
+    /// - What a call of a source, a sink and a link means: bytes from the front, faults only where the count rose, a
+    ///   last fault where a read or write of a link failed, what stays (`read`, `fault_rose`, `met`, `unchanged`,
+    ///   `only_reads`; also `Sink::write`: `wrote`, `some`, `fault_rose`, `unchanged`, `counts`; `Link::write`:
+    ///   `wrote`, `some`, `fault_rose`, `met`, `unchanged`, `only_sends`; `Link::close`: `closed`, `unchanged`,
+    ///   `fault_rose`, `only_closes`).
+    /// - The objects in memory move at most a chunk, exactly the bytes that are there, and fail exactly the listed
+    ///   calls (`moved`, `read`, `fails`, `counted`, `fault_counted`; also `MemorySink::write`, `MemoryLink::write`:
+    ///   `moved`, `wrote`, `fails`, `counted`, `fault_counted`; `MemoryLink::read`: `moved`, `read`, `fails`,
+    ///   `counted`, `fault_counted`).
     fn read(&mut self, out: &mut [u8]) -> Result<usize, Failed>
         ensures within { IfOk result (λ n. n ≤ length out.new) }
         ensures read { IfOk result (λ n. IfSome (left self.old) (λ l. ReadsFront l (left self.new) n out.new)) }

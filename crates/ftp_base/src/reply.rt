@@ -105,6 +105,11 @@ pub enum Reply {
 
 impl Reply {
     /// The reply's line as it is sent: the digits, a space, the text, CR and LF.
+    ///
+    /// # Proved
+    ///
+    /// - The line of a reply, the text of a trace, and the name of a message (also `TraceId::text`;
+    ///   `ControlChanMsg::label`).
     pub fn encode(&self, alloc: Global) -> Result<Bytes, AllocError>
         ensures { IfOk result (λ line. line ≡ encoding self.now) }
     {

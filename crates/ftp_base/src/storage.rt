@@ -79,6 +79,14 @@ pub trait Storage {
         ensures { result ≡ abilities self.now };
 
     /// What stands at a path.
+    ///
+    /// # Proved
+    ///
+    /// - What a call of a storage means: files by path; it refuses by a rule of the files as they are, and no call
+    ///   changes the rule; faults only where the count rose; what stays (`found`, `refused`, `storage_kept`; also
+    ///   `Storage::list`: `listed`, `refused`, `storage_kept`; `Storage::read_at`: `read`, `refused`, `storage_kept`;
+    ///   `Storage::begin`: `begun`, `refused`, `fault_rose`, `unchanged`, `storage_kept`; `Storage::append`: `grown`,
+    ///   `refused`, `fault_rose`, `unchanged`, `storage_kept`).
     fn metadata(&mut self, user: &Bytes, path: &Bytes) -> Result<Meta, StoreError>
         ensures found { IfOk result (λ meta. IfSome (files self.old) (λ f. IsSomeAnd (item f path.now) (λ i. meta ≡ meta_of i))) }
         ensures refused { Answers (files self.old) (meaning_of (rule self.old) (files self.old) (Metadata user.now path.now)) result }
@@ -133,6 +141,13 @@ pub trait Storage {
         ensures storage_kept { StorageKept rule faults fault_limit self.old self.new };
 
     /// Puts bytes at the end of a file.
+    ///
+    /// # Proved
+    ///
+    /// - Where they tell their calls: each call counts one, unless it answers want of memory; it went well only where
+    ///   it is not listed, and a call that failed is one that is listed, of a link with a fault that is listed for it
+    ///   (`made`, `unlisted`, `as_listed`; also `Sink::write`, `Link::write`, `Link::close`, `Storage::metadata`,
+    ///   `Storage::list`, `Storage::read_at`, `Storage::begin`, `Storage::append`).
     fn append(&mut self, user: &Bytes, path: &Bytes, bytes: &[u8]) -> Result<(), StoreError>
         ensures grown { OnOk result (Grows (files self.old) (files self.new) path.now bytes.now) }
         ensures refused { Answers (files self.old) (meaning_of (rule self.old) (files self.old) (Append user.now path.now bytes.now)) result }

@@ -9,6 +9,12 @@ pub trait Spawner {
     ghost faults: { Self → ℕ };
 
     /// Says whether the next thread may be started.
+    ///
+    /// # Proved
+    ///
+    /// - Threads are refused, and one that could not be made is told, only where the count rises; an indicator keeps
+    ///   the moment and the time of its first asking (`fault_rose`; also `Spawner::refused`: `fault_rose`;
+    ///   `Indicator::poll`: `first`, `kept`).
     fn admits(&mut self) -> bool
         ensures fault_rose { IsFalse result → HasRisen (faults self.old) (faults self.new) }
         ensures count { faults self.old ≤ faults self.new };

@@ -51,6 +51,12 @@ impl From<AllocFailed<Entry>> for AppendError {
 }
 
 /// Connects sessions, appends events of theirs, and says how many entries were taken in all.
+///
+/// # Proved
+///
+/// - Appends that give a number are so many entries: one for each session that connects, and one for each round; by a
+///   hub by itself, whose entries are kept or let go, and by one, two or four threads over one hub, whose journal has
+///   no other (`taken`; also `run_all`, `share_all`).
 pub fn append_all<R: Threads + Wait + Sync>(
     rt: &R,
     alloc: Global,

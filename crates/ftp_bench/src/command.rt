@@ -148,6 +148,12 @@ impl Search {
 
 impl Command {
     /// What the words behind the program's name ask for, where they are a command.
+    ///
+    /// # Proved
+    ///
+    /// - Which words ask for which command: where one is given they ask for it, and where none is given they ask for
+    ///   none; a number is decimal digits without a sign or a leading zero, below its limit (`found`, `none`; also
+    ///   `Kind::named`, `Way::named`).
     pub fn of(words: &[String]) -> Option<Command>
         ensures found { IfSome result (Asks (map string_bytes words.now)) }
         ensures none { IsNone result → (command : Command) → Asks (map string_bytes words.now) command → ⊥ }

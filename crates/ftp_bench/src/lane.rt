@@ -41,6 +41,12 @@ impl Lane {
     }
 
     /// The session of the event before which so many came: they go round. A lane without sessions has its first.
+    ///
+    /// # Proved
+    ///
+    /// - A thread brings events of its own lane of sessions alone; the lanes of two threads lie beside each other, and
+    ///   their rounds are those of the whole (`own`; also `user`: `session`; `Lane::split`: `ends`, `beside`,
+    ///   `rounds`).
     pub fn session(self, turn: u32) -> u64
         ensures own { self.first < self.end → (self.first ≤ result) × (result < self.end) }
     {

@@ -41,6 +41,12 @@ impl From<StoreError> for MoveError {
 }
 
 /// Moves a load, and says how many bytes moved in all.
+///
+/// # Proved
+///
+/// - A load that gives a number has moved that many bytes: its rounds times its mebibytes; each round the file for
+///   RETR, and the bytes for STOR and a copy (`moved`; also `round`: `moved`, `kept`; `retrieve`, `store`, `copy`:
+///   `whole`).
 pub fn move_bytes(alloc: Global, load: Load) -> Result<u64, MoveError>
     ensures moved { IfOk result (λ n. n ≡ total load) }
 {
@@ -127,6 +133,10 @@ fn job(alloc: Global, command: DataChanCmd) -> Result<Job, AllocError>
 }
 
 /// How many bytes a transfer moved, where it went well.
+///
+/// # Proved
+///
+/// - A transfer that stopped is an error, and one that is done is none (`moved`, `stopped`, `not_done`).
 fn moved(outcome: Outcome) -> Result<u64, MoveError>
     ensures moved { IfOk result (λ n. (n ≡ outcome.bytes) × IsDone outcome.result) }
     ensures stopped { IfErr result (λ e. e ≡ MoveError.Transfer outcome.result) }

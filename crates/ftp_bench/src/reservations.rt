@@ -36,6 +36,10 @@ impl From<SwitchboardError> for ReserveError {
 }
 
 /// Reserves ports as asked, and says how many words and pairs were looked at.
+///
+/// # Proved
+///
+/// - So many reservations take 1,059 looks each at most (`few`).
 pub fn count_looks(alloc: Global, search: Search) -> Result<u64, ReserveError>
     ensures few { IfOk result (λ n. n ≤ search.rounds * 1059) }
 {
@@ -52,6 +56,10 @@ pub fn count_looks(alloc: Global, search: Search) -> Result<u64, ReserveError>
 }
 
 /// Gives the client the ports from one on, below another.
+///
+/// # Proved
+///
+/// - The client holds each port that it is to hold (`held`, `range`).
 fn hold_ports(board: &mut Switchboard, first: u16, end: u16) -> Result<(), ReserveError>
     requires range { (board.old.lo ≡ 1) × (board.old.hi ≡ 65535) }
     ensures range { (board.new.lo ≡ 1) × (board.new.hi ≡ 65535) }

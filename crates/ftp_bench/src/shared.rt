@@ -78,6 +78,10 @@ fn settle<L: Serving>(
 }
 
 /// The shares of so many threads that submit the events of a lane.
+///
+/// # Proved
+///
+/// - The shares of all threads count the entries that they appended (`threads`, `counted`).
 fn work<L: Serving + Send + Sync, R: Threads + Wait + Sync>(
     rt: &R,
     alloc: Global,

@@ -11,6 +11,12 @@ use std::alloc::{AllocError, Global};
 /// Checks a text against what is due, entry by entry, up to the first place that is not as it is due.
 ///
 /// A log has at most 67,108,864 bytes: the line that passes them is a bad one. An entry is let go as soon as it is checked.
+///
+/// # Proved
+///
+/// - Whatever verdict is answered is so of the text: right, another decision than the due one, other actions, or a line
+///   that no printed log has there; and a right text is answered so, unless memory runs out (`tells`, `right`).
+/// - No second verdict fits a text (`only`).
 pub fn check(alloc: Global, text: &[u8]) -> Result<Verdict, AllocError>
     // What is answered is so of the text.
     ensures tells { IfOk result (λ v. TellsOfText v text.now) }

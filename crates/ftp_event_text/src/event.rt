@@ -20,6 +20,11 @@ use ftp_transfer::Ticket;
 use std::alloc::Global;
 
 /// The event that the line spells. Its line feed is no part of the line.
+///
+/// # Proved
+///
+/// - A line gives an event exactly where it is that event's one line; it is bad exactly where it is no event's
+///   (`found`, `bad`, `only`, `exact`).
 pub fn read_event(alloc: Global, line: &[u8]) -> Result<HubEvent, LineFault>
     // What is read is spelled so, each byte of the line.
     ensures found { IfOk result (λ e. (event_line e ≡ line.now) × IsEvent e) }

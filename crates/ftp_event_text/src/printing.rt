@@ -19,6 +19,10 @@ use ftp_transfer::{Completion, Outcome, Ticket};
 use std::alloc::AllocError;
 
 /// Writes the lines of an entry at the end of the buffer. After an error the buffer is thrown away.
+///
+/// # Proved
+///
+/// - An entry is printed as it is spelled: event, answer, decision, every action.
 pub fn put_entry(out: &mut Vec<u8>, entry: &Entry) -> Result<(), AllocError>
     ensures { OnOk result (out.new.items ≡ out.old.items ++ entry_lines entry.now) }
 {

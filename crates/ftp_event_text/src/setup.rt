@@ -60,6 +60,11 @@ pub enum Item {
 }
 
 /// What the line says. Its line feed is no part of the line.
+///
+/// # Proved
+///
+/// - The same of the lines of a script: skipped, options, storage, directories, files, links, events (`found`, `bad`,
+///   `only`, `exact`).
 pub fn read_item(alloc: Global, line: &[u8]) -> Result<Item, LineFault>
     // The line is that of what is read.
     ensures found { IfOk result (λ i. IsItemOf line.now i) }

@@ -19,6 +19,10 @@ use ftp_transfer::Ticket;
 use std::alloc::AllocError;
 
 /// Writes the event's line at the end of the buffer, without a line feed.
+///
+/// # Proved
+///
+/// - An event's line, the line on what was sent on a link, and a file's line (also `put_sent`; `put_file`).
 pub fn put_event(out: &mut Vec<u8>, event: &HubEvent) -> Result<(), AllocError>
     ensures { OnOk result (out.new.items ≡ out.old.items ++ event_line event.now) }
 {

@@ -188,6 +188,12 @@ impl Counters {
     /// Counts an entry with these parts, where counts are kept. A refused entry counts for nothing.
     ///
     /// `ended` tells of the job whose end the event tells, as it ran before the entry.
+    ///
+    /// # Proved
+    ///
+    /// - What is counted of an entry: the counts are those of the log with it (`CountsOf` in
+    ///   `ftp_events/specs/Counts.antt`), which stand still at the end of their type; a refused entry changes none, and
+    ///   none changes where metrics are not kept (`counted`, `refused`; also `Counters::new`: `none`, `counted`).
     pub fn note(
         &mut self,
         options: &Options,

@@ -153,6 +153,12 @@ impl Decision {
     }
 
     /// What it makes of the session's slot.
+    ///
+    /// # Proved
+    ///
+    /// - What a decision does to the slot of its session, whether that gives up a hold, whether a session begins, goes
+    ///   on or ends by it, and whether every session ends (also `SlotMove::gives_up`; `Decision::life`;
+    ///   `Decision::is_stop`).
     pub fn slot_move(self) -> SlotMove
         ensures { result ≡ slot_move self }
     {

@@ -8,6 +8,11 @@ use crate::entry::Entry;
 use ftp_base::{DataListener, Notice, PresenceListener};
 
 /// Hands the entry's notifications to the listeners, in order.
+///
+/// # Proved
+///
+/// - Listeners hear exactly the notifications of an entry, in order: those of files the one, those of logins and goings
+///   the other (`data_events`, `presence_events`).
 pub fn deliver<D: DataListener, P: PresenceListener>(entry: &Entry, d: &mut D, p: &mut P)
     ensures data_events { HearsAll (D.heard d.old) (D.heard d.new) (filter_map data_told entry.now.actions) }
     ensures presence_events { HearsAll (P.heard p.old) (P.heard p.new) (filter_map presence_told entry.now.actions) }

@@ -17,6 +17,11 @@ pub struct Entry {
 
 impl Entry {
     /// Says whether the entries are equal: `==`, with what it means.
+    ///
+    /// # Proved
+    ///
+    /// - `Entry::is_same` is true exactly where its two entries are equal; copies of entries and actions are equal to
+    ///   them (also `Entry::copy`, `Actions::copy`, `Action::copy`).
     pub fn is_same(&self, other: &Entry) -> bool
         ensures { IsTrue result ↔ self.now ≡ other.now }
     {

@@ -150,6 +150,10 @@ pub enum Answer {
 
 impl EventKind {
     /// The session that the event or its ticket names.
+    ///
+    /// # Proved
+    ///
+    /// - The session that an event names, and the connection that comes with it (also `EventKind::link_number`).
     pub fn named_session(&self) -> Option<u64>
         ensures { result ≡ named_session self.now }
     {
@@ -292,6 +296,10 @@ impl EventKind {
 
 impl HubEvent {
     /// Gives an equal event.
+    ///
+    /// # Proved
+    ///
+    /// - A copy of an event is equal to it (also `EventKind::copy`).
     pub fn copy(&self, alloc: Global) -> Result<HubEvent, AllocError>
         ensures { IfOk result (λ copy. copy ≡ self.now) }
     {

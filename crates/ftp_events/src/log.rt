@@ -60,6 +60,11 @@ impl Log {
     }
 
     /// Adds an entry; an error gives it back.
+    ///
+    /// # Proved
+    ///
+    /// - An entry is put to the log, or comes back with the log as it was (`pushed`, `unchanged`; also
+    ///   `Log::push_reserved`: `pushed`).
     pub fn push(&mut self, entry: Entry) -> Result<(), AllocFailed<Entry>>
         ensures pushed { OnOk result (self.new.entries ≡ entry ∷ self.old.entries) }
         ensures unchanged { IfErr result (λ e. (self.new.entries ≡ self.old.entries) × (e.value ≡ entry)) }
@@ -68,6 +73,10 @@ impl Log {
     }
 
     /// Takes the memory that the next entry needs.
+    ///
+    /// # Proved
+    ///
+    /// - Room for the next entry (`ok`, `same`).
     pub fn make_room(&mut self) -> Result<(), AllocError>
         ensures ok { OnOk result (0 < self.new.room) }
         ensures same { self.new.entries ≡ self.old.entries }

@@ -11,6 +11,11 @@ use ftp_base::{IpAddr, SocketAddr};
 use ftp_proxy::{cut, value_below};
 
 /// The address that six numbers of a byte give, joined by commas: an IPv4 address and a port.
+///
+/// # Proved
+///
+/// - The address that the text of a PORT gives, or that it gives none: six numbers below 256 of one to three digits,
+///   with commas between them.
 pub fn port_target(text: &[u8]) -> Option<SocketAddr>
     ensures { result ≡ port_target text.now }
 {

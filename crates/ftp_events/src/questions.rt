@@ -23,6 +23,11 @@ use std::alloc::{AllocError, Global};
 /// The session that holds the port for the client of this IPv4 address, after the log.
 ///
 /// Takes no memory, and looks an opening up once for each grant of the port.
+///
+/// # Proved
+///
+/// - Who holds a port for a client, from the log alone; the replies that a session was sent, the oldest first (also
+///   `replies_of`).
 pub fn holder_of(options: &Options, log: &Log, source: u32, port: u16) -> Option<u64>
     ensures { result ≡ holder options.now (past_of log.now.entries) (V4 source) port }
 {

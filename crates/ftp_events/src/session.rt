@@ -65,6 +65,10 @@ pub struct Pending {
 
 impl Pending {
     /// The transfer as it starts, on the link of this number.
+    ///
+    /// # Proved
+    ///
+    /// - A transfer that starts runs with all that its 150 fixed, on its link.
     pub fn on(self, number: u64) -> Running
         ensures { result ≡ run_of self number }
     {

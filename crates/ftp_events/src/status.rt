@@ -68,6 +68,10 @@ impl CommandWord {
 
 impl Ended {
     /// What is counted of a job.
+    ///
+    /// # Proved
+    ///
+    /// - How a transfer that has ended is counted, by its outcome and what the link met (also `Ended::status`).
     pub fn of(job: &Job) -> Ended
         ensures { result ≡ ended_of job.now }
     {

@@ -20,6 +20,11 @@ use uuid::Builder;
 pub const PASSIVE_TEXT: usize = 64;
 
 /// The reply to a message.
+///
+/// # Proved
+///
+/// - The reply to a message and to a refusal of a storage; the words of a message that has words (also `refusal`;
+///   `words_of`: `reply`, `short`).
 pub fn reply_of(alloc: Global, message: &ControlChanMsg) -> Result<Reply, AllocError>
     ensures { IfOk result (λ reply. reply ≡ reply_of message.now) }
 {
@@ -119,6 +124,11 @@ pub fn refusal(kind: ErrorKind) -> (ReplyCode, &'static [u8])
 /// The reply that advertises a passive port (RFC 959, section 4.1.2), or that says that there is no address to
 /// advertise. The addresses are IPv4, as one number in network order; `lookup` is what the advertised name was
 /// looked up to.
+///
+/// # Proved
+///
+/// - The reply to a PASV: the address of the control connection, the fixed one or what was looked up, with the port;
+///   for a name without a lookup that this was not resolved.
 pub fn make_pasv_reply(
     alloc: Global,
     host: &PassiveHost,
@@ -159,6 +169,10 @@ fn unresolved(alloc: Global, name: &Bytes) -> Result<Reply, AllocError>
 }
 
 /// Writes the text of a passive reply behind the text, in room that it has.
+///
+/// # Proved
+///
+/// - The texts of a 227 and of a 350, and the name of a STOU, from a number (also `write_offset_text`; `unique_name`).
 pub fn write_passive_text(text: &mut Vec<u8>, ip: u32, port: u16)
     requires { vec_len text.old + 64 ≤ vec_capacity text.old }
     ensures { text.new.items ≡ text.old.items ++ passive_text ip port }

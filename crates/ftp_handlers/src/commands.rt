@@ -23,6 +23,15 @@ use ftp_options::Options;
 use ftp_switchboard::{Looks, Switchboard};
 
 /// Hands a command of a live session, or a look at its slot, to its handler.
+///
+/// # Proved
+///
+/// - The same of each command of a session that goes on, USER, the answer to a password and a look at the age of its
+///   slot among them, if the same; for the answer to a password the table goes by the policy of the options, and has
+///   room for a key; for `session` and `actions` the session's count of notices is not at its end (`decision`,
+///   `session`, `actions`, `holders`, `alone`, `range`, `goes_on`).
+/// - The answer to a password leaves of the failures of each key what the policy says, and no other command changes any
+///   (`failures`, `policy`, `uncounted`).
 pub fn command(
     session: &mut Session,
     args: &EventKind,

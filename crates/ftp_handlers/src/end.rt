@@ -20,6 +20,12 @@ use ftp_options::Options;
 use ftp_transfer::{Completion, Outcome};
 
 /// Tells a live session how its transfer ended, and listeners what it moved.
+///
+/// # Proved
+///
+/// - The end of a transfer whose session is live: its restart offset and notices, what is told, and slot and waiting
+///   transfer as before, if the room is ready, has room for a reply, and has the name of the user (`session`,
+///   `actions`, `slot`, `pending`).
 pub fn deliver(
     session: &mut Session,
     job: Running,
@@ -81,6 +87,11 @@ pub fn deliver(
 }
 
 /// Tells a live session that its transfer was cut.
+///
+/// # Proved
+///
+/// - A transfer that is cut: the session is at work at that moment, and is told 426 and then 226, the link between them
+///   closed, if the room is ready, with five places, and has room for both replies (`session`, `actions`).
 pub fn cut(session: &mut Session, job: &Running, room: &mut Room, at: u64)
     requires room { IsReady room.old }
     requires places { HasPlaces 5 room.old }

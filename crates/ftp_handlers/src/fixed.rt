@@ -14,6 +14,11 @@ use std::alloc::{AllocError, Global};
 const UNKNOWN: &[u8] = b"unknown";
 
 /// The name or the path that an event keeps or tells of a session.
+///
+/// # Proved
+///
+/// - The name, the path and the transfer that an event keeps or asks for, of its session as it stands (also
+///   `copy_alone`; `fix_transfer`).
 pub fn copy_kept(alloc: Global, kind: &EventKind, session: &Session) -> Result<Bytes, AllocError>
     ensures { IfOk result (λ kept. kept ≡ kept_by kind.now session.now) }
 {

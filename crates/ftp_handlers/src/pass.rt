@@ -16,6 +16,15 @@ use ftp_options::Options;
 use ftp_switchboard::Switchboard;
 
 /// Lets the password be checked, where a name is given and none is being checked.
+///
+/// # Proved
+///
+/// - PASS, PASV, PORT, REST and CWD: the decision of the row, the session afterwards, the actions, and who holds which
+///   port; the session goes on, if the event is of this word, the room is ready, has room for a reply and keeps what
+///   the event needs, and for a PASV or PORT it has room for a reply on a transfer that is dropped; where sessions
+///   share the ports, the board has the range, and for a PASV room (`decision`, `session`, `actions`, `board`,
+///   `goes_on`; also `rest::handle`, `cwd::handle`; also `pasv::handle`, `port::handle`: `decision`, `session`,
+///   `actions`, `holders`, `alone`, `range`, `goes_on`).
 pub fn handle(
     session: &mut Session,
     args: &EventKind,

@@ -36,6 +36,11 @@ use std::mem;
 /// advertises it.
 ///
 /// The looks are those of the reservation.
+///
+/// # Proved
+///
+/// - A PASV looks at words and pairs no more often than one reservation may, if the same; the count has room for 1,059
+///   more (`looks`).
 pub fn handle(
     session: &mut Session,
     args: &EventKind,

@@ -19,6 +19,13 @@ use ftp_options::Options;
 use ftp_switchboard::Switchboard;
 
 /// Lets go of all that the session has, and says goodbye before its own connection is closed.
+///
+/// # Proved
+///
+/// - QUIT and the end of a control connection: the decision of the row, the actions, and who holds which port
+///   afterwards, if the event is of this word, the room is ready, for QUIT with a place more and room for a reply; for
+///   `actions` the count of notices is not at its end (`decision`, `actions`, `holders`, `range`; also
+///   `closed::handle`; also `ending`: `ends`, `decision`, `actions`, `holders`, `range`).
 pub fn handle(
     session: &mut Session,
     args: &EventKind,

@@ -114,6 +114,13 @@ pub struct Extent {
 
 impl Extent {
     /// What an event of this kind can need, for one entry or for two.
+    ///
+    /// # Proved
+    ///
+    /// - What a room has memory for: places for four actions, or for five of a QUIT, of the end of an idle session, and
+    ///   of the end of a transfer or a piece of it; room for a reply, and for one on a transfer that is dropped, for
+    ///   the kinds of event that can get it, and for a name that a reply shows (`places`, `replies`, `width`, `drops`,
+    ///   `enough`).
     pub fn of(kind: &EventKind, options: &Options, twice: bool) -> Extent
         ensures places { result.places ≡ places_for kind.now }
         ensures enough { most_actions ≤ result.places }
@@ -158,6 +165,12 @@ impl Extent {
 
 impl Room {
     /// Takes memory for the step on an event at a count of events, with places for the actions of all who leave.
+    ///
+    /// # Proved
+    ///
+    /// - A new room is empty, has so many places and so much room for texts, and holds what was looked up for the event
+    ///   (four places or more) (`ready`, `places`, `letters`, `dropped`, `counted`, `kept`, `pending`, `job`, `need`,
+    ///   `used`).
     pub fn new(
         alloc: Global,
         count: u64,
@@ -269,6 +282,12 @@ impl Room {
     }
 
     /// The actions that were put in, in order.
+    ///
+    /// # Proved
+    ///
+    /// - What is put in comes out in order; where the room is for two, twice, and no handler makes it one for one (it
+    ///   has a place, and for a text the room) (also `Room::into_twin`: `first`, `second`; `command`, `ending`:
+    ///   `twice`; `Room::reply`, `Room::advertise`, `Room::restart`, `Room::start`: `actions`, `same`).
     pub fn into_actions(self) -> Actions
         ensures { result ≡ actions_in self }
     {

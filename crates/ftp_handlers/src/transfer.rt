@@ -18,6 +18,14 @@ use ftp_options::Options;
 use ftp_switchboard::Switchboard;
 
 /// Queues the transfer in the session's slot, where that waits for a link or has one and no other transfer waits.
+///
+/// # Proved
+///
+/// - RETR, STOR, APPE, LIST, NLST, MLSD and STOU, before a queued transfer starts: the decision of the row, the
+///   transfer in the slot, and the reply; no port changes its holder (as for a command; the room has the transfer that
+///   the event asks for; for `decision` and `session` no count of the session is at its end) (`decision`, `session`,
+///   `actions`, `board`; also `stor::handle`, `appe::handle`, `list::handle`, `nlst::handle`, `mlsd::handle`,
+///   `stou::handle`).
 pub fn handle(
     session: &mut Session,
     args: &EventKind,

@@ -49,6 +49,10 @@ impl Hub {
     ghost use Rattle.ftp_hub.specs.Stands.{Stands, options_of, count_of};
 
     /// A hub to which nothing has happened.
+    ///
+    /// # Proved
+    ///
+    /// - A new hub stands for the empty log, in every mode (`stands`; also `Hub::with_count`: `stands`).
     pub fn new(alloc: Global, options: Options) -> Hub
         ensures stands { Stands result [] }
         ensures options { options_of result ≡ options }
@@ -81,6 +85,10 @@ impl Hub {
     }
 
     /// The options that the hub was made from.
+    ///
+    /// # Proved
+    ///
+    /// - The options stay those that the hub was made from (also `Hub::step`, `run_event`, `run_events`: `options`).
     pub fn options(&self) -> &Options
         ensures { result.now ≡ options_of self.now }
     {
@@ -88,6 +96,10 @@ impl Hub {
     }
 
     /// What was counted over the entries that were not refused, where counts are kept; else every count is 0.
+    ///
+    /// # Proved
+    ///
+    /// - The counters are those of the log, where metrics are kept, and 0 else, if the hub stands for the log.
     pub fn counters(&self) -> &Counters
         ensures { (log : List Entry) → Stands self.now log → Counted (options_of self.now) (past_of log) result.now }
     {
@@ -102,6 +114,11 @@ impl Hub {
     }
 
     /// How many sessions are live.
+    ///
+    /// # Proved
+    ///
+    /// - How many sessions are live, whether one is, how many transfers run, and whether there is neither, if the hub
+    ///   stands for the log (also `Hub::is_live`; `Hub::running`; `Hub::drained`).
     pub fn sessions(&self) -> u64
         ensures { (log : List Entry) → Stands self.now log → result ≡ live_count (past_of log) }
     {

@@ -46,6 +46,18 @@ impl From<AllocError> for PrepareError {
 
 impl Hub {
     /// Takes all memory that the step on the event can need.
+    ///
+    /// # Proved
+    ///
+    /// - A room fits the hub and the event for which it was taken: the transfer that the event asks for is fixed in it,
+    ///   and for the kinds of event that can need them there are places in the tables, room for the texts of replies,
+    ///   and what is looked up, as whether the number of a PORT was used (`used` of `Fits`). That nothing is taken for
+    ///   the others is no clause (`fits`).
+    /// - After `prepare`, whatever it answers, every table answers as before (`same`).
+    /// - `prepare` is exhausted exactly at the end of the count of events (`exhausted`; also `run_event`: `exhausted`;
+    ///   `Hub::prepare_twin`: `exhausted`).
+    /// - The room has the job that is to be run: that of the ticket, where it runs; says so, and gives it once; or it
+    ///   says that a header is to be read (`job`, `fits`; also `Room::take_job`: `job`, `once`; `Room::need`).
     pub fn prepare(&mut self, event: &HubEvent) -> Result<Room, PrepareError>
         ensures fits { IfOk result (λ room. Fits room self.new event.now) }
         ensures job { IfOk result (λ room. job_in room ≡ job_for self.new event.now.kind) }
@@ -77,6 +89,10 @@ impl Hub {
     }
 
     /// Lets the room of a step go that is not taken.
+    ///
+    /// # Proved
+    ///
+    /// - A room that is given back changes nothing.
     pub fn give_back(&mut self, room: Room)
         ensures { self.new ≡ self.old }
     {

@@ -55,6 +55,11 @@ impl RunError {
 }
 
 /// Says whether each connection that comes with an event has its link.
+///
+/// # Proved
+///
+/// - Whether each connection that an event brings, from a client or from a proxy or made for a PORT, has its link; of
+///   control connections without a proxy nothing is asked.
 pub fn covers<L: Link>(links: &LinkTable<L>, events: &[HubEvent]) -> bool
     ensures { result ≡ list_all (λ e. is_covered (is_linked links.now) e.kind) events.now }
 {
@@ -77,6 +82,32 @@ fn is_covered<L: Link>(links: &LinkTable<L>, event: &HubEvent) -> bool
 ///
 /// Where the job's link is not in the table the job is not run, and its end is refused. No header is read of a connection
 /// that is refused whatever its header says.
+///
+/// # Proved
+///
+/// - An error of `run_event` leaves every table as it answered, and storage and links as they were (`unchanged`,
+///   `none_done`, `storage`, `links`).
+/// - The end of a transfer that runs and is not to stop has its job run on the link that it started on: the answer is
+///   the outcome, which the job accepts, as its result suits the command and it counts the bytes of earlier pieces
+///   (`can_end` in `ftp_events/specs/EndRows.antt`), and what moved and why it ended is as under
+///   [ftp_transfer](#ftp_transfer); no other link changes, no count of faults falls, and no limit of faults rises, if
+///   the hub stood for the log; the link of the job, where there is one, is in the table (`leads`).
+/// - A piece of such a transfer moves 1 to 8,192 bytes of its job on that link, and the answer counts them
+///   (`MovesPiece` in `ftp_events/specs/Leads.antt`, `can_move`); or the transfer ends with it, and the answer is the
+///   outcome, as above (`leads`).
+/// - A connection behind a proxy has its header read from the link that the event names, unless it is refused without
+///   it (`header_to_read`): the answer is the outcome of the line at the front of what that link had left, the line is
+///   taken and nothing behind it, and nothing is sent, closed or stored; it is a fault only where the link's count
+///   rose, and then some of the line may be taken; no other link changes, its count of faults does not fall, and its
+///   limit does not rise (`ReadsHeader`). What was taken is said where the link tells its bytes, if the hub stood for
+///   the log (`leads`).
+/// - Every other event has no answer, and leaves storage and links as they were: so does a connection behind a proxy
+///   that is refused for its mode, for the proxy's IPv6 address, or for its number (`LeavesAll`) (`leads`).
+/// - Where the link of that job is not in the table, nothing is run, read or stored, and the answer is none, if the hub
+///   stood for the log (`lacks`).
+/// - A link that is in the table stays in it; where those of slots and jobs are there, they are there afterwards
+///   (`linked`; also `run_events`: `linked`, `has_links`).
+/// - Each event is counted once (`count`; also `run_events`: `count`; `Hub::step`: `count`).
 pub fn run_event<S: Storage, L: Link>(
     hub: &mut Hub,
     storage: &mut S,
@@ -246,6 +277,17 @@ fn run_piece<S: Storage, L: Link>(
 ///
 /// After an error all is as after the first `done` events. The table should have the link of each slot and each job
 /// of the hub; a fresh hub has none.
+///
+/// # Proved
+///
+/// - `run_events` is exhausted exactly where an event is still to be taken at the end of the count (`exhausted`,
+///   `stopped`, `count`).
+/// - After an error of `run_events` the hub has counted the first `done` events, and no more (`count_stopped`).
+/// - The log goes on by one entry for each event, in order; after an error by those of the first `done` events
+///   (`events`, `first`).
+/// - What `leads` says, of all entries by which the log goes on, one after the other, if the hub stood for the log;
+///   each link that a live session has in its slot, or a running job transfers over, is in the table (`HasLinks`)
+///   (`leads`).
 pub fn run_events<S: Storage, L: Link>(
     hub: &mut Hub,
     storage: &mut S,

@@ -26,6 +26,45 @@ use ftp_transfer::{Outcome, Ticket};
 
 impl Hub {
     /// Decides the event and changes the tables. It takes no memory: all that it needs is in the room.
+    ///
+    /// # Proved
+    ///
+    /// - The entry is the one that is due after the log, with its event and answer: its decision and its actions are
+    ///   those of the definitions, in every mode, if the hub stands for the log; the room fits (`due`, `event`,
+    ///   `answer`; also `run_event`: `due`, `event`).
+    /// - The hub then stands for the log with the entry: the log is right and acted, and each table answers every
+    ///   question as the log does, if the hub stood for the log (`stands`; also `run_event`: `stands`; `run_events`:
+    ///   `stands`).
+    /// - In legacy mode too the log is right and acted: a PASV is granted the port that was bound for its session,
+    ///   where that is in the range and there is an address to show with it; a data connection that came there is
+    ///   attached where the slot waits and both peers have one address, and turned away with a `Close` else; nobody
+    ///   holds a port, if the hub stands for the log (`due`, `stands`; also `run_event`: `due`, `stands`; `run_events`:
+    ///   `stands`).
+    /// - What is decided on a password goes by the failures that the log tells of the login's key (`tally` in
+    ///   `ftp_events/specs/Lockout.antt`): a login that is let in has no locked key, and `LoginFailed` says what this
+    ///   failure makes of the lock; the table of failed logins has of every key what the log tells, if the hub stands
+    ///   for the log (`due`, `stands`; also `run_event`: `due`, `stands`).
+    /// - The connection of a PORT is taken only where its text gives the address of the session's peer (`address_row`
+    ///   in `ftp_events/specs/CommandRows.antt`); its number is used only then, and else may come again, if the hub
+    ///   stands for the log (`due`, `stands`; also `run_event`: `due`, `stands`).
+    /// - A slot is dropped for its age exactly where it has a link without a transfer for 300,000 ms or more, or waits
+    ///   in legacy mode for 15,000 ms or more (`slot_row`, `slot_limit` there), if the hub stands for the log (`due`,
+    ///   `stands`; also `run_event`: `due`, `stands`).
+    /// - After a stop no session is live, nothing is held, and every connection is turned away; whether a stop came is
+    ///   told by the hub as by the log, if the hub stands for the log (`due`, `stands`; also `run_event`: `due`,
+    ///   `stands`).
+    /// - A refused event changes no table, if the hub stands for the log (`refused`).
+    /// - A step gives the due entry also where the allocator has nothing left: it has no answer of want of memory. That
+    ///   it asks for none is no clause, if the room is of this event and count (`due`).
+    /// - An ABOR of a session whose job runs marks the job, and its next piece or its end cuts it: the transfer is
+    ///   cancelled, its session is told 426, its link is closed, and then the ABOR is answered by 226 (`abor_row` in
+    ///   `ftp_events/specs/CommandRows.antt`, `unless_marked` in `ftp_events/specs/EndRows.antt`, `cuttings` in
+    ///   `ftp_events/specs/Acts.antt`), if the hub stands for the log (`due`, `stands`; also `run_event`: `due`,
+    ///   `stands`).
+    /// - A header that is none, by whatever error, is decided `HeaderFault` with this error, the caller is told to
+    ///   close its connection, and its number is used; one to the control port opens a session whose client is the
+    ///   source and whose 227 shows the destination, where no other address is advertised, if the hub stands for the
+    ///   log (`due`, `stands`; also `run_event`: `due`, `stands`).
     pub fn step(&mut self, room: Room, event: HubEvent, answer: Answer) -> Entry
         requires { Fits room self.old event }
         ensures event { result.event ≡ event }

@@ -54,6 +54,12 @@ impl TwinRoom {
 impl Hub {
     /// Takes all memory that the step on the event with its answer can need, and that for a second copy of its entry
     /// and for its job.
+    ///
+    /// # Proved
+    ///
+    /// - The room of such a step has all twice, and copies of the event and of the transfers that can start; to prepare
+    ///   it changes no answer of a table, and the hub stands for what it stood for (`fits`, `same`, `stands`; also
+    ///   `Hub::give_back_twin`).
     pub fn prepare_twin(
         &mut self,
         event: &HubEvent,
@@ -122,6 +128,13 @@ impl Hub {
     }
 
     /// Decides the event and changes the tables, and gives the entry twice. It takes no memory.
+    ///
+    /// # Proved
+    ///
+    /// - A step for two gives the due entry, a copy that equals it, and the job that starts with it, where one does, if
+    ///   the hub stands for the log; the room is of this event and answer (`due`, `told`, `job`).
+    /// - Afterwards the hub stands for the log with the entry; a refused event changes no table, and each is counted
+    ///   once (`stands`, `refused`, `count`).
     pub fn step_twin(&mut self, room: TwinRoom, event: HubEvent, answer: Answer) -> Twin
         requires { FitsTwin room self.old event answer }
         ensures event { result.kept.event ≡ event }

@@ -23,6 +23,15 @@ use std::alloc::{AllocError, Global};
 /// The client is an IPv4 address, as one number in network order. An entry is the client's whose connection it tells of, or who
 /// opened the session that it names; those that concern every client are run too. Goes over the log once, and fails only for want
 /// of memory: the log may be any, right or not.
+///
+/// # Proved
+///
+/// - The log that it gives has exactly the events and answers of the entries that belong to one client, and those that
+///   concern every client, in order; it is right and acted (`same_events`, `right`, `acted`).
+/// - Each of its entries is decided as in the log that was handed in, and has the same actions, but for a stop, which
+///   names every session; without a stop it is that client's part of the log, if the log is right and acted under the
+///   same options; nobody else brings in a number that an entry of the client carries; failed logins of one address
+///   lock no other; sessions share the ports (`IsUndisturbed`) (`served`, `alone`).
 pub fn isolation(alloc: Global, options: Options, log: &Log, source: u32) -> Result<Log, AllocError>
     ensures same_events { IfOk result (λ alone. events_of alone.entries ≡ events_of (client_log log.now.entries (V4 source))) }
     ensures right { IfOk result (λ alone. IsRight options alone.entries) }

@@ -37,6 +37,15 @@ pub struct Held {
 /// second at most.
 ///
 /// The buffer has 8,193 bytes, one more than the longest line.
+///
+/// # Proved
+///
+/// - A line that is found is one: it ends at its first line feed, and has at most 8,192 bytes with it; that a line is
+///   too long, or that none is left, is seen in what is held (`found`).
+/// - Where the control tells its bytes, the line, what is held behind it and what is left are what was held and left,
+///   in whatever pieces they come; at the end nothing is left (`told`, `end`).
+/// - Nothing is sent; a fault only where the control's count rose; a control that can be read at any time is not waited
+///   for (`sent`, `fault_rose`, `always`).
 pub fn next_control_line<C: Control>(
     buffer: &mut [u8],
     held: &mut Held,

@@ -27,6 +27,14 @@ pub struct Span {
 /// Finds the next line in the buffer, and moves the span of what is held behind it. It reads as much as that needs.
 ///
 /// A line is at most one byte shorter than the buffer, its line feed not counted, and the last may lack its line feed.
+///
+/// # Proved
+///
+/// - The next line of what is held and left, in whatever pieces the source gives it; the end; too long exactly where it
+///   does not fit (`told`, `line`, `taken`).
+/// - A call takes no more from the front of what is held and left than the buffer has bytes, whatever it answers
+///   (`ahead`).
+/// - A fault only where the source's count rose (`fault_rose`, `count`).
 pub fn next_line<S: Source>(
     buffer: &mut [u8],
     held: &mut Span,

@@ -8,6 +8,11 @@ ghost use Rattle.ftp_lines.specs.Writing.{WritesFront};
 use ftp_base::{Failed, Sink};
 
 /// Writes all of the bytes, in as many calls as the sink needs.
+///
+/// # Proved
+///
+/// - All bytes are written, or a part from the front and an error that is the sink's (`wrote`, `front`, `fault_rose`,
+///   `count`).
 pub fn write_all<K: Sink>(sink: &mut K, bytes: &[u8]) -> Result<(), Failed>
     ensures wrote { OnOk result (Writes (K.written sink.old) (K.written sink.new) bytes.now) }
     ensures fault_rose { IsErrOf result Fault → HasRisen (K.faults sink.old) (K.faults sink.new) }

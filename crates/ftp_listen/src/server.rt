@@ -43,6 +43,11 @@ pub struct Server<S: Storage + Drop> {
 
 impl<S: Storage + Send + Drop + 'static> Server<S> {
     /// Handlers of SITE commands are not asked.
+    ///
+    /// # Proved
+    ///
+    /// - A server has the options that were built, or that it is given (also `PreboundListener::new`; also
+    ///   `Server::with_options`, `PreboundListener::with_options`).
     pub fn new(alloc: Global, built: Built, parts: Parts<S>) -> Server<S>
         ensures { result.options ≡ built.options }
     {
@@ -88,6 +93,13 @@ impl<S: Storage + Send + Drop + 'static> Server<S> {
 
     /// Listens at an address such as `127.0.0.1:21` or `[::1]:21`, until the indicator asks for a shutdown and all
     /// transfers are over.
+    ///
+    /// # Proved
+    ///
+    /// - A text is refused exactly where it writes no address with a port (`WritesNone` in
+    ///   `ftp_listen/specs/Causes.antt`), and an address of IP version 6 exactly where sessions share the ports
+    ///   (`WritesV6`) (`address`, `ipv6`; also `Server::listen_with`, `PreboundListener::listen_pooled`,
+    ///   `PreboundListener::listen_proxy_protocol`).
     pub fn listen<R: ServerRuntime>(self, rt: &R, bind_address: &[u8]) -> Result<(), ServerError>
         ensures address { IsErrOf result ServerError.Address ↔ WritesNone bind_address.now }
         ensures ipv6 { IsErrOf result ServerError.Ipv6OutsideLegacy ↔ (WritesV6 bind_address.now × (is_legacy self.options.mode ≡ false)) }
@@ -126,6 +138,15 @@ impl<S: Storage + Send + Drop + 'static> Server<S> {
     /// caller's; that of the parts is not asked.
     ///
     /// In each turn the indicator is given the moment that the front gave last.
+    ///
+    /// # Proved
+    ///
+    /// - A server ends well only where its indicator has asked for a shutdown (`ok`).
+    /// - A fault of sockets is answered only where the front's count rose, and one of threads only where the spawner's
+    ///   did (`io`, `listener`).
+    /// - A shutdown is given up only where the indicator has asked, and the front's latest moment is later than the
+    ///   asking by more than the grace period, if the grace period: the indicator had not asked before the call
+    ///   (`shutdown`, `has_asked`).
     pub fn listen_with<
         R: ServerRuntime,
         G: Gate + Send + Sync + Drop + 'static,

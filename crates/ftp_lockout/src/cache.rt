@@ -46,6 +46,11 @@ impl Model for FailedLoginsCache {
 
 impl FailedLoginsCache {
     /// No failed login.
+    ///
+    /// # Proved
+    ///
+    /// - After any list of calls the table has of each key what the tally of these calls says (`stands`; also
+    ///   `FailedLoginsCache::failed`, `FailedLoginsCache::success`, `FailedLoginsCache::sweep`).
     pub fn new(alloc: Global, policy: FailedLoginsPolicy) -> FailedLoginsCache
         ensures policy { result.policy ≡ policy }
         ensures stands { StandsFor result [] }
@@ -65,6 +70,16 @@ impl FailedLoginsCache {
     }
 
     /// Counts a failed login, and says whether its key is locked from now on, or was.
+    ///
+    /// # Proved
+    ///
+    /// - A failed login is counted for its key, from 1 where what was recorded has expired, and no other key changes
+    ///   (`counted`).
+    /// - It locks the key where the count comes to the policy's limit, and says that it was locked where it goes past
+    ///   it (`lock`).
+    /// - With room a failed login is counted whether or not memory is left; without memory nothing is recorded, and
+    ///   nothing is lost (`room`, `unchanged`; also `FailedLoginsCache::room`: `room`, `same`).
+    /// - The policy stays (`policy`; also `FailedLoginsCache::success`, `FailedLoginsCache::sweep`).
     pub fn failed(
         &mut self,
         at: u64,
@@ -86,6 +101,11 @@ impl FailedLoginsCache {
     }
 
     /// Removes what is recorded of a login that is let in, unless its key is locked. It takes no memory.
+    ///
+    /// # Proved
+    ///
+    /// - A login that is let in is told that its key is locked exactly where it is; else what is recorded of the key
+    ///   goes, and no other key changes (`lock`, `removed`).
     pub fn success(&mut self, at: u64, ip: IpAddr, user: &Bytes) -> Option<LockState>
         ensures lock { result ≡ (if is_locked self.old.policy at (failures_of self.old (key_of self.old.policy.block_by ip user.now)) then Some LockState.AlreadyLocked else None) }
         ensures removed { (key : LoginKey) → failures_of self.new key ≡ (if same_key key (key_of self.old.policy.block_by ip user.now)
@@ -104,6 +124,10 @@ impl FailedLoginsCache {
     }
 
     /// Removes what has expired, in one pass. It takes no memory.
+    ///
+    /// # Proved
+    ///
+    /// - A sweep takes out exactly what has expired (`swept`).
     pub fn sweep(&mut self, at: u64)
         ensures swept { (key : LoginKey) → failures_of self.new key ≡ swept self.old.policy at (failures_of self.old key) }
         ensures stands { (calls : List Call) → StandsFor self.old calls → StandsFor self.new (Swept at ∷ calls) }

@@ -30,6 +30,11 @@ pub enum LogLine {
 }
 
 /// What the line says. Its line feed is no part of the line.
+///
+/// # Proved
+///
+/// - A line of a printed log is read exactly where the log prints something so, each field in the range of its type: an
+///   options line, an event, an answer, any decision, any action (`found`, `bad`, `only`).
 pub fn read_log_line(alloc: Global, line: &[u8]) -> Result<LogLine, LineFault>
     // What is read is spelled so, each byte of the line.
     ensures found { IfOk result (λ x. (log_line x ≡ line.now) × IsLogLine x) }

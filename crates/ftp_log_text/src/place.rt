@@ -81,6 +81,12 @@ impl Place {
 
     /// What the next line of the text says, and the bytes behind it. After an error the number of lines counts this
     /// line too.
+    ///
+    /// # Proved
+    ///
+    /// - A line is read where a printed log can have it behind the lines before it, and else it is the first bad one;
+    ///   an entry that is not whole at the end is bad at its last line (`line`, `bad`; also `Place::is_whole`: `whole`,
+    ///   `unfinished`).
     pub fn read<'a>(
         &mut self,
         alloc: Global,
@@ -141,6 +147,13 @@ fn discard(_line: LogLine) {}
 
 /// The number of the first line that no printed log has, or None where the text is that of a printed log: an options
 /// line or none, and the lines of entries.
+///
+/// # Proved
+///
+/// - Where no line is named, the text is an options line or none and the print of a log, of at most 67,108,864 bytes
+///   (`printed`).
+/// - The line that is named is the first that no printed log has with the lines before it, or the one with which the
+///   text is too long (`bad`).
 pub fn first_bad_line(alloc: Global, text: &[u8]) -> Result<Option<u64>, AllocError>
     ensures printed { IfOk result (λ bad. IfNone bad (IsPrinted text.now)) }
     ensures bad { IfOk result (λ bad. IfSome bad (λ k. HasFirstBad k text.now)) }

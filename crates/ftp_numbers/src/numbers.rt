@@ -49,6 +49,10 @@ impl Numbers {
     }
 
     /// Says whether the number was put, in a time that grows with the logarithm of the count of intervals.
+    ///
+    /// # Proved
+    ///
+    /// - A number is there exactly where it was put (for `put`, room was made) (also `Numbers::put`; `Numbers::new`).
     pub fn has(&self, n: u64) -> bool
         ensures { result ≡ has self.now n }
     {
@@ -56,6 +60,10 @@ impl Numbers {
     }
 
     /// Gives the intervals, the lowest first.
+    ///
+    /// # Proved
+    ///
+    /// - The intervals have exactly the numbers that were put, are in order and do not touch (`same`, `apart`).
     pub fn intervals(&self, alloc: Global) -> Result<Vec<Interval>, AllocError>
         ensures same { IfOk result (λ intervals. (n : ℕ) → is_used intervals.items n ≡ has self.now n) }
         ensures apart { IfOk result (λ intervals. IsApart intervals.items) }
@@ -76,6 +84,11 @@ impl Numbers {
     }
 
     /// Takes the memory that the next `put` needs, in a time that grows with the logarithm of the count of intervals.
+    ///
+    /// # Proved
+    ///
+    /// - Room for the next `put`, which has no answer of want of memory; it changes no number, also where there is no
+    ///   memory (`ok`, `same`).
     pub fn make_room(&mut self) -> Result<(), AllocError>
         ensures ok { OnOk result (HasSpare self.new) }
         ensures same { SameNumbers self.old self.new }

@@ -80,6 +80,11 @@ pub struct Built<H = Handler> {
 
 impl ServerBuilder {
     /// Legacy mode, the passive ports 49152 to 65535, an idle time of ten minutes, and a storage that can restart.
+    ///
+    /// # Proved
+    ///
+    /// - A new builder has the defaults: legacy mode, ports 49152 to 65535, the address of the control connection,
+    ///   passive mode alone, ten minutes, no lockout, a storage that can restart.
     pub fn new(alloc: Global) -> ServerBuilder
         ensures { result ≡ draft_of defaults [] }
     {
@@ -150,6 +155,15 @@ impl<H: Drop> ServerBuilder<H> {
     }
 
     /// Sessions share the listeners of the passive ports.
+    ///
+    /// # Proved
+    ///
+    /// - Each setter sets its value and nothing else; the idle time is in seconds, and stands still at the largest
+    ///   count of milliseconds (also `ServerBuilder::proxy_protocol_mode`; `ServerBuilder::passive_ports`;
+    ///   `ServerBuilder::passive_host`; `ServerBuilder::active_passive_mode`; `ServerBuilder::idle_session_timeout`;
+    ///   `ServerBuilder::failed_logins_policy`; `ServerBuilder::storage_features`; `ServerBuilder::greeting`;
+    ///   `ServerBuilder::metrics`; `ServerBuilder::sitemd5`; `ServerBuilder::ftps_required`;
+    ///   `ServerBuilder::ftps_tls_flags`).
     pub fn pooled_listener_mode(&mut self)
         ensures { self.new ≡ record self.old { settings = record self.old.settings { mode = ListenerMode.Pooled } } }
     {
@@ -202,6 +216,10 @@ impl<H: Drop> ServerBuilder<H> {
     }
 
     /// Users have details that a provider gives. It comes before all names: those that are registered are forgotten.
+    ///
+    /// # Proved
+    ///
+    /// - A provider of user details behind a name that is registered is a fault, and forgets the names.
     pub fn user_detail_provider(&mut self)
         ensures { self.new ≡ provided self.old }
     {
@@ -216,6 +234,13 @@ impl<H: Drop> ServerBuilder<H> {
 
     /// Registers a handler of a SITE command, under its name in upper case. The first fault of all calls is kept, and
     /// then no handler is registered.
+    ///
+    /// # Proved
+    ///
+    /// - A handler is registered under its name in upper case, and is found under it in any case, and every other one
+    ///   as before, while there is no fault; the first fault of all calls is kept, and nothing is registered after it:
+    ///   a name that is none, then `MD5`, then a name that is there (`fault_of` in `ftp_options/specs/Site.antt`)
+    ///   (`registered`, `found`, `unchanged`).
     pub fn site_command(&mut self, name: &[u8], handler: H) -> Result<(), AllocError>
         ensures registered { OnOk result (self.new ≡ registered name.now handler self.old) }
         ensures found { OnOk result (self.new.fault ≡ None → FindsOneMore name.now handler self.old.handlers self.new.handlers) }
@@ -248,6 +273,13 @@ impl<H: Drop> ServerBuilder<H> {
     }
 
     /// The options that were set, or the first reason why they are not lawful.
+    ///
+    /// # Proved
+    ///
+    /// - Options are built as set, with the handlers, exactly where nothing speaks against it; else the first refusal
+    ///   in order comes, each exactly where it is the first: a fault of the registrations, an empty range, port 0
+    ///   outside legacy mode, FTPS that is required of somebody (`refusal` in `ftp_options/specs/Builder.antt`)
+    ///   (`built`, `ok`, `configuration`, `empty_range`, `port_zero`, `ftps_required`).
     pub fn build(mut self) -> Result<Built<H>, ServerError>
         ensures built { IfOk result (λ built. draft_of (settings_of built.options) built.handlers ≡ self) }
         ensures ok { IsOk result ↔ (refusal self ≡ None) }

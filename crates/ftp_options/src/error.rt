@@ -70,6 +70,11 @@ pub enum ServerError {
 impl fmt::Display for ServerError {
     ghost output = { λ e. Some (error_text e) };
 
+    // # Proved
+    //
+    // - What errors and requirements print (`ftp_options/specs/Texts.antt`, `Ftps.antt`); a name stands in them with
+    //   each byte that cannot be printed as a backslash, `x` and two digits (also `ConfigFault::fmt`;
+    //   `FtpsRequired::fmt`).
     fn fmt<W: fmt::Write>(&self, f: &mut fmt::Formatter<W>) -> fmt::Result {
         match self {
             ServerError::Configuration(fault) => write!(f, "server error: {fault}"),

@@ -20,6 +20,10 @@ pub enum PassiveHost {
 
 impl PassiveHost {
     /// The host that a text names: a dotted IPv4 address, else a name to look up.
+    ///
+    /// # Proved
+    ///
+    /// - A text is the host of its dotted address, and else a name.
     pub fn parse(text: Bytes) -> PassiveHost
         ensures { IsHostOf text result }
     {

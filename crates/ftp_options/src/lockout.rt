@@ -22,6 +22,11 @@ pub struct FailedLoginsPolicy {
 }
 
 impl FailedLoginsPolicy {
+    /// # Proved
+    ///
+    /// - A policy on failed logins is what it is made of; so are a shutdown, and what is made of a yes or no
+    ///   (`attempts`, `expiry`, `block`; also `Shutdown::new`; `Shutdown::grace_period`; `FtpsRequired::from_bool`;
+    ///   `FtpsClientAuth::from_bool`).
     pub fn new(
         max_attempts: u32,
         expires_after_ms: u64,

@@ -23,6 +23,11 @@ pub enum ListenerMode {
 }
 
 impl ListenerMode {
+    /// # Proved
+    ///
+    /// - Which mode it is, and whether a port is the control port of the proxy; which commands are off; whether a name
+    ///   lacks its lookup (also `ListenerMode::is_pooled`; `ListenerMode::is_proxy`; `ListenerMode::is_control_port`;
+    ///   `ActivePassiveMode::is_passive_off`; `ActivePassiveMode::is_active_off`; `PassiveHost::lacks_lookup`).
     pub fn is_legacy(self) -> bool
         ensures { result ≡ is_legacy self }
     {
@@ -110,6 +115,10 @@ pub struct Options {
 
 impl Options {
     /// Gives equal options.
+    ///
+    /// # Proved
+    ///
+    /// - Copies are equal (also `PassiveHost::copy`).
     pub fn copy(&self, alloc: Global) -> Result<Options, AllocError>
         ensures { IfOk result (λ copy. copy ≡ self.now) }
     {
@@ -130,6 +139,10 @@ impl Options {
     }
 
     /// Transfers can begin at a restart offset.
+    ///
+    /// # Proved
+    ///
+    /// - Transfers can begin at a restart offset exactly where the storage has that feature.
     pub fn has_restart(&self) -> bool
         ensures { result ≡ has_restart self.now.features }
     {

@@ -77,6 +77,10 @@ impl<H: Drop> SiteHandlers<H> {
     }
 
     /// The handler that is registered under the name in upper case.
+    ///
+    /// # Proved
+    ///
+    /// - The handler that is registered under a name, whatever its case, and none exactly where there is none.
     pub fn find(&self, name: &[u8]) -> Option<&H>
         ensures { option_copied result ≡ handler_of self.now name.now }
     {

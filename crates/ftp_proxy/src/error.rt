@@ -45,6 +45,9 @@ impl From<ReadError> for ProxyError {
 impl fmt::Display for ProxyError {
     ghost output = { λ e. Some (error_text e) };
 
+    // # Proved
+    //
+    // - Each error prints one text, which `error_text` has (`ftp_proxy/specs/Texts.antt`).
     fn fmt<W: fmt::Write>(&self, f: &mut fmt::Formatter<W>) -> fmt::Result {
         match self {
             ProxyError::HeaderSize => write!(f, "header size is incorrect"),

@@ -20,6 +20,16 @@ const SHORTEST: usize = 13;
 /// Reads the header, a byte in each call, and nothing behind its line feed. It takes no memory.
 ///
 /// At most 108 bytes are read.
+///
+/// # Proved
+///
+/// - The answer is the outcome of the line at the front of all that the source has, whatever the pieces in which it
+///   gives that: the header, or the one error that the bytes ask for (`line`).
+/// - The line is taken up to and with its line feed, and nothing behind it; without one 108 bytes, or all where there
+///   are fewer; after a fault some bytes from the front of that (`taken`).
+/// - A fault only where the source's count rose; no count falls, and no limit rises (`fault_rose`, `only_reads`).
+/// - Of a link: nothing is sent or closed, and its last fault stays, unless the fault came from it (`only_reads`,
+///   `last_fault`, `met`).
 pub fn read_proxy_header<S: Source>(source: &mut S) -> Result<ProxyHeader, ProxyError>
     ensures line { IfSome (S.left source.old) (λ left. IsAnswer left result) }
     ensures taken { IfSome (S.left source.old) (λ left. IsTaken left result (S.left source.new)) }

@@ -49,6 +49,12 @@ impl From<ProxyError> for AnyError {
 /// Reads a header of version 2 where the first byte is CR, else one of version 1.
 ///
 /// The first byte is read alone. A header of version 1 takes no memory.
+///
+/// # Proved
+///
+/// - A header of either version is read as by the reader of the version that the first byte tells, with all that this
+///   reader says; what it counts as is a function of that (`answered` in `ftp_proxy2/specs/Any.antt`) (`header`,
+///   `taken`, `last_fault`, `met`, `unlisted`, `as_listed`, `fault_rose`, `only_reads`; also `to_answer`).
 pub fn read_proxy_any<S: Source>(alloc: Global, source: &mut S) -> Result<AnyHeader, AnyError>
     ensures header { IfSome (S.left source.old) (λ left. IsAnyAnswer left result) }
     ensures taken { IfSome (S.left source.old) (λ left. IsAnyTaken left result (S.left source.new)) }

@@ -17,6 +17,11 @@ const LONGEST: usize = 65_535;
 /// The bytes of a header. There are no others of the same header.
 ///
 /// A value that passes 65,535 bytes makes the block too long, as it stands in it.
+///
+/// # Proved
+///
+/// - A header is written as the one list of bytes that it has, and refused exactly where it has none: a block that is
+///   too long first, else a body of another family (`spelled`, `only`, `too_long`, `mismatch`).
 pub fn encode2(alloc: Global, header: &Header2) -> Result<Bytes, Encode2Error>
     ensures spelled { IfOk result (λ bytes. IsHeader bytes header.now) }
 

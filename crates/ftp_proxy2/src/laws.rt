@@ -6,6 +6,10 @@ ghost use Rattle.ftp_proxy2.specs.Header.{IsHeader};
 use crate::header::Header2;
 
 /// No header begins another, and none has two meanings.
+///
+/// # Proved
+///
+/// - No header begins another, and none has two meanings.
 pub fn no_header_begins_another()
     ensures { (a b x y : List ℕ) (h k : Header2) → IsHeader a h → IsHeader b k → a ++ x ≡ b ++ y → (a ≡ b) × (h ≡ k) }
 {}

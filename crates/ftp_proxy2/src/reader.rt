@@ -20,6 +20,17 @@ use std::alloc::Global;
 ///
 /// Each of the first sixteen bytes is read by a call of its own. Only names, fields and blocks that are not looked into
 /// take memory.
+///
+/// # Proved
+///
+/// - A header that is read stood at the front of all that the source had, and is all that was taken (`found`).
+/// - A header that stands at the front is read, whatever the pieces in which the source gives it, unless the source
+///   fails or memory runs out (`only`).
+/// - Else the answer is the first cause from the left, and nothing is taken behind the byte that decides; after a fault
+///   or for want of memory some bytes from the front of that were taken (`header`, `taken`).
+/// - A fault only where the source's count rose; no count falls, and no limit rises (`fault_rose`, `only_reads`).
+/// - Of a link: nothing is sent or closed, and its last fault stays, unless the fault came from it (`only_reads`,
+///   `last_fault`, `met`).
 pub fn read_header2<S: Source>(alloc: Global, source: &mut S) -> Result<Header2, Proxy2Error>
     // What is read stood at the front, and is all that was taken.
     ensures found { IfOk result (λ h. IfSome (S.left source.old) (λ left. IsFound left h (S.left source.new))) }

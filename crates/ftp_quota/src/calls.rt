@@ -37,6 +37,15 @@ pub enum Verdict {
 }
 
 /// Makes the calls in order, and says what became of each. Where memory runs out, the calls before that stand.
+///
+/// # Proved
+///
+/// - What became of each call is what its rule says of the book and the files as they then were; after an error the
+///   first calls were made, and no others, if the storage tells its files, and no fault was counted (`each`,
+///   `verdicts`, `made`, `stopped`).
+/// - Where no file that a user calls for is called for by another one, what became of the user's calls is what becomes
+///   of them alone, over the same book and files, if the same, and the storage refuses by the rule of one in memory
+///   (`alone`).
 pub fn replay<S: Storage + Drop>(
     alloc: Global,
     q: &mut Quota<S>,

@@ -22,6 +22,18 @@ impl<S: Storage + Drop> Quota<S> {
 
     /// Around a storage, with a budget in bytes for each user who is given none of his own. What the storage has already
     /// is owned by nobody.
+    ///
+    /// # Proved
+    ///
+    /// - A new one has nobody's files and the given budget for each user; `budget` gives a user another one, and in a
+    ///   transparent one changes nothing (`inner`, `book`; also `Quota::transparent`: `inner`, `book`; `Quota::budget`:
+    ///   `set`, `inner`, `unchanged`).
+    /// - After any calls each owned file has as many bytes as it was given, so `usage` is the sum of the lengths of the
+    ///   user's files, if the storage told its files when the `Quota` was made (`agreed`; also `Quota::budget`:
+    ///   `agreed`; `Quota::begin`: `agreed`; `Quota::append`: `agreed`; `replay`: `agreed`; `Quota::usage`: `usage`).
+    /// - After any calls no user's usage is above the budget, where budgets were set before the first of them
+    ///   (`unused`, `within`; also `Quota::budget`: `unused`, `within`; `Quota::begin`: `within`; `Quota::append`:
+    ///   `within`; `replay`: `within`, `same_budgets`; `Quota::usage`: `within`).
     pub fn new(alloc: Global, inner: S, default: u64) -> Quota<S>
         ensures inner { result.inner ≡ inner }
         ensures book { result.accounts ≡ Some (new_book default) }

@@ -58,6 +58,9 @@ impl<W: Write> Sink for Output<W> {
 
     ghost faults = { λ s. s.faults };
 
+    // # Proved
+    //
+    // - Standard output takes at least a byte where there is one (`some`).
     fn write(&mut self, bytes: &[u8]) -> Result<usize, Failed> {
         match self.writer.write(bytes) {
             Ok(n) if n > 0 || bytes.is_empty() => Ok(n),

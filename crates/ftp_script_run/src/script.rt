@@ -35,6 +35,40 @@ use std::alloc::Global;
 ///
 /// A line has at most 65,536 bytes, its line feed not counted, and a script 16,777,216. An entry is let go as soon as it
 /// is written or heard.
+///
+/// # Proved
+///
+/// - Done: all bytes were read and are a script; what was written is the printed log of its events, each decided and
+///   done as is due under the options of its line, or the builder's defaults where it has none, then a line for each
+///   link in order of number and for each file in byte order of paths, of the links and the storage that its events
+///   leave (`done`).
+/// - A script's storage and links are at first as its lines set them up; each transfer is run at its end, on that
+///   storage and on the link that it started on, each header is read from the link of its connection, and nothing else
+///   changes them; of the storage and of each link no more calls fail than their lines list (`done`, `bad_line`,
+///   `read_whole`, `front`).
+/// - A bad line is the script's first; what was written is the printed log of the lines before it, then `bad line k`;
+///   behind these lines at most one buffer of the source was taken (`ReadsAhead`) (`bad_line`).
+/// - A read fault only where the source's count rose; what was written is exactly the printed log of the whole lines
+///   that were read, and of what stands behind them at most one buffer was taken (`read_fault`, `read_whole`).
+/// - A write fault only where the sink's count rose (`write_fault`).
+/// - After a write fault or want of memory what was written is a front of the whole output, as the whole lines that
+///   were read give it: the lines on links and files come only where all was read, and that of a bad line where it was
+///   read; behind the lines of the items at most one buffer was taken (`front`).
+/// - Usage exactly where the words are no command; nothing is read or written (`usage`, `usage_idle`).
+/// - A stress run: what was written is how often each decision came in the right log of its drawn events, a line each;
+///   after a write fault or want of memory a front of that (`stress`, `stress_front`).
+/// - An audit: done, the report on the legal log of the script was written and nothing else (`IsReport` in
+///   `ftp_script_run/specs/Audited.antt`: a line for each user whom a notification names, with the sums of what was
+///   decided); with a bad line the report on the lines before it and then that line's; after a read fault that on the
+///   whole lines; after a write fault or want of memory nothing, or a front of it (`audit_done`, `audit_bad_line`,
+///   `audit_whole`, `audit_front`).
+/// - Where nothing fails an audit of a script is done, and of other bytes the first bad line is named, unless memory
+///   runs out (`audit_complete`, `audit_first_bad`).
+/// - The same of the commands and the version; in none of the three is the source touched, and each ends with done, or
+///   with a write fault or want of memory (`told`, `told_front`, `told_idle`, `told_ends`, `told_complete`).
+/// - Where nothing fails, a script is run to its end, and of other bytes the first bad line is named, unless memory
+///   runs out (`complete`, `first_bad`).
+/// - No count of faults falls (`source_count`, `sink_count`).
 pub fn run_script<S: Source, K: Sink>(
     alloc: Global,
     words: &[Vec<u8>],

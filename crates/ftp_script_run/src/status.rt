@@ -24,6 +24,10 @@ pub enum Status {
 
 impl Status {
     /// The exit status of the program, as a number.
+    ///
+    /// # Proved
+    ///
+    /// - The exit codes, as a number and as what a program ends with (also `Status::exit_code`).
     pub fn code(self) -> u8
         ensures { result ≡ code_of self }
     {

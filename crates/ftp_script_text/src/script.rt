@@ -54,6 +54,16 @@ impl ScriptReader {
 
     /// The item of the next line, or None at the end of the script. Until an event comes, the storage is the one that
     /// the lines before set up.
+    ///
+    /// # Proved
+    ///
+    /// - The items that are read are those of the script that the source's bytes are, in order; the end and the number
+    ///   of the first bad line are the script's; which lines may follow which, and a directory or file only where the
+    ///   storage that the lines before set up takes it as new; at a fault the items before are those of the whole lines
+    ///   that were read, and of the next line a part is held (`told`; also `ScriptReader::new`: `start`).
+    /// - Behind the lines of the items before at most one buffer was taken of the source, whatever is answered
+    ///   (`ahead`).
+    /// - A fault only where the source's count rose (`fault_rose`, `count`).
     pub fn next_item<S: Source>(
         &mut self,
         alloc: Global,

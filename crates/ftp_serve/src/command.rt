@@ -29,6 +29,11 @@ pub enum Command {
 
 impl Service {
     // What three words ask for, where they are a mode and two ports.
+    //
+    // # Proved
+    //
+    // - Of three words the first is the mode, the second the first passive port and the third the last (`found`,
+    //   `none`).
     fn of(mode: &[u8], lo: &[u8], hi: &[u8]) -> Option<Service>
         ensures found { IfSome result (AsksService mode.now lo.now hi.now) }
         ensures none { IsNone result → (service : Service) → AsksService mode.now lo.now hi.now service → ⊥ }
@@ -43,6 +48,12 @@ impl Service {
 
 impl Command {
     /// What the words behind the program's name ask for, where they are a command.
+    ///
+    /// # Proved
+    ///
+    /// - Which words ask for which command: where one is given they ask for it, and where none is given they ask for
+    ///   none; a mode is its whole word, behind a proxy with the control port; a port is decimal digits without a sign
+    ///   or a leading zero, below 65,536 (`Asks`, `IsMode` in `ftp_serve/specs/Words.antt`) (`found`, `none`).
     pub fn of(words: &[String]) -> Option<Command>
         ensures found { IfSome result (Asks (map string_bytes words.now)) }
         ensures none { IsNone result → (command : Command) → Asks (map string_bytes words.now) command → ⊥ }

@@ -15,6 +15,12 @@ use std::alloc::Global;
 const MAX_FILE: u64 = 16_777_216;
 
 // The options of a service.
+//
+// # Proved
+//
+// - Its options are the defaults but for the mode and the passive ports of its words; a range that is empty is refused
+//   as that, one that begins with port 0 where sessions share the ports as that, and nothing else is (`built`,
+//   `empty_range`, `port_zero`, `only`).
 fn options(alloc: Global, service: Service) -> Result<Options, ServerError>
     ensures built { IfOk result (λ options. settings_of options ≡ settings_for service) }
     ensures empty_range { IsErrOf result ServerError.EmptyRange ↔ service.hi < service.lo }

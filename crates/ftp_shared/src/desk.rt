@@ -37,6 +37,16 @@ pub trait Desk {
         ensures told { result.now ≡ (view self.now).options };
 
     /// Has the event decided, with the answer to it.
+    ///
+    /// # Proved
+    ///
+    /// - The journal, which is right and acted, grows by exactly the entry that is told and is due after it; the
+    ///   replies before it are the whole outbox of the session that the event names, and the outboxes change as under
+    ///   the lock; a session that was opened just now has an empty one, since no reply goes to a number before that
+    ///   (`fresh` of `Appends`), if the event names no ticket (`appended`).
+    /// - Each entry is the next one of some right and acted log, and the replies before it are the last that this log
+    ///   sends to its session (`vouched`).
+    /// - Want of memory changes nothing that is told but the count of the storage's faults (`refused`).
     fn submit(&mut self, event: HubEvent, answer: Answer) -> Result<Told, AllocError>
         requires unticketed { has_ticket event.kind ≡ false }
         ensures event { IfOk result (λ told. told.entry.event ≡ event) }
@@ -50,12 +60,25 @@ pub trait Desk {
         ensures refused { OnErr result (SameDesk (view self.old) (view self.new)) };
 
     /// A number for a new session or connection; it may come again.
+    ///
+    /// # Proved
+    ///
+    /// - A number that is drawn is the one behind the greatest that the journal's counting entries carry as new; 0
+    ///   where there is none, and behind the last of all (`drawn`).
+    /// - Neither call changes what is told but the count of faults (`same`, `files`; also `Desk::directory`: `same`,
+    ///   `files`).
     fn draw(&mut self) -> u64
         ensures drawn { draws_next ≡ true → IfSome (view self.old).journal (λ J. result ≡ drawn_after J) }
         ensures files { (view self.new).files ≡ (view self.old).files }
         ensures same { SameDesk (view self.old) (view self.new) };
 
     /// Why a path is no directory of the storage, where it is none.
+    ///
+    /// # Proved
+    ///
+    /// - Where the storage tells its map, a path is refused exactly where no directory stands there; the storage's
+    ///   failure comes only where its count of faults rose, if the storage shows its directories (`ShowsDirectories`)
+    ///   (`may`, `fault_rose`).
     fn directory(&mut self, user: &Bytes, path: &Bytes) -> Result<Option<ErrorKind>, AllocError>
         ensures may { IfOk result (λ refusal. MaySay (view self.old).files path.now refusal) }
         ensures fault_rose { IfOk result (λ refusal. refusal ≡ Some LocalError → HasRisen (view self.old).faults (view self.new).faults) }

@@ -90,6 +90,19 @@ impl<L: Serving> Locked<L> {
     /// Adds the entry of this event, with the answer to it. Its replies wait in the outboxes of their sessions.
     ///
     /// It looks a constant number of times into tables, however long the journal is.
+    ///
+    /// # Proved
+    ///
+    /// - The journal grows by exactly one entry, which is due after it for the event and the answer handed in; the
+    ///   receipt holds this entry and its place (`due`, `journal`, `place`; also `Locked::append_for`: `due`,
+    ///   `journal`, `place`).
+    /// - Each outbox grows by the entry's replies to its session (`outbox`).
+    /// - A job comes exactly where the entry has a start, and is the one that starts (`job`; also `Locked::append_for`:
+    ///   `job`).
+    /// - The share counts one step more (`share`; also `SharedHub::submit`: `share`; `SharedHub::finish`: `share`;
+    ///   `SharedHub::piece`: `share`).
+    /// - Want of memory changes nothing (`same_journal`, `same_outbox`, `same_share`; also `Locked::append_for`:
+    ///   `same_journal`, `same_outbox`, `same_share`).
     pub fn append(
         &mut self,
         share: &mut StepShare<L>,
@@ -122,6 +135,11 @@ impl<L: Serving> Locked<L> {
     /// and was not handed yet. It does not look at the journal for that, and copies nothing.
     ///
     /// The entry's own replies to that session are handed out with the entry. An event of a ticket hands out nothing.
+    ///
+    /// # Proved
+    ///
+    /// - The session that the event names is handed its whole outbox, and has an empty one then; every other grows
+    ///   (`earlier`, `outbox`).
     pub fn append_for(
         &mut self,
         share: &mut StepShare<L>,
@@ -193,6 +211,10 @@ impl<L: Serving> Locked<L> {
     }
 
     /// Splits a share off, with no step counted, unless it is the last part.
+    ///
+    /// # Proved
+    ///
+    /// - No share is given out where a single part is left (`none`).
     pub fn share(&mut self) -> Option<StepShare<L>>
         ensures none { IsNone result ↔ (self.old.parts.parts ≡ 1) }
         ensures fresh { IfSome result (λ share. share.count ≡ 0) }
@@ -216,6 +238,11 @@ impl<L: Serving> Locked<L> {
     }
 
     /// The options that the hub was made from.
+    ///
+    /// # Proved
+    ///
+    /// - The options are those of the server; a hub is drained where by its journal no job runs and no session is live
+    ///   (also `Locked::drained`).
     pub fn options(&self) -> &Options
         ensures { result.now ≡ L.options }
     {
@@ -231,6 +258,13 @@ impl<L: Serving> Locked<L> {
 
     /// Ends the hub, and gives its journal, where the shares and those that were taken back count all of its steps, and
     /// each receipt is the entry at its place. The shares are this hub's.
+    ///
+    /// # Proved
+    ///
+    /// - Steps are missing exactly where the shares count another number, and never where all parts are there, if the
+    ///   shares are this hub's (`missing`, `counted`, `whole`; also `SharedHub::settle`: `gone`).
+    /// - Any other error is about the first receipt that is not the entry at its place (`differs`; also
+    ///   `SharedHub::settle`: `differs_so`).
     pub fn settle(self, shares: Vec<StepShare<L>>, receipts: &[Receipt]) -> Result<Log, SettleError>
         ensures journal { IfOk result (λ log. log.entries ≡ self.journal.entries) }
         ensures right { IfOk result (λ log. ∥ IsRight L.options log.entries × IsActed L.options log.entries ∥₁) }

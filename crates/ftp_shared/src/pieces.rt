@@ -16,6 +16,12 @@ impl<L: Serving> Locked<L> {
 
     /// Adds the entry of a piece of a job, of so many bytes, as `append` does. Where the job goes on its share comes back,
     /// with these bytes counted; else it is spent, and a job that starts with the entry comes in its place.
+    ///
+    /// # Proved
+    ///
+    /// - The job of a piece comes back exactly where the piece is counted, with its bytes; else what comes with it is
+    ///   the job that starts with the entry, if one does, if the job moves a file, by 1 to 8,192 bytes (`job`, `back`;
+    ///   also `SharedHub::piece`: `job`, `back`).
     pub fn append_piece(
         &mut self,
         share: &mut StepShare<L>,

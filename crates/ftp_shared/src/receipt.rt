@@ -165,6 +165,11 @@ pub struct Turn {
 impl Turn {
     /// The sessions that have replies waiting because of the entry, so that their loops can be woken: all that it replies
     /// to but the one that the event names. It takes no memory.
+    ///
+    /// # Proved
+    ///
+    /// - Who is to be woken is read from the entry: for each of its replies the session, but that of the event (also
+    ///   `Submitted::others`; `Others::next`: `found`, `none`).
     pub fn others(&self) -> Others<'_>
         ensures { result ≡ others_in (own_session self.now.submitted.receipt.entry.event.kind) self.now.submitted.receipt.entry.actions }
     {

@@ -18,6 +18,22 @@ use std::sync::Wait;
 ///
 /// Some pieces on the way are told too, so that long transfers are seen to go on. An error is want of memory for the last
 /// entry, and gives the job back.
+///
+/// # Proved
+///
+/// - The last entry that a worker adds is the end of its job with an outcome, or a piece of it behind which it does not
+///   go on; it is the next one of a right and acted journal, at its place, for its own moment and answer (`next`).
+/// - An outcome is that of a run of this job on the storage and the link handed in, from what had moved before, and all
+///   holds of it that `execute` says: what moved, what was left, why it ended, that it suits the command (`RunsOn` in
+///   `ftp_shared/specs/Runs.antt`) (`runs`).
+/// - At a piece a front of what such a run moves was moved, of at least the bytes that were told, and the link was
+///   closed (`StopsOn`) (`stops`).
+/// - Its moment is the last that was taken of the edge; at least one was taken for each entry, and nothing else
+///   (`TakesMoments` in `ftp_shared/specs/Moments.antt`) (`moments`).
+/// - The share counts one step more, or several (`share`, `kept_share`).
+/// - Want of memory gives the job back, with what was told. Either storage, link and edge are as they were; or the job
+///   was run, all holds of it that `execute` says of some outcome, and a moment was taken for its end (`given_back`,
+///   `untold`).
 pub fn serve_job<R: Wait, H: Serving, S: Storage, L: Link, G: Gate, E: Edge>(
     rt: &R,
     alloc: Global,

@@ -51,6 +51,12 @@ impl<L: Serving> SharedHub<L> {
     }
 
     /// Adds the entry of this event.
+    ///
+    /// # Proved
+    ///
+    /// - Above the lock the entry is the next one of a right and acted journal, at its place; the replies before it are
+    ///   the last that this journal sends (`next`; also `SharedHub::finish`: `next`; `SharedHub::piece`: `next`;
+    ///   `SharedHub::submit_for`: `next`).
     pub fn submit<R: Wait>(
         &self,
         rt: &R,
@@ -105,6 +111,11 @@ impl<L: Serving> SharedHub<L> {
 
     /// Adds the end of a job, and takes its share; an error gives that back. The outcome's bytes are all that moved, those of
     /// pieces that were told with them.
+    ///
+    /// # Proved
+    ///
+    /// - A job of which nothing can be told for want of memory comes back (`given_back`; also `SharedHub::piece`:
+    ///   `given_back`).
     pub fn finish<R: Wait>(
         &self,
         rt: &R,
@@ -154,6 +165,13 @@ impl<L: Serving> SharedHub<L> {
 
     /// Ends the hub, and gives its journal, where the shares and those that were taken back count all of its steps, and
     /// each receipt is the entry at its place. The shares are this hub's.
+    ///
+    /// # Proved
+    ///
+    /// - A settled hub's journal is right and acted, the shares count no more entries than it has, and with the steps
+    ///   that were taken back exactly those, and each receipt is the entry at its place, if the shares are this hub's;
+    ///   exactly, where the locked value is at hand (`Locked::settle`) (`right`, `sum`, `receipts`; also
+    ///   `Locked::settle`: `right`, `sum`, `receipts`).
     pub fn settle(self, shares: Vec<StepShare<L>>, receipts: &[Receipt]) -> Result<Log, SettleError>
         ensures right { IfOk result (λ log. ∥ IsRight L.options log.entries × IsActed L.options log.entries ∥₁) }
         ensures sum { IfOk result (λ log. sum_by (λ s. s.count) shares.items ≤ length log.entries) }

@@ -34,6 +34,12 @@ impl<L: Serving, S: Storage + Drop> SoloDesk<L, S> {
     ///
     /// The book has counted no step, and the share has every part, of which there are so many: one stays with the hub, and
     /// one is the desk's.
+    ///
+    /// # Proved
+    ///
+    /// - A new desk has an empty journal and empty outboxes, its share counts no step, and no job waits, if the options
+    ///   are the server's; the book counts no step; the share has all parts, of which there are two at least
+    ///   (`journal`, `outbox`, `share`, `storage`, `jobs`).
     pub fn new(
         alloc: Global,
         options: Options,
@@ -67,6 +73,11 @@ impl<L: Serving, S: Storage + Drop> SoloDesk<L, S> {
     }
 
     /// Takes out the share of the job that started first of those that were not taken out.
+    ///
+    /// # Proved
+    ///
+    /// - The jobs that started are taken out in their order, and nothing else changes (`taken`, `none`, `journal`,
+    ///   `outbox`, `share`, `storage`).
     pub fn take_job(&mut self) -> Option<JobShare>
         ensures taken { self.old.jobs.items ≡ option_to_list result ++ self.new.jobs.items }
         ensures none { IsNone result → self.old.jobs.items ≡ [] }

@@ -29,6 +29,12 @@ const DRAWN: u64 = 16;
 /// Lets so many sessions log in, draws sixteen events for each, and writes how often each decision came.
 ///
 /// There are at most 1,000 sessions. An entry is let go as soon as its decision was counted.
+///
+/// # Proved
+///
+/// - What is written is how often each decision came in the right and acted log of the drawn events, or after an error
+///   a front of that (`wrote`, `front`).
+/// - A fault only where the sink's count rose (`fault_rose`, `count`).
 pub fn stress<K: Sink>(alloc: Global, seed: u64, sessions: u64, sink: &mut K) -> Result<(), Failed>
     requires some { 1 ≤ sessions }
     requires limit { sessions ≤ 1000 }

@@ -51,6 +51,10 @@ impl Account {
     }
 
     /// Adds what the notification tells, at a place that no mark is above.
+    ///
+    /// # Proved
+    ///
+    /// - Sums are exact: so many notifications as there can be do not reach the end of a count (`AreMarks`) (`added`).
     pub fn add(&mut self, place: u64, what: &Notice) -> Result<(), AllocError>
         requires { UpTo place self.old }
         ensures added { OnOk result (self.new ≡ self.old ++ next self.old place (told what.now) ∷ []) }

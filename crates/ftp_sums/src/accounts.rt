@@ -47,6 +47,11 @@ impl Accounts {
     }
 
     /// Adds what the notification tells of the user, at a place that no mark is above.
+    ///
+    /// # Proved
+    ///
+    /// - What a notification tells is added to the user that it names, and to no other, at its place; an error changes
+    ///   nothing, if no sums stand at a later place (`added`, `unchanged`; also `Account::add`: `added`, `unchanged`).
     pub fn add(&mut self, place: u64, user: &[u8], what: &Notice) -> Result<(), AllocError>
         requires { (name : List ℕ) → UpTo place (marks_of self.old name) }
         ensures added { OnOk result ((name : List ℕ) → marks_of self.new name ≡ with_told place user.now what.now name (marks_of self.old name)) }
@@ -63,6 +68,10 @@ impl Accounts {
     }
 
     /// Lets go what was told at a place or later.
+    ///
+    /// # Proved
+    ///
+    /// - What was told at a place or later is let go, and nothing else (also `Account::forget`).
     pub fn forget(&mut self, place: u64)
         ensures { (name : List ℕ) → marks_of self.new name ≡ below place (marks_of self.old name) }
     {
@@ -73,6 +82,11 @@ impl Accounts {
     }
 
     /// All that was told of the user.
+    ///
+    /// # Proved
+    ///
+    /// - The total, and the sums over a stretch as the difference of two running sums (also `Accounts::between`;
+    ///   `Account::between`).
     pub fn total(&self, user: &Bytes) -> Option<Total>
         ensures { result ≡ total_of (marks_of self.now user.now) }
     {
@@ -90,6 +104,10 @@ impl Accounts {
     }
 
     /// The first `k` users by the bytes that they got and put, from the most; names in byte order where these are as many.
+    ///
+    /// # Proved
+    ///
+    /// - The users by rank, and their lines in byte order (`IsListing`, `AreTop`) (also `Accounts::report`).
     pub fn top(&self, k: u32) -> Result<Vec<(Bytes, Total)>, AllocError>
         ensures { IfOk result (λ found. (rows : List (List ℕ × Total)) × IsListing (λ name. total_of (marks_of self.now name)) rows × AreTop k rows found.items) }
     {

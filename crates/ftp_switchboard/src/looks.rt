@@ -23,6 +23,10 @@ impl Model for Looks {
 
 impl Looks {
     /// No look yet.
+    ///
+    /// # Proved
+    ///
+    /// - Looks are counted from 0 (also `Looks::count`).
     pub fn new() -> Looks
         ensures { result ≡ 0 }
     {

@@ -67,6 +67,10 @@ impl Model for Switchboard {
 
 impl Switchboard {
     /// A switchboard for the ports from `lo` to `hi`, both included, of which nobody holds one.
+    ///
+    /// # Proved
+    ///
+    /// - A new board is free, if a range without 0 (`range`, `free`).
     pub fn new(alloc: Global, lo: u16, hi: u16) -> Switchboard
         requires in_range { (1 ≤ lo) × (lo ≤ hi) }
         ensures range { (result.lo ≡ lo) × (result.hi ≡ hi) }
@@ -81,6 +85,10 @@ impl Switchboard {
     }
 
     /// The session that holds the port for the client address.
+    ///
+    /// # Proved
+    ///
+    /// - The session that holds a key (also `Switchboard::get_session_by_connection_pair`).
     pub fn holder(&self, source: u32, port: u16) -> Option<u64>
         ensures { result ≡ holder_at self.now source port }
     {
@@ -91,6 +99,11 @@ impl Switchboard {
 
     /// The first port, from the word's on and round the range once, that nobody holds for the client address. Where
     /// there is none, as for an IPv6 client, it is the word's port.
+    ///
+    /// # Proved
+    ///
+    /// - The first port that is free for a client, which stays free; the looks are those at the words once round, if
+    ///   the count has room for 1,059 more (`free`, `looks`).
     pub fn free_port(&self, source: Option<u32>, word: u16, looks: &mut Looks) -> Option<u16>
         requires looks { looks.old ≤ u64.MAX - 1059 }
         ensures free { result ≡ first_free (holder_for self.now source) self.now.lo self.now.hi word }
@@ -112,6 +125,12 @@ impl Switchboard {
     }
 
     /// Makes room, so that the next claim or reservation for the client address takes no memory.
+    ///
+    /// # Proved
+    ///
+    /// - Room for the next claim or reservation of a client address, neither of which has an answer of want of memory;
+    ///   room for others stays, also where a key is freed (`ok`, `same`, `room`; also `Switchboard::release`,
+    ///   `Switchboard::unregister_by_key`: `room`).
     pub fn reserve_room(&mut self, source: u32) -> Result<(), AllocError>
         ensures ok { OnOk result (HasRoom self.new source) }
         ensures same { SameHolds self.old self.new }
@@ -127,6 +146,11 @@ impl Switchboard {
     }
 
     /// Gives this port to the session, unless it is held.
+    ///
+    /// # Proved
+    ///
+    /// - A key is claimed, or refused exactly where it is held; nothing changes after a refusal (room was made; the
+    ///   port is in the range) (`claimed`, `entry_not_available`, `only_entry_not_available`, `unchanged`).
     pub fn try_and_claim(
         &mut self,
         key: SwitchboardKey,
@@ -162,6 +186,15 @@ impl Switchboard {
     ///
     /// The word's port is `lo + word % n`, for a range of n ports. The looks are those at the words once round, and two
     /// searches among the ports that are held.
+    ///
+    /// # Proved
+    ///
+    /// - The first port from the word's on that nobody holds for the client address, with the present port of the
+    ///   session freed (room was made) (`granted`, `held`, `holders`).
+    /// - Full exactly where every port is held for that address; nothing changes (room was made) (`max_retries`,
+    ///   `only_max_retries`, `unchanged`).
+    /// - A reservation looks at the words of the client's row once round, and twice among its ports: for n ports at
+    ///   most n / 64, rounded up, and 35 looks, whatever is held, if the count has room for 1,059 more (`looks`).
     pub fn reserve(
         &mut self,
         source: u32,
@@ -215,6 +248,10 @@ impl Switchboard {
     }
 
     /// Frees every key. It takes no memory.
+    ///
+    /// # Proved
+    ///
+    /// - Every key is freed at once (`free`, `range`).
     pub fn clear(&mut self)
         ensures free { self.new.held ≡ finmap.empty }
         ensures range { SameRange self.old self.new }
@@ -223,6 +260,10 @@ impl Switchboard {
     }
 
     /// Frees the key where the session holds it.
+    ///
+    /// # Proved
+    ///
+    /// - A session gives up a key only where it holds it (`held`).
     pub fn release(&mut self, key: &SwitchboardKey, session: u64)
         ensures held { self.new.held ≡ released self.old.held key.now session }
         ensures range { SameRange self.old self.new }
@@ -240,6 +281,11 @@ impl Switchboard {
     }
 
     /// Frees the key, and gives the session that held it.
+    ///
+    /// # Proved
+    ///
+    /// - A key is freed, and its holder given; all other keys stay (`holder`, `held`; also
+    ///   `Switchboard::unregister_by_connection_pair`: `holder`, `held`).
     pub fn unregister_by_key(&mut self, key: &SwitchboardKey) -> Option<u64>
         ensures holder { result ≡ holder_at self.old key.now.source key.now.port }
         ensures held { self.new.held ≡ finmap.remove self.old.held key.now }
@@ -264,6 +310,10 @@ impl Switchboard {
     }
 
     /// Frees what is held by sessions that are not among the live ones. It takes no memory.
+    ///
+    /// # Proved
+    ///
+    /// - Only live sessions hold afterwards, and each of them what it held (`holders`).
     pub fn scavenge(&mut self, live: &BTreeSet<u64>)
         ensures holders { (a p : ℕ) → holder_at self.new a p ≡ holder_among live.now (holder_at self.old a p) }
         ensures range { SameRange self.old self.new }

@@ -8,6 +8,10 @@ use std::net;
 use std::net::{Ipv4Addr, Ipv6Addr};
 
 /// The address that the system told.
+///
+/// # Proved
+///
+/// - Addresses are the same in both spellings (`told`; also `std_address`: `same`).
 pub fn told_address(address: net::SocketAddr) -> SocketAddr
     ensures told { result ≡ told address }
 {

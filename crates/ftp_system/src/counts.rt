@@ -23,6 +23,13 @@ pub struct SessionCounts {
 
 impl SessionCounts {
     /// There is no session.
+    ///
+    /// # Proved
+    ///
+    /// - A session is admitted exactly where there are fewer in all and fewer of its client than the limits say, and is
+    ///   counted then, once; other clients stay (`count_at` in `ftp_system/specs/Counts.antt`) (`all`, `none`; also
+    ///   `SessionCounts::admit`: `admits`, `all`, `own`, `others`, `unchanged`; `SessionCounts::leave`: `all`, `own`,
+    ///   `others`).
     pub fn new(alloc: Global) -> SessionCounts
         ensures all { result.all ≡ 0 }
         ensures none { (address : ℕ) → count_at result address ≡ 0 }

@@ -32,6 +32,11 @@ pub trait Front {
     ghost latest: { Self → ℕ };
 
     /// Listens at an address, and there at each port from the first to the second.
+    ///
+    /// # Proved
+    ///
+    /// - No doors come only with a fault; a moment is the one that is kept, whether or not the clock failed
+    ///   (`fault_rose`, `latest`, `count`; also `Front::now`: `latest`, `count`).
     fn open_doors(
         &mut self,
         at: SocketAddr,

@@ -14,6 +14,10 @@ pub const GATHERED: usize = 131_072;
 const PIECE: usize = 8192;
 
 /// A buffer for one link after another, of `GATHERED` bytes.
+///
+/// # Proved
+///
+/// - A buffer for gathering has 131,072 bytes (`size`).
 pub fn gathering_buffer(alloc: Global) -> Result<Vec<u8>, AllocError>
     ensures size { IfOk result (λ buffer. vec_len buffer ≡ 131072) }
 {

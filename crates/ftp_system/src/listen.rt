@@ -13,6 +13,11 @@ use ftp_proxy::value_below;
 use std::net::{Ipv4Addr, Ipv6Addr};
 
 /// The address and the port that the text writes: `127.0.0.1:21` or `[::1]:21`.
+///
+/// # Proved
+///
+/// - A text is the address and the port that it writes, and none exactly where it writes none (`IsBindText` in
+///   `ftp_system/specs/Listen.antt`); a port is what its digits write (`written`, `none`; also `port_of`: `number`).
 pub fn bind_address(text: &[u8]) -> Option<SocketAddr>
     ensures written { IfSome result (IsBindText text.now) }
     ensures none { IsNone result → (at : SocketAddr) → ¬ (IsBindText text.now at) }

@@ -51,6 +51,10 @@ impl<T: Drop> Queue<T> {
     }
 
     /// Puts a value at the end, and says whether a thread is wanted: fewer sleep than values wait.
+    ///
+    /// # Proved
+    ///
+    /// - A value that a queue did not take comes back (`returned`).
     pub fn put<R: Wait>(&self, rt: &R, value: T) -> Result<bool, PutError<T>>
         ensures returned { IfErr result (λ e. value_of e ≡ value) }
     {

@@ -90,6 +90,14 @@ impl Telnet {
     }
 
     /// Moves the text among the bytes to their front, and says how many bytes it has.
+    ///
+    /// # Proved
+    ///
+    /// - What is given of a control connection's bytes, and then of all that may follow, is their text without Telnet
+    ///   commands, however they are cut (`text_in` in `ftp_system/specs/Telnet.antt`, with examples in
+    ///   `ftp_system/proofs/Examples.antt`); bytes that were read before are cut so too; and whether there is text
+    ///   among bytes is told (`text`, `within`; also `SocketControl::keep_text`: `text`; `Telnet::has_text`: `some`,
+    ///   `none`).
     pub fn strip(&mut self, bytes: &mut [u8]) -> usize
         ensures text { (more : List ℕ) → text_in self.old (bytes.old ++ more) ≡ take result bytes.new ++ text_in self.new more }
         ensures within { result ≤ length bytes.new }

@@ -44,6 +44,10 @@ impl Promise<()> for NoPromise {
 }
 
 /// Starts the work in a thread of its own, or gives it back.
+///
+/// # Proved
+///
+/// - Work that no thread took comes back, and is counted (`returned`, `fault_rose`, `count`).
 pub fn start<R: Threads, P: Spawner, F: FnOnce() + Send + 'static>(
     rt: &R,
     spawner: &mut P,

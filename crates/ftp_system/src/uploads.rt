@@ -15,6 +15,12 @@ pub struct Uploads {
 
 impl Uploads {
     /// Nothing is written to.
+    ///
+    /// # Proved
+    ///
+    /// - An upload begins exactly where none to its path is under way, and from then on one is, until it ends; other
+    ///   paths stay (`is_written` in `ftp_system/specs/Uploads.antt`) (`none`; also `Uploads::begin`: `free`, `begun`,
+    ///   `others`, `unchanged`; `Uploads::end`: `ended`, `others`).
     pub fn new(alloc: Global) -> Uploads
         ensures none { (path : List ℕ) → is_written result path ≡ false }
     {

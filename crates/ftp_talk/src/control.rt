@@ -82,6 +82,31 @@ impl ControlSession {
 ///
 /// A line has at most 8,192 bytes with its line feed. It reads into one buffer of 8,193 bytes, and waits for a second at
 /// most before it looks at the times of the session.
+///
+/// # Proved
+///
+/// - Where the opening was not decided `Opened`, that decision is the answer, nothing else was submitted, and nothing
+///   was sent (`served`).
+/// - What is submitted is what the lines ask for: each line one event, of the talk's session, by its command; a
+///   password that is out to be checked is followed by an answer that the authenticator may give for it, and nothing
+///   else is; a line that is too long or no text is answered, and then the connection is closed; a look at the idle
+///   time, and behind it one at the slot, only where the control cannot be read at any time (`served`).
+/// - Lookups, bound ports and connections are asked for only of a user who is logged in, where the mode is on, and a
+///   connection only to the peer's address; what is not asked for is none, and what is asked for is an answer that may
+///   come; moments, words and answers are the next of the edge's lists, where it tells them, and no more are missing
+///   than its count rose by (`served`).
+/// - Where the desk tells its journal, it grew by the entries of the talk, and where it vouches, each of them is the
+///   next one of a right and acted log, with the last replies that this log sends to the session before it; where the
+///   share is told, it rose by 1 for each, at least (`served`).
+/// - A talk that has ended: the entries stop at the first that ends the session, or at one that closes the connection
+///   behind the lines; the greeting, each reply that came earlier and each reply of an entry was sent, whole and in
+///   order (`served`).
+/// - Any other end: the turns so far, then at most one that closes, where the session had not ended, and a part from
+///   the front of what was due was sent (`served`).
+/// - An end by a fault only where the control's count rose; so where none of its calls failed the talk ended, was not
+///   opened, or memory ran out (`read_fault`, `write_fault`, `complete`).
+/// - A password is in no event: the event of PASS names the session alone, and no other event stands for its line
+///   (`served`).
 pub fn serve_control<D: Desk, C: Control, E: Edge, A: Authenticator>(
     alloc: Global,
     desk: &mut D,

@@ -32,6 +32,11 @@ impl Model for Client {
 
 impl Client {
     /// The packet is not empty.
+    ///
+    /// # Proved
+    ///
+    /// - The client sends the packet so often, one behind the other, in whatever pieces it is read, and tells the talk
+    ///   so, as a source, a link and a control do (`input`).
     pub fn new(packet: Vec<u8>, rounds: u16) -> Client
         requires some { 0 < length packet.items }
         ensures input { input result ≡ repeat rounds packet.items }
@@ -67,6 +72,10 @@ impl Client {
     }
 
     // Counts the lines that end in these bytes.
+    //
+    // # Proved
+    //
+    // - The lines that it is sent are counted by their line feeds (also `line_feeds`).
     fn count(&mut self, bytes: &[u8])
         ensures { self.new ≡ record self.old { lines = after self.old.lines bytes.now } }
     {

@@ -16,6 +16,11 @@ pub enum Command {
 
 impl Command {
     /// What the word behind the program's name asks for, where it is a command.
+    ///
+    /// # Proved
+    ///
+    /// - A word for which there is a command asks for it: one of two words, or a number below 65,536 in decimal digits,
+    ///   without a sign or a leading zero (`found`).
     pub fn of(word: &[u8]) -> Option<Command>
         ensures found { IfSome result (Asks word.now) }
     {

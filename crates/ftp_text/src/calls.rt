@@ -94,6 +94,10 @@ fn link_call(word: &[u8]) -> Result<(u64, LinkFault), LineFault>
 }
 
 /// The failing calls of a field: a hyphen for none, else calls with commas between them, which rise from 1 on.
+///
+/// # Proved
+///
+/// - The same of the calls that fail, which rise from 1 on.
 #[tactic(auto, unfolding(crate::specs::Reading::calls_field))]
 pub fn failing_calls<C: CallText>(
     alloc: Global,

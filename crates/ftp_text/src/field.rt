@@ -13,6 +13,10 @@ use ftp_base::{Bytes, IpAddr, SocketAddr};
 use std::alloc::Global;
 
 // Behind the byte `c`.
+//
+// # Proved
+//
+// - A field is read exactly where something is spelled so, with the bytes behind it.
 pub(crate) fn after(c: u8, bytes: &[u8]) -> Result<&[u8], LineFault>
     ensures { Gives (λ x. x.now) result (after c bytes.now) }
 {
@@ -338,6 +342,10 @@ pub fn hex_bytes(alloc: Global, bytes: &[u8]) -> Result<(Bytes, &[u8]), LineFaul
 }
 
 /// The value that a word of its table spells.
+///
+/// # Proved
+///
+/// - A word is read exactly where it is one of its table.
 #[tactic(auto, unfolding(crate::specs::Reading::word_value))]
 pub fn word_value<W: Word>(bytes: &[u8]) -> Result<(W, &[u8]), LineFault>
     ensures { Gives (λ x. (x.0, x.1.now)) result (word_value W.text W.table bytes.now) }

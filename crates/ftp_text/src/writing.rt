@@ -16,6 +16,10 @@ use itoa::Buffer;
 use std::alloc::AllocError;
 
 /// Writes the bytes as they are.
+///
+/// # Proved
+///
+/// - A field is written as it is spelled.
 pub fn put(out: &mut Vec<u8>, bytes: &[u8]) -> Result<(), AllocError>
     ensures { OnOk result (out.new.items ≡ out.old.items ++ bytes.now) }
 {

@@ -7,6 +7,10 @@ use ftp_base::Bytes;
 use std::alloc::{AllocError, Global};
 
 /// Where an argument leads from a directory. Nothing is resolved: `..` stays as it is.
+///
+/// # Proved
+///
+/// - The joined path, the facts of MLSD, a duration's text (also `format_facts`; `HumanDuration::text`).
 pub fn join_path(alloc: Global, cwd: &Bytes, arg: &Bytes) -> Result<Bytes, AllocError>
     ensures { IfOk result (λ path. path ≡ joined cwd.now arg.now) }
 {

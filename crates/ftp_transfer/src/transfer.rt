@@ -18,6 +18,36 @@ use std::alloc::Global;
 
 /// Moves the bytes of a job from where earlier pieces ended, and closes the link at the end; what that close meets changes
 /// nothing in the outcome.
+///
+/// # Proved
+///
+/// - RETR sends the file from the offset on, and LIST, NLST and MLSD the directory's lines: a front of them, the whole
+///   where the result is `Sent` or `Listed` (`ran`).
+/// - STOR stores from the offset on, and APPE behind the file, a front of what the link gave, the whole where the
+///   result is `Written` (`ran`).
+/// - A store sends nothing, and every other command stores and takes nothing (`ran`).
+/// - Each result by its cause: a read or write of the link failed, before the link was closed, which a listing tells as
+///   `WriteFailed` and every other command as `ConnectionClosed`; the storage failed, or refused by the rule that the
+///   job met, at the files as they then were; or want of memory. The fault is the link's last one where its read or
+///   write failed, and otherwise there is none, and the link's last fault is as before (`ran`).
+/// - Where the link tells its calls: the fault of an outcome is one that its list names for the last call before the
+///   close, and no call before that one was listed; without a fault no call before the close was listed (`ran`).
+/// - Where the storage tells its calls: none of them was listed, or the last one failed as listed and the result is a
+///   local error (`ran`).
+/// - A transfer that is done moved fewer than 2^64 - 1 bytes: a count that stands at its end is a local error (`ran`).
+/// - A refusal of the first call is the result, and nothing is stored, unless that call failed or memory ran out; NLST
+///   turns each into one kind (`ran`).
+/// - A RETR answers `Sent` only where the storage refuses no read at the end of what was sent (`ran`).
+/// - Where the storage refuses to append what a store took of the link last, that refusal is the result, unless that
+///   call failed or memory ran out; and no other piece's refusal is (`ran`).
+/// - Afterwards the link is closed, or its close failed and it is as open as before; where it tells its calls, no call
+///   of the close was listed in the first case, and its last call was in the second; what the close met is not in the
+///   outcome (`ran`).
+/// - The result suits the command (`suits`).
+/// - A job of which the storage's rule refuses no call, of which no call but the link's close fails, and for which
+///   memory is found, is done (`complete`).
+/// - No count of faults falls, and no limit of faults rises (`storage_kept`, `link_counts`).
+/// - RETR answers want of memory only where the storage's reads or the link's writes may (`no_memory`).
 pub fn execute<S: Storage, L: Link>(
     alloc: Global,
     job: Job,
@@ -50,6 +80,13 @@ pub fn execute<S: Storage, L: Link>(
 
 /// Moves the bytes of a job by one read of its file or of its link, or a listing whole. Where more may come `done` is raised,
 /// and the link is left as it is; otherwise the transfer ends as by `execute`.
+///
+/// # Proved
+///
+/// - A piece of a RETR, a STOR or an APPE moves what such a turn moves of what is left behind earlier pieces, and
+///   leaves the link as open as before; the job then counts its bytes (`Went` in `ftp_transfer/specs/Ran.antt`). Or it
+///   ends the transfer, and then all holds that `execute` says (`ran`, `raised`, `suits`, `complete`, `no_memory`,
+///   `storage_kept`, `link_counts`).
 pub fn execute_piece<S: Storage, L: Link>(
     alloc: Global,
     job: &mut Job,
@@ -115,6 +152,11 @@ fn run<S: Storage, L: Link>(alloc: Global, job: Job, storage: &mut S, link: &mut
 }
 
 /// Moves the next piece of a job.
+///
+/// # Proved
+///
+/// - Each turn of a RETR and of a store, a read and what follows it, moves a byte or more and 8,192 at most, or is the
+///   last of its transfer (inside `ftp_transfer`) (`some`, `short`).
 fn take_turn<S: Storage, L: Link>(
     alloc: Global,
     job: &Job,

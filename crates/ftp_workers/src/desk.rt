@@ -41,6 +41,9 @@ impl<
     S: Storage + Drop,
     G: Gate + Drop,
 > ServerDesk<R, L, A, N, S, G> {
+    /// # Proved
+    ///
+    /// - A desk has the share that it was made with, and gives it back (`share`; also `ServerDesk::into_share`).
     pub fn new(
         rt: R,
         state: Arc<ServerState<L, A, N, S, G>, Global>,

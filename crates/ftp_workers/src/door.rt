@@ -44,6 +44,10 @@ impl<
     }
 
     /// A share for one more thread, with no step counted, unless a single part is left.
+    ///
+    /// # Proved
+    ///
+    /// - A share for one more thread counts no step.
     pub fn share<R: Wait>(&self, rt: &R) -> Option<StepShare<L>>
         ensures { IfSome result (λ share. share.count ≡ 0) }
     {
@@ -133,6 +137,12 @@ impl<
     }
 
     /// Ends all sessions and their control connections, and says whether there was memory for it. No other is opened.
+    ///
+    /// # Proved
+    ///
+    /// - A shutdown makes exactly one entry, or says that there was no memory for it; what else the thread at the doors
+    ///   submits lowers no count (`told`, `same_share`; also `ServerDesk::receive`, `ServerDesk::sweep` and
+    ///   `ServerDesk::scavenge`: `share`).
     pub fn stop(&mut self, at: u64) -> bool
         ensures told { result ≡ true → self.new.share.count ≡ self.old.share.count + 1 }
         ensures same_share { result ≡ false → self.new.share.count ≡ self.old.share.count }

@@ -18,6 +18,10 @@ pub trait EventSinks {
     ghost presence_heard: { Self → Option (List (PresenceEvent × EventMeta)) };
 
     /// Is told the notifications of an entry, in order.
+    ///
+    /// # Proved
+    ///
+    /// - The notifications of an entry go to both listeners, in order (`data_events`, `presence_events`).
     fn hear(&mut self, entry: &Entry)
         ensures data_events { HearsAll (data_heard self.old) (data_heard self.new) (filter_map data_told entry.now.actions) }
         ensures presence_events { HearsAll (presence_heard self.old) (presence_heard self.new) (filter_map presence_told entry.now.actions) };

@@ -17,6 +17,15 @@ use std::alloc::Global;
 /// The event of a connection behind a proxy, and the header that it is to be decided by; none for want of memory.
 ///
 /// The header is read as `read_proxy_any` reads it, of either version, and nothing behind it.
+///
+/// # Proved
+///
+/// - A connection behind a proxy comes with the event of its number, its address and its trace, at the one moment that
+///   was taken; with none only if memory ran out, and then no moment is taken (`event`, `moment`, `moment_taken`,
+///   `header`, `unchanged`).
+/// - The answer to it is what the header of either version that was read of its link counts as, or why there is none,
+///   with all that `read_proxy_any` says of that (`IsHeaderOf` in `ftp_workers/specs/Header.antt`) (`answer`, `header`,
+///   `last_fault`, `met`, `unlisted`, `as_listed`, `fault_rose`, `only_reads`).
 pub fn answer_proxied<L: Link, E: Edge>(
     alloc: Global,
     number: u64,

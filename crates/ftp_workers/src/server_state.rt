@@ -50,6 +50,11 @@ impl<
     ///
     /// The book has counted no step, and the share has every part, of which there are so many. The thread that accepts
     /// connections also starts threads: it is told where one more is wanted.
+    ///
+    /// # Proved
+    ///
+    /// - The options that a desk tells are those of its hub, if the options are the server's (also `Desk::options`:
+    ///   `told`).
     pub fn new(
         alloc: Global,
         options: Options,

@@ -31,6 +31,11 @@ impl<S: Storage + Drop> Storage for Quota<S> {
         self.inner.features()
     }
 
+    // # Proved
+    //
+    // - Readings are passed on, and leave owners and files, if the storage tells its files (`found`, `same_owners`,
+    //   `unchanged`; also `Quota::list`: `listed`, `same_owners`, `unchanged`; `Quota::read_at`: `read`, `same_owners`,
+    //   `unchanged`).
     fn metadata(&mut self, user: &Bytes, path: &Bytes) -> Result<Meta, StoreError>
         ensures found { IfOk result (λ meta. IfSome (S.files self.old.inner) (λ f. IsSomeAnd (item f path.now) (λ i. meta ≡ meta_of i))) }
         ensures refused { Answers (S.files self.old.inner) (meaning_of (S.rule self.old.inner) (S.files self.old.inner) (Metadata user.now path.now)) result }
@@ -82,6 +87,23 @@ impl<S: Storage + Drop> Storage for Quota<S> {
         self.inner.read_at(user, path, at, out)
     }
 
+    // # Proved
+    //
+    // - It is refused to begin a file that another user owns, and to append to one that the user does not own; then,
+    //   where the user's files would come to more than the budget: what they were given, less what this one was, if it
+    //   is owned, and the place where it begins, or what they were given and the bytes (`own_refusal` in
+    //   `ftp_quota/specs/Book.antt`). These refusals come whether memory is left or not, whatever the storage would
+    //   answer, and it is not asked (`own`, `not_asked`; also `Quota::append`: `own`, `not_asked`).
+    // - Every other call is refused exactly as the storage's rule says, unless it fails or memory runs out, if the
+    //   storage tells its files (`refused`; also `Quota::append`: `refused`; `Quota::metadata`: `refused`;
+    //   `Quota::list`: `refused`; `Quota::read_at`: `refused`).
+    // - A file that was begun belongs to the user, and is begun in the storage; one that grew grew there, and both are
+    //   given what the call left (`owned`, `begun`; also `Quota::append`: `owned`, `grown`).
+    // - After a refusal, a fault or want of memory nobody owns more or less, and the files are as before; after a
+    //   refusal of its own the whole is as before (`same_owners`, `unchanged`, `not_asked`; also `Quota::append`:
+    //   `same_owners`, `unchanged`, `not_asked`).
+    // - Its faults are those of the storage (`fault_rose`, `storage_kept`; also `Quota::append`: `fault_rose`,
+    //   `storage_kept`; `Quota::metadata`: `fault_rose`; `replay`: `failed`, `storage_kept`).
     fn begin(&mut self, user: &Bytes, path: &Bytes, start: u64) -> Result<(), StoreError>
         ensures own { IfSome (own_refusal_of self.old.accounts (Begin user.now path.now start)) (λ k. IsErrOf result (StoreError.Kind k)) }
         ensures not_asked { IsSome (own_refusal_of self.old.accounts (Begin user.now path.now start)) → self.new ≡ self.old }
