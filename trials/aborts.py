@@ -31,6 +31,16 @@ def behind_an_urgent_byte(control):
     control.sendall(DM + b"ABOR\r\n")
 
 
+def with_an_urgent_end(control):
+    """As Python's ftplib sends it: the LF of the line is the urgent byte."""
+    control.send(b"ABOR\r\n", socket.MSG_OOB)
+
+
+# The ways that a relay passes on, which takes no urgent byte.
+RELAYED = plainly, behind_a_synch, behind_an_urgent_byte
+WAYS = *RELAYED, with_an_urgent_end
+
+
 def is_stopped(session, send):
     began = time.monotonic()
     send(session.control)
@@ -93,8 +103,8 @@ def two_aborts(place, name):
         session.store(f"STOR {name}", b"")
 
 
-def run(tally, mode, place):
-    for send in plainly, behind_a_synch, behind_an_urgent_byte:
+def run(tally, mode, place, ways=WAYS):
+    for send in ways:
         how = send.__name__.replace("_", " ")
         tally.case(f"{mode} abort of a download {how}", download, place, place.name(), send)
         tally.case(f"{mode} abort of an upload {how}", upload, place, place.name(), send)

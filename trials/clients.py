@@ -45,9 +45,9 @@ def run_proxied(tally, name, words, header):
     """A server behind HAProxy."""
     with Server(words, "proxy") as server, Proxy([server], header) as proxy, Place(proxy.door()) as place:
         sessions.run(tally, name, place)
-        aborts.run(tally, name, place)
+        aborts.run(tally, name, place, aborts.RELAYED)
         operations.run(tally, name, place)
-        interrupts.run(tally, name, place)
+        interrupts.run(tally, name, place, interrupts.RELAYED)
         tally.runs_on(name, server)
 
 

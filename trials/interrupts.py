@@ -7,6 +7,7 @@ import shutil
 import signal
 import time
 
+import sessions
 from aborts import LENGTH, WITHIN
 from cases import PART, body, holds, same
 
@@ -91,10 +92,32 @@ def curl(place, name):
     same(place.stored(name), data)
 
 
-def run(tally, mode, place):
-    for client in lftp, curl:
+def ftplib(place, name):
+    """Python's library sends an ABOR whose LF is urgent data, twice in a session, which goes on."""
+    data = body(LENGTH)
+    place.put(name, data)
+    with sessions.client(place) as ftp:
+        for _ in range(2):
+            ftp.voidcmd("TYPE I")
+            with ftp.transfercmd(f"RETR {name}") as stream:
+                same(stream.recv(1), data[:1])
+                began = time.monotonic()
+                holds(ftp.abort().startswith("426"), "no 426")
+                ftp.voidresp()
+                took = time.monotonic() - began
+            holds(took < WITHIN, f"the replies took {took:.1f} seconds")
+        same(sessions.fetched(ftp, name), data)
+
+
+# Those whose ABOR a relay passes on, which takes no urgent byte.
+RELAYED = lftp, curl
+CLIENTS = *RELAYED, ftplib
+
+
+def run(tally, mode, place, clients=CLIENTS):
+    for client in clients:
         name = f"{mode} interrupt of {client.__name__}"
-        if shutil.which(client.__name__):
+        if client is ftplib or shutil.which(client.__name__):
             tally.case(name, client, place, place.name())
         else:
             tally.skip(name, f"{client.__name__} is not installed")

@@ -91,6 +91,8 @@ impl SocketControl {
                 readable: false,
                 unsure: false,
                 urgent: false,
+                priority: false,
+                behind_cr: false,
                 ended: false,
                 woken: false,
             },

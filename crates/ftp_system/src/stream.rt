@@ -37,10 +37,29 @@ pub(crate) struct Seen {
     pub(crate) unsure: bool,
     // Urgent data came once.
     pub(crate) urgent: bool,
+    // Urgent data has not been read past since the last read.
+    pub(crate) priority: bool,
+    // The last byte that was read is CR.
+    pub(crate) behind_cr: bool,
     // The peer sends no more.
     pub(crate) ended: bool,
     // The waker ended a wait, and `ready` has not said so yet.
     pub(crate) woken: bool,
+}
+
+impl Seen {
+    // Takes note of what was read.
+    fn take(&mut self, bytes: &[u8]) {
+        self.behind_cr = bytes.last() == Some(&b'\r');
+        self.priority = false;
+        self.readable = self.ended;
+    }
+
+    // Says whether the LF of a line stands next, where there is nothing to read: no read gives urgent data, and Python's ftplib
+    // sends its ABOR as such.
+    fn hides_lf(&self) -> bool {
+        self.behind_cr && self.priority
+    }
 }
 
 // Takes note of the last wait, and says whether the stream may be written.
@@ -50,7 +69,8 @@ fn note(events: &Events, seen: &mut Seen) -> bool {
         if event.token() == STREAM {
             let ended = event.is_read_closed() || event.is_error();
             seen.ended = seen.ended || ended;
-            seen.urgent = seen.urgent || event.is_priority();
+            seen.priority = event.is_priority();
+            seen.urgent = seen.urgent || seen.priority;
             seen.readable = seen.readable || event.is_readable() || ended;
             writable = writable || event.is_writable() || event.is_error();
         } else {
@@ -60,10 +80,10 @@ fn note(events: &Events, seen: &mut Seen) -> bool {
     writable
 }
 
-// What is waited for where the stream is to be read. Urgent data is told of once: where it came last, it would be told of
-// again and again.
+// What is waited for where the stream is to be read. Urgent data is told of once, and behind CR: where it came last, it would
+// be told of again and again.
 fn reading(seen: &Seen) -> Interest {
-    if seen.urgent {
+    if seen.urgent && !seen.behind_cr {
         Interest::READABLE
     } else {
         Interest::READABLE | Interest::PRIORITY
@@ -143,11 +163,16 @@ fn read_patiently(
         match reader.read(out) {
             Ok(n) => {
                 seen.ended = seen.ended || n == 0;
-                seen.readable = seen.ended;
                 seen.unsure = n == out.len() || seen.urgent;
+                seen.take(&out[..n]);
                 return Ok(n);
             }
             Err(e) if e.kind() == ErrorKind::Interrupted => {}
+            Err(e) if e.kind() == ErrorKind::WouldBlock && seen.hides_lf() => {
+                out[0] = b'\n';
+                seen.take(&out[..1]);
+                return Ok(1);
+            }
             Err(e) if e.kind() == ErrorKind::WouldBlock => {
                 seen.readable = false;
                 wait(poll, events, seen, false, limit)?
@@ -194,8 +219,8 @@ pub(crate) fn is_text_next(
             Ok(n) => n,
             Err(e) if e.kind() == ErrorKind::Interrupted => continue,
             Err(e) if e.kind() == ErrorKind::WouldBlock => {
-                seen.readable = false;
-                return Ok(false);
+                seen.readable = seen.hides_lf();
+                return Ok(seen.readable);
             }
             // It is told once, so no read would meet it.
             Err(e) => return Err(e),
