@@ -20,5 +20,5 @@ pub use ftp_handlers::{
 };
 pub use hub::Hub;
 pub use prepare::PrepareError;
-pub use run::{RunError, covers, run_event, run_events};
+pub use run::{RunError, covers, keep, run_event, run_events};
 pub use twin::{Twin, TwinRoom};

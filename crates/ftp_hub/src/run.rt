@@ -368,8 +368,17 @@ fn run_next<S: Storage, L: Link>(
     if log.make_room().is_err() {
         return Err(RunError::OutOfMemory { done: 0 });
     }
-    let mut entry = run_event(hub, storage, links, event)?;
+    let entry = run_event(hub, storage, links, event)?;
+    keep(log, entry);
+    Ok(())
+}
+
+/// Keeps an entry in a log that has room for it, and gives back the room that its actions do not need.
+pub fn keep(log: &mut Log, entry: Entry)
+    requires { 0 < log.old.room }
+    ensures { log.new.entries ≡ entry ∷ log.old.entries }
+{
+    let mut entry = entry;
     entry.actions.shrink_to_fit();
     log.push_reserved(entry);
-    Ok(())
 }

@@ -6,12 +6,12 @@ ghost use Rattle.ftp_shared.specs.Keeps.{Keeps};
 
 use crate::marks::Marks;
 use crate::outbox::Outbox;
-use crate::ready::{keep, make_ready, own_session, share_of};
+use crate::ready::{make_ready, own_session, share_of};
 use crate::receipt::{Receipt, Replies, Submitted, Turn};
 use crate::settle::{Gathered, SettleError, compared};
 use crate::share::{Parts, StepShare};
 use ftp_events::{Answer, HubEvent, Log};
-use ftp_hub::{Hub, Twin};
+use ftp_hub::{Hub, Twin, keep};
 use ftp_options::Options;
 use std::alloc::{AllocError, Global};
 use std::marker::Brand;

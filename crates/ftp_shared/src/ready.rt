@@ -53,16 +53,6 @@ fn newest(journal: &Log) -> &[Action]
     }
 }
 
-/// Keeps the entry of a step as it is, and no other.
-pub(crate) fn keep(journal: &mut Log, entry: Entry)
-    requires { 0 < journal.old.room }
-    ensures { journal.new.entries ≡ entry ∷ journal.old.entries }
-{
-    let mut entry = entry;
-    entry.actions.shrink_to_fit();
-    journal.push_reserved(entry);
-}
-
 /// The session that is handed its replies with the entry of an event.
 pub(crate) fn own_session(kind: &EventKind) -> Option<u64>
     ensures { result ≡ own_session kind.now }

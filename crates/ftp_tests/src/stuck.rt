@@ -82,9 +82,9 @@ fn run(alloc: Global, job: Job) -> Result<Outcome, Fail> {
 }
 
 /// The outcome of a transfer whose link was reset.
-fn reset(result: Completion, bytes: u64) -> Outcome {
+fn reset(completion: Completion, bytes: u64) -> Outcome {
     Outcome {
-        result,
+        result: completion,
         bytes,
         fault: Some(LinkFault::Reset),
     }

@@ -9,8 +9,8 @@ use Rattle.ftp_hub.proofs.run.run_next.Goals as goal
 -- the log has one entry more, of the copied event
 pub returns-clause-event : goal.returns-clause-event
 returns-clause-event g c =
-    goes-on-one c.args.log.now.entries c.push_reserved.new.self.entries c.in_ok-entry.entry c.args.event.now
-    (c.push_reserved.ensures.pushed ∙ ap (λ log. c.in_ok-entry.entry ∷ log) c.make_room.ensures.same)
+    goes-on-one c.args.log.now.entries c.keep.new.log.entries c.in_ok-entry.entry c.args.event.now
+    (c.keep.ensures ∙ ap (λ log. c.in_ok-entry.entry ∷ log) c.make_room.ensures.same)
     (c.in_ok-entry.ensures.event ∙ c.in-Ok.ensures)
 
 -- the entry did to storage and links what it says
@@ -18,8 +18,8 @@ pub returns-clause-leads : goal.returns-clause-leads
 returns-clause-leads g c st has =
     let o = options_of c.args.hub.now in
     let log = c.args.log.now.entries in
-    leads-one _ o log c.push_reserved.new.self.entries c.in_ok-entry.entry _ _
-    (c.push_reserved.ensures.pushed ∙ ap (λ log. c.in_ok-entry.entry ∷ log) c.make_room.ensures.same)
+    leads-one _ o log c.keep.new.log.entries c.in_ok-entry.entry _ _
+    (c.keep.ensures ∙ ap (λ log. c.in_ok-entry.entry ∷ log) c.make_room.ensures.same)
     (c.in_ok-entry.ensures.leads log st (has_link_of-due o (past_of log) _ c.args.links.now has))
 
 -- each session and each job still has its link
@@ -28,8 +28,8 @@ returns-clause-has_links g c st has =
     let o = options_of c.args.hub.now in
     let log = c.args.log.now.entries in
     let e = c.in_ok-entry.entry in
-    let pushed : c.push_reserved.new.self.entries ≡ e ∷ log =
-    c.push_reserved.ensures.pushed ∙ ap (λ log. e ∷ log) c.make_room.ensures.same
+    let pushed : c.keep.new.log.entries ≡ e ∷ log =
+    c.keep.ensures ∙ ap (λ log. e ∷ log) c.make_room.ensures.same
     in
     let same : e.event ≡ c.args.event.now = c.in_ok-entry.ensures.event ∙ c.in-Ok.ensures in
     let covered : is_covered (is_linked c.args.links.now) e.event.kind ≡ true =
