@@ -18,6 +18,10 @@ STRANGER = "127.0.0.9"
 LIMIT = 60
 # What it may take longer where the machine has much else to do.
 SLACK = 30
+# What a server may gather before it sends: a piece of a transfer, all that is gathered, and a byte less than a piece.
+UNSENT = 8192, 131072, 8191
+# How long a server may take to attach a connection.
+ATTACHED = 0.3
 # A listener of one session waits 16 seconds; its session looks at it once in ten.
 LISTENER = 26
 
@@ -245,6 +249,21 @@ def resets_downloads(abuse):
         same(session.fetch("RETR large", LARGE - 1000), body(LARGE)[-1000:])
 
 
+def resets_its_data_connection_early(abuse):
+    """A connection that was reset before a byte left is told as lost, however little was to go, and its session goes on."""
+    with abuse.session() as session:
+        for length in UNSENT:
+            session.store("STOR unsent", body(length))
+            stream = session.link()
+            # Until it is attached, its header read.
+            time.sleep(ATTACHED)
+            wire.reset(stream)
+            time.sleep(ATTACHED)
+            session.tell("RETR unsent", 150)
+            session.expect(426)
+            same(session.fetch("RETR unsent"), body(length))
+
+
 def resets_uploads(abuse):
     """What a reset leaves of an upload is a part from its front."""
     with abuse.session() as session:
@@ -434,6 +453,7 @@ QUICK = {
     sends_urgent_bytes: EVERY,
     stores_one_name_twice: EVERY,
     resets_downloads: EVERY,
+    resets_its_data_connection_early: EVERY,
     resets_uploads: EVERY,
     resets_sessions: EVERY,
     connects_to_the_ports_of_others: SHARED,
