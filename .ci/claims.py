@@ -7,14 +7,17 @@ HEAD = """\
 # Claims
 
 Every call that another crate can make, and of a program each `pub` function, with its clauses. `.ci/documents --write` writes
-this page from the crates, and `.ci/run` refuses one that differs. What the clauses say in plain words, and what nothing says,
-is in [PROVED.md](PROVED.md).
+this page from the crates, and `.ci/run` refuses one that differs. The headline, what is trusted, and what nothing says is in
+[PROVED.md](PROVED.md).
 
 - *clauses*: the names of its `ensures`; (unnamed) is one without a name. A method of a trait keeps the clauses of the trait
   besides its own.
 - *needs*: the names of its `requires`.
 - *definitions*: the words of `specs/` that its contract cites, and their file there; of another crate with its name.
 - *wrong bodies refused*: the edits of `must-fail/` that change a line of this function.
+
+Below a table stands what is proved of its calls in plain words, from their comments, each with the clauses that say so; those behind
+*also* are of the calls that are named before them.
 """
 
 
@@ -45,6 +48,8 @@ def claims_of(crate, own_traits):
     rows = [[named(f), ticked(f.clauses), ticked(f.requires), cited(f), ticked(f.edits)] for f in calls if f.clauses]
     if rows:
         lines += table(["call", "clauses", "needs", "definitions", "wrong bodies refused"], rows)
+    for f in (f for f in crate.functions if f.proved):
+        lines += [f"`{f.call()}`:", "", *(line for point in f.proved for line in point), ""]
     bare = sorted({named(f) for f in calls if not f.clauses and f.trait not in own_traits})
     if bare:
         lines += ["Without a clause of its own: " + ", ".join(bare) + ".", ""]

@@ -11,6 +11,7 @@ from pathlib import Path
 TOP = Path(__file__).resolve().parent.parent
 
 OPAQUE = re.compile(r"//[^\n]*|\"(?:\\.|[^\"\\])*\"|'(?:\\.|[^'\\])'")
+PROVED = "# Proved"
 ITEM = re.compile(r"[{}]|\bghost\b|\bpub(?:\([^)]*\))?\s+use\b|\b(?:impl|trait|mod|fn)\b")
 TYPE = re.compile(r"\b(struct|enum|trait|const|type) (\w+)")
 CLAUSE = re.compile(r"\s*\b(requires|ensures)\*?\s*(\w*)\s*(?=\{)")
@@ -33,6 +34,8 @@ class Function:
     requires: list = field(default_factory=list)
     cited: dict = field(default_factory=dict)  # the definitions that its clauses cite, with their files
     edits: list = field(default_factory=list)
+    line: int = 0  # of its file, at which its comment says what is proved
+    proved: list = field(default_factory=list)  # what that says: a list of lines for each point
     names: list = field(default_factory=list)  # under which another crate calls it
 
     def call(self):
@@ -166,8 +169,22 @@ class Source:
             made.cited |= self.cited(self.blank[clause.end() : at])
         at += len(self.blank[at:]) - len(self.blank[at:].lstrip())
         made.end = (closing(self.blank, at) if self.blank[at] == "{" else at) + 1
+        made.line, made.proved = self.proved(begin)
         self.crate.functions.append(made)
         return made.end
+
+    def proved(self, begin):
+        """The points under `# Proved` of the comment above a function, and the line of the first."""
+        above = self.text[:begin].split("\n")[:-1]
+        first = len(above)
+        while first and re.match(r"\s*(//|#\[)", above[first - 1]):
+            first -= 1
+        lines = [re.sub(r"^\s*///? ?", "", line) for line in above[first:]]
+        if PROVED not in lines:
+            return 0, []
+        begins = lines.index(PROVED) + 2
+        points = re.split(r"\n(?=- )", "\n".join(line for line in lines[begins:] if not line.startswith("#[")))
+        return first + begins + 1, [point.split("\n") for point in points]
 
     def cited(self, clause):
         found = {}
