@@ -4,12 +4,14 @@
     python3 bench/refused_memory.py [SCRIPT ..]
 
 It runs `ftp_script`, as `rt ci` leaves it in out/, over each SCRIPT; without one over those of bench/refused/ and examples/, a run of
-`stress`, and the tests of a hub that is settled. A run has to end as without a refusal; or with status 5, no memory (a test: with
-AllocError), having written a front of the whole output; or with the whole run's status and a transfer that ended so. Every other
-end is printed, and the script then ends with 1. It needs a C compiler, `cc`.
+`stress`, and the tests of a hub that is settled and of a client that logs in and quits. A run has to end as without a refusal; or
+with status 5, no memory (a test: with AllocError, or where a reply is due and nothing more was sent), having written a front of the
+whole output; or with the whole run's status and a transfer that ended so. Every other end is printed, and the script then ends with
+1. It needs a C compiler, `cc`.
 """
 
 import os
+import re
 import subprocess
 import sys
 import tempfile
@@ -17,9 +19,15 @@ from pathlib import Path
 
 TOP = Path(__file__).resolve().parent.parent
 PROGRAM = TOP / "crates/ftp_script/out/ftp_script"
-TESTS = TOP / "crates/ftp_shared_tests/out/ftp_shared_tests_tests"
-SETTLED = ("a_hub_is_settled_with_all_shares_and_receipts", "steps_are_missed", "the_receipt_of_another_hub_differs")
+TESTS = (
+    ("ftp_shared_tests", "tests::a_hub_is_settled_with_all_shares_and_receipts"),
+    ("ftp_shared_tests", "tests::steps_are_missed"),
+    ("ftp_shared_tests", "tests::the_receipt_of_another_hub_differs"),
+    ("ftp_talk_tests", "lines::a_client_logs_in_asks_for_a_port_and_quits"),
+)
 OUT_OF_MEMORY = 5
+# What a test says that compares a reply with what was sent, where nothing was, or the end of a talk with one that went well.
+CUT_SHORT = re.compile(rb"left: (\[\]|OutOfMemory)\n")
 
 
 class Refusals:
@@ -58,7 +66,7 @@ def end_of(code, out, said, status, whole):
         return "status 5"
     if code == status and b"? done memory" in out:
         return "a result memory"
-    if code != 0 and b"AllocError" in out + said:
+    if code != 0 and (b"AllocError" in out + said or CUT_SHORT.search(out + said)):
         return "status 5"
     return "other"
 
@@ -72,7 +80,8 @@ def main():
         well = [refusals.each(path.name, [PROGRAM, "script"], path.read_bytes()) for path in chosen]
         if not scripts:
             well.append(refusals.each("`stress 7 3`", [PROGRAM, "stress", "7", "3"]))
-            well += [refusals.each(test, [TESTS, f"tests::{test}"]) for test in SETTLED]
+            for crate, test in TESTS:
+                well.append(refusals.each(test, [TOP / f"crates/{crate}/out/{crate}_tests", test]))
     return 0 if all(well) else 1
 
 

@@ -9,8 +9,10 @@ that was there before goes on; and the address can come again. It prints a line 
 a case failed. The abuses that last a minute go on beside the others.
 """
 
+import os
 import sys
 import threading
+import time
 
 sys.dont_write_bytecode = True
 import abuses  # noqa: E402
@@ -22,6 +24,8 @@ from witness import Witness  # noqa: E402
 ABUSER, WITNESS = "127.0.0.3", "127.0.0.2"
 # A server with so few descriptors has no more than some dozen sessions.
 FEW = 160
+# So many sessions have a thread each. One without work ends within a minute; of those four stay.
+CROWD, RESTING = 200, 4
 
 
 class Begun:
@@ -105,6 +109,32 @@ def is_greeted(stream):
         return False
 
 
+def threads(server):
+    return len(os.listdir(f"/proc/{server.process.pid}/task"))
+
+
+def leaves_no_threads(server):
+    """The threads of many sessions at a time end, once these have."""
+    door, before = server.door(), threads(server)
+    sessions = [wire.Session(door, ABUSER).login() for _ in range(CROWD)]
+    holds(threads(server) >= CROWD, f"{threads(server)} threads serve {CROWD} sessions")
+    for session in sessions:
+        session.quit()
+    end = time.monotonic() + abuses.LIMIT + abuses.SLACK
+    while threads(server) > before + RESTING and time.monotonic() < end:
+        time.sleep(1)
+    holds(threads(server) <= before + RESTING, f"{threads(server)} threads are left, of {before} before")
+    with wire.Session(door, ABUSER).login() as session:
+        moves_a_file(session, "of-one-who-came-later")
+
+
+def run_crowd(tally, words, mode):
+    name = f"{mode} a client leaves no threads"
+    if tally.only in name:
+        with Server(words, mode) as server:
+            tally.case(name, leaves_no_threads, server)
+
+
 def run_few(tally, words, mode):
     name = f"{mode} a client takes all descriptors"
     if tally.only in name:
@@ -117,6 +147,7 @@ def main():
     for mode in abuses.EVERY:
         tally.group(mode, run_mode, words, mode)
         tally.group(f"{mode} with few descriptors", run_few, words, mode)
+    tally.group("a crowd", run_crowd, words, "pooled")
     return tally.end()
 
 
