@@ -1,6 +1,8 @@
 //! One control connection by itself.
 
-ghost use Rattle.std.specs.Prelude.{◌≡◌, ◌⊎◌, IfErr};
+ghost use Rattle.std.specs.Prelude.{◌≡◌, ◌⊎◌, true, IfErr};
+ghost use Rattle.ftp_options.specs.Builder.{settings_of};
+ghost use Rattle.ftp_options.specs.Modes.{is_legacy};
 
 use crate::listening::AcceptPoll;
 use crate::parts::{Boxed, ServerParts};
@@ -25,7 +27,10 @@ use std::time::Duration;
 const TURN: u64 = 100;
 
 /// The same options in legacy mode.
-fn in_legacy_mode(options: Options) -> Options {
+fn in_legacy_mode(options: Options) -> Options
+    ensures legacy { is_legacy result.mode ≡ true }
+    ensures others { settings_of result ≡ record (settings_of options) { mode = result.mode } }
+{
     Options {
         mode: ListenerMode::Legacy,
         lo: options.lo,
