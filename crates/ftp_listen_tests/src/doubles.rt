@@ -197,6 +197,8 @@ impl Indicator for Asks {
         if !self.board.asks.load(Ordering::SeqCst) {
             return None;
         }
+        // The front's next moment is a later one.
+        self.board.leap.fetch_add(1, Ordering::SeqCst);
         self.asked = Some((at, self.shutdown.grace_ms));
         Some(self.shutdown)
     }
