@@ -77,8 +77,9 @@ class Program:
         self.stop()
 
     def text(self):
-        self.said.seek(0)
-        return self.said.read().decode("latin-1")
+        """What it has said. The place in the file is that at which it goes on, and is left alone."""
+        file = self.said.fileno()
+        return os.pread(file, os.fstat(file).st_size, 0).decode("latin-1")
 
     def is_running(self):
         return self.process.poll() is None

@@ -1,8 +1,11 @@
 //! What a server is made with, beside its options.
 
 use ftp_base::{Authenticator, DataListener, PresenceListener, Storage};
+use ftp_feed::JournalFeed;
 use ftp_options::Indicator;
 use ftp_workers::Listeners;
+use std::alloc::Global;
+use std::sync::Arc;
 
 /// Who may log in, who is told, who asks for a shutdown, and the files.
 #[derive(Drop)]
@@ -17,12 +20,13 @@ pub struct Parts<S: Storage + Drop> {
     pub storage: S,
 }
 
-/// What a server's threads share: who may log in, who is told, and the files.
+/// What a server's threads share: who may log in, who is told, the files, and where the journal's entries go.
 #[derive(Drop)]
 pub(crate) struct ServerParts<A, N, S> {
     pub(crate) authenticator: A,
     pub(crate) sinks: N,
     pub(crate) storage: S,
+    pub(crate) feed: Option<Arc<JournalFeed, Global>>,
 }
 
 /// Anybody whom boxes hold.
@@ -33,8 +37,11 @@ pub(crate) type Boxed<S> = ServerParts<
 >;
 
 impl<S: Storage + Drop> Parts<S> {
-    /// Who asks for a shutdown, and all else.
-    pub(crate) fn open(self) -> (Box<dyn Indicator + Drop>, Boxed<S>) {
+    /// Who asks for a shutdown, and all else, with a feed for the journal's entries where there is one.
+    pub(crate) fn open(
+        self,
+        feed: Option<Arc<JournalFeed, Global>>,
+    ) -> (Box<dyn Indicator + Drop>, Boxed<S>) {
         let Parts {
             authenticator,
             data_listener,
@@ -50,6 +57,7 @@ impl<S: Storage + Drop> Parts<S> {
             authenticator,
             sinks,
             storage,
+            feed,
         };
         (indicator, server_parts)
     }

@@ -7,9 +7,11 @@ ghost use Rattle.ftp_listen.specs.Causes.{WritesNone, WritesV6, is_of_listening}
 use crate::parts::Parts;
 use crate::server::Server;
 use ftp_base::Storage;
+use ftp_feed::JournalFeed;
 use ftp_options::{Built, Options, ServerError};
 use ftp_system::ServerRuntime;
 use std::alloc::Global;
+use std::sync::Arc;
 
 /// A server that does not listen yet, and whose sessions share the ports.
 #[derive(Drop)]
@@ -47,6 +49,13 @@ impl<S: Storage + Send + Drop + 'static> PreboundListener<S> {
         ensures options { self.new.server.options ≡ self.old.server.options }
     {
         self.server.most_sessions_of_one(of_one);
+    }
+
+    /// Hands each entry of the journal to a feed, as `Server::feed_journal` says it.
+    pub fn feed_journal(&mut self, feed: Arc<JournalFeed, Global>)
+        ensures options { self.new.server.options ≡ self.old.server.options }
+    {
+        self.server.feed_journal(feed);
     }
 
     /// Listens at an address and at each passive port there, as `Server::listen` does.

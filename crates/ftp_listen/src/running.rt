@@ -51,9 +51,10 @@ pub(crate) fn new_state<
         authenticator,
         sinks,
         storage,
+        feed,
     } = server_parts;
     let (steps, parts) = blank.open::<L>();
-    let state = ServerState::new(
+    let mut state = ServerState::new(
         alloc,
         options,
         limits,
@@ -64,6 +65,9 @@ pub(crate) fn new_state<
         gate,
         acceptor,
     )?;
+    if let Some(feed) = feed {
+        state.feed_to(feed);
+    }
     match Arc::new(alloc, state) {
         Ok(state) => Ok(state),
         Err(_) => Err(AllocError),

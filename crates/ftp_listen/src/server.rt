@@ -10,6 +10,7 @@ use crate::place::{doors_at, place_of};
 use crate::running::{PARTS, run_server};
 use crate::single::serve_one;
 use ftp_base::{Authenticator, Gate, SocketAddr, Spawner, Storage};
+use ftp_feed::JournalFeed;
 use ftp_options::{Built, Indicator, Options, ServerError};
 use ftp_system::{Front, OpenGate, ServerRuntime, SessionLimits, SystemFront, SystemThreads};
 use ftp_workers::EventSinks;
@@ -39,6 +40,7 @@ pub struct Server<S: Storage + Drop> {
     options: Options,
     limits: SessionLimits,
     parts: Parts<S>,
+    feed: Option<Arc<JournalFeed, Global>>,
 }
 
 impl<S: Storage + Send + Drop + 'static> Server<S> {
@@ -60,6 +62,7 @@ impl<S: Storage + Send + Drop + 'static> Server<S> {
             options,
             limits: usual_limits(),
             parts,
+            feed: None,
         }
     }
 
@@ -72,6 +75,7 @@ impl<S: Storage + Send + Drop + 'static> Server<S> {
             options,
             limits: usual_limits(),
             parts,
+            feed: None,
         }
     }
 
@@ -89,6 +93,15 @@ impl<S: Storage + Send + Drop + 'static> Server<S> {
         ensures options { self.new.options ≡ self.old.options }
     {
         self.limits.of_one = of_one;
+    }
+
+    /// Hands each entry of the journal to a feed, in order, once it is decided. A thread of the caller's takes them out; where it
+    /// does not keep up, it is told that entries are lost. The caller closes the feed once the server has ended.
+    pub fn feed_journal(&mut self, feed: Arc<JournalFeed, Global>)
+        ensures limits { self.new.limits ≡ self.old.limits }
+        ensures options { self.new.options ≡ self.old.options }
+    {
+        self.feed = Some(feed);
     }
 
     /// Listens at an address such as `127.0.0.1:21` or `[::1]:21`, until the indicator asks for a shutdown and all
@@ -110,8 +123,9 @@ impl<S: Storage + Send + Drop + 'static> Server<S> {
             options,
             limits,
             parts,
+            feed,
         } = self;
-        let (indicator, server_parts) = parts.open();
+        let (indicator, server_parts) = parts.open(feed);
         let mut indicator = indicator;
         let at = match place_of(bind_address, options.mode) {
             Ok(at) => at,
@@ -175,8 +189,9 @@ impl<S: Storage + Send + Drop + 'static> Server<S> {
             options,
             limits,
             parts,
+            feed,
         } = self;
-        let (own, server_parts) = parts.open();
+        let (own, server_parts) = parts.open(feed);
         drop(own);
         let at = match place_of(bind_address, options.mode) {
             Ok(at) => at,
@@ -207,8 +222,9 @@ impl<S: Storage + Send + Drop + 'static> Server<S> {
             options,
             limits,
             parts,
+            feed,
         } = self;
-        let (own, server_parts) = parts.open();
+        let (own, server_parts) = parts.open(feed);
         drop(own);
         serve_one(rt, alloc, options, limits, server_parts, stream)
     }

@@ -5,14 +5,22 @@ ghost use Rattle.ftp_options.specs.Builder.{settings_of};
 ghost use Rattle.ftp_serve.specs.Settings.{settings_for, IsAtZero};
 
 use crate::command::Service;
+use crate::recording::record;
 use ftp_base::{AuthAnswer, MemoryStorage, NopListener, SameAnswer};
+use ftp_feed::JournalFeed;
 use ftp_listen::{Parts, Server};
 use ftp_options::{ListenerMode, Options, ServerBuilder, ServerError};
 use ftp_system::{NeverAsks, ServerRuntime};
 use std::alloc::Global;
+use std::io::Write;
+use std::sync::Arc;
+use std::thread;
 
 /// The largest file, in bytes.
 const MAX_FILE: u64 = 16_777_216;
+
+/// How many entries may wait to be printed: some hundred MB of them.
+const MOST_WAITING: u64 = 200_000;
 
 // The options of a service.
 //
@@ -40,12 +48,14 @@ fn options(alloc: Global, service: Service) -> Result<Options, ServerError>
     }
 }
 
-/// Listens at the address that the first word says. Everybody may log in, nobody is told, and no shutdown is asked for.
+/// Listens at the address that the first word says. Everybody may log in, nobody is told but the feed of the journal, where there
+/// is one, and no shutdown is asked for.
 pub fn serve<R: ServerRuntime>(
     rt: &R,
     alloc: Global,
     words: &[String],
     service: Service,
+    feed: Option<Arc<JournalFeed, Global>>,
 ) -> Result<(), ServerError> {
     let options = options(alloc, service)?;
     let Some(address) = words.first() else {
@@ -66,5 +76,36 @@ pub fn serve<R: ServerRuntime>(
         indicator,
         storage: MemoryStorage::new(alloc, MAX_FILE, Vec::new(alloc)),
     };
-    Server::with_options(alloc, options, parts).listen(rt, address.as_bytes())
+    let mut server = Server::with_options(alloc, options, parts);
+    if let Some(feed) = feed {
+        server.feed_journal(feed);
+    }
+    server.listen(rt, address.as_bytes())
+}
+
+/// Listens as `serve` does, and writes the printed log of what is decided.
+pub fn serve_recorded<R: ServerRuntime, W: Write + Send>(
+    rt: &R,
+    alloc: Global,
+    words: &[String],
+    service: Service,
+    out: &mut W,
+) -> Result<(), ServerError> {
+    let Ok(feed) = Arc::new(alloc, JournalFeed::new(alloc, MOST_WAITING)) else {
+        return Err(ServerError::OutOfMemory);
+    };
+    let Ok(theirs) = Arc::try_clone(&feed) else {
+        return Err(ServerError::OutOfMemory);
+    };
+    let journal = &*feed;
+    let ((), ended) = thread::join(
+        rt,
+        move || record(rt, alloc, journal, service, out),
+        move || {
+            let ended = serve(rt, alloc, words, service, Some(theirs));
+            journal.close(rt);
+            ended
+        },
+    );
+    ended
 }

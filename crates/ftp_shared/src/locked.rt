@@ -249,6 +249,13 @@ impl<L: Serving> Locked<L> {
         self.hub.options()
     }
 
+    /// How many entries the journal has.
+    pub fn len(&self) -> u64
+        ensures { result ≡ length self.now.journal.entries }
+    {
+        self.journal.len()
+    }
+
     /// Says whether no job runs and no session is live.
     pub fn drained(&self) -> bool
         ensures { result ≡ ((running_count (past_of self.now.journal.entries) == 0) && (live_count (past_of self.now.journal.entries) == 0)) }

@@ -15,18 +15,20 @@ use crate::receipt::{FinishError, JobShare, Receipt, Submitted, Turn};
 use crate::settle::SettleError;
 use crate::share::StepShare;
 use ftp_events::{Answer, EventKind, HubEvent, Log};
+use ftp_feed::JournalFeed;
 use ftp_options::Options;
 use ftp_transfer::Outcome;
 use std::alloc::{AllocError, Global};
 use std::sync::atomic::{AtomicU64, Ordering};
 use std::sync::ledger::{Book, Share};
-use std::sync::{Mutex, Wait};
+use std::sync::{Arc, Mutex, Wait};
 
-/// A locked hub, and the numbers that were drawn for it.
+/// A locked hub, the numbers that were drawn for it, and who is told its entries.
 #[derive(Drop)]
 pub struct SharedHub<L: Serving> {
     lock: Mutex<Locked<L>>,
     drawn: AtomicU64,
+    feed: Option<Arc<JournalFeed, Global>>,
 }
 
 impl<L: Serving> SharedHub<L> {
@@ -47,6 +49,27 @@ impl<L: Serving> SharedHub<L> {
         SharedHub {
             lock: Mutex::new(Locked::new(alloc, options, steps, share, parts)),
             drawn: AtomicU64::new(0),
+            feed: None,
+        }
+    }
+
+    /// Has each entry told to a feed too, once the lock is free. It is called before the first event.
+    pub fn feed_to(&mut self, feed: Arc<JournalFeed, Global>) {
+        self.feed = Some(feed);
+    }
+
+    /// Tells the feed how many entries there are: no later one is given there.
+    pub fn end_feed<R: Wait>(&self, rt: &R) {
+        if let Some(feed) = &self.feed {
+            let count = self.lock.lock(rt).len();
+            feed.end_at(rt, count);
+        }
+    }
+
+    // Tells the feed an entry.
+    fn tell<R: Wait>(&self, rt: &R, receipt: &Receipt) {
+        if let Some(feed) = &self.feed {
+            feed.put(rt, receipt.place, &receipt.entry);
         }
     }
 
@@ -69,7 +92,9 @@ impl<L: Serving> SharedHub<L> {
         ensures share { OnOk result (share.new.count ≡ share.old.count + 1) }
         ensures same_share { OnErr result (share.new.count ≡ share.old.count) }
     {
-        self.lock.lock(rt).append(share, event, answer)
+        let submitted = self.lock.lock(rt).append(share, event, answer)?;
+        self.tell(rt, &submitted.receipt);
+        Ok(submitted)
     }
 
     /// Adds the entry of this event, and hands the session that it names what it was sent before.
@@ -85,7 +110,9 @@ impl<L: Serving> SharedHub<L> {
         ensures share { OnOk result (share.new.count ≡ share.old.count + 1) }
         ensures same_share { OnErr result (share.new.count ≡ share.old.count) }
     {
-        self.lock.lock(rt).append_for(share, event, answer)
+        let turn = self.lock.lock(rt).append_for(share, event, answer)?;
+        self.tell(rt, &turn.submitted.receipt);
+        Ok(turn)
     }
 
     /// Adds a piece of a job, of so many bytes, which moved before. Where the job goes on its share comes back, with these
@@ -106,7 +133,9 @@ impl<L: Serving> SharedHub<L> {
         ensures same_share { OnErr result (share.new.count ≡ share.old.count) }
         ensures given_back { IfErr result (λ e. e.0 ≡ job) }
     {
-        self.lock.lock(rt).append_piece(share, job, at, bytes)
+        let submitted = self.lock.lock(rt).append_piece(share, job, at, bytes)?;
+        self.tell(rt, &submitted.receipt);
+        Ok(submitted)
     }
 
     /// Adds the end of a job, and takes its share; an error gives that back. The outcome's bytes are all that moved, those of
@@ -136,12 +165,15 @@ impl<L: Serving> SharedHub<L> {
                 ticket: job.ticket(),
             },
         };
-        match self
+        let appended = self
             .lock
             .lock(rt)
-            .append(share, event, Answer::Done(outcome))
-        {
-            Ok(submitted) => Ok(submitted),
+            .append(share, event, Answer::Done(outcome));
+        match appended {
+            Ok(submitted) => {
+                self.tell(rt, &submitted.receipt);
+                Ok(submitted)
+            }
             Err(_) => Err(FinishError(job)),
         }
     }
@@ -183,7 +215,11 @@ impl<L: Serving> SharedHub<L> {
         // Any other error tells of the first receipt that is not the entry at its place.
         ensures differs_so { IfErr result (λ e. is_missing e ≡ false → ∥ IsOtherOf L.options receipts.now e ∥₁) }
     {
-        let SharedHub { lock, drawn: _ } = self;
+        let SharedHub {
+            lock,
+            drawn: _,
+            feed: _,
+        } = self;
         lock.into_inner().settle(shares, receipts)
     }
 

@@ -1,5 +1,6 @@
 //! The locked hub, used by one thread and by two.
 
+use crate::feeding::gives_the_journal;
 use crate::jobs::{Course, transfer};
 use crate::pieces::{move_two, settled_by};
 use crate::settled::{Told, settle_two, strange_receipt};
@@ -31,6 +32,17 @@ fn two_threads_make_one_journal(rt: HostRuntime) -> Result<(), Fail> {
     // Each is a session of its own, so the numbers drawn are 2,000 different ones.
     for entry in log.as_slice() {
         assert_eq!(rt; entry.decision, Decision::Opened);
+    }
+    Ok(())
+}
+
+#[test]
+fn a_feed_gives_what_two_threads_append(rt: HostRuntime) -> Result<(), Fail> {
+    // With an entry too many the writer is told of a loss.
+    for (most, is_whole) in [(200, true), (199, false)] {
+        let options = pooled(rt.alloc())?;
+        let given = gives_the_journal(&rt, rt.alloc(), options, 100, most);
+        assert_eq!(rt; given, Ok(is_whole));
     }
     Ok(())
 }

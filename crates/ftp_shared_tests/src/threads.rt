@@ -15,7 +15,7 @@ use std::thread;
 use std::thread::Threads;
 
 /// Connects so many sessions, whose numbers are drawn, and gives the share back that counted them.
-fn connect_all<L: Serving, R: Wait>(
+pub fn connect_all<L: Serving, R: Wait>(
     rt: &R,
     hub: &SharedHub<L>,
     share: StepShare<L>,

@@ -64,9 +64,11 @@ impl<
         self.hub.drained(rt)
     }
 
-    /// From now on no task comes, and threads end once none is left.
+    /// From now on no task comes, and threads end once none is left. The feed of the journal ends with the entries that are
+    /// there.
     pub fn close<R: Wait>(&self, rt: &R) {
         self.handoff.close(rt);
+        self.hub.end_feed(rt);
     }
 }
 

@@ -7,6 +7,7 @@ use crate::event_sinks::EventSinks;
 use crate::handoff::Handoff;
 use crate::listening::AcceptorHandle;
 use ftp_base::{Authenticator, Gate, Storage};
+use ftp_feed::JournalFeed;
 use ftp_options::Options;
 use ftp_shared::{Serving, SharedHub};
 use ftp_system::{SessionCounts, SessionLimits, Uploads};
@@ -89,5 +90,10 @@ impl<
             counts: Mutex::new(SessionCounts::new(alloc)),
             gate,
         })
+    }
+
+    /// Has each entry told to a feed too, once the hub is free. It is called before any thread serves.
+    pub fn feed_to(&mut self, feed: Arc<JournalFeed, Global>) {
+        self.hub.feed_to(feed);
     }
 }
