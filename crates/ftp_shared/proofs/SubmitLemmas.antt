@@ -29,14 +29,14 @@ replies-set x y = Coded-set (coded_list (coded× coded_ℕ reply_row.coded)) x y
 
 -- a turn of the locked hub appends to a journal that is told
 pub turn-appends :
-    (o : Options) (hub : Hub) (J : List Entry) (box : Outbox) (event : HubEvent) (answer : Answer) (e : Entry) (earlier : List (ℕ × Reply)) (files : Option Files) (faults : ℕ) (share : Option ℕ) (new : DeskView) →
+    (o : Options) (hub : Hub) (J : List Entry) (box : Outbox) (event : HubEvent) (answer : Answer) (e : Entry) (earlier : List (ℕ × Reply)) (files : Option Files) (faults refused : ℕ) (share : Option ℕ) (new : DeskView) →
     ∥ Keeps o hub J box ∥₁ →
     e ≡ next_entry o J event answer →
     new.journal ≡ Some (e ∷ J) →
     earlier ≡ option_map_or (outbox_of box J) (own_session event.kind) [] →
     ((s : ℕ) → new.outbox s ≡ outbox_after (own_session event.kind) e (outbox_of box J) s) →
-    Appends J (record { options = o; files = files; faults = faults; journal = Some J; outbox = outbox_of box J; share = share }) new earlier e
-turn-appends o hub J box event answer e earlier files faults share new kept due journal handed boxes =
+    Appends J (record { options = o; files = files; faults = faults; refused = refused; journal = Some J; outbox = outbox_of box J; share = share }) new earlier e
+turn-appends o hub J box event answer e earlier files faults refused share new kept due journal handed boxes =
     let told : e.event ≡ event = ap (λ (x : Entry). x.event) due in
     record {
       right = ∥∥₁_map kept (λ k. (keeps-right o hub J box k, keeps-acted o hub J box k));

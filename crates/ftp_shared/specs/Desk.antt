@@ -16,13 +16,14 @@ use Rattle.ftp_events.specs.Log.{new_number, past_of}
 use Rattle.ftp_events.specs.Right.{IsRight, IsActed, next_entry, replies}
 use Rattle.ftp_shared.specs.Outbox.{IsRest, own_session, outbox_after}
 
--- a desk as callers see it: the options of its logs, the map of its storage, how often that failed, the journal with the
--- newest entry first, the replies to each session that were not handed out, and how many steps were made with its share;
--- map, journal and share where it tells them
+-- a desk as callers see it: the options of its logs, the map of its storage, how often that failed, how many events were not
+-- taken for want of memory, the journal with the newest entry first, the replies to each session that were not handed out,
+-- and how many steps were made with its share; map, journal and share where it tells them
 pub record DeskView : Type 0 where
   pub options : Options
   pub files : Option Files
   pub faults : ℕ
+  pub refused : ℕ
   pub journal : Option (List Entry)
   pub outbox : ℕ → List (ℕ × Reply)
   pub share : Option ℕ
@@ -37,6 +38,7 @@ pub record SameDesk (old new : DeskView) : Type 0 where
   pub options : new.options ≡ old.options
   pub files : new.files ≡ old.files
   pub count : old.faults ≤ new.faults
+  pub refused : old.refused ≤ new.refused
   pub journal : new.journal ≡ old.journal
   pub outbox : (s : ℕ) → new.outbox s ≡ old.outbox s
   pub share : RisesBy 0 old.share new.share

@@ -46,7 +46,9 @@ pub trait Desk {
     ///   (`fresh` of `Appends`), if the event names no ticket (`appended`).
     /// - Each entry is the next one of some right and acted log, and the replies before it are the last that this log
     ///   sends to its session (`vouched`).
-    /// - Want of memory changes nothing that is told but the count of the storage's faults (`refused`).
+    /// - Want of memory changes nothing that is told but the counts of the storage's faults and of the events that were
+    ///   not taken; the latter rises then and at no other call (`refused`, `refused_rose`, `unrefused`; also `Desk::draw`:
+    ///   `unrefused`; `Desk::directory`: `unrefused`).
     fn submit(&mut self, event: HubEvent, answer: Answer) -> Result<Told, AllocError>
         requires unticketed { has_ticket event.kind ≡ false }
         ensures event { IfOk result (λ told. told.entry.event ≡ event) }
@@ -57,6 +59,8 @@ pub trait Desk {
         ensures options { (view self.new).options ≡ (view self.old).options }
         ensures files { (view self.new).files ≡ (view self.old).files }
         ensures count { (view self.old).faults ≤ (view self.new).faults }
+        ensures unrefused { OnOk result ((view self.new).refused ≡ (view self.old).refused) }
+        ensures refused_rose { OnErr result (HasRisen (view self.old).refused (view self.new).refused) }
         ensures refused { OnErr result (SameDesk (view self.old) (view self.new)) };
 
     /// A number for a new session or connection; it may come again.
@@ -70,6 +74,7 @@ pub trait Desk {
     fn draw(&mut self) -> u64
         ensures drawn { draws_next ≡ true → IfSome (view self.old).journal (λ J. result ≡ drawn_after J) }
         ensures files { (view self.new).files ≡ (view self.old).files }
+        ensures unrefused { (view self.new).refused ≡ (view self.old).refused }
         ensures same { SameDesk (view self.old) (view self.new) };
 
     /// Why a path is no directory of the storage, where it is none.
@@ -83,5 +88,6 @@ pub trait Desk {
         ensures may { IfOk result (λ refusal. MaySay (view self.old).files path.now refusal) }
         ensures fault_rose { IfOk result (λ refusal. refusal ≡ Some LocalError → HasRisen (view self.old).faults (view self.new).faults) }
         ensures files { (view self.new).files ≡ (view self.old).files }
+        ensures unrefused { (view self.new).refused ≡ (view self.old).refused }
         ensures same { SameDesk (view self.old) (view self.new) };
 }

@@ -23,6 +23,7 @@ pub struct SoloDesk<L: Serving, S: Storage + Drop> {
     storage: S,
     jobs: VecDeque<JobShare>,
     newest: Option<u64>,
+    refused: u64,
     ghost numbered: { newest ≡ greatest (past_of locked.journal.entries) },
 }
 
@@ -69,6 +70,7 @@ impl<L: Serving, S: Storage + Drop> SoloDesk<L, S> {
             storage,
             jobs: VecDeque::new(alloc),
             newest: None,
+            refused: 0,
         }
     }
 
@@ -108,6 +110,7 @@ impl<L: Serving, S: ShowsDirectories + Drop> Desk for SoloDesk<L, S> {
       options = L.options;
       files = S.files d.storage;
       faults = S.faults d.storage;
+      refused = d.refused;
       journal = Some d.locked.journal.entries;
       outbox = λ s. outbox_of d.locked.outbox d.locked.journal.entries s;
       share = Some d.share.count;
@@ -122,8 +125,14 @@ impl<L: Serving, S: ShowsDirectories + Drop> Desk for SoloDesk<L, S> {
     }
 
     fn submit(&mut self, event: HubEvent, answer: Answer) -> Result<Told, AllocError> {
-        self.jobs.reserve(1)?;
-        let turn = self.locked.append_for(&mut self.share, event, answer)?;
+        let Ok(()) = self.jobs.reserve(1) else {
+            self.refused = self.refused.saturating_add(1);
+            return Err(AllocError);
+        };
+        let Ok(turn) = self.locked.append_for(&mut self.share, event, answer) else {
+            self.refused = self.refused.saturating_add(1);
+            return Err(AllocError);
+        };
         let Turn { earlier, submitted } = turn;
         let Submitted { receipt, job } = submitted;
         let Receipt { place: _, entry } = receipt;

@@ -1,6 +1,7 @@
 -- The begin of a talk.
 use Rattle.std.proofs.Common.{◌≡◌, ℕ, ◌≤◌, true, false, List, [], ◌∷◌, ◌++◌, Option, Some, None, refl, sym, ap, subst, arith, inr}
 use Rattle.std.specs.Prelude.{IfSome}
+use Rattle.std.proofs.lemmas.List.{append-nil}
 use Rattle.ftp_base.specs.declared.reply.Reply.{Reply}
 use Rattle.ftp_base.specs.Edge.{EdgeView}
 use Rattle.ftp_base.specs.Outside.{Writes}
@@ -25,6 +26,7 @@ use Rattle.ftp_talk.specs.Seen.{IsSeen}
 use Rattle.ftp_talk.specs.Talk.{IsInput}
 use Rattle.ftp_talk.specs.Speaking.{Begins, Knows, Keeps, IsCut, Talking}
 use Rattle.ftp_talk.specs.Control.{peer_of, ground_of, is_opened, IsServedTo, Serves}
+use Rattle.ftp_talk.proofs.DelayLemmas.{paused-none, says-none}
 use Rattle.ftp_talk.proofs.ServeLemmas.{told_self}
 
 pub opened-is : (d : Decision) → is_opened d ≡ true → d ≡ Opened
@@ -85,12 +87,12 @@ pub begin-talking : (e : Entry) (peer : Peer) (a : Answer) (start : Start) (desk
     e.decision ≡ Opened → peer_of e.event.kind a ≡ Some peer →
     IfSome start.desk.journal (λ J. Appends J start.desk desk1 earlier e) →
     RisesBy 1 start.desk.share desk1.share →
-    desk1.options ≡ start.desk.options → desk1.files ≡ start.desk.files → start.desk.faults ≤ desk1.faults →
+    desk1.options ≡ start.desk.options → desk1.files ≡ start.desk.files → start.desk.faults ≤ desk1.faults → desk1.refused ≡ start.desk.refused →
     Knows (ground_of e peer start) state (e ∷ []) → state.is_over ≡ false →
     Writes start.sent sent1 (greeting_line start.desk.options.greeting) →
     left1 ≡ start.input →
     Talking (ground_of e peer start) state start.edge desk1 sent1 [] left1
-begin-talking e peer a start desk1 earlier state sent1 left1 opened named added share options files count knows live wrote is =
+begin-talking e peer a start desk1 earlier state sent1 left1 opened named added share options files count refused knows live wrote is =
     let g = ground_of e peer start in
     let r = read-begin start.input in
     record {
@@ -109,7 +111,9 @@ begin-talking e peer a start desk1 earlier state sent1 left1 opened named added 
           kept = kept-open e peer a start desk1 earlier opened named added;
           vouched = λ v. tt;
           share = share;
-          written = wrote;
+          refused = omega (arith, refused);
+          written = subst (Writes start.sent sent1) (sym (append-nil (greeting_line start.desk.options.greeting))) wrote;
+          paused = paused-none start.edge.paused start.edge.paused refl;
         };
         stands = refl;
       };
@@ -121,11 +125,11 @@ pub begin-cut : (e : Entry) (peer : Peer) (a : Answer) (start : Start) (desk1 : 
     e.decision ≡ Opened → peer_of e.event.kind a ≡ Some peer →
     IfSome start.desk.journal (λ J. Appends J start.desk desk1 earlier e) →
     RisesBy 1 start.desk.share desk1.share →
-    desk1.options ≡ start.desk.options → start.desk.faults ≤ desk1.faults →
+    desk1.options ≡ start.desk.options → start.desk.faults ≤ desk1.faults → desk1.refused ≡ start.desk.refused →
     state.session ≡ peer.session → state.is_over ≡ false →
     WritesFront start.sent sent1 (greeting_line start.desk.options.greeting) →
     IsCut (ground_of e peer start) state start.edge desk1 sent1
-begin-cut e peer a start desk1 earlier state sent1 opened named added share options count session live wrote =
+begin-cut e peer a start desk1 earlier state sent1 opened named added share options count refused session live wrote =
     let g = ground_of e peer start in
     let r = read-begin start.input in
     record {
@@ -142,7 +146,8 @@ begin-cut e peer a start desk1 earlier state sent1 opened named added share opti
         kept = kept-open e peer a start desk1 earlier opened named added;
         vouched = λ v. tt;
         share = share;
-        written = wrote;
+        refused = omega (arith, refused);
+        written = says-none start.sent sent1 start.edge.paused start.edge.paused (greeting_line start.desk.options.greeting) [] wrote refl;
       };
     }
 

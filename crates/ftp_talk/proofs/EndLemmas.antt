@@ -9,6 +9,7 @@ use Rattle.ftp_base.specs.declared.fault.Failed.{Failed}
 use Rattle.ftp_base.specs.declared.fault.Failed.TheVariants.{Fault, Memory}
 use Rattle.ftp_base.specs.declared.reply.Reply.{Reply}
 use Rattle.ftp_base.specs.Edge.{Feed, EdgeView}
+use Rattle.ftp_base.specs.Outside.{HasRisen}
 use Rattle.ftp_options.specs.declared.options.Options.{Options}
 use Rattle.ftp_events.specs.declared.decision.Decision.{Decision}
 use Rattle.ftp_events.specs.declared.decision.Decision.TheVariants as decision
@@ -32,14 +33,14 @@ use Rattle.ftp_shared.specs.Desk.{DeskView, SameDesk, IsVouched}
 use Rattle.ftp_lines.specs.ControlLine.{RanOut, IsLong}
 use Rattle.ftp_talk.specs.Saying.{said}
 use Rattle.ftp_lines.proofs.ControlLineLemmas.{long-append}
-use Rattle.ftp_talk.proofs.Written.{front-longer}
+use Rattle.ftp_talk.proofs.DelayLemmas.{says-longer, says-still}
 use Rattle.ftp_talk.specs.declared.control_session.ControlSession.{ControlSession}
 use Rattle.ftp_talk.specs.Ground.{Step, ALine, AnAnswer, AnIdleTick, ASlotTick, ALongLine, AClose, Turn, Ground, history, lines_in}
 use Rattle.ftp_talk.specs.Turns.{Due, LineDue, AnswerDue, SlotTickDue, CloseDue, NothingDue, is_end, due, due_by, due_after, due_behind}
 use Rattle.ftp_talk.specs.Seen.{AreFed, all_missing, all_failed, missing_in, failed_in}
-use Rattle.ftp_talk.specs.Talk.{Talk, TalkFront, IsInput, due_text, is_long, is_long_last, is_over, MayClose}
+use Rattle.ftp_talk.specs.Talk.{Talk, TalkFront, IsInput, due_replies, greeting_of, is_long, is_long_last, is_over, MayClose}
 use Rattle.ftp_talk.specs.Speaking.{Entered, Spoken, Halted, Standing, IsCut, Talking, Outcome, end_by, turn_of}
-use Rattle.ftp_talk.proofs.TalkLemmas.{counted-on, counted-less, kept-more, kept-same, grew-of, rises-same, vouched-more, shares-more}
+use Rattle.ftp_talk.proofs.TalkLemmas.{counted-on, counted-less, kept-more, kept-same, grew-of, rises-same, risen-on, vouched-more, shares-more}
 
 -- ---- what is due
 
@@ -160,6 +161,7 @@ talk-over g state edge desk sent rest s =
       last = λ v. over;
       share = s.speaking.share;
       written = s.speaking.written;
+      paused = s.speaking.paused;
     }
 
 -- the connection was closed behind the lines
@@ -188,6 +190,7 @@ talk-closed g state0 state edge0 edge desk0 desk sent0 sent d rest d0 s spoken m
       last = λ v. closed-ends g.start.desk.options spoken.earlier spoken.entry g.session (spoken.speaking.vouched v).0 spoken.kind;
       share = spoken.speaking.share;
       written = spoken.speaking.written;
+      paused = spoken.speaking.paused;
     }
 
 fed-less : (g : Ground) (feed : Option Feed) (t : Turn) (ts : List Turn) → IfSome feed (λ f. AreFed g f (t ∷ ts)) → IfSome feed (λ f. AreFed g f ts)
@@ -200,7 +203,8 @@ pub front-halted : (g : Ground) (state0 state : ControlSession) (edge0 edge : Ed
     Halted g state edge desk sent s.turns AClose (kind.Closed g.session) →
     MayClose d rest →
     TalkFront g edge desk sent
-front-halted g state0 state edge0 edge desk0 desk sent0 sent d rest s (inl f) may =
+front-halted g state0 state edge0 edge desk0 desk sent0 sent d rest s (inl halted) may =
+    let f = halted.0 in
     record {
       turns = s.turns;
       close = None;
@@ -208,7 +212,7 @@ front-halted g state0 state edge0 edge desk0 desk sent0 sent d rest s (inl f) ma
       cut = s.cut;
       ruled = s.ruled;
       long = s.long;
-      closing = tt;
+      closing = inr halted.1;
       seen = f.seen;
       grew = grew-of g desk s.turns f.kept;
       vouched = f.vouched;
@@ -238,8 +242,8 @@ front-halted g state0 state edge0 edge desk0 desk sent0 sent d rest s (inr heard
     }
 
 -- the session had ended where the talk was cut short
-pub left-over : (g : Ground) (state : ControlSession) (edge : EdgeView) (desk : DeskView) (sent : Option (List ℕ)) → IsCut g state edge desk sent → TalkFront g edge desk sent
-left-over g state edge desk sent c =
+pub left-over : (g : Ground) (state : ControlSession) (edge : EdgeView) (desk : DeskView) (sent : Option (List ℕ)) → IsCut g state edge desk sent → state.is_over ≡ true → TalkFront g edge desk sent
+left-over g state edge desk sent c over =
     record {
       turns = c.turns;
       close = None;
@@ -247,7 +251,7 @@ left-over g state edge desk sent c =
       cut = c.cut;
       ruled = c.ruled;
       long = c.long;
-      closing = tt;
+      closing = inl (sym c.front.over ∙ over);
       seen = c.front.seen;
       grew = grew-of g desk c.turns c.front.kept;
       vouched = c.front.vouched;
@@ -255,10 +259,10 @@ left-over g state edge desk sent c =
       written = c.front.written;
     }
 
--- after the cut nothing was submitted
+-- after the cut there was no memory for the event that closes
 pub left-alone : (g : Ground) (state : ControlSession) (edge edge1 : EdgeView) (desk desk1 : DeskView) (sent : Option (List ℕ)) →
-    IsCut g state edge desk sent → edge.faults ≤ edge1.faults → SameDesk desk desk1 → TalkFront g edge1 desk1 sent
-left-alone g state edge edge1 desk desk1 sent c count same =
+    IsCut g state edge desk sent → edge.faults ≤ edge1.faults → edge1.paused ≡ edge.paused → SameDesk desk desk1 → HasRisen desk.refused desk1.refused → TalkFront g edge1 desk1 sent
+left-alone g state edge edge1 desk desk1 sent c count still same risen =
     let f = c.front in
     record {
       turns = c.turns;
@@ -267,7 +271,7 @@ left-alone g state edge edge1 desk desk1 sent c count same =
       cut = c.cut;
       ruled = c.ruled;
       long = c.long;
-      closing = tt;
+      closing = inr (risen-on g.start.desk.refused desk.refused desk1.refused f.refused risen same.refused);
       seen = record {
         fed = f.seen.fed;
         edge = counted-on (all_missing g c.turns) g.start.edge.faults edge.faults edge1.faults f.seen.edge count;
@@ -276,7 +280,7 @@ left-alone g state edge edge1 desk desk1 sent c count same =
       grew = grew-of g desk1 c.turns (kept-same g desk desk1 c.turns f.kept same);
       vouched = f.vouched;
       share = rises-same _ g.start.desk.share desk.share desk1.share f.share same.share;
-      written = f.written;
+      written = says-still g.start.sent sent g.start.edge.paused edge.paused edge1.paused (greeting_of g) (due_replies g c.turns) still f.written;
     }
 
 -- after the cut the connection was closed
@@ -305,7 +309,8 @@ left-closed g vouches state edge edge1 desk desk1 sent earlier e s c live named 
       grew = grew-of g desk1 (t ∷ c.turns) (kept-more g desk desk1 c.turns AClose earlier e f.kept n.appended (ap own_session closed));
       vouched = vouched-more g vouches desk c.turns AClose earlier e f.vouched same f.options n.vouched;
       share = shares-more g desk desk1 c.turns AClose earlier e f.share n.share;
-      written = front-longer g.start.sent sent (due_text g c.turns) (said g.session earlier e.actions) f.written;
+      written = says-longer g.start.sent sent g.start.edge.paused edge1.paused (greeting_of g) (due_replies g c.turns) (said g.session earlier e.actions)
+          (says-still g.start.sent sent g.start.edge.paused edge.paused edge1.paused (greeting_of g) (due_replies g c.turns) n.unpaused f.written);
     }
 
 -- a fault of a write, or want of memory

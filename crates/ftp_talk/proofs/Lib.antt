@@ -5,3 +5,4 @@ mod EndLemmas
 mod ResultLemmas
 mod ControlLemmas
 mod Written
+mod DelayLemmas

@@ -24,7 +24,8 @@ use Rattle.ftp_talk.specs.Ground.{Step, ALine, Turn, Ground, history, line_of, l
 use Rattle.ftp_talk.specs.Commands.{Gives, refused_as}
 use Rattle.ftp_talk.specs.Turns.{Due, LineDue, NothingDue, AnswerDue, is_end, due, due_by, due_behind, Comes}
 use Rattle.ftp_talk.specs.Seen.{IsDrawn, behind_kind, missing_in, failed_in, feed_after, all_missing, all_failed}
-use Rattle.ftp_talk.specs.Talk.{IsInput, is_long}
+use Rattle.ftp_talk.specs.Saying.{delays, IsPaused}
+use Rattle.ftp_talk.specs.Talk.{IsInput, due_replies, is_long}
 use Rattle.ftp_talk.specs.Serving.{is_pass, is_out, next_of, behind_refusal}
 use Rattle.ftp_talk.specs.Speaking.{Knows, IsGround, SameEdge, Speaking, Asking, Spoken, Halted, Standing, IsCut, due_at, turn_of}
 use Rattle.ftp_talk.proofs.TalkLemmas.{counted-more, kept-same, rises-same, front-same}
@@ -35,7 +36,7 @@ told_self None f = tt
 told_self (Some x) f = f x refl
 
 pub same_edge : (edge : EdgeView) → SameEdge edge edge
-same_edge edge = record { meaning = refl; count = omega arith }
+same_edge edge = record { meaning = refl; count = omega arith; paused = refl }
 
 rises-self : (share : Option ℕ) → RisesBy 0 share share
 rises-self None = tt
@@ -46,6 +47,7 @@ same_desk desk = record {
   options = refl;
   files = refl;
   count = omega arith;
+  refused = omega arith;
   journal = refl;
   outbox = λ s. refl;
   share = rises-self desk.share;
@@ -97,7 +99,9 @@ asking-from g state edge edge1 desk desk1 sent ts k s named drawn missing failed
       kept = kept-same g desk desk1 ts s.kept desks;
       vouched = s.vouched;
       share = rises-same (length (history g ts)) g.start.desk.share desk.share desk1.share s.share desks.share;
+      refused = omega (arith, s.refused, desks.refused);
       written = s.written;
+      paused = subst (IsPaused (delays (due_replies g ts)) g.start.edge.paused) (sym edges.paused) s.paused;
     }
 
 -- an event for which nothing is asked
@@ -223,8 +227,8 @@ pub cut-spoken : (g : Ground) (state0 state : ControlSession) (edge0 edge : Edge
     Comes g (history g s.turns) old step k →
     (is_long step ≡ true → IsLong rest) →
     IsCut g state edge desk sent
-cut-spoken g state0 state edge0 edge desk0 desk sent0 sent old step k rest s (inl front) comes long =
-    record { turns = s.turns; rest = line_of step ++ rest; cut = s.cut; ruled = s.ruled; long = s.long; front = front }
+cut-spoken g state0 state edge0 edge desk0 desk sent0 sent old step k rest s (inl halted) comes long =
+    record { turns = s.turns; rest = line_of step ++ rest; cut = s.cut; ruled = s.ruled; long = s.long; front = halted.0 }
 cut-spoken g state0 state edge0 edge desk0 desk sent0 sent old step k rest s (inr heard) comes long =
     record {
       turns = turn_of step heard.earlier heard.entry ∷ s.turns;
@@ -252,7 +256,7 @@ cut-standing g state edge edge1 desk desk1 sent d rest s edges desks =
       cut = s.cut;
       ruled = s.ruled;
       long = s.long;
-      front = front-same g state edge edge1 desk desk1 sent s.turns s.speaking edges.count desks;
+      front = front-same g state edge edge1 desk desk1 sent s.turns s.speaking edges.count edges.paused desks;
     }
 
 -- ---- what follows from what is said of a result

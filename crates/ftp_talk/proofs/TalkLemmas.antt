@@ -1,26 +1,27 @@
 -- One turn of a talk.
-use Rattle.std.proofs.Common.{◌≡◌, ℕ, suc, ◌+◌, ◌≤◌, Bool, true, List, [], ◌∷◌, ◌++◌, length, Option, Some, None, refl, sym, ap, subst, ◌∙◌, arith, eq-eqb}
+use Rattle.std.proofs.Common.{◌≡◌, ℕ, suc, ◌+◌, ◌-◌, ◌^◌, ◌≤◌, Bool, true, List, [], ◌∷◌, ◌++◌, length, Option, Some, None, refl, sym, ap, subst, ◌∙◌, arith, eq-eqb, inl, inr}
 use Rattle.std.specs.Prelude.{IfSome, if◌then◌else◌}
 use Rattle.std.specs.List.{AllByRecursion}
 use Rattle.std.specs.Option.{option_map_or}
+use Rattle.std.proofs.lemmas.Bool.{cases_lt}
+use Rattle.std.proofs.lemmas.List.{append-nil}
 use Rattle.ftp_base.specs.declared.reply.Reply.{Reply}
 use Rattle.ftp_base.specs.Edge.{Feed, EdgeView, Takes, IsCounted, next_number, behind_moment, behind_word, behind_lookup, behind_port, behind_connect}
-use Rattle.ftp_base.specs.Outside.{Writes}
+use Rattle.ftp_base.specs.Outside.{HasRisen, Writes}
 use Rattle.ftp_options.specs.declared.options.Options.{Options}
 use Rattle.ftp_events.specs.declared.entry.Entry.{Entry}
 use Rattle.ftp_events.specs.declared.event.EventKind.{EventKind}
 use Rattle.ftp_events.specs.declared.event.EventKind.TheVariants as kind
 use Rattle.ftp_shared.specs.Outbox.{own_session, outbox_after, replies_in}
-use Rattle.ftp_lines.specs.Writing.{WritesFront}
 use Rattle.ftp_shared.specs.Desk.{DeskView, SameDesk, Appends, IsVouched, RisesBy}
-use Rattle.ftp_talk.specs.Saying.{said}
-use Rattle.ftp_talk.proofs.Written.{writes-more, front-more, front-all}
+use Rattle.ftp_talk.specs.Saying.{encodings, delays, said, IsPaused, SaysFront}
+use Rattle.ftp_talk.proofs.DelayLemmas.{says-all, says-behind, wrote-behind, paused-behind}
 use Rattle.ftp_talk.specs.declared.control_session.ControlSession.{ControlSession}
 use Rattle.ftp_talk.specs.Ground.{Step, Turn, Ground, history}
 use Rattle.ftp_talk.specs.Commands.{asked_name, asked_range, asked_target}
 use Rattle.ftp_talk.specs.Turns.{is_end}
 use Rattle.ftp_talk.specs.Seen.{behind_asked, behind_kind, IsDrawn, AreFed, feed_after, missing_in, failed_in, all_missing, all_failed}
-use Rattle.ftp_talk.specs.Talk.{Grew, AreVouched, Shares, due_text}
+use Rattle.ftp_talk.specs.Talk.{Grew, AreVouched, Shares, due_replies, greeting_of, ArePaused, SaysSome}
 use Rattle.ftp_talk.specs.Speaking.{Knows, Keeps, Speaking, Asking, Front, Entered, turn_of}
 
 -- ---- counts
@@ -45,6 +46,14 @@ rises-same n None mid new h k = tt
 rises-same n (Some o) mid new h k =
     let rest = subst (λ (x : Option ℕ). RisesBy 0 x new) h.1 k in
     (rest.0, rest.1, omega (arith, h.2, rest.2))
+
+-- a count rose behind one that did not fall
+pub risen-on : (a b c : ℕ) → a ≤ b → HasRisen b c → b ≤ c → HasRisen a c
+risen-on a b c ab h bc = λ lt.
+    elim (cases_lt b (2 ^ 64 - 1)) [
+      | inl less ↦ omega (arith, h less)
+      | inr ge ↦ omega arith
+    ]
 
 -- ---- lists of the edge
 
@@ -156,9 +165,10 @@ pub spoken-is : (g : Ground) (vouches : Bool) (state state1 : ControlSession) (e
     Takes (λ f. f) edge1 edge2 →
     Knows g state1 (e ∷ history g ts) →
     state1.is_over ≡ is_end e.decision →
-    Writes sent sent1 (said g.session earlier e.actions) →
+    Writes sent sent1 (encodings (said g.session earlier e.actions)) →
+    IsPaused (delays (said g.session earlier e.actions)) edge1.paused edge2.paused →
     Speaking g state1 edge2 desk1 sent1 (turn_of step earlier e ∷ ts)
-spoken-is g vouches state state1 edge edge1 edge2 desk desk1 sent sent1 ts step earlier e k asking same n two knows over wrote =
+spoken-is g vouches state state1 edge edge1 edge2 desk desk1 sent sent1 ts step earlier e k asking same n two knows over wrote paused =
     let a = subst (Asking g state edge desk sent ts) (sym n.kind) asking in
     let kept = kept-more g desk desk1 ts step earlier e a.kept n.appended a.named in
     record {
@@ -179,7 +189,9 @@ spoken-is g vouches state state1 edge edge1 edge2 desk desk1 sent sent1 ts step 
       kept = kept;
       vouched = vouched-more g vouches desk ts step earlier e a.vouched same a.ground.options n.vouched;
       share = shares-more g desk desk1 ts step earlier e a.share n.share;
-      written = writes-more g.start.sent sent sent1 (due_text g ts) (said g.session earlier e.actions) a.written wrote;
+      refused = omega (arith, a.refused, n.unrefused);
+      written = wrote-behind g.start.sent sent sent1 (greeting_of g) (due_replies g ts) (said g.session earlier e.actions) a.written wrote;
+      paused = paused-behind g.start.edge.paused edge.paused edge1.paused edge2.paused (due_replies g ts) (said g.session earlier e.actions) a.paused n.unpaused paused;
     }
 
 -- an event was submitted, and a part of what is due was said
@@ -191,9 +203,9 @@ pub front-after : (g : Ground) (vouches : Bool) (state state1 : ControlSession) 
     edge1.faults ≤ edge2.faults →
     state1.session ≡ state.session →
     state1.is_over ≡ is_end e.decision →
-    WritesFront sent sent1 (said g.session earlier e.actions) →
+    SaysFront sent sent1 edge1.paused edge2.paused [] (said g.session earlier e.actions) →
     Front g state1 edge2 desk1 sent1 (turn_of step earlier e ∷ ts)
-front-after g vouches state state1 edge edge1 edge2 desk desk1 sent sent1 ts step earlier e k asking same n two session over wrote =
+front-after g vouches state state1 edge edge1 edge2 desk desk1 sent sent1 ts step earlier e k asking same n two session over says =
     let a = subst (Asking g state edge desk sent ts) (sym n.kind) asking in
     record {
       session = session ∙ a.known.session;
@@ -207,16 +219,27 @@ front-after g vouches state state1 edge edge1 edge2 desk desk1 sent sent1 ts ste
       kept = kept-more g desk desk1 ts step earlier e a.kept n.appended a.named;
       vouched = vouched-more g vouches desk ts step earlier e a.vouched same a.ground.options n.vouched;
       share = shares-more g desk desk1 ts step earlier e a.share n.share;
-      written = front-more g.start.sent sent sent1 (due_text g ts) (said g.session earlier e.actions) a.written wrote;
+      refused = omega (arith, a.refused, n.unrefused);
+      written = says-behind g.start.sent sent sent1 g.start.edge.paused edge1.paused edge2.paused (greeting_of g) [] (due_replies g ts) (said g.session earlier e.actions)
+          (greeting_of g ++ encodings (due_replies g ts), a.written, append-nil (greeting_of g ++ encodings (due_replies g ts)))
+          (subst (IsPaused (delays (due_replies g ts)) g.start.edge.paused) (sym n.unpaused) a.paused) says;
     }
+
+-- all that is due was said, and nothing was paused since
+all-said : (g : Ground) (edge edge1 : EdgeView) (sent : Option (List ℕ)) (ts : List Turn) →
+    Writes g.start.sent sent (greeting_of g ++ encodings (due_replies g ts)) → ArePaused g edge ts → edge1.paused ≡ edge.paused → SaysSome g edge1 sent ts
+all-said g edge edge1 sent ts wrote paused still =
+    says-all g.start.sent sent g.start.edge.paused edge1.paused (greeting_of g) (due_replies g ts) wrote
+    (subst (IsPaused (delays (due_replies g ts)) g.start.edge.paused) (sym still) paused)
 
 -- an event was not submitted
 pub front-before : (g : Ground) (state : ControlSession) (edge edge1 : EdgeView) (desk desk1 : DeskView) (sent : Option (List ℕ)) (ts : List Turn) (k : EventKind) →
     Asking g state edge desk sent ts k →
     edge.faults ≤ edge1.faults →
+    edge1.paused ≡ edge.paused →
     SameDesk desk desk1 →
     Front g state edge1 desk1 sent ts
-front-before g state edge edge1 desk desk1 sent ts k a count same =
+front-before g state edge edge1 desk desk1 sent ts k a count still same =
     record {
       session = a.known.session;
       over = a.over;
@@ -229,16 +252,18 @@ front-before g state edge edge1 desk desk1 sent ts k a count same =
       kept = kept-same g desk desk1 ts a.kept same;
       vouched = a.vouched;
       share = rises-same (length (history g ts)) g.start.desk.share desk.share desk1.share a.share same.share;
-      written = front-all g.start.sent sent (due_text g ts) a.written;
+      refused = omega (arith, a.refused, same.refused);
+      written = all-said g edge edge1 sent ts a.written a.paused still;
     }
 
 -- the turns that were spoken, where nothing was submitted since
 pub front-same : (g : Ground) (state : ControlSession) (edge edge1 : EdgeView) (desk desk1 : DeskView) (sent : Option (List ℕ)) (ts : List Turn) →
     Speaking g state edge desk sent ts →
     edge.faults ≤ edge1.faults →
+    edge1.paused ≡ edge.paused →
     SameDesk desk desk1 →
     Front g state edge1 desk1 sent ts
-front-same g state edge edge1 desk desk1 sent ts s count same =
+front-same g state edge edge1 desk desk1 sent ts s count still same =
     record {
       session = s.known.session;
       over = s.over;
@@ -251,5 +276,6 @@ front-same g state edge edge1 desk desk1 sent ts s count same =
       kept = kept-same g desk desk1 ts s.kept same;
       vouched = s.vouched;
       share = rises-same (length (history g ts)) g.start.desk.share desk.share desk1.share s.share same.share;
-      written = front-all g.start.sent sent (due_text g ts) s.written;
+      refused = omega (arith, s.refused, same.refused);
+      written = all-said g edge edge1 sent ts s.written s.paused still;
     }

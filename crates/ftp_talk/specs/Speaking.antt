@@ -9,7 +9,7 @@ use Rattle.ftp_base.specs.declared.net.IpAddr.{IpAddr}
 use Rattle.ftp_base.specs.declared.net.SocketAddr.{SocketAddr}
 use Rattle.ftp_base.specs.declared.reply.Reply.{Reply}
 use Rattle.ftp_base.specs.Edge.{EdgeView, IsCounted, next_number, next_answer, next_connect, Takes, behind_moment, behind_word, behind_lookup, behind_port, behind_connect}
-use Rattle.ftp_base.specs.Outside.{Writes}
+use Rattle.ftp_base.specs.Outside.{HasRisen, Writes}
 use Rattle.ftp_events.specs.declared.decision.Decision.{Decision}
 use Rattle.ftp_events.specs.declared.entry.Entry.{Entry}
 use Rattle.ftp_events.specs.declared.event.Answer.TheVariants as answer
@@ -23,7 +23,6 @@ use Rattle.ftp_events.specs.declared.session.Login.TheVariants as login
 use Rattle.ftp_shared.specs.Outbox.{own_session}
 use Rattle.ftp_control.specs.declared.command.Command.{Command}
 use Rattle.ftp_lines.specs.Lines.{Rest}
-use Rattle.ftp_lines.specs.Writing.{WritesFront}
 use Rattle.ftp_shared.specs.Desk.{DeskView, IsVouched, Appends, RisesBy}
 use Rattle.ftp_lines.specs.ControlLine.{IsLong}
 use Rattle.ftp_talk.specs.declared.control_session.Peer.{Peer}
@@ -36,7 +35,7 @@ use Rattle.ftp_talk.specs.Ground.{Step, Turn, Ground, history, lines_in}
 use Rattle.ftp_talk.specs.Commands.{asked_of, connected_to, looked_up, bound_in, MayBe, Gives}
 use Rattle.ftp_talk.specs.Turns.{Due, LineDue, CloseDue, NothingDue, due, Turns}
 use Rattle.ftp_talk.specs.Seen.{IsSeen, IsDrawn, IsAsked, missing, behind_asked, AreFed, behind_kind, missing_in, failed_in, feed_after, all_missing, all_failed}
-use Rattle.ftp_talk.specs.Talk.{Talk, TalkFront, IsInput, AreVouched, Shares, due_text, is_over, is_long_last}
+use Rattle.ftp_talk.specs.Talk.{Talk, TalkFront, IsInput, AreVouched, Shares, due_text, ArePaused, SaysSome, is_over, is_long_last}
 
 -- what a state knows is what these entries tell
 pub record Knows (g : Ground) (state : ControlSession) (h : List Entry) : Type 0 where
@@ -70,10 +69,11 @@ pub record IsGround (g : Ground) (h : List Entry) (edge : EdgeView) (desk : Desk
   pub files : desk.files ≡ g.start.desk.files
   pub journal : IfSome g.start.desk.journal (λ J. desk.journal ≡ Some (h ++ J))
 
--- the edge means the same, and its count did not fall
+-- the edge means the same, its count did not fall, and nothing was paused
 pub record SameEdge (old new : EdgeView) : Type 0 where
   pub meaning : new.meaning ≡ old.meaning
   pub count : old.faults ≤ new.faults
+  pub paused : new.paused ≡ old.paused
 
 -- edge and storage were asked for what a command needs
 pub record Asked (g : Ground) (h : List Entry) (c : Command) (k : EventKind) (old new : EdgeView) (storage_old storage_new : ℕ) : Type 0 where
@@ -122,9 +122,11 @@ pub record Speaking (g : Ground) (state : ControlSession) (edge : EdgeView) (des
   pub over : state.is_over ≡ is_over ts
   pub ground : IsGround g (history g ts) edge desk
   pub kept : Keeps g desk ts
+  pub refused : g.start.desk.refused ≤ desk.refused
   pub vouched : AreVouched g ts
   pub share : Shares g desk ts
   pub written : Writes g.start.sent sent (due_text g ts)
+  pub paused : ArePaused g edge ts
 
 -- edge and storage were asked, besides, for the next event
 pub record Asking (g : Ground) (state : ControlSession) (edge : EdgeView) (desk : DeskView) (sent : Option (List ℕ)) (ts : List Turn) (k : EventKind) : Type 0 where
@@ -137,9 +139,11 @@ pub record Asking (g : Ground) (state : ControlSession) (edge : EdgeView) (desk 
   pub over : state.is_over ≡ is_over ts
   pub ground : IsGround g (history g ts) edge desk
   pub kept : Keeps g desk ts
+  pub refused : g.start.desk.refused ≤ desk.refused
   pub vouched : AreVouched g ts
   pub share : Shares g desk ts
   pub written : Writes g.start.sent sent (due_text g ts)
+  pub paused : ArePaused g edge ts
 
 -- the turns so far gave their entries, and of what is due a front was sent
 pub record Front (g : Ground) (state : ControlSession) (edge : EdgeView) (desk : DeskView) (sent : Option (List ℕ)) (ts : List Turn) : Type 0 where
@@ -148,9 +152,10 @@ pub record Front (g : Ground) (state : ControlSession) (edge : EdgeView) (desk :
   pub options : desk.options ≡ g.start.desk.options
   pub seen : IsSeen g ts edge desk.faults
   pub kept : Keeps g desk ts
+  pub refused : g.start.desk.refused ≤ desk.refused
   pub vouched : AreVouched g ts
   pub share : Shares g desk ts
-  pub written : WritesFront g.start.sent sent (due_text g ts)
+  pub written : SaysSome g edge sent ts
 
 -- an event of this moment was submitted, and this entry was told
 pub record Entered (vouches : Bool) (edge edge1 : EdgeView) (desk desk1 : DeskView) (earlier : List (ℕ × Reply)) (e : Entry) (k : EventKind) : Type 0 where
@@ -158,12 +163,14 @@ pub record Entered (vouches : Bool) (edge edge1 : EdgeView) (desk desk1 : DeskVi
   pub answer : e.answer ≡ answer.None
   pub moment : IfSome edge.feed (λ f. e.event.at ≡ next_number f.moments)
   pub taken : Takes behind_moment edge edge1
+  pub unpaused : edge1.paused ≡ edge.paused
   pub vouched : vouches ≡ true → IsVouched desk.options earlier e
   pub appended : IfSome desk.journal (λ J. Appends J desk desk1 earlier e)
   pub share : RisesBy 1 desk.share desk1.share
   pub options : desk1.options ≡ desk.options
   pub files : desk1.files ≡ desk.files
   pub count : desk.faults ≤ desk1.faults
+  pub unrefused : desk1.refused ≡ desk.refused
 
 -- the turn of a step and its entry
 abbrev pub turn_of : Step → List (ℕ × Reply) → Entry → Turn
@@ -186,9 +193,9 @@ pub record Heard (g : Ground) (state : ControlSession) (edge : EdgeView) (desk :
   pub answer : entry.answer ≡ answer.None
   pub front : Front g state edge desk sent (turn_of step earlier entry ∷ ts)
 
--- the event was not submitted, or it was and not all was said
+-- the event found no memory, or it was submitted and not all was said
 abbrev pub Halted : Ground → ControlSession → EdgeView → DeskView → Option (List ℕ) → List Turn → Step → EventKind → Type 0
-Halted g state edge desk sent ts step k = Front g state edge desk sent ts ⊎ Heard g state edge desk sent ts step k
+Halted g state edge desk sent ts step k = (Front g state edge desk sent ts × HasRisen g.start.desk.refused desk.refused) ⊎ Heard g state edge desk sent ts step k
 
 -- turns were spoken, this is due behind them, and this is the rest of the input
 pub record Standing (d : Due) (g : Ground) (state : ControlSession) (edge : EdgeView) (desk : DeskView) (sent : Option (List ℕ)) (rest : List ℕ) : Type 0 where

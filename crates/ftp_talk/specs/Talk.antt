@@ -1,22 +1,38 @@
 -- The talk on a control connection, as a relation on the whole input.
-use Rattle.std.specs.Prelude.{◌≡◌, ℕ, ⊤, Bool, true, false, List, [], ◌∷◌, ◌++◌, length, Option, Some, None, IfSome}
+use Rattle.std.specs.Prelude.{◌≡◌, ℕ, ◌⊎◌, ⊤, Bool, true, false, List, [], ◌∷◌, ◌++◌, length, Option, Some, None, IfSome}
 use Rattle.std.specs.List.{AllByRecursion}
 use Rattle.ftp_base.specs.Edge.{EdgeView}
-use Rattle.ftp_base.specs.Outside.{Writes}
+use Rattle.ftp_base.specs.Outside.{HasRisen, Writes}
+use Rattle.ftp_base.specs.declared.reply.Reply.{Reply}
 use Rattle.ftp_events.specs.declared.event.Answer.TheVariants as answer
 use Rattle.ftp_events.specs.declared.event.EventKind.TheVariants as kind
-use Rattle.ftp_lines.specs.Writing.{WritesFront}
 use Rattle.ftp_shared.specs.Desk.{DeskView, IsVouched, RisesBy}
 use Rattle.ftp_lines.specs.ControlLine.{RanOut, IsLong}
-use Rattle.ftp_talk.specs.Saying.{greeting_line, said}
+use Rattle.ftp_talk.specs.Saying.{greeting_line, encodings, delays, said, IsPaused, SaysFront}
 use Rattle.ftp_talk.specs.Ground.{Step, ALongLine, AClose, Turn, Ground, history, lines_in}
 use Rattle.ftp_talk.specs.Turns.{Due, LineDue, CloseDue, is_end, due, Turns}
 use Rattle.ftp_talk.specs.Seen.{IsSeen}
 
--- what is to be said: the greeting's line, and turn by turn the replies that came earlier and those of the entry
+-- the replies that are to be said: turn by turn those that came earlier and those of the entry
+abbrev pub due_replies : Ground → List Turn → List (ℕ × Reply)
+due_replies g [] = []
+due_replies g (t ∷ ts) = due_replies g ts ++ said g.session t.earlier t.entry.actions
+
+-- the line of the talk's greeting
+abbrev pub greeting_of : Ground → List ℕ
+greeting_of g = greeting_line g.start.desk.options.greeting
+
+-- what is to be said: the greeting's line, and the replies
 abbrev pub due_text : Ground → List Turn → List ℕ
-due_text g [] = greeting_line g.start.desk.options.greeting
-due_text g (t ∷ ts) = due_text g ts ++ said g.session t.earlier t.entry.actions
+due_text g ts = greeting_of g ++ encodings (due_replies g ts)
+
+-- the delays of the replies were paused
+abbrev pub ArePaused : Ground → EdgeView → List Turn → Type 0
+ArePaused g edge ts = IsPaused (delays (due_replies g ts)) g.start.edge.paused edge.paused
+
+-- the greeting's line and of the replies a part from the front was said, each behind its delay
+abbrev pub SaysSome : Ground → EdgeView → Option (List ℕ) → List Turn → Type 0
+SaysSome g edge sent ts = SaysFront g.start.sent sent g.start.edge.paused edge.paused (greeting_of g) (due_replies g ts)
 
 -- where the input is told, it is these bytes
 abbrev pub IsInput : Option (List ℕ) → List ℕ → Type 0
@@ -66,13 +82,20 @@ abbrev pub IsEnded : Ground → Option Turn → List Turn → List ℕ → Type 
 IsEnded g None ts rest = is_over ts ≡ true
 IsEnded g (Some close) ts rest = IsClosing g close × (is_over ts ≡ false) × MayClose (due ts) rest
 
+-- how a talk is left that was cut short: the connection is closed, unless the session has ended or memory ran out where an
+-- event was submitted
+abbrev pub IsLeft : Ground → DeskView → Option Turn → List Turn → Type 0
+IsLeft g desk None ts = (is_over ts ≡ true) ⊎ HasRisen g.start.desk.refused desk.refused
+IsLeft g desk (Some close) ts = IsClosing g close × (is_over ts ≡ false)
+
 -- turns behind which the connection was closed, or not
 abbrev pub closed_by : Option Turn → List Turn → List Turn
 closed_by None ts = ts
 closed_by (Some t) ts = t ∷ ts
 
 -- a talk: lines of the input with their entries, as edge, storage and authenticator answered, up to its end; all that was due
--- was sent. What is not told is not spoken of. Where the desk vouches for its entries, the last one ends the session
+-- was sent, and the delays of its replies were paused. What is not told is not spoken of. Where the desk vouches for its
+-- entries, the last one ends the session
 pub record Talk (g : Ground) (edge : EdgeView) (desk : DeskView) (sent : Option (List ℕ)) : Type 0 where
   pub turns : List Turn
   pub close : Option Turn
@@ -87,9 +110,10 @@ pub record Talk (g : Ground) (edge : EdgeView) (desk : DeskView) (sent : Option 
   pub last : g.start.vouches ≡ true → is_over (closed_by close turns) ≡ true
   pub share : Shares g desk (closed_by close turns)
   pub written : Writes g.start.sent sent (due_text g (closed_by close turns))
+  pub paused : ArePaused g edge (closed_by close turns)
 
--- a talk that was cut short: turns from its front, then at most one that closes the connection, where the session had not
--- ended; a front of what was due was sent
+-- a talk that was cut short: turns from its front, then one that closes the connection, where the session had not ended and
+-- its event found memory; a front of what was due was sent, each reply behind its delay
 pub record TalkFront (g : Ground) (edge : EdgeView) (desk : DeskView) (sent : Option (List ℕ)) : Type 0 where
   pub turns : List Turn
   pub close : Option Turn
@@ -97,9 +121,9 @@ pub record TalkFront (g : Ground) (edge : EdgeView) (desk : DeskView) (sent : Op
   pub cut : IsInput g.start.input (lines_in turns ++ rest)
   pub ruled : Turns g turns
   pub long : is_long_last turns ≡ true → IsLong rest
-  pub closing : IfSome close (λ t. IsClosing g t × (is_over turns ≡ false))
+  pub closing : IsLeft g desk close turns
   pub seen : IsSeen g turns edge desk.faults
   pub grew : Grew g desk (closed_by close turns)
   pub vouched : AreVouched g (closed_by close turns)
   pub share : Shares g desk (closed_by close turns)
-  pub written : WritesFront g.start.sent sent (due_text g (closed_by close turns))
+  pub written : SaysSome g edge sent (closed_by close turns)

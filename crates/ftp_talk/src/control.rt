@@ -100,9 +100,10 @@ impl ControlSession {
 ///   share is told, it rose by 1 for each, at least (`served`).
 /// - A talk that has ended: the entries stop at the first that ends the session, or at one that closes the connection
 ///   behind the lines; the greeting, each reply that came earlier and each reply of an entry was sent, whole and in
-///   order (`served`).
-/// - Any other end: the turns so far, then at most one that closes, where the session had not ended, and a part from
-///   the front of what was due was sent (`served`).
+///   order, and the edge paused as long as all their delays (`served`).
+/// - Any other end: the turns so far, then one that closes the connection; none does only where the session had ended,
+///   or where the desk took an event no more for want of memory. A part from the front of what was due was sent, and
+///   no byte of a reply before its delay and those of all replies before it were paused (`served`).
 /// - An end by a fault only where the control's count rose; so where none of its calls failed the talk ended, was not
 ///   opened, or memory ran out (`read_fault`, `write_fault`, `complete`).
 /// - A password is in no event: the event of PASS names the session alone, and no other event stands for its line
@@ -119,7 +120,7 @@ pub fn serve_control<D: Desk, C: Control, E: Edge, A: Authenticator>(
     requires opening { is_opening opening.kind ≡ true }
 
     // What was submitted is what the lines ask for, as edge, storage and authenticator answered, and what was sent is what
-    // was replied: all of it at the end of the talk, else a part from the front.
+    // was replied: all of it at the end of the talk, else a part from the front. A session that may be live is closed.
     ensures served { Serves result opening answer (record {
       edge = E.view edge.old;
       desk = D.view desk.old;

@@ -1,13 +1,13 @@
 //! Replies on their way to the client, by way of one buffer that is used again and again.
 
 ghost use Rattle.std.specs.Prelude.{◌≡◌, ◌≤◌, ◌++◌, [], OnOk, OnErr, IsErrOf};
-ghost use Rattle.std.specs.List.{flat_map};
 ghost use Rattle.ftp_base.specs.declared.fault.Failed.TheVariants.{Fault};
 ghost use Rattle.ftp_base.specs.Edge.{Takes};
 ghost use Rattle.ftp_base.specs.Outside.{HasRisen, Writes};
 ghost use Rattle.ftp_base.specs.Reply.{encoding};
 ghost use Rattle.ftp_lines.specs.Writing.{WritesFront};
-ghost use Rattle.ftp_talk.specs.Saying.{encodings, greeting_line, said_in, said, WritesBut};
+ghost use Rattle.ftp_shared.specs.Outbox.{replies_in};
+ghost use Rattle.ftp_talk.specs.Saying.{encodings, greeting_line, said_in, delay_in, delays, said, WritesBut, IsPaused, IsPausedWithin, SaysFront};
 
 use ftp_base::{Bytes, Edge, Failed, Link, Reply};
 use ftp_events::Action;
@@ -82,6 +82,8 @@ fn pause<L: Link, E: Edge>(
     ensures wrote { OnOk result (WritesBut (L.sending link.old).sent (L.sending link.new).sent text.old.items text.new.items []) }
     ensures left { L.left link.new ≡ L.left link.old }
     ensures edge { Takes (λ f. f) (E.view edge.old) (E.view edge.new) }
+    ensures paused { OnOk result (IsPaused delay (E.view edge.old).paused (E.view edge.new).paused) }
+    ensures unpaused { OnErr result ((E.view edge.new).paused ≡ (E.view edge.old).paused) }
     ensures fault_rose { IsErrOf result Fault → HasRisen (L.faults link.old) (L.faults link.new) }
     ensures count { L.faults link.old ≤ L.faults link.new }
     ensures front { OnErr result (WritesFront (L.sending link.old).sent (L.sending link.new).sent text.old.items) }
@@ -104,6 +106,8 @@ fn add<L: Link, E: Edge>(
     ensures wrote { OnOk result (WritesBut (L.sending link.old).sent (L.sending link.new).sent text.old.items text.new.items (encoding reply.now)) }
     ensures left { L.left link.new ≡ L.left link.old }
     ensures edge { Takes (λ f. f) (E.view edge.old) (E.view edge.new) }
+    ensures paused { OnOk result (IsPaused delay (E.view edge.old).paused (E.view edge.new).paused) }
+    ensures within { OnErr result (IsPausedWithin delay (E.view edge.old).paused (E.view edge.new).paused) }
     ensures fault_rose { IsErrOf result Fault → HasRisen (L.faults link.old) (L.faults link.new) }
     ensures count { L.faults link.old ≤ L.faults link.new }
     ensures front { OnErr result (WritesFront (L.sending link.old).sent (L.sending link.new).sent text.old.items) }
@@ -126,6 +130,8 @@ fn add_action<L: Link, E: Edge>(
     ensures wrote { OnOk result (WritesBut (L.sending link.old).sent (L.sending link.new).sent text.old.items text.new.items (said_in session action.now)) }
     ensures left { L.left link.new ≡ L.left link.old }
     ensures edge { Takes (λ f. f) (E.view edge.old) (E.view edge.new) }
+    ensures paused { OnOk result (IsPaused (delay_in session action.now) (E.view edge.old).paused (E.view edge.new).paused) }
+    ensures within { OnErr result (IsPausedWithin (delay_in session action.now) (E.view edge.old).paused (E.view edge.new).paused) }
     ensures fault_rose { IsErrOf result Fault → HasRisen (L.faults link.old) (L.faults link.new) }
     ensures count { L.faults link.old ≤ L.faults link.new }
     ensures front { OnErr result (WritesFront (L.sending link.old).sent (L.sending link.new).sent text.old.items) }
@@ -153,9 +159,10 @@ fn add_replies<L: Link, E: Edge>(
     ensures wrote { OnOk result (WritesBut (L.sending link.old).sent (L.sending link.new).sent text.old.items text.new.items (encodings replies.now)) }
     ensures left { L.left link.new ≡ L.left link.old }
     ensures edge { Takes (λ f. f) (E.view edge.old) (E.view edge.new) }
+    ensures paused { OnOk result (IsPaused (delays replies.now) (E.view edge.old).paused (E.view edge.new).paused) }
     ensures fault_rose { IsErrOf result Fault → HasRisen (L.faults link.old) (L.faults link.new) }
     ensures count { L.faults link.old ≤ L.faults link.new }
-    ensures front { OnErr result (WritesFront (L.sending link.old).sent (L.sending link.new).sent (text.old.items ++ encodings replies.now)) }
+    ensures front { OnErr result (SaysFront (L.sending link.old).sent (L.sending link.new).sent (E.view edge.old).paused (E.view edge.new).paused text.old.items replies.now) }
 {
     for (delay, reply) in replies {
         add(link, edge, text, *delay, reply)?;
@@ -171,12 +178,13 @@ fn add_actions<L: Link, E: Edge>(
     session: u64,
     actions: &[Action],
 ) -> Result<(), Failed>
-    ensures wrote { OnOk result (WritesBut (L.sending link.old).sent (L.sending link.new).sent text.old.items text.new.items (flat_map (said_in session) actions.now)) }
+    ensures wrote { OnOk result (WritesBut (L.sending link.old).sent (L.sending link.new).sent text.old.items text.new.items (encodings (replies_in actions.now session))) }
     ensures left { L.left link.new ≡ L.left link.old }
     ensures edge { Takes (λ f. f) (E.view edge.old) (E.view edge.new) }
+    ensures paused { OnOk result (IsPaused (delays (replies_in actions.now session)) (E.view edge.old).paused (E.view edge.new).paused) }
     ensures fault_rose { IsErrOf result Fault → HasRisen (L.faults link.old) (L.faults link.new) }
     ensures count { L.faults link.old ≤ L.faults link.new }
-    ensures front { OnErr result (WritesFront (L.sending link.old).sent (L.sending link.new).sent (text.old.items ++ flat_map (said_in session) actions.now)) }
+    ensures front { OnErr result (SaysFront (L.sending link.old).sent (L.sending link.new).sent (E.view edge.old).paused (E.view edge.new).paused text.old.items (replies_in actions.now session)) }
 {
     for action in actions {
         add_action(link, edge, text, session, action)?;
@@ -196,14 +204,15 @@ pub(crate) fn say<L: Link, E: Edge>(
     earlier: &[(u32, Reply)],
     actions: &[Action],
 ) -> Result<(), Failed>
-    ensures wrote { OnOk result (Writes (L.sending link.old).sent (L.sending link.new).sent (said session earlier.now actions.now)) }
+    ensures wrote { OnOk result (Writes (L.sending link.old).sent (L.sending link.new).sent (encodings (said session earlier.now actions.now))) }
     ensures left { L.left link.new ≡ L.left link.old }
     ensures edge { Takes (λ f. f) (E.view edge.old) (E.view edge.new) }
+    ensures paused { OnOk result (IsPaused (delays (said session earlier.now actions.now)) (E.view edge.old).paused (E.view edge.new).paused) }
     ensures fault_rose { IsErrOf result Fault → HasRisen (L.faults link.old) (L.faults link.new) }
     ensures count { L.faults link.old ≤ L.faults link.new }
 
-    // After an error a part from the front was sent.
-    ensures front { OnErr result (WritesFront (L.sending link.old).sent (L.sending link.new).sent (said session earlier.now actions.now)) }
+    // After an error a part from the front was sent, each reply behind its delay.
+    ensures front { OnErr result (SaysFront (L.sending link.old).sent (L.sending link.new).sent (E.view edge.old).paused (E.view edge.new).paused [] (said session earlier.now actions.now)) }
 {
     text.clear();
     add_replies(link, edge, text, earlier)?;

@@ -25,7 +25,9 @@ pub(crate) fn submit<D: Desk, E: Edge>(
     requires unticketed { has_ticket kind ≡ false }
     ensures entered { IfOk result (λ told. Entered D.vouches (E.view edge.old) (E.view edge.new) (D.view desk.old) (D.view desk.new) told.earlier told.entry kind) }
     ensures taken { Takes behind_moment (E.view edge.old) (E.view edge.new) }
+    ensures unpaused { (E.view edge.new).paused ≡ (E.view edge.old).paused }
     ensures refused { OnErr result (SameDesk (D.view desk.old) (D.view desk.new)) }
+    ensures refused_rose { OnErr result (HasRisen (D.view desk.old).refused (D.view desk.new).refused) }
 {
     let at = edge.now();
     desk.submit(HubEvent { at, kind }, Answer::None)

@@ -1,6 +1,7 @@
 //! Where the threads of a server submit their events.
 
 ghost use Rattle.std.specs.Prelude.{◌≡◌, ◌+◌, ◌≤◌, Some, None, [], true, false, IfOk, OnOk, OnErr};
+ghost use Rattle.ftp_base.specs.Outside.{HasRisen};
 ghost use Rattle.ftp_shared.specs.Outbox.{has_ticket};
 ghost use Rattle.ftp_shared.specs.Desk.{IsVouched};
 ghost use Rattle.ftp_shared.specs.Next.{IsTurnAt};
@@ -31,6 +32,7 @@ pub struct ServerDesk<
     pub(crate) state: Arc<ServerState<L, A, N, S, G>, Global>,
     pub(crate) share: StepShare<L>,
     pub(crate) faults: u64,
+    pub(crate) refused: u64,
 }
 
 impl<
@@ -56,6 +58,7 @@ impl<
             state,
             share,
             faults: 0,
+            refused: 0,
         }
     }
 
@@ -68,6 +71,7 @@ impl<
             state: _,
             share,
             faults: _,
+            refused: _,
         } = self;
         share
     }
@@ -78,6 +82,7 @@ impl<
         ensures share { OnOk result (self.new.share.count ≡ self.old.share.count + 1) }
         ensures same_share { OnErr result (self.new.share.count ≡ self.old.share.count) }
         ensures faults { self.new.faults ≡ self.old.faults }
+        ensures refused { self.new.refused ≡ self.old.refused }
     {
         let submitted = self
             .state
@@ -87,23 +92,31 @@ impl<
         Ok(())
     }
 
-    // Has an event of this thread's session decided. Where memory runs out, the connection that came with it is closed.
+    // Has an event of this thread's session decided. Where memory runs out, that is counted, and the connection that came with
+    // the event is closed.
     fn submit_turn(&mut self, event: HubEvent, answer: Answer) -> Result<Turn, AllocError>
         requires unticketed { has_ticket event.kind ≡ false }
         ensures next { IfOk result (λ t. IsTurnAt L.options t event answer) }
         ensures share { OnOk result (self.new.share.count ≡ self.old.share.count + 1) }
         ensures same_share { OnErr result (self.new.share.count ≡ self.old.share.count) }
         ensures faults { self.new.faults ≡ self.old.faults }
+        ensures unrefused { OnOk result (self.new.refused ≡ self.old.refused) }
+        ensures refused_rose { OnErr result (HasRisen self.old.refused self.new.refused) }
+        ensures refusals { self.old.refused ≤ self.new.refused }
     {
         let link = event.kind.link_number();
         let turn = self
             .state
             .hub
             .submit_for(&self.rt, &mut self.share, event, answer);
-        if turn.is_err() {
-            self.state.handoff.forget(&self.rt, link);
+        match turn {
+            Ok(turn) => Ok(turn),
+            Err(error) => {
+                self.state.handoff.forget(&self.rt, link);
+                self.refused = self.refused.saturating_add(1);
+                Err(error)
+            }
         }
-        turn
     }
 
     /// Does what an entry asks for.
@@ -126,6 +139,7 @@ impl<
       options = L.options;
       files = None;
       faults = d.faults;
+      refused = d.refused;
       journal = None;
       outbox = λ _. [];
       share = Some d.share.count;
@@ -148,6 +162,9 @@ impl<
         ensures second { OnOk result (self.new.share.count ≤ self.old.share.count + 2) }
         ensures same_share { OnErr result (self.old.share.count ≤ self.new.share.count) }
         ensures faults { self.new.faults ≡ self.old.faults }
+        ensures unrefused { OnOk result (self.new.refused ≡ self.old.refused) }
+        ensures refused_rose { OnErr result (HasRisen self.old.refused self.new.refused) }
+        ensures refusals { self.old.refused ≤ self.new.refused }
     {
         self.accept_before(&event);
         let turn = self.submit_turn(event, answer)?;

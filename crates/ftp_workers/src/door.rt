@@ -115,6 +115,7 @@ impl<
         ensures share { self.old.share.count ≤ self.new.share.count }
         ensures once { self.new.share.count ≤ self.old.share.count + 1 }
         ensures faults { self.new.faults ≡ self.old.faults }
+        ensures refused { self.new.refused ≡ self.old.refused }
     {
         // A job may start at once, in another thread: the link has to be in its place before.
         if self.state.handoff.keep_link(&self.rt, number, link)

@@ -179,6 +179,7 @@ impl<
         ensures share { self.old.share.count ≤ self.new.share.count }
         ensures once { self.new.share.count ≤ self.old.share.count + 1 }
         ensures faults { self.new.faults ≡ self.old.faults }
+        ensures refused { self.new.refused ≡ self.old.refused }
     {
         let Some((stream, raw)) = self.state.handoff.accept(&self.rt, session) else {
             return;
@@ -208,6 +209,7 @@ impl<
         ensures once { self.new.share.count ≤ self.old.share.count + 1 }
         ensures none { may_end_wait event.now.kind ≡ false → self.new.share.count ≡ self.old.share.count }
         ensures faults { self.new.faults ≡ self.old.faults }
+        ensures refused { self.new.refused ≡ self.old.refused }
     {
         if !self.state.options.mode.is_legacy() || !may_end_wait(&event.kind) {
             return;

@@ -64,7 +64,7 @@ returns-in-Err-clause-served g c =
     let live = c.greet.ensures.over ∙ begins.live in
     let sent1 = (g.C.Source.sending c.greet.new.link).sent in
     let front = subst (λ (o : Options). WritesFront start.sent sent1 (greeting_line o.greeting)) (c.options-2.ensures.told ∙ k.options) c.in-Err.ensures.front in
-    let cut = begin-cut e peer c.args.answer start desk1 c.in-Ok-submit.told.earlier c.greet.new.self sent1 opened named1 k.appended k.share k.options k.count knows.session live front in
+    let cut = begin-cut e peer c.args.answer start desk1 c.in-Ok-submit.told.earlier c.greet.new.self sent1 opened named1 k.appended k.share k.options k.count k.unrefused knows.session live front in
     serves-of c.end_by.result c.args.opening c.args.answer start (g.E.Edge.view c.leave.new.edge) (g.D.Desk.view c.leave.new.desk) sent1
     (record {
       entry = e;
@@ -104,7 +104,7 @@ returns-clause-served g c =
     let sent1 = (g.C.Source.sending c.greet.new.link).sent in
     let wrote = subst (λ (o : Options). Writes start.sent sent1 (greeting_line o.greeting)) (c.options-2.ensures.told ∙ k.options) c.in_default-greet.ensures.wrote in
     let talking = begin-talking e peer c.args.answer start desk1 c.in-Ok-submit.told.earlier c.greet.new.self sent1 (g.C.Source.left c.greet.new.link)
-    opened named1 k.appended k.share k.options k.files k.count knows live wrote c.greet.ensures.left in
+    opened named1 k.appended k.share k.options k.files k.count k.unrefused knows live wrote c.greet.ensures.left in
     serves-of c.serve_lines.result c.args.opening c.args.answer start (g.E.Edge.view c.serve_lines.new.edge) (g.D.Desk.view c.serve_lines.new.desk) (g.C.Source.sending c.serve_lines.new.control).sent
     (record {
       entry = e;

@@ -1,17 +1,20 @@
-use Rattle.std.proofs.Common.{ℕ, subst, ◌∙◌, inl, inr, arith, refl}
+use Rattle.std.proofs.Common.{ℕ, [], subst, ◌∙◌, inl, inr, arith, refl}
 use Rattle.ftp_base.specs.Outside.{Writes}
-use Rattle.ftp_lines.specs.Writing.{WritesFront}
-use Rattle.ftp_talk.specs.Saying.{said}
+use Rattle.ftp_talk.specs.Saying.{encodings, delays, said, IsPaused, SaysFront}
+use Rattle.ftp_talk.proofs.DelayLemmas.{says-none}
 use Rattle.ftp_talk.proofs.Written.{front-none}
 use Rattle.ftp_talk.specs.Ground.{history}
-use Rattle.ftp_talk.proofs.TalkLemmas.{spoken-is, front-after, front-before}
+use Rattle.ftp_talk.proofs.TalkLemmas.{spoken-is, front-after, front-before, risen-on}
 use Rattle.ftp_talk.proofs.control_session.ControlSession.submit_and_reply.Goals as goal
 
 pub returns-in_default-clause-halted : goal.returns-in_default-clause-halted
 returns-in_default-clause-halted g c = λ q ts step same a.
-    inl (front-before q c.args.self.now (g.E.Edge.view c.args.edge.now) (g.E.Edge.view c.submit.new.edge)
-    (g.D.Desk.view c.args.desk.now) (g.D.Desk.view c.submit.new.desk) (g.C.Source.sending c.args.control.now).sent ts c.args.kind
-    a c.submit.ensures.taken.count c.in_default.ensures.refused)
+    inl (
+      front-before q c.args.self.now (g.E.Edge.view c.args.edge.now) (g.E.Edge.view c.submit.new.edge)
+      (g.D.Desk.view c.args.desk.now) (g.D.Desk.view c.submit.new.desk) (g.C.Source.sending c.args.control.now).sent ts c.args.kind
+      a c.submit.ensures.taken.count c.submit.ensures.unpaused c.in_default.ensures.refused,
+      risen-on _ _ _ a.refused c.in_default.ensures.refused_rose c.in_default.ensures.refused.refused,
+    )
 
 pub returns-in_default-learn-clause-halted : goal.returns-in_default-learn-clause-halted
 returns-in_default-learn-clause-halted g c = λ q ts step same a.
@@ -24,7 +27,8 @@ returns-in_default-learn-clause-halted g c = λ q ts step same a.
       answer = n.answer;
       front = front-after q g.D.Desk.vouches c.args.self.now c.learn.new.self (g.E.Edge.view c.args.edge.now) (g.E.Edge.view c.submit.new.edge) (g.E.Edge.view c.submit.new.edge)
           (g.D.Desk.view c.args.desk.now) (g.D.Desk.view c.submit.new.desk) (g.C.Source.sending c.args.control.now).sent (g.C.Source.sending c.args.control.now).sent
-          ts step c.in-Ok.told.earlier e c.args.kind a same n (omega arith) c.learn.ensures.session c.learn.ensures.over (front-none _ _);
+          ts step c.in-Ok.told.earlier e c.args.kind a same n (omega arith) c.learn.ensures.session c.learn.ensures.over
+          (says-none _ _ _ _ [] _ (front-none _ []) refl);
     })
 
 pub returns-in-Ok-say-clause-spoke : goal.returns-in-Ok-say-clause-spoke
@@ -45,7 +49,8 @@ returns-in-Ok-say-clause-spoke g c = λ q ts step same a.
           ts step c.in-Ok.told.earlier e c.args.kind a same n c.say.ensures.edge
           (record { session = w.session; raw = w.raw; client = w.client; host = w.host; range = w.range; active = w.active; login = w.login; name = w.name; cwd = w.cwd })
           c.learn.ensures.over
-          (subst (λ (s : ℕ). Writes (g.C.Source.sending c.args.control.now).sent (g.C.Source.sending c.say.new.link).sent (said s c.in-Ok.told.earlier e.actions)) session (rw (c.as_slice.ensures, c.as_slice-2.ensures) at c.in-Ok-say.ensures.wrote));
+          (subst (λ (s : ℕ). Writes (g.C.Source.sending c.args.control.now).sent (g.C.Source.sending c.say.new.link).sent (encodings (said s c.in-Ok.told.earlier e.actions))) session (rw (c.as_slice.ensures, c.as_slice-2.ensures) at c.in-Ok-say.ensures.wrote))
+          (subst (λ (s : ℕ). IsPaused (delays (said s c.in-Ok.told.earlier e.actions)) (g.E.Edge.view c.submit.new.edge).paused (g.E.Edge.view c.say.new.edge).paused) session (rw (c.as_slice.ensures, c.as_slice-2.ensures) at c.in-Ok-say.ensures.paused));
     }
 
 pub returns-clause-halted : goal.returns-clause-halted
@@ -61,5 +66,5 @@ returns-clause-halted g c = λ q ts step same a.
       front = front-after q g.D.Desk.vouches c.args.self.now _ (g.E.Edge.view c.args.edge.now) (g.E.Edge.view c.submit.new.edge) (g.E.Edge.view c.say.new.edge)
           (g.D.Desk.view c.args.desk.now) (g.D.Desk.view c.submit.new.desk) (g.C.Source.sending c.args.control.now).sent (g.C.Source.sending c.say.new.link).sent
           ts step c.in-Ok.told.earlier e c.args.kind a same n c.say.ensures.edge.count c.learn.ensures.session c.learn.ensures.over
-          (subst (λ (s : ℕ). WritesFront (g.C.Source.sending c.args.control.now).sent (g.C.Source.sending c.say.new.link).sent (said s c.in-Ok.told.earlier e.actions)) session (rw (c.as_slice.ensures, c.as_slice-2.ensures) at c.in-Err.ensures.front));
+          (subst (λ (s : ℕ). SaysFront (g.C.Source.sending c.args.control.now).sent (g.C.Source.sending c.say.new.link).sent (g.E.Edge.view c.submit.new.edge).paused (g.E.Edge.view c.say.new.edge).paused [] (said s c.in-Ok.told.earlier e.actions)) session (rw (c.as_slice.ensures, c.as_slice-2.ensures) at c.in-Err.ensures.front));
     })
