@@ -19,6 +19,10 @@ mod options;
 #[cfg(test)]
 mod proxy;
 #[cfg(test)]
+mod proxy2_causes;
+#[cfg(test)]
+mod proxy2_headers;
+#[cfg(test)]
 mod storage;
 #[cfg(test)]
 mod stuck;

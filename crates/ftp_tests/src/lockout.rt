@@ -3,91 +3,114 @@
 use ftp_base::{Bytes, IpAddr, LockState};
 use ftp_lockout::FailedLoginsCache;
 use ftp_options::{FailedLoginsBlock, FailedLoginsPolicy};
+use std::alloc::{AllocError, Global};
+use std::process::Abort;
 use std::test::Fail;
 
 const HOME: IpAddr = IpAddr::V4(0x0a00_0001);
 
 const AWAY: IpAddr = IpAddr::V4(0x0a00_0002);
 
+const REACHED: Option<LockState> = Some(LockState::MaxFailuresReached);
+
+const LOCKED: Option<LockState> = Some(LockState::AlreadyLocked);
+
+/// What comes before the password was looked at, and how it was.
+#[derive(Clone, Copy, Debug)]
+enum Login {
+    Fails,
+    FailsInRoom,
+    Succeeds,
+    FailsBehindSweep(u64),
+}
+
+use Login::{Fails, FailsBehindSweep, FailsInRoom, Succeeds};
+
+/// A login at a moment, from an address, under a name, and which lock it is told.
+type Row<'a> = (u64, Login, IpAddr, &'a [u8], Option<LockState>);
+
+fn told(
+    alloc: Global,
+    cache: &mut FailedLoginsCache,
+    row: &Row<'_>,
+) -> Result<Option<LockState>, AllocError> {
+    let (at, login, ip, name, _) = *row;
+    let name = Bytes::from_slice(alloc, name)?;
+    match login {
+        Succeeds => return Ok(cache.success(at, ip, &name)),
+        FailsInRoom => cache.room()?,
+        FailsBehindSweep(moment) => cache.sweep(moment),
+        Fails => {}
+    }
+    cache.failed(at, ip, name)
+}
+
+/// The logins in their order are told these locks.
+fn compare(
+    rt: &impl Abort,
+    alloc: Global,
+    policy: FailedLoginsPolicy,
+    rows: &[Row<'_>],
+) -> Result<(), AllocError> {
+    let mut cache = FailedLoginsCache::new(alloc, policy);
+    for row in rows {
+        let lock = told(alloc, &mut cache, row)?;
+        assert_eq!(rt; lock, row.4, "at {}", row.0);
+    }
+    Ok(())
+}
+
 #[test]
 fn three_failures_lock_for_two_minutes(rt: HostRuntime) -> Result<(), Fail> {
-    let alloc = rt.alloc();
-    let ann = Bytes::from_slice(alloc, b"ann")?;
-    let mut cache = FailedLoginsCache::new(alloc, FailedLoginsPolicy::default());
-    for (at, lock) in [
-        (0, None),
-        (1000, None),
-        (2000, Some(LockState::MaxFailuresReached)),
-    ] {
-        cache.room()?;
-        assert_eq!(rt; cache.failed(at, HOME, ann.copy(alloc)?)?, lock);
-    }
-    for (at, lock) in [
-        (3000, Some(LockState::AlreadyLocked)),
-        (122_000, Some(LockState::AlreadyLocked)),
-        (123_000, None),
-    ] {
-        assert_eq!(rt; cache.success(at, HOME, &ann), lock);
-    }
+    let policy = FailedLoginsPolicy::default();
+    let rows: [Row<'_>; 6] = [
+        (0, FailsInRoom, HOME, b"ann", None),
+        (1000, FailsInRoom, HOME, b"ann", None),
+        (2000, FailsInRoom, HOME, b"ann", REACHED),
+        (3000, Succeeds, HOME, b"ann", LOCKED),
+        (122_000, Succeeds, HOME, b"ann", LOCKED),
+        (123_000, Succeeds, HOME, b"ann", None),
+    ];
+    compare(&rt, rt.alloc(), policy, &rows)?;
     Ok(())
 }
 
 #[test]
 fn a_login_that_is_let_in_clears_its_key(rt: HostRuntime) -> Result<(), Fail> {
-    let alloc = rt.alloc();
-    let ann = Bytes::from_slice(alloc, b"ann")?;
     let policy = FailedLoginsPolicy::new(2, 1000, FailedLoginsBlock::User);
-    let mut cache = FailedLoginsCache::new(alloc, policy);
-    assert_eq!(rt; cache.failed(0, HOME, ann.copy(alloc)?)?, None);
-    assert_eq!(rt; cache.success(1, AWAY, &ann), None);
-    assert_eq!(rt; cache.failed(2, HOME, ann.copy(alloc)?)?, None);
-    assert_eq!(rt;
-        cache.failed(3, AWAY, ann.copy(alloc)?)?,
-        Some(LockState::MaxFailuresReached)
-    );
-    assert_eq!(rt;
-        cache.failed(4, AWAY, ann.copy(alloc)?)?,
-        Some(LockState::AlreadyLocked)
-    );
+    let rows: [Row<'_>; 5] = [
+        (0, Fails, HOME, b"ann", None),
+        (1, Succeeds, AWAY, b"ann", None),
+        (2, Fails, HOME, b"ann", None),
+        (3, Fails, AWAY, b"ann", REACHED),
+        (4, Fails, AWAY, b"ann", LOCKED),
+    ];
+    compare(&rt, rt.alloc(), policy, &rows)?;
     Ok(())
 }
 
 #[test]
 fn an_address_is_locked_for_every_name(rt: HostRuntime) -> Result<(), Fail> {
-    let alloc = rt.alloc();
-    let bob = Bytes::from_slice(alloc, b"bob")?;
     let policy = FailedLoginsPolicy::new(1, 1000, FailedLoginsBlock::IP);
-    let mut cache = FailedLoginsCache::new(alloc, policy);
-    let ann = Bytes::from_slice(alloc, b"ann")?;
-    assert_eq!(rt;
-        cache.failed(0, HOME, ann)?,
-        Some(LockState::MaxFailuresReached)
-    );
-    assert_eq!(rt;
-        cache.success(1, HOME, &bob),
-        Some(LockState::AlreadyLocked)
-    );
-    assert_eq!(rt; cache.success(1, AWAY, &bob), None);
-    assert_eq!(rt; cache.success(1, IpAddr::V6(0x0a00_0001), &bob), None);
+    let rows: [Row<'_>; 4] = [
+        (0, Fails, HOME, b"ann", REACHED),
+        (1, Succeeds, HOME, b"bob", LOCKED),
+        (1, Succeeds, AWAY, b"bob", None),
+        (1, Succeeds, IpAddr::V6(0x0a00_0001), b"bob", None),
+    ];
+    compare(&rt, rt.alloc(), policy, &rows)?;
     Ok(())
 }
 
 #[test]
 fn a_sweep_removes_what_has_expired(rt: HostRuntime) -> Result<(), Fail> {
-    let alloc = rt.alloc();
     let policy = FailedLoginsPolicy::new(2, 1000, FailedLoginsBlock::UserAndIP);
-    let mut cache = FailedLoginsCache::new(alloc, policy);
-    for (at, name) in [(0, b"old".as_slice()), (500, b"new")] {
-        let name = Bytes::from_slice(alloc, name)?;
-        assert_eq!(rt; cache.failed(at, HOME, name)?, None);
-    }
-    cache.sweep(1500);
-    for (name, lock) in [
-        (b"old".as_slice(), None),
-        (b"new", Some(LockState::MaxFailuresReached)),
-    ] {
-        let name = Bytes::from_slice(alloc, name)?;
-        assert_eq!(rt; cache.failed(900, HOME, name)?, lock);
-    }
+    let rows: [Row<'_>; 4] = [
+        (0, Fails, HOME, b"old", None),
+        (500, Fails, HOME, b"new", None),
+        (900, FailsBehindSweep(1500), HOME, b"old", None),
+        (900, Fails, HOME, b"new", REACHED),
+    ];
+    compare(&rt, rt.alloc(), policy, &rows)?;
     Ok(())
 }

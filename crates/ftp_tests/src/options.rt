@@ -194,38 +194,39 @@ fn refusal(rt: &HostRuntime, names: &[&[u8]], provider: bool) -> Result<String, 
 
 #[test]
 fn the_first_fault_of_the_registrations_is_told(rt: HostRuntime) -> Result<(), Fail> {
-    let twice = refusal(&rt, &[b"echo", b"ECHO", b"two words"], true)?;
-    assert_eq!(rt;
-        twice.as_str(),
-        "server error: Cannot register SITE command ECHO more than once"
-    );
-    let words = refusal(&rt, &[b"two words", b"MD5"], false)?;
-    assert_eq!(rt;
-        words.as_str(),
-        "server error: Invalid SITE command name: \"two words\""
-    );
-    let bytes = refusal(&rt, &[b"a\\\x00\xff~"], false)?;
-    assert_eq!(rt;
-        bytes.as_str(),
-        "server error: Invalid SITE command name: \"a\\x5c\\x00\\xff~\""
-    );
-    let empty = refusal(&rt, &[b""], false)?;
-    assert_eq!(rt;
-        empty.as_str(),
-        "server error: Invalid SITE command name: \"\""
-    );
-    let md5 = refusal(&rt, &[b"mD5", b"mD5"], false)?;
-    assert_eq!(rt;
-        md5.as_str(),
-        "server error: Cannot replace built-in SITE command MD5"
-    );
-    let late = refusal(&rt, &[b"echo"], true)?;
-    assert_eq!(rt;
-        late.as_str(),
-        "server error: user_detail_provider() must be called before any site_command() registrations"
-    );
-    let none = refusal(&rt, &[b"echo"], false)?;
-    assert_eq!(rt; none.as_str(), "server error: empty passive port range");
+    let rows: [(&[&[u8]], bool, &str); 7] = [
+        (
+            &[b"echo", b"ECHO", b"two words"],
+            true,
+            "Cannot register SITE command ECHO more than once",
+        ),
+        (
+            &[b"two words", b"MD5"],
+            false,
+            "Invalid SITE command name: \"two words\"",
+        ),
+        (
+            &[b"a\\\x00\xff~"],
+            false,
+            "Invalid SITE command name: \"a\\x5c\\x00\\xff~\"",
+        ),
+        (&[b""], false, "Invalid SITE command name: \"\""),
+        (
+            &[b"mD5", b"mD5"],
+            false,
+            "Cannot replace built-in SITE command MD5",
+        ),
+        (
+            &[b"echo"],
+            true,
+            "user_detail_provider() must be called before any site_command() registrations",
+        ),
+        (&[b"echo"], false, "empty passive port range"),
+    ];
+    for (names, provider, text) in rows {
+        let printed = refusal(&rt, names, provider)?;
+        assert_eq!(rt; printed.as_str().strip_prefix("server error: "), Some(text));
+    }
     Ok(())
 }
 
@@ -298,19 +299,26 @@ fn a_host_is_a_dotted_address_or_a_name(rt: HostRuntime) -> Result<(), Fail> {
 
 #[test]
 fn values_have_their_defaults(rt: HostRuntime) -> Result<(), Fail> {
-    assert_eq!(rt; FtpsClientAuth::default(), FtpsClientAuth::Off);
-    assert_eq!(rt; FtpsClientAuth::from_bool(true), FtpsClientAuth::Require);
-    assert_eq!(rt; FtpsClientAuth::from_bool(false), FtpsClientAuth::Off);
-    assert_eq!(rt; TlsFlags::V1_2 | TlsFlags::V1_3, TlsFlags::LATEST_VERSIONS);
+    for (found, due) in [
+        (FtpsClientAuth::default(), FtpsClientAuth::Off),
+        (FtpsClientAuth::from_bool(true), FtpsClientAuth::Require),
+        (FtpsClientAuth::from_bool(false), FtpsClientAuth::Off),
+    ] {
+        assert_eq!(rt; found, due);
+    }
+    let (v1_2, v1_3) = (TlsFlags::V1_2, TlsFlags::V1_3);
+    let resumed = TlsFlags::RESUMPTION_SESS_ID | TlsFlags::RESUMPTION_TICKETS;
+    for (found, due) in [
+        (v1_2 | v1_3, TlsFlags::LATEST_VERSIONS),
+        (v1_2 | resumed, TlsFlags::default()),
+    ] {
+        assert_eq!(rt; found, due);
+    }
+    let waits = Shutdown::new();
+    let grace = (waits.grace_ms, waits.grace_period(7).grace_ms);
+    assert_eq!(rt; grace, (10_000, 7));
     assert_eq!(rt;
-        TlsFlags::V1_2 | TlsFlags::RESUMPTION_SESS_ID | TlsFlags::RESUMPTION_TICKETS,
-        TlsFlags::default()
-    );
-    assert_eq!(rt; Shutdown::new().grace_ms, 10_000);
-    assert_eq!(rt; Shutdown::new().grace_period(7).grace_ms, 7);
-    let policy = FailedLoginsPolicy::default();
-    assert_eq!(rt;
-        policy,
+        FailedLoginsPolicy::default(),
         FailedLoginsPolicy::new(3, 120_000, FailedLoginsBlock::UserAndIP)
     );
     Ok(())

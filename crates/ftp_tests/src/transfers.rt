@@ -282,15 +282,20 @@ fn nothing_is_appended_where_the_storage_fails(rt: HostRuntime) -> Result<(), Fa
 /// A file of 9,000 bytes goes in two pieces and an end.
 #[test]
 fn pieces(rt: HostRuntime) -> Result<(), Fail> {
-    let mut storage = storage(rt.alloc());
     let bytes = vec![in rt.alloc(); 97; 9000]?;
-    let stored = stor(bytes.as_slice()).run_in_pieces(&mut storage, rt.alloc())?;
-    assert_eq!(rt; stored.1.as_slice(), [8192, 808].as_slice());
-    assert_eq!(rt; stored.0.outcome, ended(Completion::Written, 9000));
-    assert_eq!(rt; stored.0.file.as_deref(), Some(bytes.as_slice()));
-    let sent = retr(0).run_in_pieces(&mut storage, rt.alloc())?;
-    assert_eq!(rt; sent.1.as_slice(), [8192, 808].as_slice());
-    assert_eq!(rt; sent.0.outcome, ended(Completion::Sent, 9000));
-    assert_eq!(rt; sent.0.sent.as_slice(), bytes.as_slice());
+    let bytes = bytes.as_slice();
+    let mut storage = storage(rt.alloc());
+    for row in [stores(stor(bytes), bytes), sends(retr(0), bytes, bytes)] {
+        let (left, sizes) = row.trial.run_in_pieces(&mut storage, rt.alloc())?;
+        assert_eq!(rt;
+            (
+                sizes.as_slice(),
+                left.outcome,
+                left.sent.as_slice(),
+                left.file.as_deref()
+            ),
+            ([8192, 808].as_slice(), row.outcome, row.sent, row.file)
+        );
+    }
     Ok(())
 }
