@@ -7,7 +7,7 @@ use ftp_transfer::{Completion, Outcome};
 use std::alloc::Global;
 use std::process::Abort;
 use std::test::Fail;
-use trial::{Trial, Word, plain};
+use trial::{Left, Trial, Word, plain};
 
 /// A transfer, how it has to end, what it has to send, and the file that has to stand at its path then.
 #[derive(Clone, Copy)]
@@ -99,6 +99,16 @@ fn sends_nothing<'a>(trial: Trial<'a>, outcome: Outcome, file: Option<&'a [u8]>)
     }
 }
 
+/// A transfer left what its row says.
+fn is_as_due(rt: &impl Abort, row: &Row<'_>, left: &Left) {
+    let Trial { word, offset, .. } = row.trial;
+    assert_eq!(rt;
+        (left.outcome, left.sent.as_slice(), left.file.as_deref()),
+        (row.outcome, row.sent, row.file),
+        "{word:?} at {offset}"
+    );
+}
+
 /// Runs transfers one after the other on a storage, and compares what each of them leaves.
 fn compare(
     rt: &impl Abort,
@@ -107,13 +117,7 @@ fn compare(
     rows: &[Row<'_>],
 ) -> Result<(), Fail> {
     for row in rows {
-        let Trial { word, offset, .. } = row.trial;
-        let left = row.trial.run(storage, alloc)?;
-        assert_eq!(rt;
-            (left.outcome, left.sent.as_slice(), left.file.as_deref()),
-            (row.outcome, row.sent, row.file),
-            "{word:?} at {offset}"
-        );
+        is_as_due(rt, row, &row.trial.run(storage, alloc)?);
     }
     Ok(())
 }
@@ -287,15 +291,8 @@ fn pieces(rt: HostRuntime) -> Result<(), Fail> {
     let mut storage = storage(rt.alloc());
     for row in [stores(stor(bytes), bytes), sends(retr(0), bytes, bytes)] {
         let (left, sizes) = row.trial.run_in_pieces(&mut storage, rt.alloc())?;
-        assert_eq!(rt;
-            (
-                sizes.as_slice(),
-                left.outcome,
-                left.sent.as_slice(),
-                left.file.as_deref()
-            ),
-            ([8192, 808].as_slice(), row.outcome, row.sent, row.file)
-        );
+        assert_eq!(rt; sizes.as_slice(), [8192, 808].as_slice());
+        is_as_due(&rt, &row, &left);
     }
     Ok(())
 }
