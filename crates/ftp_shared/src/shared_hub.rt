@@ -215,12 +215,17 @@ impl<L: Serving> SharedHub<L> {
         // Any other error tells of the first receipt that is not the entry at its place.
         ensures differs_so { IfErr result (λ e. is_missing e ≡ false → ∥ IsOtherOf L.options receipts.now e ∥₁) }
     {
+        self.into_locked().settle(shares, receipts)
+    }
+
+    // What lay under the lock.
+    fn into_locked(self) -> Locked<L> {
         let SharedHub {
             lock,
             drawn: _,
             feed: _,
         } = self;
-        lock.into_inner().settle(shares, receipts)
+        lock.into_inner()
     }
 
     /// The number after the last that was drawn, from 1; 0 comes after the last number of all.
