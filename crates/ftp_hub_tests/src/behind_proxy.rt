@@ -1,6 +1,6 @@
 //! A hub behind a proxy, event by event, by headers that were read elsewhere.
 
-use crate::values::{CLIENT, PASV, act, log_in};
+use crate::values::{CLIENT, act};
 use ftp_base::{IpAddr, SocketAddr};
 use ftp_events::{Answer, Decision, EventKind};
 use ftp_hub::Hub;
@@ -22,12 +22,12 @@ fn options(alloc: Global) -> Result<Options, Fail> {
     Ok(builder.build().ok().ok_or("not built")?.options)
 }
 
-/// A connection that comes from the proxy at an address.
-fn passed_on(number: u64, proxy: u32) -> EventKind {
+/// A connection that comes from the proxy.
+fn passed_on(number: u64) -> EventKind {
     EventKind::Proxied {
         number,
         raw: SocketAddr {
-            ip: IpAddr::V4(proxy),
+            ip: IpAddr::V4(PROXY),
             port: 1,
         },
         trace: 1,
@@ -60,24 +60,7 @@ fn a_header_decides_what_its_connection_is(rt: HostRuntime) -> Result<(), Fail> 
         (2, header(CONTROL), Decision::Opened),
         (3, header(50002), Decision::Turned),
     ] {
-        let found = act(&mut hub, passed_on(number, PROXY), answer);
-        assert_eq!(rt; found, Ok(decision));
-    }
-    Ok(())
-}
-
-#[test]
-fn a_data_connection_comes_from_the_proxy_of_its_session(rt: HostRuntime) -> Result<(), Fail> {
-    let alloc = rt.alloc();
-    let mut hub = Hub::new(alloc, options(alloc)?);
-    log_in(&mut hub, alloc, passed_on(1, PROXY), header(CONTROL))?;
-    for (number, proxy, decision) in [
-        (11, PROXY + 1, Decision::Turned),
-        (12, PROXY, Decision::Attached { session: 1 }),
-    ] {
-        let granted = act(&mut hub, PASV, Answer::None);
-        assert_eq!(rt; granted, Ok(Decision::Granted { port: 50000 }));
-        let found = act(&mut hub, passed_on(number, proxy), header(50000));
+        let found = act(&mut hub, passed_on(number), answer);
         assert_eq!(rt; found, Ok(decision));
     }
     Ok(())

@@ -16,8 +16,6 @@ mod isolation;
 #[cfg(test)]
 mod laws;
 #[cfg(test)]
-mod legacy;
-#[cfg(test)]
 mod logs;
 #[cfg(test)]
 mod texts;

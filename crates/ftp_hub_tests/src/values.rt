@@ -1,9 +1,9 @@
-//! What several tests take: a client, its session 1, the PASV of it, pooled options, and steps of a hub.
+//! What several tests take: a client, its session 1, the PASV of it, pooled options, and a step of a hub.
 
 ghost use Rattle.std.specs.Prelude.{◌≡◌, false, IfOk};
 ghost use Rattle.ftp_options.specs.Modes.{is_legacy};
 
-use ftp_base::{AuthAnswer, Bytes, IpAddr, SocketAddr};
+use ftp_base::{AuthAnswer, IpAddr, SocketAddr};
 use ftp_events::{Answer, Decision, EventKind, HubEvent};
 use ftp_hub::{Hub, PrepareError};
 use ftp_options::{Options, ServerBuilder};
@@ -55,24 +55,4 @@ pub fn act(hub: &mut Hub, kind: EventKind, answer: Answer) -> Result<Decision, P
         Ok(room) => Ok(hub.step(room, event, answer).decision),
         Err(error) => Err(error),
     }
-}
-
-/// Session 1 is opened by an event with its answer, and logs in.
-pub fn log_in(
-    hub: &mut Hub,
-    alloc: Global,
-    opening: EventKind,
-    answer: Answer,
-) -> Result<(), Fail> {
-    let session = 1;
-    let name = Bytes::from_slice(alloc, b"ann")?;
-    for (kind, answer) in [
-        (opening, answer),
-        (EventKind::User { session, name }, Answer::None),
-        (EventKind::Pass { session }, Answer::None),
-        (AUTH, Answer::None),
-    ] {
-        act(hub, kind, answer).ok().ok_or("not prepared")?;
-    }
-    Ok(())
 }
