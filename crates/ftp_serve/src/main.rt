@@ -35,8 +35,8 @@ fn behind_record(words: &[String]) -> Option<&[String]>
     ensures found { IfSome result (λ rest. map string_bytes words.now ≡ codes "record" ∷ map string_bytes rest.now) }
     ensures none { IsNone result → (rest : List (List ℕ)) → map string_bytes words.now ≡ codes "record" ∷ rest → ⊥ }
 {
-    match words {
-        [word, rest @ ..] if word.as_bytes() == b"record".as_slice() => Some(rest),
+    match words.split_first() {
+        Some((word, rest)) if word.as_bytes() == b"record".as_slice() => Some(rest),
         _ => None,
     }
 }

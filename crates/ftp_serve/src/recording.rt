@@ -16,6 +16,9 @@ use std::alloc::{AllocError, Global};
 use std::io::Write;
 use std::sync::Wait;
 
+/// How long a session may do nothing, in seconds.
+const IDLE_SECONDS: u64 = 600;
+
 /// What stands behind the last entry where the next is lost.
 const LOST: &[u8] = b"entries are lost\n";
 
@@ -65,7 +68,9 @@ fn put_options(out: &mut Vec<u8>, service: Service) -> Result<(), AllocError>
     put_mode(out, service.mode)?;
     put_number(out, u64::from(service.lo))?;
     put_number(out, u64::from(service.hi))?;
-    put(out, b" connection passive 600 off restart\n")
+    put(out, b" connection passive")?;
+    put_number(out, IDLE_SECONDS)?;
+    put(out, b" off restart\n")
 }
 
 fn put_mode(out: &mut Vec<u8>, mode: ListenerMode) -> Result<(), AllocError>

@@ -1,4 +1,4 @@
-use Rattle.std.proofs.Common.{ℕ, List, [], ◌++◌, sym, subst, refl, arith}
+use Rattle.std.proofs.Common.{[], sym, subst, refl, arith}
 use Rattle.std.proofs.lemmas.List.{append-nil}
 use Rattle.ftp_shared.specs.Outbox.{replies_in}
 use Rattle.ftp_talk.specs.Saying.{encodings, said, WritesBut}
