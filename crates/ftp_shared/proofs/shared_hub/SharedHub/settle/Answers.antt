@@ -8,6 +8,6 @@ pub returns-clause-gone : goal.returns-clause-gone
 returns-clause-gone g c =
     IfErr-weaker c.settle.result _ _
     (λ e other missing.
-      let below = lt_of_le-ne c.settle.ensures.apart (other missing) in
-      omega (arith, below, c.into_locked.result.parts.some))
+    let below = lt_of_le-ne c.settle.ensures.apart (other missing) in
+    omega (arith, below, c.into_locked.result.parts.some))
     c.settle.ensures.whole

@@ -11,8 +11,8 @@ pub returns-in_default-clause-halted : goal.returns-in_default-clause-halted
 returns-in_default-clause-halted g c = λ q ts step same a.
     inl (
       front-before q c.args.self.now (g.E.Edge.view c.args.edge.now) (g.E.Edge.view c.submit.new.edge)
-      (g.D.Desk.view c.args.desk.now) (g.D.Desk.view c.submit.new.desk) (g.C.Source.sending c.args.control.now).sent ts c.args.kind
-      a c.submit.ensures.taken.count c.submit.ensures.unpaused c.in_default.ensures.refused,
+          (g.D.Desk.view c.args.desk.now) (g.D.Desk.view c.submit.new.desk) (g.C.Source.sending c.args.control.now).sent ts c.args.kind
+          a c.submit.ensures.taken.count c.submit.ensures.unpaused c.in_default.ensures.refused,
       risen-on _ _ _ a.refused c.in_default.ensures.refused_rose c.in_default.ensures.refused.refused,
     )
 
