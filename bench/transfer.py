@@ -4,27 +4,31 @@
 Usage: bench/transfer.py [PROGRAM]
 
 PROGRAM is crates/ftp_bench/out/ftp_bench, which `rt ci` builds. Each kind runs in few and in many rounds, so that the
-set-up of a run falls out of the difference; of several such differences the best counts. It prints the table of
-bench/RESULTS.md, and ends with status 1 where a download is slower than half of the copy, or an upload slower than a third
-of it.
+set-up of a run falls out of the difference; of several such differences in seconds of the processor the best counts. It
+prints the table of bench/RESULTS.md, and ends with status 1 where a download is slower than half of the copy, an upload
+slower than a third of it, or an upload within a budget slower than nine tenths of one without.
 """
 
+import resource
 import subprocess
 import sys
-import time
 from pathlib import Path
 
 MEBIBYTES = 15
 FEW, MANY, TRIES = 2, 42, 5
 
 
+def used():
+    children = resource.getrusage(resource.RUSAGE_CHILDREN)
+    return children.ru_utime + children.ru_stime
+
+
 def seconds(program, kind, rounds):
     words = [program, kind, str(MEBIBYTES), str(rounds)]
-    begin = time.perf_counter()
+    before = used()
     moved = subprocess.run(words, check=True, capture_output=True, text=True).stdout
-    elapsed = time.perf_counter() - begin
     assert int(moved) == MEBIBYTES * 1048576 * rounds, f"{kind}: {moved} bytes moved"
-    return elapsed
+    return used() - before
 
 
 def speed(program, kind):
@@ -37,12 +41,13 @@ def speed(program, kind):
 def main():
     here = Path(__file__).resolve().parent.parent
     program = sys.argv[1] if len(sys.argv) > 1 else str(here / "crates/ftp_bench/out/ftp_bench")
-    copy, retr, stor = (speed(program, kind) for kind in ("copy", "retr", "stor"))
+    copy, retr, stor, quota = (speed(program, kind) for kind in ("copy", "retr", "stor", "quota"))
     print("| kind | MB/s | of the copy |")
     print("|---|---|---|")
-    for kind, found in ("copy", copy), ("RETR", retr), ("STOR", stor):
+    for kind, found in ("copy", copy), ("RETR", retr), ("STOR", stor), ("STOR within a budget", quota):
         print(f"| {kind} | {found:.0f} | {found / copy:.2f} |")
-    return 0 if retr * 2 >= copy and stor * 3 >= copy else 1
+    print(f"\nWithin a budget: {quota / stor:.2f} of STOR.")
+    return 0 if retr * 2 >= copy and stor * 3 >= copy and quota >= 0.9 * stor else 1
 
 
 if __name__ == "__main__":

@@ -2,7 +2,7 @@
 use Rattle.std.specs.Prelude.{◌≡◌, ℕ, ◌^◌, ◌<◌, IsTrue, List, [], ◌∷◌, Option, Some, None, codes, decimal, if◌then◌else◌}
 use Rattle.std.specs.Str.{bytes_eq}
 use Rattle.ftp_bench.specs.declared.command.Kind.{Kind}
-use Rattle.ftp_bench.specs.declared.command.Kind.TheVariants.{Retr, Stor, Copy}
+use Rattle.ftp_bench.specs.declared.command.Kind.TheVariants.{Retr, Stor, Quota, Copy}
 use Rattle.ftp_bench.specs.declared.command.Command.{Command}
 use Rattle.ftp_bench.specs.declared.command.Search.{Search}
 use Rattle.ftp_bench.specs.declared.command.Appends.{Appends}
@@ -14,7 +14,11 @@ use Rattle.ftp_bench.specs.declared.command.Command.TheVariants.{Help, Version, 
 -- what a word says is moved
 abbrev pub kind_of : List ℕ → Option Kind
 kind_of word =
-    if bytes_eq word (codes "retr") then Some Retr else if bytes_eq word (codes "stor") then Some Stor else if bytes_eq word (codes "copy") then Some Copy else None
+    if bytes_eq word (codes "retr") then Some Retr
+    else if bytes_eq word (codes "stor") then Some Stor
+    else if bytes_eq word (codes "quota") then Some Quota
+    else if bytes_eq word (codes "copy") then Some Copy
+    else None
 
 -- whose hub a word says takes the events
 abbrev pub way_of : List ℕ → Option Way

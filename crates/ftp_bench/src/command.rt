@@ -12,6 +12,8 @@ ghost use Rattle.ftp_bench.specs.Words.{command_of, kind_of, way_of, IsNumber, A
 pub enum Kind {
     Retr,
     Stor,
+    /// STOR within a budget.
+    Quota,
     Copy,
 }
 
@@ -77,6 +79,8 @@ impl Kind {
             Some(Kind::Retr)
         } else if word == b"stor".as_slice() {
             Some(Kind::Stor)
+        } else if word == b"quota".as_slice() {
+            Some(Kind::Quota)
         } else if word == b"copy".as_slice() {
             Some(Kind::Copy)
         } else {

@@ -1,13 +1,14 @@
 //! The rounds that are timed.
 
-ghost use Rattle.std.specs.Prelude.{◌≡◌, length, codes, IfOk, IfErr, OnErr};
+ghost use Rattle.std.specs.Prelude.{◌≡◌, ◌*◌, ◌^◌, ◌<◌, length, codes, IfOk, IfErr, OnErr};
 ghost use Rattle.ftp_base.specs.Storage.{old_bytes};
 ghost use Rattle.ftp_transfer.specs.Ran.{IsDone};
 ghost use Rattle.ftp_bench.specs.declared.moving.MoveError.TheVariants.{Storage, OutOfMemory};
-ghost use Rattle.ftp_bench.specs.Moving.{total, round_size};
+ghost use Rattle.ftp_bench.specs.Moving.{total};
 
 use crate::command::{Kind, Load};
-use ftp_base::{Bytes, DataChanCmd, MemoryLink, MemoryStorage, StoreError};
+use ftp_base::{Bytes, DataChanCmd, MemoryLink, MemoryStorage, Storage, StoreError};
+use ftp_quota::Quota;
 use ftp_transfer::{Completion, Job, Outcome, Ticket, execute};
 use std::alloc::{AllocError, Global};
 
@@ -45,51 +46,80 @@ impl From<StoreError> for MoveError {
 /// # Proved
 ///
 /// - A load that gives a number has moved that many bytes: its rounds times its mebibytes; each round the file for
-///   RETR, and the bytes for STOR and a copy (`moved`; also `round`: `moved`, `kept`; `retrieve`, `store`, `copy`:
-///   `whole`).
+///   RETR, and the bytes for STOR, with or without budgets, and a copy (`moved`; also `retrieve_all`, `store_all`,
+///   `copy_all`: `moved`; `retrieve`, `store`, `copy`: `whole`).
 pub fn move_bytes(alloc: Global, load: Load) -> Result<u64, MoveError>
     ensures moved { IfOk result (λ n. n ≡ total load) }
 {
     let mut bytes = Vec::new(alloc);
     bytes.resize(load.mebibytes as usize * 1_048_576, b'a')?;
-    let mut storage = storage_for(alloc, load.kind, bytes.as_slice())?;
+    let bytes = bytes.as_slice();
+    match load.kind {
+        Kind::Retr => retrieve_all(alloc, bytes, load.rounds),
+        Kind::Stor => store_all(alloc, &mut no_files(alloc), bytes, load.rounds),
+        Kind::Quota => {
+            let mut quota = Quota::new(alloc, no_files(alloc), u64::MAX);
+            store_all(alloc, &mut quota, bytes, load.rounds)
+        }
+        Kind::Copy => copy_all(alloc, bytes, load.rounds),
+    }
+}
+
+/// A storage without a file, in which files of any length have room.
+fn no_files(alloc: Global) -> MemoryStorage {
+    MemoryStorage::new(alloc, u64::MAX, Vec::new(alloc))
+}
+
+/// A storage in which a download finds the bytes.
+fn storage_with(alloc: Global, bytes: &[u8]) -> Result<MemoryStorage, MoveError>
+    ensures found { IfOk result (λ storage. old_bytes storage.files (codes "/a") ≡ bytes.now) }
+{
+    let mut storage = no_files(alloc);
+    let file = Vec::from_slice(alloc, bytes)?;
+    storage.put_file(Bytes::from_slice(alloc, b"/a")?, file)?;
+    Ok(storage)
+}
+
+/// Sends the bytes so often, and says how many moved in all.
+fn retrieve_all(alloc: Global, bytes: &[u8], rounds: u16) -> Result<u64, MoveError>
+    requires in_range { length bytes.now < 2 ^ 48 }
+    ensures moved { IfOk result (λ n. n ≡ rounds * length bytes.now) }
+{
+    let mut storage = storage_with(alloc, bytes)?;
     let mut moved: u64 = 0;
-    for _done in 0..load.rounds {
-        moved += round(alloc, load.kind, &mut storage, bytes.as_slice())?;
+    for _done in 0..rounds {
+        moved += retrieve(alloc, &mut storage)?;
     }
     Ok(moved)
 }
 
-/// A storage in which a download finds the bytes.
-fn storage_for(alloc: Global, kind: Kind, bytes: &[u8]) -> Result<MemoryStorage, MoveError>
-    ensures { IfOk result (λ storage. round_size kind storage.files bytes.now ≡ length bytes.now) }
+/// Stores the bytes so often, and says how many moved in all.
+fn store_all<S: Storage>(
+    alloc: Global,
+    storage: &mut S,
+    bytes: &[u8],
+    rounds: u16,
+) -> Result<u64, MoveError>
+    requires in_range { length bytes.now < 2 ^ 48 }
+    ensures moved { IfOk result (λ n. n ≡ rounds * length bytes.now) }
 {
-    let mut storage = MemoryStorage::new(alloc, u64::MAX, Vec::new(alloc));
-    match kind {
-        Kind::Retr => {
-            let file = Vec::from_slice(alloc, bytes)?;
-            storage.put_file(Bytes::from_slice(alloc, b"/a")?, file)?;
-            Ok(storage)
-        }
-        Kind::Stor | Kind::Copy => Ok(storage),
+    let mut moved: u64 = 0;
+    for _done in 0..rounds {
+        moved += store(alloc, storage, bytes)?;
     }
+    Ok(moved)
 }
 
-/// Moves the bytes once, and says how many moved.
-fn round(
-    alloc: Global,
-    kind: Kind,
-    storage: &mut MemoryStorage,
-    bytes: &[u8],
-) -> Result<u64, MoveError>
-    ensures moved { IfOk result (λ n. n ≡ round_size kind storage.old.files bytes.now) }
-    ensures kept { kind ≡ Kind.Retr → storage.new.files ≡ storage.old.files }
+/// Copies the bytes so often, and says how many moved in all.
+fn copy_all(alloc: Global, bytes: &[u8], rounds: u16) -> Result<u64, MoveError>
+    requires in_range { length bytes.now < 2 ^ 48 }
+    ensures moved { IfOk result (λ n. n ≡ rounds * length bytes.now) }
 {
-    match kind {
-        Kind::Retr => retrieve(alloc, storage),
-        Kind::Stor => store(alloc, storage, bytes),
-        Kind::Copy => Ok(copy(alloc, bytes)?),
+    let mut moved: u64 = 0;
+    for _done in 0..rounds {
+        moved += copy(alloc, bytes)?;
     }
+    Ok(moved)
 }
 
 /// Sends the file.
@@ -104,7 +134,7 @@ fn retrieve(alloc: Global, storage: &mut MemoryStorage) -> Result<u64, MoveError
 }
 
 /// Stores the bytes.
-fn store(alloc: Global, storage: &mut MemoryStorage, bytes: &[u8]) -> Result<u64, MoveError>
+fn store<S: Storage>(alloc: Global, storage: &mut S, bytes: &[u8]) -> Result<u64, MoveError>
     ensures whole { IfOk result (λ n. n ≡ length bytes.now) }
 {
     let path = Bytes::from_slice(alloc, b"/a")?;
