@@ -4,3 +4,8 @@ pub mod OnlyLemmas
 pub mod PartLemmas
 pub mod OneLemmas
 pub mod SameDecision
+pub mod PlaceLemmas
+pub mod GrantLemmas
+pub mod EvidenceLemmas
+pub mod RightLemmas
+pub mod Results

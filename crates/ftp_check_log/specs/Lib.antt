@@ -1,2 +1,4 @@
 pub mod Verdicts
 pub mod Checks
+pub mod Evidence
+pub mod Grants

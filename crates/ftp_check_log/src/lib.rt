@@ -1,13 +1,17 @@
 //! A check of printed logs: whether each decision and each action is the one that is due.
 //!
 //! A log is right exactly where it is the print of a right and acted log; else the first place that is not so is named.
-//! Begin with `check` and specs/Verdicts.antt.
+//! Begin with `check` and specs/Verdicts.antt; why an entry was decided as it was is in `why` and specs/Evidence.antt.
 #![tactic(auto)]
 
 mod checker;
+mod evidence;
+mod grants;
 mod options;
+mod reading;
 mod text;
 mod verdict;
 
+pub use evidence::{Evidence, WhyError, put_evidence, why};
 pub use text::check;
 pub use verdict::Verdict;

@@ -8,6 +8,8 @@ mod behind_proxy;
 #[cfg(test)]
 mod counts;
 #[cfg(test)]
+mod evidence;
+#[cfg(test)]
 mod headline;
 #[cfg(test)]
 mod hub;

@@ -1,0 +1,109 @@
+//! What an entry, or the entries before a place, tell of sessions and ports.
+
+ghost use Rattle.std.specs.Prelude.{◌≡◌, reverse};
+ghost use Rattle.std.specs.Option.{option_and_then, option_map};
+ghost use Rattle.ftp_events.specs.Board.{target, ends_hold};
+ghost use Rattle.ftp_events.specs.Log.{is_refusal, is_stopped, past_of};
+ghost use Rattle.ftp_events.specs.Opening.{opened_number, opening_by, opener};
+
+use ftp_base::{IpAddr, SocketAddr};
+use ftp_events::{Answer, Decision, Entry, EventKind};
+use ftp_options::Options;
+
+/// Says whether every session was ended by these entries.
+pub(crate) fn is_stopped(before: &[Entry]) -> bool
+    ensures { result ≡ is_stopped (past_of (reverse before.now)) }
+{
+    let mut stopped = false;
+    for entry in before {
+        stopped = entry.decision.is_stop() || stopped;
+    }
+    stopped
+}
+
+/// The client of a session, if it was opened by these entries.
+pub(crate) fn client_before(before: &[Entry], session: Option<u64>) -> Option<IpAddr>
+    ensures { result ≡ option_map (λ x. x.client) (option_and_then (opener (past_of (reverse before.now))) session) }
+{
+    match session {
+        Some(session) => client_of(before, session),
+        None => None,
+    }
+}
+
+// The client of a session, if it was opened by these entries.
+fn client_of(before: &[Entry], session: u64) -> Option<IpAddr>
+    ensures { result ≡ option_map (λ x. x.client) (opener (past_of (reverse before.now)) session) }
+{
+    let mut client = None;
+    for entry in before {
+        if opened_session(entry) == Some(session) {
+            client = client_in(&entry.event.kind, entry.answer);
+        }
+    }
+    client
+}
+
+/// The session that the entry opens.
+pub(crate) fn opened_session(entry: &Entry) -> Option<u64>
+    ensures { result ≡ opened_number entry.now.event.kind entry.now.decision }
+{
+    match (entry.decision, &entry.event.kind) {
+        (Decision::Opened, EventKind::Connect { session, .. }) => Some(*session),
+        (
+            Decision::Opened,
+            EventKind::Proxied { number, .. }
+            | EventKind::DataIn { number, .. }
+            | EventKind::Accepted { number, .. },
+        ) => Some(*number),
+        _ => None,
+    }
+}
+
+/// The client of a session that opens with this event.
+pub(crate) fn client_in(kind: &EventKind, answer: Answer) -> Option<IpAddr>
+    ensures { result ≡ option_map (λ x. x.client) (opening_by kind.now answer) }
+{
+    match (kind, answer) {
+        (EventKind::Connect { raw, .. }, _) => Some(raw.ip),
+        (EventKind::Proxied { .. }, Answer::Header(Ok(line))) => Some(line.source.ip),
+        _ => None,
+    }
+}
+
+/// The client and the port of a data connection.
+pub(crate) fn target(options: &Options, kind: &EventKind, answer: Answer) -> Option<SocketAddr>
+    ensures { option_map (λ a. record { client = a.ip; port = a.port }) result ≡ target options.now kind.now answer }
+{
+    match (kind, answer) {
+        (EventKind::DataIn { raw, port, .. }, _) => Some(SocketAddr {
+            ip: raw.ip,
+            port: *port,
+        }),
+        (EventKind::Proxied { .. }, Answer::Header(Ok(line)))
+            if !options.mode.is_control_port(line.destination.port) => Some(SocketAddr {
+            ip: line.source.ip,
+            port: line.destination.port,
+        }),
+        _ => None,
+    }
+}
+
+/// Says whether the entry ends a hold of the session.
+pub(crate) fn ends_hold(entry: &Entry, session: u64) -> bool
+    ensures { result ≡ ends_hold entry.now session }
+{
+    entry.decision.is_stop()
+        || (entry.event.kind.named_session() == Some(session)
+            && entry.decision.slot_move().gives_up())
+}
+
+/// Says whether the decision is one of the four refusals.
+pub(crate) fn is_refusal(decision: Decision) -> bool
+    ensures { result ≡ is_refusal decision }
+{
+    matches!(
+        decision,
+        Decision::UnknownNumber | Decision::UsedNumber | Decision::Misplaced | Decision::NotExpected
+    )
+}
