@@ -1,8 +1,14 @@
-use Rattle.std.proofs.Common.{ap, subst, ◌∙◌}
-use Rattle.std.specs.Prelude.{Result, Ok, IfOk}
+use Rattle.std.proofs.Common.{◌≡◌, ℕ, List, Option, ap, subst, ◌∙◌}
+use Rattle.std.specs.Prelude.{Result, Ok, IfOk, OnErr}
 use Rattle.ftp_base.specs.declared.fault.Failed.{Failed}
+use Rattle.ftp_base.specs.declared.fault.Failed.TheVariants.{Fault, Memory}
+use Rattle.ftp_base.specs.Edge.{EdgeView}
+use Rattle.ftp_shared.specs.Desk.{DeskView}
 use Rattle.ftp_talk.specs.declared.serving.Next.{Next}
-use Rattle.ftp_talk.specs.Speaking.{Standing, due_at}
+use Rattle.ftp_talk.specs.declared.serving.ServeEnd.{ServeEnd}
+use Rattle.ftp_talk.specs.Ground.{Ground}
+use Rattle.ftp_talk.specs.Speaking.{IsCut, Outcome, Standing, due_at, end_by}
+use Rattle.ftp_talk.specs.Talk.{TalkFront}
 use Rattle.ftp_talk.proofs.EndLemmas.{talk-over}
 use Rattle.ftp_talk.proofs.control_session.ControlSession.proceed.Goals as goal
 
@@ -12,3 +18,16 @@ returns-in-Ok-Over-clause-ended g c = λ q rest about served cut.
     talk-over q c.args.self.now _ _ _ rest
     (subst (λ (r : Result Next Failed). IfOk r (λ n. Standing (due_at n) q c.args.self.now (g.E.Edge.view c.args.edge.now) (g.D.Desk.view c.args.desk.now) (g.C.Source.sending c.args.control.now).sent rest))
     (c.in-Ok-Over.is ∙ ap Ok over) served)
+
+-- a talk that was cut short ends as one of which a front was said
+cut-short : (failed : Failed) (end : ServeEnd) (q : Ground) (edge : EdgeView) (desk : DeskView) (sent : Option (List ℕ)) →
+    end ≡ end_by failed → TalkFront q edge desk sent → Outcome end q edge desk sent
+cut-short Fault end q edge desk sent is front = rw is front
+cut-short Memory end q edge desk sent is front = rw is front
+
+pub returns-in-Err-clause-ended : goal.returns-in-Err-clause-ended
+returns-in-Err-clause-ended g c = λ q rest about served cut.
+    let sent = (g.C.Source.sending c.args.control.now).sent in
+    let short = subst (λ (r : Result Next Failed). OnErr r (IsCut q c.args.self.now (g.E.Edge.view c.args.edge.now) (g.D.Desk.view c.args.desk.now) sent))
+    c.in-Err.is cut in
+    cut-short c.in-Err.failed c.end_by.result q _ _ sent c.end_by.ensures (c.leave.ensures q sent about short)
