@@ -9,12 +9,17 @@ echo "machine: $(uname -m), $(awk -F': ' '/model name/ { print $2; exit }' /proc
 
 # Runs the program once over a script, and prints its processor time in seconds and its peak memory in kilobytes.
 measure() {
+    measure_word "$program" script "$1"
+}
+
+# The same of any program, with a word, over a file.
+measure_word() {
     if [ -x /usr/bin/time ]; then
-        /usr/bin/time -o "$scratch/time" -f '%U %S %M' "$program" script < "$1" > /dev/null
+        /usr/bin/time -o "$scratch/time" -f '%U %S %M' "$1" "$2" < "$3" > /dev/null
         awk '{ print $1 + $2, $3 }' "$scratch/time"
         return
     fi
-    "$program" script < "$1" > /dev/null &
+    "$1" "$2" < "$3" > /dev/null &
     child=$!
     peak=0
     ticks=0

@@ -9,3 +9,5 @@ pub mod GrantLemmas
 pub mod EvidenceLemmas
 pub mod RightLemmas
 pub mod Results
+pub mod PendingLemmas
+pub mod SourceLemmas

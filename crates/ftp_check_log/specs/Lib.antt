@@ -2,3 +2,5 @@ pub mod Verdicts
 pub mod Checks
 pub mod Evidence
 pub mod Grants
+pub mod Pending
+pub mod ReadsOn

@@ -8,10 +8,11 @@ mod checker;
 mod evidence;
 mod grants;
 mod options;
+mod pending;
 mod reading;
-mod text;
+mod source;
 mod verdict;
 
 pub use evidence::{Evidence, WhyError, put_evidence, why};
-pub use text::check;
+pub use source::check;
 pub use verdict::Verdict;

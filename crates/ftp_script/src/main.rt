@@ -7,12 +7,10 @@
 //! Begin with `run_script` of `ftp_script_run`.
 #![tactic(auto)]
 
-mod streams;
-
 use ftp_script_run::{Status, run_script};
+use ftp_streams::{Input, Output};
 use std::process::ExitCode;
 use std::{env, io};
-use streams::{Input, Output};
 
 /// The words behind the program's name.
 fn words(rt: &HostRuntime) -> io::Result<Vec<Vec<u8>>> {

@@ -1,4 +1,4 @@
-//! Standard input and output: what no clause tells the content of, counted where it fails.
+//! Readers and writers, of which no clause tells the content, counted where they fail.
 
 ghost use Rattle.std.specs.Prelude.{◌≡◌, None};
 

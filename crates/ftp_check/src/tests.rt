@@ -1,0 +1,163 @@
+//! Whole checks, with the lines that are written for them.
+
+ghost use Rattle.std.specs.Prelude.{◌≤◌};
+
+use ftp_base::{MemorySink, MemorySource};
+use ftp_check_run::{CHECK_HELP, CHECK_VERSION, CheckStatus, run_check};
+use std::alloc::{AllocError, Global};
+use std::process::Abort;
+use std::test::Fail;
+
+const POOLED: &str = "options pooled 50000 50001 connection passive 600 off restart\n";
+
+const CONNECT: &str = "> 0 connect 1 10.0.0.1:4000 10.0.0.9:21 1\n";
+
+const OPENED: &str = "= opened\n";
+
+const USER: &str = "> 0 user 1 ann\n";
+
+const NEED_PASS: &str = "= needpass\n";
+
+const PASSWORD: &str = "- reply 1 0 331 Password Required\n";
+
+const LOGIN: &str = "> 0 pass 1
+= passout
+> 0 auth 1 good
+= loggedin
+- notify 1 1 0x1 login 0 3 0 ann
+- reply 1 0 230 User logged in, proceed
+";
+
+/// The parts, one behind the other.
+fn joined(alloc: Global, parts: &[&str]) -> Result<Vec<u8>, AllocError> {
+    let mut text = Vec::new(alloc);
+    for part in parts {
+        text.extend_from_slice(part.as_bytes())?;
+    }
+    Ok(text)
+}
+
+/// Checks a log that comes in pieces. Of the calls of its source and of the sink the given ones fail.
+fn checked(
+    alloc: Global,
+    parts: &[&str],
+    chunk: u32,
+    reads: &[u64],
+    writes: &[u64],
+) -> Result<(CheckStatus, Vec<u8>), AllocError>
+    requires { 1 ≤ chunk }
+{
+    let log = joined(alloc, parts)?;
+    let mut source = MemorySource::new(log, chunk, reads.to_vec(alloc)?);
+    let mut sink = MemorySink::new(alloc, 65536, writes.to_vec(alloc)?);
+    let words = [b"check".to_vec(alloc)?];
+    let status = run_check(alloc, &words, &mut source, &mut sink);
+    Ok((status, sink.written().to_vec(alloc)?))
+}
+
+/// Checks a log that comes in pieces, and compares how that ends and what it writes.
+fn expect(
+    rt: &impl Abort,
+    alloc: Global,
+    parts: &[&str],
+    chunk: u32,
+    status: CheckStatus,
+    line: &str,
+) -> Result<(), AllocError>
+    requires { 1 ≤ chunk }
+{
+    let (found, written) = checked(alloc, parts, chunk, &[], &[])?;
+    assert_eq!(rt;
+        (found, written.as_slice()),
+        (status, line.as_bytes()),
+        "{line}"
+    );
+    Ok(())
+}
+
+#[test]
+fn a_login_is_right_and_each_change_of_it_is_named(rt: HostRuntime) -> Result<(), Fail> {
+    for (opened, password, status, line) in [
+        (OPENED, PASSWORD, CheckStatus::Done, "right 4\n"),
+        (
+            "= used\n",
+            PASSWORD,
+            CheckStatus::Wrong,
+            "wrong 0 due opened\n",
+        ),
+        (OPENED, "", CheckStatus::Wrong, "actions 1\n"),
+    ] {
+        let parts = [POOLED, CONNECT, opened, USER, NEED_PASS, password, LOGIN];
+        expect(&rt, rt.alloc(), &parts, 7, status, line)?;
+        expect(&rt, rt.alloc(), &parts, 65536, status, line)?;
+    }
+    Ok(())
+}
+
+#[test]
+fn a_bad_text_is_known_by_its_line(rt: HostRuntime) -> Result<(), Fail> {
+    for (first, second, third, fourth, line) in [
+        (POOLED, CONNECT, "= opened", "", 3),
+        (POOLED, CONNECT, OPENED, USER, 4),
+        (CONNECT, OPENED, "\n", USER, 3),
+        ("# a log\n", CONNECT, OPENED, "", 1),
+        (CONNECT, OPENED, POOLED, "", 3),
+        (CONNECT, OPENED, "- reply 1 0 331\n", USER, 3),
+        (CONNECT, OPENED, "link 1 sent .\n", "", 3),
+    ] {
+        let parts = [first, second, third, fourth];
+        expect(&rt, rt.alloc(), &parts, 5, CheckStatus::BadText(line), "")?;
+    }
+    Ok(())
+}
+
+#[test]
+fn an_answer_that_decides_nothing_is_right(rt: HostRuntime) -> Result<(), Fail> {
+    let answer = "? done sent 0 -\n";
+    let parts = [CONNECT, OPENED, USER, answer, NEED_PASS, PASSWORD];
+    expect(
+        &rt,
+        rt.alloc(),
+        &parts,
+        65536,
+        CheckStatus::Done,
+        "right 2\n",
+    )?;
+    expect(&rt, rt.alloc(), &[], 65536, CheckStatus::Done, "right 0\n")?;
+    Ok(())
+}
+
+#[test]
+fn faults_are_told(rt: HostRuntime) -> Result<(), Fail> {
+    let parts = [CONNECT, OPENED];
+    let (status, written) = checked(rt.alloc(), &parts, 10, &[3], &[])?;
+    assert_eq!(rt; (status, written.len()), (CheckStatus::ReadFault, 0));
+    let (status, written) = checked(rt.alloc(), &parts, 10, &[], &[1])?;
+    assert_eq!(rt; (status, written.len()), (CheckStatus::WriteFault, 0));
+    Ok(())
+}
+
+/// How a command ends and what it prints, of words with a space between them, where every read would fail.
+fn told(alloc: Global, words: &str) -> Result<(CheckStatus, Vec<u8>), AllocError> {
+    let mut list = Vec::new(alloc);
+    for word in words.split(' ') {
+        list.push(word.as_bytes().to_vec(alloc)?)?;
+    }
+    let mut source = MemorySource::new(Vec::new(alloc), 1, [1].to_vec(alloc)?);
+    let mut sink = MemorySink::new(alloc, 65536, Vec::new(alloc));
+    let status = run_check(alloc, list.as_slice(), &mut source, &mut sink);
+    Ok((status, sink.written().to_vec(alloc)?))
+}
+
+#[test]
+fn words_are_commands_or_usage(rt: HostRuntime) -> Result<(), Fail> {
+    for (words, text) in [("--help", CHECK_HELP), ("--version", CHECK_VERSION)] {
+        let (status, written) = told(rt.alloc(), words)?;
+        assert_eq!(rt; (status, written.as_slice()), (CheckStatus::Done, text));
+    }
+    for words in ["", "Check", "check check", "--help check", "why"] {
+        let (status, written) = told(rt.alloc(), words)?;
+        assert_eq!(rt; (status, written.len()), (CheckStatus::Usage, 0), "{words}");
+    }
+    Ok(())
+}

@@ -1,0 +1,56 @@
+-- What a log is and what was written, by the status of a check.
+use Rattle.std.specs.Prelude.{◌≡◌, ℕ, ◌⊎◌, List, [], Option, codes}
+use Rattle.ftp_base.specs.Outside.{Writes}
+use Rattle.ftp_lines.specs.Writing.{WritesFront}
+use Rattle.ftp_check_log.specs.declared.verdict.Verdict.{Verdict}
+use Rattle.ftp_check_log.specs.declared.verdict.Verdict.TheVariants as verdict
+use Rattle.ftp_check_log.specs.Verdicts.{IsRightText, TellsOfText}
+use Rattle.ftp_check_run.specs.declared.status.CheckStatus.{CheckStatus}
+use Rattle.ftp_check_run.specs.declared.status.CheckStatus.TheVariants as status
+use Rattle.ftp_check_run.specs.VerdictLines.{number_line, verdict_text}
+
+-- the text is an options line or none and the print of a right and acted log, and `right` with the number of its entries was
+-- written
+pub record TellsRight (bytes : List ℕ) (old new : Option (List ℕ)) : Type 0 where
+  pub entries : ℕ
+  pub right : IsRightText entries bytes
+  pub written : Writes old new (number_line (codes "right") entries)
+
+-- an entry has another decision or other actions
+abbrev pub IsOfEntry : Verdict → Type 0
+IsOfEntry (verdict.Decided n due) = Unit {0}
+IsOfEntry (verdict.Acted n) = Unit {0}
+IsOfEntry _ = ⊥
+
+-- so many entries from the front are right and acted, and the next one is not, as the line says that was written
+pub record TellsWrong (bytes : List ℕ) (old new : Option (List ℕ)) : Type 0 where
+  pub verdict : Verdict
+  pub of_entry : IsOfEntry verdict
+  pub so : TellsOfText verdict bytes
+  pub written : Writes old new (verdict_text verdict)
+
+-- the line is the first bad one, with all due before it, and nothing was written
+pub record TellsBad (k : ℕ) (bytes : List ℕ) (old new : Option (List ℕ)) : Type 0 where
+  pub so : TellsOfText (verdict.BadText k) bytes
+  pub written : Writes old new []
+
+-- nothing was written, or a part from the front of the line that tells the verdict of the text
+abbrev pub TellsPart : List ℕ → Option (List ℕ) → Option (List ℕ) → Type 0
+TellsPart bytes old new = (new ≡ old) ⊎ ((v : Verdict) × TellsOfText v bytes × WritesFront old new (verdict_text v))
+
+-- by the status
+abbrev pub CheckOutcome : CheckStatus → List ℕ → Option (List ℕ) → Option (List ℕ) → Type 0
+CheckOutcome status.Done bytes old new = TellsRight bytes old new
+CheckOutcome status.Wrong bytes old new = TellsWrong bytes old new
+CheckOutcome (status.BadText k) bytes old new = TellsBad k bytes old new
+CheckOutcome status.ReadFault bytes old new = new ≡ old
+CheckOutcome status.WriteFault bytes old new = TellsPart bytes old new
+CheckOutcome status.OutOfMemory bytes old new = TellsPart bytes old new
+CheckOutcome status.Usage bytes old new = ⊥
+
+-- where a text is told, all of it was written, or a part from the front where the sink failed or memory ran out
+abbrev pub TellsText : CheckStatus → List ℕ → Option (List ℕ) → Option (List ℕ) → Type 0
+TellsText status.Done text old new = Writes old new text
+TellsText status.WriteFault text old new = WritesFront old new text
+TellsText status.OutOfMemory text old new = WritesFront old new text
+TellsText _ text old new = ⊥

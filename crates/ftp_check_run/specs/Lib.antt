@@ -1,0 +1,4 @@
+pub mod CheckCommands
+pub mod CheckStatuses
+pub mod VerdictLines
+pub mod CheckOutcome
