@@ -58,6 +58,7 @@ impl<'a, R: Net + Wait + Clock + RandomSource + Copy + Drop> SessionEdge<'a, R> 
     fn bind_own(&mut self, lo: u16, hi: u16) -> Option<u16>
         ensures may { is_between lo hi result ≡ true }
         ensures faults { self.new.faults ≡ self.old.faults }
+        ensures unpaused { self.new.paused ≡ self.old.paused }
     {
         let port = self.handoff.free_port(&self.rt, self.session)?;
         self.system.bind(lo.max(port), hi.min(port))
