@@ -51,10 +51,10 @@ fn main(rt: HostRuntime) -> ExitCode {
     let Ok(words) = words.skip(1).collect::<Vec<String>>(rt.alloc()) else {
         return ExitCode::from(1);
     };
-    let (is_recorded, words) = match behind_record(words.as_slice()) {
-        Some(words) => (true, words),
-        None => (false, words.as_slice()),
-    };
+    let words = words.as_slice();
+    let behind = behind_record(words);
+    let is_recorded = behind.is_some();
+    let words = behind.unwrap_or(words);
     let Some(command) = Command::of(words) else {
         return ExitCode::from(64);
     };
