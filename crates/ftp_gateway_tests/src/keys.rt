@@ -1,0 +1,32 @@
+//! Keys that passwords derive.
+
+use ftp_users::derived_key;
+use std::test::Fail;
+
+// The first is of RFC 7914, section 11, cut to 32 bytes; the others are OpenSSL's.
+#[test]
+fn a_key_is_the_one_that_was_published(rt: HostRuntime) -> Result<(), Fail> {
+    let long = [b'x'; 65];
+    for (password, rounds, due) in [
+        (
+            b"passwd".as_slice(),
+            1,
+            "55ac046e56e3089fec1691c22544b605f94185216dde0465e68b9d57c20dacbc",
+        ),
+        (
+            b"password",
+            2,
+            "ae4d0c95af6b46d32d0adff928f06dd02a303f8ef3c251dfd6e2d85a95474c43",
+        ),
+        (
+            long.as_slice(),
+            1,
+            "ec34fed99e087b3d9904f820f10fb5f584396a84d197788f6d17441ecec1a748",
+        ),
+    ] {
+        let key = derived_key(password, b"salt", rounds);
+        let text = hex::encode(rt.alloc(), key.as_slice())?;
+        assert_eq!(rt; text.as_str(), due);
+    }
+    Ok(())
+}
