@@ -6,6 +6,7 @@ COMMAND is the checker; without one it is FTP_CHECK of the environment, or else 
 Each printed log of examples/ has to be right as it is. Then one place of it is changed, each in turn: a decision or one of its fields,
 an action, which is left out, told twice or told behind the next one, and each of its fields. The log has to be refused at the entry that
 was changed, with the decision that is due there; where the changed line can stand in no log, as a bad text, of which nothing is printed.
+Of some logs entries have to be explained, by earlier ones that are written down here.
 Each case prints a line; the status is 1 if one failed.
 """
 
@@ -41,6 +42,24 @@ OTHERS = {
     "decode": "notproxy",
 }
 MOVES = "got", "put"
+# Behind the two ports of the range that are granted at entries 12 and 13, and the PASV that finds it full: the holder of the first one
+# connects to it, and again; a stranger connects to the second one; session 2 gives it up, and its client connects to it.
+LATER = """> 2 data 11 10.0.0.1:4001 50000
+= attached 1
+> 2 data 12 10.0.0.1:4001 50000
+= turned
+- close 12
+> 2 data 13 10.0.0.2:4001 50001
+= turned
+- close 13
+> 2 abor 2
+= aborted
+- reply 2 0 226 Closed data channel
+> 2 data 14 10.0.0.1:4001 50001
+= turned
+- close 14
+"""
+WHY = {14: "full 12 13", 0: "plain", 12: "plain", 15: "held 12", 16: "free 15", 17: "free -", 18: "plain", 19: "free 18"}
 
 
 class Differs(Exception):
@@ -54,9 +73,9 @@ def log_of(printed):
     return options + [line for line in printed.read_text().splitlines() if line[:1] in ">?=-"]
 
 
-def checked(program, lines):
+def checked(program, lines, words=("check",)):
     text = "".join(line + "\n" for line in lines).encode()
-    done = subprocess.run([*program, "check"], input=text, capture_output=True, timeout=PATIENCE)
+    done = subprocess.run([*program, *words], input=text, capture_output=True, timeout=PATIENCE)
     return done.returncode, done.stdout
 
 
@@ -168,10 +187,10 @@ def changes(lines):
             yield [*before, new, *behind], BAD_TEXT
 
 
-def is_checked(program, lines, due):
-    told = checked(program, lines)
+def is_checked(program, lines, due, words=("check",)):
+    told = checked(program, lines, words)
     if told != due:
-        raise Differs(f"{told} in place of {due}, of\n" + "\n".join(lines))
+        raise Differs(f"{words}: {told} in place of {due}, of\n" + "\n".join(lines))
 
 
 def of_example(program, printed):
@@ -187,6 +206,25 @@ def of_example(program, printed):
     return len(todo)
 
 
+def of_reasons(program):
+    """Why the entries of a log were decided, and what is told where it has no such entry or is not right."""
+    folder = TOP / "crates" / "ftp_script"
+    options = (folder / "stdin").read_text().splitlines()[:1]
+    lines = options + [line for line in (folder / "stdout").read_text().splitlines() if line[:1] in ">?=-"] + LATER.splitlines()
+    is_checked(program, lines, (0, b"right 20\n"))
+    for entry, evidence in WHY.items():
+        is_checked(program, lines, (0, f"{evidence}\n".encode()), ("why", str(entry)))
+    for place in "20", "18446744073709551615", "18446744073709551616", "9" * 300:
+        is_checked(program, lines, (6, b""), ("why", place))
+    for words in ("why",), ("why", "07"), ("why", "-1"), ("why", "+1"), ("why", ""), ("why", "1", "2"), ("why", "1 "):
+        is_checked(program, lines, (64, b""), words)
+    other = [line.replace("= aborted", "= used") for line in lines]
+    is_checked(program, other, (1, b"wrong 18 due aborted\n"), ("why", "14"))
+    is_checked(program, lines[:-1], (1, b"actions 19\n"), ("why", "14"))
+    is_checked(program, [*lines, "= used"], BAD_TEXT, ("why", "14"))
+    return len(WHY)
+
+
 def main(words):
     program = words or shlex.split(os.environ.get("FTP_CHECK", "")) or [str(PROGRAM)]
     failed = 0
@@ -199,7 +237,14 @@ def main(words):
             print(f"FAIL  {printed.name}: {type(why).__name__}: {why}", flush=True)
         else:
             print(f"pass  {printed.name}, and {count} changes of it", flush=True)
-    print(f"{len(logs) - failed} passed, {failed} failed")
+    try:
+        count = of_reasons(program)
+    except Exception as why:
+        failed += 1
+        print(f"FAIL  reasons: {type(why).__name__}: {why}", flush=True)
+    else:
+        print(f"pass  the reasons for {count} entries", flush=True)
+    print(f"{len(logs) + 1 - failed} passed, {failed} failed")
     return 1 if failed or not logs else 0
 
 

@@ -37,9 +37,20 @@ fn joined(alloc: Global, parts: &[&str]) -> Result<Vec<u8>, AllocError> {
     Ok(text)
 }
 
-/// Checks a log that comes in pieces. Of the calls of its source and of the sink the given ones fail.
+/// The words of a command, with a space between them.
+fn words_of(alloc: Global, command: &str) -> Result<Vec<Vec<u8>>, AllocError> {
+    let mut words = Vec::new(alloc);
+    for word in command.split(' ') {
+        words.push(word.as_bytes().to_vec(alloc)?)?;
+    }
+    Ok(words)
+}
+
+/// Does what a command asks for, by a log that comes in pieces. Of the calls of its source and of the sink the given ones
+/// fail.
 fn checked(
     alloc: Global,
+    command: &str,
     parts: &[&str],
     chunk: u32,
     reads: &[u64],
@@ -50,8 +61,8 @@ fn checked(
     let log = joined(alloc, parts)?;
     let mut source = MemorySource::new(log, chunk, reads.to_vec(alloc)?);
     let mut sink = MemorySink::new(alloc, 65536, writes.to_vec(alloc)?);
-    let words = [b"check".to_vec(alloc)?];
-    let status = run_check(alloc, &words, &mut source, &mut sink);
+    let words = words_of(alloc, command)?;
+    let status = run_check(alloc, words.as_slice(), &mut source, &mut sink);
     Ok((status, sink.written().to_vec(alloc)?))
 }
 
@@ -66,7 +77,7 @@ fn expect(
 ) -> Result<(), AllocError>
     requires { 1 ≤ chunk }
 {
-    let (found, written) = checked(alloc, parts, chunk, &[], &[])?;
+    let (found, written) = checked(alloc, "check", parts, chunk, &[], &[])?;
     assert_eq!(rt;
         (found, written.as_slice()),
         (status, line.as_bytes()),
@@ -127,22 +138,84 @@ fn an_answer_that_decides_nothing_is_right(rt: HostRuntime) -> Result<(), Fail> 
     Ok(())
 }
 
+// Three sessions of a client log in and ask for a port each, of which there are two.
+const THREE: &str = "options pooled 50000 50001 connection passive 600 off restart
+> 0 connect 1 10.0.0.1:4000 10.0.0.9:21 1
+= opened
+> 0 user 1 ann
+= needpass
+- reply 1 0 331 Password Required
+> 0 pass 1
+= passout
+> 0 auth 1 good
+= loggedin
+- notify 1 1 0x1 login 0 3 0 ann
+- reply 1 0 230 User logged in, proceed
+> 0 connect 2 10.0.0.1:4000 10.0.0.9:21 2
+= opened
+> 0 user 2 ann
+= needpass
+- reply 2 0 331 Password Required
+> 0 pass 2
+= passout
+> 0 auth 2 good
+= loggedin
+- notify 2 1 0x2 login 0 3 0 ann
+- reply 2 0 230 User logged in, proceed
+> 0 connect 3 10.0.0.1:4000 10.0.0.9:21 3
+= opened
+> 0 user 3 ann
+= needpass
+- reply 3 0 331 Password Required
+> 0 pass 3
+= passout
+> 0 auth 3 good
+= loggedin
+- notify 3 1 0x3 login 0 3 0 ann
+- reply 3 0 230 User logged in, proceed
+> 1 pasv 1 0 - -
+= granted 50000
+- reply 1 0 227 Entering Passive Mode (10,0,0,9,195,80)
+> 1 pasv 2 0 - -
+= granted 50001
+- reply 2 0 227 Entering Passive Mode (10,0,0,9,195,81)
+> 1 pasv 3 0 - -
+= full
+- reply 3 0 425 Could not allocate passive port
+";
+
+#[test]
+fn an_entry_is_explained_or_there_is_none(rt: HostRuntime) -> Result<(), Fail> {
+    for (command, last, status, line) in [
+        ("why 14", "", CheckStatus::Done, "full 12 13\n"),
+        ("why 13", "", CheckStatus::Done, "plain\n"),
+        ("why 15", "", CheckStatus::NoEntry, ""),
+        ("why 18446744073709551616", "", CheckStatus::NoEntry, ""),
+        ("why 0", CONNECT, CheckStatus::BadText(44), ""),
+    ] {
+        let (found, written) = checked(rt.alloc(), command, &[THREE, last], 100, &[], &[])?;
+        assert_eq!(rt;
+            (found, written.as_slice()),
+            (status, line.as_bytes()),
+            "{command}"
+        );
+    }
+    Ok(())
+}
+
 #[test]
 fn faults_are_told(rt: HostRuntime) -> Result<(), Fail> {
     let parts = [CONNECT, OPENED];
-    let (status, written) = checked(rt.alloc(), &parts, 10, &[3], &[])?;
+    let (status, written) = checked(rt.alloc(), "check", &parts, 10, &[3], &[])?;
     assert_eq!(rt; (status, written.len()), (CheckStatus::ReadFault, 0));
-    let (status, written) = checked(rt.alloc(), &parts, 10, &[], &[1])?;
+    let (status, written) = checked(rt.alloc(), "check", &parts, 10, &[], &[1])?;
     assert_eq!(rt; (status, written.len()), (CheckStatus::WriteFault, 0));
     Ok(())
 }
 
 /// How a command ends and what it prints, of words with a space between them, where every read would fail.
 fn told(alloc: Global, words: &str) -> Result<(CheckStatus, Vec<u8>), AllocError> {
-    let mut list = Vec::new(alloc);
-    for word in words.split(' ') {
-        list.push(word.as_bytes().to_vec(alloc)?)?;
-    }
+    let list = words_of(alloc, words)?;
     let mut source = MemorySource::new(Vec::new(alloc), 1, [1].to_vec(alloc)?);
     let mut sink = MemorySink::new(alloc, 65536, Vec::new(alloc));
     let status = run_check(alloc, list.as_slice(), &mut source, &mut sink);
@@ -155,7 +228,15 @@ fn words_are_commands_or_usage(rt: HostRuntime) -> Result<(), Fail> {
         let (status, written) = told(rt.alloc(), words)?;
         assert_eq!(rt; (status, written.as_slice()), (CheckStatus::Done, text));
     }
-    for words in ["", "Check", "check check", "--help check", "why"] {
+    for words in [
+        "",
+        "Check",
+        "check check",
+        "--help check",
+        "why",
+        "why 01",
+        "why 1 2",
+    ] {
         let (status, written) = told(rt.alloc(), words)?;
         assert_eq!(rt; (status, written.len()), (CheckStatus::Usage, 0), "{words}");
     }

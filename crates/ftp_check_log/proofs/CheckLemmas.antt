@@ -1,7 +1,7 @@
 -- A check of a printed log, line by line.
 use Rattle.std.proofs.Common.{◌≡◌, ℕ, zero, suc, ◌+◌, ◌-◌, ◌<◌, ◌≤◌, true, List, [], ◌∷◌, ◌++◌, length, take, drop, map, reverse, Option, Some, None, refl, sym, ap, subst, ◌∙◌, append_assoc, arith}
 use Rattle.std.specs.List.{flat_map}
-use Rattle.std.specs.Prelude.{slice_get, Result, IfOk}
+use Rattle.std.specs.Prelude.{slice_get, Result, Ok, Err, IfOk}
 use Rattle.std.proofs.lemmas.Grind.{flat_map-append}
 use Rattle.std.proofs.lemmas.List.{append-nil, length-drop, map-append, reverse-append, take_all, take-append-drop}
 use Rattle.ftp_options.specs.Builder.{settings_of}
@@ -11,6 +11,7 @@ use Rattle.ftp_events.specs.declared.entry.Entry.{Entry}
 use Rattle.ftp_events.specs.declared.event.Answer.{Answer}
 use Rattle.ftp_events.specs.declared.event.Answer.TheVariants as answer
 use Rattle.ftp_events.specs.declared.event.HubEvent.{HubEvent}
+use Rattle.ftp_events.specs.Log.{LogState}
 use Rattle.ftp_hub.specs.declared.hub.Hub.{Hub}
 use Rattle.ftp_hub.specs.Stands.{Stands, SameAnswers, options_of, count_of}
 use Rattle.ftp_hub.proofs.Refusals.{stands-same}
@@ -96,14 +97,20 @@ take-one (x ∷ xs) (suc i) a e =
 
 -- ---- steps
 
+-- the log that is kept stays as it was
+kept-same : (old new : Checker) (log : List Entry) → new.keeps ≡ old.keeps → new.log ≡ old.log → (old.keeps ≡ true → old.log.entries ≡ log) → new.keeps ≡ true → new.log.entries ≡ log
+kept-same old new log keeps same kept on = ap (λ (l : LogState). l.entries) same ∙ kept (sym keeps ∙ on)
+
 -- the options make the hub anew
 pub takes-options : (old new : Checker) (i : Item) →
     settings_of (options_of new.hub) ≡ settings_in (Some i) →
     Stands new.hub [] →
     count_of new.hub ≡ 0 →
     new.due ≡ old.due →
+    new.keeps ≡ old.keeps →
+    new.log ≡ old.log →
     Takes (says.Options i) None old new
-takes-options old new i set stands count due s t lines fits e holds = at s e holds where
+takes-options old new i set stands count due keeps log s t lines fits e holds = at s e holds where
   at : (s : Stage) → stage_after s (says.Options i) ≡ Some t → Holds s old lines → Holds t new (lines ++ says.Options i ∷ [])
   at stage.Start e holds =
       subst (λ (u : Stage). Holds u new (lines ++ says.Options i ∷ [])) (some_is stage.Opened t e)
@@ -114,6 +121,7 @@ takes-options old new i set stands count due s t lines fits e holds = at s e hol
         stands = stands;
         count = count;
         shape = (refl, due ∙ holds.shape.2, ap (λ (l : List LogLine). l ++ says.Options i ∷ []) holds.shape.3);
+        kept = λ on. kept-same old new holds.log keeps log holds.kept on ∙ holds.shape.1;
       })
   at stage.Opened e holds = absurd cc
   at stage.Happened e holds = absurd cc
@@ -140,8 +148,10 @@ pub takes-event : (old new : Checker) (d : HubEvent) →
     new.event ≡ Some d →
     new.answer ≡ answer.None →
     new.due ≡ [] →
+    new.keeps ≡ old.keeps →
+    new.log ≡ old.log →
     Takes (says.Event d) None old new
-takes-event old new d came hub event none due s t lines fits e holds = at s e holds where
+takes-event old new d came hub event none due keeps log s t lines fits e holds = at s e holds where
   opens : (s : Stage) → is_whole s ≡ true → Holds s old lines → Holds stage.Happened new (lines ++ says.Event d ∷ [])
   opens s whole holds = record {
     line = holds.line;
@@ -156,6 +166,7 @@ takes-event old new d came hub event none due s t lines fits e holds = at s e ho
       due,
       ap (λ (l : List LogLine). l ++ says.Event d ∷ []) (whole-lines s holds.line holds.log old lines whole came holds.shape),
     );
+    kept = kept-same old new holds.log keeps log holds.kept;
   }
 
   at : (s : Stage) → stage_after s (says.Event d) ≡ Some t → Holds s old lines → Holds t new (lines ++ says.Event d ∷ [])
@@ -171,8 +182,10 @@ pub takes-answer : (old new : Checker) (a : Answer) →
     new.event ≡ old.event →
     new.answer ≡ a →
     new.due ≡ old.due →
+    new.keeps ≡ old.keeps →
+    new.log ≡ old.log →
     Takes (says.Answer a) None old new
-takes-answer old new a hub event same due s t lines fits e holds = at s e holds where
+takes-answer old new a hub event same due keeps log s t lines fits e holds = at s e holds where
   at : (s : Stage) → stage_after s (says.Answer a) ≡ Some t → Holds s old lines → Holds t new (lines ++ says.Answer a ∷ [])
   at stage.Start e holds = absurd cc
   at stage.Opened e holds = absurd cc
@@ -194,6 +207,7 @@ takes-answer old new a hub event same due s t lines fits e holds = at s e holds 
               ∙ append_assoc lines_are (says.Event holds.shape.0 ∷ []) (says.Answer a ∷ [])
               ∙ ap (λ (x : Answer). lines_are ++ says.Event holds.shape.0 ∷ says.Answer x ∷ []) (sym same),
         );
+        kept = kept-same old new holds.log keeps log holds.kept;
       })
   at stage.Answered e holds = absurd cc
   at stage.Decided e holds = absurd cc
@@ -238,8 +252,10 @@ pub takes-decision : (old new : Checker) (x : Decision) (d : HubEvent) (en : Ent
     ((log : List Entry) → Stands old.hub log → Stands new.hub (en ∷ log)) →
     new.due ≡ en.actions →
     new.came ≡ 0 →
+    new.keeps ≡ old.keeps →
+    (old.keeps ≡ true → new.log.entries ≡ en ∷ old.log.entries) →
     Takes (says.Decision x) None old new
-takes-decision old new x d en event of answered decided options count stands due came s t lines fits e holds =
+takes-decision old new x d en event of answered decided options count stands due came keeps added s t lines fits e holds =
     let at = undecided s old lines d event t x e holds in
     let start : List LogLine = lines_of holds.line (reverse holds.log) in
     subst (λ (u : Stage). Holds u new (lines ++ says.Decision x ∷ [])) (sym (decided-stage s t x e))
@@ -260,6 +276,7 @@ takes-decision old new x d en event of answered decided options count stands due
             ∙ (λ i. start ++ (head-is en d old.answer of answered i ++ says.Decision (sym decided i) ∷ []))
             ∙ ap (λ (n : ℕ). so_far holds.line holds.log en (take n new.due)) (sym came),
       );
+      kept = λ on. let was = sym keeps ∙ on in added was ∙ ap (λ (l : List Entry). en ∷ l) (holds.kept was);
     })
 
 -- a hub that answers as before
@@ -271,6 +288,7 @@ holds-same s c hub lines same holds = record {
   stands = stands-same c.hub hub holds.log same holds.stands;
   count = same.head.count ∙ holds.count;
   shape = holds.shape;
+  kept = holds.kept;
 }
 
 takes-same : (x : LogLine) (ended : Option Verdict) (c new : Checker) (hub : Hub) → SameAnswers c.hub hub → Takes x ended (record c { hub = hub }) new → Takes x ended c new
@@ -278,9 +296,15 @@ takes-same x None c new hub same takes = λ s t lines fits e holds. takes s t li
 takes-same x (Some v) c new hub same takes = λ s t lines rest fits e holds. takes s t lines rest fits e (holds-same s c hub lines same holds)
 
 -- an event was decided by a hub that was made ready for it
-pub takes-ready : (x : LogLine) (ended : Option Verdict) (c new : Checker) (hub : Hub) (d : HubEvent) → SameAnswers c.hub hub → Takes x ended (record c { hub = hub; event = Some d }) new →
+takes-ready : (x : LogLine) (ended : Option Verdict) (c new : Checker) (hub : Hub) (d : HubEvent) → SameAnswers c.hub hub → Takes x ended (record c { hub = hub; event = Some d }) new →
     Takes x ended (record c { event = Some d }) new
 takes-ready x ended c new hub d same takes = takes-same x ended (record c { event = Some d }) new hub same takes
+
+pub takes-made_ready : {E : Type 0} (r : Result (Option Verdict) E) (x : LogLine) (c new : Checker) (hub : Hub) (d : HubEvent) → SameAnswers c.hub hub →
+    IfOk r (λ ended. Takes x ended (record c { hub = hub; event = Some d }) new) →
+    IfOk r (λ ended. Takes x ended (record c { event = Some d }) new)
+takes-made_ready (Ok ended) x c new hub d same takes = takes-ready x ended c new hub d same takes
+takes-made_ready (Err e) x c new hub d same takes = tt
 
 -- the event was taken out
 pub takes-again : {E : Type 0} (r : Result (Option Verdict) E) (x : LogLine) (c new : Checker) (d : HubEvent) → c.event ≡ Some d → IfOk r (λ ended. Takes x ended (record c { event = Some d }) new) →
@@ -335,8 +359,10 @@ pub takes-action : (old new : Checker) (a : Action) →
     new.hub ≡ old.hub →
     new.due ≡ old.due →
     new.came ≡ old.came + 1 →
+    new.keeps ≡ old.keeps →
+    new.log ≡ old.log →
     Takes (says.Action a) None old new
-takes-action old new a found hub due came s t lines fits e holds = at s e holds where
+takes-action old new a found hub due came keeps log s t lines fits e holds = at s e holds where
   at : (s : Stage) → stage_after s (says.Action a) ≡ Some t → Holds s old lines → Holds t new (lines ++ says.Action a ∷ [])
   at stage.Start e holds = absurd cc
   at stage.Opened e holds = absurd cc
@@ -364,6 +390,7 @@ takes-action old new a found hub due came s t lines fits e holds = at s e holds 
               ∙ ap (λ (l : List Action). so_far holds.line older last l) (sym one.0)
               ∙ (λ i. so_far holds.line older last (take (sym came i) (sym due i))),
         );
+        kept = kept-same old new holds.log keeps log holds.kept;
       })
 
 -- where the last entry has other actions

@@ -7,6 +7,7 @@ use Rattle.ftp_options.specs.Builder.{settings_of}
 use Rattle.ftp_events.specs.declared.action.Action.{Action}
 use Rattle.ftp_events.specs.declared.entry.Entry.{Entry}
 use Rattle.ftp_events.specs.declared.event.Answer.TheVariants as answer
+use Rattle.ftp_events.specs.Right.{IsRight}
 use Rattle.ftp_hub.specs.Stands.{Stands, options_of, count_of}
 use Rattle.ftp_text.proofs.Exact.{some_is}
 use Rattle.ftp_log_text.specs.declared.line.LogLine.{LogLine}
@@ -22,7 +23,7 @@ use Rattle.ftp_check_log.specs.declared.checker.Checker.{Checker}
 use Rattle.ftp_check_log.specs.declared.verdict.Verdict.{Verdict}
 use Rattle.ftp_check_log.specs.declared.verdict.Verdict.TheVariants as verdict
 use Rattle.ftp_check_log.specs.Verdicts.{settings_in, AreLinesOf, HasOtherActions, AreDue, TellsOfLines, TellsOfText}
-use Rattle.ftp_check_log.specs.Checks.{Holds, Checks, Takes}
+use Rattle.ftp_check_log.specs.Checks.{Holds, Checks, Takes, TellsBy, KeepsRight}
 use Rattle.ftp_check_log.proofs.CheckLemmas.{so_far, so_far-all, so_far-more, answers-some, due-of, whole-lines, astray, some-missing}
 
 -- ---- the whole text
@@ -36,6 +37,7 @@ holds-place s c lines place holds = record {
   stands = holds.stands;
   count = holds.count;
   shape = holds.shape;
+  kept = holds.kept;
 }
 
 no-room : (c : Checker) → c.due ≡ [] → length c.due ≤ c.came
@@ -119,6 +121,33 @@ told-of (verdict.Decided n due) lines all rest place read tells = (lines, rest, 
 told-of (verdict.Acted n) lines all rest place read tells = (lines, rest, read-lines lines all rest place read, tells)
 told-of (verdict.BadText k) lines all rest place read tells = (lines, rest, read-lines lines all rest place read, tells)
 
+-- and so by the checker that comes to it
+pub told-by : (v : Verdict) (c : Checker) (lines : List LogLine) (all rest : List ℕ) (place : Place) → HasRead lines all rest place → TellsOfLines v lines rest → TellsBy v c all
+told-by (verdict.Right n) c lines all rest place read tells = absurd tells
+told-by (verdict.Decided n due) c lines all rest place read tells = told-of (verdict.Decided n due) lines all rest place read tells
+told-by (verdict.Acted n) c lines all rest place read tells = told-of (verdict.Acted n) lines all rest place read tells
+told-by (verdict.BadText k) c lines all rest place read tells = told-of (verdict.BadText k) lines all rest place read tells
+
+-- what a checker comes to is so of the text
+pub told-text : (v : Verdict) (c : Checker) (bytes : List ℕ) → TellsBy v c bytes → TellsOfText v bytes
+told-text (verdict.Right n) c bytes so = record {
+  line = so.line;
+  log = so.log;
+  due = record { options = options_of c.hub; set = so.set; right = so.right; acted = so.acted };
+  print = so.print;
+  count = so.count;
+}
+told-text (verdict.Decided n due) c bytes so = so
+told-text (verdict.Acted n) c bytes so = so
+told-text (verdict.BadText k) c bytes so = so
+
+-- the log that was kept is right
+pub told-kept : (v : Verdict) (c : Checker) (bytes : List ℕ) → TellsBy v c bytes → KeepsRight v c
+told-kept (verdict.Right n) c bytes so = λ on. subst (λ (l : List Entry). IsRight (options_of c.hub) l) (sym (so.kept on)) so.right
+told-kept (verdict.Decided n due) c bytes so = tt
+told-kept (verdict.Acted n) c bytes so = tt
+told-kept (verdict.BadText k) c bytes so = tt
+
 pub bad-told : (c : Checker) (lines : List LogLine) (all rest : List ℕ) (k : ℕ) → Checks c lines all rest → IsFirstBad k lines rest → TellsOfText (verdict.BadText k) all
 bad-told c lines all rest k checks bad =
     told-of (verdict.BadText k) lines all rest c.place checks.read (record { bad = bad; due = holds-due c.place.stage c lines checks.holds })
@@ -141,7 +170,7 @@ whole-stage true never log = refl
 whole-stage false never log = absurd (never refl log)
 
 -- the text ends where none is missing
-pub right-told : (c : Checker) (lines : List LogLine) (all : List ℕ) → IsLog lines → length c.due ≤ c.came → Checks c lines all [] → TellsOfText (verdict.Right (count_of c.hub)) all
+pub right-told : (c : Checker) (lines : List LogLine) (all : List ℕ) → IsLog lines → length c.due ≤ c.came → Checks c lines all [] → TellsBy (verdict.Right (count_of c.hub)) c all
 right-told c lines all log came checks =
     let h = checks.holds in
     let whole : is_whole c.place.stage ≡ true = whole-stage (is_whole c.place.stage) (unfinished c.place.stage lines checks.read.reached) log in
@@ -150,13 +179,16 @@ right-told c lines all log came checks =
     record {
       line = h.line;
       log = h.log;
-      due = due-of h.line c.hub h.log h.set h.stands;
+      set = h.set;
+      right = h.stands.right;
+      acted = h.stands.acted;
       print = record {
         spelled = sym text ∙ ap text_of same ∙ lines-text h.line (reverse h.log);
         fits = subst (AllByRecursion IsLogLine) same checks.read.reached.fits;
         small = omega (arith, ap length text, checks.read.taken, checks.read.small);
       };
       count = h.count;
+      kept = h.kept;
     }
 
 -- ---- the loop
@@ -167,11 +199,12 @@ pub start-checks : (c : Checker) (all : List ℕ) →
     Stands c.hub [] →
     count_of c.hub ≡ 0 →
     c.due ≡ [] →
+    c.log.entries ≡ [] →
     Checks c [] all all
-start-checks c all read set stands count due = record {
+start-checks c all read set stands count due none = record {
   read = read;
   holds = subst (λ (s : Stage). Holds s c []) (some_is stage.Start c.place.stage read.reached.stands)
-      (record { line = None; log = []; set = set; stands = stands; count = count; shape = (refl, refl, due, refl) });
+      (record { line = None; log = []; set = set; stands = stands; count = count; shape = (refl, refl, due, refl); kept = λ on. none });
 }
 
 -- a line was read

@@ -11,3 +11,4 @@ pub mod RightLemmas
 pub mod Results
 pub mod PendingLemmas
 pub mod SourceLemmas
+pub mod ExplanationLemmas

@@ -346,7 +346,8 @@ bad-halting k v before lines rest behind bytes p bad q h = elim (cases_lt (lengt
 
 -- ---- the one verdict
 
-one-verdict : (v w : Verdict) (bytes : List ℕ) → TellsOfText v bytes → TellsOfText w bytes → w ≡ v
+-- a text has no two verdicts
+pub one-verdict : (v w : Verdict) (bytes : List ℕ) → TellsOfText v bytes → TellsOfText w bytes → w ≡ v
 one-verdict (verdict.Right n) w bytes p q = right-only w n bytes p q
 one-verdict (verdict.Decided n d) (verdict.Right m) bytes p q = sym (right-only (verdict.Decided n d) m bytes q p)
 one-verdict (verdict.Decided n d) (verdict.Decided m e) bytes p q =

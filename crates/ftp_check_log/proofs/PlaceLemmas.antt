@@ -1,6 +1,6 @@
 -- How what is held changes from place to place of a log.
 use Rattle.std.proofs.Common.{◌≡◌, refl, sym, ◌∙◌, ap, ℕ, zero, suc, ◌+◌, ◌-◌, ◌<◌, ◌≤◌, Bool, true, false, true≢false, not, ◌&&◌, ◌||◌, cond, List, [], ◌∷◌, ◌++◌, length, take, reverse, Option, Some, None, arith, get_or}
-use Rattle.std.specs.Prelude.{◌⊎◌, slice_get}
+use Rattle.std.specs.Prelude.{slice_get}
 use Rattle.std.specs.Option.{option_map, option_map_or}
 use Rattle.std.proofs.Math.Logic.{⊎_elim}
 use Rattle.std.proofs.Math.Seq.{take-suc}

@@ -20,16 +20,16 @@ use Rattle.ftp_check_log.specs.declared.checker.Checker.{Checker}
 use Rattle.ftp_check_log.specs.declared.verdict.Verdict.{Verdict}
 use Rattle.ftp_check_log.specs.declared.verdict.Verdict.TheVariants as verdict
 use Rattle.ftp_check_log.specs.Verdicts.{IsRightText, TellsOfText, IsOnlyVerdict}
-use Rattle.ftp_check_log.specs.Checks.{Checks, Takes}
+use Rattle.ftp_check_log.specs.Checks.{Checks, Takes, TellsBy, KeepsRight}
 use Rattle.ftp_check_log.specs.Pending.{HasFeed, ShowsLine}
 use Rattle.ftp_check_log.specs.ReadsOn.{ReadsOn}
-use Rattle.ftp_check_log.proofs.EndLemmas.{IsReadAs, bad-told, holds-place, next-checks, told-of}
+use Rattle.ftp_check_log.proofs.EndLemmas.{IsReadAs, bad-told, holds-place, next-checks, told-by, told-text, told-kept}
 use Rattle.ftp_check_log.proofs.OneLemmas.{only-answered}
 use Rattle.ftp_check_log.proofs.OnlyLemmas.{right-answered}
 
--- what is said of all bytes of a source by a verdict
-abbrev pub SaidOf : Option (List ℕ) → Verdict → Type 0
-SaidOf all v = IfSome all (λ bytes. TellsOfText v bytes)
+-- what is said of all bytes of a source by a verdict to which this checker came
+abbrev pub SaidOf : Checker → Option (List ℕ) → Verdict → Type 0
+SaidOf c all v = IfSome all (λ bytes. TellsBy v c bytes)
 
 -- ---- another rest behind the same lines
 
@@ -113,14 +113,14 @@ goes-on (Some v) old new place held behind rest x read takes same rest_is = tt
 ended-reads : (all left : Option (List ℕ)) (old new : Checker) (place : Place) (held behind : List ℕ) (x : LogLine) (v : Verdict) (r : ReadsOn all old held left) →
     IsReadAs r.lines (text_of r.lines ++ held) held behind x place →
     Takes x (Some v) (record old { place = place }) new →
-    SaidOf all v
+    SaidOf new all v
 ended-reads None left old new place held behind x v r read takes = tt
 ended-reads (Some bytes) None old new place held behind x v r read takes = absurd r.rest
 ended-reads (Some bytes) (Some l) old new place held behind x v r read takes =
     let lines = r.lines in
     let whole : text_of (lines ++ x ∷ []) ++ (behind ++ l) ≡ bytes =
     sym (append_assoc (text_of (lines ++ x ∷ [])) behind l) ∙ ap (λ (t : List ℕ). t ++ l) read.1.all_is ∙ r.rest in
-    told-of v (lines ++ x ∷ []) bytes (behind ++ l) place
+    told-by v new (lines ++ x ∷ []) bytes (behind ++ l) place
     (record { lines = read.1.lines; taken = read.1.taken; small = read.1.small; reached = read.1.reached; all_is = whole })
     (takes old.place.stage place.stage lines (behind ++ l) (comes-fits lines held x read.0) (stage-between old.place.stage place.stage lines x r.checks.read.reached read.1.reached)
     (holds-place old.place.stage old lines place r.checks.holds))
@@ -128,7 +128,7 @@ ended-reads (Some bytes) (Some l) old new place held behind x v r read takes =
 pub comes-to : (ended : Option Verdict) (old new : Checker) (place : Place) (held behind : List ℕ) (x : LogLine) →
     IsTaken held behind x old.place place →
     Takes x ended (record old { place = place }) new →
-    IfSome ended (λ v. (all left : Option (List ℕ)) → ReadsOn all old held left → ShowsLine held left → SaidOf all v)
+    IfSome ended (λ v. (all left : Option (List ℕ)) → ReadsOn all old held left → ShowsLine held left → SaidOf new all v)
 comes-to None old new place held behind x read takes = tt
 comes-to (Some v) old new place held behind x read takes = λ all left r shows.
     ended-reads all left old new place held behind x v r (read r.lines (text_of r.lines ++ held) r.checks.read) takes
@@ -155,8 +155,8 @@ if_none (Some v) P p = tt
 
 -- ---- the end
 
-pub end-reads : (c : Checker) (v : Verdict) → ((lines : List LogLine) (whole : List ℕ) → Checks c lines whole [] → TellsOfText v whole) →
-    (held : List ℕ) → held ≡ [] → (all left : Option (List ℕ)) → ReadsOn all c held left → ShowsLine held left → SaidOf all v
+pub end-reads : (c : Checker) (v : Verdict) → ((lines : List LogLine) (whole : List ℕ) → Checks c lines whole [] → TellsBy v c whole) →
+    (held : List ℕ) → held ≡ [] → (all left : Option (List ℕ)) → ReadsOn all c held left → ShowsLine held left → SaidOf c all v
 end-reads c v ended held nil None left r shows = tt
 end-reads c v ended held nil (Some bytes) None r shows = absurd r.rest
 end-reads c v ended held nil (Some bytes) (Some l) r (inl feed) =
@@ -209,7 +209,7 @@ bad-shown k lines held l shows some bad = record {
 pub bad-reads : (c : Checker) (held : List ℕ) (k : ℕ) →
     0 < length held →
     ((before : List LogLine) (all : List ℕ) → HasRead before all held c.place → IsFirstBad k before held) →
-    (all left : Option (List ℕ)) → ReadsOn all c held left → ShowsLine held left → SaidOf all (verdict.BadText k)
+    (all left : Option (List ℕ)) → ReadsOn all c held left → ShowsLine held left → SaidOf c all (verdict.BadText k)
 bad-reads c held k some bad None left r shows = tt
 bad-reads c held k some bad (Some bytes) None r shows = absurd r.rest
 bad-reads c held k some bad (Some bytes) (Some l) r shows =
@@ -220,15 +220,24 @@ bad-reads c held k some bad (Some bytes) (Some l) r shows =
 -- ---- what is read on
 
 -- a source that tells its bytes tells what is left
-pub shown-left : (all left later : Option (List ℕ)) (c : Checker) (held new : List ℕ) (v : Verdict) →
+pub shown-left : (all left later : Option (List ℕ)) (c last : Checker) (held new : List ℕ) (v : Verdict) →
     IfSome left (λ _. ShowsLine new later) →
     ReadsOn all c held left →
     ReadsOn all c new later →
-    ((every rest : Option (List ℕ)) → ReadsOn every c new rest → ShowsLine new rest → SaidOf every v) →
-    SaidOf all v
-shown-left None left later c held new v shows r now ended = tt
-shown-left (Some bytes) None later c held new v shows r now ended = absurd r.rest
-shown-left (Some bytes) (Some l) later c held new v shows r now ended = ended (Some bytes) later now shows
+    ((every rest : Option (List ℕ)) → ReadsOn every c new rest → ShowsLine new rest → SaidOf last every v) →
+    SaidOf last all v
+shown-left None left later c last held new v shows r now ended = tt
+shown-left (Some bytes) None later c last held new v shows r now ended = absurd r.rest
+shown-left (Some bytes) (Some l) later c last held new v shows r now ended = ended (Some bytes) later now shows
+
+-- where a check comes to right, the log that it kept is right, whatever the source tells
+pub kept-said : (all left : Option (List ℕ)) (c last : Checker) (held : List ℕ) (v : Verdict) →
+    ReadsOn all c held left →
+    ((every rest : Option (List ℕ)) → ReadsOn every c held rest → ShowsLine held rest → SaidOf last every v) →
+    KeepsRight v last
+kept-said all left c last held v r ended =
+    let read : ReadsOn (Some (text_of r.lines ++ held)) c held (Some []) = record { lines = r.lines; checks = r.checks; rest = append-nil (text_of r.lines ++ held) } in
+    told-kept v last (text_of r.lines ++ held) (ended (Some (text_of r.lines ++ held)) (Some []) read (inr (inl refl)))
 
 -- where a check goes on
 pub going-then : {E A B : Type 0} (r : Result (Option Verdict) E) → IfOk r (λ ended. IfNone ended A) → (A → B) → IfOk r (λ ended. IfNone ended B)
@@ -244,12 +253,18 @@ ending-then (Err e) p f = tt
 
 -- ---- the verdict
 
-pub only-source : {E : Type 0} (r : Result Verdict E) (all : Option (List ℕ)) → IfOk r (λ v. SaidOf all v) → IfOk r (λ v. IfSome all (λ bytes. IsOnlyVerdict v bytes))
-only-source (Ok v) None told = tt
-only-source {E} (Ok v) (Some bytes) told = only-answered {E = E} (Ok v) bytes told
-only-source (Err e) all told = tt
+-- what a checker came to is so of the bytes
+pub text-source : {E : Type 0} (r : Result Verdict E) (c : Checker) (all : Option (List ℕ)) → IfOk r (λ v. SaidOf c all v) → IfOk r (λ v. IfSome all (λ bytes. TellsOfText v bytes))
+text-source (Ok v) c None told = tt
+text-source (Ok v) c (Some bytes) told = told-text v c bytes told
+text-source (Err e) c all told = tt
 
-pub right-source : {E : Type 0} (r : Result Verdict E) (all : Option (List ℕ)) → IfOk r (λ v. SaidOf all v) →
+pub only-source : {E : Type 0} (r : Result Verdict E) (c : Checker) (all : Option (List ℕ)) → IfOk r (λ v. SaidOf c all v) → IfOk r (λ v. IfSome all (λ bytes. IsOnlyVerdict v bytes))
+only-source (Ok v) c None told = tt
+only-source {E} (Ok v) c (Some bytes) told = only-answered {E = E} (Ok v) bytes (told-text v c bytes told)
+only-source (Err e) c all told = tt
+
+pub right-source : {E : Type 0} (r : Result Verdict E) (c : Checker) (all : Option (List ℕ)) → IfOk r (λ v. SaidOf c all v) →
     IfSome all (λ bytes. (n : ℕ) → IsRightText n bytes → IfOk r (λ v. v ≡ verdict.Right n))
-right-source r None told = tt
-right-source r (Some bytes) told = λ n right. right-answered r bytes n told right
+right-source r c None told = tt
+right-source r c (Some bytes) told = λ n right. right-answered r bytes n (text-source r c (Some bytes) told) right

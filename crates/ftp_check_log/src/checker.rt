@@ -1,24 +1,23 @@
 //! The check of a printed log, line by line.
 
-ghost use Rattle.std.specs.Prelude.{◌≡◌, ◌↔◌, ◌+◌, ◌-◌, ℕ, List, [], Some, None, IsTrue, slice_get, IfOk, MatchOption};
+ghost use Rattle.std.specs.Prelude.{◌≡◌, ◌↔◌, ◌+◌, ◌-◌, ◌∷◌, ℕ, List, [], Some, None, true, IsTrue, slice_get, IfOk, OnOk, MatchOption};
 ghost use Rattle.std.specs.Option.{option_copied};
 ghost use Rattle.ftp_hub.specs.Stands.{Fits, count_of};
 ghost use Rattle.ftp_log_text.specs.declared.line.LogLine.{LogLine};
 ghost use Rattle.ftp_log_text.specs.declared.line.LogLine.TheVariants as says;
 ghost use Rattle.ftp_log_text.specs.LogLines.{IsLogLine};
 ghost use Rattle.ftp_log_text.specs.Place.{IsLawful};
-ghost use Rattle.ftp_check_log.specs.Verdicts.{TellsOfText};
-ghost use Rattle.ftp_check_log.specs.Checks.{Checks, Takes};
+ghost use Rattle.ftp_check_log.specs.Checks.{Checks, Takes, TellsBy};
 
 use crate::options::{default_options, options_in};
 use crate::verdict::Verdict;
 use ftp_event_text::Item;
-use ftp_events::{Action, Actions, Answer, Decision, HubEvent};
+use ftp_events::{Action, Actions, Answer, Decision, Entry, HubEvent, Log};
 use ftp_hub::{Hub, Room};
 use ftp_log_text::{LogLine, Place};
 use std::alloc::{AllocError, Global};
 
-/// How far a log is checked. Of the entries only the actions of the last one are kept.
+/// How far a log is checked. Where entries are not kept, the actions of the last one are all that is.
 #[derive(Drop)]
 pub struct Checker {
     pub(crate) alloc: Global,
@@ -31,19 +30,24 @@ pub struct Checker {
     // The actions that are due for the last entry, of which so many came.
     pub(crate) due: Actions,
     pub(crate) came: usize,
+    // The entries that were decided, where they are kept.
+    pub(crate) keeps: bool,
+    pub(crate) log: Log,
 }
 
 impl Checker {
-    /// Nothing is checked.
-    pub fn new(alloc: Global) -> Checker
+    /// Nothing is checked. From now on entries are kept, or let go.
+    pub fn new(alloc: Global, keeps: bool) -> Checker
         ensures start { (all : List ℕ) → Checks result [] all all }
         ensures lawful { IsLawful result.place }
+        ensures keeps { result.keeps ≡ keeps }
     {
         let place = Place::new();
         let options = default_options(alloc);
         let hub = Hub::new(alloc, options);
         let none = Vec::new(alloc);
         let due = Actions::from_vec(none);
+        let log = Log::new(alloc);
         Checker {
             alloc,
             place,
@@ -52,6 +56,8 @@ impl Checker {
             answer: Answer::None,
             due,
             came: 0,
+            keeps,
+            log,
         }
     }
 
@@ -60,6 +66,7 @@ impl Checker {
         requires { IsLogLine line }
         ensures taken { IfOk result (λ ended. Takes line ended self.old self.new) }
         ensures place { self.new.place ≡ self.old.place }
+        ensures keeps { self.new.keeps ≡ self.old.keeps }
     {
         match line {
             LogLine::Options(item) => {
@@ -81,6 +88,7 @@ impl Checker {
         requires { IsLogLine (says.Options item) }
         ensures set { Takes (says.Options item) None self.old self.new }
         ensures place { self.new.place ≡ self.old.place }
+        ensures keeps { self.new.keeps ≡ self.old.keeps }
     {
         self.hub = Hub::new(self.alloc, options_in(self.alloc, item));
     }
@@ -89,6 +97,7 @@ impl Checker {
     fn happen(&mut self, event: HubEvent) -> Option<Verdict>
         ensures happened { Takes (says.Event event) result self.old self.new }
         ensures place { self.new.place ≡ self.old.place }
+        ensures keeps { self.new.keeps ≡ self.old.keeps }
     {
         if self.came < self.due.as_slice().len() {
             return Some(self.other_actions());
@@ -104,6 +113,7 @@ impl Checker {
     fn decide(&mut self, decision: Decision) -> Result<Option<Verdict>, AllocError>
         ensures decided { IfOk result (λ ended. Takes (says.Decision decision) ended self.old self.new) }
         ensures place { self.new.place ≡ self.old.place }
+        ensures keeps { self.new.keeps ≡ self.old.keeps }
     {
         match self.event.take() {
             Some(event) => self.decide_on(event, decision),
@@ -119,34 +129,43 @@ impl Checker {
     ) -> Result<Option<Verdict>, AllocError>
         ensures decided { IfOk result (λ ended. Takes (says.Decision decision) ended (record self.old { event = Some event }) self.new) }
         ensures place { self.new.place ≡ self.old.place }
+        ensures keeps { self.new.keeps ≡ self.old.keeps }
     {
         match self.hub.prepare(&event) {
-            Ok(room) => Ok(self.compare(room, event, decision)),
+            Ok(room) => self.compare(room, event, decision),
             Err(_) => Err(AllocError),
         }
     }
 
     // Decides the event in this room, and compares.
-    fn compare(&mut self, room: Room, event: HubEvent, decision: Decision) -> Option<Verdict>
+    fn compare(
+        &mut self,
+        room: Room,
+        event: HubEvent,
+        decision: Decision,
+    ) -> Result<Option<Verdict>, AllocError>
         requires { Fits room self.old.hub event }
-        ensures compared { Takes (says.Decision decision) result (record self.old { event = Some event }) self.new }
+        ensures compared { IfOk result (λ ended. Takes (says.Decision decision) ended (record self.old { event = Some event }) self.new) }
         ensures place { self.new.place ≡ self.old.place }
+        ensures keeps { self.new.keeps ≡ self.old.keeps }
     {
         let entries = self.hub.events();
         let entry = self.hub.step(room, event, self.answer);
         let due = entry.decision;
         if !is_same_decision(due, decision) {
-            return Some(Verdict::Decided { entries, due });
+            return Ok(Some(Verdict::Decided { entries, due }));
         }
+        keep(self.alloc, self.keeps, &mut self.log, &entry)?;
         self.due = entry.actions;
         self.came = 0;
-        None
+        Ok(None)
     }
 
     // An action, where it is the next one that is due.
     fn act(&mut self, action: &Action) -> Option<Verdict>
         ensures acted { Takes (says.Action action.now) result self.old self.new }
         ensures place { self.new.place ≡ self.old.place }
+        ensures keeps { self.new.keeps ≡ self.old.keeps }
     {
         match self.came_with(action) {
             Some(came) => {
@@ -193,7 +212,7 @@ impl Checker {
 
     /// What the check comes to where the text ends here.
     pub fn end(&self) -> Verdict
-        ensures { (lines : List LogLine) (all : List ℕ) → Checks self.now lines all [] → TellsOfText result all }
+        ensures { (lines : List LogLine) (all : List ℕ) → Checks self.now lines all [] → TellsBy result self.now all }
     {
         if !self.place.is_whole() {
             return Verdict::BadText {
@@ -206,6 +225,20 @@ impl Checker {
         Verdict::Right {
             entries: self.hub.events(),
         }
+    }
+}
+
+// Puts a copy of the entry to the log, where entries are kept.
+fn keep(alloc: Global, keeps: bool, log: &mut Log, entry: &Entry) -> Result<(), AllocError>
+    ensures { OnOk result (keeps ≡ true → log.new.entries ≡ entry.now ∷ log.old.entries) }
+{
+    if !keeps {
+        return Ok(());
+    }
+    let copy = entry.copy(alloc)?;
+    match log.push(copy) {
+        Ok(()) => Ok(()),
+        Err(_) => Err(AllocError),
     }
 }
 

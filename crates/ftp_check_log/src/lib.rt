@@ -1,11 +1,13 @@
 //! A check of printed logs: whether each decision and each action is the one that is due.
 //!
 //! A log is right exactly where it is the print of a right and acted log; else the first place that is not so is named.
-//! Begin with `check` and specs/Verdicts.antt; why an entry was decided as it was is in `why` and specs/Evidence.antt.
+//! Begin with `check` and specs/Verdicts.antt; why an entry was decided as it was is in `explain` and `why`, and in
+//! specs/Explanations.antt and specs/Evidence.antt.
 #![tactic(auto)]
 
 mod checker;
 mod evidence;
+mod explanation;
 mod grants;
 mod options;
 mod pending;
@@ -14,5 +16,6 @@ mod source;
 mod verdict;
 
 pub use evidence::{Evidence, WhyError, put_evidence, why};
+pub use explanation::{Explanation, explain};
 pub use source::check;
 pub use verdict::Verdict;

@@ -1,9 +1,10 @@
 //! The check of what a source gives.
 
-ghost use Rattle.std.specs.Prelude.{◌≡◌, ℕ, ◌<◌, ◌≤◌, List, Option, IfOk, IfSome, IfNone, IsErrOf};
+ghost use Rattle.std.specs.Prelude.{◌≡◌, ℕ, ◌<◌, ◌≤◌, List, [], Option, IfOk, IfSome, IfNone, IsErrOf};
 ghost use Rattle.ftp_base.specs.declared.fault.Failed.TheVariants.{Fault};
 ghost use Rattle.ftp_base.specs.Outside.{HasRisen};
 ghost use Rattle.ftp_log_text.specs.Place.{IsLawful};
+ghost use Rattle.ftp_check_log.specs.Checks.{Checks, TellsBy, KeepsRight};
 ghost use Rattle.ftp_check_log.specs.Pending.{unread, IsInBounds, ShowsLine};
 ghost use Rattle.ftp_check_log.specs.ReadsOn.{ReadsOn};
 ghost use Rattle.ftp_check_log.specs.Verdicts.{IsRightText, TellsOfText, IsOnlyVerdict};
@@ -39,18 +40,27 @@ pub fn check<S: Source>(alloc: Global, source: &mut S) -> Result<Verdict, Failed
     ensures fault_rose { IsErrOf result Fault → HasRisen (S.faults source.old) (S.faults source.new) }
     ensures count { S.faults source.old ≤ S.faults source.new }
 {
-    verdict_of(alloc, source)
+    let mut checker = Checker::new(alloc, false);
+    verdict_of(alloc, &mut checker, source)
 }
 
-fn verdict_of<S: Source>(alloc: Global, source: &mut S) -> Result<Verdict, Failed>
-    ensures tells { IfOk result (λ v. IfSome (S.left source.old) (λ bytes. TellsOfText v bytes)) }
+/// What the check of all that the source gives comes to, by a checker that has read nothing.
+pub(crate) fn verdict_of<S: Source>(
+    alloc: Global,
+    checker: &mut Checker,
+    source: &mut S,
+) -> Result<Verdict, Failed>
+    requires lawful { IsLawful checker.old.place }
+    requires start { Checks checker.old [] [] [] }
+    ensures tells { IfOk result (λ v. IfSome (S.left source.old) (λ bytes. TellsBy v checker.new bytes)) }
+    ensures kept { IfOk result (λ v. KeepsRight v checker.new) }
+    ensures keeps { checker.new.keeps ≡ checker.old.keeps }
     ensures fault_rose { IsErrOf result Fault → HasRisen (S.faults source.old) (S.faults source.new) }
     ensures count { S.faults source.old ≤ S.faults source.new }
 {
-    let mut checker = Checker::new(alloc);
     let mut pending = Pending::new(alloc);
     loop {
-        match advance(&mut checker, &mut pending, source) {
+        match advance(checker, &mut pending, source) {
             Ok(None) => {}
             Ok(Some(verdict)) => return Ok(verdict),
             Err(failed) => return Err(failed),
@@ -70,7 +80,8 @@ fn advance<S: Source>(
     ensures goes_on { IfOk result (λ ended. IfNone ended ((all : Option (List ℕ)) → ReadsOn all checker.old (unread pending.old) (S.left source.old) →
         ReadsOn all checker.new (unread pending.new) (S.left source.new))) }
     ensures ended { IfOk result (λ ended. IfSome ended (λ v. (all : Option (List ℕ)) → ReadsOn all checker.old (unread pending.old) (S.left source.old) →
-        IfSome all (λ bytes. TellsOfText v bytes))) }
+        IfSome all (λ bytes. TellsBy v checker.new bytes))) }
+    ensures kept_right { IfOk result (λ ended. IfSome ended (λ v. KeepsRight v checker.new)) }
     ensures fault_rose { IsErrOf result Fault → HasRisen (S.faults source.old) (S.faults source.new) }
     ensures count { S.faults source.old ≤ S.faults source.new }
 
@@ -78,6 +89,7 @@ fn advance<S: Source>(
     ensures lawful { IfOk result (λ ended. IfNone ended (IsLawful checker.new.place)) }
     ensures kept { IfOk result (λ ended. IfNone ended (IsInBounds pending.new)) }
     ensures moved { IfOk result (λ ended. IfNone ended (checker.old.place.taken < checker.new.place.taken)) }
+    ensures keeps { checker.new.keeps ≡ checker.old.keeps }
 {
     match pending.fill(source) {
         Ok(()) => check_line(checker, pending),
@@ -93,11 +105,12 @@ fn check_line(checker: &mut Checker, pending: &mut Pending) -> Result<Option<Ver
     ensures goes_on { IfOk result (λ ended. IfNone ended ((all left : Option (List ℕ)) → ReadsOn all checker.old (unread pending.old) left →
         ReadsOn all checker.new (unread pending.new) left)) }
     ensures ended { IfOk result (λ ended. IfSome ended (λ v. (all left : Option (List ℕ)) → ReadsOn all checker.old (unread pending.old) left →
-        ShowsLine (unread pending.old) left → IfSome all (λ bytes. TellsOfText v bytes))) }
+        ShowsLine (unread pending.old) left → IfSome all (λ bytes. TellsBy v checker.new bytes))) }
     ensures no_fault { IsErrOf result Fault → ⊥ }
     ensures lawful { IfOk result (λ ended. IfNone ended (IsLawful checker.new.place)) }
     ensures kept { IfOk result (λ ended. IfNone ended (IsInBounds pending.new)) }
     ensures moved { IfOk result (λ ended. IfNone ended (checker.old.place.taken < checker.new.place.taken)) }
+    ensures keeps { checker.new.keeps ≡ checker.old.keeps }
 {
     let alloc = checker.alloc;
     let bytes = pending.unread();

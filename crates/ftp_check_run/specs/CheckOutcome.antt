@@ -2,12 +2,17 @@
 use Rattle.std.specs.Prelude.{◌≡◌, ℕ, ◌⊎◌, List, [], Option, codes}
 use Rattle.ftp_base.specs.Outside.{Writes}
 use Rattle.ftp_lines.specs.Writing.{WritesFront}
+use Rattle.ftp_event_text.specs.Printing.{line}
+use Rattle.ftp_check_log.specs.declared.evidence.Evidence.{Evidence}
+use Rattle.ftp_check_log.specs.declared.explanation.Explanation.{Explanation}
 use Rattle.ftp_check_log.specs.declared.verdict.Verdict.{Verdict}
 use Rattle.ftp_check_log.specs.declared.verdict.Verdict.TheVariants as verdict
+use Rattle.ftp_check_log.specs.Evidence.{evidence_text}
+use Rattle.ftp_check_log.specs.Explanations.{HasEvidence, HasNoEntry, TellsWhy}
 use Rattle.ftp_check_log.specs.Verdicts.{IsRightText, TellsOfText}
 use Rattle.ftp_check_run.specs.declared.status.CheckStatus.{CheckStatus}
 use Rattle.ftp_check_run.specs.declared.status.CheckStatus.TheVariants as status
-use Rattle.ftp_check_run.specs.VerdictLines.{number_line, verdict_text}
+use Rattle.ftp_check_run.specs.VerdictLines.{number_line, verdict_text, explanation_text}
 
 -- the text is an options line or none and the print of a right and acted log, and `right` with the number of its entries was
 -- written
@@ -15,6 +20,18 @@ pub record TellsRight (bytes : List ℕ) (old new : Option (List ℕ)) : Type 0 
   pub entries : ℕ
   pub right : IsRightText entries bytes
   pub written : Writes old new (number_line (codes "right") entries)
+
+-- the text is an options line or none and the print of a right and acted log with an entry at place k, and the evidence for it was
+-- written
+pub record TellsEvidence (k : ℕ) (bytes : List ℕ) (old new : Option (List ℕ)) : Type 0 where
+  pub evidence : Evidence
+  pub so : HasEvidence k evidence bytes
+  pub written : Writes old new (line (evidence_text evidence))
+
+-- the text is an options line or none and the print of a right and acted log with no entry at place k, and nothing was written
+pub record TellsNoEntry (k : ℕ) (bytes : List ℕ) (old new : Option (List ℕ)) : Type 0 where
+  pub so : HasNoEntry k bytes
+  pub written : Writes old new []
 
 -- an entry has another decision or other actions
 abbrev pub IsOfEntry : Verdict → Type 0
@@ -46,7 +63,23 @@ CheckOutcome (status.BadText k) bytes old new = TellsBad k bytes old new
 CheckOutcome status.ReadFault bytes old new = new ≡ old
 CheckOutcome status.WriteFault bytes old new = TellsPart bytes old new
 CheckOutcome status.OutOfMemory bytes old new = TellsPart bytes old new
+CheckOutcome status.NoEntry bytes old new = ⊥
 CheckOutcome status.Usage bytes old new = ⊥
+
+-- nothing was written, or a part from the front of the line that tells the explanation of the text's entry at place k
+abbrev pub TellsWhyPart : ℕ → List ℕ → Option (List ℕ) → Option (List ℕ) → Type 0
+TellsWhyPart k bytes old new = (new ≡ old) ⊎ ((x : Explanation) × TellsWhy k x bytes × WritesFront old new (explanation_text x))
+
+-- by the status, where the entry at place k was asked for
+abbrev pub WhyOutcome : ℕ → CheckStatus → List ℕ → Option (List ℕ) → Option (List ℕ) → Type 0
+WhyOutcome k status.Done bytes old new = TellsEvidence k bytes old new
+WhyOutcome k status.Wrong bytes old new = TellsWrong bytes old new
+WhyOutcome k (status.BadText l) bytes old new = TellsBad l bytes old new
+WhyOutcome k status.ReadFault bytes old new = new ≡ old
+WhyOutcome k status.WriteFault bytes old new = TellsWhyPart k bytes old new
+WhyOutcome k status.OutOfMemory bytes old new = TellsWhyPart k bytes old new
+WhyOutcome k status.NoEntry bytes old new = TellsNoEntry k bytes old new
+WhyOutcome k status.Usage bytes old new = ⊥
 
 -- where a text is told, all of it was written, or a part from the front where the sink failed or memory ran out
 abbrev pub TellsText : CheckStatus → List ℕ → Option (List ℕ) → Option (List ℕ) → Type 0

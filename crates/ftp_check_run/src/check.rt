@@ -5,37 +5,40 @@ ghost use Rattle.ftp_base.specs.Outside.{HasRisen};
 ghost use Rattle.ftp_check_log.specs.declared.verdict.Verdict.{Verdict};
 ghost use Rattle.ftp_check_log.specs.Verdicts.{TellsOfText};
 ghost use Rattle.ftp_check_run.specs.declared.command.CheckCommand.{CheckCommand};
-ghost use Rattle.ftp_check_run.specs.declared.command.CheckCommand.TheVariants.{Check};
+ghost use Rattle.ftp_check_run.specs.declared.command.CheckCommand.TheVariants.{Check, Why};
 ghost use Rattle.ftp_check_run.specs.CheckCommands.{AsksFor, text_told};
-ghost use Rattle.ftp_check_run.specs.CheckStatuses.{verdict_status};
-ghost use Rattle.ftp_check_run.specs.CheckOutcome.{TellsRight, TellsWrong, TellsBad, TellsPart, CheckOutcome, TellsText};
+ghost use Rattle.ftp_check_run.specs.CheckStatuses.{verdict_status, why_status, status_due};
+ghost use Rattle.ftp_check_run.specs.CheckOutcome.{TellsRight, TellsEvidence, TellsNoEntry, TellsWrong, TellsBad, TellsPart, TellsWhyPart, CheckOutcome, WhyOutcome, TellsText};
 
 use crate::command::{CheckCommand, check_command};
 use crate::status::CheckStatus;
-use crate::telling::{CHECK_HELP, CHECK_VERSION, tell};
+use crate::telling::{CHECK_HELP, CHECK_VERSION, tell, tell_explanation};
 use ftp_base::{Failed, Sink, Source};
-use ftp_check_log::check;
+use ftp_check_log::{check, explain};
 use ftp_lines::write_all;
 use std::alloc::Global;
 
 /// Does what the words ask for: checks the printed log that the source gives, entry by entry, and writes what that comes
-/// to in a line; or writes the commands, or the version.
+/// to in a line, or why one of its entries was decided as it was; or writes the commands, or the version.
 ///
-/// A log has at most 67,108,864 bytes. It is read in pieces, and an entry is let go as soon as it is checked.
+/// A log has at most 67,108,864 bytes. It is read in pieces, and by `check` an entry is let go as soon as it is checked;
+/// `why` keeps them.
 ///
 /// # Proved
 ///
-/// - Done: the bytes of the source are an options line or none and the print of a right and acted log, and `right N` was
-///   written, with the number of its entries (`done`).
-/// - Wrong: so many entries are right and acted; the next has another decision, and `wrong M due NAME` was written, or
-///   the due decision and other actions, and `actions M` was (`wrong`).
-/// - A bad text: the line is the first that no printed log with the lines before it has, or with which the log is too
-///   long, all before it is due, and nothing was written (`bad_text`).
-/// - Each of these exactly where it is so: where nothing fails, the status is that of the verdict that the bytes have,
-///   unless memory runs out (`complete`).
+/// - Done, of `check`: the bytes of the source are an options line or none and the print of a right and acted log, and
+///   `right N` was written, with the number of its entries (`done`); of `why K`: they are so and the log has an entry K,
+///   and the evidence for it was written, beside which there is no other (`explained`).
+/// - No entry: `why K` was asked of a right and acted log with at most K entries, and nothing was written (`no_entry`).
+/// - Wrong, by either command: so many entries are right and acted; the next has another decision, and
+///   `wrong M due NAME` was written, or the due decision and other actions, and `actions M` was (`wrong`).
+/// - A bad text, by either command: the line is the first that no printed log with the lines before it has, or with
+///   which the log is too long, all before it is due, and nothing was written (`bad_text`).
+/// - Each of these exactly where it is so: where nothing fails, the status is the one that is due for the command by the
+///   verdict that the bytes have, unless memory runs out (`complete`).
 /// - A read fault only where the source's count rose, and nothing was written (`read_fault`, `read_idle`); a write fault
 ///   only where the sink's count rose (`write_fault`); then, or where memory ran out, at most a part of the line was
-///   written (`front`).
+///   written (`front`, `why_front`).
 /// - Usage exactly where the words are no command; nothing is read or written (`usage`, `usage_idle`).
 /// - The commands and the version: all of the text was written, or a part and a write fault or want of memory, and
 ///   nothing is read (`told`, `told_idle`).
@@ -53,18 +56,26 @@ pub fn run_check<S: Source, K: Sink>(
     ensures done { AsksFor (map (λ w. w.items) words.now) Check → result ≡ CheckStatus.Done →
         IfSome (S.left source.old) (λ bytes. TellsRight bytes (K.written sink.old) (K.written sink.new)) }
 
+    // The log is right and acted, and has the entry.
+    ensures explained { (k : ℕ) → AsksFor (map (λ w. w.items) words.now) (Why k) → result ≡ CheckStatus.Done →
+        IfSome (S.left source.old) (λ bytes. TellsEvidence k bytes (K.written sink.old) (K.written sink.new)) }
+
+    // It has none there.
+    ensures no_entry { result ≡ CheckStatus.NoEntry → (k : ℕ) × AsksFor (map (λ w. w.items) words.now) (Why k) ×
+        IfSome (S.left source.old) (λ bytes. TellsNoEntry k bytes (K.written sink.old) (K.written sink.new)) }
+
     // An entry has another decision than the due one, or other actions.
-    ensures wrong { AsksFor (map (λ w. w.items) words.now) Check → result ≡ CheckStatus.Wrong →
+    ensures wrong { result ≡ CheckStatus.Wrong →
         IfSome (S.left source.old) (λ bytes. TellsWrong bytes (K.written sink.old) (K.written sink.new)) }
 
     // The line is the first bad one.
-    ensures bad_text { AsksFor (map (λ w. w.items) words.now) Check → (k : ℕ) → result ≡ CheckStatus.BadText k →
+    ensures bad_text { (k : ℕ) → result ≡ CheckStatus.BadText k →
         IfSome (S.left source.old) (λ bytes. TellsBad k bytes (K.written sink.old) (K.written sink.new)) }
 
     // What is so of the log is answered where nothing fails, unless memory runs out.
-    ensures complete { AsksFor (map (λ w. w.items) words.now) Check → IfSome (S.left source.old) (λ bytes. (v : Verdict) → TellsOfText v bytes →
+    ensures complete { (c : CheckCommand) → AsksFor (map (λ w. w.items) words.now) c → IfSome (S.left source.old) (λ bytes. (v : Verdict) → TellsOfText v bytes →
         (HasRisen (S.faults source.old) (S.faults source.new) → ⊥) → (HasRisen (K.faults sink.old) (K.faults sink.new) → ⊥) →
-        (result ≡ verdict_status v) ⊎ (result ≡ CheckStatus.OutOfMemory)) }
+        IfSome (status_due c v) (λ due. (result ≡ due) ⊎ (result ≡ CheckStatus.OutOfMemory))) }
     ensures read_fault { result ≡ CheckStatus.ReadFault → HasRisen (S.faults source.old) (S.faults source.new) }
     ensures read_idle { result ≡ CheckStatus.ReadFault → sink.new ≡ sink.old }
 
@@ -72,6 +83,8 @@ pub fn run_check<S: Source, K: Sink>(
     ensures write_fault { result ≡ CheckStatus.WriteFault → HasRisen (K.faults sink.old) (K.faults sink.new) }
     ensures front { AsksFor (map (λ w. w.items) words.now) Check → (result ≡ CheckStatus.WriteFault) ⊎ (result ≡ CheckStatus.OutOfMemory) →
         IfSome (S.left source.old) (λ bytes. TellsPart bytes (K.written sink.old) (K.written sink.new)) }
+    ensures why_front { (k : ℕ) → AsksFor (map (λ w. w.items) words.now) (Why k) → (result ≡ CheckStatus.WriteFault) ⊎ (result ≡ CheckStatus.OutOfMemory) →
+        IfSome (S.left source.old) (λ bytes. TellsWhyPart k bytes (K.written sink.old) (K.written sink.new)) }
 
     // The commands and the version are told.
     ensures told { (c : CheckCommand) → AsksFor (map (λ w. w.items) words.now) c → IfSome (text_told c) (λ text. TellsText result text (K.written sink.old) (K.written sink.new)) }
@@ -81,6 +94,7 @@ pub fn run_check<S: Source, K: Sink>(
 {
     match check_command(words) {
         Some(CheckCommand::Check) => check_and_tell(alloc, source, sink),
+        Some(CheckCommand::Why(k)) => explain_and_tell(alloc, source, k, sink),
         Some(CheckCommand::Help) => CheckStatus::Done.after(write_all(sink, CHECK_HELP)),
         Some(CheckCommand::Version) => CheckStatus::Done.after(write_all(sink, CHECK_VERSION)),
         None => CheckStatus::Usage,
@@ -94,6 +108,7 @@ fn check_and_tell<S: Source, K: Sink>(alloc: Global, source: &mut S, sink: &mut 
         (HasRisen (S.faults source.old) (S.faults source.new) → ⊥) → (HasRisen (K.faults sink.old) (K.faults sink.new) → ⊥) →
         (result ≡ verdict_status v) ⊎ (result ≡ CheckStatus.OutOfMemory)) }
     ensures no_usage { result ≢ CheckStatus.Usage }
+    ensures no_entry { result ≢ CheckStatus.NoEntry }
     ensures read_fault { result ≡ CheckStatus.ReadFault → HasRisen (S.faults source.old) (S.faults source.new) }
     ensures read_idle { result ≡ CheckStatus.ReadFault → sink.new ≡ sink.old }
     ensures write_fault { result ≡ CheckStatus.WriteFault → HasRisen (K.faults sink.old) (K.faults sink.new) }
@@ -102,6 +117,33 @@ fn check_and_tell<S: Source, K: Sink>(alloc: Global, source: &mut S, sink: &mut 
 {
     match check(alloc, source) {
         Ok(verdict) => CheckStatus::of(verdict).after(tell(alloc, verdict, sink)),
+        Err(Failed::Fault) => CheckStatus::ReadFault,
+        Err(Failed::Memory) => CheckStatus::OutOfMemory,
+    }
+}
+
+// Checks the log, and writes the line that tells why its entry at place `k` was decided as it was.
+fn explain_and_tell<S: Source, K: Sink>(
+    alloc: Global,
+    source: &mut S,
+    k: u64,
+    sink: &mut K,
+) -> CheckStatus
+    ensures outcome { IfSome (S.left source.old) (λ bytes. WhyOutcome k result bytes (K.written sink.old) (K.written sink.new)) }
+    ensures complete { IfSome (S.left source.old) (λ bytes. (v : Verdict) → TellsOfText v bytes →
+        (HasRisen (S.faults source.old) (S.faults source.new) → ⊥) → (HasRisen (K.faults sink.old) (K.faults sink.new) → ⊥) →
+        (result ≡ why_status k v) ⊎ (result ≡ CheckStatus.OutOfMemory)) }
+    ensures no_usage { result ≢ CheckStatus.Usage }
+    ensures read_fault { result ≡ CheckStatus.ReadFault → HasRisen (S.faults source.old) (S.faults source.new) }
+    ensures read_idle { result ≡ CheckStatus.ReadFault → sink.new ≡ sink.old }
+    ensures write_fault { result ≡ CheckStatus.WriteFault → HasRisen (K.faults sink.old) (K.faults sink.new) }
+    ensures source_count { S.faults source.old ≤ S.faults source.new }
+    ensures sink_count { K.faults sink.old ≤ K.faults sink.new }
+{
+    match explain(alloc, source, k) {
+        Ok(found) => CheckStatus::of_explanation(&found).after(tell_explanation(
+            alloc, &found, sink,
+        )),
         Err(Failed::Fault) => CheckStatus::ReadFault,
         Err(Failed::Memory) => CheckStatus::OutOfMemory,
     }

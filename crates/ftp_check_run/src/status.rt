@@ -2,10 +2,10 @@
 
 ghost use Rattle.std.specs.Prelude.{◌≡◌};
 ghost use Rattle.std.specs.Process.{exit_status};
-ghost use Rattle.ftp_check_run.specs.CheckStatuses.{check_code, after_write, verdict_status};
+ghost use Rattle.ftp_check_run.specs.CheckStatuses.{check_code, after_write, verdict_status, explanation_status};
 
 use ftp_base::Failed;
-use ftp_check_log::Verdict;
+use ftp_check_log::{Explanation, Verdict};
 use std::process::ExitCode;
 
 #[derive(Clone, Copy, Debug, PartialEq, Eq)]
@@ -21,6 +21,8 @@ pub enum CheckStatus {
     /// The sink failed.
     WriteFault,
     OutOfMemory,
+    /// The log is right, and has no entry at the place that was asked for.
+    NoEntry,
     /// The words are no command.
     Usage,
 }
@@ -41,6 +43,7 @@ impl CheckStatus {
             CheckStatus::ReadFault => 3,
             CheckStatus::WriteFault => 4,
             CheckStatus::OutOfMemory => 5,
+            CheckStatus::NoEntry => 6,
             CheckStatus::Usage => 64,
         }
     }
@@ -60,6 +63,17 @@ impl CheckStatus {
             Verdict::Right { .. } => CheckStatus::Done,
             Verdict::Decided { .. } | Verdict::Acted { .. } => CheckStatus::Wrong,
             Verdict::BadText { line } => CheckStatus::BadText(line),
+        }
+    }
+
+    /// The status where an entry is explained so.
+    pub(crate) fn of_explanation(explanation: &Explanation) -> CheckStatus
+        ensures { result ≡ explanation_status explanation.now }
+    {
+        match explanation {
+            Explanation::Found(_) => CheckStatus::Done,
+            Explanation::NoEntry => CheckStatus::NoEntry,
+            Explanation::Wrong(verdict) => CheckStatus::of(*verdict),
         }
     }
 

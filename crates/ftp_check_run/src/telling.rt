@@ -4,10 +4,10 @@ ghost use Rattle.std.specs.Prelude.{◌≡◌, ◌≤◌, ◌++◌, OnOk, OnErr,
 ghost use Rattle.ftp_base.specs.declared.fault.Failed.TheVariants.{Fault};
 ghost use Rattle.ftp_base.specs.Outside.{HasRisen, Writes};
 ghost use Rattle.ftp_lines.specs.Writing.{WritesFront};
-ghost use Rattle.ftp_check_run.specs.VerdictLines.{number_line, due_line, verdict_text};
+ghost use Rattle.ftp_check_run.specs.VerdictLines.{number_line, due_line, verdict_text, explanation_text};
 
 use ftp_base::{Failed, Sink};
-use ftp_check_log::Verdict;
+use ftp_check_log::{Explanation, Verdict, put_evidence};
 use ftp_event_text::decision_text;
 use ftp_events::Decision;
 use ftp_lines::write_all;
@@ -21,6 +21,12 @@ pub const CHECK_HELP: &[u8] = b"ftp_check check
     right log of N entries; else `wrong M due NAME` for the first entry with
     another decision than the due one, or `actions M` for one with other
     actions; entries are counted from 0
+ftp_check why K
+    checks the log too, and prints why entry K of a right one was decided as it
+    was: `held G` if entry G granted the port, `free R` if entry R released it
+    last, `free -` if no entry granted it, `full` and the entries that granted
+    each port of the range, or `plain` if the decision rests on no port; of a
+    log without an entry K it prints nothing
 ftp_check --help
     prints the commands
 ftp_check --version
@@ -43,6 +49,39 @@ pub fn tell<K: Sink>(alloc: Global, verdict: Verdict, sink: &mut K) -> Result<()
     match put_verdict(&mut text, verdict) {
         Ok(()) => write_all(sink, text.as_slice()),
         Err(_) => Err(Failed::Memory),
+    }
+}
+
+/// Writes the line that tells the explanation: none where there is no entry.
+pub fn tell_explanation<K: Sink>(
+    alloc: Global,
+    explanation: &Explanation,
+    sink: &mut K,
+) -> Result<(), Failed>
+    ensures wrote { OnOk result (Writes (K.written sink.old) (K.written sink.new) (explanation_text explanation.now)) }
+    ensures fault_rose { IsErrOf result Fault → HasRisen (K.faults sink.old) (K.faults sink.new) }
+    ensures count { K.faults sink.old ≤ K.faults sink.new }
+
+    // After an error a part from the front was written.
+    ensures front { OnErr result (WritesFront (K.written sink.old) (K.written sink.new) (explanation_text explanation.now)) }
+{
+    let mut text = Vec::new(alloc);
+    match put_explanation(&mut text, explanation) {
+        Ok(()) => write_all(sink, text.as_slice()),
+        Err(_) => Err(Failed::Memory),
+    }
+}
+
+fn put_explanation(out: &mut Vec<u8>, explanation: &Explanation) -> Result<(), AllocError>
+    ensures { OnOk result (out.new.items ≡ out.old.items ++ explanation_text explanation.now) }
+{
+    match explanation {
+        Explanation::Found(evidence) => {
+            put_evidence(out, evidence)?;
+            put_byte(out, b'\n')
+        }
+        Explanation::NoEntry => Ok(()),
+        Explanation::Wrong(verdict) => put_verdict(out, *verdict),
     }
 }
 

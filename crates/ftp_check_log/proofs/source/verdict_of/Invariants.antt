@@ -1,4 +1,4 @@
-use Rattle.std.proofs.Common.{◌≤◌, ◌-◌}
+use Rattle.std.proofs.Common.{◌≡◌, ◌≤◌, ◌-◌}
 use Rattle.ftp_log_text.specs.Place.{IsLawful}
 use Rattle.ftp_check_log.specs.Pending.{unread, IsInBounds}
 use Rattle.ftp_check_log.specs.ReadsOn.{ReadsOn}
@@ -10,6 +10,7 @@ invariant-loop-verdict g l = record {
   lawful : IsLawful l.checker.place;
   kept : IsInBounds l.pending;
   reads : ReadsOn (g.S.Source.left l.initial.source) l.checker (unread l.pending) (g.S.Source.left l.source);
+  keeps : l.checker.keeps ≡ l.initial.checker.keeps;
   count : g.S.Source.faults l.initial.source ≤ g.S.Source.faults l.source;
 }
 

@@ -8,7 +8,7 @@ use Rattle.ftp_check_log.proofs.checker.Checker.act.Goals as goal
 pub returns-in-Some-clause-acted : goal.returns-in-Some-clause-acted
 returns-in-Some-clause-acted c =
     let it = c.args.self.now in
-    takes-action it (record it { came = c.in-Some.came }) c.args.action.now c.in-Some.ensures.0 refl refl c.in-Some.ensures.1
+    takes-action it (record it { came = c.in-Some.came }) c.args.action.now c.in-Some.ensures.0 refl refl c.in-Some.ensures.1 refl refl
 
 pub returns-in-None-clause-acted : goal.returns-in-None-clause-acted
 returns-in-None-clause-acted c =

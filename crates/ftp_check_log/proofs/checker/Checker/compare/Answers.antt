@@ -14,7 +14,7 @@ returns-then-not-is_same_decision-clause-compared c =
 pub returns-clause-compared : goal.returns-clause-compared
 returns-clause-compared c =
     let it = c.args.self.now in
-    takes-decision (record it { event = Some c.args.event }) (record it { hub = c.step-entry.new.self; due = c.step-entry.result.actions; came = 0 }) c.args.decision c.args.event c.step-entry.result refl c.step-entry.ensures.event
+    takes-decision (record it { event = Some c.args.event }) (record it { hub = c.step-entry.new.self; log = c.keep.new.log; due = c.step-entry.result.actions; came = 0 }) c.args.decision c.args.event c.step-entry.result refl c.step-entry.ensures.event
     c.step-entry.ensures.answer
     (c.is_same_decision.ensures.0 c.if-not-is_same_decision.false)
-    c.step-entry.ensures.options c.step-entry.ensures.count c.step-entry.ensures.stands refl refl
+    c.step-entry.ensures.options c.step-entry.ensures.count c.step-entry.ensures.stands refl refl refl c.in_ok-keep.ensures

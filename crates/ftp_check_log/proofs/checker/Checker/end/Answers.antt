@@ -1,7 +1,7 @@
 use Rattle.std.proofs.Common.{ℕ, [], sym, subst, arith}
 use Rattle.ftp_check_log.specs.declared.verdict.Verdict.{Verdict}
 use Rattle.ftp_check_log.specs.declared.verdict.Verdict.TheVariants as verdict
-use Rattle.ftp_check_log.specs.Verdicts.{TellsOfText}
+use Rattle.ftp_check_log.specs.Checks.{TellsBy}
 use Rattle.ftp_check_log.proofs.EndLemmas.{bad-told, missing-told, right-told}
 use Rattle.ftp_check_log.proofs.checker.Checker.end.Goals as goal
 
@@ -11,9 +11,9 @@ returns-then-not-is_whole c = λ lines all checks.
 
 pub returns-then-self-as_slice : goal.returns-then-self-as_slice
 returns-then-self-as_slice c = λ lines all checks.
-    subst (λ (v : Verdict). TellsOfText v all) (sym c.other_actions.ensures) (missing-told c.args.self.now lines all (grind arith) checks)
+    subst (λ (v : Verdict). TellsBy v c.args.self.now all) (sym c.other_actions.ensures) (missing-told c.args.self.now lines all (grind arith) checks)
 
 pub returns : goal.returns
 returns c = λ lines all checks.
-    subst (λ (n : ℕ). TellsOfText (verdict.Right n) all) (sym c.events.ensures)
+    subst (λ (n : ℕ). TellsBy (verdict.Right n) c.args.self.now all) (sym c.events.ensures)
     (right-told c.args.self.now lines all (c.is_whole.ensures.whole lines all checks.read c.if-not-is_whole.false).0 (grind arith) checks)

@@ -6,4 +6,4 @@ use Rattle.ftp_check_log.proofs.checker.Checker.set_options.Goals as goal
 pub returns-clause-set : goal.returns-clause-set
 returns-clause-set c =
     takes-options c.args.self.now (record c.args.self.now { hub = c.new.result }) c.args.item
-    (ap settings_of c.new.ensures.options ∙ c.options_in.ensures) c.new.ensures.stands c.new.ensures.count refl
+    (ap settings_of c.new.ensures.options ∙ c.options_in.ensures) c.new.ensures.stands c.new.ensures.count refl refl refl

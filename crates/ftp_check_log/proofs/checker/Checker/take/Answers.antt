@@ -14,7 +14,7 @@ returns-in-Event-clause-taken c = subst (λ (x : LogLine). Takes x c.happen.resu
 pub returns-in-Answer-clause-taken : goal.returns-in-Answer-clause-taken
 returns-in-Answer-clause-taken c =
     let new = record c.args.self.now { answer = c.in-Answer.answer } in
-    subst (λ (x : LogLine). Takes x None c.args.self.now new) (sym c.in-Answer.is) (takes-answer c.args.self.now new c.in-Answer.answer refl refl refl refl)
+    subst (λ (x : LogLine). Takes x None c.args.self.now new) (sym c.in-Answer.is) (takes-answer c.args.self.now new c.in-Answer.answer refl refl refl refl refl refl)
 
 pub returns-in-Decision-clause-taken : goal.returns-in-Decision-clause-taken
 returns-in-Decision-clause-taken c =
