@@ -5,13 +5,16 @@
 
 It runs `ftp_script`, as `rt ci` leaves it in out/, over each SCRIPT; without one over those of bench/refused/ and examples/, a run of
 `stress`, and the tests of a hub that is settled and of a client that logs in and quits. A run has to end as without a refusal; or
-with status 5, no memory (a test: with AllocError, or where a reply is due and nothing more was sent), having written a front of the
-whole output; or with the whole run's status and a transfer that ended so. Every other end is printed, and the script then ends with
-1. It needs a C compiler, `cc`.
+with status 5, no memory, having written a front of the whole output; or with the whole run's status and a transfer that ended so,
+behind a front of it. A test has no status for it: it has to say that it had no memory, and of a talk, that nothing was sent behind
+the replies that were due. Every other end is printed, and the script then ends with 1. What is not built is skipped, and all of it
+where there is no C compiler, `cc`; that is printed too.
 """
 
 import os
 import re
+import shutil
+import signal
 import subprocess
 import sys
 import tempfile
@@ -26,8 +29,10 @@ TESTS = (
     ("ftp_talk_tests", "lines::a_client_logs_in_asks_for_a_port_and_quits"),
 )
 OUT_OF_MEMORY = 5
-# What a test says that compares a reply with what was sent, where nothing was, or the end of a talk with one that went well.
-CUT_SHORT = re.compile(rb"left: (\[\]|OutOfMemory)\n")
+# How a test ends that gave an error, and one in which a comparison failed.
+FAILED = 101, -signal.SIGABRT
+# What a test says that had no memory: an error of a call, or a talk that ended so where its next reply was due, or behind the last.
+NO_MEMORY = re.compile(rb"error: (AllocError|OutOfMemory)\n|: the end: OutOfMemory\n  left: \[\]\n|\n  left: OutOfMemory\n")
 
 
 class Refusals:
@@ -45,43 +50,53 @@ class Refusals:
         done = subprocess.run(command, input=given, capture_output=True, env=around, timeout=120, check=False)
         return done.returncode, done.stdout, done.stderr, int.from_bytes(self.told.read_bytes()[:8], sys.byteorder)
 
-    def each(self, name, command, given=b""):
+    def each(self, name, command, end_of, given=b""):
         """Prints how the runs of one command end; gives whether each ended well."""
-        status, whole, _, requests = self.run(command, given, 0)
+        if not command[0].exists():
+            print(f"skip  {name}: {command[0].name} is not built", flush=True)
+            return True
+        status, whole, said, requests = self.run(command, given, 0)
+        if status or not requests:
+            print(f"{name}: without a refusal: status {status}, {requests} requests, {(whole + said)[-300:]}")
+            return False
         ends = {"status 5": 0, "a result memory": 0, "as without": 0, "other": 0}
         for number in range(1, requests + 1):
             code, out, said, _ = self.run(command, given, number)
-            end = end_of(code, out, said, status, whole)
+            end = "as without" if (code, out) == (status, whole) else end_of(code, out, said, status, whole)
             ends[end] += 1
             if end == "other":
                 print(f"{name}: request {number}: status {code}, {(out + said)[-300:]}")
         print(f"| {name} | {requests} | " + " | ".join(str(count) for count in ends.values()) + " |", flush=True)
-        return requests > 0 and ends["other"] == 0
+        return ends["other"] == 0
 
 
-def end_of(code, out, said, status, whole):
-    if (code, out) == (status, whole):
-        return "as without"
+def end_of_program(code, out, _said, status, whole):
     if code == OUT_OF_MEMORY and whole.startswith(out):
         return "status 5"
-    if code == status and b"? done memory" in out:
+    before, told, _ = out.partition(b"? done memory")
+    if code == status and told and whole.startswith(before):
         return "a result memory"
-    if code != 0 and (b"AllocError" in out + said or CUT_SHORT.search(out + said)):
-        return "status 5"
     return "other"
 
 
+def end_of_test(code, _out, said, _status, _whole):
+    return "status 5" if code in FAILED and NO_MEMORY.search(said) else "other"
+
+
 def main():
+    if not shutil.which("cc"):
+        print("skip  all: there is no C compiler, cc")
+        return 0
     scripts = [Path(word) for word in sys.argv[1:]]
     chosen = scripts or sorted(TOP.glob("bench/refused/*.script")) + sorted(TOP.glob("examples/*.script"))
     print("| run | requests | status 5, a front | a result `memory` | as without | other |\n|---|---|---|---|---|---|")
     with tempfile.TemporaryDirectory() as folder:
         refusals = Refusals(folder)
-        well = [refusals.each(path.name, [PROGRAM, "script"], path.read_bytes()) for path in chosen]
+        well = [refusals.each(path.name, [PROGRAM, "script"], end_of_program, path.read_bytes()) for path in chosen]
         if not scripts:
-            well.append(refusals.each("`stress 7 3`", [PROGRAM, "stress", "7", "3"]))
+            well.append(refusals.each("`stress 7 3`", [PROGRAM, "stress", "7", "3"], end_of_program))
             for crate, test in TESTS:
-                well.append(refusals.each(test, [TOP / f"crates/{crate}/out/{crate}_tests", test]))
+                well.append(refusals.each(test, [TOP / f"crates/{crate}/out/{crate}_tests", test], end_of_test))
     return 0 if all(well) else 1
 
 

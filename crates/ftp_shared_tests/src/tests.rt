@@ -5,6 +5,7 @@ use crate::jobs::{Course, transfer};
 use crate::pieces::{move_two, settled_by};
 use crate::settled::{Told, settle_two, strange_receipt};
 use crate::threads::connect_two;
+use crate::values::Stopped;
 use ftp_base::{Bytes, Reply, ReplyCode};
 use ftp_events::Decision;
 use ftp_options::{Options, ServerBuilder};
@@ -50,7 +51,7 @@ fn a_feed_gives_what_two_threads_append(rt: HostRuntime) -> Result<(), Fail> {
 #[test]
 fn a_hub_is_settled_with_all_shares_and_receipts(rt: HostRuntime) -> Result<(), Fail> {
     let options = pooled(rt.alloc())?;
-    let Ok(Ok(log)) = settle_two(&rt, rt.alloc(), options, Told::Both) else {
+    let Ok(log) = settle_two(&rt, rt.alloc(), options, Told::Both)? else {
         return Err(Fail::from("not settled"));
     };
     assert_eq!(rt; log.len(), 2);
@@ -64,8 +65,8 @@ fn a_hub_is_settled_with_all_shares_and_receipts(rt: HostRuntime) -> Result<(), 
 #[test]
 fn steps_are_missed(rt: HostRuntime) -> Result<(), Fail> {
     let options = pooled(rt.alloc())?;
-    let settled = settle_two(&rt, rt.alloc(), options, Told::First);
-    let Ok(Err(SettleError::Missing { counted, length })) = settled else {
+    let settled = settle_two(&rt, rt.alloc(), options, Told::First)?;
+    let Err(SettleError::Missing { counted, length }) = settled else {
         return Err(Fail::from("nothing is missed"));
     };
     assert_eq!(rt; counted, 1);
@@ -76,12 +77,11 @@ fn steps_are_missed(rt: HostRuntime) -> Result<(), Fail> {
 #[test]
 fn the_receipt_of_another_hub_differs(rt: HostRuntime) -> Result<(), Fail> {
     let alloc = rt.alloc();
-    let strange = strange_receipt(&rt, alloc, pooled(alloc)?)
-        .ok()
-        .ok_or("no receipt")?;
-    let settled = settle_two(&rt, alloc, pooled(alloc)?, strange);
-    let Ok(Err(SettleError::Differs { place, kept, told })) = settled else {
-        return Err(Fail::from("nothing differs"));
+    let strange = strange_receipt(&rt, alloc, pooled(alloc)?)?;
+    let (place, kept, told) = match settle_two(&rt, alloc, pooled(alloc)?, strange)? {
+        Err(SettleError::Differs { place, kept, told }) => (place, kept, told),
+        Err(SettleError::OutOfMemory) => return Err(Fail::from(Stopped::OutOfMemory)),
+        _ => return Err(Fail::from("nothing differs")),
     };
     assert_eq!(rt; place, 0);
     let kept = kept.ok_or("no entry")?;

@@ -101,7 +101,7 @@ fn a_client_logs_in_asks_for_a_port_and_quits(rt: HostRuntime) -> Result<(), Fai
     for reply in replies {
         let n = reply.len().min(rest.len());
         let (line, behind) = rest.split_at(n);
-        assert_eq!(rt; line, reply);
+        assert_eq!(rt; line, reply, "the end: {:?}", talked.end);
         rest = behind;
     }
     assert_eq!(rt; rest, b"".as_slice());
