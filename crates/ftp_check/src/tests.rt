@@ -66,10 +66,11 @@ fn checked(
     Ok((status, sink.written().to_vec(alloc)?))
 }
 
-/// Checks a log that comes in pieces, and compares how that ends and what it writes.
+/// Does what a command asks for, by a log that comes in pieces, and compares how that ends and what it writes.
 fn expect(
     rt: &impl Abort,
     alloc: Global,
+    command: &str,
     parts: &[&str],
     chunk: u32,
     status: CheckStatus,
@@ -77,7 +78,7 @@ fn expect(
 ) -> Result<(), AllocError>
     requires { 1 ≤ chunk }
 {
-    let (found, written) = checked(alloc, "check", parts, chunk, &[], &[])?;
+    let (found, written) = checked(alloc, command, parts, chunk, &[], &[])?;
     assert_eq!(rt;
         (found, written.as_slice()),
         (status, line.as_bytes()),
@@ -99,8 +100,8 @@ fn a_login_is_right_and_each_change_of_it_is_named(rt: HostRuntime) -> Result<()
         (OPENED, "", CheckStatus::Wrong, "actions 1\n"),
     ] {
         let parts = [POOLED, CONNECT, opened, USER, NEED_PASS, password, LOGIN];
-        expect(&rt, rt.alloc(), &parts, 7, status, line)?;
-        expect(&rt, rt.alloc(), &parts, 65536, status, line)?;
+        expect(&rt, rt.alloc(), "check", &parts, 7, status, line)?;
+        expect(&rt, rt.alloc(), "check", &parts, 65536, status, line)?;
     }
     Ok(())
 }
@@ -117,7 +118,15 @@ fn a_bad_text_is_known_by_its_line(rt: HostRuntime) -> Result<(), Fail> {
         (CONNECT, OPENED, "link 1 sent .\n", "", 3),
     ] {
         let parts = [first, second, third, fourth];
-        expect(&rt, rt.alloc(), &parts, 5, CheckStatus::BadText(line), "")?;
+        expect(
+            &rt,
+            rt.alloc(),
+            "check",
+            &parts,
+            5,
+            CheckStatus::BadText(line),
+            "",
+        )?;
     }
     Ok(())
 }
@@ -129,12 +138,21 @@ fn an_answer_that_decides_nothing_is_right(rt: HostRuntime) -> Result<(), Fail> 
     expect(
         &rt,
         rt.alloc(),
+        "check",
         &parts,
         65536,
         CheckStatus::Done,
         "right 2\n",
     )?;
-    expect(&rt, rt.alloc(), &[], 65536, CheckStatus::Done, "right 0\n")?;
+    expect(
+        &rt,
+        rt.alloc(),
+        "check",
+        &[],
+        65536,
+        CheckStatus::Done,
+        "right 0\n",
+    )?;
     Ok(())
 }
 
@@ -193,12 +211,8 @@ fn an_entry_is_explained_or_there_is_none(rt: HostRuntime) -> Result<(), Fail> {
         ("why 18446744073709551616", "", CheckStatus::NoEntry, ""),
         ("why 0", CONNECT, CheckStatus::BadText(44), ""),
     ] {
-        let (found, written) = checked(rt.alloc(), command, &[THREE, last], 100, &[], &[])?;
-        assert_eq!(rt;
-            (found, written.as_slice()),
-            (status, line.as_bytes()),
-            "{command}"
-        );
+        let parts = [THREE, last];
+        expect(&rt, rt.alloc(), command, &parts, 100, status, line)?;
     }
     Ok(())
 }
