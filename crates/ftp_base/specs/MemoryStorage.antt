@@ -121,9 +121,9 @@ memory_meaning files max_file (ReadAt user path place) = unless_there (contents 
 memory_meaning files max_file (Begin user path start) = file_refusal files max_file path start
 memory_meaning files max_file (Append user path bytes) = append_refusal (contents files path) max_file (length bytes)
 
--- the same by what stands at each path, where a file may have so many bytes
+-- the same by what stands at each path, whoever began a file, where a file may have so many bytes
 abbrev pub memory_rule : ℕ → Rule
-memory_rule max_file files = memory_meaning files max_file
+memory_rule max_file begun files = memory_meaning files max_file
 
 -- which calls a storage in memory refuses
 abbrev pub storage_rule : MemoryState → Rule

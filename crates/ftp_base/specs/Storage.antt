@@ -5,7 +5,7 @@
 --   files_in_order files the files under their paths, in byte order of paths
 --   get bytes place      the bytes from a place on
 --   put bytes place new  the bytes with others put at a place
-use Rattle.std.specs.Prelude.{◌≡◌, ℕ, ◌-◌, ◌<◌, ◌≤◌, Bool, true, false, not, ◌&&◌, ◌==◌, List, [], ◌∷◌, ◌++◌, map, length, take, drop, replicate, filter, fold, Option, Some, None, IsSome, IfSome, IsSomeAnd, unwrap_or, Result, MatchResult, if◌then◌else◌}
+use Rattle.std.specs.Prelude.{◌≡◌, ℕ, ◌-◌, ◌<◌, ◌≤◌, Bool, true, false, not, ◌&&◌, ◌==◌, List, [], ◌∷◌, ◌++◌, map, length, take, drop, replicate, filter, fold, Option, Some, None, IsSome, IfSome, IsSomeAnd, unwrap_or, Result, Ok, Err, MatchResult, if◌then◌else◌}
 use Rattle.std.specs.List.{before_last, after_last, filter_map}
 use Rattle.std.specs.Option.{option_and_then, option_map}
 use Rattle.std.specs.Ordering.{nat_cmp, ordering_then}
@@ -131,14 +131,26 @@ pub data Call : Type 0 where
 abbrev pub Meaning : Type 0
 Meaning = Call → Option ErrorKind
 
--- the meaning by what stands at each path
+-- who began a file, and its path
+abbrev pub BegunFile : Type 0
+BegunFile = List ℕ × List ℕ
+
+-- the meaning by the files that were begun meanwhile, the first of them first, and by what stands at each path
 abbrev pub Rule : Type 0
-Rule = Files → Meaning
+Rule = List BegunFile → Files → Meaning
+
+-- the rule once a file was begun
+abbrev pub once_begun : BegunFile → Rule → Rule
+once_begun begun rule = λ later. rule (begun ∷ later)
+
+-- by the rule it is all one who began what
+abbrev pub IsFixed : Rule → Type 0
+IsFixed rule = (begun : BegunFile) → once_begun begun rule ≡ rule
 
 -- the meaning of the files by a rule; where they are not told it refuses nothing, and binds nothing
 abbrev pub meaning_of : Rule → Option Files → Meaning
 meaning_of rule None call = None
-meaning_of rule (Some files) call = rule files call
+meaning_of rule (Some files) call = rule [] files call
 
 -- an answer refuses as the meaning says, unless the call failed or memory ran out
 abbrev pub Refuses : Option ErrorKind → StoreError → Type 0
@@ -149,6 +161,13 @@ Refuses refusal OutOfMemory = Unit {0}
 -- a call is answered as the meaning says, where the storage tells what it keeps
 abbrev pub Answers : {A : Type 0} → Option Files → Option ErrorKind → Result A StoreError → Type 0
 Answers told refusal result = IsSome told → MatchResult result (λ _. refusal ≡ None) (Refuses refusal)
+
+-- a call went through, as its answer says: it went well, or it failed
+abbrev pub WentThrough : {A : Type 0} → Result A StoreError → Type 0
+WentThrough (Ok x) = Unit {0}
+WentThrough (Err Failed) = Unit {0}
+WentThrough (Err (Kind k)) = ⊥
+WentThrough (Err OutOfMemory) = ⊥
 
 -- n bytes from a place of a file were read to the front of out, and none exactly where none was left
 pub record ReadsFrom (place n : ℕ) (out bytes : List ℕ) : Type 0 where

@@ -1,15 +1,16 @@
 //! What keeps the files that transfers read and write.
 //!
 //! A storage is a map from paths to the bytes of a file or a directory. Its rule says, by what stands there, which calls
-//! it refuses; no call changes the rule. A call that fails, finds no memory or is refused leaves the storage as it was.
+//! it refuses; no call changes the rule but a begin that goes well, and the rule says how. A call that fails, finds no memory
+//! or is refused leaves the storage as it was.
 
 ghost use Rattle.std.specs.Prelude.{◌≡◌, ℕ, ◌+◌, ◌-◌, ◌^◌, ◌<◌, ◌≤◌, Bool, true, length, Option, None, IfSome, IsSomeAnd, IfOk, OnOk, OnErr, IsErrOf};
 ghost use Rattle.ftp_base.specs.declared.storage.StoreError.TheVariants.{OutOfMemory};
 ghost use Rattle.ftp_base.specs.Calls.{Calls, AllWell, OneMore};
-ghost use Rattle.ftp_base.specs.Kept.{StorageKept};
+ghost use Rattle.ftp_base.specs.Kept.{CountsOn, StorageKept};
 ghost use Rattle.ftp_base.specs.Memory.{StorageMet};
 ghost use Rattle.ftp_base.specs.Outside.{HasRisen};
-ghost use Rattle.ftp_base.specs.Storage.{Files, Rule, meaning_of, Metadata, Listing, ReadAt, Begin, Append, Answers, item, meta_of, listing, ReadsFile, Begins, Grows};
+ghost use Rattle.ftp_base.specs.Storage.{Files, Rule, meaning_of, Metadata, Listing, ReadAt, Begin, Append, Answers, WentThrough, once_begun, item, meta_of, listing, ReadsFile, Begins, Grows};
 
 use crate::bytes::Bytes;
 use crate::error_kind::ErrorKind;
@@ -82,8 +83,8 @@ pub trait Storage {
     ///
     /// # Proved
     ///
-    /// - What a call of a storage means: files by path; it refuses by a rule of the files as they are, and no call
-    ///   changes the rule; faults only where the count rose; what stays (`found`, `refused`, `storage_kept`; also
+    /// - What a call of a storage means: files by path; it refuses by a rule of the files as they are, which no other
+    ///   call than `Storage::begin` changes; faults only where the count rose; what stays (`found`, `refused`, `storage_kept`; also
     ///   `Storage::list`: `listed`, `refused`, `storage_kept`; `Storage::read_at`: `read`, `refused`, `storage_kept`;
     ///   `Storage::begin`: `begun`, `refused`, `fault_rose`, `unchanged`, `storage_kept`; `Storage::append`: `grown`,
     ///   `refused`, `fault_rose`, `unchanged`, `storage_kept`).
@@ -130,22 +131,31 @@ pub trait Storage {
         ensures storage_kept { StorageKept rule faults fault_limit self.old self.new };
 
     /// Cuts a file at a place, or fills it with zeros up to there; an absent file counts as empty.
+    ///
+    /// # Proved
+    ///
+    /// - A file that is begun changes the rule as the rule says, by who began it and its path; a begin that is refused or fails
+    ///   leaves the rule; a storage that does not tell its files does not do so afterwards (`owned`, `storage_kept`, `counts`,
+    ///   `untold`; also `Storage::append`: `untold`).
     fn begin(&mut self, user: &Bytes, path: &Bytes, start: u64) -> Result<(), StoreError>
         ensures begun { OnOk result (Begins (files self.old) (files self.new) path.now start) }
         ensures refused { Answers (files self.old) (meaning_of (rule self.old) (files self.old) (Begin user.now path.now start)) result }
         ensures fault_rose { IsErrOf result StoreError.Failed → HasRisen (faults self.old) (faults self.new) }
         ensures unlisted { (IsErrOf result StoreError.Failed → ⊥) → AllWell (λ call. call) (calls self.old) (calls self.new) }
         ensures as_listed { IsErrOf result StoreError.Failed → StorageMet (calls self.old) (calls self.new) }
-        ensures made { OneMore (calls self.old) (calls self.new) }
+        ensures made { WentThrough result → OneMore (calls self.old) (calls self.new) }
         ensures unchanged { OnErr result (files self.new ≡ files self.old) }
-        ensures storage_kept { StorageKept rule faults fault_limit self.old self.new };
+        ensures untold { files self.old ≡ None → files self.new ≡ None }
+        ensures storage_kept { OnErr result (StorageKept rule faults fault_limit self.old self.new) }
+        ensures owned { OnOk result (rule self.new ≡ once_begun (user.now, path.now) (rule self.old)) }
+        ensures counts { CountsOn faults fault_limit self.old self.new };
 
     /// Puts bytes at the end of a file.
     ///
     /// # Proved
     ///
-    /// - Where they tell their calls: each call counts one, unless it answers want of memory; it went well only where
-    ///   it is not listed, and a call that failed is one that is listed, of a link with a fault that is listed for it
+    /// - Where they tell their calls: each call counts one, unless it answers want of memory, or a begin or an append is
+    ///   refused; it went well only where it is not listed, and a call that failed is one that is listed, of a link with a fault that is listed for it
     ///   (`made`, `unlisted`, `as_listed`; also `Sink::write`, `Link::write`, `Link::close`, `Storage::metadata`,
     ///   `Storage::list`, `Storage::read_at`, `Storage::begin`, `Storage::append`).
     fn append(&mut self, user: &Bytes, path: &Bytes, bytes: &[u8]) -> Result<(), StoreError>
@@ -154,7 +164,8 @@ pub trait Storage {
         ensures fault_rose { IsErrOf result StoreError.Failed → HasRisen (faults self.old) (faults self.new) }
         ensures unlisted { (IsErrOf result StoreError.Failed → ⊥) → AllWell (λ call. call) (calls self.old) (calls self.new) }
         ensures as_listed { IsErrOf result StoreError.Failed → StorageMet (calls self.old) (calls self.new) }
-        ensures made { OneMore (calls self.old) (calls self.new) }
+        ensures made { WentThrough result → OneMore (calls self.old) (calls self.new) }
         ensures unchanged { OnErr result (files self.new ≡ files self.old) }
+        ensures untold { files self.old ≡ None → files self.new ≡ None }
         ensures storage_kept { StorageKept rule faults fault_limit self.old self.new };
 }

@@ -16,7 +16,7 @@ impl Storage for MemoryStorage {
     ghost use Rattle.ftp_base.specs.Memory.{StorageMet};
     ghost use Rattle.ftp_base.specs.MemoryStorage.{Counts, memory_meaning, storage_rule, storage_faults, storage_limit};
     ghost use Rattle.ftp_base.specs.Outside.{HasRisen};
-    ghost use Rattle.ftp_base.specs.Storage.{Metadata, Listing, ReadAt, Begin, Append, Answers, item, meta_of, listing, with_file, old_bytes, cut, ReadsFile, Grows};
+    ghost use Rattle.ftp_base.specs.Storage.{Metadata, Listing, ReadAt, Begin, Append, Answers, once_begun, item, meta_of, listing, with_file, old_bytes, cut, ReadsFile, Grows};
 
     ghost abilities = { λ _. 1 };
 
@@ -105,6 +105,7 @@ impl Storage for MemoryStorage {
         ensures fault_rose { IsErrOf result StoreError.Failed → HasRisen self.old.calls.faults self.new.calls.faults }
         ensures unchanged { OnErr result (self.new.files ≡ self.old.files) }
         ensures storage_kept { StorageKept storage_rule storage_faults storage_limit self.old self.new }
+        ensures owned { OnOk result (storage_rule self.new ≡ once_begun (user.now, path.now) (storage_rule self.old)) }
         ensures counted { Counts self.old self.new result }
         ensures unlisted { (IsErrOf result StoreError.Failed → ⊥) → NoneFailed (λ call. call) self.old.calls self.new.calls }
         ensures as_listed { IsErrOf result StoreError.Failed → StorageMet (Some self.old.calls) (Some self.new.calls) }
