@@ -1,10 +1,10 @@
 -- Runs that nothing refused and nothing stopped.
-use Rattle.std.proofs.Common.{◌≡◌, inl, inr, false, ℕ, ◌+◌, ◌-◌, ◌^◌, ◌<◌, ◌≤◌, List, length, length-drop, take, Option, Some, None, refl, sym, ◌∙◌, arith}
+use Rattle.std.proofs.Common.{◌≡◌, inl, inr, false, ℕ, ◌+◌, ◌-◌, ◌^◌, ◌<◌, ◌≤◌, List, [], length, length-drop, take, Option, Some, None, refl, sym, ◌∙◌, arith}
 use Rattle.std.specs.Prelude.{◌⊎◌, IfSome, IsSomeAnd, MatchOption}
 use Rattle.ftp_base.specs.declared.command.DataChanCmd.{DataChanCmd}
 use Rattle.ftp_base.specs.declared.command.DataChanCmd.TheVariants as command
 use Rattle.ftp_base.specs.declared.error_kind.ErrorKind.{ErrorKind}
-use Rattle.ftp_base.specs.Storage.{Files, Rule, Metadata, Append, old_bytes, with_file, put}
+use Rattle.ftp_base.specs.Storage.{Files, Rule, once_begun, Metadata, Append, old_bytes, with_file, put}
 use Rattle.ftp_transfer.specs.declared.job.Job.{Job}
 use Rattle.ftp_transfer.specs.declared.job.Outcome.{Outcome}
 use Rattle.ftp_transfer.specs.declared.job.Completion.{Completion}
@@ -25,13 +25,13 @@ takes-store rule user f new path place l later m k takes (inl (zero, refused)) =
 takes-store rule user f new path place l later m k takes (inr (stored, (piece, some, short, (front, is), refused))) =
     let within : m + length piece ≤ length l = omega (arith, front.0, length-drop m l, some) in
     let next = takes.appends m (length piece) some short within in
-    let here : rule (with_file f path (put (old_bytes f path) place (take m l))) (Append user path piece) ≡ Some k = rw stored at refused in
+    let here : once_begun (user, path) rule [] (with_file f path (put (old_bytes f path) place (take m l))) (Append user path piece) ≡ Some k = rw stored at refused in
     not_both _ k (rw (sym is) at next) here
 
 -- the same of an APPE, by where it begins
 takes-appe : (rule : Rule) (user : List ℕ) (f : Files) (new : Option Files) (path l : List ℕ) (later : Option (List ℕ)) (m : ℕ) (k : ErrorKind) (place : Option ℕ) →
     MatchOption place ⊥ (λ place. TakesStore rule user path f place l) →
-    MatchOption place ((m ≡ 0) × (rule f (Metadata user path) ≡ Some k)) (λ place. RefusesStore rule user f new path place (Some l) later m k) → ⊥
+    MatchOption place ((m ≡ 0) × (rule [] f (Metadata user path) ≡ Some k)) (λ place. RefusesStore rule user f new path place (Some l) later m k) → ⊥
 takes-appe rule user f new path l later m k None takes refused = takes
 takes-appe rule user f new path l later m k (Some place) takes refused = takes-store rule user f new path place l later m k takes refused
 
@@ -75,7 +75,7 @@ takes-unrefused (command.Stor x) job rule f new input later m k within takes ref
 takes-unrefused (command.Appe x) job rule f new input later m k within takes refused =
     by-done job.done _ _ _ _
     (λ h h'. if-told input (TakesAppe rule job.user job.path f) (λ l. RefusesAppe rule job.user f new job.path (Some l) later m k)
-    (λ l is h h'. takes-appe rule job.user f new job.path l later m k (append_place (rule f (Metadata job.user job.path)) (length (old_bytes f job.path))) h h') h (λ l is. rw is at h'))
+    (λ l is h h'. takes-appe rule job.user f new job.path l later m k (append_place (rule [] f (Metadata job.user job.path)) (length (old_bytes f job.path))) h h') h (λ l is. rw is at h'))
     (λ h h'. if-told input (TakesMore rule job.user job.path f) (λ l. RefusesMore rule job.user f new job.path (Some l) later m k)
     (λ l is h h'. takes-more rule job.user f new job.path l later m k h h') h (λ l is. rw is at h'))
     takes refused

@@ -1,5 +1,5 @@
 -- Runs that go on from where a piece ended.
-use Rattle.std.proofs.Common.{◌≡◌, inl, inr, true, false, ℕ, ◌+◌, ◌<◌, ◌≤◌, List, [], ◌++◌, length, length-drop, take, drop, Option, Some, None, refl, sym, ap, ◌∙◌, arith}
+use Rattle.std.proofs.Common.{◌≡◌, inl, inr, true, false, ℕ, ◌+◌, ◌<◌, ◌≤◌, List, [], ◌++◌, length, length-drop, take, drop, Option, Some, None, refl, sym, ap, subst, ◌∙◌, arith}
 use Rattle.std.specs.Prelude.{IsSome, IfSome, MatchOption}
 use Rattle.std.specs.Option.{option_map, option_map_or}
 use Rattle.std.proofs.Math.Seq.{take-nil}
@@ -12,16 +12,17 @@ use Rattle.ftp_base.specs.declared.error_kind.ErrorKind.{ErrorKind}
 use Rattle.ftp_base.specs.declared.fault.LinkFault.{LinkFault}
 use Rattle.ftp_base.specs.Calls.{AllWell}
 use Rattle.ftp_base.specs.Outside.{Writes}
-use Rattle.ftp_base.specs.Storage.{Files, Rule, Meaning, meaning_of, Metadata, Begin, ReadAt, get, with_file, old_bytes, cut}
+use Rattle.ftp_base.specs.Storage.{Files, Rule, once_begun, Meaning, meaning_of, Metadata, Begin, ReadAt, get, with_file, old_bytes, cut}
 use Rattle.ftp_base.proofs.CallsMade.{AllWell-more, LinkMet-more, StorageMet-more}
 use Rattle.ftp_transfer.specs.declared.job.Job.{Job}
 use Rattle.ftp_transfer.specs.declared.job.Completion.{Completion}
 use Rattle.ftp_transfer.specs.declared.job.Completion.TheVariants as result
 use Rattle.ftp_transfer.specs.Run.{SendsFront, GrowsFront, TakesFront, RefusesAppend, RefusesMore, RefusesStore, RefusedLast, IsStored, Stores, append_place, read_place}
-use Rattle.ftp_transfer.specs.Ran.{Told, Moves, Went, StorageFailed, ByDone, Refuses, StoresAs, first_refusal, IsSentWhole, due_of}
+use Rattle.ftp_transfer.specs.Ran.{Told, Moves, Went, begun_by, appends_by, StorageFailed, ByDone, Refuses, StoresAs, first_refusal, IsSentWhole, due_of}
 use Rattle.ftp_transfer.specs.Transfer.{is_store, is_listing, suits}
 use Rattle.ftp_transfer.proofs.RunLemmas.{HasRisen_later, Caused_later, SendsFront-file, StorageWent-more, get-get, EndsRefused_later}
 use Rattle.ftp_transfer.proofs.StoreLemmas.{GrowsFront-told, TakesFront-told, grown_again}
+use Rattle.ftp_transfer.proofs.BegunLemmas.{begun_by-later, stays-rule, moved-rule, IfSome_any}
 
 -- counts of faults that did not fall
 pub record Counted (old new : Told) : Type 0 where
@@ -170,13 +171,13 @@ stored-more (command.Mlsd p) job f meaning mid new l left' b m r fault some goes
 -- where files and link are told
 stored-told : (job : Job) (files : Option Files) (rule : Rule) (mid new : Option Files) (left left' : Option (List ℕ)) (b m : ℕ) (r : Completion) (fault : Option LinkFault) →
     0 < b → is_listing job.command ≡ false → (is_store job.command ≡ false → new ≡ mid) → (is_store job.command ≡ true → IfSome left (λ l. TakesFront l left' b)) →
-    IfSome files (λ f. IfSome left (λ l. StoresAs job.command job f (rule f) mid l b result.OutOfMemory None)) →
+    IfSome files (λ f. IfSome left (λ l. StoresAs job.command job f (rule [] f) mid l b result.OutOfMemory None)) →
     (is_store job.command ≡ true → IfSome mid (λ g. IfSome left' (λ l. GrowsFront g new job.path l m))) →
-    IfSome files (λ f. IfSome left (λ l. StoresAs job.command job f (rule f) new l (b + m) r fault))
+    IfSome files (λ f. IfSome left (λ l. StoresAs job.command job f (rule [] f) new l (b + m) r fault))
 stored-told job None rule mid new left left' b m r fault some goes same taken first next = tt
 stored-told job (Some f) rule mid new None left' b m r fault some goes same taken first next = tt
 stored-told job (Some f) rule mid new (Some l) left' b m r fault some goes same taken first next =
-    stored-more job.command job f (rule f) mid new l left' b m r fault some goes same (λ e. (taken e).1) first next
+    stored-more job.command job f (rule [] f) mid new l left' b m r fault some goes same (λ e. (taken e).1) first next
 
 -- what was refused behind a first piece is refused in the whole run
 more-refused : (f : Files) (rule : Rule) (user path : List ℕ) (mid new : Option Files) (left left' later : Option (List ℕ)) (b m : ℕ) (k : ErrorKind) →
@@ -198,21 +199,21 @@ is-later done p q some (inr (later, h)) = h
 begun-refused : (f : Files) (rule : Rule) (user path : List ℕ) (place : ℕ) (mid new : Option Files) (left left' later : Option (List ℕ)) (b m : ℕ) (k : ErrorKind) →
     0 < b → IfSome left (λ l. TakesFront l left' b) → IsSome mid →
     IfSome left (λ l. Stores f mid path place l b result.OutOfMemory None) →
-    IfSome mid (λ g. RefusesMore rule user g new path left' later m k) →
+    IfSome mid (λ g. RefusesMore (once_begun (user, path) rule) user g new path left' later m k) →
     RefusesStore rule user f new path place left later (b + m) k
 begun-refused f rule user path place mid new None left' later b m k some taken told first next =
-    inr (tt, more-refused f rule user path mid new None left' later b m k taken next told)
+    inr (tt, more-refused f (once_begun (user, path) rule) user path mid new None left' later b m k taken next told)
 begun-refused f rule user path place mid new (Some l) left' later b m k some taken told first next =
     inr (
       put-more f mid new path place l b m some first (IfSome_then mid next (λ g h. rw taken.1 at h.0)),
-      more-refused f rule user path mid new (Some l) left' later b m k taken next told,
+      more-refused f (once_begun (user, path) rule) user path mid new (Some l) left' later b m k taken next told,
     )
 
 -- the same of an APPE
 appe-refused : (f : Files) (rule : Rule) (user path : List ℕ) (start : Option ℕ) (mid new : Option Files) (left left' later : Option (List ℕ)) (b m : ℕ) (k : ErrorKind) (none none' : Type 0) →
     0 < b → IfSome left (λ l. TakesFront l left' b) → IsSome mid → (start ≡ None → ⊥) →
     IfSome left (λ l. MatchOption start none (λ place. Stores f mid path place l b result.OutOfMemory None)) →
-    IfSome mid (λ g. RefusesMore rule user g new path left' later m k) →
+    IfSome mid (λ g. RefusesMore (once_begun (user, path) rule) user g new path left' later m k) →
     MatchOption start none' (λ place. RefusesStore rule user f new path place left later (b + m) k)
 appe-refused f rule user path None mid new left left' later b m k none none' some taken told begun first next = absurd (begun refl)
 appe-refused f rule user path (Some place) mid new left left' later b m k none none' some taken told begun first next =
@@ -224,55 +225,75 @@ meta-refused : (o : Option ErrorKind) (len : ℕ) (begin : ℕ → Option ErrorK
 meta-refused None len begin start is none refused = cc (is ∙ none)
 meta-refused (Some k) len begin start is none refused = rw none at refused
 
+-- where a piece came before the first run, the rule is as it was
+later-refuses : (job : Job) (rule rule' : Rule) (mid new : Option Files) (left' later : Option (List ℕ)) (m : ℕ) (k : ErrorKind) →
+    0 < job.done → rule' ≡ appends_by job rule → IfSome mid (λ g. RefusesMore rule' job.user g new job.path left' later m k) →
+    IfSome mid (λ g. RefusesMore rule job.user g new job.path left' later m k)
+later-refuses job rule rule' mid new left' later m k begun owned refused =
+    subst (λ (x : Rule). IfSome mid (λ g. RefusesMore x job.user g new job.path left' later m k)) (owned ∙ begun_by-later job.done (job.user, job.path) rule begun) refused
+
+-- and else it is the one once the file was begun
+first-refuses : (job : Job) (rule rule' : Rule) (mid new : Option Files) (left' later : Option (List ℕ)) (m : ℕ) (k : ErrorKind) →
+    job.done ≡ 0 → rule' ≡ appends_by job rule → IfSome mid (λ g. RefusesMore rule' job.user g new job.path left' later m k) →
+    IfSome mid (λ g. RefusesMore (once_begun (job.user, job.path) rule) job.user g new job.path left' later m k)
+first-refuses job rule rule' mid new left' later m k zero owned refused =
+    subst (λ (x : Rule). IfSome mid (λ g. RefusesMore x job.user g new job.path left' later m k)) (owned ∙ ap (λ (n : ℕ). begun_by n (job.user, job.path) rule) zero) refused
+
 -- what the second run refuses is refused in the whole run
-refused-more : (c : DataChanCmd) (job : Job) (rule : Rule) (f : Files) (mid new : Option Files) (left left' later : Option (List ℕ)) (b m : ℕ) (k : ErrorKind) →
-    0 < b → is_listing c ≡ false → (is_store c ≡ false → mid ≡ Some f) → (is_store c ≡ true → IfSome left (λ l. TakesFront l left' b)) → IsSome mid →
-    (job.done ≡ 0 → IfSome left (λ l. StoresAs c job f (rule f) mid l b result.OutOfMemory None)) →
+refused-more : (c : DataChanCmd) (job : Job) (rule rule' : Rule) (f : Files) (mid new : Option Files) (left left' later : Option (List ℕ)) (b m : ℕ) (k : ErrorKind) →
+    0 < b → is_listing c ≡ false → (is_store c ≡ false → rule' ≡ rule) → (is_store c ≡ true → rule' ≡ appends_by job rule) →
+    (is_store c ≡ false → mid ≡ Some f) → (is_store c ≡ true → IfSome left (λ l. TakesFront l left' b)) → IsSome mid →
+    (job.done ≡ 0 → IfSome left (λ l. StoresAs c job f (rule [] f) mid l b result.OutOfMemory None)) →
     (0 < job.done → is_store c ≡ true → IfSome left (λ l. GrowsFront f mid job.path l b)) →
-    IfSome (first_refusal c job f (rule f)) (λ k. ⊥) →
-    IfSome mid (λ g. Refuses c (behind job b) rule g new left' later m k) →
+    IfSome (first_refusal c job f (rule [] f)) (λ k. ⊥) →
+    IfSome mid (λ g. Refuses c (behind job b) rule' g new left' later m k) →
     Refuses c job rule f new left later (b + m) k
-refused-more (command.Retr p) job rule f mid new left left' later b m k some goes same taken told stored grown first next =
-    let here : rule f (ReadAt job.user job.path (read_place job.offset ((job.done + b) + m))) ≡ Some k = rw (same refl) at next in
+refused-more (command.Retr p) job rule rule' f mid new left left' later b m k some goes kept owned same taken told stored grown first next =
+    let here : rule [] f (ReadAt job.user job.path (read_place job.offset ((job.done + b) + m))) ≡ Some k = rw (same refl, kept refl) at next in
     let place : job.done + (b + m) ≡ (job.done + b) + m = omega arith in
     rw place here
-refused-more (command.Stor p) job rule f mid new left left' later b m k some goes same taken told stored grown first next =
+refused-more (command.Stor p) job rule rule' f mid new left left' later b m k some goes kept owned same taken told stored grown first next =
     let more = IfSome_then mid next (λ g h. is-later (job.done + b) _ _ (omega (arith, some)) h) in
     elim (cases_lt 0 job.done) [
-      | inl begun ↦ inr (begun, (GrowsFront-told (Some f) mid new job.path left left' b m (grown begun refl) (taken refl) (IfSome_then mid more (λ g h. h.0)), more-refused f rule job.user job.path mid new left left' later b m k (taken refl) more told))
+      | inl begun ↦
+          let again = later-refuses job rule rule' mid new left' later m k begun (owned refl) more in
+          inr (begun, (GrowsFront-told (Some f) mid new job.path left left' b m (grown begun refl) (taken refl) (IfSome_then mid again (λ g h. h.0)), more-refused f rule job.user job.path mid new left left' later b m k (taken refl) again told))
       | inr fresh ↦
           let zero : job.done ≡ 0 = omega (arith, fresh) in
-          inl (zero, begun-refused f rule job.user job.path job.offset mid new left left' later b m k some (taken refl) told (stored zero) more)
+          inl (zero, begun-refused f rule job.user job.path job.offset mid new left left' later b m k some (taken refl) told (stored zero) (first-refuses job rule rule' mid new left' later m k zero (owned refl) more))
     ]
-refused-more (command.Appe p) job rule f mid new left left' later b m k some goes same taken told stored grown first next =
+refused-more (command.Appe p) job rule rule' f mid new left left' later b m k some goes kept owned same taken told stored grown first next =
     let more = IfSome_then mid next (λ g h. is-later (job.done + b) _ _ (omega (arith, some)) h) in
     elim (cases_lt 0 job.done) [
-      | inl begun ↦ inr (begun, (GrowsFront-told (Some f) mid new job.path left left' b m (grown begun refl) (taken refl) (IfSome_then mid more (λ g h. h.0)), more-refused f rule job.user job.path mid new left left' later b m k (taken refl) more told))
+      | inl begun ↦
+          let again = later-refuses job rule rule' mid new left' later m k begun (owned refl) more in
+          inr (begun, (GrowsFront-told (Some f) mid new job.path left left' b m (grown begun refl) (taken refl) (IfSome_then mid again (λ g h. h.0)), more-refused f rule job.user job.path mid new left left' later b m k (taken refl) again told))
       | inr fresh ↦
           let zero : job.done ≡ 0 = omega (arith, fresh) in
           let unrefused = rw zero at first in
           inl (
             zero,
-            appe-refused f rule job.user job.path (append_place (rule f (Metadata job.user job.path)) (length (old_bytes f job.path))) mid new left left' later b m k _ _ some (taken refl) told
-                (λ none. meta-refused (rule f (Metadata job.user job.path)) (length (old_bytes f job.path)) (λ place. rule f (Begin job.user job.path place)) _ refl none unrefused)
-                (stored zero) more,
+            appe-refused f rule job.user job.path (append_place (rule [] f (Metadata job.user job.path)) (length (old_bytes f job.path))) mid new left left' later b m k _ _ some (taken refl) told
+                (λ none. meta-refused (rule [] f (Metadata job.user job.path)) (length (old_bytes f job.path)) (λ place. rule [] f (Begin job.user job.path place)) _ refl none unrefused)
+                (stored zero) (first-refuses job rule rule' mid new left' later m k zero (owned refl) more),
           )
     ]
-refused-more (command.List o p) job rule f mid new left left' later b m k some goes same taken told stored grown first next = cc goes
-refused-more (command.Nlst p) job rule f mid new left left' later b m k some goes same taken told stored grown first next = cc goes
-refused-more (command.Mlsd p) job rule f mid new left left' later b m k some goes same taken told stored grown first next = cc goes
+refused-more (command.List o p) job rule rule' f mid new left left' later b m k some goes kept owned same taken told stored grown first next = cc goes
+refused-more (command.Nlst p) job rule rule' f mid new left left' later b m k some goes kept owned same taken told stored grown first next = cc goes
+refused-more (command.Mlsd p) job rule rule' f mid new left left' later b m k some goes kept owned same taken told stored grown first next = cc goes
 
 -- where the files are told
-refused-told : (job : Job) (rule : Rule) (files mid new : Option Files) (left left' later : Option (List ℕ)) (b m : ℕ) (k : ErrorKind) →
-    0 < b → is_listing job.command ≡ false → (is_store job.command ≡ false → mid ≡ files) → (is_store job.command ≡ true → IfSome left (λ l. TakesFront l left' b)) → (IsSome files → IsSome mid) →
-    (job.done ≡ 0 → IfSome files (λ f. IfSome left (λ l. StoresAs job.command job f (rule f) mid l b result.OutOfMemory None))) →
+refused-told : (job : Job) (rule rule' : Rule) (files mid new : Option Files) (left left' later : Option (List ℕ)) (b m : ℕ) (k : ErrorKind) →
+    0 < b → is_listing job.command ≡ false → (is_store job.command ≡ false → rule' ≡ rule) → (is_store job.command ≡ true → rule' ≡ appends_by job rule) →
+    (is_store job.command ≡ false → mid ≡ files) → (is_store job.command ≡ true → IfSome left (λ l. TakesFront l left' b)) → (IsSome files → IsSome mid) →
+    (job.done ≡ 0 → IfSome files (λ f. IfSome left (λ l. StoresAs job.command job f (rule [] f) mid l b result.OutOfMemory None))) →
     (0 < job.done → is_store job.command ≡ true → IfSome files (λ f. IfSome left (λ l. GrowsFront f mid job.path l b))) →
-    IfSome files (λ f. IfSome (first_refusal job.command job f (rule f)) (λ k. ⊥)) →
-    IfSome mid (λ g. Refuses job.command (behind job b) rule g new left' later m k) →
+    IfSome files (λ f. IfSome (first_refusal job.command job f (rule [] f)) (λ k. ⊥)) →
+    IfSome mid (λ g. Refuses job.command (behind job b) rule' g new left' later m k) →
     IfSome files (λ f. Refuses job.command job rule f new left later (b + m) k)
-refused-told job rule None mid new left left' later b m k some goes same taken told stored grown first next = tt
-refused-told job rule (Some f) mid new left left' later b m k some goes same taken told stored grown first next =
-    refused-more job.command job rule f mid new left left' later b m k some goes same taken (told refl) stored grown first next
+refused-told job rule rule' None mid new left left' later b m k some goes kept owned same taken told stored grown first next = tt
+refused-told job rule rule' (Some f) mid new left left' later b m k some goes kept owned same taken told stored grown first next =
+    refused-more job.command job rule rule' f mid new left left' later b m k some goes kept owned same taken (told refl) stored grown first next
 
 -- where all of the rest was taken, all was
 TakesFront-all : (l rest later : Option (List ℕ)) (b m : ℕ) → IfSome l (λ l. TakesFront l rest b) → IfSome rest (λ l. (m ≡ length l) × (later ≡ Some [])) →
@@ -312,11 +333,16 @@ goes-on job old mid new b m r fault counts counts' fits first next =
     let storage : StorageFailed mid new → StorageFailed old new =
     λ rose. (HasRisen_later _ _ _ counts.storage counts'.storage rose.0, StorageMet-more _ _ _ (well job old mid b first) rose.1) in
     let sum : (job.done + b) + m ≡ job.done + (b + m) = omega arith in
-    let unrefused = IfSome_then old.files first.moves.refused (λ f h. IfSome_then (first_refusal job.command job f (old.rule f)) h (λ k refused. absurd (omega (arith, first.some, refused.0.0)))) in
+    let later : begun_by (job.done + b) (job.user, job.path) mid.rule ≡ mid.rule = begun_by-later (job.done + b) (job.user, job.path) mid.rule (omega (arith, first.some)) in
+    let rule : is_store job.command ≡ true → new.rule ≡ appends_by job old.rule =
+    λ e. stays-rule (job.done + b) (job.user, job.path) mid.rule new.rule _ (omega (arith, first.some)) (next.owned e) ∙ moved-rule job old mid b first e in
+    let unrefused = IfSome_then old.files first.moves.refused (λ f h. IfSome_then (first_refusal job.command job f (old.rule [] f)) h (λ k refused. absurd (omega (arith, first.some, refused.0.0)))) in
     let sends = sent-file job.command job.path job.offset job.done b m old.files mid.files old.sending.sent mid.sending.sent new.sending.sent first.goes_on same_files
     (λ e. next.silent e ∙ first.moves.silent e) first.moves.within first.moves.sent next.within next.sent in
     record {
-      rule = next.rule ∙ first.moves.rule;
+      rule = λ e. next.rule e ∙ first.moves.rule e;
+      owned = λ e. inl (rule e);
+      begun = λ e held memory. IfSome_any old.files _ (λ f none. rule e);
       sent = sends.1;
       within = sends.0;
       whole = sent-whole job.command r job.path job.offset job.done b m old.files mid.files first.goes_on fits same_files first.moves.within next.whole;
@@ -332,14 +358,14 @@ goes-on job old mid new b m r fault counts counts' fits first next =
           (Caused_later _ _ _ _ _ _ _ old.sending.last_fault new.sending.last_fault _ r fault
           (λ rose. (HasRisen_later _ _ _ counts.link counts'.link rose.0, LinkMet-more _ _ _ _ (first.moves.link_well refl) rose.1))
           storage
-          (λ k refused. refused-told job old.rule old.files mid.files new.files old.left mid.left new.left b m k first.some first.goes_on same_files first.taken first.told first.moves.stored first.moves.grown unrefused
-          (rw first.moves.rule at refused))
+          (λ k refused. refused-told job old.rule mid.rule old.files mid.files new.files old.left mid.left new.left b m k first.some first.goes_on first.moves.rule (moved-rule job old mid b first) same_files first.taken first.told first.moves.stored first.moves.grown unrefused
+          refused)
           (rw (held job old mid b first) at next.cause));
-      refused = IfSome_then old.files unrefused (λ f h. IfSome_then (first_refusal job.command job f (old.rule f)) h (λ k no. absurd no));
-      unrefused = λ e. rw (first.moves.rule, same_files (retrieves job.command r fits e), sum) at (next.unrefused e);
+      refused = IfSome_then old.files unrefused (λ f h. IfSome_then (first_refusal job.command job f (old.rule [] f)) h (λ k no. absurd no));
+      unrefused = λ e. rw (first.moves.rule (retrieves job.command r fits e), same_files (retrieves job.command r fits e), sum) at (next.unrefused e);
       refused_last = λ e told.
-          last-more (StorageFailed mid new) (StorageFailed old new) (meaning_of old.rule new.files) job.user job.path old.left mid.left new.left b m r storage (first.taken e)
-          (rw first.moves.rule at (next.refused_last e (first.told told)));
+          last-more (StorageFailed mid new) (StorageFailed old new) (meaning_of (appends_by job old.rule) new.files) job.user job.path old.left mid.left new.left b m r storage (first.taken e)
+          (subst (λ (x : Rule). RefusedLast (StorageFailed mid new) (meaning_of x new.files) job.user job.path (option_map (drop m) mid.left) new.left r) (later ∙ moved-rule job old mid b first e) (next.refused_last e (first.told told)));
       link_well = λ none. AllWell-more (λ (call : ℕ × LinkFault). call.0) _ _ _ (first.moves.link_well refl) (next.link_well none);
       storage_well = StorageWent-more _ _ _ _ (well job old mid b first) next.storage_well;
     }

@@ -6,4 +6,5 @@ pub mod MemoryUploads
 pub mod Refused
 pub mod Appended
 pub mod TurnLemmas
+pub mod BegunLemmas
 pub mod GoesOn

@@ -9,12 +9,13 @@ use Rattle.ftp_base.specs.declared.error_kind.ErrorKind.TheVariants as kind
 use Rattle.ftp_base.specs.declared.storage.Meta.{Meta}
 use Rattle.ftp_base.specs.declared.storage.StoreError.{StoreError}
 use Rattle.ftp_base.specs.declared.storage.StoreError.TheVariants.{Kind, Failed, OutOfMemory}
-use Rattle.ftp_base.specs.Storage.{Item, Directory, File, Files, Meaning, Rule, meaning_of, Metadata, Begin, item, bytes_of, contents, with_file, old_bytes, cut, meta_of, Begins, Refuses}
+use Rattle.ftp_base.specs.Storage.{Item, Directory, File, Files, Call, Meaning, Rule, once_begun, meaning_of, Answers, Metadata, Begin, item, bytes_of, contents, with_file, old_bytes, cut, meta_of, Begins, Refuses}
 use Rattle.ftp_base.proofs.Files.{with_file-with_file, contents-with_file}
 use Rattle.ftp_base.specs.declared.fault.LinkFault.{LinkFault}
 use Rattle.ftp_transfer.specs.declared.job.Completion.{Completion}
-use Rattle.ftp_transfer.specs.Run.{RefusedLast, RefusesAppend, RefusesStore, GrowsFront, TakesFront, Stores, append_place, append_refusal}
-use Rattle.ftp_transfer.specs.Turn.{start_after}
+use Rattle.ftp_transfer.specs.declared.job.Completion.TheVariants as result
+use Rattle.ftp_transfer.specs.Run.{IsStopped, RefusedLast, RefusesAppend, RefusesStore, GrowsFront, TakesFront, Stores, append_place, append_refusal}
+use Rattle.ftp_transfer.specs.Turn.{start_after, completion_of}
 use Rattle.ftp_transfer.proofs.Pieces.{take-plus}
 use Rattle.ftp_transfer.proofs.RunLemmas.{EndsRefused_later}
 
@@ -97,11 +98,11 @@ Stores-begun (Some f) fs fn path place None m r fault begun within grown = tt
 Stores-begun (Some f) fs fn path place (Some l) m r fault begun within grown =
     (within, inl (put_begun f fn path (cut (old_bytes f path) place) l m (rw begun at grown)))
 
--- an append that is refused once the file was begun is refused to the file as it then is
+-- an append that is refused by the rule once the file was begun is refused to the file as it then is
 pub Stores-refused : (f fs fn : Option Files) (rule : Rule) (user path : List ℕ) (place : ℕ) (l later : Option (List ℕ)) (m : ℕ) (k : ErrorKind) →
     Begins f fs path place →
     IfSome fs (λ g. IfSome l (λ l. GrowsFront g fn path l m)) →
-    (IsSome fs → RefusesAppend (meaning_of rule fn) user path (option_map (drop m) l) later k) →
+    (IsSome fs → RefusesAppend (meaning_of (once_begun (user, path) rule) fn) user path (option_map (drop m) l) later k) →
     IfSome f (λ f. RefusesStore rule user f fn path place l later m k)
 Stores-refused None fs fn rule user path place l later m k begun grown refused = tt
 Stores-refused (Some f) fs fn rule user path place None later m k begun grown refused = inr (tt, refused (rw begun refl))
@@ -131,12 +132,12 @@ append_place-start f path refusal (Err OutOfMemory) n answer found e = cc
 -- the first call of an APPE after metadata is refused as it would be alone
 pub append_refusal-begin : (told : Option Files) (rule : Rule) (user path : List ℕ) (n : ℕ) (P Q : Files → ErrorKind → Type 0) →
     ((f : Files) (k : ErrorKind) → P f k → Q f k) →
-    ((f : Files) → told ≡ Some f → append_place (rule f (Metadata user path)) (length (old_bytes f path)) ≡ Some n) →
-    IfSome told (λ f. IfSome (rule f (Begin user path n)) (P f)) →
-    IfSome told (λ f. IfSome (append_refusal (rule f) user path (length (old_bytes f path))) (Q f))
+    ((f : Files) → told ≡ Some f → append_place (rule [] f (Metadata user path)) (length (old_bytes f path)) ≡ Some n) →
+    IfSome told (λ f. IfSome (rule [] f (Begin user path n)) (P f)) →
+    IfSome told (λ f. IfSome (append_refusal (rule [] f) user path (length (old_bytes f path))) (Q f))
 append_refusal-begin None rule user path n P Q turn place h = tt
 append_refusal-begin (Some f) rule user path n P Q turn place h =
-    rw (place f refl) (IfSome_then (rule f (Begin user path n)) h (turn f))
+    rw (place f refl) (IfSome_then (rule [] f (Begin user path n)) h (turn f))
 
 -- a list has no more elements than itself
 not_longer : (piece left : List ℕ) → 0 < length piece → piece ++ left ≡ left → ⊥
@@ -170,9 +171,9 @@ RefusesAppend-told meaning user path (Some l) rest later m k taken refused = rw 
 
 -- what an APPE refuses where it begins
 pub RefusesAppe-at : (told : Option Files) (rule : Rule) (user path : List ℕ) (n : ℕ) (none : Files → Type 0) (P : Files → ℕ → Type 0) →
-    ((f : Files) → told ≡ Some f → append_place (rule f (Metadata user path)) (length (old_bytes f path)) ≡ Some n) →
+    ((f : Files) → told ≡ Some f → append_place (rule [] f (Metadata user path)) (length (old_bytes f path)) ≡ Some n) →
     IfSome told (λ f. P f n) →
-    IfSome told (λ f. MatchOption (append_place (rule f (Metadata user path)) (length (old_bytes f path))) (none f) (P f))
+    IfSome told (λ f. MatchOption (append_place (rule [] f (Metadata user path)) (length (old_bytes f path))) (none f) (P f))
 RefusesAppe-at None rule user path n none P place h = tt
 RefusesAppe-at (Some f) rule user path n none P place h = rw (place f refl) h
 
@@ -185,3 +186,48 @@ drop-nothing (Some l) = refl
 pub Begins-told : (old new : Option Files) (path : List ℕ) (start : ℕ) → Begins old new path start → IsSome old → IsSome new
 Begins-told None new path start begun told = cc
 Begins-told (Some f) new path start begun told = rw begun refl
+
+-- what a storage stops is stopped
+pub stops : (e : StoreError) → IsStopped (completion_of e)
+stops (Kind k) = tt
+stops Failed = tt
+stops OutOfMemory = tt
+
+-- a begin that failed was refused, or failed, or found no memory
+pub begins-else : {A : Type 0} (files : Option Files) (rule : Rule) (call : Call) (r : Result A StoreError) (e : StoreError) (rose P : Type 0) →
+    r ≡ Err e → Answers files (meaning_of rule files call) r → (r ≡ Err Failed → rose) → (rose → ⊥) → (completion_of e ≡ result.OutOfMemory → ⊥) →
+    IfSome files (λ f. rule [] f call ≡ None → P)
+begins-else None rule call r e rose P is answers fails held memory = tt
+begins-else (Some f) rule call r (Kind k) rose P is answers fails held memory =
+    λ none. let refused : rule [] f call ≡ Some k = rw is at (answers refl) in cc (sym none ∙ refused)
+begins-else (Some f) rule call r Failed rose P is answers fails held memory = absurd (held (fails is))
+begins-else (Some f) rule call r OutOfMemory rose P is answers fails held memory = absurd (memory refl)
+
+-- an APPE that goes on after its metadata begins where it would begin alone
+pub append-begins : (told : Option Files) (rule : Rule) (user path : List ℕ) (n : ℕ) (P : Type 0) →
+    ((f : Files) → told ≡ Some f → append_place (rule [] f (Metadata user path)) (length (old_bytes f path)) ≡ Some n) →
+    IfSome told (λ f. rule [] f (Begin user path n) ≡ None → P) →
+    IfSome told (λ f. append_refusal (rule [] f) user path (length (old_bytes f path)) ≡ None → P)
+append-begins None rule user path n P place h = tt
+append-begins (Some f) rule user path n P place h = rw (place f refl) h
+
+-- an APPE whose metadata led nowhere was refused, or they failed, or found no memory
+pub append-else : (files : Option Files) (rule : Rule) (user path : List ℕ) (r : Result Meta StoreError) (c : Completion) (rose P : Type 0) →
+    start_after r ≡ Err c → Answers files (meaning_of rule files (Metadata user path)) r → (r ≡ Err Failed → rose) → (rose → ⊥) → (c ≡ result.OutOfMemory → ⊥) →
+    IfSome files (λ f. append_refusal (rule [] f) user path (length (old_bytes f path)) ≡ None → P)
+append-else None rule user path r c rose P on answers fails held memory = tt
+append-else (Some f) rule user path (Ok meta) c rose P on answers fails held memory = cc on
+append-else (Some f) rule user path (Err (Kind kind.PermanentFileNotAvailable)) c rose P on answers fails held memory = cc on
+append-else (Some f) rule user path (Err (Kind k)) c rose P on answers fails held memory = λ none. cc (rw (answers refl) at none)
+append-else (Some f) rule user path (Err Failed) c rose P on answers fails held memory = absurd (held (fails refl))
+append-else (Some f) rule user path (Err OutOfMemory) c rose P on answers fails held memory =
+    let is : c ≡ result.OutOfMemory = cc in
+    absurd (memory is)
+
+-- metadata that led nowhere stopped the transfer
+pub stops-after : (r : Result Meta StoreError) (c : Completion) → start_after r ≡ Err c → IsStopped c
+stops-after (Ok meta) c on = cc on
+stops-after (Err (Kind kind.PermanentFileNotAvailable)) c on = cc on
+stops-after (Err (Kind k)) c on = let is : result.Refused k ≡ c = cc in rw (sym is) tt
+stops-after (Err Failed) c on = let is : result.Refused kind.LocalError ≡ c = cc in rw (sym is) tt
+stops-after (Err OutOfMemory) c on = let is : result.OutOfMemory ≡ c = cc in rw (sym is) tt

@@ -10,7 +10,7 @@ use Rattle.ftp_base.specs.declared.fault.LinkFault.{LinkFault}
 use Rattle.ftp_base.specs.Calls.{Calls, AllWell}
 use Rattle.ftp_base.specs.Memory as memory
 use Rattle.ftp_base.specs.Outside.{HasRisen, Writes, Sending}
-use Rattle.ftp_base.specs.Storage.{Files, Meaning, Rule, meaning_of, Listing, ReadAt, Begin, get, old_bytes, listing}
+use Rattle.ftp_base.specs.Storage.{BegunFile, Files, Meaning, Rule, once_begun, meaning_of, Listing, ReadAt, Begin, get, old_bytes, listing}
 use Rattle.ftp_transfer.specs.declared.job.Job.{Job}
 use Rattle.ftp_transfer.specs.declared.job.Outcome.{Outcome}
 use Rattle.ftp_transfer.specs.declared.job.PieceResult.{PieceResult}
@@ -18,7 +18,7 @@ use Rattle.ftp_transfer.specs.declared.job.PieceResult.TheVariants.{More, Ended}
 use Rattle.ftp_transfer.specs.declared.job.Completion.{Completion}
 use Rattle.ftp_transfer.specs.declared.job.Completion.TheVariants as result
 use Rattle.ftp_transfer.specs.Listing.{listing_text}
-use Rattle.ftp_transfer.specs.Run.{StorageRose, LinkRose, StorageWent, link_failure, Caused, RefusedFirst, RefusedLast, GrowsFront, TakesFront, Stores, RefusesStore, Appends, RefusesAppe, RefusesMore, TakesStore, TakesAppe, TakesMore, append_refusal, read_place}
+use Rattle.ftp_transfer.specs.Run.{StorageRose, LinkRose, StorageWent, link_failure, Caused, RefusedFirst, RefusedLast, GrowsFront, TakesFront, Stores, NotBegun, RefusesStore, Appends, RefusesAppe, RefusesMore, TakesStore, TakesAppe, TakesMore, append_refusal, read_place}
 use Rattle.ftp_transfer.specs.Transfer.{is_store, is_listing}
 
 -- what a storage and a link tell, and their calls
@@ -93,14 +93,14 @@ ByDone done first later = ((done ≡ 0) × first) ⊎ ((0 < done) × later)
 -- the run, or those where it ended after m bytes
 abbrev pub Refuses : DataChanCmd → Job → Rule → Files → Option Files → Option (List ℕ) → Option (List ℕ) → ℕ → ErrorKind → Type 0
 Refuses (command.Retr _) job rule files new input later m k =
-    rule files (ReadAt job.user job.path (read_place job.offset (job.done + m))) ≡ Some k
+    rule [] files (ReadAt job.user job.path (read_place job.offset (job.done + m))) ≡ Some k
 Refuses (command.Stor _) job rule files new input later m k =
     ByDone job.done (RefusesStore rule job.user files new job.path job.offset input later m k)
     (RefusesMore rule job.user files new job.path input later m k)
 Refuses (command.Appe _) job rule files new input later m k =
     ByDone job.done (RefusesAppe rule job.user files new job.path input later m k)
     (RefusesMore rule job.user files new job.path input later m k)
-Refuses c job rule files new input later m k = RefusesListing c (rule files) job.user job.path k
+Refuses c job rule files new input later m k = RefusesListing c (rule [] files) job.user job.path k
 
 -- what is told of a first call, where no piece came before
 abbrev pub only_first : ℕ → Option ErrorKind → Option ErrorKind
@@ -128,10 +128,23 @@ IsDone result.Written = Unit {0}
 IsDone result.Listed = Unit {0}
 IsDone _ = ⊥
 
+-- the rule by which appends are judged where so many bytes moved before: if none did, the file is begun first
+abbrev pub begun_by : ℕ → BegunFile → Rule → Rule
+begun_by zero begun rule = once_begun begun rule
+begun_by (suc done) begun rule = rule
+
+-- the rule by which the appends of a store are judged
+abbrev pub appends_by : Job → Rule → Rule
+appends_by job rule = begun_by job.done (job.user, job.path) rule
+
 -- what a run moved, what it left, and why it ended
 pub record Moves (job : Job) (old new : Told) (m : ℕ) (r : Completion) (fault : Option LinkFault) : Type 0 where
-  -- which calls the storage refuses by what stands there stays
-  pub rule : new.rule ≡ old.rule
+  -- which calls the storage refuses stays, but for a store that began its file
+  pub rule : is_store job.command ≡ false → new.rule ≡ old.rule
+  pub owned : is_store job.command ≡ true → (new.rule ≡ appends_by job old.rule) ⊎ ((new.rule ≡ old.rule) × NotBegun m r fault)
+  -- a store whose first calls are not refused, and that nothing stopped before its file was begun, began it
+  pub begun : is_store job.command ≡ true → (StorageFailed old new → ⊥) → (r ≡ result.OutOfMemory → ⊥) →
+      IfSome old.files (λ f. first_refusal job.command job f (old.rule [] f) ≡ None → new.rule ≡ appends_by job old.rule)
   -- what was sent is the front of what is due, and all of it where the result says so
   pub sent : IfSome old.files (λ f. Writes old.sending.sent new.sending.sent (take m (due job f)))
   pub within : is_store job.command ≡ false → IfSome old.files (λ f. m ≤ length (due job f))
@@ -140,7 +153,7 @@ pub record Moves (job : Job) (old new : Told) (m : ℕ) (r : Completion) (fault 
   pub silent : is_store job.command ≡ true → new.sending.sent ≡ old.sending.sent
   pub kept : is_store job.command ≡ false → (new.files ≡ old.files) × (new.left ≡ old.left)
   -- what was stored is the front of the input, behind what earlier pieces stored, and all of it where the result says so
-  pub stored : job.done ≡ 0 → IfSome old.files (λ f. IfSome old.left (λ l. StoresAs job.command job f (old.rule f) new.files l m r fault))
+  pub stored : job.done ≡ 0 → IfSome old.files (λ f. IfSome old.left (λ l. StoresAs job.command job f (old.rule [] f) new.files l m r fault))
   pub grown : 0 < job.done → is_store job.command ≡ true →
       IfSome old.files (λ f. IfSome old.left (λ l. GrowsFront f new.files job.path l m))
   pub written : r ≡ result.Written → IfSome old.left (λ l. (m ≡ length l) × (new.left ≡ Some []))
@@ -153,14 +166,14 @@ pub record Moves (job : Job) (old new : Told) (m : ℕ) (r : Completion) (fault 
       (λ k. IfSome old.files (λ f. Refuses job.command job old.rule f new.files old.left new.left m k))
       (job.done + m) r fault
   -- a refusal of the first call is the result, and then nothing is stored, and nothing taken of the link
-  pub refused : IfSome old.files (λ f. IfSome (first_refusal job.command job f (old.rule f)) (λ k.
+  pub refused : IfSome old.files (λ f. IfSome (first_refusal job.command job f (old.rule [] f)) (λ k.
       RefusedFirst (StorageFailed old new) k m r × (new.files ≡ Some f) × (new.left ≡ old.left)))
   -- a file was sent to its end only where no read there is refused
   pub unrefused : r ≡ result.Sent →
-      IfSome old.files (λ f. old.rule f (ReadAt job.user job.path (read_place job.offset (job.done + m))) ≡ None)
+      IfSome old.files (λ f. old.rule [] f (ReadAt job.user job.path (read_place job.offset (job.done + m))) ≡ None)
   -- a refusal of the piece that a store took last is the result
   pub refused_last : is_store job.command ≡ true → IsSome old.files →
-      RefusedLast (StorageFailed old new) (meaning_of old.rule new.files) job.user job.path
+      RefusedLast (StorageFailed old new) (meaning_of (appends_by job old.rule) new.files) job.user job.path
       (option_map (drop m) old.left) new.left r
   -- without a fault no call of the link was one of those that fail
   pub link_well : fault ≡ None → AllWell (λ (call : ℕ × LinkFault). call.0) old.link_calls new.link_calls
@@ -214,12 +227,12 @@ next_job job (Ended outcome) = job
 -- reaches; to begin, and the appends of what the link gives, before them the metadata of an APPE; the listing
 abbrev pub Takes : DataChanCmd → Job → Rule → Files → Option (List ℕ) → Type 0
 Takes (command.Retr _) job rule files input =
-    (m : ℕ) → m ≤ length (get (old_bytes files job.path) (job.offset + job.done)) → rule files (ReadAt job.user job.path (read_place job.offset (job.done + m))) ≡ None
+    (m : ℕ) → m ≤ length (get (old_bytes files job.path) (job.offset + job.done)) → rule [] files (ReadAt job.user job.path (read_place job.offset (job.done + m))) ≡ None
 Takes (command.Stor _) job rule files input =
     ByDone job.done (IsSomeAnd input (TakesStore rule job.user job.path files job.offset)) (IsSomeAnd input (TakesMore rule job.user job.path files))
 Takes (command.Appe _) job rule files input =
     ByDone job.done (IsSomeAnd input (TakesAppe rule job.user job.path files)) (IsSomeAnd input (TakesMore rule job.user job.path files))
-Takes c job rule files input = rule files (Listing job.user job.path) ≡ None
+Takes c job rule files input = rule [] files (Listing job.user job.path) ≡ None
 
 -- the rule refuses no call where a run ended
 abbrev pub EndsUnrefused : Job → Files → Told → Told → ℕ → Type 0

@@ -1,7 +1,7 @@
 -- What a run of a job sends and stores, and why it ends.
 --   m              how many bytes this run moved
 --   before, last   what the link's last fault was before the run, and is after it
-use Rattle.std.specs.Prelude.{◌≡◌, ◌⊎◌, ℕ, ◌+◌, ◌-◌, ◌^◌, ◌<◌, ◌≤◌, List, ◌++◌, length, take, drop, min, Option, Some, None, IsSome, IfSome, IsSomeAnd, MatchOption, if◌then◌else◌}
+use Rattle.std.specs.Prelude.{◌≡◌, ◌⊎◌, ℕ, ◌+◌, ◌-◌, ◌^◌, ◌<◌, ◌≤◌, List, [], ◌++◌, length, take, drop, min, Option, Some, None, IsSome, IfSome, IsSomeAnd, MatchOption, if◌then◌else◌}
 use Rattle.std.specs.Option.{option_map, option_map_or}
 use Rattle.ftp_base.specs.declared.command.DataChanCmd.{DataChanCmd}
 use Rattle.ftp_base.specs.declared.error_kind.ErrorKind.{ErrorKind}
@@ -10,7 +10,7 @@ use Rattle.ftp_base.specs.declared.fault.LinkFault.{LinkFault}
 use Rattle.ftp_base.specs.Calls.{Calls, AllWell}
 use Rattle.ftp_base.specs.Memory.{LinkMet, StorageMet}
 use Rattle.ftp_base.specs.Outside.{HasRisen, Writes}
-use Rattle.ftp_base.specs.Storage.{Files, Meaning, Rule, meaning_of, Metadata, Begin, Append, contents, with_file, old_bytes, put}
+use Rattle.ftp_base.specs.Storage.{Files, Meaning, Rule, once_begun, meaning_of, Metadata, Begin, Append, contents, with_file, old_bytes, put}
 use Rattle.ftp_transfer.specs.declared.job.Completion.{Completion}
 use Rattle.ftp_transfer.specs.declared.job.Completion.TheVariants as result
 use Rattle.ftp_transfer.specs.Transfer.{is_listing}
@@ -105,12 +105,12 @@ RefusedLast storage_rose meaning user path rest later r =
 abbrev pub IsStored : Files → Option Files → List ℕ → ℕ → List ℕ → ℕ → Type 0
 IsStored files new path place input m = new ≡ Some (with_file files path (put (old_bytes files path) place (take m input)))
 
--- the storage refuses to begin, or to append what was taken last to the file as it then was
+-- the storage refuses to begin, or, once the file was begun, to append what was taken last to it as it then was
 abbrev pub RefusesStore : Rule → List ℕ → Files → Option Files → List ℕ → ℕ → Option (List ℕ) → Option (List ℕ) → ℕ → ErrorKind → Type 0
 RefusesStore rule user files new path place input later m k =
-    ((m ≡ 0) × (rule files (Begin user path place) ≡ Some k))
+    ((m ≡ 0) × (rule [] files (Begin user path place) ≡ Some k))
     ⊎ (IfSome input (λ l. IsStored files new path place l m)
-    × RefusesAppend (meaning_of rule new) user path (option_map (drop m) input) later k)
+    × RefusesAppend (meaning_of (once_begun (user, path) rule) new) user path (option_map (drop m) input) later k)
 
 -- the storage refuses to append what was taken last to the file, which had been begun before and grew
 abbrev pub RefusesMore : Rule → List ℕ → Files → Option Files → List ℕ → Option (List ℕ) → Option (List ℕ) → ℕ → ErrorKind → Type 0
@@ -144,28 +144,28 @@ append_place (Some _) len = None
 -- the storage refuses metadata, to begin, or to append what was taken last
 abbrev pub RefusesAppe : Rule → List ℕ → Files → Option Files → List ℕ → Option (List ℕ) → Option (List ℕ) → ℕ → ErrorKind → Type 0
 RefusesAppe rule user files new path input later m k =
-    MatchOption (append_place (rule files (Metadata user path)) (length (old_bytes files path))) ((m ≡ 0) × (rule files (Metadata user path) ≡ Some k))
+    MatchOption (append_place (rule [] files (Metadata user path)) (length (old_bytes files path))) ((m ≡ 0) × (rule [] files (Metadata user path) ≡ Some k))
     (λ place. RefusesStore rule user files new path place input later m k)
 
--- the rule refuses no call of a store of the whole input at a place: to begin, and to append the next 1 to 8,192 bytes
--- to the file as it then is
+-- the rule refuses no call of a store of the whole input at a place: to begin, and once the file was begun, to append the
+-- next 1 to 8,192 bytes to it as it then is
 pub record TakesStore (rule : Rule) (user path : List ℕ) (files : Files) (place : ℕ) (input : List ℕ) : Type 0 where
-  pub begin : rule files (Begin user path place) ≡ None
+  pub begin : rule [] files (Begin user path place) ≡ None
   pub appends :
       (m n : ℕ) → 0 < n → n ≤ 8192 → m + n ≤ length input →
-      rule (with_file files path (put (old_bytes files path) place (take m input))) (Append user path (take n (drop m input))) ≡ None
+      once_begun (user, path) rule [] (with_file files path (put (old_bytes files path) place (take m input))) (Append user path (take n (drop m input))) ≡ None
 
 -- the same of an APPE, which asks for metadata first
 abbrev pub TakesAppe : Rule → List ℕ → List ℕ → Files → List ℕ → Type 0
 TakesAppe rule user path files input =
-    MatchOption (append_place (rule files (Metadata user path)) (length (old_bytes files path))) ⊥
+    MatchOption (append_place (rule [] files (Metadata user path)) (length (old_bytes files path))) ⊥
     (λ place. TakesStore rule user path files place input)
 
 -- the rule refuses no append of the next 1 to 8,192 bytes of the input to a file that had been begun before, as it then is
 abbrev pub TakesMore : Rule → List ℕ → List ℕ → Files → List ℕ → Type 0
 TakesMore rule user path files input =
     (m n : ℕ) (now : Files) → GrowsFront files (Some now) path input m → 0 < n → n ≤ 8192 → m + n ≤ length input →
-    rule now (Append user path (take n (drop m input))) ≡ None
+    rule [] now (Append user path (take n (drop m input))) ≡ None
 
 -- the file is the old one with the first bytes of the input put behind it, or nothing was begun
 abbrev pub Appends : Meaning → List ℕ → Files → Option Files → List ℕ → List ℕ → ℕ → Completion → Option LinkFault → Type 0

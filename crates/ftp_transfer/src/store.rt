@@ -1,14 +1,14 @@
 //! STOR and APPE (RFC 959, section 4.1.3): what the link gives goes to the end of a file.
 
-ghost use Rattle.std.specs.Prelude.{◌≡◌, ◌≢◌, ◌+◌, ◌-◌, ◌^◌, ◌<◌, ◌≤◌, true, [], length, drop, Some, None, IsSome, IsNone, IfSome};
+ghost use Rattle.std.specs.Prelude.{◌≡◌, ◌⊎◌, ◌≢◌, ◌+◌, ◌-◌, ◌^◌, ◌<◌, ◌≤◌, true, [], length, drop, Some, None, IsSome, IsNone, IfSome};
 ghost use Rattle.std.specs.Option.{option_map};
 ghost use Rattle.ftp_base.specs.declared.error_kind.ErrorKind.TheVariants as kind;
 ghost use Rattle.ftp_base.specs.Calls.{AllWell};
-ghost use Rattle.ftp_base.specs.Kept.{StorageKept, OnlyReads};
-ghost use Rattle.ftp_base.specs.Storage.{Begin, Append, meaning_of, Grows, old_bytes};
+ghost use Rattle.ftp_base.specs.Kept.{CountsOn, StorageKept, OnlyReads};
+ghost use Rattle.ftp_base.specs.Storage.{Begin, Append, once_begun, meaning_of, Grows, old_bytes};
 ghost use Rattle.ftp_transfer.specs.declared.job.Completion.TheVariants as done;
 ghost use Rattle.ftp_transfer.specs.Ran.{IsDone};
-ghost use Rattle.ftp_transfer.specs.Run.{LinkRose, StorageRose, StorageWent, Caused, EndsRefused, RefusedFirst, RefusedLast, GrowsFront, RefusesAppend, TakesFront, Stores, RefusesStore, Appends, RefusesAppe, append_refusal};
+ghost use Rattle.ftp_transfer.specs.Run.{NotBegun, LinkRose, StorageRose, StorageWent, Caused, EndsRefused, RefusedFirst, RefusedLast, GrowsFront, RefusesAppend, TakesFront, Stores, RefusesStore, Appends, RefusesAppe, append_refusal};
 ghost use Rattle.ftp_transfer.specs.Transfer.{is_store, suits};
 ghost use Rattle.ftp_transfer.specs.Turn.{StopsStoring, start_after, result_of, fault_of};
 
@@ -47,13 +47,19 @@ pub fn store<S: Storage, L: Link>(
         (λ k. IfSome (S.files storage.old) (λ f. RefusesStore (S.rule storage.old) job.now.user f (S.files storage.new) job.now.path start
         (L.left link.old) (L.left link.new) result.bytes k))
         (job.now.done + result.bytes) (result_of result.end) (fault_of result.end) }
-    ensures refused { IfSome (S.files storage.old) (λ f. IfSome (S.rule storage.old f (Begin job.now.user job.now.path start))
+    ensures refused { IfSome (S.files storage.old) (λ f. IfSome (S.rule storage.old [] f (Begin job.now.user job.now.path start))
         (λ k. RefusedFirst (StorageRose (S.faults storage.old) (S.faults storage.new) (S.calls storage.old) (S.calls storage.new)) k result.bytes (result_of result.end) × (S.files storage.new ≡ Some f) × (L.left link.new ≡ L.left link.old))) }
     ensures refused_last { IsSome (S.files storage.old) →
-        RefusedLast (StorageRose (S.faults storage.old) (S.faults storage.new) (S.calls storage.old) (S.calls storage.new)) (meaning_of (S.rule storage.old) (S.files storage.new)) job.now.user job.now.path
+        RefusedLast (StorageRose (S.faults storage.old) (S.faults storage.new) (S.calls storage.old) (S.calls storage.new)) (meaning_of (once_begun (job.now.user, job.now.path) (S.rule storage.old)) (S.files storage.new)) job.now.user job.now.path
         (option_map (drop result.bytes) (L.left link.old)) (L.left link.new) (result_of result.end) }
 
-    ensures storage_kept { StorageKept S.rule S.faults S.fault_limit storage.old storage.new }
+    ensures owned { (S.rule storage.new ≡ once_begun (job.now.user, job.now.path) (S.rule storage.old))
+        ⊎ ((S.rule storage.new ≡ S.rule storage.old) × NotBegun result.bytes (result_of result.end) (fault_of result.end)) }
+    ensures begins { (StorageRose (S.faults storage.old) (S.faults storage.new) (S.calls storage.old) (S.calls storage.new) → ⊥) →
+        (result_of result.end ≡ done.OutOfMemory → ⊥) →
+        IfSome (S.files storage.old) (λ f. S.rule storage.old [] f (Begin job.now.user job.now.path start) ≡ None →
+        S.rule storage.new ≡ once_begun (job.now.user, job.now.path) (S.rule storage.old)) }
+    ensures storage_counts { CountsOn S.faults S.fault_limit storage.old storage.new }
     ensures only_reads { OnlyReads L.sending L.faults L.fault_limit link.old link.new }
     ensures storage_well { StorageWent (S.calls storage.old) (S.calls storage.new) (result_of result.end) }
     ensures link_well { fault_of result.end ≡ None → AllWell (λ call. call.0) (L.calls link.old) (L.calls link.new) }
@@ -81,7 +87,7 @@ pub fn append<S: Storage, L: Link>(
     ensures taken { IsNone result.end → IfSome (L.left link.old) (λ l. TakesFront l (L.left link.new) result.bytes) }
     ensures told { IsSome (S.files storage.old) → IsSome (S.files storage.new) }
     ensures stored { IfSome (S.files storage.old) (λ f. IfSome (L.left link.old) (λ l.
-        Appends (S.rule storage.old f) job.now.user f (S.files storage.new) job.now.path l result.bytes (result_of result.end) (fault_of result.end))) }
+        Appends (S.rule storage.old [] f) job.now.user f (S.files storage.new) job.now.path l result.bytes (result_of result.end) (fault_of result.end))) }
     ensures within { IfSome (L.left link.old) (λ l. result.bytes ≤ length l) }
     ensures whole { result_of result.end ≡ done.Written →
         IfSome (L.left link.old) (λ l. (result.bytes ≡ length l) × (L.left link.new ≡ Some [])) }
@@ -94,13 +100,19 @@ pub fn append<S: Storage, L: Link>(
         (λ k. IfSome (S.files storage.old) (λ f. RefusesAppe (S.rule storage.old) job.now.user f (S.files storage.new) job.now.path
         (L.left link.old) (L.left link.new) result.bytes k))
         (job.now.done + result.bytes) (result_of result.end) (fault_of result.end) }
-    ensures refused { IfSome (S.files storage.old) (λ f. IfSome (append_refusal (S.rule storage.old f) job.now.user job.now.path (length (old_bytes f job.now.path)))
+    ensures refused { IfSome (S.files storage.old) (λ f. IfSome (append_refusal (S.rule storage.old [] f) job.now.user job.now.path (length (old_bytes f job.now.path)))
         (λ k. RefusedFirst (StorageRose (S.faults storage.old) (S.faults storage.new) (S.calls storage.old) (S.calls storage.new)) k result.bytes (result_of result.end) × (S.files storage.new ≡ Some f) × (L.left link.new ≡ L.left link.old))) }
     ensures refused_last { IsSome (S.files storage.old) →
-        RefusedLast (StorageRose (S.faults storage.old) (S.faults storage.new) (S.calls storage.old) (S.calls storage.new)) (meaning_of (S.rule storage.old) (S.files storage.new)) job.now.user job.now.path
+        RefusedLast (StorageRose (S.faults storage.old) (S.faults storage.new) (S.calls storage.old) (S.calls storage.new)) (meaning_of (once_begun (job.now.user, job.now.path) (S.rule storage.old)) (S.files storage.new)) job.now.user job.now.path
         (option_map (drop result.bytes) (L.left link.old)) (L.left link.new) (result_of result.end) }
 
-    ensures storage_kept { StorageKept S.rule S.faults S.fault_limit storage.old storage.new }
+    ensures owned { (S.rule storage.new ≡ once_begun (job.now.user, job.now.path) (S.rule storage.old))
+        ⊎ ((S.rule storage.new ≡ S.rule storage.old) × NotBegun result.bytes (result_of result.end) (fault_of result.end)) }
+    ensures begins { (StorageRose (S.faults storage.old) (S.faults storage.new) (S.calls storage.old) (S.calls storage.new) → ⊥) →
+        (result_of result.end ≡ done.OutOfMemory → ⊥) →
+        IfSome (S.files storage.old) (λ f. append_refusal (S.rule storage.old [] f) job.now.user job.now.path (length (old_bytes f job.now.path)) ≡ None →
+        S.rule storage.new ≡ once_begun (job.now.user, job.now.path) (S.rule storage.old)) }
+    ensures storage_counts { CountsOn S.faults S.fault_limit storage.old storage.new }
     ensures only_reads { OnlyReads L.sending L.faults L.fault_limit link.old link.new }
     ensures storage_well { StorageWent (S.calls storage.old) (S.calls storage.new) (result_of result.end) }
     ensures link_well { fault_of result.end ≡ None → AllWell (λ call. call.0) (L.calls link.old) (L.calls link.new) }

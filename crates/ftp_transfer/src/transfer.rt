@@ -1,7 +1,7 @@
 //! Runs a job on its storage and its link, whole or piece by piece.
 
 ghost use Rattle.std.specs.Prelude.{◌≡◌, ◌+◌, ◌-◌, ◌<◌, ◌≤◌, ◌^◌, true, false, length, IsSome, IsNone, IfSome};
-ghost use Rattle.ftp_base.specs.Kept.{CountsOn, StorageKept};
+ghost use Rattle.ftp_base.specs.Kept.{CountsOn};
 ghost use Rattle.ftp_transfer.specs.declared.job.Completion.TheVariants as done;
 ghost use Rattle.ftp_transfer.specs.Ran.{told, Moves, Ran, RanPiece, IsClean, IsDone, next_job};
 ghost use Rattle.ftp_transfer.specs.Run.{TakesFront};
@@ -26,6 +26,8 @@ use std::alloc::Global;
 /// - STOR stores from the offset on, and APPE behind the file, a front of what the link gave, the whole where the
 ///   result is `Written` (`ran`).
 /// - A store sends nothing, and every other command stores and takes nothing (`ran`).
+/// - A store leaves the storage's rule as that rule says of the file that it begins, and begins it, unless its first call
+///   is refused, the storage fails or memory runs out; every other command leaves the rule (`ran`).
 /// - Each result by its cause: a read or write of the link failed, before the link was closed, which a listing tells as
 ///   `WriteFailed` and every other command as `ConnectionClosed`; the storage failed, or refused by the rule that the
 ///   job met, at the files as they then were; or want of memory. The fault is the link's last one where its read or
@@ -46,7 +48,7 @@ use std::alloc::Global;
 /// - The result suits the command (`suits`).
 /// - A job of which the storage's rule refuses no call, of which no call but the link's close fails, and for which
 ///   memory is found, is done (`complete`).
-/// - No count of faults falls, and no limit of faults rises (`storage_kept`, `link_counts`).
+/// - No count of faults falls, and no limit of faults rises (`storage_counts`, `link_counts`).
 /// - RETR answers want of memory only where the storage's reads or the link's writes may (`no_memory`).
 pub fn execute<S: Storage, L: Link>(
     alloc: Global,
@@ -70,7 +72,7 @@ pub fn execute<S: Storage, L: Link>(
         (L.left link.new) (L.sending link.new) (L.faults link.new) (L.calls link.new))
         result → IsDone result.result }
     ensures no_memory { is_retrieve job.command ≡ true → S.reads_take_memory ≡ false → L.takes_memory ≡ false → result.result ≡ done.OutOfMemory → ⊥ }
-    ensures storage_kept { StorageKept S.rule S.faults S.fault_limit storage.old storage.new }
+    ensures storage_counts { CountsOn S.faults S.fault_limit storage.old storage.new }
     ensures link_counts { CountsOn L.faults L.fault_limit link.old link.new }
 {
     let outcome = run(alloc, job, storage, link);
@@ -86,7 +88,7 @@ pub fn execute<S: Storage, L: Link>(
 /// - A piece of a RETR, a STOR or an APPE moves what such a turn moves of what is left behind earlier pieces, and
 ///   leaves the link as open as before; the job then counts its bytes (`Went` in `ftp_transfer/specs/Ran.antt`). Or it
 ///   ends the transfer, and then all holds that `execute` says (`ran`, `raised`, `suits`, `complete`, `no_memory`,
-///   `storage_kept`, `link_counts`).
+///   `storage_counts`, `link_counts`).
 pub fn execute_piece<S: Storage, L: Link>(
     alloc: Global,
     job: &mut Job,
@@ -108,7 +110,7 @@ pub fn execute_piece<S: Storage, L: Link>(
         (L.left link.new) (L.sending link.new) (L.faults link.new) (L.calls link.new))
         o → IsDone o.result) }
     ensures no_memory { is_retrieve job.old.command ≡ true → S.reads_take_memory ≡ false → L.takes_memory ≡ false → IfEnded result (λ o. o.result ≡ done.OutOfMemory → ⊥) }
-    ensures storage_kept { StorageKept S.rule S.faults S.fault_limit storage.old storage.new }
+    ensures storage_counts { CountsOn S.faults S.fault_limit storage.old storage.new }
     ensures link_counts { CountsOn L.faults L.fault_limit link.old link.new }
 {
     let mut buffer = [0; PIECE_LEN];
@@ -136,7 +138,7 @@ fn run<S: Storage, L: Link>(alloc: Global, job: Job, storage: &mut S, link: &mut
         (result.bytes - job.done) result.result result.fault }
     ensures suits { suits result.result job.command ≡ true }
     ensures no_memory { is_retrieve job.command ≡ true → S.reads_take_memory ≡ false → L.takes_memory ≡ false → result.result ≡ done.OutOfMemory → ⊥ }
-    ensures storage_kept { StorageKept S.rule S.faults S.fault_limit storage.old storage.new }
+    ensures storage_counts { CountsOn S.faults S.fault_limit storage.old storage.new }
     ensures closed { (L.sending link.new).closed ≡ (L.sending link.old).closed }
     ensures link_counts { CountsOn L.faults L.fault_limit link.old link.new }
 {
@@ -180,7 +182,7 @@ fn take_turn<S: Storage, L: Link>(
     ensures told { IsSome (S.files storage.old) → IsSome (S.files storage.new) }
     ensures suits { suits (result_of result.end) job.now.command ≡ true }
     ensures no_memory { is_retrieve job.now.command ≡ true → S.reads_take_memory ≡ false → L.takes_memory ≡ false → IfSome result.end (λ e. e.result ≡ done.OutOfMemory → ⊥) }
-    ensures storage_kept { StorageKept S.rule S.faults S.fault_limit storage.old storage.new }
+    ensures storage_counts { CountsOn S.faults S.fault_limit storage.old storage.new }
     ensures closed { (L.sending link.new).closed ≡ (L.sending link.old).closed }
     ensures link_counts { CountsOn L.faults L.fault_limit link.old link.new }
     ensures same_length { length buffer.new ≡ length buffer.old }

@@ -1,6 +1,6 @@
 use Rattle.std.proofs.Common.{true, ◌≡◌, ◌∙◌, inl, inr, ℕ, ◌+◌, ◌-◌, ◌≤◌, Option, ap, arith, rules}
 use Rattle.std.specs.Prelude.{◌⊎◌}
-use Rattle.ftp_base.proofs.KeptLemmas.{StorageKept-more, CountsOn-more}
+use Rattle.ftp_base.proofs.KeptLemmas.{CountsOn-more}
 use Rattle.ftp_transfer.specs.declared.job.Job.{Job}
 use Rattle.ftp_transfer.specs.declared.job.Completion.{Completion}
 use Rattle.ftp_base.specs.declared.fault.LinkFault.{LinkFault}
@@ -46,8 +46,8 @@ returns-in-Some-clause-moves g c =
     (told (g.S.Storage.files c.pieces.storage) (g.S.Storage.rule c.pieces.storage) (g.S.Storage.faults c.pieces.storage) (g.S.Storage.calls c.pieces.storage) (g.L.Source.left c.pieces.link) (g.L.Source.sending c.pieces.link) (g.L.Source.faults c.pieces.link) (g.L.Source.calls c.pieces.link))
     (told (g.S.Storage.files c.take_turn-turn.new.storage) (g.S.Storage.rule c.take_turn-turn.new.storage) (g.S.Storage.faults c.take_turn-turn.new.storage) (g.S.Storage.calls c.take_turn-turn.new.storage) (g.L.Source.left c.take_turn-turn.new.link) (g.L.Source.sending c.take_turn-turn.new.link) (g.L.Source.faults c.take_turn-turn.new.link) (g.L.Source.calls c.take_turn-turn.new.link))
     c.take_turn-turn.result.bytes c.in-Some.end.result c.in-Some.end.fault
-    (record { storage = c.pieces.invariant.storage_kept.counts.count; link = c.pieces.invariant.link_counts.count })
-    (record { storage = c.take_turn-turn.ensures.storage_kept.counts.count; link = c.take_turn-turn.ensures.link_counts.count })
+    (record { storage = c.pieces.invariant.storage_counts.count; link = c.pieces.invariant.link_counts.count })
+    (record { storage = c.take_turn-turn.ensures.storage_counts.count; link = c.take_turn-turn.ensures.link_counts.count })
     c.pieces.invariant.more c.pieces.invariant.job
     (rw (c.in-Some.is, command) at c.take_turn-turn.ensures.suits)
     c.pieces.invariant.went
@@ -65,8 +65,8 @@ pieces-preserved g c =
           (told (g.S.Storage.files c.pieces.storage) (g.S.Storage.rule c.pieces.storage) (g.S.Storage.faults c.pieces.storage) (g.S.Storage.calls c.pieces.storage) (g.L.Source.left c.pieces.link) (g.L.Source.sending c.pieces.link) (g.L.Source.faults c.pieces.link) (g.L.Source.calls c.pieces.link))
           (told (g.S.Storage.files c.take_turn-turn.new.storage) (g.S.Storage.rule c.take_turn-turn.new.storage) (g.S.Storage.faults c.take_turn-turn.new.storage) (g.S.Storage.calls c.take_turn-turn.new.storage) (g.L.Source.left c.take_turn-turn.new.link) (g.L.Source.sending c.take_turn-turn.new.link) (g.L.Source.faults c.take_turn-turn.new.link) (g.L.Source.calls c.take_turn-turn.new.link))
           c.take_turn-turn.result.bytes
-          (record { storage = c.pieces.invariant.storage_kept.counts.count; link = c.pieces.invariant.link_counts.count })
-          (record { storage = c.take_turn-turn.ensures.storage_kept.counts.count; link = c.take_turn-turn.ensures.link_counts.count })
+          (record { storage = c.pieces.invariant.storage_counts.count; link = c.pieces.invariant.link_counts.count })
+          (record { storage = c.take_turn-turn.ensures.storage_counts.count; link = c.take_turn-turn.ensures.link_counts.count })
           c.pieces.invariant.more c.pieces.invariant.job
           c.pieces.invariant.went
           (record {
@@ -78,7 +78,7 @@ pieces-preserved g c =
             told = c.take_turn-turn.ensures.told;
             closed = c.take_turn-turn.ensures.closed;
           }));
-      storage_kept = StorageKept-more c.pieces.invariant.storage_kept c.take_turn-turn.ensures.storage_kept;
+      storage_counts = CountsOn-more c.pieces.invariant.storage_counts c.take_turn-turn.ensures.storage_counts;
       link_counts = CountsOn-more c.pieces.invariant.link_counts c.take_turn-turn.ensures.link_counts;
       closed = c.take_turn-turn.ensures.closed ∙ c.pieces.invariant.closed;
     }

@@ -1,6 +1,6 @@
 use Rattle.std.proofs.Common.{◌≡◌, ◌≤◌, ◌-◌, ◌^◌}
 use Rattle.std.specs.Prelude.{◌⊎◌, length}
-use Rattle.ftp_base.specs.Kept.{StorageKept, CountsOn}
+use Rattle.ftp_base.specs.Kept.{CountsOn}
 use Rattle.ftp_transfer.specs.Ran.{told, Went}
 use Rattle.ftp_transfer.proofs.transfer.run.Given as goal
 
@@ -19,7 +19,7 @@ invariant-pieces g l = record {
       (told (g.S.Storage.files l.storage) (g.S.Storage.rule l.storage) (g.S.Storage.faults l.storage) (g.S.Storage.calls l.storage)
       (g.L.Source.left l.link) (g.L.Source.sending l.link) (g.L.Source.faults l.link) (g.L.Source.calls l.link))
       (l.next.done - l.fn.job.done);
-  storage_kept : StorageKept g.S.Storage.rule g.S.Storage.faults g.S.Storage.fault_limit l.fn.storage l.storage;
+  storage_counts : CountsOn g.S.Storage.faults g.S.Storage.fault_limit l.fn.storage l.storage;
   link_counts : CountsOn g.L.Source.faults g.L.Source.fault_limit l.fn.link l.link;
   closed : (g.L.Source.sending l.link).closed ≡ (g.L.Source.sending l.fn.link).closed;
 }
