@@ -28,7 +28,7 @@ impl Storage for AnnsFiles {
 
     ghost files = { λ _. None };
 
-    ghost rule = { λ _ _ _. None };
+    ghost rule = { λ _ _ _ _. None };
 
     ghost faults = { λ s. s.faults };
 

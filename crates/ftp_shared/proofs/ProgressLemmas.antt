@@ -4,11 +4,11 @@ use Rattle.std.specs.Prelude.{◌⊎◌, Result, Ok, Err, OnOk, OnErr}
 use Rattle.ftp_base.specs.declared.fault.LinkFault.{LinkFault}
 use Rattle.ftp_base.specs.Calls.{AllWell, Calls}
 use Rattle.ftp_base.specs.Edge.{EdgeView, Takes}
-use Rattle.ftp_base.specs.Kept.{CountsOn, OnlyCloses, StorageKept}
+use Rattle.ftp_base.specs.Kept.{CountsOn, OnlyCloses}
 use Rattle.ftp_base.specs.Memory as memory
 use Rattle.ftp_base.specs.Outside.{HasRisen, Sending}
 use Rattle.ftp_base.specs.Storage.{Files, Rule}
-use Rattle.ftp_base.proofs.KeptLemmas.{CountsOn-more, CountsOn-same, StorageKept-more, StorageKept-same}
+use Rattle.ftp_base.proofs.KeptLemmas.{CountsOn-more, CountsOn-same}
 use Rattle.ftp_events.specs.Leads.{Views, told_by}
 use Rattle.ftp_transfer.specs.declared.job.Completion.{Completion}
 use Rattle.ftp_transfer.specs.declared.job.Completion.TheVariants.{OutOfMemory}
@@ -35,7 +35,7 @@ pub record Progress {S L : Type 0} (v : Views S L) (job next told : Job) (storag
   pub within : told.done ≤ next.done
   pub counted : count + job.done ≤ next.done
   pub moved : HasMoved job next (told_by v storage link) (told_by v storage_now link_now)
-  pub storage_kept : StorageKept v.rule v.storage_faults v.storage_limit storage storage_now
+  pub storage_counts : CountsOn v.storage_faults v.storage_limit storage storage_now
   pub link_counts : CountsOn v.link_faults v.link_limit link link_now
   -- each entry had a moment of its own
   pub moments : ℕ
@@ -111,6 +111,8 @@ shut-moves job old files rule storage_faults storage_calls left left' sending se
     rw same_left
     (record {
       rule = moves.rule;
+      owned = moves.owned;
+      begun = moves.begun;
       sent = rw sent moves.sent;
       within = moves.within;
       whole = moves.whole;
@@ -130,9 +132,9 @@ shut-moves job old files rule storage_faults storage_calls left left' sending se
 
 module _ {S L : Type 0} (v : Views S L) where
   -- counts of faults that were kept did not fall
-  counted-on : (s t : S) (l m : L) → StorageKept v.rule v.storage_faults v.storage_limit s t → CountsOn v.link_faults v.link_limit l m →
+  counted-on : (s t : S) (l m : L) → CountsOn v.storage_faults v.storage_limit s t → CountsOn v.link_faults v.link_limit l m →
       Counted (told_by v s l) (told_by v t m)
-  counted-on s t l m storage link = record { storage = storage.counts.count; link = link.count }
+  counted-on s t l m storage link = record { storage = storage.count; link = link.count }
 
   -- at the start nothing has moved
   pub progress-start : (job copy : Job) (s : S) (l : L) (e : EdgeView) (c : ℕ) → copy ≡ job → Progress v job copy job s s l l e e 0 c c
@@ -145,7 +147,7 @@ module _ {S L : Type 0} (v : Views S L) where
         within = omega arith;
         counted = omega arith;
         moved = inl (refl, refl);
-        storage_kept = StorageKept-same;
+        storage_counts = CountsOn-same;
         link_counts = CountsOn-same;
         moments = 0;
         taken = takes-none e;
@@ -155,12 +157,12 @@ module _ {S L : Type 0} (v : Views S L) where
 
   module _ (job next told : Job) (s s1 s2 : S) (l l1 l2 : L) (e e1 : EdgeView) (count c c1 bytes : ℕ)
       (so_far : Progress v job next told s s1 l l1 e e1 count c c1)
-      (storage : StorageKept v.rule v.storage_faults v.storage_limit s1 s2) (link : CountsOn v.link_faults v.link_limit l1 l2) where
+      (storage : CountsOn v.storage_faults v.storage_limit s1 s2) (link : CountsOn v.link_faults v.link_limit l1 l2) where
     -- a piece more moved
     went-so_far : Went next (told_by v s1 l1) (told_by v s2 l2) bytes → Went job (told_by v s l) (told_by v s2 l2) ((next.done + bytes) - job.done)
     went-so_far went =
         went-behind job next (told_by v s l) (told_by v s1 l1) (told_by v s2 l2) bytes
-        (counted-on s s1 l l1 so_far.storage_kept so_far.link_counts) (counted-on s1 s2 l1 l2 storage link)
+        (counted-on s s1 l l1 so_far.storage_counts so_far.link_counts) (counted-on s1 s2 l1 l2 storage link)
         (omega (arith, so_far.more, so_far.within)) so_far.same so_far.moved went
 
     -- and the job goes on, of which more may have been told
@@ -177,7 +179,7 @@ module _ {S L : Type 0} (v : Views S L) where
           within = runs.within;
           counted = omega (arith, so_far.counted, total, went.some);
           moved = inr (rw (sym total) at (went-so_far went));
-          storage_kept = StorageKept-more so_far.storage_kept storage;
+          storage_counts = CountsOn-more so_far.storage_counts storage;
           link_counts = CountsOn-more so_far.link_counts link;
           moments = so_far.moments + runs.moments;
           taken = takes-more so_far.moments runs.moments e e1 e2 so_far.taken runs.taken;
@@ -195,14 +197,14 @@ module _ {S L : Type 0} (v : Views S L) where
         let fits' : suits outcome.result job.command ≡ true = rw command at fits in
         let whole : Ran job (told_by v s l) (told_by v s2 l2) outcome =
         ran-behind job next (told_by v s l) (told_by v s1 l1) (told_by v s2 l2) outcome
-        (counted-on s s1 l l1 so_far.storage_kept so_far.link_counts) storage.counts.count
+        (counted-on s s1 l l1 so_far.storage_counts so_far.link_counts) storage.count
         (omega (arith, so_far.more, so_far.within)) so_far.same fits' so_far.moved ran in
         record {
           ran = whole;
           suits = fits';
           complete = clean-done job (told_by v s l) (told_by v s2 l2) outcome whole;
           no_memory = rw command at memory;
-          storage_kept = StorageKept-more so_far.storage_kept storage;
+          storage_counts = CountsOn-more so_far.storage_counts storage;
           link_counts = CountsOn-more so_far.link_counts link;
         }
 
@@ -232,7 +234,7 @@ module _ {S L : Type 0} (v : Views S L) where
                 (v.link_faults l2) (v.link_calls l2) m OutOfMemory None closes.same_left closes.sent closes.last_fault part.moves);
             closed = shut r closed well same rose failed part.closed;
           };
-          storage_kept = StorageKept-more so_far.storage_kept storage;
+          storage_counts = CountsOn-more so_far.storage_counts storage;
           link_counts = CountsOn-more so_far.link_counts (CountsOn-more link closes.counts);
         }
       where

@@ -1,7 +1,7 @@
 -- What a worker does to the storage and the link that it is handed.
 use Rattle.std.specs.Prelude.{◌≡◌, ◌⊎◌, ℕ, ◌+◌, ◌≤◌, Bool, true, false, None, IsSome}
 use Rattle.ftp_base.specs.Edge.{EdgeView, Takes}
-use Rattle.ftp_base.specs.Kept.{CountsOn, StorageKept}
+use Rattle.ftp_base.specs.Kept.{CountsOn}
 use Rattle.ftp_events.specs.Leads.{Views, told_by}
 use Rattle.ftp_options.specs.declared.options.Options.{Options}
 use Rattle.ftp_transfer.specs.declared.job.Completion.TheVariants.{OutOfMemory}
@@ -37,7 +37,7 @@ pub record RunsOn {S L : Type 0} (place : Site S L) (job : Job) (outcome : Outco
   -- a job of which the storage's rule refused no call, and that nothing stopped, is done
   pub complete : IsClean job (told_by place.views storage link) (told_by place.views storage_after link_after) outcome → IsDone outcome.result
   pub no_memory : is_retrieve job.command ≡ true → place.reads_take_memory ≡ false → place.takes_memory ≡ false → outcome.result ≡ OutOfMemory → ⊥
-  pub storage_kept : StorageKept place.views.rule place.views.storage_faults place.views.storage_limit storage storage_after
+  pub storage_counts : CountsOn place.views.storage_faults place.views.storage_limit storage storage_after
   pub link_counts : CountsOn place.views.link_faults place.views.link_limit link link_after
 
 -- the outcome of a run that stopped behind so many bytes for no cause of the storage or the link
@@ -49,7 +49,7 @@ pub record StopsOn {S L : Type 0} (place : Site S L) (job : Job) (told : ℕ) (s
   pub bytes : ℕ
   pub moved : job.done + told ≤ bytes
   pub ran : Ran job (told_by place.views storage link) (told_by place.views storage_after link_after) (stopped_at bytes)
-  pub storage_kept : StorageKept place.views.rule place.views.storage_faults place.views.storage_limit storage storage_after
+  pub storage_counts : CountsOn place.views.storage_faults place.views.storage_limit storage storage_after
   pub link_counts : CountsOn place.views.link_faults place.views.link_limit link link_after
 
 -- storage, link and edge are as they were

@@ -1,6 +1,6 @@
 //! Storages that tell of their directories.
 
-ghost use Rattle.std.specs.Prelude.{◌≡◌, ℕ, List, Some, None};
+ghost use Rattle.std.specs.Prelude.{◌≡◌, ℕ, List, [], Some, None};
 ghost use Rattle.ftp_base.specs.Storage.{Files, Directory, Metadata, item};
 
 use ftp_base::{MemoryStorage, Storage};
@@ -10,7 +10,7 @@ use ftp_base::{MemoryStorage, Storage};
 /// Of any other storage nobody can say by its calls whether a directory stands at a path.
 pub trait ShowsDirectories: Storage {
     // Whoever asks for what stands at a directory is told.
-    ghost shown: { (s : Self) (f : Files) (user path : List ℕ) → item f path ≡ Some Directory → Self.rule s f (Metadata user path) ≡ None };
+    ghost shown: { (s : Self) (f : Files) (user path : List ℕ) → item f path ≡ Some Directory → Self.rule s [] f (Metadata user path) ≡ None };
 }
 
 impl ShowsDirectories for MemoryStorage {

@@ -73,7 +73,7 @@ impl<R: Wait + Drop, S: Storage + Drop> Storage for SharedStorage<R, S> {
 
     ghost files = { λ _. None };
 
-    ghost rule = { λ _ _ _. None };
+    ghost rule = { λ _ _ _ _. None };
 
     ghost faults = { λ s. s.faults };
 

@@ -25,7 +25,7 @@ pieces-preserved g c =
     g.L.Source.left g.L.Source.sending g.L.Source.faults g.L.Source.fault_limit g.L.Source.calls)
     c.args.job c.pieces.next c.pieces.job c.args.storage.now c.pieces.storage c.execute_piece.new.storage c.args.link.now c.pieces.link c.execute_piece.new.link
     (g.E.Edge.view c.args.edge.now) (g.E.Edge.view c.pieces.edge) c.pieces.count c.args.share.now.count c.pieces.share.count c.in-More.bytes
-    c.pieces.invariant c.in-More.ensures.storage_kept c.in-More.ensures.link_counts
+    c.pieces.invariant c.in-More.ensures.storage_counts c.in-More.ensures.link_counts
     c.execute_piece.new.job c.in-GoesOn.told (g.E.Edge.view c.report.new.edge) c.report.new.share.count
     c.in-More.ensures.ran.1 c.in-More.ensures.raised c.in-GoesOn.ensures
 
@@ -49,7 +49,7 @@ returns-in-Ended-clause-runs g c =
     g.L.Source.left g.L.Source.sending g.L.Source.faults g.L.Source.fault_limit g.L.Source.calls)
     c.args.job c.pieces.next c.pieces.job c.args.storage.now c.pieces.storage c.execute_piece.new.storage c.args.link.now c.pieces.link c.execute_piece.new.link
     (g.E.Edge.view c.args.edge.now) (g.E.Edge.view c.pieces.edge) c.pieces.count c.args.share.now.count c.pieces.share.count 0
-    c.pieces.invariant c.in-Ended.ensures.storage_kept c.in-Ended.ensures.link_counts g.S.Storage.reads_take_memory g.L.Link.takes_memory c.in-Ended.outcome
+    c.pieces.invariant c.in-Ended.ensures.storage_counts c.in-Ended.ensures.link_counts g.S.Storage.reads_take_memory g.L.Link.takes_memory c.in-Ended.outcome
     c.in-Ended.ensures.ran c.in-Ended.ensures.suits c.in-Ended.ensures.no_memory))
     c.finish.ensures.next
 
@@ -82,7 +82,7 @@ returns-in-Ended-clause-untold g c =
           g.L.Source.left g.L.Source.sending g.L.Source.faults g.L.Source.fault_limit g.L.Source.calls)
           c.args.job c.pieces.next c.pieces.job c.args.storage.now c.pieces.storage c.execute_piece.new.storage c.args.link.now c.pieces.link c.execute_piece.new.link
           (g.E.Edge.view c.args.edge.now) (g.E.Edge.view c.pieces.edge) c.pieces.count c.args.share.now.count c.pieces.share.count 0
-          c.pieces.invariant c.in-Ended.ensures.storage_kept c.in-Ended.ensures.link_counts g.S.Storage.reads_take_memory g.L.Link.takes_memory c.in-Ended.outcome
+          c.pieces.invariant c.in-Ended.ensures.storage_counts c.in-Ended.ensures.link_counts g.S.Storage.reads_take_memory g.L.Link.takes_memory c.in-Ended.outcome
           c.in-Ended.ensures.ran c.in-Ended.ensures.suits c.in-Ended.ensures.no_memory;
       before = c.pieces.invariant.moments;
       enough = omega (arith, same, c.pieces.invariant.enough, c.pieces.invariant.kept);
@@ -114,7 +114,7 @@ returns-in-Over-clause-stops g c =
     g.L.Source.left g.L.Source.sending g.L.Source.faults g.L.Source.fault_limit g.L.Source.calls)
     c.args.job c.pieces.next c.pieces.job c.args.storage.now c.pieces.storage c.execute_piece.new.storage c.args.link.now c.pieces.link c.execute_piece.new.link
     (g.E.Edge.view c.args.edge.now) (g.E.Edge.view c.pieces.edge) c.pieces.count c.args.share.now.count c.pieces.share.count c.in-More.bytes
-    c.pieces.invariant c.in-More.ensures.storage_kept c.in-More.ensures.link_counts
+    c.pieces.invariant c.in-More.ensures.storage_counts c.in-More.ensures.link_counts
     c.close.new.self over.bytes c.close.result c.in-More.ensures.ran.1 (omega (arith, over.within, total)) c.close.ensures.only_closes
     c.close.ensures.closed c.close.ensures.unlisted c.close.ensures.unchanged c.close.ensures.fault_rose c.close.ensures.as_listed
     g.S.Storage.reads_take_memory g.L.Link.takes_memory)
