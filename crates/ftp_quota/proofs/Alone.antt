@@ -76,27 +76,27 @@ contents_alike m n q same = ap (λ (o : Option Item). option_and_then bytes_of o
 
 -- ---- refusals in all
 begin_alike : (P : List ℕ → Type 0) (user path : List ℕ) (start : ℕ) (A B : Option Book) (f g : Files) (max : ℕ) → BooksAlike P user A B → P path →
-    memory_rule max f (Begin user path start) ≡ memory_rule max g (Begin user path start) →
-    refusal_of A (memory_rule max f) (Begin user path start) ≡ refusal_of B (memory_rule max g) (Begin user path start)
+    memory_rule max [] f (Begin user path start) ≡ memory_rule max [] g (Begin user path start) →
+    refusal_of A (memory_rule max [] f) (Begin user path start) ≡ refusal_of B (memory_rule max [] g) (Begin user path start)
 begin_alike P user path start None None f g max alike here same = same
 begin_alike P user path start None (Some b) f g max alike here same = absurd alike
 begin_alike P user path start (Some a) None f g max alike here same = absurd alike
 begin_alike P user path start (Some a) (Some b) f g max alike here same =
-    ap (λ (o : Option Held). option_or (begin_refusal o user (given a.owners user) (budget_of a user) start) (memory_rule max f (Begin user path start))) (alike.2 path here)
-    ∙ ap (λ (u : ℕ). option_or (begin_refusal (map.get b.owners path) user u (budget_of a user) start) (memory_rule max f (Begin user path start))) alike.1
-    ∙ ap (λ (u : ℕ). option_or (begin_refusal (map.get b.owners path) user (given b.owners user) u start) (memory_rule max f (Begin user path start))) alike.0
+    ap (λ (o : Option Held). option_or (begin_refusal o user (given a.owners user) (budget_of a user) start) (memory_rule max [] f (Begin user path start))) (alike.2 path here)
+    ∙ ap (λ (u : ℕ). option_or (begin_refusal (map.get b.owners path) user u (budget_of a user) start) (memory_rule max [] f (Begin user path start))) alike.1
+    ∙ ap (λ (u : ℕ). option_or (begin_refusal (map.get b.owners path) user (given b.owners user) u start) (memory_rule max [] f (Begin user path start))) alike.0
     ∙ ap (λ (r : Option ErrorKind). option_or (begin_refusal (map.get b.owners path) user (given b.owners user) (budget_of b user) start) r) same
 
 append_alike : (P : List ℕ → Type 0) (user path bytes : List ℕ) (A B : Option Book) (f g : Files) (max : ℕ) → BooksAlike P user A B → P path →
-    memory_rule max f (Append user path bytes) ≡ memory_rule max g (Append user path bytes) →
-    refusal_of A (memory_rule max f) (Append user path bytes) ≡ refusal_of B (memory_rule max g) (Append user path bytes)
+    memory_rule max [] f (Append user path bytes) ≡ memory_rule max [] g (Append user path bytes) →
+    refusal_of A (memory_rule max [] f) (Append user path bytes) ≡ refusal_of B (memory_rule max [] g) (Append user path bytes)
 append_alike P user path bytes None None f g max alike here same = same
 append_alike P user path bytes None (Some b) f g max alike here same = absurd alike
 append_alike P user path bytes (Some a) None f g max alike here same = absurd alike
 append_alike P user path bytes (Some a) (Some b) f g max alike here same =
-    ap (λ (o : Option Held). option_or (append_refusal o user (given a.owners user) (budget_of a user) (length bytes)) (memory_rule max f (Append user path bytes))) (alike.2 path here)
-    ∙ ap (λ (u : ℕ). option_or (append_refusal (map.get b.owners path) user u (budget_of a user) (length bytes)) (memory_rule max f (Append user path bytes))) alike.1
-    ∙ ap (λ (u : ℕ). option_or (append_refusal (map.get b.owners path) user (given b.owners user) u (length bytes)) (memory_rule max f (Append user path bytes))) alike.0
+    ap (λ (o : Option Held). option_or (append_refusal o user (given a.owners user) (budget_of a user) (length bytes)) (memory_rule max [] f (Append user path bytes))) (alike.2 path here)
+    ∙ ap (λ (u : ℕ). option_or (append_refusal (map.get b.owners path) user u (budget_of a user) (length bytes)) (memory_rule max [] f (Append user path bytes))) alike.1
+    ∙ ap (λ (u : ℕ). option_or (append_refusal (map.get b.owners path) user (given b.owners user) u (length bytes)) (memory_rule max [] f (Append user path bytes))) alike.0
     ∙ ap (λ (r : Option ErrorKind). option_or (append_refusal (map.get b.owners path) user (given b.owners user) (budget_of b user) (length bytes)) r) same
 
 -- a call of the user is refused alike
@@ -198,9 +198,9 @@ nor None y e = (refl, e)
 nor (Some k) y e = absurd (cc e)
 
 -- what is allowed in all is allowed by the storage
-allowed : (A : Option Book) (f : Files) (max : ℕ) (c : QuotaCall) → refusal_of A (memory_rule max f) (call_of c) ≡ None → memory_rule max f (call_of c) ≡ None
+allowed : (A : Option Book) (f : Files) (max : ℕ) (c : QuotaCall) → refusal_of A (memory_rule max [] f) (call_of c) ≡ None → memory_rule max [] f (call_of c) ≡ None
 allowed None f max c e = e
-allowed (Some book) f max c e = (nor (own_refusal book (call_of c)) (memory_rule max f (call_of c)) e).1
+allowed (Some book) f max c e = (nor (own_refusal book (call_of c)) (memory_rule max [] f (call_of c)) e).1
 
 no_file : (o : Option Item) (rest : Option ErrorKind) → if_file o rest ≡ None → is_dir o ≡ false
 no_file None rest e = refl
@@ -222,7 +222,7 @@ at_end (Some Directory) max len e = absurd (cc e)
 at_end (Some (File bytes)) max len e = refl
 
 -- what is allowed is allowed on no directory
-no_dir : (f : Files) (max : ℕ) (c : QuotaCall) → memory_rule max f (call_of c) ≡ None → is_dir (map.get f (path_of c)) ≡ false
+no_dir : (f : Files) (max : ℕ) (c : QuotaCall) → memory_rule max [] f (call_of c) ≡ None → is_dir (map.get f (path_of c)) ≡ false
 no_dir f max (call.Begin who path start) e =
     below_root (bytes_eq path root) (map.get f path)
     (no_file (item f path) (if_within start max) (under_dir (item f (parent path)) kind.PermanentDirectoryNotAvailable (if_file (item f path) (if_within start max)) e))
@@ -246,17 +246,17 @@ other_owned P user who path len a (Some b) alike never apart owned = (
 )
 
 begun_other : (P : List ℕ → Type 0) (user who path : List ℕ) (start max : ℕ) (f : Files) (A B : Option Book) → BooksAlike P user A B → (P path → ⊥) → who ≢ user →
-    refusal_of A (memory_rule max f) (Begin who path start) ≡ None → BooksAlike P user (after_call A (Begin who path start)) B
+    refusal_of A (memory_rule max [] f) (Begin who path start) ≡ None → BooksAlike P user (after_call A (Begin who path start)) B
 begun_other P user who path start max f None B alike never apart none = alike
 begun_other P user who path start max f (Some a) B alike never apart none =
-    let own = (nor (own_refusal a (Begin who path start)) (memory_rule max f (Begin who path start)) none).0 in
+    let own = (nor (own_refusal a (Begin who path start)) (memory_rule max [] f (Begin who path start)) none).0 in
     other_owned P user who path start a B alike never apart (λ held there. (begin-owner a who path start own held there).0)
 
 grown_other : (P : List ℕ → Type 0) (user who path bytes : List ℕ) (max : ℕ) (f : Files) (A B : Option Book) → BooksAlike P user A B → (P path → ⊥) → who ≢ user →
-    refusal_of A (memory_rule max f) (Append who path bytes) ≡ None → BooksAlike P user (after_call A (Append who path bytes)) B
+    refusal_of A (memory_rule max [] f) (Append who path bytes) ≡ None → BooksAlike P user (after_call A (Append who path bytes)) B
 grown_other P user who path bytes max f None B alike never apart none = alike
 grown_other P user who path bytes max f (Some a) B alike never apart none =
-    let own = (nor (own_refusal a (Append who path bytes)) (memory_rule max f (Append who path bytes)) none).0 in
+    let own = (nor (own_refusal a (Append who path bytes)) (memory_rule max [] f (Append who path bytes)) none).0 in
     let held = append-owner a who path bytes own in
     other_owned P user who path _ a B alike never apart (λ h there. let one : held.0 ≡ h = (let e = held.1 in cc (e, there)) in ap (λ (x : Held). x.owner) (sym one) ∙ held.2)
 

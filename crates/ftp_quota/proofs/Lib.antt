@@ -7,3 +7,5 @@ pub mod Begun
 pub mod Examples
 pub mod Alone
 pub mod Replayed
+pub mod Rules
+pub mod Sized

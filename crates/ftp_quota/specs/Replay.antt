@@ -3,7 +3,7 @@ use Rattle.std.specs.Prelude.{◌≡◌, ◌≢◌, ℕ, ◌≤◌, List, [], �
 use Rattle.std.specs.declared.alloc.AllocError.{AllocError}
 use Rattle.ftp_base.specs.declared.error_kind.ErrorKind.{ErrorKind}
 use Rattle.ftp_base.specs.Outside.{HasRisen}
-use Rattle.ftp_base.specs.Storage.{Files, Rule, Call, Metadata, Listing, ReadAt, Begin, Append, old_bytes, cut, with_file}
+use Rattle.ftp_base.specs.Storage.{BegunFile, Files, Rule, Call, Metadata, Listing, ReadAt, Begin, Append, old_bytes, cut, with_file}
 use Rattle.ftp_base.specs.declared.storage.StoreError.{StoreError}
 use Rattle.ftp_base.specs.declared.storage.StoreError.TheVariants as store
 use Rattle.ftp_quota.specs.declared.calls.QuotaCall.{QuotaCall}
@@ -18,10 +18,27 @@ abbrev pub call_of : QuotaCall → Call
 call_of (call.Begin user path start) = Begin user path start
 call_of (call.Append user path bytes) = Append user path bytes
 
--- the budgets and owners, where there are any, and the files
+-- the budgets and owners, where there are any, the files, and which files were begun, the first of them first
 pub record Kept : Type 0 where
   pub book : Option Book
   pub files : Files
+  pub begun : List BegunFile
+
+-- what is kept where no file was begun yet
+abbrev pub kept_at : Option Book → Files → Kept
+kept_at book files = record { book = book; files = files; begun = [] }
+
+-- the files that were begun, after a call that went well
+abbrev pub begun_after : List BegunFile → Call → List BegunFile
+begun_after begun (Metadata user path) = begun
+begun_after begun (Listing user path) = begun
+begun_after begun (ReadAt user path place) = begun
+begun_after begun (Begin user path start) = begun ++ (user, path) ∷ []
+begun_after begun (Append user path bytes) = begun
+
+-- the rule once files were begun, the first of them first
+abbrev pub once_all : List BegunFile → Rule → Rule
+once_all begun rule = λ later. rule (begun ++ later)
 
 -- the files after a call that went well
 abbrev pub files_after : Files → Call → Files
@@ -33,7 +50,7 @@ files_after files (Append user path bytes) = with_file files path (old_bytes fil
 
 -- how a call is refused as things are kept
 abbrev pub refusal_in : Rule → Kept → QuotaCall → Option ErrorKind
-refusal_in rule kept c = refusal_of kept.book (rule kept.files) (call_of c)
+refusal_in rule kept c = refusal_of kept.book (rule kept.begun kept.files) (call_of c)
 
 -- what becomes of a call that is refused so
 abbrev pub verdict_by : Option ErrorKind → Verdict
@@ -42,7 +59,7 @@ verdict_by (Some k) = Refused k
 
 -- what is kept after a call that is refused so
 abbrev pub kept_by : Option ErrorKind → Kept → Call → Kept
-kept_by None kept c = record { book = after_call kept.book c; files = files_after kept.files c }
+kept_by None kept c = record { book = after_call kept.book c; files = files_after kept.files c; begun = begun_after kept.begun c }
 kept_by (Some k) kept c = kept
 
 -- what is kept after a call
@@ -59,24 +76,25 @@ abbrev pub verdicts : Rule → Kept → List QuotaCall → List Verdict
 verdicts rule kept [] = []
 verdicts rule kept (c ∷ calls) = verdict_by (refusal_in rule kept c) ∷ verdicts rule (next rule kept c) calls
 
--- the storage tells the files that are kept, beside the book
-pub record Tells (files : Option Files) (book : Option Book) (kept : Kept) : Type 0 where
+-- the storage tells the files that are kept, beside the book, and refuses by the rule once those files were begun
+pub record Tells (rule : Rule) (files : Option Files) (book : Option Book) (now : Rule) (kept : Kept) : Type 0 where
   pub same_files : files ≡ Some kept.files
   pub same_book : book ≡ kept.book
+  pub same_rule : now ≡ once_all kept.begun rule
 
 -- a call that did not fail had its verdict, and left what is due
-abbrev pub Answered : Rule → Kept → QuotaCall → Option Files → Option Book → Verdict → Type 0
-Answered rule kept c files book verdict =
-    verdict ≢ Failed → (verdict ≡ verdict_by (refusal_in rule kept c)) × Tells files book (next rule kept c)
+abbrev pub Answered : Rule → Kept → QuotaCall → Option Files → Option Book → Rule → Verdict → Type 0
+Answered rule kept c files book now verdict =
+    verdict ≢ Failed → (verdict ≡ verdict_by (refusal_in rule kept c)) × Tells rule files book now (next rule kept c)
 
 -- no fault was counted
 abbrev pub NoFault : ℕ → ℕ → Type 0
 NoFault old new = HasRisen old new → ⊥
 
 -- the first n calls were made, all of them where that is said, and the others were not
-pub record MadeFirst (rule : Rule) (kept : Kept) (calls : List QuotaCall) (files : Option Files) (book : Option Book) (n : ℕ) : Type 0 where
+pub record MadeFirst (rule : Rule) (kept : Kept) (calls : List QuotaCall) (files : Option Files) (book : Option Book) (now : Rule) (n : ℕ) : Type 0 where
   pub within : n ≤ length calls
-  pub tells : Tells files book (kept_after rule kept (take n calls))
+  pub tells : Tells rule files book now (kept_after rule kept (take n calls))
 
 -- what an answer of the storage tells of a call
 abbrev pub verdict_of : Result (Unit {0}) StoreError → Result Verdict AllocError

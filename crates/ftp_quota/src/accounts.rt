@@ -72,12 +72,19 @@ impl Accounts {
         Ok(())
     }
 
+    /// The budget that a user was given of his own.
+    pub fn own_budget(&self, user: &Bytes) -> Option<u64>
+        ensures { result ≡ map.get self.now.budgets user.now }
+    {
+        self.budgets.get(user.as_slice()).copied()
+    }
+
     /// How many bytes a user may have.
     pub fn budget(&self, user: &Bytes) -> u64
         ensures { result ≡ budget_of self.now user.now }
     {
-        match self.budgets.get(user.as_slice()) {
-            Some(budget) => *budget,
+        match self.own_budget(user) {
+            Some(budget) => budget,
             None => self.default,
         }
     }

@@ -1,9 +1,11 @@
 //! Calls of a storage by users who have budgets and own files.
 
-ghost use Rattle.std.specs.Prelude.{◌≡◌, IsSome, IsSomeAnd, IfSome, IsErrOf, OnOk, OnErr};
-ghost use Rattle.ftp_base.specs.Kept.{StorageKept};
+ghost use Rattle.std.specs.Prelude.{◌≡◌, None, IsSome, IsSomeAnd, IfSome, IsErrOf, OnOk, OnErr};
+ghost use Rattle.ftp_base.specs.Calls.{AllWell, OneMore};
+ghost use Rattle.ftp_base.specs.Kept.{CountsOn, StorageKept};
+ghost use Rattle.ftp_base.specs.Memory.{StorageMet};
 ghost use Rattle.ftp_base.specs.Outside.{HasRisen};
-ghost use Rattle.ftp_base.specs.Storage.{Begin, Append, Answers, Begins, Grows, meaning_of};
+ghost use Rattle.ftp_base.specs.Storage.{Begin, Append, Answers, Begins, Grows, WentThrough, once_begun, meaning_of};
 ghost use Rattle.ftp_quota.specs.Usage.{Agrees};
 ghost use Rattle.ftp_quota.specs.Book.{IsWithin, own_refusal, refusal};
 ghost use Rattle.ftp_quota.specs.Quota.{book_after};
@@ -29,7 +31,13 @@ pub(crate) fn begin_owned<S: Storage>(
     ensures fault_rose { IsErrOf result StoreError.Failed → HasRisen (S.faults inner.old) (S.faults inner.new) }
     ensures same_owners { OnErr result (accounts.new ≡ accounts.old) }
     ensures unchanged { OnErr result (S.files inner.new ≡ S.files inner.old) }
-    ensures storage_kept { StorageKept S.rule S.faults S.fault_limit inner.old inner.new }
+    ensures rule { OnOk result (S.rule inner.new ≡ once_begun (user.now, path.now) (S.rule inner.old)) }
+    ensures storage_kept { OnErr result (StorageKept S.rule S.faults S.fault_limit inner.old inner.new) }
+    ensures counts { CountsOn S.faults S.fault_limit inner.old inner.new }
+    ensures untold { S.files inner.old ≡ None → S.files inner.new ≡ None }
+    ensures unlisted { (IsErrOf result StoreError.Failed → ⊥) → AllWell (λ call. call) (S.calls inner.old) (S.calls inner.new) }
+    ensures as_listed { IsErrOf result StoreError.Failed → StorageMet (S.calls inner.old) (S.calls inner.new) }
+    ensures made { WentThrough result → OneMore (S.calls inner.old) (S.calls inner.new) }
 {
     if let Err(kind) = accounts.may_begin(user, path, start) {
         return Err(StoreError::Kind(kind));
@@ -68,6 +76,10 @@ pub(crate) fn append_owned<S: Storage>(
     ensures same_owners { OnErr result (accounts.new ≡ accounts.old) }
     ensures unchanged { OnErr result (S.files inner.new ≡ S.files inner.old) }
     ensures storage_kept { StorageKept S.rule S.faults S.fault_limit inner.old inner.new }
+    ensures untold { S.files inner.old ≡ None → S.files inner.new ≡ None }
+    ensures unlisted { (IsErrOf result StoreError.Failed → ⊥) → AllWell (λ call. call) (S.calls inner.old) (S.calls inner.new) }
+    ensures as_listed { IsErrOf result StoreError.Failed → StorageMet (S.calls inner.old) (S.calls inner.new) }
+    ensures made { WentThrough result → OneMore (S.calls inner.old) (S.calls inner.new) }
 {
     let len = match accounts.may_append(user, path, bytes.len()) {
         Ok(len) => len,

@@ -1,10 +1,12 @@
 //! A storage with budgets around another one.
 
+mod setup;
 mod storage;
 
 use crate::accounts::Accounts;
 use ftp_base::{Bytes, Storage};
 use std::alloc::{AllocError, Global};
+use std::marker::Model;
 
 /// A storage around another one in which each file belongs to the user who began it first, and no user's files come to
 /// more bytes than the user's budget. A transparent one has no budgets, and nobody owns a file in it.
@@ -14,11 +16,23 @@ pub struct Quota<S: Storage + Drop> {
     accounts: Option<Accounts>,
 }
 
+impl<S: Storage + Drop> Model for Quota<S> {
+    ghost use Rattle.ftp_quota.specs.Quota.{QuotaState, quota_code, IfTrueTo};
+
+    ghost Value = { QuotaState S };
+
+    ghost coded = { quota_code S.code };
+
+    ghost view = { λ q. record { inner = q.inner; accounts = q.accounts } };
+
+    ghost invariant = { λ q. IfTrueTo (S.files q.inner) q.accounts };
+}
+
 impl<S: Storage + Drop> Quota<S> {
-    ghost use Rattle.std.specs.Prelude.{◌≡◌, ◌≤◌, Some, None, IfSome, OnOk, OnErr};
+    ghost use Rattle.std.specs.Prelude.{◌≡◌, ◌≤◌, Some, None, is_some, IfSome, OnOk, OnErr};
     ghost use Rattle.ftp_base.specs.Storage.{Files};
     ghost use Rattle.ftp_quota.specs.Book.{new_book};
-    ghost use Rattle.ftp_quota.specs.Quota.{usage_of, given_of, budget_or, with_budget, IsTrueTo, IsUnused, AllWithin};
+    ghost use Rattle.ftp_quota.specs.Quota.{usage_of, given_of, budget_or, own_budget_of, with_budget, IsTrueTo, IsUnused, AllWithin};
 
     /// Around a storage, with a budget in bytes for each user who is given none of his own. What the storage has already
     /// is owned by nobody.
@@ -70,6 +84,23 @@ impl<S: Storage + Drop> Quota<S> {
         match &mut self.accounts {
             Some(accounts) => accounts.set_budget(user, n),
             None => Ok(()),
+        }
+    }
+
+    /// Whether there are budgets.
+    pub fn has_budgets(&self) -> bool
+        ensures { result ≡ is_some self.now.accounts }
+    {
+        self.accounts.is_some()
+    }
+
+    /// The budget that the user was given of his own.
+    pub fn own_budget(&self, user: &Bytes) -> Option<u64>
+        ensures { result ≡ own_budget_of self.now.accounts user.now }
+    {
+        match &self.accounts {
+            Some(accounts) => accounts.own_budget(user),
+            None => None,
         }
     }
 

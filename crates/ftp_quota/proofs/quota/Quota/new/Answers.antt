@@ -1,9 +1,13 @@
-use Rattle.std.proofs.Common.{sym, subst}
+use Rattle.std.proofs.Common.{Some, refl, sym, subst}
 use Rattle.std.specs.Prelude.{IsSomeAnd}
 use Rattle.ftp_quota.specs.Usage.{Agrees}
-use Rattle.ftp_quota.specs.Book.{Book, IsWithin}
+use Rattle.ftp_quota.specs.Book.{Book, new_book, IsWithin}
 use Rattle.ftp_quota.proofs.Begun.{within-new, agrees-new}
+use Rattle.ftp_quota.proofs.Rules.{agrees-unused}
 use Rattle.ftp_quota.proofs.quota.Quota.new.Goals as goal
+
+pub invariant_of-result : goal.invariant_of-result
+invariant_of-result g c = rw c.new.ensures (agrees-unused (g.S.Storage.files c.args.inner) (Some (new_book c.args.default)) refl)
 
 pub returns-clause-within : goal.returns-clause-within
 returns-clause-within g c = subst IsWithin (sym c.new.ensures) (within-new c.args.default)
