@@ -24,7 +24,7 @@ use Rattle.ftp_event_text.specs.Events.{event_line}
 use Rattle.ftp_event_text.specs.Setup.{item_line, sent_line, file_line}
 use Rattle.ftp_event_text.specs.Printing.{print}
 use Rattle.ftp_event_text.specs.EventReading.{event_of, read_as}
-use Rattle.ftp_event_text.specs.SetupReading.{storage_at, dir_at, file_at, link_at, item_of}
+use Rattle.ftp_event_text.specs.SetupReading.{storage_at, dir_at, file_at, quota_at, budget_at, link_at, item_of}
 
 abbrev client : SocketAddr
 client = record { ip = V4 167772161; port = 4000 }
@@ -127,6 +127,14 @@ storage_line = refl
 pub dir_line : item_line (item.Dir (codes "/a b")) ≡ codes "dir /a b"
 dir_line = refl
 
+pub quota_line : item_line (item.Quota 10) ≡ codes "quota 10"
+unfolding digits
+quota_line = refl
+
+pub budget_line : item_line (item.Budget 4 (codes "ann b")) ≡ codes "budget 4 ann b"
+unfolding digits
+budget_line = refl
+
 pub file_line-hi : file_line (47 ∷ 255 ∷ [], codes "hi") ≡ codes "file 6869 /\\xff\n"
 file_line-hi = refl
 
@@ -189,6 +197,10 @@ pub bad-relative_path : item_of (codes "dir a") ≡ None
 unfolding item_of dir_at text_field text_from
 bad-relative_path = refl
 
+pub bad-budget : item_of (codes "budget 4") ≡ None
+unfolding item_of budget_at number_at text_field digits
+bad-budget = refl
+
 -- ---- lines that are read
 
 pub read-empty_name : event_of (codes "0 user 1 ") ≡ Some (happens (kind.User 1 []))
@@ -203,6 +215,15 @@ read-directory = refl
 pub read-storage : item_of (codes "storage 16 1,12") ≡ Some (item.Storage 16 (1 ∷ 12 ∷ []))
 unfolding item_of storage_at number_at word_at calls_field list_of each_of call_of digits
 read-storage = refl
+
+pub read-quota : item_of (codes "quota 10") ≡ Some (item.Quota 10)
+unfolding item_of quota_at number_at word_at digits
+read-quota = refl
+
+-- a user's name may be empty
+pub read-budget : item_of (codes "budget 4 ") ≡ Some (item.Budget 4 [])
+unfolding item_of budget_at number_at word_at text_field text_from digits
+read-budget = refl
 
 pub read-link : item_of (codes "link 11 1 2:reset,3:other .") ≡ Some (item.Link 11 1 ((2, link.Reset) ∷ (3, link.Other) ∷ []) [])
 unfolding item_of link_at number_at small_at hex_field hex_of word_at calls_field list_of each_of link_call_of digits

@@ -20,7 +20,7 @@ use Rattle.ftp_event_text.specs.OptionsReading.{Listening, listening_at, Rules, 
 use Rattle.ftp_event_text.specs.Setup.{is_skipped, item_line, is_absolute, IsItem, IsItemOf}
 use Rattle.ftp_text.specs.Reading.{◌>>=◌, Reader, Gives, pair, tested, begins, behind_text, number_field, hex_field, text_field, calls_field, call_of}
 use Rattle.ftp_event_text.specs.EventReading.{event_of}
-use Rattle.ftp_event_text.specs.SetupReading.{moves, link_calls_at, options_at, storage_at, dir_at, is_placed, file_at, link_at, whole, item_of}
+use Rattle.ftp_event_text.specs.SetupReading.{moves, link_calls_at, options_at, storage_at, dir_at, is_placed, file_at, quota_at, budget_at, link_at, whole, item_of}
 use Rattle.ftp_text.proofs.Exact.{Ends, IsNil, IsExact, bind_ok, some_is, pair_exact, made_takes, made_again, behind_text_exact, tested_exact}
 use Rattle.ftp_text.proofs.Values.{begins_decimal, text_exact}
 use Rattle.ftp_text.proofs.HexTexts.{hex_exact}
@@ -61,6 +61,14 @@ file_exact : IsExact (λ (x : List ℕ × List ℕ). codes "file" ++ (field (hex
     (tested is_placed (behind_text (codes "file") (pair hex_field text_field)))
 file_exact = tested_exact is_placed (behind_text_exact (codes "file") (pair_exact hex_exact text_exact (λ y rest h. refl)))
 
+quota_exact : IsExact (λ (default : ℕ). codes "quota" ++ number default) (λ (default : ℕ). default < 2 ^ 64) Ends (behind_text (codes "quota") number_field)
+quota_exact = behind_text_exact (codes "quota") number_is
+
+-- a user's own budget, as its bytes and the user
+budget_exact : IsExact (λ (x : ℕ × List ℕ). codes "budget" ++ (number x.0 ++ field (escape x.1))) (λ (x : ℕ × List ℕ). (x.0 < 2 ^ 64) × IsText x.1) IsNil
+    (behind_text (codes "budget") (pair number_field text_field))
+budget_exact = behind_text_exact (codes "budget") (pair_exact number_is text_exact (λ y rest h. refl))
+
 abbrev LinkFields : Type 0
 LinkFields = ((ℕ × ℕ) × List (ℕ × LinkFault)) × List ℕ
 
@@ -99,6 +107,15 @@ unfolding file_at
 file_takes line y e =
     made_takes file_exact (λ x. item.File x.0 x.1) item_line (λ i. IsItem i × IsSpelled i) [] (λ x. refl) (λ x f. ((f.0.0, f.0.1, f.1), tt)) line y e
 
+quota_takes : Takes quota_at
+unfolding quota_at
+quota_takes line y e = made_takes quota_exact (λ default. item.Quota default) item_line (λ i. IsItem i × IsSpelled i) [] (λ x. refl) (λ x f. (f, tt)) line y e
+
+budget_takes : Takes budget_at
+unfolding budget_at
+budget_takes line y e =
+    made_takes budget_exact (λ x. item.Budget x.0 x.1) item_line (λ i. IsItem i × IsSpelled i) [] (λ x. refl) (λ x f. (f, tt)) line y e
+
 link_takes : Takes link_at
 unfolding link_at
 link_takes line y e =
@@ -111,6 +128,8 @@ spelled_is line (item.Options mode lo hi host active idle lockout restart) s e f
 spelled_is line (item.Storage max fails) s e f = (e, f)
 spelled_is line (item.Dir path) s e f = (e, f)
 spelled_is line (item.File bytes path) s e f = (e, f)
+spelled_is line (item.Quota default) s e f = (e, f)
+spelled_is line (item.Budget bytes user) s e f = (e, f)
 spelled_is line (item.Link n chunk fails bytes) s e f = (e, f)
 spelled_is line (item.Event d) s e f = (e, f)
 
@@ -151,6 +170,16 @@ file_again bytes path f =
     let x : List ℕ × List ℕ = (bytes, path) in
     read_whole file_at (item.File bytes path) (made_again file_exact (λ y. item.File y.0 y.1) x [] ((f.0, f.1), f.2) tt)
 
+quota_again : (default : ℕ) → IsItem (item.Quota default) → IsRead (item.Quota default)
+unfolding item_of quota_at
+quota_again default f = read_whole quota_at (item.Quota default) (made_again quota_exact (λ n. item.Quota n) default [] f tt)
+
+budget_again : (bytes : ℕ) (user : List ℕ) → IsItem (item.Budget bytes user) → IsRead (item.Budget bytes user)
+unfolding item_of budget_at
+budget_again bytes user f =
+    let x : ℕ × List ℕ = (bytes, user) in
+    read_whole budget_at (item.Budget bytes user) (made_again budget_exact (λ y. item.Budget y.0 y.1) x [] f tt)
+
 link_again : (n chunk : ℕ) (fails : List (ℕ × LinkFault)) (bytes : List ℕ) → IsItem (item.Link n chunk fails bytes) → IsRead (item.Link n chunk fails bytes)
 unfolding item_of link_at
 link_again n chunk fails bytes f =
@@ -163,17 +192,21 @@ not_skipped [] h some = absurd (omega arith)
 not_skipped (c ∷ line) h some = h
 
 -- what a line is read as, by what it begins with
-abbrev chosen : (skipped o s d f l : Bool) → List ℕ → Option Item
-chosen skipped o s d f l line =
+abbrev chosen : (skipped o s d f q b l : Bool) → List ℕ → Option Item
+chosen skipped o s d f q b l line =
     cond skipped (Some item.Skip)
     (cond o (whole (options_at line))
     (cond s (whole (storage_at line))
-    (cond d (whole (dir_at line)) (cond f (whole (file_at line)) (cond l (whole (link_at line)) (event_of line >>= λ e. Some (item.Event e)))))))
+    (cond d (whole (dir_at line))
+    (cond f (whole (file_at line))
+    (cond q (whole (quota_at line))
+    (cond b (whole (budget_at line)) (cond l (whole (link_at line)) (event_of line >>= λ e. Some (item.Event e)))))))))
 
 -- a line that begins with nothing of the set-up is an event's
-chosen_event : (line : List ℕ) (skipped o s d f l : Bool) → skipped ≡ false → o ≡ false → s ≡ false → d ≡ false → f ≡ false → l ≡ false →
-    chosen skipped o s d f l line ≡ (event_of line >>= λ e. Some (item.Event e))
-chosen_event line skipped o s d f l no_skip no_o no_s no_d no_f no_l = λ i. chosen (no_skip i) (no_o i) (no_s i) (no_d i) (no_f i) (no_l i) line
+chosen_event : (line : List ℕ) (skipped o s d f q b l : Bool) → skipped ≡ false → o ≡ false → s ≡ false → d ≡ false → f ≡ false → q ≡ false → b ≡ false → l ≡ false →
+    chosen skipped o s d f q b l line ≡ (event_of line >>= λ e. Some (item.Event e))
+chosen_event line skipped o s d f q b l no_skip no_o no_s no_d no_f no_q no_b no_l =
+    λ i. chosen (no_skip i) (no_o i) (no_s i) (no_d i) (no_f i) (no_q i) (no_b i) (no_l i) line
 
 -- a line of an event begins with a digit
 event_again_item : (e : HubEvent) → IsEvent e → IsRead (item.Event e)
@@ -182,25 +215,28 @@ event_again_item e fits =
     let line = event_line e in
     let no = λ (c : ℕ) (h : is_ascii_digit c ≡ false). begins_decimal c e.at (kind_fields e.kind) h fits.0 in
     let some : is_skipped line ≡ false = not_skipped line (no 35 refl) (omega (arith, length-append (decimal e.at) (kind_fields e.kind), decimal_nonempty e.at fits.0)) in
-    chosen_event line (is_skipped line) (begins 111 line) (begins 115 line) (begins 100 line) (begins 102 line) (begins 108 line)
-    some (no 111 refl) (no 115 refl) (no 100 refl) (no 102 refl) (no 108 refl)
+    chosen_event line (is_skipped line) (begins 111 line) (begins 115 line) (begins 100 line) (begins 102 line) (begins 113 line) (begins 98 line) (begins 108 line)
+    some (no 111 refl) (no 115 refl) (no 100 refl) (no 102 refl) (no 113 refl) (no 98 refl) (no 108 refl)
     ∙ ap (λ r. r >>= λ d. Some (item.Event d)) (event_again e fits)
 
-item_cases : (skipped o s d f l : Bool) (line : List ℕ) (i : Item) → is_skipped line ≡ skipped → chosen skipped o s d f l line ≡ Some i → IsItemOf line i
-item_cases true o s d f l line i p e = subst (λ (x : Item). IsItemOf line x) (some_is item.Skip i e) p
-item_cases false true s d f l line i p e = whole_takes line i (options_at line) (options_takes line) e
-item_cases false false true d f l line i p e = whole_takes line i (storage_at line) (storage_takes line) e
-item_cases false false false true f l line i p e = whole_takes line i (dir_at line) (dir_takes line) e
-item_cases false false false false true l line i p e = whole_takes line i (file_at line) (file_takes line) e
-item_cases false false false false false true line i p e = whole_takes line i (link_at line) (link_takes line) e
-item_cases false false false false false false line i p e =
+item_cases : (skipped o s d f q b l : Bool) (line : List ℕ) (i : Item) → is_skipped line ≡ skipped → chosen skipped o s d f q b l line ≡ Some i → IsItemOf line i
+item_cases true o s d f q b l line i p e = subst (λ (x : Item). IsItemOf line x) (some_is item.Skip i e) p
+item_cases false true s d f q b l line i p e = whole_takes line i (options_at line) (options_takes line) e
+item_cases false false true d f q b l line i p e = whole_takes line i (storage_at line) (storage_takes line) e
+item_cases false false false true f q b l line i p e = whole_takes line i (dir_at line) (dir_takes line) e
+item_cases false false false false true q b l line i p e = whole_takes line i (file_at line) (file_takes line) e
+item_cases false false false false false true b l line i p e = whole_takes line i (quota_at line) (quota_takes line) e
+item_cases false false false false false false true l line i p e = whole_takes line i (budget_at line) (budget_takes line) e
+item_cases false false false false false false false true line i p e = whole_takes line i (link_at line) (link_takes line) e
+item_cases false false false false false false false false line i p e =
     let first = bind_ok (event_of line) (λ x. Some (item.Event x)) i e in
     subst (λ (x : Item). IsItemOf line x) (some_is (item.Event first.0) i first.2) (event_takes line first.0 first.1)
 
 -- what is read has this line
 pub item_takes : (line : List ℕ) (i : Item) → item_of line ≡ Some i → IsItemOf line i
 unfolding item_of
-item_takes line i e = item_cases (is_skipped line) (begins 111 line) (begins 115 line) (begins 100 line) (begins 102 line) (begins 108 line) line i refl e
+item_takes line i e =
+    item_cases (is_skipped line) (begins 111 line) (begins 115 line) (begins 100 line) (begins 102 line) (begins 113 line) (begins 98 line) (begins 108 line) line i refl e
 
 -- what has this line is read
 pub item_again : (line : List ℕ) (i : Item) → IsItemOf line i → item_of line ≡ Some i
@@ -212,6 +248,8 @@ item_again line (item.Options mode lo hi host active idle lockout restart) p =
 item_again line (item.Storage max fails) p = ap item_of (sym p.0) ∙ storage_again max fails p.1
 item_again line (item.Dir path) p = ap item_of (sym p.0) ∙ dir_again path p.1
 item_again line (item.File bytes path) p = ap item_of (sym p.0) ∙ file_again bytes path p.1
+item_again line (item.Quota default) p = ap item_of (sym p.0) ∙ quota_again default p.1
+item_again line (item.Budget bytes user) p = ap item_of (sym p.0) ∙ budget_again bytes user p.1
 item_again line (item.Link n chunk fails bytes) p = ap item_of (sym p.0) ∙ link_again n chunk fails bytes p.1
 item_again line (item.Event e) p = ap item_of (sym p.0) ∙ event_again_item e p.1
 

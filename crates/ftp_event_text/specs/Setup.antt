@@ -20,6 +20,8 @@ item_line (item.Options mode lo hi host active idle lockout restart) =
 item_line (item.Storage max fails) = codes "storage" ++ (number max ++ field (listed decimal fails))
 item_line (item.Dir path) = codes "dir" ++ field (escape path)
 item_line (item.File bytes path) = codes "file" ++ (field (hex_text bytes) ++ field (escape path))
+item_line (item.Quota default) = codes "quota" ++ number default
+item_line (item.Budget bytes user) = codes "budget" ++ (number bytes ++ field (escape user))
 item_line (item.Link n chunk fails bytes) =
     codes "link" ++ (((number n ++ number chunk) ++ field (listed link_call_text fails)) ++ field (hex_text bytes))
 item_line (item.Event e) = event_line e
@@ -36,6 +38,8 @@ IsItem (item.Options mode lo hi host active idle lockout restart) = IsListening 
 IsItem (item.Storage max fails) = (max < 2 ^ 64) × AreCalls (λ call. call) fails
 IsItem (item.Dir path) = IsText path × (is_absolute path ≡ true)
 IsItem (item.File bytes path) = IsText bytes × IsText path × (is_absolute path ≡ true)
+IsItem (item.Quota default) = default < 2 ^ 64
+IsItem (item.Budget bytes user) = (bytes < 2 ^ 64) × IsText user
 IsItem (item.Link n chunk fails bytes) = (n < 2 ^ 64) × (1 ≤ chunk) × (chunk ≤ 65536) × AreCalls (λ call. call.0) fails × IsText bytes
 IsItem (item.Event e) = IsEvent e
 

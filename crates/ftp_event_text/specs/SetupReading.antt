@@ -34,6 +34,14 @@ is_placed x = is_absolute x.1
 unfoldable pub file_at : Reader Item
 file_at = made (λ x. item.File x.0 x.1) (tested is_placed (behind_text (codes "file") (pair hex_field text_field)))
 
+-- the line of budgets
+unfoldable pub quota_at : Reader Item
+quota_at = made (λ default. item.Quota default) (behind_text (codes "quota") number_field)
+
+-- the line of a user's own budget
+unfoldable pub budget_at : Reader Item
+budget_at = made (λ x. item.Budget x.0 x.1) (behind_text (codes "budget") (pair number_field text_field))
+
 -- the number, the chunk and the failing calls of a link
 abbrev pub link_calls_at : Reader ((ℕ × ℕ) × List (ℕ × LinkFault))
 link_calls_at bytes = pair (pair number_field (small_field 65537)) (calls_field link_call_of (λ call. call.0)) bytes
@@ -55,5 +63,7 @@ item_of line =
     else if begins 115 line then whole (storage_at line)
     else if begins 100 line then whole (dir_at line)
     else if begins 102 line then whole (file_at line)
+    else if begins 113 line then whole (quota_at line)
+    else if begins 98 line then whole (budget_at line)
     else if begins 108 line then whole (link_at line)
     else (event_of line >>= λ e. Some (item.Event e))

@@ -5,7 +5,7 @@ ghost use Rattle.ftp_text.specs.declared.fault.LineFault.TheVariants as fault;
 ghost use Rattle.ftp_event_text.specs.declared.setup.Item.{Item};
 ghost use Rattle.ftp_event_text.specs.Setup.{is_skipped, is_absolute, IsItemOf, sent_line, file_line};
 ghost use Rattle.ftp_text.specs.Reading.{Gives};
-ghost use Rattle.ftp_event_text.specs.SetupReading.{options_at, storage_at, dir_at, file_at, link_calls_at, link_at, whole, item_of};
+ghost use Rattle.ftp_event_text.specs.SetupReading.{options_at, storage_at, dir_at, file_at, quota_at, budget_at, link_calls_at, link_at, whole, item_of};
 
 use crate::event::read_event;
 use crate::options::{listening, rules};
@@ -49,6 +49,15 @@ pub enum Item {
         bytes: Bytes,
         path: Bytes,
     },
+    /// Budgets: a user who is given none of his own may store `default` bytes.
+    Quota {
+        default: u64,
+    },
+    /// A user's own budget, in bytes.
+    Budget {
+        bytes: u64,
+        user: Bytes,
+    },
     /// A link that gives these bytes, and moves at most `chunk` bytes a call. Of its calls these fail.
     Link {
         number: u64,
@@ -63,8 +72,8 @@ pub enum Item {
 ///
 /// # Proved
 ///
-/// - The same of the lines of a script: skipped, options, storage, directories, files, links, events (`found`, `bad`,
-///   `only`, `exact`).
+/// - The same of the lines of a script: skipped, options, storage, directories, files, budgets, links, events (`found`,
+///   `bad`, `only`, `exact`).
 pub fn read_item(alloc: Global, line: &[u8]) -> Result<Item, LineFault>
     // The line is that of what is read.
     ensures found { IfOk result (λ i. IsItemOf line.now i) }
@@ -93,6 +102,8 @@ fn item_in(alloc: Global, line: &[u8]) -> Result<Item, LineFault>
         [b's', ..] => whole(storage(alloc, line)?),
         [b'd', ..] => whole(dir(alloc, line)?),
         [b'f', ..] => whole(file(alloc, line)?),
+        [b'q', ..] => whole(quota(line)?),
+        [b'b', ..] => whole(budget(alloc, line)?),
         [b'l', ..] => whole(link(alloc, line)?),
         _ => Ok(Item::Event(read_event(alloc, line)?)),
     }
@@ -172,6 +183,25 @@ fn file(alloc: Global, bytes: &[u8]) -> Result<(Item, &[u8]), LineFault>
         return Err(LineFault::Bad);
     }
     Ok((Item::File { bytes, path }, rest))
+}
+
+#[tactic(auto, unfolding(crate::specs::SetupReading::quota_at))]
+fn quota(bytes: &[u8]) -> Result<(Item, &[u8]), LineFault>
+    ensures { Gives (λ x. (x.0, x.1.now)) result (quota_at bytes.now) }
+{
+    let rest = literal(b"quota", bytes)?;
+    let (default, rest) = field::number(rest)?;
+    Ok((Item::Quota { default }, rest))
+}
+
+#[tactic(auto, unfolding(crate::specs::SetupReading::budget_at))]
+fn budget(alloc: Global, bytes: &[u8]) -> Result<(Item, &[u8]), LineFault>
+    ensures { Gives (λ x. (x.0, x.1.now)) result (budget_at bytes.now) }
+{
+    let rest = literal(b"budget", bytes)?;
+    let (bytes, rest) = field::number(rest)?;
+    let (user, rest) = field::text_to_end(alloc, rest)?;
+    Ok((Item::Budget { bytes, user }, rest))
 }
 
 // Whether the path begins at the root.
