@@ -21,7 +21,8 @@ use Rattle.ftp_event_text.specs.declared.setup.Item.{Item}
 use Rattle.ftp_event_text.specs.declared.setup.Item.TheVariants as item
 use Rattle.ftp_event_text.specs.EventReading.{event_of, read_as}
 use Rattle.ftp_event_text.specs.OptionsReading.{mode_of, mode_at, listening_at, host_of, host_at, active_at, lockout_of, lockout_at, restart_at, rules_at}
-use Rattle.ftp_event_text.specs.SetupReading.{options_at, storage_at, dir_at, file_at, link_at, item_of}
+use Rattle.ftp_event_text.specs.SetupReading.{options_at, storage_at, dir_at, file_at, quota_at, budget_at, link_at, item_of}
+use Rattle.ftp_quota.specs.Names.{ByName}
 use Rattle.ftp_script_text.specs.Script.{IsScriptOf}
 use Rattle.ftp_script_text.proofs.Reading.{script_from, script_read}
 
@@ -174,3 +175,24 @@ script-slashes = script_read (rw (none (codes "//x")) refl)
 pub script-late_dir : IsScriptOf (options ++ codes "0 pass 1\ndir /a\n") (passive Pooled ∷ happens (kind.Pass 1) ∷ []) (Some 3)
 unfolding script_from item_of options_at listening_at mode_at mode_of rules_at host_at host_of active_at lockout_at lockout_of restart_at dir_at event_of word_value read_as number_at small_at word_at text_field text_from digits
 script-late_dir = script_read refl
+
+-- ---- budgets
+
+abbrev no_budgets : ByName ℕ
+no_budgets = map.empty
+
+-- nobody has a budget of his own where there are none
+no_budget : (user : List ℕ) → map.get no_budgets user ≡ None
+no_budget user = map.get-empty (slice_cmp nat_cmp) user
+
+pub script-budgets : IsScriptOf (codes "quota 1\nbudget 2 ann\n") (item.Quota 1 ∷ item.Budget 2 (codes "ann") ∷ []) None
+unfolding script_from item_of quota_at budget_at number_at text_field text_from digits
+script-budgets = script_read (rw (no_budget (codes "ann")) refl)
+
+pub script-two_quotas : IsScriptOf (codes "quota 1\nquota 2\n") (item.Quota 1 ∷ []) (Some 2)
+unfolding script_from item_of quota_at number_at digits
+script-two_quotas = script_read refl
+
+pub script-early_budget : IsScriptOf (codes "budget 2 ann\n") ([]) (Some 1)
+unfolding script_from item_of budget_at number_at text_field text_from digits
+script-early_budget = script_read refl

@@ -16,7 +16,7 @@ pub record Remembers (a : Admission) (before : List Item) : Type 0 where
   pub begun : a.begun ≡ list_any says before
   pub event : a.has_event ≡ has_event before
   pub stored : a.has_stored ≡ has_stored before
-  pub longest : a.max_file ≡ (storage_in before).max_file
+  pub longest : a.max_file ≡ (storage_in before).inner.max_file
   pub links : (n : ℕ) → contains nat_cmp a.links n ≡ has_link n before
 
 -- an item was let in behind these items where it may stand there, and is then among them

@@ -1,9 +1,10 @@
 -- A script, by the bytes of a whole source: the items whose lines these are, up to the first line that is none's there.
-use Rattle.std.specs.Prelude.{◌≡◌, ℕ, ◌+◌, ◌-◌, ◌<◌, ◌≤◌, ◌==◌, ◌&&◌, not, nat_le, Bool, true, false, List, [], ◌∷◌, ◌++◌, length, Option, Some, None, is_none}
+use Rattle.std.specs.Prelude.{◌≡◌, ℕ, ◌+◌, ◌-◌, ◌<◌, ◌≤◌, ◌==◌, ◌&&◌, not, nat_le, Bool, true, false, List, [], ◌∷◌, ◌++◌, length, Option, Some, None, is_some, is_none}
 use Rattle.std.specs.List.{list_any}
 use Rattle.ftp_base.specs.MemoryStorage.{directory_refusal}
 use Rattle.ftp_events.specs.Covers.{is_covered}
 use Rattle.ftp_lines.specs.Lines.{first_line, behind_line}
+use Rattle.ftp_quota.specs.Quota.{own_budget_of}
 use Rattle.ftp_event_text.specs.declared.setup.Item.{Item}
 use Rattle.ftp_event_text.specs.declared.setup.Item.TheVariants as item
 use Rattle.ftp_event_text.specs.Setup.{IsItemOf}
@@ -36,18 +37,29 @@ has_stored items = list_any is_stored items
 
 -- whether the path is new, and its parent a directory, in the storage that these items set up
 abbrev pub is_free : List Item → List ℕ → Bool
-is_free before path = is_none (directory_refusal (storage_in before).files path)
+is_free before path = is_none (directory_refusal (storage_in before).inner.files path)
+
+-- whether these items set up budgets
+abbrev pub has_quota : List Item → Bool
+has_quota before = is_some (storage_in before).accounts
+
+-- whether these items set up no budget of the user's own
+abbrev pub has_no_budget : List Item → List ℕ → Bool
+has_no_budget before user = is_none (own_budget_of (storage_in before).accounts user)
 
 -- whether the line of an item may stand behind the lines of these: the options are the first that says something, the
 -- storage comes before any directory, file and event, directories and files have a free path and come before any event, a
--- file is no longer than the storage allows, a link has a new number, and an event comes behind its link
+-- file is no longer than the storage allows, budgets are set up once and before any event, a user's own behind that and once, a
+-- link has a new number, and an event comes behind its link
 abbrev pub may_stand : List Item → Item → Bool
 may_stand before item.Skip = true
 may_stand before (item.Options mode lo hi host active idle lockout restart) = not (list_any says before)
 may_stand before (item.Storage max fails) = not (has_event before) && not (has_stored before)
 may_stand before (item.Dir path) = not (has_event before) && is_free before path
 may_stand before (item.File bytes path) =
-    not (has_event before) && (is_free before path && nat_le (length bytes) (storage_in before).max_file)
+    not (has_event before) && (is_free before path && nat_le (length bytes) (storage_in before).inner.max_file)
+may_stand before (item.Quota default) = not (has_event before) && not (has_quota before)
+may_stand before (item.Budget bytes user) = not (has_event before) && (has_quota before && has_no_budget before user)
 may_stand before (item.Link n chunk fails bytes) = not (has_link n before)
 may_stand before (item.Event e) = is_covered (λ n. has_link n before) e.kind
 

@@ -14,11 +14,12 @@ ghost use Rattle.ftp_event_text.specs.Setup.{IsItem};
 ghost use Rattle.ftp_events.specs.Covers.{is_covered};
 ghost use Rattle.ftp_script_text.specs.Admission.{Remembers, LetsIn, GivesItem};
 ghost use Rattle.ftp_script_text.specs.SetUp.{has_event, IsSetUp};
-ghost use Rattle.ftp_script_text.specs.Script.{is_free};
+ghost use Rattle.ftp_script_text.specs.Script.{is_free, has_quota, has_no_budget};
 
 use ftp_base::{Bytes, MemoryStorage};
 use ftp_event_text::{Item, read_item};
 use ftp_events::{EventKind, HubEvent};
+use ftp_quota::Quota;
 use ftp_text::LineFault;
 use std::alloc::Global;
 use std::collections::BTreeSet;
@@ -64,7 +65,7 @@ impl Admission {
         alloc: Global,
         taken: usize,
         line: &[u8],
-        storage: &MemoryStorage,
+        storage: &Quota<MemoryStorage>,
     ) -> Result<Item, LineFault>
         ensures let_in { (before : List Item) → Remembers self.old before → IsSetUp storage.now before → GivesItem before taken line.now result self.new }
         ensures item { IfOk result IsItem }
@@ -80,7 +81,7 @@ impl Admission {
     }
 
     // The item, where its line may stand there.
-    fn keep(&mut self, item: Item, storage: &MemoryStorage) -> Result<Item, LineFault>
+    fn keep(&mut self, item: Item, storage: &Quota<MemoryStorage>) -> Result<Item, LineFault>
         ensures same { IfOk result (λ i. i ≡ item) }
         ensures let_in { (before : List Item) → Remembers self.old before → IsSetUp storage.now before → LetsIn before item result self.new }
     {
@@ -93,7 +94,7 @@ impl Admission {
         }
     }
 
-    fn let_in(&mut self, item: &Item, storage: &MemoryStorage) -> Result<(), LineFault>
+    fn let_in(&mut self, item: &Item, storage: &Quota<MemoryStorage>) -> Result<(), LineFault>
         ensures { (before : List Item) → Remembers self.old before → IsSetUp storage.now before → LetsIn before item.now result self.new }
     {
         match item {
@@ -102,6 +103,8 @@ impl Admission {
             Item::Storage { max, fails: _ } => self.let_storage_in(*max),
             Item::Dir { path } => self.let_dir_in(path, storage),
             Item::File { bytes, path } => self.let_file_in(bytes, path, storage),
+            Item::Quota { default: _ } => self.let_quota_in(storage),
+            Item::Budget { bytes: _, user } => self.let_budget_in(user, storage),
             Item::Link {
                 number,
                 chunk: _,
@@ -138,7 +141,7 @@ impl Admission {
     }
 
     // A directory, where no event came and its path is free.
-    fn let_dir_in(&mut self, path: &Bytes, storage: &MemoryStorage) -> Result<(), LineFault>
+    fn let_dir_in(&mut self, path: &Bytes, storage: &Quota<MemoryStorage>) -> Result<(), LineFault>
         ensures { (before : List Item) → Remembers self.old before → IsSetUp storage.now before → LetsIn before (item.Dir path.now) result self.new }
     {
         if !self.takes(path.as_slice(), storage) {
@@ -154,7 +157,7 @@ impl Admission {
         &mut self,
         bytes: &Bytes,
         path: &Bytes,
-        storage: &MemoryStorage,
+        storage: &Quota<MemoryStorage>,
     ) -> Result<(), LineFault>
         ensures { (before : List Item) → Remembers self.old before → IsSetUp storage.now before → LetsIn before (item.File bytes.now path.now) result self.new }
     {
@@ -167,10 +170,50 @@ impl Admission {
     }
 
     // Whether no event came and the path is free.
-    fn takes(&self, path: &[u8], storage: &MemoryStorage) -> bool
+    fn takes(&self, path: &[u8], storage: &Quota<MemoryStorage>) -> bool
         ensures { (before : List Item) → Remembers self.now before → IsSetUp storage.now before → result ≡ (not (has_event before) && is_free before path.now) }
     {
-        !self.has_event && storage.directory_refusal(path).is_none()
+        !self.has_event && storage.inner().directory_refusal(path).is_none()
+    }
+
+    // Budgets, where there are none and no event came.
+    fn let_quota_in(&mut self, storage: &Quota<MemoryStorage>) -> Result<(), LineFault>
+        ensures { (before : List Item) (default : ℕ) → Remembers self.old before → IsSetUp storage.now before → LetsIn before (item.Quota default) result self.new }
+    {
+        if !self.takes_quota(storage) {
+            return Err(LineFault::Bad);
+        }
+        self.begun = true;
+        Ok(())
+    }
+
+    // A user's own budget, where there are budgets, the user has none of his own, and no event came.
+    fn let_budget_in(
+        &mut self,
+        user: &Bytes,
+        storage: &Quota<MemoryStorage>,
+    ) -> Result<(), LineFault>
+        ensures { (before : List Item) (bytes : ℕ) → Remembers self.old before → IsSetUp storage.now before → LetsIn before (item.Budget bytes user.now) result self.new }
+    {
+        if !self.takes_budget(user, storage) {
+            return Err(LineFault::Bad);
+        }
+        self.begun = true;
+        Ok(())
+    }
+
+    // Whether no event came and there are no budgets.
+    fn takes_quota(&self, storage: &Quota<MemoryStorage>) -> bool
+        ensures { (before : List Item) → Remembers self.now before → IsSetUp storage.now before → result ≡ (not (has_event before) && not (has_quota before)) }
+    {
+        !self.has_event && !storage.has_budgets()
+    }
+
+    // Whether no event came, and there are budgets, but none of the user's own.
+    fn takes_budget(&self, user: &Bytes, storage: &Quota<MemoryStorage>) -> bool
+        ensures { (before : List Item) → Remembers self.now before → IsSetUp storage.now before → result ≡ (not (has_event before) && (has_quota before && has_no_budget before user.now)) }
+    {
+        !self.has_event && storage.has_budgets() && storage.own_budget(user).is_none()
     }
 
     // An event, where the connection that comes with it is linked.

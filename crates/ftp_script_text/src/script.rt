@@ -12,6 +12,7 @@ use crate::admission::{Admission, LONGEST_LINE};
 use ftp_base::{MemoryStorage, Source};
 use ftp_event_text::Item;
 use ftp_lines::{LineError, Span, next_line};
+use ftp_quota::Quota;
 use ftp_text::LineFault;
 use std::alloc::Global;
 
@@ -69,7 +70,7 @@ impl ScriptReader {
         alloc: Global,
         buffer: &mut [u8],
         source: &mut S,
-        storage: &MemoryStorage,
+        storage: &Quota<MemoryStorage>,
     ) -> Result<Option<Item>, ScriptError>
         requires lawful { IsLawful self.old buffer.old }
         ensures told { (before : List Item) (all : List ℕ) → HasRead before all self.old buffer.old (S.left source.old) → IsSetUp storage.now before →
