@@ -4,7 +4,6 @@ use Rattle.std.specs.Prelude.{Result, Err}
 use Rattle.std.specs.FinMap as map
 use Rattle.std.proofs.lemmas.Option.{same_Some}
 use Rattle.ftp_base.specs.Memory.{LinkState, link_fault_limit}
-use Rattle.ftp_base.specs.MemoryStorage.{MemoryState}
 use Rattle.ftp_proxy.specs.declared.error.ProxyError.{ProxyError}
 use Rattle.ftp_proxy.specs.declared.error.ProxyError.TheVariants.{ReadError}
 use Rattle.ftp_proxy.specs.declared.error.ReadError.TheVariants.{Fault}
@@ -13,6 +12,7 @@ use Rattle.ftp_proxy.specs.Line.{IsAnswer, IsTaken, line, untaken}
 use Rattle.ftp_events.specs.declared.event.Answer.{Answer}
 use Rattle.ftp_events.specs.declared.event.Answer.TheVariants as answer
 use Rattle.ftp_events.specs.Leads.{Outside, ReadsHeader}
+use Rattle.ftp_script_text.specs.SetUp.{StorageState}
 use Rattle.ftp_script_run.specs.Clean.{HeadersAreRead}
 use Rattle.ftp_script_run.specs.Determined.{ReadHeadersAreDetermined}
 use Rattle.ftp_script_run.specs.Legal.{memory_views}
@@ -28,7 +28,7 @@ line-told bytes (Err (ReadError Fault)) left no_fault is taken = absurd (no_faul
 line-told bytes header left no_fault is taken = (is, taken)
 
 -- what an answer tells that is no fault, and what is left
-read-told : (number : ℕ) (given : Answer) (old new : Outside MemoryState LinkState) (read : ReadsHeader memory_views number given old new) →
+read-told : (number : ℕ) (given : Answer) (old new : Outside StorageState LinkState) (read : ReadsHeader memory_views number given old new) →
     (given ≡ answer.Header (Err (ReadError Fault)) → ⊥) →
     (given ≡ answer.Header (line read.before.left)) × (read.after.left ≡ untaken read.before.left)
 read-told number given old new read no_fault =
@@ -43,7 +43,7 @@ headers-determined number first second old left right one other near far =
     (a.0 ∙ ap (λ (l : LinkState). answer.Header (line l.left)) same ∙ sym b.0, a.1 ∙ ap (λ (l : LinkState). untaken l.left) same ∙ sym b.1)
 
 -- a header that is read from a link of which no call can fail
-read-line : (number : ℕ) (given : Answer) (old new : Outside MemoryState LinkState) (link : LinkState) →
+read-line : (number : ℕ) (given : Answer) (old new : Outside StorageState LinkState) (link : LinkState) →
     ReadsHeader memory_views number given old new →
     map.get old.links number ≡ Some link →
     link_fault_limit link.calls ≡ 0 →

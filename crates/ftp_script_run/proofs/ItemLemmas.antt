@@ -2,7 +2,7 @@
 use Rattle.std.proofs.Common.{◌≡◌, ℕ, ◌*◌, Bool, true, false, cond, ◌||◌, List, [], ◌∷◌, ◌++◌, Option, Some, None, is_some, refl, ap, ◌∙◌, nat_eq}
 use Rattle.std.specs.List.{list_any}
 use Rattle.std.specs.Option.{option_or}
-use Rattle.std.specs.Prelude.{filter_map}
+use Rattle.std.specs.Prelude.{filter_map, fold}
 use Rattle.std.specs.Ordering.{nat_cmp, eq_by_cmp}
 use Rattle.std.specs.Cmp.{nat_cmp_total, unsigned_tied}
 use Rattle.std.specs.FinMap as map
@@ -20,9 +20,11 @@ use Rattle.ftp_options.specs.Builder.{defaults}
 use Rattle.ftp_options.specs.Settings.{Settings}
 use Rattle.ftp_event_text.specs.declared.setup.Item.{Item}
 use Rattle.ftp_event_text.specs.declared.setup.Item.TheVariants as item
+use Rattle.ftp_quota.specs.Book.{Book}
+use Rattle.ftp_quota.specs.Quota.{with_budget, IsUnused}
 use Rattle.ftp_script_text.specs.Script.{says, has_link}
 use Rattle.ftp_script_run.specs.Items.{event_in, events_in, features_of, options_in, new_link, link_in, links_in}
-use Rattle.ftp_script_text.specs.SetUp.{has_event, new_storage, set_up, storage_in}
+use Rattle.ftp_script_text.specs.SetUp.{StorageState, has_event, new_storage, unlimited, set_up, storage_in}
 
 -- ---- events
 
@@ -39,6 +41,8 @@ options_in-other (item.Options mode lo hi host active idle lockout restart ∷ i
 options_in-other (item.Storage max fails ∷ items) i none = options_in-other items i none
 options_in-other (item.Dir path ∷ items) i none = options_in-other items i none
 options_in-other (item.File bytes path ∷ items) i none = options_in-other items i none
+options_in-other (item.Quota default ∷ items) i none = options_in-other items i none
+options_in-other (item.Budget bytes user ∷ items) i none = options_in-other items i none
 options_in-other (item.Link n chunk fails bytes ∷ items) i none = options_in-other items i none
 options_in-other (item.Event e ∷ items) i none = options_in-other items i none
 
@@ -68,6 +72,8 @@ unsaid (item.Options mode lo hi host active idle lockout restart ∷ items) h = 
 unsaid (item.Storage max fails ∷ items) h = cc
 unsaid (item.Dir path ∷ items) h = cc
 unsaid (item.File bytes path ∷ items) h = cc
+unsaid (item.Quota default ∷ items) h = cc
+unsaid (item.Budget bytes user ∷ items) h = cc
 unsaid (item.Link n chunk fails bytes ∷ items) h = cc
 unsaid (item.Event e ∷ items) h = cc
 
@@ -90,6 +96,8 @@ has_link-found n (item.Options mode lo hi host active idle lockout restart ∷ i
 has_link-found n (item.Storage max fails ∷ items) = has_link-found n items
 has_link-found n (item.Dir path ∷ items) = has_link-found n items
 has_link-found n (item.File bytes path ∷ items) = has_link-found n items
+has_link-found n (item.Quota default ∷ items) = has_link-found n items
+has_link-found n (item.Budget bytes user ∷ items) = has_link-found n items
 has_link-found n (item.Link m chunk fails bytes ∷ items) =
     some_cond (eq_by_cmp nat_cmp n m) (new_link chunk fails bytes) (map.find nat_cmp n (link_entries items))
     ∙ ap (λ (b : Bool). b || is_some (map.find nat_cmp n (link_entries items))) (unsigned_tied n m)
@@ -130,4 +138,27 @@ links_in-link items n chunk fails bytes new =
 
 -- one more item changes the storage as it says
 pub storage_in-more : (items : List Item) (i : Item) → storage_in (items ++ i ∷ []) ≡ set_up (storage_in items) i
-storage_in-more items i = fold-append set_up (new_storage 16777216 []) items (i ∷ [])
+storage_in-more items i = fold-append set_up (unlimited (new_storage 16777216 [])) items (i ∷ [])
+
+-- what is set up of budgets gives nobody a file
+unused-more : (storage : StorageState) (i : Item) → IsUnused storage.accounts → IsUnused (set_up storage i).accounts
+unused-more storage item.Skip unused = unused
+unused-more storage (item.Options mode lo hi host active idle lockout restart) unused = unused
+unused-more storage (item.Storage max fails) unused = unused
+unused-more storage (item.Dir path) unused = unused
+unused-more storage (item.File bytes path) unused = unused
+unused-more storage (item.Quota default) unused = refl
+unused-more storage (item.Budget bytes user) unused = stays storage.accounts unused where
+  stays : (book : Option Book) → IsUnused book → IsUnused (with_budget book user bytes)
+  stays None unused = tt
+  stays (Some book) unused = unused
+unused-more storage (item.Link n chunk fails bytes) unused = unused
+unused-more storage (item.Event e) unused = unused
+
+unused-all : (storage : StorageState) (items : List Item) → IsUnused storage.accounts → IsUnused (fold set_up storage items).accounts
+unused-all storage [] unused = unused
+unused-all storage (i ∷ items) unused = unused-all (set_up storage i) items (unused-more storage i unused)
+
+-- nobody owns a file of the storage that items set up
+pub storage_in-unused : (items : List Item) → IsUnused (storage_in items).accounts
+storage_in-unused items = unused-all (unlimited (new_storage 16777216 [])) items tt

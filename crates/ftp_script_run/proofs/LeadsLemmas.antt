@@ -9,7 +9,6 @@ use Rattle.ftp_base.specs.declared.fault.LinkFault.{LinkFault}
 use Rattle.ftp_base.specs.Calls.{Calls, AllWell}
 use Rattle.ftp_base.specs.LinkTable.{Numbered}
 use Rattle.ftp_base.specs.Memory.{LinkState, LinkMet, LinkFailed}
-use Rattle.ftp_base.specs.MemoryStorage.{MemoryState}
 use Rattle.ftp_base.proofs.LinkTableLemmas.{get-insert-other, is_some-get-insert}
 use Rattle.ftp_options.specs.declared.options.Options.{Options}
 use Rattle.ftp_proxy.specs.declared.error.ProxyError.{ProxyError}
@@ -27,6 +26,7 @@ use Rattle.ftp_events.specs.declared.event.EventKind.TheVariants.{End, Piece}
 use Rattle.ftp_events.specs.Leads.{Views, Outside, told_by, header_to_read, job_to_move, job_to_run, MovesPiece, ReadsHeader, RunsJob, LeavesAll, LeadsOne, Leads}
 use Rattle.ftp_events.specs.Log.{past_of}
 use Rattle.ftp_event_text.specs.declared.setup.Item.{Item}
+use Rattle.ftp_script_text.specs.SetUp.{StorageState}
 use Rattle.ftp_hub.specs.Runs.{is_linked, job_due}
 use Rattle.ftp_script_run.specs.Legal.{memory_views, start_of}
 
@@ -395,9 +395,9 @@ leads-split {S} {L} v o log (last ∷ newer) older e old new led =
     leads-split v o log newer older e old x.0 x.1
 
 -- what led to an entry of a script's log, and what the entry did
-pub script-split : (o : Options) (items : List Item) (older newer : List Entry) (e : Entry) (end : Outside MemoryState LinkState) →
+pub script-split : (o : Options) (items : List Item) (older newer : List Entry) (e : Entry) (end : Outside StorageState LinkState) →
     Leads memory_views o [] (newer ++ e ∷ older) (start_of items) end →
-    (x y : Outside MemoryState LinkState)
+    (x y : Outside StorageState LinkState)
     × Leads memory_views o [] older (start_of items) x
     × LimitsFall memory_views (start_of items) x
     × LeadsOne memory_views o (past_of older) e x y

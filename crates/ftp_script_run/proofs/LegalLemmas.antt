@@ -41,6 +41,8 @@ no_events (item.Options mode lo hi host active idle lockout restart ∷ items) h
 no_events (item.Storage max fails ∷ items) h = no_events items h
 no_events (item.Dir path ∷ items) h = no_events items h
 no_events (item.File bytes path ∷ items) h = no_events items h
+no_events (item.Quota default ∷ items) h = no_events items h
+no_events (item.Budget bytes user ∷ items) h = no_events items h
 no_events (item.Link n chunk fails bytes ∷ items) h = no_events items h
 no_events (item.Event e ∷ items) h = absurd cc
 

@@ -6,7 +6,6 @@ use Rattle.std.proofs.lemmas.Option.{same_Some}
 use Rattle.ftp_base.specs.declared.fault.LinkFault.{LinkFault}
 use Rattle.ftp_base.specs.Calls.{Calls}
 use Rattle.ftp_base.specs.Memory.{LinkState, LinkMet}
-use Rattle.ftp_base.specs.MemoryStorage.{MemoryState}
 use Rattle.ftp_proxy.specs.declared.error.ProxyError.TheVariants.{ReadError}
 use Rattle.ftp_proxy.specs.declared.error.ReadError.TheVariants.{Fault}
 use Rattle.ftp_transfer.specs.declared.job.Job.{Job}
@@ -17,6 +16,7 @@ use Rattle.ftp_events.specs.declared.event.Answer.TheVariants as answer
 use Rattle.ftp_events.specs.Leads.{Outside, told_by, ReadsHeader, RunsJob}
 use Rattle.ftp_events.specs.Log.{past_of}
 use Rattle.ftp_event_text.specs.declared.setup.Item.{Item}
+use Rattle.ftp_script_text.specs.SetUp.{StorageState}
 use Rattle.ftp_script_run.specs.Legal.{memory_views, start_of}
 use Rattle.ftp_script_run.specs.Listed.{IsListed, ToldFaultsAreListed, ToldHeaderFaultsAreListed}
 use Rattle.ftp_script_run.proofs.LeadsLemmas.{job-ran, LimitsFall, script-split}
@@ -47,7 +47,7 @@ ran-listed job old new c outcome f told is ran = elim ran.moves.cause [
 ]
 
 -- a call to come of a link is one that the items list for it
-to-come-listed : (items : List Item) (n : ℕ) (f : LinkFault) (old : Outside MemoryState LinkState) (made : LinkState) →
+to-come-listed : (items : List Item) (n : ℕ) (f : LinkFault) (old : Outside StorageState LinkState) (made : LinkState) →
     LimitsFall memory_views (start_of items) old →
     map.get old.links n ≡ Some made →
     ToCome made.calls f →
@@ -65,7 +65,7 @@ to-come-listed items n f old made falls found next =
     }
 
 -- the fault of an outcome is listed for the job's link
-runs-listed : (items : List Item) (job : Job) (given : Answer) (old new : Outside MemoryState LinkState) (outcome : Outcome) (f : LinkFault) →
+runs-listed : (items : List Item) (job : Job) (given : Answer) (old new : Outside StorageState LinkState) (outcome : Outcome) (f : LinkFault) →
     LimitsFall memory_views (start_of items) old →
     RunsJob memory_views job given old new →
     given ≡ answer.Done outcome →
@@ -78,7 +78,7 @@ runs-listed items job given old new outcome f falls ran is fault =
     (ran-listed job (told_by memory_views old.storage ran.before) (told_by memory_views new.storage ran.after) ran.before.calls ran.outcome f refl same ran.ran)
 
 -- the fault of a header is listed for its link
-reads-listed : (items : List Item) (n : ℕ) (given : Answer) (old new : Outside MemoryState LinkState) →
+reads-listed : (items : List Item) (n : ℕ) (given : Answer) (old new : Outside StorageState LinkState) →
     LimitsFall memory_views (start_of items) old →
     ReadsHeader memory_views n given old new →
     given ≡ answer.Header (Err (ReadError Fault)) →

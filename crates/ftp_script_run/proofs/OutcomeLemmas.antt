@@ -2,7 +2,6 @@
 use Rattle.std.proofs.Common.{◌≡◌, ◌⊎◌, ℕ, inl, inr, List, [], ◌∷◌, ◌++◌, Option, Some, None, refl, sym, subst, ◌∙◌, append-nil}
 use Rattle.std.specs.Prelude.{IfSome, Result, Ok, Err, OnOk, OnErr}
 use Rattle.std.proofs.lemmas.Option.{IfSome_then}
-use Rattle.ftp_base.specs.MemoryStorage.{MemoryState}
 use Rattle.ftp_base.specs.Outside.{Writes}
 use Rattle.ftp_base.specs.declared.fault.Failed.{Failed}
 use Rattle.ftp_base.specs.declared.fault.Failed.TheVariants.{Fault, Memory}
@@ -18,7 +17,7 @@ use Rattle.ftp_script_run.specs.declared.run.Run.{Run}
 use Rattle.ftp_script_run.specs.declared.status.Status.{Status}
 use Rattle.ftp_script_run.specs.declared.status.Status.TheVariants as status
 use Rattle.ftp_script_run.specs.Statuses.{IsCutShort, ended_by}
-use Rattle.ftp_script_text.specs.SetUp.{IsSetUp}
+use Rattle.ftp_script_text.specs.SetUp.{StorageState, IsSetUp}
 use Rattle.ftp_script_run.specs.Left.{end_lines}
 use Rattle.ftp_script_run.specs.Outcome.{log_lines, bad_line, WritesWhole, WritesPart, closing, Outcome}
 use Rattle.ftp_script_run.specs.Runs.{Keeps, IsTaken, IsPartlyTaken, Running}
@@ -201,7 +200,7 @@ out-fault all left later before now reader run buffer r told =
     })
 
 -- until an event comes, the storage of a run is the one that its items set up
-pub kept-set_up : (run : Run) (items : List Item) (log : List Entry) (storage : MemoryState) → Keeps run items log → storage ≡ run.storage → IsSetUp storage items
+pub kept-set_up : (run : Run) (items : List Item) (log : List Entry) (storage : StorageState) → Keeps run items log → storage ≡ run.storage → IsSetUp storage items
 kept-set_up run items log storage kept same = λ no_event. same ∙ kept-storage run items log kept no_event
 
 -- ---- what a status says

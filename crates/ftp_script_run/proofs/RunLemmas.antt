@@ -6,7 +6,6 @@ use Rattle.std.specs.FinMap as map
 use Rattle.std.proofs.lemmas.List.{append-nil}
 use Rattle.std.proofs.lemmas.Bool.{not-true}
 use Rattle.ftp_base.specs.declared.fault.LinkFault.{LinkFault}
-use Rattle.ftp_base.specs.MemoryStorage.{MemoryState}
 use Rattle.ftp_base.specs.LinkTable.{Numbered}
 use Rattle.ftp_base.specs.Memory.{LinkState, link_fault_limit}
 use Rattle.ftp_options.specs.declared.options.Options.{Options}
@@ -23,7 +22,7 @@ use Rattle.ftp_hub.proofs.Links.{has_link_of-due, has_links-under, links-more, i
 use Rattle.ftp_event_text.specs.declared.setup.Item.{Item}
 use Rattle.ftp_event_text.specs.declared.setup.Item.TheVariants as item
 use Rattle.ftp_script_text.specs.Script.{says, has_link, may_stand}
-use Rattle.ftp_script_text.specs.SetUp.{has_event, set_up, storage_in}
+use Rattle.ftp_script_text.specs.SetUp.{StorageState, has_event, set_up, storage_in}
 use Rattle.ftp_script_run.specs.declared.run.Run.{Run}
 use Rattle.ftp_script_run.specs.Items.{events_in, options_in, new_link, link_in, links_in}
 use Rattle.ftp_script_run.specs.Legal.{memory_views, start_of, FailsAsListed, IsLegal}
@@ -44,7 +43,7 @@ at-start run items log kept none =
     subst (λ (entries : List Entry). Leads memory_views (options_of run.hub) [] entries (start_of items) (outside run)) (no-entry items log kept.events none) kept.hub.led
 
 pub kept-storage : (run : Run) (items : List Item) (log : List Entry) → Keeps run items log → has_event items ≡ false → run.storage ≡ storage_in items
-kept-storage run items log kept none = ap (λ (x : Outside MemoryState LinkState). x.storage) (at-start run items log kept none)
+kept-storage run items log kept none = ap (λ (x : Outside StorageState LinkState). x.storage) (at-start run items log kept none)
 
 -- the links are those of the items
 pub kept-numbers : (run : Run) (items : List Item) (log : List Entry) (n : ℕ) → Keeps run items log → is_linked run.links n ≡ has_link n items
@@ -84,11 +83,11 @@ keeps-text old new items log hub same kept = record {
 }
 
 -- what one more item, no event, changes at the start is changed now
-record Moves (items more : List Item) (log : List Entry) (old new : Outside MemoryState LinkState) : Type 0 where
+record Moves (items more : List Item) (log : List Entry) (old new : Outside StorageState LinkState) : Type 0 where
   linked : (n : ℕ) → is_linked old.links n ≡ true → is_linked new.links n ≡ true
   led : (o : Options) → Leads memory_views o [] log (start_of items) old → Leads memory_views o [] log (start_of more) new
 
-hub-moves : (hub : Hub) (items more : List Item) (log : List Entry) (old new : Outside MemoryState LinkState) →
+hub-moves : (hub : Hub) (items more : List Item) (log : List Entry) (old new : Outside StorageState LinkState) →
     options_in more ≡ options_in items →
     Moves items more log old new →
     HasRun hub items log old →
@@ -123,10 +122,10 @@ start-more : (items : List Item) (i : Item) → link_in i ≡ None → start_of 
 start-more items i no_link = λ k. record { storage = storage_in-more items i k; links = links_in-other items i no_link k }
 
 -- where nothing more is set up, nothing changes
-stays : (items more : List Item) (log : List Entry) (now : Outside MemoryState LinkState) → start_of more ≡ start_of items → Moves items more log now now
+stays : (items more : List Item) (log : List Entry) (now : Outside StorageState LinkState) → start_of more ≡ start_of items → Moves items more log now now
 stays items more log now same = record {
   linked = λ n has. has;
-  led = λ o led. subst (λ (start : Outside MemoryState LinkState). Leads memory_views o [] log start now) (sym same) led;
+  led = λ o led. subst (λ (start : Outside StorageState LinkState). Leads memory_views o [] log start now) (sym same) led;
 }
 
 pub keeps-skip : (run : Run) (items : List Item) (log : List Entry) → Keeps run items log → Keeps run (items ++ item.Skip ∷ []) log
@@ -160,7 +159,7 @@ keeps-stored old new items log i no_event none no_link first hub links storage k
       now : outside new ≡ start_of (items ++ i ∷ [])
       now =
           (λ k. record { storage = storage k; links = links k })
-          ∙ ap (λ (x : Outside MemoryState LinkState). record { storage = set_up x.storage i; links = x.links }) was
+          ∙ ap (λ (x : Outside StorageState LinkState). record { storage = set_up x.storage i; links = x.links }) was
           ∙ sym (start-more items i no_link)
 
 pub keeps-link : (old new : Run) (items : List Item) (log : List Entry) (n chunk : ℕ) (fails : List (ℕ × LinkFault)) (bytes : List ℕ) →
@@ -176,7 +175,7 @@ keeps-link old new items log n chunk fails bytes hub put storage stands kept =
       linked = λ q has. subst (λ (l : Numbered LinkState). is_linked l q ≡ true) (sym put) (insert-linked old.links n q link has);
       led = λ o led.
           subst (Leads memory_views o [] log (start_of more)) (sym now)
-          (subst (λ (x : Outside MemoryState LinkState). Leads memory_views o [] log x (framed (outside old))) (sym start)
+          (subst (λ (x : Outside StorageState LinkState). Leads memory_views o [] log x (framed (outside old))) (sym start)
           (leads-framed memory_views o [] log (start_of items) (outside old) n link (is_some-links_in items n ∙ unused) led));
     })
     kept where
@@ -186,7 +185,7 @@ keeps-link old new items log n chunk fails bytes hub put storage stands kept =
       more : List Item
       more = items ++ item.Link n chunk fails bytes ∷ []
 
-      framed : Outside MemoryState LinkState → Outside MemoryState LinkState
+      framed : Outside StorageState LinkState → Outside StorageState LinkState
       framed x = with_link x n link
 
       unused : has_link n items ≡ false
@@ -266,7 +265,7 @@ keeps-event old new items log event e same of_event stands leads linked may kept
             linked;
         led =
             subst (λ (o : Options). Leads memory_views o [] (e ∷ log) (start_of more) (outside new)) (sym same)
-            (subst (λ (start : Outside MemoryState LinkState). Leads memory_views (options_of old.hub) [] (e ∷ log) start (outside new))
+            (subst (λ (start : Outside StorageState LinkState). Leads memory_views (options_of old.hub) [] (e ∷ log) start (outside new))
             (sym (start-more items (item.Event event) refl)) (
               outside old,
               kept.hub.led,

@@ -19,11 +19,13 @@ use Rattle.ftp_base.specs.Memory.{LinkState}
 use Rattle.ftp_events.specs.declared.entry.Entry.{Entry}
 use Rattle.ftp_event_text.specs.declared.setup.Item.{Item}
 use Rattle.ftp_event_text.specs.declared.setup.Item.TheVariants as item
-use Rattle.ftp_script_text.specs.Script.{has_link, has_stored, is_free, may_stand}
-use Rattle.ftp_script_text.specs.SetUp.{has_event, new_storage, storage_in}
+use Rattle.ftp_quota.specs.Quota.{IsUnused}
+use Rattle.ftp_script_text.specs.Script.{has_link, has_stored, has_quota, has_no_budget, is_free, may_stand}
+use Rattle.ftp_script_text.specs.SetUp.{StorageState, has_event, new_storage, storage_in}
 use Rattle.ftp_script_run.specs.declared.run.Run.{Run}
 use Rattle.ftp_script_run.specs.Items.{new_link}
 use Rattle.ftp_script_run.specs.Runs.{Keeps, MayTake}
+use Rattle.ftp_script_run.proofs.ItemLemmas.{storage_in-unused}
 use Rattle.ftp_script_run.proofs.RunLemmas.{kept-storage, kept-numbers}
 
 -- ---- the storage
@@ -47,8 +49,8 @@ none_is None h = refl
 none_is (Some x) h = absurd cc
 
 -- a path is free in the storage where it is free by the items
-free_is : (run : Run) (items : List Item) (log : List Entry) (path : List ℕ) → Keeps run items log → has_event items ≡ false → is_free items path ≡ true → directory_refusal run.storage.files path ≡ None
-free_is run items log path kept first free = ap (λ (s : MemoryState). directory_refusal s.files path) (kept-storage run items log kept first) ∙ none_is (directory_refusal (storage_in items).files path) free
+free_is : (run : Run) (items : List Item) (log : List Entry) (path : List ℕ) → Keeps run items log → has_event items ≡ false → is_free items path ≡ true → directory_refusal run.storage.inner.files path ≡ None
+free_is run items log path kept first free = ap (λ (s : StorageState). directory_refusal s.inner.files path) (kept-storage run items log kept first) ∙ none_is (directory_refusal (storage_in items).inner.files path) free
 
 -- a file is not refused where a directory is not, and it is not too long
 file_refusal-none : (files : Files) (max : ℕ) (path : List ℕ) (len : ℕ) → directory_refusal files path ≡ None → leb len max ≡ true → file_refusal files max path len ≡ None
@@ -71,25 +73,45 @@ dir_first items path may = not-true (has_event items) (and_parts (not (has_event
 
 pub file_first : (items : List Item) (bytes path : List ℕ) → may_stand items (item.File bytes path) ≡ true → has_event items ≡ false
 file_first items bytes path may =
-    not-true (has_event items) (and_parts (not (has_event items)) (is_free items path && leb (length bytes) (storage_in items).max_file) may).0
+    not-true (has_event items) (and_parts (not (has_event items)) (is_free items path && leb (length bytes) (storage_in items).inner.max_file) may).0
+
+pub quota_first : (items : List Item) (default : ℕ) → may_stand items (item.Quota default) ≡ true → has_event items ≡ false
+quota_first items default may = not-true (has_event items) (and_parts (not (has_event items)) (not (has_quota items)) may).0
+
+pub budget_first : (items : List Item) (bytes : ℕ) (user : List ℕ) → may_stand items (item.Budget bytes user) ≡ true → has_event items ≡ false
+budget_first items bytes user may = not-true (has_event items) (and_parts (not (has_event items)) (has_quota items && has_no_budget items user) may).0
+
+-- before all events nobody owns a file
+unused_first : (run : Run) (items : List Item) (log : List Entry) → Keeps run items log → has_event items ≡ false → IsUnused run.storage.accounts
+unused_first run items log kept first =
+    subst (λ (s : StorageState). IsUnused s.accounts) (sym (kept-storage run items log kept first)) (storage_in-unused items)
+
+pub storage_unused : (run : Run) (max : ℕ) (fails : List ℕ) → MayTake run (item.Storage max fails) → IsUnused run.storage.accounts
+storage_unused run max fails may = unused_first run may.1.0 may.1.1 may.1.2 (storage_first may.1.0 max fails may.1.3)
+
+pub dir_unused : (run : Run) (path : List ℕ) → MayTake run (item.Dir path) → IsUnused run.storage.accounts
+dir_unused run path may = unused_first run may.1.0 may.1.1 may.1.2 (dir_first may.1.0 path may.1.3)
+
+pub file_unused : (run : Run) (bytes path : List ℕ) → MayTake run (item.File bytes path) → IsUnused run.storage.accounts
+file_unused run bytes path may = unused_first run may.1.0 may.1.1 may.1.2 (file_first may.1.0 bytes path may.1.3)
 
 -- a directory that comes is not refused
-pub dir_taken : (run : Run) (path : List ℕ) → MayTake run (item.Dir path) → directory_refusal run.storage.files path ≡ None
+pub dir_taken : (run : Run) (path : List ℕ) → MayTake run (item.Dir path) → directory_refusal run.storage.inner.files path ≡ None
 dir_taken run path may =
     let items = may.1.0 in
     free_is run items may.1.1 path may.1.2 (dir_first items path may.1.3) (and_parts (not (has_event items)) (is_free items path) may.1.3).1
 
 -- a file that comes is not refused
-pub file_taken : (run : Run) (bytes path : List ℕ) → MayTake run (item.File bytes path) → file_refusal run.storage.files run.storage.max_file path (length bytes) ≡ None
+pub file_taken : (run : Run) (bytes path : List ℕ) → MayTake run (item.File bytes path) → file_refusal run.storage.inner.files run.storage.inner.max_file path (length bytes) ≡ None
 file_taken run bytes path may =
     let items = may.1.0 in
     let kept = may.1.2 in
     let first = file_first items bytes path may.1.3 in
-    let fits = (and_parts (not (has_event items)) (is_free items path && leb (length bytes) (storage_in items).max_file) may.1.3).1 in
-    let parts = and_parts (is_free items path) (leb (length bytes) (storage_in items).max_file) fits in
-    file_refusal-none run.storage.files run.storage.max_file path (length bytes)
+    let fits = (and_parts (not (has_event items)) (is_free items path && leb (length bytes) (storage_in items).inner.max_file) may.1.3).1 in
+    let parts = and_parts (is_free items path) (leb (length bytes) (storage_in items).inner.max_file) fits in
+    file_refusal-none run.storage.inner.files run.storage.inner.max_file path (length bytes)
     (free_is run items may.1.1 path kept first parts.0)
-    (ap (λ (s : MemoryState). leb (length bytes) s.max_file) (kept-storage run items may.1.1 kept first) ∙ parts.1)
+    (ap (λ (s : StorageState). leb (length bytes) s.inner.max_file) (kept-storage run items may.1.1 kept first) ∙ parts.1)
 
 -- what is not refused and does not fail is stopped by want of memory alone
 pub not_refused : (refusal : Option ErrorKind) (e : StoreError) → refusal ≡ None → Refuses refusal e → e ≢ store.Failed → e ≡ store.OutOfMemory

@@ -3,7 +3,6 @@ use Rattle.std.specs.Prelude.{◌≡◌, ℕ, ◌⊎◌, List, [], ◌∷◌, �
 use Rattle.std.specs.List.{flat_map}
 use Rattle.ftp_base.specs.LinkTable.{Numbered}
 use Rattle.ftp_base.specs.Memory.{LinkState}
-use Rattle.ftp_base.specs.MemoryStorage.{MemoryState}
 use Rattle.ftp_base.specs.Outside.{Writes}
 use Rattle.ftp_options.specs.declared.options.Options.{Options}
 use Rattle.ftp_events.specs.declared.entry.Entry.{Entry}
@@ -12,6 +11,7 @@ use Rattle.ftp_event_text.specs.declared.setup.Item.{Item}
 use Rattle.ftp_script_text.specs.declared.script.ScriptReader.{ScriptReader}
 use Rattle.ftp_script_text.specs.Script.{IsScriptOf}
 use Rattle.ftp_script_text.specs.ScriptReader.{AreWhole, Follows, HasRead, ReadsAhead, StopsBehind}
+use Rattle.ftp_script_text.specs.SetUp.{StorageState}
 use Rattle.ftp_sums.specs.declared.total.Total.{Total}
 use Rattle.ftp_sums.specs.Listing.{IsListing, row_line}
 use Rattle.ftp_audit.specs.Heard.{AuditState, HasHeard, total_in}
@@ -65,7 +65,7 @@ pub record IsAudited (bytes : List ℕ) (left old new : Option (List ℕ)) : Typ
   pub script : IsScriptOf bytes items None
   pub end : left ≡ Some []
   pub links : Numbered LinkState
-  pub storage : MemoryState
+  pub storage : StorageState
   pub legal : IsLegal items log links storage
   pub reported : Reports legal.due.options log [] old new
 
@@ -77,7 +77,7 @@ pub record IsAuditedTo (k : ℕ) (bytes : List ℕ) (left old new : Option (List
   pub script : IsScriptOf bytes items (Some k)
   pub reads : ReadsAhead items bytes left
   pub links : Numbered LinkState
-  pub storage : MemoryState
+  pub storage : StorageState
   pub legal : IsLegal items log links storage
   pub reported : Reports legal.due.options log (bad_line k) old new
 
@@ -88,7 +88,7 @@ pub record AuditsWhole (bytes : List ℕ) (left old new : Option (List ℕ)) : T
   pub log : List Entry
   pub stopped : StopsBehind items bytes left
   pub links : Numbered LinkState
-  pub storage : MemoryState
+  pub storage : StorageState
   pub legal : IsLegal items log links storage
   pub reported : Reports legal.due.options log [] old new
 
@@ -105,7 +105,7 @@ pub record AuditsPart (failed : Type 0) (bytes : List ℕ) (left old new : Optio
   pub script : IsScriptOf read items bad
   pub reads : ReadsAhead items bytes left
   pub links : Numbered LinkState
-  pub storage : MemoryState
+  pub storage : StorageState
   pub legal : IsLegal items log links storage
   pub begun : (new ≡ old) ⊎ ((rest ≡ []) ⊎ failed)
   pub reported : ReportsPart legal.due.options log (behind_report bad) old new

@@ -8,6 +8,7 @@ use Rattle.ftp_base.specs.Memory.{LinkState}
 use Rattle.ftp_base.specs.MemoryStorage.{MemoryState}
 use Rattle.ftp_base.specs.Storage.{files_in_order}
 use Rattle.ftp_event_text.specs.Setup.{sent_line, file_line}
+use Rattle.ftp_script_text.specs.SetUp.{StorageState}
 
 -- the line on what was sent on the link of this number; on no link nothing was sent
 abbrev pub sent_on : Numbered LinkState → ℕ → List ℕ
@@ -22,5 +23,5 @@ abbrev pub file_lines : MemoryState → List ℕ
 file_lines storage = flat_map file_line (files_in_order storage.files)
 
 -- the lines behind the log
-abbrev pub end_lines : Numbered LinkState → MemoryState → List ℕ
-end_lines links storage = link_lines links ++ file_lines storage
+abbrev pub end_lines : Numbered LinkState → StorageState → List ℕ
+end_lines links storage = link_lines links ++ file_lines storage.inner

@@ -2,7 +2,6 @@
 use Rattle.std.specs.Prelude.{◌≡◌, ℕ, List, [], ◌∷◌, ◌++◌, codes, reverse, Option, Some, None}
 use Rattle.ftp_base.specs.LinkTable.{Numbered}
 use Rattle.ftp_base.specs.Memory.{LinkState}
-use Rattle.ftp_base.specs.MemoryStorage.{MemoryState}
 use Rattle.ftp_base.specs.Outside.{Writes}
 use Rattle.ftp_events.specs.declared.entry.Entry.{Entry}
 use Rattle.ftp_lines.specs.Writing.{WritesFront}
@@ -11,6 +10,7 @@ use Rattle.ftp_event_text.specs.declared.setup.Item.{Item}
 use Rattle.ftp_event_text.specs.Printing.{print}
 use Rattle.ftp_script_text.specs.Script.{IsScriptOf}
 use Rattle.ftp_script_text.specs.ScriptReader.{AreWhole, ReadsAhead, StopsBehind}
+use Rattle.ftp_script_text.specs.SetUp.{StorageState}
 use Rattle.ftp_script_run.specs.declared.status.Status.{Status}
 use Rattle.ftp_script_run.specs.declared.status.Status.TheVariants as status
 use Rattle.ftp_script_run.specs.Left.{end_lines}
@@ -31,7 +31,7 @@ pub record IsDone (bytes : List ℕ) (left old new : Option (List ℕ)) : Type 0
   pub script : IsScriptOf bytes items None
   pub end : left ≡ Some []
   pub links : Numbered LinkState
-  pub storage : MemoryState
+  pub storage : StorageState
   pub legal : IsLegal items log links storage
   pub written : Writes old new (log_lines log ++ end_lines links storage)
 
@@ -43,7 +43,7 @@ pub record HasBadLine (k : ℕ) (bytes : List ℕ) (left old new : Option (List 
   pub script : IsScriptOf bytes items (Some k)
   pub reads : ReadsAhead items bytes left
   pub links : Numbered LinkState
-  pub storage : MemoryState
+  pub storage : StorageState
   pub legal : IsLegal items log links storage
   pub written : Writes old new (log_lines log ++ bad_line k)
 
@@ -53,13 +53,13 @@ pub record WritesWhole (bytes : List ℕ) (left old new : Option (List ℕ)) : T
   pub log : List Entry
   pub stopped : StopsBehind items bytes left
   pub links : Numbered LinkState
-  pub storage : MemoryState
+  pub storage : StorageState
   pub legal : IsLegal items log links storage
   pub written : Writes old new (log_lines log)
 
 -- what is written behind the log of a script's front, with the rest behind it: the line that names its bad line, or with no
 -- rest the lines on the links and files that it leaves
-abbrev pub closing : Numbered LinkState → MemoryState → Option ℕ → List ℕ → List ℕ
+abbrev pub closing : Numbered LinkState → StorageState → Option ℕ → List ℕ → List ℕ
 closing links storage (Some k) rest = bad_line k
 closing links storage None [] = end_lines links storage
 closing links storage None (c ∷ rest) = []
@@ -77,7 +77,7 @@ pub record WritesPart (bytes : List ℕ) (left old new : Option (List ℕ)) : Ty
   pub script : IsScriptOf read items bad
   pub reads : ReadsAhead items bytes left
   pub links : Numbered LinkState
-  pub storage : MemoryState
+  pub storage : StorageState
   pub legal : IsLegal items log links storage
   pub written : WritesFront old new (log_lines log ++ closing links storage bad rest)
 

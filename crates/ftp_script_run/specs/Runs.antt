@@ -1,7 +1,6 @@
 -- What a run keeps while it goes on.
 use Rattle.std.specs.Prelude.{◌≡◌, ℕ, ◌⊎◌, true, List, [], ◌∷◌, ◌++◌, map, reverse, Option, IfSome}
 use Rattle.ftp_base.specs.Memory.{LinkState}
-use Rattle.ftp_base.specs.MemoryStorage.{MemoryState}
 use Rattle.ftp_base.specs.Outside.{Writes}
 use Rattle.ftp_options.specs.Builder.{settings_of}
 use Rattle.ftp_events.specs.declared.entry.Entry.{Entry}
@@ -15,17 +14,18 @@ use Rattle.ftp_event_text.specs.Setup.{IsItem}
 use Rattle.ftp_script_text.specs.declared.script.ScriptReader.{ScriptReader}
 use Rattle.ftp_script_text.specs.Script.{may_stand}
 use Rattle.ftp_script_text.specs.ScriptReader.{Follows, HasRead}
+use Rattle.ftp_script_text.specs.SetUp.{StorageState}
 use Rattle.ftp_script_run.specs.declared.run.Run.{Run}
 use Rattle.ftp_script_run.specs.Items.{events_in, options_in}
 use Rattle.ftp_script_run.specs.Legal.{memory_views, start_of}
 use Rattle.ftp_script_run.specs.Outcome.{log_lines}
 
 -- the storage and the links of a run
-abbrev pub outside : Run → Outside MemoryState LinkState
+abbrev pub outside : Run → Outside StorageState LinkState
 outside run = record { storage = run.storage; links = run.links }
 
 -- a hub with the options of the items stands for the log, whose slots and jobs have their links and whose ended jobs were run
-pub record HasRun (hub : Hub) (items : List Item) (log : List Entry) (now : Outside MemoryState LinkState) : Type 0 where
+pub record HasRun (hub : Hub) (items : List Item) (log : List Entry) (now : Outside StorageState LinkState) : Type 0 where
   pub options : settings_of (options_of hub) ≡ options_in items
   pub stands : Stands hub log
   pub has_links : HasLinks (options_of hub) (past_of log) now.links

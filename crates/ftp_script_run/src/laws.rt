@@ -10,7 +10,8 @@ ghost use Rattle.ftp_script_run.specs.Listed.{ToldFaultsAreListed, ToldHeaderFau
 /// # Proved
 ///
 /// - Where a script lists no call that fails, a transfer that is run, and of which the storage's rule refuses no call,
-///   is done, or memory ran out (`transfers`).
+///   is done, or memory ran out; the rule is that of the storage that the script sets up, once the files were begun
+///   that were begun before (`transfers`).
 /// - Where a script lists no call that fails, a header that is read is what the line at the front of its connection
 ///   says (`headers`).
 pub fn taken_transfers_are_done()
@@ -26,7 +27,7 @@ pub fn taken_transfers_are_done()
 ///
 /// - Two runs of a transfer of which no piece moved before, over the same storage and link in memory, that nothing
 ///   stopped have the same outcome and leave the same files: no call failed, memory was found, no file would have been
-///   too long, and the count of bytes is not at its end (`transfers`).
+///   too long and no budget passed, and the count of bytes is not at its end (`transfers`).
 /// - Two readings of the header of one connection in memory, neither of which met a fault, give one answer and leave
 ///   the same bytes (`headers`).
 pub fn settled_runs_are_determined()

@@ -30,16 +30,17 @@ use ftp_hub::{Hub, run_event};
 use ftp_options::{
     ActivePassiveMode, FailedLoginsPolicy, ListenerMode, Options, PassiveHost, ServerBuilder,
 };
+use ftp_quota::Quota;
 use ftp_script_text::MAX_FILE;
 use ftp_text::FailingCalls;
 use std::alloc::Global;
 
-/// The hub, the storage, and the links. Of events and entries nothing is kept here.
+/// The hub, the storage with its budgets, and the links. Of events and entries nothing is kept here.
 #[derive(Drop)]
 pub struct Run {
     alloc: Global,
     hub: Hub,
-    storage: MemoryStorage,
+    storage: Quota<MemoryStorage>,
     links: LinkTable<MemoryLink>,
     // The text that is written next.
     text: Vec<u8>,
@@ -53,14 +54,14 @@ impl Run {
         Run {
             alloc,
             hub: Hub::new(alloc, built(ServerBuilder::new(alloc))),
-            storage: MemoryStorage::new(alloc, MAX_FILE, Vec::new(alloc)),
+            storage: Quota::transparent(MemoryStorage::new(alloc, MAX_FILE, Vec::new(alloc))),
             links: LinkTable::new(alloc),
             text: Vec::new(alloc),
         }
     }
 
     /// The storage, as the items so far leave it.
-    pub fn storage(&self) -> &MemoryStorage
+    pub fn storage(&self) -> &Quota<MemoryStorage>
         ensures { result.now ≡ self.now.storage }
     {
         &self.storage
@@ -115,6 +116,11 @@ impl Run {
             }
             Item::Dir { path } => self.make_dir(path),
             Item::File { bytes, path } => self.put_file(bytes, path),
+            Item::Quota { default } => {
+                self.set_quota(default);
+                Ok(())
+            }
+            Item::Budget { bytes, user } => self.set_budget(bytes, user),
             Item::Link {
                 number,
                 chunk,
@@ -161,7 +167,8 @@ impl Run {
         requires { MayTake self.old (item.Storage max fails) }
         ensures { Takes self.old (item.Storage max fails) self.new [] }
     {
-        self.storage = MemoryStorage::new(self.alloc, max, fails.into_vec());
+        let storage = MemoryStorage::new(self.alloc, max, fails.into_vec());
+        self.storage.replace(storage);
     }
 
     // Makes a directory.
@@ -185,6 +192,26 @@ impl Run {
         match self.storage.put_file(path, bytes.into_vec()) {
             Ok(()) => Ok(()),
             Err(error) => Err(want_of_memory(error)),
+        }
+    }
+
+    // Gives each user a budget.
+    fn set_quota(&mut self, default: u64)
+        requires { MayTake self.old (item.Quota default) }
+        ensures { Takes self.old (item.Quota default) self.new [] }
+    {
+        self.storage.limit(self.alloc, default);
+    }
+
+    // Gives a user a budget of his own.
+    fn set_budget(&mut self, bytes: u64, user: Bytes) -> Result<(), Failed>
+        requires { MayTake self.old (item.Budget bytes user) }
+        ensures put { OnOk result (Takes self.old (item.Budget bytes user) self.new []) }
+        ensures only_memory { IfErr result (λ e. e ≡ Memory) }
+    {
+        match self.storage.budget(user, bytes) {
+            Ok(()) => Ok(()),
+            Err(_) => Err(Failed::Memory),
         }
     }
 
@@ -244,7 +271,7 @@ impl Run {
         ensures front { OnErr result (WritesFront (K.written sink.old) (K.written sink.new) (end_lines self.old.links self.old.storage)) }
     {
         print_links(self.alloc, sink, &mut self.text, &self.links)?;
-        print_files(sink, &mut self.text, &self.storage)
+        print_files(sink, &mut self.text, self.storage.inner())
     }
 
     /// Writes the line that names a bad line.

@@ -2,12 +2,15 @@ use Rattle.std.proofs.Common.{refl}
 use Rattle.ftp_base.specs.MemoryStorage.{directory_refusal}
 use Rattle.ftp_event_text.specs.declared.setup.Item.TheVariants as item
 use Rattle.ftp_script_run.proofs.RunLemmas.{keeps-stored}
-use Rattle.ftp_script_run.proofs.SetUpLemmas.{dir_first, dir_taken, not_refused}
+use Rattle.ftp_script_run.proofs.SetUpLemmas.{dir_first, dir_taken, dir_unused, not_refused}
 use Rattle.ftp_script_run.proofs.run.Run.make_dir.Goals as goal
+
+pub mkdir-requires : goal.mkdir-requires
+mkdir-requires c = record { unused = dir_unused c.args.self.now c.args.path c.requires }
 
 pub want_of_memory-requires : goal.want_of_memory-requires
 want_of_memory-requires c =
-    not_refused (directory_refusal c.args.self.now.storage.files c.args.path) c.in-Err.error
+    not_refused (directory_refusal c.args.self.now.storage.inner.files c.args.path) c.in-Err.error
     (dir_taken c.args.self.now c.args.path c.requires) c.in-Err.ensures.refused c.in-Err.ensures.no_fault
 
 pub returns-in-Ok-clause-put : goal.returns-in-Ok-clause-put

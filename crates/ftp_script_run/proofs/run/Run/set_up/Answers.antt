@@ -25,6 +25,14 @@ pub returns-in-File-clause-took : goal.returns-in-File-clause-took
 returns-in-File-clause-took c =
     on_ok-then c.put_file.result c.put_file.ensures.put (subst (λ (i : Item). Takes c.args.self.now i c.put_file.new.self []) (sym c.in-File.is))
 
+pub returns-in-Quota-clause-took : goal.returns-in-Quota-clause-took
+returns-in-Quota-clause-took c =
+    subst (λ (i : Item). Takes c.args.self.now i c.set_quota.new.self []) (sym c.in-Quota.is) c.set_quota.ensures
+
+pub returns-in-Budget-clause-took : goal.returns-in-Budget-clause-took
+returns-in-Budget-clause-took c =
+    on_ok-then c.set_budget.result c.set_budget.ensures.put (subst (λ (i : Item). Takes c.args.self.now i c.set_budget.new.self []) (sym c.in-Budget.is))
+
 pub returns-in-Link-clause-took : goal.returns-in-Link-clause-took
 returns-in-Link-clause-took c =
     on_ok-then c.link.result c.link.ensures.put (subst (λ (i : Item). Takes c.args.self.now i c.link.new.self []) (sym c.in-Link.is))
