@@ -7,11 +7,14 @@ here=$(cd "$(dirname "$0")" && pwd)
 program=${1:-$here/../crates/ftp_bench/out/ftp_bench}
 few=100
 many=1100
+# glibc clears and copies large pieces by one instruction that callgrind counts anew for each of its bytes: it is told to use
+# others.
+plain=glibc.cpu.x86_rep_stosb_threshold=100000000:glibc.cpu.x86_rep_movsb_threshold=100000000
 
 # Prints the instructions of a run, and its looks.
 count() {
     looks=$("$program" reserve "$1" "$2" "$3" "$4")
-    valgrind --tool=callgrind --callgrind-out-file=/dev/null "$program" reserve "$1" "$2" "$3" "$4" 2>&1 > /dev/null |
+    GLIBC_TUNABLES=$plain valgrind --tool=callgrind --callgrind-out-file=/dev/null "$program" reserve "$1" "$2" "$3" "$4" 2>&1 > /dev/null |
         awk -v looks="$looks" '/Collected/ { print $4, looks }'
 }
 
