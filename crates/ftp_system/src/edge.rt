@@ -74,7 +74,8 @@ fn random_word<R: RandomSource>(rt: &R) -> io::Result<u128> {
     Ok(u128::from_le_bytes(bytes))
 }
 
-// The first address of version 4 that the name has.
+// The first address of version 4 that the name has. An answer of names takes 19 KiB of the stack, so it keeps a frame of its own.
+#[inline(never)]
 fn first_v4<N: Net>(net: &N, name: &[u8]) -> Option<Ipv4Addr> {
     let name = str::from_utf8(name).ok()?;
     for found in (name, 0u16).to_socket_addrs(net).ok()? {

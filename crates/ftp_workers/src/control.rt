@@ -34,6 +34,7 @@ impl<
     G: Gate + Drop,
 > Worker<R, L, A, N, S, G> {
     /// Serves a control connection to its end. None where its socket could not be set up.
+    #[inline(never)]
     pub fn serve(&mut self, stream: TcpStream, raw: SocketAddr) -> Option<ServeEnd> {
         let local = stream.local_addr().ok()?;
         let control = self.control(stream)?;
@@ -65,6 +66,7 @@ impl<
     }
 
     // Serves a control connection while others can wake its loop, and closes it then.
+    #[inline(never)]
     pub(crate) fn talk<C: Control + Drop>(
         &mut self,
         control: C,

@@ -30,6 +30,7 @@ impl<
     }
 
     // Runs a job on the link of this number, and does what its end asks for.
+    #[inline(never)]
     pub(crate) fn run(&mut self, number: u64, job: JobShare) {
         let Some(waiting) = self.state.handoff.take_link(&self.rt, number) else {
             return;

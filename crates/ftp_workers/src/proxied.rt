@@ -49,6 +49,7 @@ impl<
     G: Gate + Drop,
 > Worker<R, L, A, N, S, G> {
     // Reads the header of a connection, and serves its session or keeps it for a job.
+    #[inline(never)]
     pub(crate) fn pass_on(&mut self, stream: net::TcpStream, raw: SocketAddr) {
         if stream.set_nonblocking(true).is_err() {
             return;
@@ -106,6 +107,7 @@ impl<
     }
 
     // Serves the session of a connection whose header was read.
+    #[inline(never)]
     fn serve_proxied(
         &mut self,
         number: u64,

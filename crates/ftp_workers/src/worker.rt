@@ -84,6 +84,7 @@ impl<
     }
 
     /// Ends this worker; the server takes its share back.
+    #[inline(never)]
     pub fn leave(self) {
         let Worker {
             rt,
@@ -107,9 +108,28 @@ pub fn work<
     S: Storage + Drop,
     G: Gate + Drop,
 >(rt: R, state: Arc<ServerState<L, A, N, S, G>, Global>, share: StepShare<L>) {
-    if let Ok(worker) = Worker::new(rt, state, share) {
+    if let Some(worker) = new_worker(rt, state, share) {
         let mut worker = worker;
         worker.work();
-        worker.leave();
+        Box::into_inner(worker).leave();
     }
+}
+
+// A worker outside the stack of its thread, none without memory. It keeps a frame of its own.
+#[inline(never)]
+fn new_worker<
+    R: WorkerRuntime,
+    L: Serving,
+    A: Authenticator + Drop,
+    N: EventSinks + Drop,
+    S: Storage + Drop,
+    G: Gate + Drop,
+>(
+    rt: R,
+    state: Arc<ServerState<L, A, N, S, G>, Global>,
+    share: StepShare<L>,
+) -> Option<Box<Worker<R, L, A, N, S, G>>> {
+    let alloc = state.alloc;
+    let worker = Worker::new(rt, state, share).ok()?;
+    Box::new(alloc, worker).ok()
 }
