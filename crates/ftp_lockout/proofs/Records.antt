@@ -16,14 +16,11 @@ use Rattle.ftp_lockout.specs.declared.cache.Failures.{Failures}
 use Rattle.ftp_lockout.specs.declared.key.LoginKey.{LoginKey}
 use Rattle.ftp_lockout.specs.Keys.{key_cmp, same_key}
 use Rattle.ftp_lockout.specs.Failures.{recorded, is_expired, swept}
-use Rattle.ftp_lockout.specs.Places.{IsAt, IsGapFor}
-use Rattle.ftp_lockout.proofs.Tables.{get_or-get, get-within, keys-set, lookup-set, lookup-remove, lookup-insert, lookup-same, lookup-found, lookup-gap, rises-insert, rises-remove, rises-filter, comparisons_climb}
+use Rattle.ftp_lockout.specs.Places.{AreInOrder, IsAt, IsGapFor}
+use Rattle.ftp_lockout.proofs.Tables.{get_or-get, get-within, keys-set, lookup-set, lookup-remove, lookup-insert, lookup-same, lookup-found, lookup-gap, rises-insert, rises-remove, rises-filter, rises-cons, comparisons_climb}
 
 abbrev pub Records : Type 0
 Records = List (LoginKey × Failures)
-
-abbrev pub AreInOrder : Records → Type 0
-AreInOrder es = IsStrictlySortedBy key_cmp (keys_of es)
 
 pub keys_total : IsTotalOrder key_cmp
 unfolding key_cmp
@@ -35,6 +32,15 @@ keys_total =
 pub none_in_order : AreInOrder []
 unfolding IsStrictlySortedBy
 none_in_order = tt
+
+pub one_in_order : (e : LoginKey × Failures) → AreInOrder (e ∷ [])
+one_in_order e = rises-cons keys_total e [] tt none_in_order
+
+-- what is within a list stands at a place
+pub stands-at : {X : Type 0} (xs : List X) (i : ℕ) → i < length xs → (x : X) × (slice_get xs i ≡ Some x)
+stands-at [] i lt = absurd (omega arith)
+stands-at (x ∷ xs) zero lt = (x, refl)
+stands-at (x ∷ xs) (suc i) lt = stands-at xs i (omega arith)
 
 -- what is read at a place stands there
 pub get-read : (es : Records) (i : ℕ) (r : LoginKey × Failures) → i < length es → r ≡ get_or es i r → slice_get es i ≡ Some r
@@ -55,6 +61,14 @@ recorded-set es i r f order lt read k other is_at =
 
 pub order-set : (es : Records) (i : ℕ) (r : LoginKey × Failures) (f : Failures) → AreInOrder es → i < length es → r ≡ get_or es i r → AreInOrder (set es i (r.0, f))
 order-set es i r f order lt read = subst (λ (ks : List LoginKey). IsStrictlySortedBy key_cmp ks) (sym (keys-set es i r f (get-read es i r lt read))) order
+
+pub recorded-taken : (es new : Records) (i : ℕ) → AreInOrder es → new ≡ remove es i →
+    (k other : LoginKey) → IsAt es k i → recorded new other ≡ cond (same_key other k) None (recorded es other)
+recorded-taken es new i order is k other is_at =
+    let there = stands-at es i is_at.within in
+    ap (λ (x : Records). recorded x other) is
+    ∙ lookup-remove keys_total es i there.0 other order there.1
+    ∙ ap (λ (b : Bool). cond b None (recorded es other)) (ties there.0.0 k other (is_at.here there.0 there.1))
 
 pub recorded-remove : (es : Records) (i : ℕ) (r : LoginKey × Failures) → AreInOrder es → i < length es → r ≡ get_or es i r →
     (k other : LoginKey) → IsAt es k i → recorded (remove es i) other ≡ cond (same_key other k) None (recorded es other)

@@ -68,7 +68,7 @@ module _ {K : Type 0} {R : K → K → Ordering} (o : IsTotalOrder R) where
 -- ---- records
 
 module _ {K X : Type 0} where
-  all-get : (P : K → Type 0) (es : List (K × X)) (i : ℕ) (r : K × X) → AllByRecursion P (keys_of es) → slice_get es i ≡ Some r → P r.0
+  pub all-get : (P : K → Type 0) (es : List (K × X)) (i : ℕ) (r : K × X) → AllByRecursion P (keys_of es) → slice_get es i ≡ Some r → P r.0
   all-get P [] i r all got = cc
   all-get P (e ∷ es) zero r all got = let here : e ≡ r = cc in subst (λ (x : K × X). P x.0) here all.0
   all-get P (e ∷ es) (suc i) r all got = all-get P es i r all.1 got
@@ -110,15 +110,15 @@ module _ {K X : Type 0} where
     abbrev Rises : List (K × X) → Type 0
     Rises es = IsStrictlySortedBy R (keys_of es)
 
-    rises-head : (e : K × X) (es : List (K × X)) → Rises (e ∷ es) → AllByRecursion (λ y. R e.0 y ≡ Less) (keys_of es)
+    pub rises-head : (e : K × X) (es : List (K × X)) → Rises (e ∷ es) → AllByRecursion (λ y. R e.0 y ≡ Less) (keys_of es)
     unfolding IsStrictlySortedBy
     rises-head e es rises = rises.0
 
-    rises-tail : (e : K × X) (es : List (K × X)) → Rises (e ∷ es) → Rises es
+    pub rises-tail : (e : K × X) (es : List (K × X)) → Rises (e ∷ es) → Rises es
     unfolding IsStrictlySortedBy
     rises-tail e es rises = rises.1
 
-    rises-cons : (e : K × X) (es : List (K × X)) → AllByRecursion (λ y. R e.0 y ≡ Less) (keys_of es) → Rises es → Rises (e ∷ es)
+    pub rises-cons : (e : K × X) (es : List (K × X)) → AllByRecursion (λ y. R e.0 y ≡ Less) (keys_of es) → Rises es → Rises (e ∷ es)
     unfolding IsStrictlySortedBy
     rises-cons e es head tail = (head, tail)
 

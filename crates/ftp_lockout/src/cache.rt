@@ -1,14 +1,14 @@
 //! The table of failed logins.
 
-ghost use Rattle.std.specs.Prelude.{◌≡◌, ℕ, ◌+◌, ◌-◌, ◌^◌, ◌<◌, ◌≤◌, ◌∷◌, List, [], length, vec_len, vec_capacity, Bool, Option, Some, None, IfOk, IfErr, OnOk, OnErr, IsOk, if◌then◌else◌};
-ghost use Rattle.std.specs.Map.{keys_of};
-ghost use Rattle.std.specs.List.Sorted.{IsStrictlySortedBy};
-ghost use Rattle.ftp_lockout.specs.Keys.{key_cmp, key_of, key_lent, same_key};
+ghost use Rattle.std.specs.Prelude.{◌≡◌, ◌<◌, ◌≤◌, ◌∷◌, List, [], length, filter, not, vec_len, vec_capacity, Some, None, IfOk, OnOk, OnErr, IsOk, if◌then◌else◌};
+ghost use Rattle.ftp_lockout.specs.Keys.{key_of, key_lent, same_key};
 ghost use Rattle.ftp_lockout.specs.Failures.{recorded, failures_of, is_expired, one_more, lock_state, is_locked, let_in, swept};
 ghost use Rattle.ftp_lockout.specs.Tally.{Call, StandsFor, Failed, Succeeded, Swept};
-ghost use Rattle.ftp_lockout.specs.Places.{IsAt, IsGapFor};
+ghost use Rattle.ftp_lockout.specs.Places.{AreBlocks, AreInOrder, HasGap, IsGapFor, place_in, records_in};
 
+use crate::blocks::{Block, begin, drop_empty, make_room, open_block, put_at, set_at, take_at};
 use crate::key::{LentKey, LoginKey, lent_key};
+use crate::places::{Place, failures_at, place_of};
 use ftp_base::{Bytes, IpAddr, LockState};
 use ftp_options::FailedLoginsPolicy;
 use std::alloc::{AllocError, Global};
@@ -23,25 +23,27 @@ pub struct Failures {
 
 /// The failed logins by key, in order of keys. Moments are in milliseconds.
 ///
-/// A key is found in a time that grows with the logarithm of the count of keys.
+/// A key is found in a time that grows with the logarithm of the count of keys. A new one moves at most 128 records, and
+/// once in 64 new ones the list of the blocks.
 #[derive(Drop)]
 pub struct FailedLoginsCache {
+    alloc: Global,
     policy: FailedLoginsPolicy,
-    records: Vec<(LoginKey, Failures)>,
+    blocks: Vec<Block>,
+    // The memory of the next block, which has no records.
+    next: Block,
 }
 
 impl Model for FailedLoginsCache {
-    ghost use Rattle.std.specs.Prelude.{◌-◌, vec_len, vec_capacity};
-    ghost use Rattle.std.specs.Map.{keys_of};
-    ghost use Rattle.std.specs.List.Sorted.{IsStrictlySortedBy};
-    ghost use Rattle.ftp_lockout.specs.Keys.{key_cmp};
+    ghost use Rattle.std.specs.Prelude.{◌≡◌, ◌-◌, ◌/◌, [], min, vec_len, vec_capacity};
     ghost use Rattle.ftp_lockout.specs.Failures.{Table};
+    ghost use Rattle.ftp_lockout.specs.Places.{AreBlocks, AreInOrder, records_in};
 
     ghost Value = { Table };
 
-    ghost view = { λ c. record { policy = c.policy; records = c.records.items; spare = vec_capacity c.records - vec_len c.records } };
+    ghost view = { λ c. record { policy = c.policy; records = records_in c.blocks.items; spare = min (vec_capacity c.blocks - vec_len c.blocks) (vec_capacity c.next / 128) } };
 
-    ghost invariant = { λ c. IsStrictlySortedBy key_cmp (keys_of c.records.items) };
+    ghost invariant = { λ c. AreInOrder (records_in c.blocks.items) × AreBlocks c.blocks.items × (c.next.items ≡ []) };
 }
 
 impl FailedLoginsCache {
@@ -56,8 +58,10 @@ impl FailedLoginsCache {
         ensures stands { StandsFor result [] }
     {
         FailedLoginsCache {
+            alloc,
             policy,
-            records: Vec::new(alloc),
+            blocks: Vec::new(alloc),
+            next: Vec::new(alloc),
         }
     }
 
@@ -66,7 +70,7 @@ impl FailedLoginsCache {
         ensures room { OnOk result (0 < self.new.spare) }
         ensures same { self.new ≡ record self.old { spare = self.new.spare } }
     {
-        self.records.reserve(1)
+        make_room(&mut self.blocks, &mut self.next)
     }
 
     /// Counts a failed login, and says whether its key is locked from now on, or was.
@@ -96,7 +100,8 @@ impl FailedLoginsCache {
     {
         let policy = self.policy;
         let key = LoginKey::new(policy.block_by, ip, user);
-        let count = count(&mut self.records, key, policy, at)?;
+        let alloc = self.alloc;
+        let count = count(alloc, &mut self.blocks, &mut self.next, key, policy, at)?;
         Ok(lock(policy, count))
     }
 
@@ -116,7 +121,7 @@ impl FailedLoginsCache {
     {
         let policy = self.policy;
         let key = lent_key(policy.block_by, ip, user.as_slice());
-        if let_in(&mut self.records, key, policy, at) {
+        if let_in(&mut self.blocks, key, policy, at) {
             Some(LockState::AlreadyLocked)
         } else {
             None
@@ -135,124 +140,118 @@ impl FailedLoginsCache {
         ensures spare { self.old.spare ≤ self.new.spare }
     {
         let policy = self.policy;
-        sweep(&mut self.records, policy, at);
+        sweep(&mut self.blocks, policy, at);
     }
 }
 
 // Counts a failed login of the key, and gives the count.
 fn count(
-    records: &mut Vec<(LoginKey, Failures)>,
+    alloc: Global,
+    blocks: &mut Vec<Block>,
+    next: &mut Block,
     key: LoginKey,
     policy: FailedLoginsPolicy,
     at: u64,
 ) -> Result<u32, AllocError>
-    requires order { IsStrictlySortedBy key_cmp (keys_of records.old.items) }
-    ensures counted { OnOk result ((other : LoginKey) → recorded records.new.items other ≡ (if same_key other key
-        then Some (one_more policy at (recorded records.old.items other)) else recorded records.old.items other)) }
-    ensures count { IfOk result (λ count. count ≡ (one_more policy at (recorded records.old.items key)).count) }
-    ensures order { IsStrictlySortedBy key_cmp (keys_of records.new.items) }
-    ensures room { vec_len records.old < vec_capacity records.old → IsOk result }
-    ensures unchanged { OnErr result (records.new.items ≡ records.old.items) }
+    requires order { AreInOrder (records_in blocks.old.items) }
+    requires blocks { AreBlocks blocks.old.items }
+    requires empty { next.old.items ≡ [] }
+    ensures counted { OnOk result ((other : LoginKey) → recorded (records_in blocks.new.items) other ≡ (if same_key other key
+        then Some (one_more policy at (recorded (records_in blocks.old.items) other)) else recorded (records_in blocks.old.items) other)) }
+    ensures count { IfOk result (λ count. count ≡ (one_more policy at (recorded (records_in blocks.old.items) key)).count) }
+    ensures order { AreInOrder (records_in blocks.new.items) }
+    ensures blocks { AreBlocks blocks.new.items }
+    ensures empty { next.new.items ≡ [] }
+    ensures room { vec_len blocks.old < vec_capacity blocks.old → 128 ≤ vec_capacity next.old → IsOk result }
+    ensures unchanged { OnErr result (records_in blocks.new.items ≡ records_in blocks.old.items) }
 {
-    match place_of(records, key.lend()) {
+    match place_of(blocks, key.lend()) {
         Ok(place) => {
-            let failures = more(policy, at, records[place].1);
-            set_at(records, place, failures);
+            let failures = more(policy, at, failures_at(blocks, place));
+            set_at(blocks, place, failures);
             Ok(failures.count)
         }
         Err(place) => {
             let failures = Failures { count: 1, last: at };
-            put_at(records, place, key, failures)?;
+            make_room(blocks, next)?;
+            put(alloc, blocks, next, place, (key, failures));
             Ok(failures.count)
         }
     }
 }
 
-// Removes what is recorded of the key, unless it is locked, and says whether it is.
-fn let_in(
-    records: &mut Vec<(LoginKey, Failures)>,
-    key: LentKey<'_>,
-    policy: FailedLoginsPolicy,
-    at: u64,
-) -> bool
-    requires order { IsStrictlySortedBy key_cmp (keys_of records.old.items) }
-    ensures locked { result ≡ is_locked policy at (recorded records.old.items (key_lent key.entry)) }
-    ensures removed { (other : LoginKey) → recorded records.new.items other ≡ (if same_key other (key_lent key.entry)
-        then let_in policy at (recorded records.old.items other) else recorded records.old.items other) }
-    ensures order { IsStrictlySortedBy key_cmp (keys_of records.new.items) }
-    ensures len { vec_len records.new ≤ vec_len records.old }
-    ensures capacity { vec_capacity records.new ≡ vec_capacity records.old }
+// Puts the key before the place. There is memory for it.
+fn put(
+    alloc: Global,
+    blocks: &mut Vec<Block>,
+    next: &mut Block,
+    place: Place,
+    entry: (LoginKey, Failures),
+)
+    requires order { AreInOrder (records_in blocks.old.items) }
+    requires blocks { AreBlocks blocks.old.items }
+    requires key { IsGapFor (records_in blocks.old.items) entry.0 (place_in blocks.old.items place) }
+    requires gap { 0 < length blocks.old.items → HasGap blocks.old.items place }
+    requires room { vec_len blocks.old < vec_capacity blocks.old }
+    requires next { 128 ≤ vec_capacity next.old }
+    requires empty { next.old.items ≡ [] }
+    ensures recorded { (other : LoginKey) → recorded (records_in blocks.new.items) other ≡ (if same_key other entry.0 then Some entry.1 else recorded (records_in blocks.old.items) other) }
+    ensures order { AreInOrder (records_in blocks.new.items) }
+    ensures blocks { AreBlocks blocks.new.items }
+    ensures empty { next.new.items ≡ [] }
 {
-    let Ok(place) = place_of(records, key) else {
+    if blocks.is_empty() {
+        begin(alloc, blocks, next, entry);
+        return;
+    }
+    let place = open_block(alloc, blocks, next, place);
+    put_at(blocks, place, entry);
+}
+
+// Removes what is recorded of the key, unless it is locked, and says whether it is.
+fn let_in(blocks: &mut Vec<Block>, key: LentKey<'_>, policy: FailedLoginsPolicy, at: u64) -> bool
+    requires order { AreInOrder (records_in blocks.old.items) }
+    requires blocks { AreBlocks blocks.old.items }
+    ensures locked { result ≡ is_locked policy at (recorded (records_in blocks.old.items) (key_lent key.entry)) }
+    ensures removed { (other : LoginKey) → recorded (records_in blocks.new.items) other ≡ (if same_key other (key_lent key.entry)
+        then let_in policy at (recorded (records_in blocks.old.items) other) else recorded (records_in blocks.old.items) other) }
+    ensures order { AreInOrder (records_in blocks.new.items) }
+    ensures blocks { AreBlocks blocks.new.items }
+    ensures len { vec_len blocks.new ≤ vec_len blocks.old }
+    ensures capacity { vec_capacity blocks.new ≡ vec_capacity blocks.old }
+{
+    let Ok(place) = place_of(blocks, key) else {
         return false;
     };
-    if locks(policy, at, records[place].1) {
+    if locks(policy, at, failures_at(blocks, place)) {
         return true;
     }
-    take_at(records, place);
+    take_at(blocks, place);
     false
 }
 
-// The place of the key, or the place where it would go.
-fn place_of(records: &[(LoginKey, Failures)], key: LentKey<'_>) -> Result<usize, usize>
-    requires { IsStrictlySortedBy key_cmp (keys_of records.now) }
-    ensures found { IfOk result (IsAt records.now (key_lent key.entry)) }
-    ensures absent { IfErr result (IsGapFor records.now (key_lent key.entry)) }
-{
-    records.binary_search_by(|record| record.0.order(key))
-}
-
-// Sets what is recorded of the key at the place.
-fn set_at(records: &mut Vec<(LoginKey, Failures)>, place: usize, failures: Failures)
-    requires order { IsStrictlySortedBy key_cmp (keys_of records.old.items) }
-    requires place { place < length records.old.items }
-    ensures recorded { (key other : LoginKey) → IsAt records.old.items key place → recorded records.new.items other ≡ (if same_key other key then Some failures else recorded records.old.items other) }
-    ensures order { IsStrictlySortedBy key_cmp (keys_of records.new.items) }
-    ensures len { vec_len records.new ≡ vec_len records.old }
-    ensures capacity { vec_capacity records.new ≡ vec_capacity records.old }
-{
-    records[place].1 = failures;
-}
-
-// Puts the key before the place.
-fn put_at(
-    records: &mut Vec<(LoginKey, Failures)>,
-    place: usize,
-    key: LoginKey,
-    failures: Failures,
-) -> Result<(), AllocError>
-    requires order { IsStrictlySortedBy key_cmp (keys_of records.old.items) }
-    requires place { IsGapFor records.old.items key place }
-    ensures recorded { OnOk result ((other : LoginKey) → recorded records.new.items other ≡ (if same_key other key then Some failures else recorded records.old.items other)) }
-    ensures order { IsStrictlySortedBy key_cmp (keys_of records.new.items) }
-    ensures room { vec_len records.old < vec_capacity records.old → IsOk result }
-    ensures unchanged { OnErr result (records.new.items ≡ records.old.items) }
-{
-    records.insert(place, (key, failures))?;
-    Ok(())
-}
-
-// Takes out what is recorded at the place.
-fn take_at(records: &mut Vec<(LoginKey, Failures)>, place: usize)
-    requires order { IsStrictlySortedBy key_cmp (keys_of records.old.items) }
-    requires place { place < length records.old.items }
-    ensures recorded { (key other : LoginKey) → IsAt records.old.items key place → recorded records.new.items other ≡ (if same_key other key then None else recorded records.old.items other) }
-    ensures order { IsStrictlySortedBy key_cmp (keys_of records.new.items) }
-    ensures len { vec_len records.new ≤ vec_len records.old }
-    ensures capacity { vec_capacity records.new ≡ vec_capacity records.old }
-{
-    records.remove(place);
-}
-
 // Takes out what has expired.
-fn sweep(records: &mut Vec<(LoginKey, Failures)>, policy: FailedLoginsPolicy, at: u64)
-    requires order { IsStrictlySortedBy key_cmp (keys_of records.old.items) }
-    ensures recorded { (key : LoginKey) → recorded records.new.items key ≡ swept policy at (recorded records.old.items key) }
-    ensures order { IsStrictlySortedBy key_cmp (keys_of records.new.items) }
-    ensures len { vec_len records.new ≤ vec_len records.old }
-    ensures capacity { vec_capacity records.new ≡ vec_capacity records.old }
+fn sweep(blocks: &mut Vec<Block>, policy: FailedLoginsPolicy, at: u64)
+    requires order { AreInOrder (records_in blocks.old.items) }
+    requires blocks { AreBlocks blocks.old.items }
+    ensures recorded { (key : LoginKey) → recorded (records_in blocks.new.items) key ≡ swept policy at (recorded (records_in blocks.old.items) key) }
+    ensures order { AreInOrder (records_in blocks.new.items) }
+    ensures blocks { AreBlocks blocks.new.items }
+    ensures len { vec_len blocks.new ≤ vec_len blocks.old }
+    ensures capacity { vec_capacity blocks.new ≡ vec_capacity blocks.old }
 {
-    records.retain(|record| !expires(policy, at, record.1));
+    for i in 0..blocks.len() {
+        sweep_block(&mut blocks[i], policy, at);
+    }
+    drop_empty(blocks);
+}
+
+// Takes out of a block what has expired.
+fn sweep_block(block: &mut Block, policy: FailedLoginsPolicy, at: u64)
+    ensures items { block.new.items ≡ filter (λ e. not (is_expired policy at e.1)) block.old.items }
+    ensures capacity { vec_capacity block.new ≡ vec_capacity block.old }
+{
+    block.retain(|record| !expires(policy, at, record.1));
 }
 
 // Says whether the age of the failures is above the limit.

@@ -3,8 +3,10 @@
 //! After any list of calls the table holds what the tally of these calls says. Begin with `FailedLoginsCache`.
 #![tactic(auto)]
 
+mod blocks;
 mod cache;
 mod key;
+mod places;
 
 pub use cache::{FailedLoginsCache, Failures};
 pub use key::LoginKey;
