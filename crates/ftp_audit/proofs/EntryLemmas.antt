@@ -35,8 +35,8 @@ use Rattle.ftp_laws.proofs.DecisionLemmas.{IsLive, live-row, first-chosen, other
 use Rattle.ftp_laws.proofs.EndingLemmas.{ending-live}
 use Rattle.ftp_laws.proofs.EntryLemmas.{Comes}
 use Rattle.ftp_laws.proofs.SubjectLemmas.{by_subject, all-stop, named-one, one-own, one-same, one-plain, stop-all, stop-concerns}
-use Rattle.ftp_sums.specs.declared.total.Total.{Total}
-use Rattle.ftp_sums.specs.Totals.{nothing, plus, told}
+use Rattle.ftp_audit.specs.declared.total.Total.{Total}
+use Rattle.ftp_audit.specs.Totals.{nothing, plus, told}
 use Rattle.ftp_audit.specs.Owner.{let_in, owner}
 use Rattle.ftp_audit.specs.Sums.{one_login, one_logout, file_of, moved_file, told_end, for_each, added}
 use Rattle.ftp_audit.specs.Heard.{notice_on, notices_on, told_by_all}

@@ -10,7 +10,7 @@ use Rattle.ftp_events.specs.declared.event.Answer.TheVariants as answer
 use Rattle.ftp_events.specs.declared.event.EventKind.TheVariants as kind
 use Rattle.ftp_events.specs.Right.{log_of}
 use Rattle.ftp_events.proofs.Script.{Event, everything, two_ports, addr, a1, event, opened, login, pasv, data_in, ended, done, piece}
-use Rattle.ftp_sums.specs.Totals.{nothing}
+use Rattle.ftp_audit.specs.Totals.{nothing}
 use Rattle.ftp_audit.specs.Owner.{owner}
 use Rattle.ftp_audit.specs.Sums.{sums, one_logout}
 use Rattle.ftp_audit.specs.Heard.{heard, is_named, total_in}

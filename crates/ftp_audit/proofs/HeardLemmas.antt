@@ -11,14 +11,14 @@ use Rattle.ftp_events.specs.declared.action.Action.{Action}
 use Rattle.ftp_options.specs.declared.options.Options.{Options}
 use Rattle.ftp_events.specs.declared.entry.Entry.{Entry}
 use Rattle.ftp_events.specs.Right.{IsRight, IsActed}
-use Rattle.ftp_sums.specs.declared.account.Mark.{Mark}
-use Rattle.ftp_sums.specs.declared.total.Total.{Total}
-use Rattle.ftp_sums.specs.Totals.{nothing, plus, minus, told}
-use Rattle.ftp_sums.specs.Marks.{newest, below, reached, next, total_of, UpTo}
-use Rattle.ftp_sums.proofs.MarkLemmas.{newest-push}
+use Rattle.ftp_audit.specs.declared.account.Mark.{Mark}
+use Rattle.ftp_audit.specs.declared.total.Total.{Total}
+use Rattle.ftp_audit.specs.Totals.{nothing, plus, minus, told}
+use Rattle.ftp_audit.specs.Marks.{newest, below, reached, next, total_of, UpTo}
+use Rattle.ftp_audit.proofs.MarkLemmas.{newest-push}
 use Rattle.ftp_audit.specs.Sums.{is_within, sums}
-use Rattle.ftp_sums.specs.Users.{marks_of}
-use Rattle.ftp_sums.specs.Listing.{IsListing}
+use Rattle.ftp_audit.specs.Users.{marks_of}
+use Rattle.ftp_audit.specs.Listing.{IsListing}
 use Rattle.ftp_audit.specs.Heard.{notice_on, notices_on, told_by_all, heard, is_named, with_all, Below, AuditState, HasHeard, Stands, total_in}
 use Rattle.ftp_audit.proofs.PlusLemmas.{plus-nothing, plus-assoc, plus-swap, minus-plus}
 use Rattle.ftp_audit.proofs.EntryLemmas.{entry-added}

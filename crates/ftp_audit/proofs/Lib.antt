@@ -1,3 +1,7 @@
+pub mod MarkLemmas
+pub mod UserLemmas
+pub mod ListingLemmas
+mod SumsExamples
 pub mod PlusLemmas
 pub mod ActionLemmas
 pub mod OwnerLemmas

@@ -1,8 +1,8 @@
 -- Sums of sums.
 use Rattle.std.proofs.Common.{◌≡◌, sym, ◌∙◌, ap, List, [], ◌∷◌, ◌++◌, arith}
 use Rattle.ftp_base.specs.declared.notice.Notice.{Notice}
-use Rattle.ftp_sums.specs.declared.total.Total.{Total}
-use Rattle.ftp_sums.specs.Totals.{nothing, plus, minus, told}
+use Rattle.ftp_audit.specs.declared.total.Total.{Total}
+use Rattle.ftp_audit.specs.Totals.{nothing, plus, minus, told}
 use Rattle.ftp_audit.specs.Heard.{told_by_all}
 
 -- totals whose numbers are equal are equal

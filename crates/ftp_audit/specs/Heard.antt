@@ -8,11 +8,11 @@ use Rattle.ftp_events.specs.declared.action.Action.{Action}
 use Rattle.ftp_events.specs.declared.action.Action.TheVariants.{Notify}
 use Rattle.ftp_events.specs.declared.entry.Entry.{Entry}
 use Rattle.ftp_events.specs.Right.{IsRight, IsActed}
-use Rattle.ftp_sums.specs.declared.account.Mark.{Mark}
-use Rattle.ftp_sums.specs.declared.total.Total.{Total}
-use Rattle.ftp_sums.specs.Totals.{nothing, plus, told}
-use Rattle.ftp_sums.specs.Marks.{reached, next, total_of}
-use Rattle.ftp_sums.specs.Users.{marks_of}
+use Rattle.ftp_audit.specs.declared.account.Mark.{Mark}
+use Rattle.ftp_audit.specs.declared.total.Total.{Total}
+use Rattle.ftp_audit.specs.Totals.{nothing, plus, told}
+use Rattle.ftp_audit.specs.Marks.{reached, next, total_of}
+use Rattle.ftp_audit.specs.Users.{marks_of}
 use Rattle.ftp_audit.specs.Sums.{is_within, sums}
 
 -- the notification of a user that an action is

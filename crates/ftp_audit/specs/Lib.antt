@@ -1,3 +1,8 @@
+pub mod Totals
+pub mod Marks
+pub mod Bounds
+pub mod Users
+pub mod Listing
 pub mod Owner
 pub mod Sums
 pub mod Heard

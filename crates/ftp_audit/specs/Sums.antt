@@ -16,8 +16,8 @@ use Rattle.ftp_events.specs.Words.{◌⇒◌∣◌}
 use Rattle.ftp_events.specs.Classes.{is_stop, is_ending}
 use Rattle.ftp_events.specs.Log.{past_of, named_session}
 use Rattle.ftp_events.specs.Session.{live_sessions}
-use Rattle.ftp_sums.specs.declared.total.Total.{Total}
-use Rattle.ftp_sums.specs.Totals.{nothing, plus}
+use Rattle.ftp_audit.specs.declared.total.Total.{Total}
+use Rattle.ftp_audit.specs.Totals.{nothing, plus}
 use Rattle.ftp_audit.specs.Owner.{let_in, owner}
 
 -- one login

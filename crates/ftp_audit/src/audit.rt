@@ -1,14 +1,14 @@
 //! The audit.
 
 ghost use Rattle.std.specs.Prelude.{◌≡◌, ℕ, [], ◌∷◌, List, OnOk, OnErr};
-ghost use Rattle.ftp_sums.specs.Marks.{below, UpTo};
-ghost use Rattle.ftp_sums.specs.Users.{marks_of};
+ghost use Rattle.ftp_audit.specs.Marks.{below, UpTo};
+ghost use Rattle.ftp_audit.specs.Users.{marks_of};
 ghost use Rattle.ftp_audit.specs.Heard.{notices_on, with_all};
 
 use crate::error::AuditError;
 use ftp_base::Bytes;
 use ftp_events::{Action, Entry};
-use ftp_sums::{Accounts, Total};
+use crate::{Accounts, Total};
 use std::alloc::{AllocError, Global};
 use std::marker::Model;
 
@@ -25,7 +25,7 @@ pub struct Audit {
 impl Model for Audit {
     ghost use Rattle.std.specs.Prelude.{ℕ, List};
     ghost use Rattle.ftp_audit.specs.Heard.{AuditState, Below};
-    ghost use Rattle.ftp_sums.specs.Users.{marks_of};
+    ghost use Rattle.ftp_audit.specs.Users.{marks_of};
 
     ghost Value = { AuditState };
 
@@ -40,8 +40,8 @@ impl Audit {
     ghost use Rattle.ftp_options.specs.declared.options.Options.{Options};
     ghost use Rattle.ftp_events.specs.declared.entry.Entry.{Entry};
     ghost use Rattle.ftp_events.specs.Right.{IsRight, IsActed};
-    ghost use Rattle.ftp_sums.specs.declared.total.Total.{Total};
-    ghost use Rattle.ftp_sums.specs.Listing.{IsListing, AreTop, row_line};
+    ghost use Rattle.ftp_audit.specs.declared.total.Total.{Total};
+    ghost use Rattle.ftp_audit.specs.Listing.{IsListing, AreTop, row_line};
     ghost use Rattle.ftp_audit.specs.Sums.{sums};
     ghost use Rattle.ftp_audit.specs.Heard.{heard, is_named, HasHeard, Stands, SameAudit, total_in};
 

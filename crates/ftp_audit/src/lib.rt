@@ -4,13 +4,19 @@
 //! notifications alone. Begin with `Audit`.
 #![tactic(auto)]
 
+mod account;
+mod accounts;
 mod audit;
 mod error;
 mod journal;
 mod laws;
+mod listing;
+mod total;
 
+pub use account::{Account, Mark};
+pub use accounts::Accounts;
 pub use audit::Audit;
 pub use error::AuditError;
-pub use ftp_sums::Total;
 pub use journal::audited;
 pub use laws::notices_tell_what_was_decided;
+pub use total::Total;

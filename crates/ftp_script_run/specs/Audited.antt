@@ -12,8 +12,8 @@ use Rattle.ftp_script_text.specs.declared.script.ScriptReader.{ScriptReader}
 use Rattle.ftp_script_text.specs.Script.{IsScriptOf}
 use Rattle.ftp_script_text.specs.ScriptReader.{AreWhole, Follows, HasRead, ReadsAhead, StopsBehind}
 use Rattle.ftp_script_text.specs.SetUp.{StorageState}
-use Rattle.ftp_sums.specs.declared.total.Total.{Total}
-use Rattle.ftp_sums.specs.Listing.{IsListing, row_line}
+use Rattle.ftp_audit.specs.declared.total.Total.{Total}
+use Rattle.ftp_audit.specs.Listing.{IsListing, row_line}
 use Rattle.ftp_audit.specs.Heard.{AuditState, HasHeard, total_in}
 use Rattle.ftp_script_run.specs.declared.run.Run.{Run}
 use Rattle.ftp_script_run.specs.declared.status.Status.{Status}

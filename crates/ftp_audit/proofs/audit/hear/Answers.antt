@@ -1,7 +1,7 @@
 use Rattle.std.proofs.Common.{◌∙◌, sym, ap, subst, List, [], ◌∷◌, take, arith}
-use Rattle.ftp_sums.specs.declared.account.Mark.{Mark}
-use Rattle.ftp_sums.specs.Marks.{below, UpTo}
-use Rattle.ftp_sums.specs.Users.{marks_of}
+use Rattle.ftp_audit.specs.declared.account.Mark.{Mark}
+use Rattle.ftp_audit.specs.Marks.{below, UpTo}
+use Rattle.ftp_audit.specs.Users.{marks_of}
 use Rattle.ftp_audit.specs.Heard.{notices_on, with_all}
 use Rattle.ftp_audit.proofs.HeardLemmas.{upto-with_all, below-same, heard-action}
 use Rattle.ftp_audit.proofs.audit.hear.Goals as goal

@@ -1,5 +1,5 @@
 use Rattle.std.proofs.Common.{◌≡◌, ℕ, List, take}
-use Rattle.ftp_sums.specs.Users.{marks_of}
+use Rattle.ftp_audit.specs.Users.{marks_of}
 use Rattle.ftp_audit.specs.Heard.{notices_on, with_all}
 use Rattle.ftp_audit.proofs.audit.hear.Given as goal
 

@@ -1,6 +1,6 @@
 use Rattle.std.proofs.Common.{◌∙◌, refl, sym, ap, subst, ◌+◌, List, arith}
 use Rattle.ftp_events.specs.declared.action.Action.{Action}
-use Rattle.ftp_sums.specs.Users.{marks_of}
+use Rattle.ftp_audit.specs.Users.{marks_of}
 use Rattle.ftp_audit.specs.Heard.{notices_on, with_all, Below}
 use Rattle.ftp_audit.proofs.HeardLemmas.{below-below, below-all, below-upto, upto-below, heard-more}
 use Rattle.ftp_audit.proofs.audit.Audit.take.Goals as goal

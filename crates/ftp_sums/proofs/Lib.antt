@@ -1,4 +1,0 @@
-pub mod MarkLemmas
-pub mod UserLemmas
-pub mod ListingLemmas
-mod Examples

@@ -1,7 +1,0 @@
-use Rattle.std.proofs.Common.{sym}
-use Rattle.ftp_sums.specs.Totals.{nothing}
-use Rattle.ftp_sums.proofs.MarkLemmas.{newest-last}
-use Rattle.ftp_sums.proofs.account.newest.Goals as goal
-
-pub returns-in-Some : goal.returns-in-Some
-returns-in-Some c = sym (newest-last nothing c.args.marks.now c.in-Some.mark.now c.in-Some.ensures.value)

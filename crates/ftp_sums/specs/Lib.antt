@@ -1,5 +1,0 @@
-pub mod Totals
-pub mod Marks
-pub mod Bounds
-pub mod Users
-pub mod Listing
