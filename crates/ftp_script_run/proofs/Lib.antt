@@ -1,3 +1,6 @@
+pub mod CountLemmas
+pub mod StressRunLemmas
+pub mod Examples
 pub mod Written
 pub mod ItemLemmas
 pub mod LegalLemmas

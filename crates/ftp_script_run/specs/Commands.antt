@@ -1,6 +1,6 @@
 -- The commands, and the words that ask for them.
 use Rattle.std.specs.Prelude.{◌≡◌, ℕ, ◌^◌, ◌<◌, ◌≤◌, List, [], ◌∷◌, codes, decimal}
-use Rattle.ftp_stress.specs.Stress.{stress_lines}
+use Rattle.ftp_script_run.specs.Stress.{stress_lines}
 use Rattle.ftp_script_run.specs.declared.telling.TheConstants.{HELP, VERSION}
 use Rattle.ftp_script_run.specs.declared.command.Command.{Command}
 use Rattle.ftp_script_run.specs.declared.command.Command.TheVariants.{Script, Audit, Tell}

@@ -1,3 +1,8 @@
+pub mod Draws
+pub mod Events
+pub mod Counts
+pub mod Stress
+pub mod Keeping
 pub mod Items
 pub mod Left
 pub mod Legal

@@ -8,15 +8,22 @@
 
 mod auditing;
 mod command;
+mod counts;
+mod draws;
+mod events;
 mod laws;
 mod printing;
 mod run;
 mod script;
 mod status;
+mod stress_laws;
+mod stress_run;
 mod telling;
 
 pub use command::{Command, Told, command_of};
 pub use laws::{settled_runs_are_determined, taken_transfers_are_done, told_faults_are_listed};
 pub use script::run_script;
 pub use status::Status;
+pub use stress_laws::every_decision_is_counted;
+pub use stress_run::stress;
 pub use telling::{HELP, VERSION};

@@ -10,7 +10,7 @@ ghost use Rattle.ftp_script_run.specs.Commands.{IsLawful, text_of};
 use crate::command::Told;
 use ftp_base::{Failed, Sink};
 use ftp_lines::write_all;
-use ftp_stress::stress;
+use crate::stress;
 use std::alloc::Global;
 
 /// The commands, in plain words.
