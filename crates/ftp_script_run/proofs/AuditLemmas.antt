@@ -11,10 +11,10 @@ use Rattle.ftp_events.specs.declared.entry.Entry.{Entry}
 use Rattle.ftp_lines.specs.Writing.{WritesFront}
 use Rattle.ftp_hub.specs.Stands.{options_of}
 use Rattle.ftp_event_text.specs.declared.setup.Item.{Item}
-use Rattle.ftp_script_text.specs.declared.script.ScriptReader.{ScriptReader}
-use Rattle.ftp_script_text.specs.Script.{IsScriptOf}
-use Rattle.ftp_script_text.specs.ScriptReader.{HasRead, ReadsAhead, StopsBehind, IsLetIn}
-use Rattle.ftp_script_text.proofs.Reading.{script-once}
+use Rattle.ftp_script_run.specs.declared.text_script.ScriptReader.{ScriptReader}
+use Rattle.ftp_script_run.specs.Script.{IsScriptOf}
+use Rattle.ftp_script_run.specs.ScriptReader.{HasRead, ReadsAhead, StopsBehind, IsLetIn}
+use Rattle.ftp_script_run.proofs.Reading.{script-once}
 use Rattle.ftp_audit.specs.Heard.{AuditState, HasHeard, Stands}
 use Rattle.ftp_script_run.specs.declared.run.Run.{Run}
 use Rattle.ftp_script_run.specs.declared.status.Status.{Status}

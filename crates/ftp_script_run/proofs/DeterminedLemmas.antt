@@ -24,7 +24,7 @@ use Rattle.ftp_transfer.proofs.RunLemmas.{HasRisen-more}
 use Rattle.ftp_quota.specs.Book.{Book}
 use Rattle.ftp_quota.specs.Quota.{quota_rule}
 use Rattle.ftp_quota.proofs.Sized.{appends-sized}
-use Rattle.ftp_script_text.specs.SetUp.{StorageState}
+use Rattle.ftp_script_run.specs.SetUp.{StorageState}
 use Rattle.ftp_script_run.specs.Legal.{memory_views}
 use Rattle.ftp_script_run.specs.Determined.{told_in_memory, RunsTo, SettledRunsAreDetermined}
 

@@ -12,7 +12,7 @@ use Rattle.ftp_proxy.specs.Line.{IsAnswer, IsTaken, line, untaken}
 use Rattle.ftp_events.specs.declared.event.Answer.{Answer}
 use Rattle.ftp_events.specs.declared.event.Answer.TheVariants as answer
 use Rattle.ftp_events.specs.Leads.{Outside, ReadsHeader}
-use Rattle.ftp_script_text.specs.SetUp.{StorageState}
+use Rattle.ftp_script_run.specs.SetUp.{StorageState}
 use Rattle.ftp_script_run.specs.Clean.{HeadersAreRead}
 use Rattle.ftp_script_run.specs.Determined.{ReadHeadersAreDetermined}
 use Rattle.ftp_script_run.specs.Legal.{memory_views}

@@ -5,7 +5,7 @@ use Rattle.ftp_events.specs.declared.entry.Entry.{Entry}
 use Rattle.ftp_events.specs.declared.event.HubEvent.{HubEvent}
 use Rattle.ftp_event_text.specs.declared.setup.Item.{Item}
 use Rattle.ftp_event_text.specs.declared.setup.Item.TheVariants as item
-use Rattle.ftp_script_text.specs.SetUp.{has_event}
+use Rattle.ftp_script_run.specs.SetUp.{has_event}
 use Rattle.ftp_script_run.specs.Items.{events_in}
 use Rattle.ftp_script_run.proofs.ItemLemmas.{events_in-append}
 

@@ -1,3 +1,7 @@
+pub mod AdmissionLemmas
+pub mod ScriptLemmas
+pub mod Reading
+pub mod TextExamples
 pub mod CountLemmas
 pub mod StressRunLemmas
 pub mod Examples

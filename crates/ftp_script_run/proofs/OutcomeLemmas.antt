@@ -8,16 +8,16 @@ use Rattle.ftp_base.specs.declared.fault.Failed.TheVariants.{Fault, Memory}
 use Rattle.ftp_events.specs.declared.entry.Entry.{Entry}
 use Rattle.ftp_lines.specs.Writing.{WritesFront}
 use Rattle.ftp_event_text.specs.declared.setup.Item.{Item}
-use Rattle.ftp_script_text.specs.declared.script.ScriptReader.{ScriptReader}
-use Rattle.ftp_script_text.specs.Script.{IsScriptOf}
-use Rattle.ftp_script_text.specs.ScriptReader.{IsLawful, HasRead, ReadsAhead, StopsBehind, IsLetIn}
-use Rattle.ftp_script_text.proofs.ScriptLemmas.{between_told}
-use Rattle.ftp_script_text.proofs.Reading.{script-once}
+use Rattle.ftp_script_run.specs.declared.text_script.ScriptReader.{ScriptReader}
+use Rattle.ftp_script_run.specs.Script.{IsScriptOf}
+use Rattle.ftp_script_run.specs.ScriptReader.{IsLawful, HasRead, ReadsAhead, StopsBehind, IsLetIn}
+use Rattle.ftp_script_run.proofs.ScriptLemmas.{between_told}
+use Rattle.ftp_script_run.proofs.Reading.{script-once}
 use Rattle.ftp_script_run.specs.declared.run.Run.{Run}
 use Rattle.ftp_script_run.specs.declared.status.Status.{Status}
 use Rattle.ftp_script_run.specs.declared.status.Status.TheVariants as status
 use Rattle.ftp_script_run.specs.Statuses.{IsCutShort, ended_by}
-use Rattle.ftp_script_text.specs.SetUp.{StorageState, IsSetUp}
+use Rattle.ftp_script_run.specs.SetUp.{StorageState, IsSetUp}
 use Rattle.ftp_script_run.specs.Left.{end_lines}
 use Rattle.ftp_script_run.specs.Outcome.{log_lines, bad_line, WritesWhole, WritesPart, closing, Outcome}
 use Rattle.ftp_script_run.specs.Runs.{Keeps, IsTaken, IsPartlyTaken, Running}

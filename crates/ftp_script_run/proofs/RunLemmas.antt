@@ -21,8 +21,8 @@ use Rattle.ftp_hub.specs.Stands.{Stands, options_of}
 use Rattle.ftp_hub.proofs.Links.{has_link_of-due, has_links-under, links-more, insert-linked}
 use Rattle.ftp_event_text.specs.declared.setup.Item.{Item}
 use Rattle.ftp_event_text.specs.declared.setup.Item.TheVariants as item
-use Rattle.ftp_script_text.specs.Script.{says, has_link, may_stand}
-use Rattle.ftp_script_text.specs.SetUp.{StorageState, has_event, set_up, storage_in}
+use Rattle.ftp_script_run.specs.Script.{says, has_link, may_stand}
+use Rattle.ftp_script_run.specs.SetUp.{StorageState, has_event, set_up, storage_in}
 use Rattle.ftp_script_run.specs.declared.run.Run.{Run}
 use Rattle.ftp_script_run.specs.Items.{events_in, options_in, new_link, link_in, links_in}
 use Rattle.ftp_script_run.specs.Legal.{memory_views, start_of, FailsAsListed, IsLegal}

@@ -8,10 +8,10 @@ use Rattle.ftp_options.specs.declared.options.Options.{Options}
 use Rattle.ftp_events.specs.declared.entry.Entry.{Entry}
 use Rattle.ftp_lines.specs.Writing.{WritesFront}
 use Rattle.ftp_event_text.specs.declared.setup.Item.{Item}
-use Rattle.ftp_script_text.specs.declared.script.ScriptReader.{ScriptReader}
-use Rattle.ftp_script_text.specs.Script.{IsScriptOf}
-use Rattle.ftp_script_text.specs.ScriptReader.{AreWhole, Follows, HasRead, ReadsAhead, StopsBehind}
-use Rattle.ftp_script_text.specs.SetUp.{StorageState}
+use Rattle.ftp_script_run.specs.declared.text_script.ScriptReader.{ScriptReader}
+use Rattle.ftp_script_run.specs.Script.{IsScriptOf}
+use Rattle.ftp_script_run.specs.ScriptReader.{AreWhole, Follows, HasRead, ReadsAhead, StopsBehind}
+use Rattle.ftp_script_run.specs.SetUp.{StorageState}
 use Rattle.ftp_audit.specs.declared.total.Total.{Total}
 use Rattle.ftp_audit.specs.Listing.{IsListing, row_line}
 use Rattle.ftp_audit.specs.Heard.{AuditState, HasHeard, total_in}

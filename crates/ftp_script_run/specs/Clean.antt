@@ -16,7 +16,7 @@ use Rattle.ftp_events.specs.Log.{past_of}
 use Rattle.ftp_hub.specs.Runs.{job_due}
 use Rattle.ftp_event_text.specs.declared.setup.Item.{Item}
 use Rattle.ftp_quota.specs.Replay.{once_all}
-use Rattle.ftp_script_text.specs.SetUp.{StorageState, storage_in}
+use Rattle.ftp_script_run.specs.SetUp.{StorageState, storage_in}
 use Rattle.ftp_script_run.specs.Items.{links_in}
 use Rattle.ftp_script_run.specs.Legal.{memory_views, start_of}
 

@@ -13,7 +13,7 @@ use Rattle.ftp_transfer.specs.Transfer.{suits}
 use Rattle.ftp_events.specs.declared.event.Answer.{Answer}
 use Rattle.ftp_events.specs.declared.event.Answer.TheVariants as answer
 use Rattle.ftp_events.specs.Leads.{Outside, told_by, ReadsHeader}
-use Rattle.ftp_script_text.specs.SetUp.{StorageState}
+use Rattle.ftp_script_run.specs.SetUp.{StorageState}
 use Rattle.ftp_script_run.specs.Legal.{memory_views}
 
 -- what a storage and a link in memory tell together

@@ -8,7 +8,7 @@ use Rattle.ftp_base.specs.Memory.{LinkState}
 use Rattle.ftp_base.specs.MemoryStorage.{MemoryState}
 use Rattle.ftp_base.specs.Storage.{files_in_order}
 use Rattle.ftp_event_text.specs.Setup.{sent_line, file_line}
-use Rattle.ftp_script_text.specs.SetUp.{StorageState}
+use Rattle.ftp_script_run.specs.SetUp.{StorageState}
 
 -- the line on what was sent on the link of this number; on no link nothing was sent
 abbrev pub sent_on : Numbered LinkState → ℕ → List ℕ

@@ -1,3 +1,8 @@
+pub mod SetUp
+pub mod Script
+pub mod Admission
+pub mod ScriptReader
+pub mod Laws
 pub mod Draws
 pub mod Events
 pub mod Counts

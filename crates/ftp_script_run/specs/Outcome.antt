@@ -8,9 +8,9 @@ use Rattle.ftp_lines.specs.Writing.{WritesFront}
 use Rattle.ftp_text.specs.Fields.{number}
 use Rattle.ftp_event_text.specs.declared.setup.Item.{Item}
 use Rattle.ftp_event_text.specs.Printing.{print}
-use Rattle.ftp_script_text.specs.Script.{IsScriptOf}
-use Rattle.ftp_script_text.specs.ScriptReader.{AreWhole, ReadsAhead, StopsBehind}
-use Rattle.ftp_script_text.specs.SetUp.{StorageState}
+use Rattle.ftp_script_run.specs.Script.{IsScriptOf}
+use Rattle.ftp_script_run.specs.ScriptReader.{AreWhole, ReadsAhead, StopsBehind}
+use Rattle.ftp_script_run.specs.SetUp.{StorageState}
 use Rattle.ftp_script_run.specs.declared.status.Status.{Status}
 use Rattle.ftp_script_run.specs.declared.status.Status.TheVariants as status
 use Rattle.ftp_script_run.specs.Left.{end_lines}

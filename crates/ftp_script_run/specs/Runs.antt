@@ -11,10 +11,10 @@ use Rattle.ftp_hub.specs.declared.hub.Hub.{Hub}
 use Rattle.ftp_hub.specs.Stands.{Stands, options_of}
 use Rattle.ftp_event_text.specs.declared.setup.Item.{Item}
 use Rattle.ftp_event_text.specs.Setup.{IsItem}
-use Rattle.ftp_script_text.specs.declared.script.ScriptReader.{ScriptReader}
-use Rattle.ftp_script_text.specs.Script.{may_stand}
-use Rattle.ftp_script_text.specs.ScriptReader.{Follows, HasRead}
-use Rattle.ftp_script_text.specs.SetUp.{StorageState}
+use Rattle.ftp_script_run.specs.declared.text_script.ScriptReader.{ScriptReader}
+use Rattle.ftp_script_run.specs.Script.{may_stand}
+use Rattle.ftp_script_run.specs.ScriptReader.{Follows, HasRead}
+use Rattle.ftp_script_run.specs.SetUp.{StorageState}
 use Rattle.ftp_script_run.specs.declared.run.Run.{Run}
 use Rattle.ftp_script_run.specs.Items.{events_in, options_in}
 use Rattle.ftp_script_run.specs.Legal.{memory_views, start_of}

@@ -6,8 +6,8 @@ ghost use Rattle.ftp_base.specs.declared.fault.Failed.TheVariants.{Fault};
 ghost use Rattle.ftp_options.specs.declared.options.Options.{Options};
 ghost use Rattle.ftp_events.specs.declared.entry.Entry.{Entry};
 ghost use Rattle.ftp_event_text.specs.declared.setup.Item.{Item};
-ghost use Rattle.ftp_script_text.specs.Script.{may_stand};
-ghost use Rattle.ftp_script_text.specs.ScriptReader.{IsLawful};
+ghost use Rattle.ftp_script_run.specs.Script.{may_stand};
+ghost use Rattle.ftp_script_run.specs.ScriptReader.{IsLawful};
 ghost use Rattle.ftp_audit.specs.Heard.{HasHeard, Stands};
 ghost use Rattle.ftp_script_run.specs.Outcome.{bad_line};
 ghost use Rattle.ftp_script_run.specs.Runs.{Keeps, MayTake};
@@ -19,7 +19,7 @@ use ftp_audit::Audit;
 use ftp_base::{Failed, Sink, Source};
 use ftp_event_text::Item;
 use ftp_lines::write_all;
-use ftp_script_text::{ScriptError, ScriptReader};
+use crate::{ScriptError, ScriptReader};
 use std::alloc::Global;
 
 /// Runs the script line by line, by way of a buffer in which any line fits, and writes a line for each user.

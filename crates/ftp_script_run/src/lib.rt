@@ -6,6 +6,7 @@
 //! Begin with `run_script`.
 #![tactic(auto)]
 
+mod admission;
 mod auditing;
 mod command;
 mod counts;
@@ -19,7 +20,10 @@ mod status;
 mod stress_laws;
 mod stress_run;
 mod telling;
+mod text_laws;
+mod text_script;
 
+pub use admission::{LONGEST_LINE, LONGEST_SCRIPT, MAX_FILE};
 pub use command::{Command, Told, command_of};
 pub use laws::{settled_runs_are_determined, taken_transfers_are_done, told_faults_are_listed};
 pub use script::run_script;
@@ -27,3 +31,5 @@ pub use status::Status;
 pub use stress_laws::every_decision_is_counted;
 pub use stress_run::stress;
 pub use telling::{HELP, VERSION};
+pub use text_laws::{a_line_has_one_item, bytes_are_one_script};
+pub use text_script::{BUFFER_SIZE, ScriptError, ScriptReader};

@@ -16,7 +16,7 @@ ghost use Rattle.ftp_script_run.specs.Runs.{Keeps, MayTake, Takes, IsTaken, IsPa
 ghost use Rattle.ftp_script_run.specs.Audited.{IsNoted};
 ghost use Rattle.ftp_options.specs.Builder.{refusal, settings_of};
 ghost use Rattle.ftp_hub.specs.Stands.{Stands, options_of};
-ghost use Rattle.ftp_script_text.specs.Script.{may_stand};
+ghost use Rattle.ftp_script_run.specs.Script.{may_stand};
 
 use crate::printing::{print_bad_line, print_entry, print_files, print_links};
 use ftp_audit::Audit;
@@ -31,7 +31,7 @@ use ftp_options::{
     ActivePassiveMode, FailedLoginsPolicy, ListenerMode, Options, PassiveHost, ServerBuilder,
 };
 use ftp_quota::Quota;
-use ftp_script_text::MAX_FILE;
+use crate::MAX_FILE;
 use ftp_text::FailingCalls;
 use std::alloc::Global;
 

@@ -2,9 +2,9 @@ use Rattle.std.proofs.Common.{◌≡◌, ◌∙◌, Option, Some, None, ap, subs
 use Rattle.std.specs.Prelude.{Result, Ok, Err, IfOk, OnOk, IfSome}
 use Rattle.ftp_event_text.specs.declared.setup.Item.{Item}
 use Rattle.ftp_event_text.specs.Setup.{IsItem}
-use Rattle.ftp_script_text.specs.declared.script.ScriptError.{ScriptError}
-use Rattle.ftp_script_text.specs.declared.script.ScriptError.TheVariants as error
-use Rattle.ftp_script_text.specs.ScriptReader.{IsLawful, Answers, IsLetIn}
+use Rattle.ftp_script_run.specs.declared.text_script.ScriptError.{ScriptError}
+use Rattle.ftp_script_run.specs.declared.text_script.ScriptError.TheVariants as error
+use Rattle.ftp_script_run.specs.ScriptReader.{IsLawful, Answers, IsLetIn}
 use Rattle.ftp_script_run.specs.declared.status.Status.TheVariants as status
 use Rattle.ftp_script_run.specs.Statuses.{ended_by}
 use Rattle.ftp_script_run.proofs.Written.{if_none-then, if_some-both}

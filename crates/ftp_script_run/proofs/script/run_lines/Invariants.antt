@@ -1,5 +1,5 @@
 use Rattle.std.proofs.Common.{◌≤◌, ◌-◌}
-use Rattle.ftp_script_text.specs.ScriptReader.{IsLawful}
+use Rattle.ftp_script_run.specs.ScriptReader.{IsLawful}
 use Rattle.ftp_script_run.specs.Runs.{Running}
 use Rattle.ftp_script_run.proofs.script.run_lines.Given as goal
 

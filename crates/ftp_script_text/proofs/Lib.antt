@@ -1,4 +1,0 @@
-pub mod AdmissionLemmas
-pub mod ScriptLemmas
-pub mod Reading
-pub mod Examples

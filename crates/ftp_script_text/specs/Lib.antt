@@ -1,5 +1,0 @@
-pub mod SetUp
-pub mod Script
-pub mod Admission
-pub mod ScriptReader
-pub mod Laws
