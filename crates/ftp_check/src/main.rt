@@ -6,7 +6,7 @@
 //! Begin with `run_check` of `ftp_check_run`.
 #![tactic(auto)]
 
-use ftp_check_run::{CheckStatus, run_check};
+use ftp_check_log::{CheckStatus, run_check};
 use ftp_streams::{Input, Output};
 use std::process::ExitCode;
 use std::{env, io};

@@ -3,7 +3,7 @@
 ghost use Rattle.std.specs.Prelude.{◌≤◌};
 
 use ftp_base::{MemorySink, MemorySource};
-use ftp_check_run::{CHECK_HELP, CHECK_VERSION, CheckStatus, run_check};
+use ftp_check_log::{CHECK_HELP, CHECK_VERSION, CheckStatus, run_check};
 use std::alloc::{AllocError, Global};
 use std::process::Abort;
 use std::test::Fail;

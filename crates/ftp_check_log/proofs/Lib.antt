@@ -1,3 +1,4 @@
+pub mod CheckRunLemmas
 pub mod CheckLemmas
 pub mod EndLemmas
 pub mod OnlyLemmas

@@ -1,3 +1,7 @@
+pub mod CheckCommands
+pub mod CheckStatuses
+pub mod VerdictLines
+pub mod CheckOutcome
 pub mod Verdicts
 pub mod Checks
 pub mod Evidence

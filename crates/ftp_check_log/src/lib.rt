@@ -5,7 +5,9 @@
 //! specs/Explanations.antt and specs/Evidence.antt.
 #![tactic(auto)]
 
+mod check;
 mod checker;
+mod command;
 mod evidence;
 mod explanation;
 mod grants;
@@ -13,9 +15,15 @@ mod options;
 mod pending;
 mod reading;
 mod source;
+mod status;
+mod telling;
 mod verdict;
 
+pub use check::run_check;
+pub use command::{CheckCommand, check_command};
 pub use evidence::{Evidence, WhyError, put_evidence, why};
 pub use explanation::{Explanation, explain};
 pub use source::check;
+pub use status::CheckStatus;
+pub use telling::{CHECK_HELP, CHECK_VERSION};
 pub use verdict::Verdict;

@@ -1,9 +1,9 @@
 -- The commands of the checker, and the words that ask for them.
 use Rattle.std.specs.Prelude.{◌≡◌, ℕ, ◌^◌, ◌-◌, ◌<◌, List, [], ◌∷◌, length, min, slice_index, codes, Option, Some, None}
 use Rattle.std.specs.Str.Parse.{AllDigits, digits_value}
-use Rattle.ftp_check_run.specs.declared.telling.TheConstants.{CHECK_HELP, CHECK_VERSION}
-use Rattle.ftp_check_run.specs.declared.command.CheckCommand.{CheckCommand}
-use Rattle.ftp_check_run.specs.declared.command.CheckCommand.TheVariants as command
+use Rattle.ftp_check_log.specs.declared.telling.TheConstants.{CHECK_HELP, CHECK_VERSION}
+use Rattle.ftp_check_log.specs.declared.command.CheckCommand.{CheckCommand}
+use Rattle.ftp_check_log.specs.declared.command.CheckCommand.TheVariants as command
 
 -- decimal digits without a sign or a leading zero
 abbrev pub IsDecimal : List ℕ → Type 0

@@ -1,7 +1,7 @@
 use Rattle.std.proofs.Common.{◌+◌, ◌^◌, arith}
 use Rattle.std.proofs.lemmas.Str.Parse.{digit_at}
 use Rattle.ftp_text.proofs.Numerals.{value_more, value_large}
-use Rattle.ftp_check_run.proofs.command.value.Goals as goal
+use Rattle.ftp_check_log.proofs.command.value.Goals as goal
 
 pub overflow_sub-digit : goal.overflow_sub-digit
 overflow_sub-digit c = omega (arith, digit_at _ _ c.requires c.loop-digit-test.true)

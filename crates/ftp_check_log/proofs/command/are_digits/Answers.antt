@@ -3,7 +3,7 @@ use Rattle.std.specs.Int.{IsInRange}
 use Rattle.std.specs.Str.Parse.{digits_value}
 use Rattle.std.proofs.lemmas.Bool.Decides.{nat_tests}
 use Rattle.std.proofs.lemmas.Str.Parse.{IsNumeralModel, numerals_by_value, tells_by_index, digit_at}
-use Rattle.ftp_check_run.proofs.command.are_digits.Goals as goal
+use Rattle.ftp_check_log.proofs.command.are_digits.Goals as goal
 
 -- each byte is a digit
 abbrev Digits : List ℕ → Type 0

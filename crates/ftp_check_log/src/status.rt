@@ -2,10 +2,10 @@
 
 ghost use Rattle.std.specs.Prelude.{◌≡◌};
 ghost use Rattle.std.specs.Process.{exit_status};
-ghost use Rattle.ftp_check_run.specs.CheckStatuses.{check_code, after_write, verdict_status, explanation_status};
+ghost use Rattle.ftp_check_log.specs.CheckStatuses.{check_code, after_write, verdict_status, explanation_status};
 
 use ftp_base::Failed;
-use ftp_check_log::{Explanation, Verdict};
+use crate::{Explanation, Verdict};
 use std::process::ExitCode;
 
 #[derive(Clone, Copy, Debug, PartialEq, Eq)]

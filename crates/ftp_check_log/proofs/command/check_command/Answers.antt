@@ -1,9 +1,9 @@
 use Rattle.std.proofs.Common.{◌≡◌, List, ℕ, [], ◌∷◌, length, get_or, Some, map, sym, ap, subst, arith}
 use Rattle.std.specs.Prelude.{◌↔◌}
 use Rattle.std.proofs.lemmas.Bool.Decides.{nat_tests}
-use Rattle.ftp_check_run.specs.declared.command.CheckCommand.{CheckCommand}
-use Rattle.ftp_check_run.specs.CheckCommands.{AsksFor}
-use Rattle.ftp_check_run.proofs.command.check_command.Goals as goal
+use Rattle.ftp_check_log.specs.declared.command.CheckCommand.{CheckCommand}
+use Rattle.ftp_check_log.specs.CheckCommands.{AsksFor}
+use Rattle.ftp_check_log.proofs.command.check_command.Goals as goal
 
 one-item : {X : Type 0} (xs : List X) (x : X) → x ≡ get_or xs 0 x → length xs ≡ 1 → xs ≡ x ∷ []
 one-item [] x is len = absurd (omega (arith, len))

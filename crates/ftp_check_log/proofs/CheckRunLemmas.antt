@@ -13,14 +13,14 @@ use Rattle.ftp_check_log.specs.declared.verdict.Verdict.{Verdict}
 use Rattle.ftp_check_log.specs.declared.verdict.Verdict.TheVariants as verdict
 use Rattle.ftp_check_log.specs.Explanations.{TellsWhy, Explains, IsNotRight}
 use Rattle.ftp_check_log.specs.Verdicts.{TellsOfText}
-use Rattle.ftp_check_run.specs.declared.command.CheckCommand.{CheckCommand}
-use Rattle.ftp_check_run.specs.declared.command.CheckCommand.TheVariants as command
-use Rattle.ftp_check_run.specs.declared.status.CheckStatus.{CheckStatus}
-use Rattle.ftp_check_run.specs.declared.status.CheckStatus.TheVariants as status
-use Rattle.ftp_check_run.specs.CheckCommands.{AsksFor}
-use Rattle.ftp_check_run.specs.CheckStatuses.{verdict_status, why_status, explanation_status, after_write}
-use Rattle.ftp_check_run.specs.CheckOutcome.{CheckOutcome, WhyOutcome, TellsEvidence, TellsNoEntry, TellsWrong, TellsBad, TellsWhyPart}
-use Rattle.ftp_check_run.specs.VerdictLines.{verdict_text, explanation_text}
+use Rattle.ftp_check_log.specs.declared.command.CheckCommand.{CheckCommand}
+use Rattle.ftp_check_log.specs.declared.command.CheckCommand.TheVariants as command
+use Rattle.ftp_check_log.specs.declared.status.CheckStatus.{CheckStatus}
+use Rattle.ftp_check_log.specs.declared.status.CheckStatus.TheVariants as status
+use Rattle.ftp_check_log.specs.CheckCommands.{AsksFor}
+use Rattle.ftp_check_log.specs.CheckStatuses.{verdict_status, why_status, explanation_status, after_write}
+use Rattle.ftp_check_log.specs.CheckOutcome.{CheckOutcome, WhyOutcome, TellsEvidence, TellsNoEntry, TellsWrong, TellsBad, TellsWhyPart}
+use Rattle.ftp_check_log.specs.VerdictLines.{verdict_text, explanation_text}
 
 -- ---- a verdict
 

@@ -4,17 +4,17 @@ ghost use Rattle.std.specs.Prelude.{◌≡◌, ◌≢◌, ℕ, ◌≤◌, ◌↔
 ghost use Rattle.ftp_base.specs.Outside.{HasRisen};
 ghost use Rattle.ftp_check_log.specs.declared.verdict.Verdict.{Verdict};
 ghost use Rattle.ftp_check_log.specs.Verdicts.{TellsOfText};
-ghost use Rattle.ftp_check_run.specs.declared.command.CheckCommand.{CheckCommand};
-ghost use Rattle.ftp_check_run.specs.declared.command.CheckCommand.TheVariants.{Check, Why};
-ghost use Rattle.ftp_check_run.specs.CheckCommands.{AsksFor, text_told};
-ghost use Rattle.ftp_check_run.specs.CheckStatuses.{verdict_status, why_status, status_due};
-ghost use Rattle.ftp_check_run.specs.CheckOutcome.{TellsRight, TellsEvidence, TellsNoEntry, TellsWrong, TellsBad, TellsPart, TellsWhyPart, CheckOutcome, WhyOutcome, TellsText};
+ghost use Rattle.ftp_check_log.specs.declared.command.CheckCommand.{CheckCommand};
+ghost use Rattle.ftp_check_log.specs.declared.command.CheckCommand.TheVariants.{Check, Why};
+ghost use Rattle.ftp_check_log.specs.CheckCommands.{AsksFor, text_told};
+ghost use Rattle.ftp_check_log.specs.CheckStatuses.{verdict_status, why_status, status_due};
+ghost use Rattle.ftp_check_log.specs.CheckOutcome.{TellsRight, TellsEvidence, TellsNoEntry, TellsWrong, TellsBad, TellsPart, TellsWhyPart, CheckOutcome, WhyOutcome, TellsText};
 
 use crate::command::{CheckCommand, check_command};
 use crate::status::CheckStatus;
 use crate::telling::{CHECK_HELP, CHECK_VERSION, tell, tell_explanation};
 use ftp_base::{Failed, Sink, Source};
-use ftp_check_log::{check, explain};
+use crate::{check, explain};
 use ftp_lines::write_all;
 use std::alloc::Global;
 

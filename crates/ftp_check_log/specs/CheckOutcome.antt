@@ -10,9 +10,9 @@ use Rattle.ftp_check_log.specs.declared.verdict.Verdict.TheVariants as verdict
 use Rattle.ftp_check_log.specs.Evidence.{evidence_text}
 use Rattle.ftp_check_log.specs.Explanations.{HasEvidence, HasNoEntry, TellsWhy}
 use Rattle.ftp_check_log.specs.Verdicts.{IsRightText, TellsOfText}
-use Rattle.ftp_check_run.specs.declared.status.CheckStatus.{CheckStatus}
-use Rattle.ftp_check_run.specs.declared.status.CheckStatus.TheVariants as status
-use Rattle.ftp_check_run.specs.VerdictLines.{number_line, verdict_text, explanation_text}
+use Rattle.ftp_check_log.specs.declared.status.CheckStatus.{CheckStatus}
+use Rattle.ftp_check_log.specs.declared.status.CheckStatus.TheVariants as status
+use Rattle.ftp_check_log.specs.VerdictLines.{number_line, verdict_text, explanation_text}
 
 -- the text is an options line or none and the print of a right and acted log, and `right` with the number of its entries was
 -- written

@@ -6,10 +6,10 @@ use Rattle.ftp_check_log.specs.declared.verdict.Verdict.{Verdict}
 use Rattle.ftp_check_log.specs.declared.verdict.Verdict.TheVariants as verdict
 use Rattle.ftp_check_log.specs.declared.explanation.Explanation.{Explanation}
 use Rattle.ftp_check_log.specs.declared.explanation.Explanation.TheVariants as explanation
-use Rattle.ftp_check_run.specs.declared.command.CheckCommand.{CheckCommand}
-use Rattle.ftp_check_run.specs.declared.command.CheckCommand.TheVariants as command
-use Rattle.ftp_check_run.specs.declared.status.CheckStatus.{CheckStatus}
-use Rattle.ftp_check_run.specs.declared.status.CheckStatus.TheVariants as status
+use Rattle.ftp_check_log.specs.declared.command.CheckCommand.{CheckCommand}
+use Rattle.ftp_check_log.specs.declared.command.CheckCommand.TheVariants as command
+use Rattle.ftp_check_log.specs.declared.status.CheckStatus.{CheckStatus}
+use Rattle.ftp_check_log.specs.declared.status.CheckStatus.TheVariants as status
 
 -- the exit status of the program
 abbrev pub check_code : CheckStatus → ℕ

@@ -2,8 +2,8 @@
 
 ghost use Rattle.std.specs.Prelude.{◌≡◌, ℕ, ◌↔◌, ◌∷◌, ◌^◌, ◌-◌, [], min, Some, map, IsTrue, MatchOption};
 ghost use Rattle.std.specs.Str.Parse.{AllDigits, digits_value};
-ghost use Rattle.ftp_check_run.specs.declared.command.CheckCommand.{CheckCommand};
-ghost use Rattle.ftp_check_run.specs.CheckCommands.{AsksFor, IsDecimal, SpellsPlace};
+ghost use Rattle.ftp_check_log.specs.declared.command.CheckCommand.{CheckCommand};
+ghost use Rattle.ftp_check_log.specs.CheckCommands.{AsksFor, IsDecimal, SpellsPlace};
 
 /// What the program does.
 #[derive(Clone, Copy, Debug, PartialEq, Eq)]

@@ -1,4 +1,0 @@
-pub mod CheckCommands
-pub mod CheckStatuses
-pub mod VerdictLines
-pub mod CheckOutcome
