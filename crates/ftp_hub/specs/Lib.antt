@@ -1,3 +1,5 @@
+pub mod OwnSessions
+pub mod Undisturbed
 pub mod Arrivals
 pub mod Endings
 pub mod Leavers

@@ -8,7 +8,9 @@ mod arrivals;
 mod data_links;
 mod hub;
 mod jobs;
+mod own_sessions;
 mod prepare;
+mod replay;
 mod run;
 mod step;
 mod stop;
@@ -20,5 +22,6 @@ pub use ftp_handlers::{
 };
 pub use hub::Hub;
 pub use prepare::PrepareError;
+pub use replay::isolation;
 pub use run::{RunError, covers, keep, run_event, run_events};
 pub use twin::{Twin, TwinRoom};

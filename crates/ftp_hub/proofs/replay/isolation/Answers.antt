@@ -13,8 +13,8 @@ use Rattle.ftp_laws.proofs.AloneLemmas.{client-alone, client-served}
 use Rattle.ftp_laws.proofs.LogLemmas.{log_of-events_of}
 use Rattle.ftp_hub.specs.declared.hub.Hub.{Hub}
 use Rattle.ftp_hub.specs.Stands.{Stands, options_of}
-use Rattle.ftp_isolation.specs.OwnSessions.{Knows}
-use Rattle.ftp_isolation.proofs.replay.isolation.Goals as goal
+use Rattle.ftp_hub.specs.OwnSessions.{Knows}
+use Rattle.ftp_hub.proofs.replay.isolation.Goals as goal
 
 -- a hub that stands for a log of given events stands for their right and acted log
 stands-log_of :

@@ -5,7 +5,7 @@ ghost use Rattle.ftp_events.specs.declared.entry.Entry.{Entry};
 ghost use Rattle.ftp_events.specs.declared.decision.Decision.TheVariants.{Opened};
 ghost use Rattle.ftp_events.specs.Isolation.{is_common, is_own};
 ghost use Rattle.ftp_events.specs.Opening.{opened_number};
-ghost use Rattle.ftp_isolation.specs.OwnSessions.{Knows, opens_for};
+ghost use Rattle.ftp_hub.specs.OwnSessions.{Knows, opens_for};
 
 use ftp_base::IpAddr;
 use ftp_events::{Answer, Decision, Entry, EventKind};

@@ -3,8 +3,8 @@ use Rattle.ftp_base.specs.declared.net.IpAddr.TheVariants.{V4}
 use Rattle.ftp_events.specs.Isolation.{client_log}
 use Rattle.ftp_events.specs.Right.{events_of}
 use Rattle.ftp_hub.specs.Stands.{Stands, count_of, options_of}
-use Rattle.ftp_isolation.specs.OwnSessions.{Knows}
-use Rattle.ftp_isolation.proofs.replay.isolation.Given as goal
+use Rattle.ftp_hub.specs.OwnSessions.{Knows}
+use Rattle.ftp_hub.proofs.replay.isolation.Given as goal
 
 -- the hub stands for the log of the client's entries so far
 abbrev pub invariant-loop-e : goal.invariant-loop-e

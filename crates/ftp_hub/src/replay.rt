@@ -8,13 +8,13 @@ ghost use Rattle.ftp_events.specs.Log.{is_stopped, past_of};
 ghost use Rattle.ftp_events.specs.Right.{IsActed, IsRight, events_of};
 ghost use Rattle.ftp_laws.specs.Alone.{SameServed};
 ghost use Rattle.ftp_hub.specs.Stands.{Stands, count_of, options_of};
-ghost use Rattle.ftp_isolation.specs.OwnSessions.{Knows};
-ghost use Rattle.ftp_isolation.specs.Undisturbed.{IsUndisturbed};
+ghost use Rattle.ftp_hub.specs.OwnSessions.{Knows};
+ghost use Rattle.ftp_hub.specs.Undisturbed.{IsUndisturbed};
 
 use crate::own_sessions::OwnSessions;
 use ftp_base::IpAddr;
 use ftp_events::{Entry, Log};
-use ftp_hub::{Hub, PrepareError};
+use crate::{Hub, PrepareError};
 use ftp_options::Options;
 use std::alloc::{AllocError, Global};
 

@@ -8,7 +8,7 @@ use Rattle.ftp_events.specs.declared.entry.Entry.{Entry}
 use Rattle.ftp_events.specs.Board.{is_client}
 use Rattle.ftp_events.specs.Log.{past_of}
 use Rattle.ftp_events.specs.Opening.{opening_by}
-use Rattle.ftp_isolation.specs.declared.own_sessions.OwnSessions.{OwnSessions}
+use Rattle.ftp_hub.specs.declared.own_sessions.OwnSessions.{OwnSessions}
 
 -- the entry tells of a new control connection of client a
 abbrev pub opens_for : Entry → IpAddr → Bool

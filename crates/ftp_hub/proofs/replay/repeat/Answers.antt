@@ -2,7 +2,7 @@ use Rattle.std.proofs.Common.{◌≡◌, ◌∷◌, ◌∙◌, sym, ap, subst, L
 use Rattle.ftp_events.specs.declared.entry.Entry.{Entry}
 use Rattle.ftp_hub.specs.Stands.{Stands}
 use Rattle.ftp_hub.proofs.Refusals.{stands-same}
-use Rattle.ftp_isolation.proofs.replay.repeat.Goals as goal
+use Rattle.ftp_hub.proofs.replay.repeat.Goals as goal
 
 -- the hub that has made its step stands for the log with the new entry
 pub returns-in-Ok-clause-stands : goal.returns-in-Ok-clause-stands

@@ -1,2 +1,0 @@
-pub mod OwnSessions
-pub mod Undisturbed
