@@ -2,7 +2,7 @@
 
 use ftp_base::MemorySource;
 use ftp_proxy::{ProxyError, ReadError};
-use ftp_proxy2::{Proxy2Error, read_header2, read_proxy_any, to_answer};
+use ftp_proxy::{Proxy2Error, read_header2, read_proxy_any, to_answer};
 use std::test::Fail;
 
 #[test]

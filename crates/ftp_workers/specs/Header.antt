@@ -7,9 +7,9 @@ use Rattle.ftp_proxy.specs.declared.error.ProxyError.{ProxyError}
 use Rattle.ftp_proxy.specs.declared.error.ProxyError.TheVariants.{ReadError}
 use Rattle.ftp_proxy.specs.declared.error.ReadError.TheVariants.{Fault}
 use Rattle.ftp_proxy.specs.declared.header.ProxyHeader.{ProxyHeader}
-use Rattle.ftp_proxy2.specs.Any.{IsAnyAnswer, IsAnyTaken, answered}
-use Rattle.ftp_proxy2.specs.declared.any.AnyError.{AnyError}
-use Rattle.ftp_proxy2.specs.declared.any.AnyHeader.{AnyHeader}
+use Rattle.ftp_proxy.specs.Any.{IsAnyAnswer, IsAnyTaken, answered}
+use Rattle.ftp_proxy.specs.declared.any.AnyError.{AnyError}
+use Rattle.ftp_proxy.specs.declared.any.AnyHeader.{AnyHeader}
 
 -- the header of a connection, or why there is none
 abbrev pub header_in : Answer → Option (Result ProxyHeader ProxyError)

@@ -11,7 +11,7 @@ ghost use Rattle.ftp_workers.specs.Header.{IsHeaderOf, header_in, header_told, i
 
 use ftp_base::{Edge, Link, SocketAddr};
 use ftp_events::{Answer, EventKind, HubEvent};
-use ftp_proxy2::{read_proxy_any, to_answer};
+use ftp_proxy::{read_proxy_any, to_answer};
 use std::alloc::Global;
 
 /// The event of a connection behind a proxy, and the header that it is to be decided by; none for want of memory.

@@ -1,0 +1,382 @@
+-- A block and its body, both ways.
+use Rattle.std.proofs.Common.{◌≡◌, ℕ, zero, suc, ◌+◌, ◌-◌, ◌*◌, ◌^◌, ◌<◌, ◌≤◌, Bool, true, false, cond, eqb, ltb, leb, List, [], ◌∷◌, ◌++◌, length, get_or, take, drop, Option, Some, None, Result, Ok, Err, refl, sym, ap, subst, ◌∙◌, arith, inl, inr}
+use Rattle.std.specs.Prelude.{is_some, ◌||◌, ◌&&◌, not}
+use Rattle.std.specs.Option.{option_map_or}
+use Rattle.std.specs.Int.{w16, w32, w128, to_be_bytes, from_be_bytes}
+use Rattle.std.proofs.Math.Seq.{take-add}
+use Rattle.std.proofs.lemmas.Bool.{cases_eq}
+use Rattle.std.proofs.lemmas.Bool.Decides.{nat_tests}
+use Rattle.std.proofs.lemmas.List.{length-append, length-take, length-drop, take_at, drop_at, drop-drop, drop_more, take-append-drop, take-append-le, drop-append-le, get_or_append_left}
+use Rattle.std.proofs.lemmas.Nat.{be_bytes_2, be_bytes_4, from_be_bytes-to_be_bytes_2, from_be_bytes-to_be_bytes_4}
+use Rattle.ftp_base.specs.Net.{is_v6}
+use Rattle.ftp_base.specs.declared.net.IpAddr.{IpAddr}
+use Rattle.ftp_base.specs.declared.net.IpAddr.TheVariants.{V4, V6}
+use Rattle.ftp_base.specs.declared.net.SocketAddrPair.{SocketAddrPair}
+use Rattle.ftp_proxy.specs.declared.v2_header.Body.{Body}
+use Rattle.ftp_proxy.specs.declared.v2_header.Body.TheVariants.{LocalBlock, UnspecBlock, Inet, Inet6, Unix}
+use Rattle.ftp_proxy.specs.declared.v2_header.Field.{Field}
+use Rattle.ftp_proxy.specs.declared.v2_error.Proxy2Error.{Proxy2Error}
+use Rattle.ftp_proxy.specs.V2Header.{command_of, pair_bytes, fields_bytes, block_of, is_family, suits, PairFits, NumbersFit}
+use Rattle.ftp_proxy.specs.Reading.{at, number_at, addresses_len, mapped, fields_at, fields_of, pair4, pair6, inet, inet6, unix, is_local, body_of, IsBytes}
+use Rattle.ftp_proxy.proofs.WideLemmas.{IsBytes-take, IsBytes-drop, below_16, be_bytes_16, from_be_bytes-to_be_bytes_16}
+use Rattle.ftp_proxy.proofs.FieldsReading.{mapped_fine, fields_again, fields_sound, two_bytes}
+
+-- ---- tests
+
+and_true : (a b : Bool) → (a && b) ≡ true → (a ≡ true) × (b ≡ true)
+and_true true true h = (refl, refl)
+and_true true false h = absurd cc
+and_true false b h = absurd cc
+
+test_equal : (a b : ℕ) → eqb a b ≡ true → a ≡ b
+test_equal a b h = grind (arith, nat_tests)
+
+-- each family that there is
+by_family_byte : (P : ℕ → Type 0) (f : ℕ) → is_some (addresses_len f) ≡ true → P 0 → P 17 → P 18 → P 33 → P 34 → P 49 → P 50 → P f
+by_family_byte P f known p0 p17 p18 p33 p34 p49 p50 =
+    elim (cases_eq f 0) [
+      | inl e ↦ subst P (sym e) p0
+      | inr n0 ↦
+          elim (cases_eq f 17) [
+            | inl e ↦ subst P (sym e) p17
+            | inr n17 ↦
+                elim (cases_eq f 18) [
+                  | inl e ↦ subst P (sym e) p18
+                  | inr n18 ↦
+                      elim (cases_eq f 33) [
+                        | inl e ↦ subst P (sym e) p33
+                        | inr n33 ↦
+                            elim (cases_eq f 34) [
+                              | inl e ↦ subst P (sym e) p34
+                              | inr n34 ↦
+                                  elim (cases_eq f 49) [
+                                    | inl e ↦ subst P (sym e) p49
+                                    | inr n49 ↦
+                                        elim (cases_eq f 50) [ inl e ↦ subst P (sym e) p50 | inr n50 ↦ absurd (unknown f known n0 n17 n18 n33 n34 n49 n50) ]
+                                  ]
+                            ]
+                      ]
+                ]
+          ]
+    ] where
+      unknown : (f : ℕ) → is_some (addresses_len f) ≡ true → (f ≡ 0 → ⊥) → (f ≡ 17 → ⊥) → (f ≡ 18 → ⊥) → (f ≡ 33 → ⊥) → (f ≡ 34 → ⊥) → (f ≡ 49 → ⊥) → (f ≡ 50 → ⊥) → ⊥
+      unknown f known n0 n17 n18 n33 n34 n49 n50 =
+          let e0 : eqb f 0 ≡ false = grind (arith, nat_tests) in
+          let e17 : eqb f 17 ≡ false = grind (arith, nat_tests) in
+          let e18 : eqb f 18 ≡ false = grind (arith, nat_tests) in
+          let e33 : eqb f 33 ≡ false = grind (arith, nat_tests) in
+          let e34 : eqb f 34 ≡ false = grind (arith, nat_tests) in
+          let e49 : eqb f 49 ≡ false = grind (arith, nat_tests) in
+          let e50 : eqb f 50 ≡ false = grind (arith, nat_tests) in
+          let none : is_some (addresses_len f) ≡ false = rw (e0, e17, e18, e33, e34, e49, e50) refl in
+          absurd cc
+
+-- a stream or datagrams of a family
+by_kind : (P : ℕ → Type 0) (family f : ℕ) → is_family family f ≡ true → P (16 * family + 1) → P (16 * family + 2) → P f
+by_kind P family f is p q =
+    elim (cases_eq f (16 * family + 1)) [
+      | inl e ↦ subst P (sym e) p
+      | inr ne ↦
+          let first : eqb f (16 * family + 1) ≡ false = grind (arith, nat_tests) in
+          let second : eqb f (16 * family + 2) ≡ true = sym (ap (λ (b : Bool). b || eqb f (16 * family + 2)) first) ∙ is in
+          subst P (sym (test_equal f (16 * family + 2) second)) q
+    ]
+
+-- ---- the body by command and family, which are two bytes
+
+abbrev pub needed_by : ℕ → ℕ → ℕ
+needed_by c f = cond (eqb c 32) 0 (option_map_or (λ n. n) (addresses_len f) 0)
+
+abbrev pub by_family : ℕ → List ℕ → Result Body Proxy2Error
+by_family f block =
+    cond (is_family 1 f) (inet block) (cond (is_family 2 f) (inet6 block) (cond (is_family 3 f) (unix block) (Ok (UnspecBlock block))))
+
+abbrev pub body_by : ℕ → ℕ → List ℕ → Result Body Proxy2Error
+body_by c f block = cond (eqb c 32) (Ok (LocalBlock block)) (by_family f block)
+
+-- ---- numbers of the addresses
+
+pub two_at : (bytes : List ℕ) (i : ℕ) → i + 2 ≤ length bytes → IsBytes bytes → to_be_bytes w16 (number_at bytes i) ≡ take 2 (drop i bytes)
+two_at bytes i le small =
+    be_bytes_2 (at bytes i ∷ at bytes (i + 1) ∷ []) _ refl (two_bytes _ _ (small i) (small (i + 1))) refl
+    ∙ sym (ap (take 2) (drop_more bytes i 0 (omega arith) ∙ ap (λ (x : List ℕ). at bytes i ∷ x) (drop_more bytes (i + 1) 0 (omega arith))))
+
+pub number_below : (bytes : List ℕ) (i : ℕ) → IsBytes bytes → number_at bytes i < 2 ^ 16
+number_below bytes i small = omega (arith, small i, small (i + 1))
+
+below_4 : (bytes : List ℕ) → IsBytes bytes → from_be_bytes w32 bytes < 2 ^ 32
+below_4 bytes small = omega (arith, small 0, small 1, small 2, small 3)
+
+pair4_sound : (block : List ℕ) → 12 ≤ length block → IsBytes block → (pair_bytes (pair4 block) ≡ take 12 block) × PairFits (pair4 block)
+pair4_sound block long small =
+    let a = be_bytes_4 (take 4 block) _ (omega (arith, length-take 4 block)) (IsBytes-take 4 block small) refl in
+    let b = be_bytes_4 (take 4 (drop 4 block)) _ (omega (arith, length-take 4 (drop 4 block), length-drop 4 block)) (IsBytes-take 4 (drop 4 block) (IsBytes-drop 4 block small)) refl in
+    let p = two_at block 8 (omega arith) small in
+    let q = two_at block 10 (omega arith) small in
+    let cut : take 12 block ≡ take 4 block ++ (take 4 (drop 4 block) ++ (take 2 (drop 8 block) ++ take 2 (drop 10 block))) =
+    take-add 4 8 block
+    ∙ ap (λ (x : List ℕ). take 4 block ++ x) (take-add 4 4 (drop 4 block))
+    ∙ ap (λ (x : List ℕ). take 4 block ++ (take 4 (drop 4 block) ++ take 4 x)) (drop-drop 4 4 block)
+    ∙ ap (λ (x : List ℕ). take 4 block ++ (take 4 (drop 4 block) ++ x)) (take-add 2 2 (drop 8 block))
+    ∙ ap (λ (x : List ℕ). take 4 block ++ (take 4 (drop 4 block) ++ (take 2 (drop 8 block) ++ take 2 x))) (drop-drop 2 8 block) in (
+      (λ i. a i ++ (b i ++ (p i ++ q i))) ∙ sym cut,
+      (below_4 (take 4 block) (IsBytes-take 4 block small), below_4 (take 4 (drop 4 block)) (IsBytes-take 4 (drop 4 block) (IsBytes-drop 4 block small)), number_below block 8 small, number_below block 10 small),
+    )
+
+pair6_sound : (block : List ℕ) → 36 ≤ length block → IsBytes block → (pair_bytes (pair6 block) ≡ take 36 block) × PairFits (pair6 block)
+pair6_sound block long small =
+    let a = be_bytes_16 (take 16 block) (omega (arith, length-take 16 block)) (IsBytes-take 16 block small) in
+    let b = be_bytes_16 (take 16 (drop 16 block)) (omega (arith, length-take 16 (drop 16 block), length-drop 16 block)) (IsBytes-take 16 (drop 16 block) (IsBytes-drop 16 block small)) in
+    let p = two_at block 32 (omega arith) small in
+    let q = two_at block 34 (omega arith) small in
+    let cut : take 36 block ≡ take 16 block ++ (take 16 (drop 16 block) ++ (take 2 (drop 32 block) ++ take 2 (drop 34 block))) =
+    take-add 16 20 block
+    ∙ ap (λ (x : List ℕ). take 16 block ++ x) (take-add 16 4 (drop 16 block))
+    ∙ ap (λ (x : List ℕ). take 16 block ++ (take 16 (drop 16 block) ++ take 4 x)) (drop-drop 16 16 block)
+    ∙ ap (λ (x : List ℕ). take 16 block ++ (take 16 (drop 16 block) ++ x)) (take-add 2 2 (drop 32 block))
+    ∙ ap (λ (x : List ℕ). take 16 block ++ (take 16 (drop 16 block) ++ (take 2 (drop 32 block) ++ take 2 x))) (drop-drop 2 32 block) in (
+      (λ i. a i ++ (b i ++ (p i ++ q i))) ∙ sym cut,
+      (below_16 (take 16 block) (IsBytes-take 16 block small), below_16 (take 16 (drop 16 block)) (IsBytes-take 16 (drop 16 block) (IsBytes-drop 16 block small)), number_below block 32 small, number_below block 34 small),
+    )
+
+-- both ends are read again, whatever follows
+record IsPairAgain (pair : SocketAddrPair) (len : ℕ) (read : List ℕ → SocketAddrPair) (rest : List ℕ) : Type 0 where
+  pub back : read (pair_bytes pair ++ rest) ≡ pair
+  pub behind : drop len (pair_bytes pair ++ rest) ≡ rest
+  pub long : length (pair_bytes pair ++ rest) ≡ len + length rest
+
+pair4_again : (pair : SocketAddrPair) (rest : List ℕ) → not (is_v6 pair.source.ip) ≡ true → not (is_v6 pair.destination.ip) ≡ true → PairFits pair → IsPairAgain pair 12 pair4 rest
+pair4_again pair rest v w fits = by pair.source.ip pair.destination.ip pair.source.port pair.destination.port v w fits where
+  by : (a b : IpAddr) (p q : ℕ) → not (is_v6 a) ≡ true → not (is_v6 b) ≡ true → PairFits (record { source = record { ip = a; port = p }; destination = record { ip = b; port = q } }) →
+      IsPairAgain (record { source = record { ip = a; port = p }; destination = record { ip = b; port = q } }) 12 pair4 rest
+  by (V4 a) (V4 b) p q v w fits =
+      let ea = from_be_bytes-to_be_bytes_4 a fits.0 in
+      let eb = from_be_bytes-to_be_bytes_4 b fits.1 in
+      let ep = from_be_bytes-to_be_bytes_2 p fits.2 in
+      let eq = from_be_bytes-to_be_bytes_2 q fits.3 in
+      record {
+        back = λ i. record { source = record { ip = V4 (ea i); port = ep i }; destination = record { ip = V4 (eb i); port = eq i } };
+        behind = refl;
+        long = omega arith;
+      }
+  by (V6 a) b p q v w fits = absurd cc
+  by (V4 a) (V6 b) p q v w fits = absurd cc
+
+pair6_again : (pair : SocketAddrPair) (rest : List ℕ) → is_v6 pair.source.ip ≡ true → is_v6 pair.destination.ip ≡ true → PairFits pair → IsPairAgain pair 36 pair6 rest
+pair6_again pair rest v w fits = by pair.source.ip pair.destination.ip pair.source.port pair.destination.port v w fits where
+  by : (a b : IpAddr) (p q : ℕ) → is_v6 a ≡ true → is_v6 b ≡ true → PairFits (record { source = record { ip = a; port = p }; destination = record { ip = b; port = q } }) →
+      IsPairAgain (record { source = record { ip = a; port = p }; destination = record { ip = b; port = q } }) 36 pair6 rest
+  by (V6 a) (V6 b) p q v w fits =
+      let ea = from_be_bytes-to_be_bytes_16 a fits.0 in
+      let eb = from_be_bytes-to_be_bytes_16 b fits.1 in
+      let ep = from_be_bytes-to_be_bytes_2 p fits.2 in
+      let eq = from_be_bytes-to_be_bytes_2 q fits.3 in
+      record {
+        back = λ i. record { source = record { ip = V6 (ea i); port = ep i }; destination = record { ip = V6 (eb i); port = eq i } };
+        behind = refl;
+        long = omega arith;
+      }
+  by (V4 a) b p q v w fits = absurd cc
+  by (V6 a) (V4 b) p q v w fits = absurd cc
+
+-- ---- what is spelled so is read
+
+pub record IsAgain (c f : ℕ) (body : Body) : Type 0 where
+  pub command : (eqb c 32 || eqb c 33) ≡ true
+  pub family : (eqb c 32 || is_some (addresses_len f)) ≡ true
+  pub long : needed_by c f ≤ length (block_of body)
+  pub back : body_by c f (block_of body) ≡ Ok body
+
+-- the fields behind addresses
+fields_behind : (f : List Field → Body) (len : ℕ) (block : List ℕ) (fields : List Field) → drop len block ≡ fields_bytes fields → length (fields_bytes fields) < 2 ^ 16 →
+    mapped f (fields_of len block) ≡ Ok (f fields)
+fields_behind f len block fields behind short =
+    ap (λ (x : List ℕ). mapped f (fields_at (length x) len x)) behind
+    ∙ ap (mapped f) (fields_again fields (length (fields_bytes fields)) len (omega arith) short)
+
+unix_again : (source destination : List ℕ) (fields : List Field) → length source ≡ 108 → length destination ≡ 108 → length (source ++ (destination ++ fields_bytes fields)) < 2 ^ 16 →
+    unix (source ++ (destination ++ fields_bytes fields)) ≡ Ok (Unix source destination fields)
+unix_again source destination fields s d short =
+    let block : List ℕ = source ++ (destination ++ fields_bytes fields) in
+    let second : drop 108 block ≡ destination ++ fields_bytes fields = drop_at source (destination ++ fields_bytes fields) 108 s in
+    let behind : drop 216 block ≡ fields_bytes fields = sym (drop-drop 108 108 block) ∙ ap (drop 108) second ∙ drop_at destination (fields_bytes fields) 108 d in
+    fields_behind (λ fields. Unix (take 108 block) (take 108 (drop 108 block)) fields) 216 block fields behind
+    (omega (arith, length-append source (destination ++ fields_bytes fields), length-append destination (fields_bytes fields)))
+    ∙ ap (λ (x : List ℕ). Ok (Unix x (take 108 (drop 108 block)) fields)) (take_at source (destination ++ fields_bytes fields) 108 s)
+    ∙ ap (λ (x : List ℕ). Ok (Unix source x fields)) (ap (take 108) second ∙ take_at destination (fields_bytes fields) 108 d)
+
+pub body_again : (family : ℕ) (body : Body) → suits family body ≡ true → length (block_of body) < 2 ^ 16 → NumbersFit body → IsAgain (command_of body) family body
+body_again family (LocalBlock block) agrees short fits = record { command = refl; family = refl; long = omega arith; back = refl }
+body_again family (UnspecBlock block) agrees short fits =
+    subst (λ (f : ℕ). IsAgain 33 f (UnspecBlock block)) (sym (test_equal family 0 agrees)) (record { command = refl; family = refl; long = omega arith; back = refl })
+body_again family (Inet pair fields) agrees short fits =
+    let is = and_true (is_family 1 family) (not (is_v6 pair.source.ip) && not (is_v6 pair.destination.ip)) agrees in
+    let both = and_true (not (is_v6 pair.source.ip)) (not (is_v6 pair.destination.ip)) is.1 in
+    let p = pair4_again pair (fields_bytes fields) both.0 both.1 fits in
+    let back : inet (pair_bytes pair ++ fields_bytes fields) ≡ Ok (Inet pair fields) =
+    fields_behind (λ fs. Inet (pair4 (pair_bytes pair ++ fields_bytes fields)) fs) 12 (pair_bytes pair ++ fields_bytes fields) fields p.behind (omega (arith, p.long))
+    ∙ ap (λ (x : SocketAddrPair). Ok (Inet x fields)) p.back in
+    by_kind (λ f. IsAgain 33 f (Inet pair fields)) 1 family is.0
+    (record { command = refl; family = refl; long = omega (arith, p.long); back = back })
+    (record { command = refl; family = refl; long = omega (arith, p.long); back = back })
+body_again family (Inet6 pair fields) agrees short fits =
+    let is = and_true (is_family 2 family) (is_v6 pair.source.ip && is_v6 pair.destination.ip) agrees in
+    let both = and_true (is_v6 pair.source.ip) (is_v6 pair.destination.ip) is.1 in
+    let p = pair6_again pair (fields_bytes fields) both.0 both.1 fits in
+    let back : inet6 (pair_bytes pair ++ fields_bytes fields) ≡ Ok (Inet6 pair fields) =
+    fields_behind (λ fs. Inet6 (pair6 (pair_bytes pair ++ fields_bytes fields)) fs) 36 (pair_bytes pair ++ fields_bytes fields) fields p.behind (omega (arith, p.long))
+    ∙ ap (λ (x : SocketAddrPair). Ok (Inet6 x fields)) p.back in
+    by_kind (λ f. IsAgain 33 f (Inet6 pair fields)) 2 family is.0
+    (record { command = refl; family = refl; long = omega (arith, p.long); back = back })
+    (record { command = refl; family = refl; long = omega (arith, p.long); back = back })
+body_again family (Unix source destination fields) agrees short fits =
+    let is = and_true (is_family 3 family) (eqb (length source) 108 && eqb (length destination) 108) agrees in
+    let both = and_true (eqb (length source) 108) (eqb (length destination) 108) is.1 in
+    let s = test_equal (length source) 108 both.0 in
+    let d = test_equal (length destination) 108 both.1 in
+    let long = length-append source (destination ++ fields_bytes fields) in
+    let more = length-append destination (fields_bytes fields) in
+    let back = unix_again source destination fields s d short in
+    by_kind (λ f. IsAgain 33 f (Unix source destination fields)) 3 family is.0
+    (record { command = refl; family = refl; long = omega (arith, long, more, s, d); back = back })
+    (record { command = refl; family = refl; long = omega (arith, long, more, s, d); back = back })
+
+-- ---- what is read is spelled so
+
+pub record IsSound (c f : ℕ) (block : List ℕ) (body : Body) : Type 0 where
+  pub command : command_of body ≡ c
+  pub agrees : suits f body ≡ true
+  pub spelled : block_of body ≡ block
+  pub numbers : NumbersFit body
+
+inet_sound : (f : ℕ) (block : List ℕ) (body : Body) → is_family 1 f ≡ true → 12 ≤ length block → IsBytes block → inet block ≡ Ok body → IsSound 33 f block body
+inet_sound f block body is long small e =
+    let m = mapped_fine (λ (fields : List Field). Inet (pair4 block) fields) (fields_of 12 block) body e in
+    let p = pair4_sound block long small in
+    let behind = fields_sound (length (drop 12 block)) 12 (drop 12 block) m.0 (omega arith) (IsBytes-drop 12 block small) m.1 in
+    subst (λ (b : Body). IsSound 33 f block b) m.2
+    (record {
+      command = refl;
+      agrees = ap (λ (b : Bool). b && true) is;
+      spelled = ap (λ (x : List ℕ). pair_bytes (pair4 block) ++ x) behind ∙ ap (λ (x : List ℕ). x ++ drop 12 block) p.0 ∙ take-append-drop 12 block;
+      numbers = p.1;
+    })
+
+inet6_sound : (f : ℕ) (block : List ℕ) (body : Body) → is_family 2 f ≡ true → 36 ≤ length block → IsBytes block → inet6 block ≡ Ok body → IsSound 33 f block body
+inet6_sound f block body is long small e =
+    let m = mapped_fine (λ (fields : List Field). Inet6 (pair6 block) fields) (fields_of 36 block) body e in
+    let p = pair6_sound block long small in
+    let behind = fields_sound (length (drop 36 block)) 36 (drop 36 block) m.0 (omega arith) (IsBytes-drop 36 block small) m.1 in
+    subst (λ (b : Body). IsSound 33 f block b) m.2
+    (record {
+      command = refl;
+      agrees = ap (λ (b : Bool). b && true) is;
+      spelled = ap (λ (x : List ℕ). pair_bytes (pair6 block) ++ x) behind ∙ ap (λ (x : List ℕ). x ++ drop 36 block) p.0 ∙ take-append-drop 36 block;
+      numbers = p.1;
+    })
+
+unix_sound : (f : ℕ) (block : List ℕ) (body : Body) → is_family 3 f ≡ true → 216 ≤ length block → IsBytes block → unix block ≡ Ok body → IsSound 33 f block body
+unix_sound f block body is long small e =
+    let m = mapped_fine (λ (fields : List Field). Unix (take 108 block) (take 108 (drop 108 block)) fields) (fields_of 216 block) body e in
+    let behind = fields_sound (length (drop 216 block)) 216 (drop 216 block) m.0 (omega arith) (IsBytes-drop 216 block small) m.1 in
+    let s : eqb (length (take 108 block)) 108 ≡ true = let n = length-take 108 block in grind (arith, nat_tests) in
+    let d : eqb (length (take 108 (drop 108 block))) 108 ≡ true = let n = length-take 108 (drop 108 block) in let k = length-drop 108 block in grind (arith, nat_tests) in
+    subst (λ (b : Body). IsSound 33 f block b) m.2
+    (record {
+      command = refl;
+      agrees = rw (is, s, d) refl;
+      spelled =
+          ap (λ (x : List ℕ). take 108 block ++ (take 108 (drop 108 block) ++ x)) (behind ∙ sym (drop-drop 108 108 block))
+          ∙ ap (λ (x : List ℕ). take 108 block ++ x) (take-append-drop 108 (drop 108 block))
+          ∙ take-append-drop 108 block;
+      numbers = tt;
+    })
+
+unspec_sound : (block : List ℕ) (body : Body) → by_family 0 block ≡ Ok body → IsSound 33 0 block body
+unspec_sound block body e =
+    let is : UnspecBlock block ≡ body = cc in
+    subst (λ (b : Body). IsSound 33 0 block b) is (record { command = refl; agrees = refl; spelled = refl; numbers = tt })
+
+local_sound : (f : ℕ) (block : List ℕ) (body : Body) → body_by 32 f block ≡ Ok body → IsSound 32 f block body
+local_sound f block body e =
+    let is : LocalBlock block ≡ body = cc in
+    subst (λ (b : Body). IsSound 32 f block b) is (record { command = refl; agrees = refl; spelled = refl; numbers = tt })
+
+pub body_sound : (c f : ℕ) (block : List ℕ) (body : Body) → (eqb c 32 || eqb c 33) ≡ true → (eqb c 32 || is_some (addresses_len f)) ≡ true → needed_by c f ≤ length block → IsBytes block →
+    body_by c f block ≡ Ok body → IsSound c f block body
+body_sound c f block body command known long small e =
+    elim (cases_eq c 32) [
+      | inl is ↦ subst (λ (d : ℕ). IsSound d f block body) (sym is) (local_sound f block body (subst (λ (d : ℕ). body_by d f block ≡ Ok body) is e))
+      | inr not_local ↦
+          let no : eqb c 32 ≡ false = grind (arith, nat_tests) in
+          let proxy : c ≡ 33 = test_equal c 33 (sym (ap (λ (b : Bool). b || eqb c 33) no) ∙ command) in
+          let known_here : is_some (addresses_len f) ≡ true = sym (ap (λ (b : Bool). b || is_some (addresses_len f)) no) ∙ known in
+          subst (λ (d : ℕ). IsSound d f block body) (sym proxy)
+          (proxied known_here (subst (λ (d : ℕ). needed_by d f ≤ length block) proxy long) (subst (λ (d : ℕ). body_by d f block ≡ Ok body) proxy e))
+    ] where
+      proxied : is_some (addresses_len f) ≡ true → needed_by 33 f ≤ length block → body_by 33 f block ≡ Ok body → IsSound 33 f block body
+      proxied known =
+          by_family_byte (λ f. needed_by 33 f ≤ length block → body_by 33 f block ≡ Ok body → IsSound 33 f block body) f known
+          (λ le e. unspec_sound block body e)
+          (λ le e. inet_sound 17 block body refl le small e)
+          (λ le e. inet_sound 18 block body refl le small e)
+          (λ le e. inet6_sound 33 block body refl le small e)
+          (λ le e. inet6_sound 34 block body refl le small e)
+          (λ le e. unix_sound 49 block body refl le small e)
+          (λ le e. unix_sound 50 block body refl le small e)
+
+-- ---- the body as it is read, in two parts
+
+pair4_front : (x y : List ℕ) → length x ≡ 12 → pair4 (x ++ y) ≡ pair4 x
+pair4_front x y l =
+    let a = take-append-le 4 x y (omega arith) in
+    let b : take 4 (drop 4 (x ++ y)) ≡ take 4 (drop 4 x) = ap (take 4) (drop-append-le 4 x y (omega arith)) ∙ take-append-le 4 (drop 4 x) y (omega (arith, length-drop 4 x)) in
+    let p8 = get_or_append_left x y 0 8 (omega arith) in
+    let p9 = get_or_append_left x y 0 9 (omega arith) in
+    let p10 = get_or_append_left x y 0 10 (omega arith) in
+    let p11 = get_or_append_left x y 0 11 (omega arith) in
+    λ i. record {
+      source = record { ip = V4 (from_be_bytes w32 (a i)); port = from_be_bytes w16 (p8 i ∷ p9 i ∷ []) };
+      destination = record { ip = V4 (from_be_bytes w32 (b i)); port = from_be_bytes w16 (p10 i ∷ p11 i ∷ []) };
+    }
+
+pair6_front : (x y : List ℕ) → length x ≡ 36 → pair6 (x ++ y) ≡ pair6 x
+pair6_front x y l =
+    let a = take-append-le 16 x y (omega arith) in
+    let b : take 16 (drop 16 (x ++ y)) ≡ take 16 (drop 16 x) = ap (take 16) (drop-append-le 16 x y (omega arith)) ∙ take-append-le 16 (drop 16 x) y (omega (arith, length-drop 16 x)) in
+    let p32 = get_or_append_left x y 0 32 (omega arith) in
+    let p33 = get_or_append_left x y 0 33 (omega arith) in
+    let p34 = get_or_append_left x y 0 34 (omega arith) in
+    let p35 = get_or_append_left x y 0 35 (omega arith) in
+    λ i. record {
+      source = record { ip = V6 (from_be_bytes w128 (a i)); port = from_be_bytes w16 (p32 i ∷ p33 i ∷ []) };
+      destination = record { ip = V6 (from_be_bytes w128 (b i)); port = from_be_bytes w16 (p34 i ∷ p35 i ∷ []) };
+    }
+
+pub inet_joins : (x : List ℕ) → length x ≡ 12 → (y : List ℕ) → inet (x ++ y) ≡ mapped (λ fs. Inet (pair4 x) fs) (fields_at (length y) 12 y)
+inet_joins x l y =
+    ap (λ (z : List ℕ). mapped (λ (fs : List Field). Inet (pair4 (x ++ y)) fs) (fields_at (length z) 12 z)) (drop_at x y 12 l)
+    ∙ ap (λ (p : SocketAddrPair). mapped (λ (fs : List Field). Inet p fs) (fields_at (length y) 12 y)) (pair4_front x y l)
+
+pub inet6_joins : (x : List ℕ) → length x ≡ 36 → (y : List ℕ) → inet6 (x ++ y) ≡ mapped (λ fs. Inet6 (pair6 x) fs) (fields_at (length y) 36 y)
+inet6_joins x l y =
+    ap (λ (z : List ℕ). mapped (λ (fs : List Field). Inet6 (pair6 (x ++ y)) fs) (fields_at (length z) 36 z)) (drop_at x y 36 l)
+    ∙ ap (λ (p : SocketAddrPair). mapped (λ (fs : List Field). Inet6 p fs) (fields_at (length y) 36 y)) (pair6_front x y l)
+
+pub unix_joins : (x : List ℕ) → length x ≡ 216 → (y : List ℕ) → unix (x ++ y) ≡ mapped (λ fs. Unix (take 108 x) (drop 108 x) fs) (fields_at (length y) 216 y)
+unix_joins x l y =
+    let a = take-append-le 108 x y (omega arith) in
+    let short = length-drop 108 x in
+    let b : take 108 (drop 108 (x ++ y)) ≡ drop 108 x = ap (take 108) (drop-append-le 108 x y (omega arith)) ∙ take_at (drop 108 x) y 108 (omega arith) in
+    ap (λ (z : List ℕ). mapped (λ (fs : List Field). Unix (take 108 (x ++ y)) (take 108 (drop 108 (x ++ y))) fs) (fields_at (length z) 216 z)) (drop_at x y 216 l)
+    ∙ (λ i. mapped (λ (fs : List Field). Unix (a i) (b i) fs) (fields_at (length y) 216 y))
+
+-- which body it is
+pub as_inet : (head : List ℕ) → is_local head ≡ false → is_family 1 (at head 13) ≡ true → (block : List ℕ) → inet block ≡ body_of head block
+as_inet head other is block = sym (rw (other, is) refl)
+
+pub as_inet6 : (head : List ℕ) → is_local head ≡ false → is_family 1 (at head 13) ≡ false → is_family 2 (at head 13) ≡ true → (block : List ℕ) → inet6 block ≡ body_of head block
+as_inet6 head other not1 is block = sym (rw (other, not1, is) refl)
+
+pub as_unix : (head : List ℕ) → is_local head ≡ false → is_family 1 (at head 13) ≡ false → is_family 2 (at head 13) ≡ false → is_family 3 (at head 13) ≡ true → (block : List ℕ) → unix block ≡ body_of head block
+as_unix head other not1 not2 is block = sym (rw (other, not1, not2, is) refl)

@@ -1,6 +1,0 @@
-use Rattle.std.proofs.Common.{◌≡◌, ◌++◌, take}
-use Rattle.ftp_proxy2.specs.Header.{fields_bytes}
-use Rattle.ftp_proxy2.proofs.encode.put_fields.Given as goal
-
-abbrev pub invariant-loop-field : goal.invariant-loop-field
-invariant-loop-field l = l.out.items ≡ l.fn.out.items ++ fields_bytes (take l.field-index l.fields)
