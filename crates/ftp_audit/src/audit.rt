@@ -6,9 +6,9 @@ ghost use Rattle.ftp_audit.specs.Users.{marks_of};
 ghost use Rattle.ftp_audit.specs.Heard.{notices_on, with_all};
 
 use crate::error::AuditError;
+use crate::{Accounts, Total};
 use ftp_base::Bytes;
 use ftp_events::{Action, Entry};
-use crate::{Accounts, Total};
 use std::alloc::{AllocError, Global};
 use std::marker::Model;
 

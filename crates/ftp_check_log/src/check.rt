@@ -13,8 +13,8 @@ ghost use Rattle.ftp_check_log.specs.CheckOutcome.{TellsRight, TellsEvidence, Te
 use crate::command::{CheckCommand, check_command};
 use crate::status::CheckStatus;
 use crate::telling::{CHECK_HELP, CHECK_VERSION, tell, tell_explanation};
-use ftp_base::{Failed, Sink, Source};
 use crate::{check, explain};
+use ftp_base::{Failed, Sink, Source};
 use ftp_lines::write_all;
 use std::alloc::Global;
 

@@ -4,8 +4,8 @@ ghost use Rattle.std.specs.Prelude.{◌≡◌};
 ghost use Rattle.std.specs.Process.{exit_status};
 ghost use Rattle.ftp_check_log.specs.CheckStatuses.{check_code, after_write, verdict_status, explanation_status};
 
-use ftp_base::Failed;
 use crate::{Explanation, Verdict};
+use ftp_base::Failed;
 use std::process::ExitCode;
 
 #[derive(Clone, Copy, Debug, PartialEq, Eq)]

@@ -6,8 +6,8 @@ ghost use Rattle.ftp_base.specs.Outside.{HasRisen, Writes};
 ghost use Rattle.ftp_lines.specs.Writing.{WritesFront};
 ghost use Rattle.ftp_check_log.specs.VerdictLines.{number_line, due_line, verdict_text, explanation_text};
 
-use ftp_base::{Failed, Sink};
 use crate::{Explanation, Verdict, put_evidence};
+use ftp_base::{Failed, Sink};
 use ftp_event_text::decision_text;
 use ftp_events::Decision;
 use ftp_lines::write_all;

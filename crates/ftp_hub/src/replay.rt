@@ -12,9 +12,9 @@ ghost use Rattle.ftp_hub.specs.OwnSessions.{Knows};
 ghost use Rattle.ftp_hub.specs.Undisturbed.{IsUndisturbed};
 
 use crate::own_sessions::OwnSessions;
+use crate::{Hub, PrepareError};
 use ftp_base::IpAddr;
 use ftp_events::{Entry, Log};
-use crate::{Hub, PrepareError};
 use ftp_options::Options;
 use std::alloc::{AllocError, Global};
 

@@ -13,7 +13,7 @@ use Rattle.ftp_lockout.specs.declared.key.LoginKey.{LoginKey}
 use Rattle.ftp_lockout.specs.declared.places.Place.{Place}
 use Rattle.ftp_lockout.specs.Keys.{same_key}
 use Rattle.ftp_lockout.specs.Failures.{recorded}
-use Rattle.ftp_lockout.specs.Places.{AreBlocks, AreInOrder, AreRoomy, HasGap, IsAt, IsBlock, IsOpen, records_in}
+use Rattle.ftp_lockout.specs.Places.{AreBlocks, AreInKeyOrder, AreRoomy, HasGap, IsAt, IsBlock, IsOpen, records_in}
 use Rattle.ftp_lockout.proofs.Tables.{get_or-get}
 use Rattle.ftp_lockout.proofs.Records.{Records, stands-at, recorded-set, order-set}
 use Rattle.ftp_lockout.proofs.BlockLemmas.{Blocks, get-short, same-got, got-in, got-set, take-set, drop-set, roomy-set, blocks-set, blocks-insert, records-set, records-insert, records-remove, records-halved}
@@ -54,11 +54,11 @@ some-record (x ∷ xs) h = omega arith
 
 module _ {Z : Type 0} where
   -- other failures under the key at a place
-  pub set-all : (bs : Blocks Z) (b : ℕ) (v w : Vec (LoginKey × Failures) Z) (i : ℕ) (f : Failures) → AreInOrder (records_in bs) → AreBlocks bs →
+  pub set-all : (bs : Blocks Z) (b : ℕ) (v w : Vec (LoginKey × Failures) Z) (i : ℕ) (f : Failures) → AreInKeyOrder (records_in bs) → AreBlocks bs →
       slice_get bs b ≡ Some v → i < length v.items →
       ((r : LoginKey × Failures) → slice_get v.items i ≡ Some r → w.items ≡ set v.items i (r.0, f)) → w.cap ≡ v.cap →
       ((key other : LoginKey) → IsAt (records_in bs) key (length (records_in (take b bs)) + i) → recorded (records_in (set bs b w)) other ≡ cond (same_key other key) (Some f) (recorded (records_in bs) other))
-      × AreInOrder (records_in (set bs b w)) × AreBlocks (set bs b w)
+      × AreInKeyOrder (records_in (set bs b w)) × AreBlocks (set bs b w)
   set-all bs b v w i f order blocks got lt is caps =
       let at = stands-at v.items i lt in
       let r = at.0 in
@@ -70,7 +70,7 @@ module _ {Z : Type 0} where
       let old = blocks b v got in
       let len : length w.items ≡ length v.items = ap length (is r at.1) ∙ length-set v.items i (r.0, f) in (
         λ key other here. ap (λ (x : Records). recorded x other) same ∙ recorded-set (records_in bs) place r f order within read key other here,
-        subst AreInOrder (sym same) (order-set (records_in bs) place r f order within read),
+        subst AreInKeyOrder (sym same) (order-set (records_in bs) place r f order within read),
         blocks-set bs b w blocks (record { filled = omega (arith, old.filled, len); few = omega (arith, old.few, len); roomy = omega (arith, old.roomy, caps) }),
       )
 

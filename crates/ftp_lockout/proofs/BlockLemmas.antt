@@ -15,7 +15,7 @@ use Rattle.std.proofs.lemmas.List.Edits.{insert-append_left, insert-append_right
 use Rattle.ftp_lockout.specs.declared.cache.Failures.{Failures}
 use Rattle.ftp_lockout.specs.declared.key.LoginKey.{LoginKey}
 use Rattle.ftp_lockout.specs.Keys.{key_cmp}
-use Rattle.ftp_lockout.specs.Places.{AreBlocks, AreInOrder, AreRoomy, IsAt, IsBlock, IsGapFor, records_in}
+use Rattle.ftp_lockout.specs.Places.{AreBlocks, AreInKeyOrder, AreRoomy, IsAt, IsBlock, IsGapFor, records_in}
 use Rattle.ftp_lockout.proofs.Tables.{all-get, rises-head, rises-tail, rises-cons}
 use Rattle.ftp_lockout.proofs.Records.{Records, keys_total, none_in_order}
 
@@ -82,28 +82,28 @@ all-middle : (P : LoginKey → Type 0) (xs : Records) (f : LoginKey × Failures)
 all-middle P [] f ys all = all.0
 all-middle P (x ∷ xs) f ys all = all-middle P xs f ys all.1
 
-pub order-back : (xs ys : Records) → AreInOrder (xs ++ ys) → AreInOrder ys
+pub order-back : (xs ys : Records) → AreInKeyOrder (xs ++ ys) → AreInKeyOrder ys
 order-back [] ys order = order
 order-back (x ∷ xs) ys order = order-back xs ys (rises-tail keys_total x (xs ++ ys) order)
 
-pub order-front : (xs ys : Records) → AreInOrder (xs ++ ys) → AreInOrder xs
+pub order-front : (xs ys : Records) → AreInKeyOrder (xs ++ ys) → AreInKeyOrder xs
 order-front [] ys order = none_in_order
 order-front (x ∷ xs) ys order =
     rises-cons keys_total x xs (all-front (λ y. key_cmp x.0 y ≡ Less) xs ys (rises-head keys_total x (xs ++ ys) order)) (order-front xs ys (rises-tail keys_total x (xs ++ ys) order))
 
 -- what stands before a record is below it, and what stands behind it above
-lower-before : (xs : Records) (f : LoginKey × Failures) (ys : Records) → AreInOrder (xs ++ f ∷ ys) → (i : ℕ) (r : LoginKey × Failures) → slice_get xs i ≡ Some r → key_cmp r.0 f.0 ≡ Less
+lower-before : (xs : Records) (f : LoginKey × Failures) (ys : Records) → AreInKeyOrder (xs ++ f ∷ ys) → (i : ℕ) (r : LoginKey × Failures) → slice_get xs i ≡ Some r → key_cmp r.0 f.0 ≡ Less
 lower-before [] f ys order i r got = cc
 lower-before (x ∷ xs) f ys order zero r got =
     let here : x ≡ r = cc in
     subst (λ (e : LoginKey × Failures). key_cmp e.0 f.0 ≡ Less) here (all-middle (λ y. key_cmp x.0 y ≡ Less) xs f ys (rises-head keys_total x (xs ++ f ∷ ys) order))
 lower-before (x ∷ xs) f ys order (suc i) r got = lower-before xs f ys (rises-tail keys_total x (xs ++ f ∷ ys) order) i r got
 
-higher-behind : (f : LoginKey × Failures) (ys : Records) → AreInOrder (f ∷ ys) → (i : ℕ) (r : LoginKey × Failures) → slice_get ys i ≡ Some r → key_cmp f.0 r.0 ≡ Less
+higher-behind : (f : LoginKey × Failures) (ys : Records) → AreInKeyOrder (f ∷ ys) → (i : ℕ) (r : LoginKey × Failures) → slice_get ys i ≡ Some r → key_cmp f.0 r.0 ≡ Less
 higher-behind f ys order i r got = all-get (λ y. key_cmp f.0 y ≡ Less) ys i r (rises-head keys_total f ys order) got
 
 -- where a record is not above a key, what stands before it is below the key
-pub below_key : (xs : Records) (f : LoginKey × Failures) (ys : Records) (k : LoginKey) → AreInOrder (xs ++ f ∷ ys) → key_cmp f.0 k ≢ Greater →
+pub below_key : (xs : Records) (f : LoginKey × Failures) (ys : Records) (k : LoginKey) → AreInKeyOrder (xs ++ f ∷ ys) → key_cmp f.0 k ≢ Greater →
     (i : ℕ) (r : LoginKey × Failures) → slice_get xs i ≡ Some r → key_cmp r.0 k ≡ Less
 below_key xs f ys k order above i r got = by (key_cmp f.0 k) refl where
   less : key_cmp r.0 f.0 ≡ Less
@@ -115,7 +115,7 @@ below_key xs f ys k order above i r got = by (key_cmp f.0 k) refl where
   by Greater is = absurd (above is)
 
 -- where a record is above a key, so is what stands behind it
-pub above_key : (f : LoginKey × Failures) (ys : Records) (k : LoginKey) → AreInOrder (f ∷ ys) → key_cmp f.0 k ≡ Greater →
+pub above_key : (f : LoginKey × Failures) (ys : Records) (k : LoginKey) → AreInKeyOrder (f ∷ ys) → key_cmp f.0 k ≡ Greater →
     (i : ℕ) (r : LoginKey × Failures) → slice_get (f ∷ ys) i ≡ Some r → key_cmp k r.0 ≡ Less
 above_key f ys k order above i r got = by i got where
   first : key_cmp k f.0 ≡ Less
@@ -269,7 +269,7 @@ module _ {Z : Type 0} where
   -- ---- searches
 
   -- what stands from a block on that begins above a key, and before one that does not
-  pub block-above : (bs : Blocks Z) (b : ℕ) (v : Vec (LoginKey × Failures) Z) (k : LoginKey) → AreInOrder (records_in bs) → AreBlocks bs → slice_get bs b ≡ Some v →
+  pub block-above : (bs : Blocks Z) (b : ℕ) (v : Vec (LoginKey × Failures) Z) (k : LoginKey) → AreInKeyOrder (records_in bs) → AreBlocks bs → slice_get bs b ≡ Some v →
       ((r : LoginKey × Failures) → slice_get v.items 0 ≡ Some r → true ≡ is_gt (key_cmp r.0 k)) →
       (i : ℕ) (r : LoginKey × Failures) → slice_get (records_in (drop b bs)) i ≡ Some r → key_cmp k r.0 ≡ Less
   block-above bs b v k order blocks got greater i r there =
@@ -277,17 +277,17 @@ module _ {Z : Type 0} where
       let rest = records_in (drop (suc b) bs) in
       let whole : records_in bs ≡ records_in (take b bs) ++ (h.0 ∷ (h.1 ++ rest)) = parted_at bs b v got ∙ ap (λ (x : Records). records_in (take b bs) ++ (x ++ rest)) h.2 in
       let from : records_in (drop b bs) ≡ h.0 ∷ (h.1 ++ rest) = from_block bs b v got ∙ ap (λ (x : Records). x ++ rest) h.2 in
-      let ordered : AreInOrder (h.0 ∷ (h.1 ++ rest)) = order-back (records_in (take b bs)) (h.0 ∷ (h.1 ++ rest)) (subst AreInOrder whole order) in
+      let ordered : AreInKeyOrder (h.0 ∷ (h.1 ++ rest)) = order-back (records_in (take b bs)) (h.0 ∷ (h.1 ++ rest)) (subst AreInKeyOrder whole order) in
       above_key h.0 (h.1 ++ rest) k ordered (gt-is (key_cmp h.0.0 k) (sym (greater h.0 (ap (λ (x : Records). slice_get x 0) h.2)))) i r (subst (λ (x : Records). slice_get x i ≡ Some r) from there)
 
-  pub block-below : (bs : Blocks Z) (b : ℕ) (v : Vec (LoginKey × Failures) Z) (k : LoginKey) → AreInOrder (records_in bs) → AreBlocks bs → slice_get bs b ≡ Some v →
+  pub block-below : (bs : Blocks Z) (b : ℕ) (v : Vec (LoginKey × Failures) Z) (k : LoginKey) → AreInKeyOrder (records_in bs) → AreBlocks bs → slice_get bs b ≡ Some v →
       ((r : LoginKey × Failures) → slice_get v.items 0 ≡ Some r → false ≡ is_gt (key_cmp r.0 k)) →
       (i : ℕ) (r : LoginKey × Failures) → slice_get (records_in (take b bs)) i ≡ Some r → key_cmp r.0 k ≡ Less
   block-below bs b v k order blocks got other i r there =
       let h = first-of v.items (blocks b v got).filled in
       let rest = records_in (drop (suc b) bs) in
       let whole : records_in bs ≡ records_in (take b bs) ++ (h.0 ∷ (h.1 ++ rest)) = parted_at bs b v got ∙ ap (λ (x : Records). records_in (take b bs) ++ (x ++ rest)) h.2 in
-      below_key (records_in (take b bs)) h.0 (h.1 ++ rest) k (subst AreInOrder whole order) (no-gt (key_cmp h.0.0 k) (sym (other h.0 (ap (λ (x : Records). slice_get x 0) h.2)))) i r there
+      below_key (records_in (take b bs)) h.0 (h.1 ++ rest) k (subst AreInKeyOrder whole order) (no-gt (key_cmp h.0.0 k) (sym (other h.0 (ap (λ (x : Records). slice_get x 0) h.2)))) i r there
 
   -- nothing stands behind the last block
   pub none-behind : (bs : Blocks Z) (i : ℕ) (r : LoginKey × Failures) → slice_get (records_in (drop (length bs) bs)) i ≡ Some r → ⊥
@@ -305,10 +305,10 @@ module _ {Z : Type 0} where
   gap-none (v ∷ bs) n k none = absurd (omega (arith, none))
 
   -- what stands in a block, among all records
-  pub order-of : (bs : Blocks Z) (b : ℕ) (v : Vec (LoginKey × Failures) Z) → AreInOrder (records_in bs) → slice_get bs b ≡ Some v → AreInOrder v.items
+  pub order-of : (bs : Blocks Z) (b : ℕ) (v : Vec (LoginKey × Failures) Z) → AreInKeyOrder (records_in bs) → slice_get bs b ≡ Some v → AreInKeyOrder v.items
   order-of bs b v order got =
       order-front v.items (records_in (drop (suc b) bs))
-      (order-back (records_in (take b bs)) (v.items ++ records_in (drop (suc b) bs)) (subst AreInOrder (parted_at bs b v got) order))
+      (order-back (records_in (take b bs)) (v.items ++ records_in (drop (suc b) bs)) (subst AreInKeyOrder (parted_at bs b v got) order))
 
   pub at-in : (bs : Blocks Z) (b : ℕ) (v : Vec (LoginKey × Failures) Z) (k : LoginKey) (i : ℕ) → slice_get bs b ≡ Some v → IsAt v.items k i →
       IsAt (records_in bs) k (length (records_in (take b bs)) + i)

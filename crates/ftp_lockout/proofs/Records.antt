@@ -16,7 +16,7 @@ use Rattle.ftp_lockout.specs.declared.cache.Failures.{Failures}
 use Rattle.ftp_lockout.specs.declared.key.LoginKey.{LoginKey}
 use Rattle.ftp_lockout.specs.Keys.{key_cmp, same_key}
 use Rattle.ftp_lockout.specs.Failures.{recorded, is_expired, swept}
-use Rattle.ftp_lockout.specs.Places.{AreInOrder, IsAt, IsGapFor}
+use Rattle.ftp_lockout.specs.Places.{AreInKeyOrder, IsAt, IsGapFor}
 use Rattle.ftp_lockout.proofs.Tables.{get_or-get, get-within, keys-set, lookup-set, lookup-remove, lookup-insert, lookup-same, lookup-found, lookup-gap, rises-insert, rises-remove, rises-filter, rises-cons, comparisons_climb}
 
 abbrev pub Records : Type 0
@@ -29,11 +29,11 @@ keys_total =
     (then_total (on_total (λ (k : LoginKey). k.version) nat_cmp_total) (on_total (λ (k : LoginKey). k.number) nat_cmp_total))
     (on_total (λ (k : LoginKey). k.name) nat_list_cmp_total)
 
-pub none_in_order : AreInOrder []
+pub none_in_order : AreInKeyOrder []
 unfolding IsStrictlySortedBy
 none_in_order = tt
 
-pub one_in_order : (e : LoginKey × Failures) → AreInOrder (e ∷ [])
+pub one_in_order : (e : LoginKey × Failures) → AreInKeyOrder (e ∷ [])
 one_in_order e = rises-cons keys_total e [] tt none_in_order
 
 -- what is within a list stands at a place
@@ -52,17 +52,17 @@ get-read (e ∷ es) (suc i) r lt read = get-read es i r (omega arith) read
 ties : (r k other : LoginKey) → key_cmp r k ≡ Equal → same_key other r ≡ same_key other k
 ties r k other tie = ap is_eq (alike_right keys_total r k other tie)
 
-pub recorded-set : (es : Records) (i : ℕ) (r : LoginKey × Failures) (f : Failures) → AreInOrder es → i < length es → r ≡ get_or es i r →
+pub recorded-set : (es : Records) (i : ℕ) (r : LoginKey × Failures) (f : Failures) → AreInKeyOrder es → i < length es → r ≡ get_or es i r →
     (k other : LoginKey) → IsAt es k i → recorded (set es i (r.0, f)) other ≡ cond (same_key other k) (Some f) (recorded es other)
 recorded-set es i r f order lt read k other is_at =
     let got = get-read es i r lt read in
     lookup-set keys_total es i r f other order got
     ∙ ap (λ (b : Bool). cond b (Some f) (recorded es other)) (ties r.0 k other (is_at.here r got))
 
-pub order-set : (es : Records) (i : ℕ) (r : LoginKey × Failures) (f : Failures) → AreInOrder es → i < length es → r ≡ get_or es i r → AreInOrder (set es i (r.0, f))
+pub order-set : (es : Records) (i : ℕ) (r : LoginKey × Failures) (f : Failures) → AreInKeyOrder es → i < length es → r ≡ get_or es i r → AreInKeyOrder (set es i (r.0, f))
 order-set es i r f order lt read = subst (λ (ks : List LoginKey). IsStrictlySortedBy key_cmp ks) (sym (keys-set es i r f (get-read es i r lt read))) order
 
-pub recorded-taken : (es new : Records) (i : ℕ) → AreInOrder es → new ≡ remove es i →
+pub recorded-taken : (es new : Records) (i : ℕ) → AreInKeyOrder es → new ≡ remove es i →
     (k other : LoginKey) → IsAt es k i → recorded new other ≡ cond (same_key other k) None (recorded es other)
 recorded-taken es new i order is k other is_at =
     let there = stands-at es i is_at.within in
@@ -70,25 +70,25 @@ recorded-taken es new i order is k other is_at =
     ∙ lookup-remove keys_total es i there.0 other order there.1
     ∙ ap (λ (b : Bool). cond b None (recorded es other)) (ties there.0.0 k other (is_at.here there.0 there.1))
 
-pub recorded-remove : (es : Records) (i : ℕ) (r : LoginKey × Failures) → AreInOrder es → i < length es → r ≡ get_or es i r →
+pub recorded-remove : (es : Records) (i : ℕ) (r : LoginKey × Failures) → AreInKeyOrder es → i < length es → r ≡ get_or es i r →
     (k other : LoginKey) → IsAt es k i → recorded (remove es i) other ≡ cond (same_key other k) None (recorded es other)
 recorded-remove es i r order lt read k other is_at =
     let got = get-read es i r lt read in
     lookup-remove keys_total es i r other order got
     ∙ ap (λ (b : Bool). cond b None (recorded es other)) (ties r.0 k other (is_at.here r got))
 
-pub order-remove : (es : Records) (i : ℕ) → AreInOrder es → AreInOrder (remove es i)
+pub order-remove : (es : Records) (i : ℕ) → AreInKeyOrder es → AreInKeyOrder (remove es i)
 order-remove es i order = rises-remove keys_total es i order
 
 pub recorded-insert : (es : Records) (i : ℕ) (k : LoginKey) (f : Failures) → IsGapFor es k i →
     (other : LoginKey) → recorded (insert es i (k, f)) other ≡ cond (same_key other k) (Some f) (recorded es other)
 recorded-insert es i k f gap other = lookup-insert keys_total es i k f other gap.lower
 
-pub order-insert : (es : Records) (i : ℕ) (k : LoginKey) (f : Failures) → AreInOrder es → IsGapFor es k i → AreInOrder (insert es i (k, f))
+pub order-insert : (es : Records) (i : ℕ) (k : LoginKey) (f : Failures) → AreInKeyOrder es → IsGapFor es k i → AreInKeyOrder (insert es i (k, f))
 order-insert es i k f order gap = rises-insert keys_total es i k f order gap.lower gap.higher
 
 -- the record of a key at a place, and of one that has none
-pub recorded-found : (es : Records) (i : ℕ) (r : LoginKey × Failures) (k : LoginKey) → AreInOrder es → i < length es → r ≡ get_or es i r → IsAt es k i → recorded es k ≡ Some r.1
+pub recorded-found : (es : Records) (i : ℕ) (r : LoginKey × Failures) (k : LoginKey) → AreInKeyOrder es → i < length es → r ≡ get_or es i r → IsAt es k i → recorded es k ≡ Some r.1
 recorded-found es i r k order lt read is_at =
     let got = get-read es i r lt read in lookup-found keys_total es i r k order got (is_at.here r got)
 
@@ -121,17 +121,17 @@ kept_is policy at (Some f) = by (is_expired policy at f) where
   by true = refl
   by false = refl
 
-pub recorded-filter : (policy : FailedLoginsPolicy) (at : ℕ) (es : Records) → AreInOrder es →
+pub recorded-filter : (policy : FailedLoginsPolicy) (at : ℕ) (es : Records) → AreInKeyOrder es →
     (k : LoginKey) → recorded (filter (λ e. not (is_expired policy at e.1)) es) k ≡ swept policy at (recorded es k)
 recorded-filter policy at es order k =
     lookup-filter-values (eq_by_cmp_equiv keys_total) (λ f. not (is_expired policy at f)) k es (IsDistinct-from_sorted key_cmp (keys_of es) order)
     ∙ kept_is policy at (recorded es k)
 
-pub order-filter : (p : LoginKey × Failures → Bool) (es : Records) → AreInOrder es → AreInOrder (filter p es)
+pub order-filter : (p : LoginKey × Failures → Bool) (es : Records) → AreInKeyOrder es → AreInKeyOrder (filter p es)
 order-filter p es order = rises-filter keys_total p es order
 
 -- a binary search ends at the key, or where it would go
-pub searched : (es : Records) (k : LoginKey) (r : Result ℕ ℕ) → AreInOrder es → IsSearchInRange r (length es) → IsBinarySearchResult (λ e. key_cmp e.0 k) es r →
+pub searched : (es : Records) (k : LoginKey) (r : Result ℕ ℕ) → AreInKeyOrder es → IsSearchInRange r (length es) → IsBinarySearchResult (λ e. key_cmp e.0 k) es r →
     IfOk r (IsAt es k) × IfErr r (IsGapFor es k)
 searched es k (Ok i) order within equal =
     (record { within = within; here = λ r got. ap (λ (x : LoginKey × Failures). key_cmp x.0 k) (sym (get_or-get es i r r got)) ∙ equal r }, tt)

@@ -11,8 +11,8 @@ use Rattle.ftp_lockout.specs.declared.key.LoginKey.{LoginKey}
 use Rattle.ftp_lockout.specs.Keys.{key_cmp}
 
 -- the keys of the records rise
-abbrev pub AreInOrder : List (LoginKey × Failures) → Type 0
-AreInOrder records = IsStrictlySortedBy key_cmp (keys_of records)
+abbrev pub AreInKeyOrder : List (LoginKey × Failures) → Type 0
+AreInKeyOrder records = IsStrictlySortedBy key_cmp (keys_of records)
 
 -- the records of all blocks, one block after the other
 abbrev pub records_in : {Z : Type 0} → List (Vec (LoginKey × Failures) Z) → List (LoginKey × Failures)

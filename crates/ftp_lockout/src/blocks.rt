@@ -4,7 +4,7 @@ ghost use Rattle.std.specs.Prelude.{◌≡◌, ◌<◌, ◌≤◌, ◌∷◌, []
 ghost use Rattle.std.specs.List.{insert, remove};
 ghost use Rattle.ftp_lockout.specs.Keys.{same_key};
 ghost use Rattle.ftp_lockout.specs.Failures.{recorded};
-ghost use Rattle.ftp_lockout.specs.Places.{AreBlocks, AreInOrder, AreRoomy, HasGap, HasPlace, IsAt, IsOpen, place_in, records_in};
+ghost use Rattle.ftp_lockout.specs.Places.{AreBlocks, AreInKeyOrder, AreRoomy, HasGap, HasPlace, IsAt, IsOpen, place_in, records_in};
 
 use crate::cache::Failures;
 use crate::key::LoginKey;
@@ -36,12 +36,12 @@ pub(crate) fn make_room(blocks: &mut Vec<Block>, next: &mut Block) -> Result<(),
 
 /// Sets what is recorded of the key at the place.
 pub(crate) fn set_at(blocks: &mut Vec<Block>, place: Place, failures: Failures)
-    requires order { AreInOrder (records_in blocks.old.items) }
+    requires order { AreInKeyOrder (records_in blocks.old.items) }
     requires blocks { AreBlocks blocks.old.items }
     requires place { HasPlace blocks.old.items place }
     ensures recorded { (key other : LoginKey) → IsAt (records_in blocks.old.items) key (place_in blocks.old.items place) →
         recorded (records_in blocks.new.items) other ≡ (if same_key other key then Some failures else recorded (records_in blocks.old.items) other) }
-    ensures order { AreInOrder (records_in blocks.new.items) }
+    ensures order { AreInKeyOrder (records_in blocks.new.items) }
     ensures blocks { AreBlocks blocks.new.items }
     ensures len { vec_len blocks.new ≡ vec_len blocks.old }
     ensures capacity { vec_capacity blocks.new ≡ vec_capacity blocks.old }

@@ -4,7 +4,7 @@ ghost use Rattle.std.specs.Prelude.{◌≡◌, ◌<◌, ◌≤◌, ◌∷◌, Li
 ghost use Rattle.ftp_lockout.specs.Keys.{key_of, key_lent, same_key};
 ghost use Rattle.ftp_lockout.specs.Failures.{recorded, failures_of, is_expired, one_more, lock_state, is_locked, let_in, swept};
 ghost use Rattle.ftp_lockout.specs.Tally.{Call, StandsFor, Failed, Succeeded, Swept};
-ghost use Rattle.ftp_lockout.specs.Places.{AreBlocks, AreInOrder, HasGap, IsGapFor, place_in, records_in};
+ghost use Rattle.ftp_lockout.specs.Places.{AreBlocks, AreInKeyOrder, HasGap, IsGapFor, place_in, records_in};
 
 use crate::blocks::{Block, begin, drop_empty, make_room, open_block, put_at, set_at, take_at};
 use crate::key::{LentKey, LoginKey, lent_key};
@@ -37,13 +37,13 @@ pub struct FailedLoginsCache {
 impl Model for FailedLoginsCache {
     ghost use Rattle.std.specs.Prelude.{◌≡◌, ◌-◌, ◌/◌, [], min, vec_len, vec_capacity};
     ghost use Rattle.ftp_lockout.specs.Failures.{Table};
-    ghost use Rattle.ftp_lockout.specs.Places.{AreBlocks, AreInOrder, records_in};
+    ghost use Rattle.ftp_lockout.specs.Places.{AreBlocks, AreInKeyOrder, records_in};
 
     ghost Value = { Table };
 
     ghost view = { λ c. record { policy = c.policy; records = records_in c.blocks.items; spare = min (vec_capacity c.blocks - vec_len c.blocks) (vec_capacity c.next / 128) } };
 
-    ghost invariant = { λ c. AreInOrder (records_in c.blocks.items) × AreBlocks c.blocks.items × (c.next.items ≡ []) };
+    ghost invariant = { λ c. AreInKeyOrder (records_in c.blocks.items) × AreBlocks c.blocks.items × (c.next.items ≡ []) };
 }
 
 impl FailedLoginsCache {
@@ -153,13 +153,13 @@ fn count(
     policy: FailedLoginsPolicy,
     at: u64,
 ) -> Result<u32, AllocError>
-    requires order { AreInOrder (records_in blocks.old.items) }
+    requires order { AreInKeyOrder (records_in blocks.old.items) }
     requires blocks { AreBlocks blocks.old.items }
     requires empty { next.old.items ≡ [] }
     ensures counted { OnOk result ((other : LoginKey) → recorded (records_in blocks.new.items) other ≡ (if same_key other key
         then Some (one_more policy at (recorded (records_in blocks.old.items) other)) else recorded (records_in blocks.old.items) other)) }
     ensures count { IfOk result (λ count. count ≡ (one_more policy at (recorded (records_in blocks.old.items) key)).count) }
-    ensures order { AreInOrder (records_in blocks.new.items) }
+    ensures order { AreInKeyOrder (records_in blocks.new.items) }
     ensures blocks { AreBlocks blocks.new.items }
     ensures empty { next.new.items ≡ [] }
     ensures room { vec_len blocks.old < vec_capacity blocks.old → 128 ≤ vec_capacity next.old → IsOk result }
@@ -188,7 +188,7 @@ fn put(
     place: Place,
     entry: (LoginKey, Failures),
 )
-    requires order { AreInOrder (records_in blocks.old.items) }
+    requires order { AreInKeyOrder (records_in blocks.old.items) }
     requires blocks { AreBlocks blocks.old.items }
     requires key { IsGapFor (records_in blocks.old.items) entry.0 (place_in blocks.old.items place) }
     requires gap { 0 < length blocks.old.items → HasGap blocks.old.items place }
@@ -196,7 +196,7 @@ fn put(
     requires next { 128 ≤ vec_capacity next.old }
     requires empty { next.old.items ≡ [] }
     ensures recorded { (other : LoginKey) → recorded (records_in blocks.new.items) other ≡ (if same_key other entry.0 then Some entry.1 else recorded (records_in blocks.old.items) other) }
-    ensures order { AreInOrder (records_in blocks.new.items) }
+    ensures order { AreInKeyOrder (records_in blocks.new.items) }
     ensures blocks { AreBlocks blocks.new.items }
     ensures empty { next.new.items ≡ [] }
 {
@@ -210,12 +210,12 @@ fn put(
 
 // Removes what is recorded of the key, unless it is locked, and says whether it is.
 fn let_in(blocks: &mut Vec<Block>, key: LentKey<'_>, policy: FailedLoginsPolicy, at: u64) -> bool
-    requires order { AreInOrder (records_in blocks.old.items) }
+    requires order { AreInKeyOrder (records_in blocks.old.items) }
     requires blocks { AreBlocks blocks.old.items }
     ensures locked { result ≡ is_locked policy at (recorded (records_in blocks.old.items) (key_lent key.entry)) }
     ensures removed { (other : LoginKey) → recorded (records_in blocks.new.items) other ≡ (if same_key other (key_lent key.entry)
         then let_in policy at (recorded (records_in blocks.old.items) other) else recorded (records_in blocks.old.items) other) }
-    ensures order { AreInOrder (records_in blocks.new.items) }
+    ensures order { AreInKeyOrder (records_in blocks.new.items) }
     ensures blocks { AreBlocks blocks.new.items }
     ensures len { vec_len blocks.new ≤ vec_len blocks.old }
     ensures capacity { vec_capacity blocks.new ≡ vec_capacity blocks.old }
@@ -232,10 +232,10 @@ fn let_in(blocks: &mut Vec<Block>, key: LentKey<'_>, policy: FailedLoginsPolicy,
 
 // Takes out what has expired.
 fn sweep(blocks: &mut Vec<Block>, policy: FailedLoginsPolicy, at: u64)
-    requires order { AreInOrder (records_in blocks.old.items) }
+    requires order { AreInKeyOrder (records_in blocks.old.items) }
     requires blocks { AreBlocks blocks.old.items }
     ensures recorded { (key : LoginKey) → recorded (records_in blocks.new.items) key ≡ swept policy at (recorded (records_in blocks.old.items) key) }
-    ensures order { AreInOrder (records_in blocks.new.items) }
+    ensures order { AreInKeyOrder (records_in blocks.new.items) }
     ensures blocks { AreBlocks blocks.new.items }
     ensures len { vec_len blocks.new ≤ vec_len blocks.old }
     ensures capacity { vec_capacity blocks.new ≡ vec_capacity blocks.old }

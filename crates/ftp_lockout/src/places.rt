@@ -5,7 +5,7 @@ ghost use Rattle.std.specs.declared.cmp.Ordering.TheVariants.{Less};
 ghost use Rattle.std.specs.Ordering.{is_gt};
 ghost use Rattle.ftp_lockout.specs.Keys.{key_cmp, key_lent};
 ghost use Rattle.ftp_lockout.specs.Failures.{recorded};
-ghost use Rattle.ftp_lockout.specs.Places.{AreBlocks, AreInOrder, HasGap, HasPlace, IsAt, IsGapFor, place_in, records_in};
+ghost use Rattle.ftp_lockout.specs.Places.{AreBlocks, AreInKeyOrder, HasGap, HasPlace, IsAt, IsGapFor, place_in, records_in};
 
 use crate::blocks::Block;
 use crate::cache::Failures;
@@ -21,7 +21,7 @@ pub(crate) struct Place {
 // The last block that begins with no higher key; the first, where there is none.
 fn block_of(blocks: &[Block], key: LentKey<'_>) -> usize
     requires some { 0 < length blocks.now }
-    requires order { AreInOrder (records_in blocks.now) }
+    requires order { AreInKeyOrder (records_in blocks.now) }
     requires blocks { AreBlocks blocks.now }
     ensures within { result < length blocks.now }
     ensures lower { (i : ℕ) (r : LoginKey × Failures) → slice_get (records_in (take result blocks.now)) i ≡ Some r → key_cmp r.0 (key_lent key.entry) ≡ Less }
@@ -50,7 +50,7 @@ fn begins_higher(block: &Block, key: LentKey<'_>) -> bool
 
 /// The place of the key, or the place where it would go.
 pub(crate) fn place_of(blocks: &[Block], key: LentKey<'_>) -> Result<Place, Place>
-    requires order { AreInOrder (records_in blocks.now) }
+    requires order { AreInKeyOrder (records_in blocks.now) }
     requires blocks { AreBlocks blocks.now }
     ensures found { IfOk result (λ p. IsAt (records_in blocks.now) (key_lent key.entry) (place_in blocks.now p)) }
     ensures place { IfOk result (HasPlace blocks.now) }
@@ -69,7 +69,7 @@ pub(crate) fn place_of(blocks: &[Block], key: LentKey<'_>) -> Result<Place, Plac
 
 /// What is recorded at the place.
 pub(crate) fn failures_at(blocks: &[Block], place: Place) -> Failures
-    requires order { AreInOrder (records_in blocks.now) }
+    requires order { AreInKeyOrder (records_in blocks.now) }
     requires place { HasPlace blocks.now place }
     ensures { (key : LoginKey) → IsAt (records_in blocks.now) key (place_in blocks.now place) → recorded (records_in blocks.now) key ≡ Some result }
 {
@@ -78,7 +78,7 @@ pub(crate) fn failures_at(blocks: &[Block], place: Place) -> Failures
 
 // The place of the key in a block, or the place where it would go.
 fn place_in_block(block: &Block, key: LentKey<'_>) -> Result<usize, usize>
-    requires { AreInOrder block.now.items }
+    requires { AreInKeyOrder block.now.items }
     ensures found { IfOk result (IsAt block.now.items (key_lent key.entry)) }
     ensures absent { IfErr result (IsGapFor block.now.items (key_lent key.entry)) }
 {

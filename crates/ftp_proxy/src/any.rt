@@ -7,13 +7,13 @@ ghost use Rattle.ftp_base.specs.Memory.{LinkMet};
 ghost use Rattle.ftp_base.specs.Outside.{HasRisen};
 ghost use Rattle.ftp_proxy.specs.Any.{IsAnyAnswer, IsAnyTaken, IsAnyRead, any_failed, as_version1, as_version2, counts_as, refusal_as, answered};
 
-use crate::v2_error::Proxy2Error;
 use crate::head::{HEAD, SIGNATURE};
+use crate::v2_error::Proxy2Error;
 use crate::v2_header::{Body, Header2};
 use crate::v2_reader::read_from;
 use crate::version1::{read_behind, read_byte};
-use ftp_base::Source;
 use crate::{ProxyError, ProxyHeader, ReadError};
+use ftp_base::Source;
 use std::alloc::Global;
 
 /// The family byte of a stream over IP version 4.
@@ -53,7 +53,7 @@ impl From<ProxyError> for AnyError {
 /// # Proved
 ///
 /// - A header of either version is read as by the reader of the version that the first byte tells, with all that this
-///   reader says; what it counts as is a function of that (`answered` in `ftp_proxy2/specs/Any.antt`) (`header`,
+///   reader says; what it counts as is a function of that (`answered` in `ftp_proxy/specs/Any.antt`) (`header`,
 ///   `taken`, `last_fault`, `met`, `unlisted`, `as_listed`, `fault_rose`, `only_reads`; also `to_answer`).
 pub fn read_proxy_any<S: Source>(alloc: Global, source: &mut S) -> Result<AnyHeader, AnyError>
     ensures header { IfSome (S.left source.old) (λ left. IsAnyAnswer left result) }

@@ -5,8 +5,8 @@ ghost use Rattle.ftp_proxy.specs.V2Header.{command_of, suits, ip_bytes, pair_byt
 ghost use Rattle.ftp_proxy.specs.V2Header.{in_two_bytes};
 ghost use Rattle.ftp_proxy.specs.declared.v2_error.Encode2Error.TheVariants.{TooLong, Mismatch};
 
-use crate::v2_error::Encode2Error;
 use crate::head::{self, HEAD, INET, INET6, LOCAL, NAME, PROXY, SIGNATURE, UNIX, UNSPEC};
+use crate::v2_error::Encode2Error;
 use crate::v2_header::{Body, Field, Header2};
 use ftp_base::{Bytes, IpAddr, SocketAddrPair};
 use std::alloc::{AllocError, Global};

@@ -9,9 +9,9 @@ ghost use Rattle.ftp_base.specs.Outside.{HasRisen};
 ghost use Rattle.ftp_proxy.specs.V2Header.{IsHeader};
 ghost use Rattle.ftp_proxy.specs.Reading.{needed, block_len, body_of, inet, inet6, unix, pair4, pair6, fields_at, IsAnswer, IsTaken, IsFound, IsReadAs, IsRead, Begun, HeadIs, Fills, Reads, ReadsFrom};
 
-use crate::v2_error::Proxy2Error;
 use crate::fields::fields;
 use crate::head::{self, HEAD, INET, INET6, NAME, UNIX};
+use crate::v2_error::Proxy2Error;
 use crate::v2_header::{Body, Fields, Header2};
 use ftp_base::{Bytes, IpAddr, SocketAddr, SocketAddrPair, Source};
 use std::alloc::Global;

@@ -5,8 +5,8 @@ ghost use Rattle.ftp_proxy.specs.Line.{IsAnswer, IsTaken, IsNext};
 ghost use Rattle.ftp_proxy.specs.Any.{IsLineRead, IsReadLine};
 ghost use Rattle.ftp_proxy.specs.Reading.{ReadsWell, ReadsToFault};
 
-use ftp_base::{Failed, Source};
 use crate::{ProxyError, ProxyHeader, ReadError, read_proxy_header};
+use ftp_base::{Failed, Source};
 
 /// The most bytes that are read for a line.
 const LONGEST: usize = 108;

@@ -15,11 +15,11 @@ ghost use Rattle.ftp_script_run.specs.Audited.{IsNoted, Hearing, Reports, Report
 
 use crate::run::Run;
 use crate::status::Status;
+use crate::{ScriptError, ScriptReader};
 use ftp_audit::Audit;
 use ftp_base::{Failed, Sink, Source};
 use ftp_event_text::Item;
 use ftp_lines::write_all;
-use crate::{ScriptError, ScriptReader};
 use std::alloc::Global;
 
 /// Runs the script line by line, by way of a buffer in which any line fits, and writes a line for each user.

@@ -18,6 +18,7 @@ ghost use Rattle.ftp_options.specs.Builder.{refusal, settings_of};
 ghost use Rattle.ftp_hub.specs.Stands.{Stands, options_of};
 ghost use Rattle.ftp_script_run.specs.Script.{may_stand};
 
+use crate::MAX_FILE;
 use crate::printing::{print_bad_line, print_entry, print_files, print_links};
 use ftp_audit::Audit;
 use ftp_base::{
@@ -31,7 +32,6 @@ use ftp_options::{
     ActivePassiveMode, FailedLoginsPolicy, ListenerMode, Options, PassiveHost, ServerBuilder,
 };
 use ftp_quota::Quota;
-use crate::MAX_FILE;
 use ftp_text::FailingCalls;
 use std::alloc::Global;
 

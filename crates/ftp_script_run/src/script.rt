@@ -24,9 +24,9 @@ use crate::command::{Command, command_of};
 use crate::run::Run;
 use crate::status::Status;
 use crate::telling::tell;
+use crate::{BUFFER_SIZE, ScriptError, ScriptReader};
 use ftp_base::{Sink, Source};
 use ftp_event_text::Item;
-use crate::{BUFFER_SIZE, ScriptError, ScriptReader};
 use std::alloc::Global;
 
 /// Does what the words ask for: runs the script that the source gives, event by event, and writes its printed log, or in

@@ -8,9 +8,9 @@ ghost use Rattle.ftp_script_run.specs.declared.command.Command.TheVariants.{Tell
 ghost use Rattle.ftp_script_run.specs.Commands.{IsLawful, text_of};
 
 use crate::command::Told;
+use crate::stress;
 use ftp_base::{Failed, Sink};
 use ftp_lines::write_all;
-use crate::stress;
 use std::alloc::Global;
 
 /// The commands, in plain words.

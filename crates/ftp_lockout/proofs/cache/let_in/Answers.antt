@@ -2,7 +2,7 @@ use Rattle.std.proofs.Common.{◌≡◌, ◌∙◌, Bool, true, false, cond, Opt
 use Rattle.ftp_lockout.specs.Keys.{key_lent, same_key}
 use Rattle.ftp_lockout.specs.Failures.{recorded, is_locked, let_in}
 use Rattle.ftp_lockout.specs.declared.cache.Failures.{Failures}
-use Rattle.ftp_lockout.specs.Places.{AreInOrder, place_in, records_in}
+use Rattle.ftp_lockout.specs.Places.{AreInKeyOrder, place_in, records_in}
 use Rattle.ftp_lockout.proofs.Records.{recorded-gap, recorded-taken, order-remove, of_same, of_unchanged}
 use Rattle.ftp_lockout.proofs.cache.let_in.Goals as goal
 
@@ -44,4 +44,4 @@ returns-clause-removed c = λ other.
 
 pub returns-clause-order : goal.returns-clause-order
 returns-clause-order c =
-    subst AreInOrder (sym c.take_at.ensures.records) (order-remove (records_in c.args.blocks.now.items) (place_in c.args.blocks.now.items c.in-Ok.place) c.requires.order)
+    subst AreInKeyOrder (sym c.take_at.ensures.records) (order-remove (records_in c.args.blocks.now.items) (place_in c.args.blocks.now.items c.in-Ok.place) c.requires.order)

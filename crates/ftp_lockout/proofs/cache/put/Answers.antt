@@ -1,12 +1,12 @@
 use Rattle.std.proofs.Common.{ℕ, ap, sym, subst, ◌∙◌}
 use Rattle.std.specs.List.{insert}
 use Rattle.ftp_lockout.specs.Failures.{recorded}
-use Rattle.ftp_lockout.specs.Places.{AreInOrder, place_in, records_in}
+use Rattle.ftp_lockout.specs.Places.{AreInKeyOrder, place_in, records_in}
 use Rattle.ftp_lockout.proofs.Records.{Records, one_in_order, recorded-insert, order-insert}
 use Rattle.ftp_lockout.proofs.cache.put.Goals as goal
 
 pub returns-then-is_empty-clause-order : goal.returns-then-is_empty-clause-order
-returns-then-is_empty-clause-order c = subst AreInOrder (sym c.begin.ensures.records) (one_in_order c.args.entry)
+returns-then-is_empty-clause-order c = subst AreInKeyOrder (sym c.begin.ensures.records) (one_in_order c.args.entry)
 
 pub returns-clause-recorded : goal.returns-clause-recorded
 returns-clause-recorded c = λ other.
@@ -28,4 +28,4 @@ returns-clause-order c =
     c.put_at.ensures.records
     ∙ ap (λ (x : Records). insert x (place_in opened.new.blocks.items opened.result) c.args.entry) opened.ensures.records
     ∙ ap (λ (n : ℕ). insert old n c.args.entry) opened.ensures.same in
-    subst AreInOrder (sym same) (order-insert old place c.args.entry.0 c.args.entry.1 c.requires.order c.requires.key)
+    subst AreInKeyOrder (sym same) (order-insert old place c.args.entry.0 c.args.entry.1 c.requires.order c.requires.key)

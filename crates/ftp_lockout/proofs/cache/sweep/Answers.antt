@@ -2,7 +2,7 @@ use Rattle.std.proofs.Common.{not, ap, sym, subst, ◌∙◌, arith}
 use Rattle.ftp_lockout.specs.declared.cache.Failures.{Failures}
 use Rattle.ftp_lockout.specs.declared.key.LoginKey.{LoginKey}
 use Rattle.ftp_lockout.specs.Failures.{recorded, is_expired}
-use Rattle.ftp_lockout.specs.Places.{AreInOrder, records_in}
+use Rattle.ftp_lockout.specs.Places.{AreInKeyOrder, records_in}
 use Rattle.ftp_lockout.proofs.Records.{Records, recorded-filter, order-filter}
 use Rattle.ftp_lockout.proofs.BlockLemmas.{got-read}
 use Rattle.ftp_lockout.proofs.BlockEdits.{swept-more, swept-all}
@@ -39,4 +39,4 @@ returns-clause-order c =
     let old = c.args.blocks.now.items in
     let p = λ (e : LoginKey × Failures). not (is_expired c.args.policy c.args.at e.1) in
     let swept = swept-all bs old c.loop-i.i p (omega (arith, c.loop-i.blocks.ok.0)) (omega (arith, c.loop-i.blocks.ok.0, c.args.blocks.now.ok.0)) c.loop-i.invariant.done in
-    subst AreInOrder (sym (c.drop_empty.ensures.records ∙ swept)) (order-filter p (records_in old) c.requires.order)
+    subst AreInKeyOrder (sym (c.drop_empty.ensures.records ∙ swept)) (order-filter p (records_in old) c.requires.order)
