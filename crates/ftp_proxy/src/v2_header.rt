@@ -71,8 +71,8 @@ impl Model for Fields {
 impl PartialEq for Fields {
     ghost use Rattle.std.specs.Cmp.{partial_equiv_from_equiv};
     ghost use Rattle.std.specs.Cmp.Lexicographic.{pointwise, lists_equiv};
-    ghost use Rattle.ftp_proxy.specs.contracts.header.FieldPartialEq.TheImpl.{ghosts};
-    ghost use Rattle.ftp_proxy.specs.contracts.header.FieldEq.TheImpl.Laws.{laws-law};
+    ghost use Rattle.ftp_proxy.specs.contracts.v2_header.FieldPartialEq.TheImpl.{ghosts};
+    ghost use Rattle.ftp_proxy.specs.contracts.v2_header.FieldEq.TheImpl.Laws.{laws-law};
 
     ghost eq = { pointwise ghosts.eq };
 
@@ -85,7 +85,7 @@ impl PartialEq for Fields {
 
 impl Eq for Fields {
     ghost use Rattle.std.specs.Cmp.Lexicographic.{lists_equiv};
-    ghost use Rattle.ftp_proxy.specs.contracts.header.FieldEq.TheImpl.Laws.{laws-law};
+    ghost use Rattle.ftp_proxy.specs.contracts.v2_header.FieldEq.TheImpl.Laws.{laws-law};
 
     ghost laws = { lists_equiv laws-law };
 }
