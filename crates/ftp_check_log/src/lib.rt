@@ -5,7 +5,7 @@
 //! specs/Explanations.antt and specs/Evidence.antt.
 #![tactic(auto)]
 
-mod check;
+mod check_run;
 mod checker;
 mod command;
 mod evidence;
@@ -19,7 +19,7 @@ mod status;
 mod telling;
 mod verdict;
 
-pub use check::run_check;
+pub use check_run::run_check;
 pub use command::{CheckCommand, check_command};
 pub use evidence::{Evidence, WhyError, put_evidence, why};
 pub use explanation::{Explanation, explain};

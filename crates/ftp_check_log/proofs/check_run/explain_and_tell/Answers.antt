@@ -2,7 +2,7 @@ use Rattle.std.proofs.Common.{sym, ◌∙◌}
 use Rattle.std.proofs.lemmas.Option.{IfSome_then}
 use Rattle.ftp_base.specs.Outside.{HasRisen}
 use Rattle.ftp_check_log.proofs.CheckRunLemmas.{why-outcome, why-told_status, both-some, explained-no_write, explained-no_read, explained-no_usage, after-write_fault, after-no_read, after-no_usage}
-use Rattle.ftp_check_log.proofs.check.explain_and_tell.Goals as goal
+use Rattle.ftp_check_log.proofs.check_run.explain_and_tell.Goals as goal
 
 pub returns-in-Ok-clause-outcome : goal.returns-in-Ok-clause-outcome
 returns-in-Ok-clause-outcome g c =

@@ -9,7 +9,7 @@ use Rattle.ftp_check_log.specs.declared.status.CheckStatus.TheVariants as status
 use Rattle.ftp_check_log.specs.CheckOutcome.{TellsEvidence, TellsWhyPart}
 use Rattle.ftp_check_log.specs.CheckStatuses.{status_due}
 use Rattle.ftp_check_log.proofs.CheckRunLemmas.{other-command, of-command, same-place, no-command, usage-of, some-all, help-no_check, version-no_check, help-no_why, version-no_why, check-no_why, why-no_check, text-no_usage, text-no_entry, text-no_wrong, text-no_bad, why-wrong, why-bad, why-done, why-no_entry, why-part}
-use Rattle.ftp_check_log.proofs.check.run_check.Goals as goal
+use Rattle.ftp_check_log.proofs.check_run.run_check.Goals as goal
 
 pub returns-in-Some-Check-clause-usage : goal.returns-in-Some-Check-clause-usage
 returns-in-Some-Check-clause-usage g c =

@@ -2,7 +2,7 @@ use Rattle.std.proofs.Common.{sym, ◌∙◌}
 use Rattle.std.proofs.lemmas.Option.{IfSome_then}
 use Rattle.ftp_base.specs.Outside.{HasRisen}
 use Rattle.ftp_check_log.proofs.CheckRunLemmas.{told-outcome, told-status, of-no_write, of-no_read, of-no_usage, of-no_entry, after-write_fault, after-no_read, after-no_usage, after-no_entry}
-use Rattle.ftp_check_log.proofs.check.check_and_tell.Goals as goal
+use Rattle.ftp_check_log.proofs.check_run.check_and_tell.Goals as goal
 
 pub returns-in-Ok-clause-outcome : goal.returns-in-Ok-clause-outcome
 returns-in-Ok-clause-outcome g c =
