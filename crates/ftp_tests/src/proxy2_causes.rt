@@ -1,8 +1,7 @@
 //! Why no header of version 2 is read, and why one does not count.
 
 use ftp_base::MemorySource;
-use ftp_proxy::{ProxyError, ReadError};
-use ftp_proxy::{Proxy2Error, read_header2, read_proxy_any, to_answer};
+use ftp_proxy::{Proxy2Error, ProxyError, ReadError, read_header2, read_proxy_any, to_answer};
 use std::test::Fail;
 
 #[test]

@@ -1,8 +1,10 @@
 //! Headers from sources that give them in pieces, and what a header of either version counts as.
 
 use ftp_base::{IpAddr, MemorySource, SocketAddr, SocketAddrPair, Source};
-use ftp_proxy::{ProxyError, ProxyHeader, ReadError};
-use ftp_proxy::{Body, Field, Fields, Header2, encode2, read_header2, read_proxy_any, to_answer};
+use ftp_proxy::{
+    Body, Field, Fields, Header2, ProxyError, ProxyHeader, ReadError, encode2, read_header2,
+    read_proxy_any, to_answer,
+};
 use std::test::Fail;
 
 /// From 192.0.2.7:40000 to 198.51.100.1:2121, over a stream of version 4, without fields.
