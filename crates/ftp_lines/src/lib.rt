@@ -8,6 +8,6 @@ mod control_line;
 mod lines;
 mod writing;
 
-pub use control_line::{Got, Held, LINE_SIZE, next_control_line, widen};
+pub use control_line::{Got, Held, LINE_SIZE, next_control_line};
 pub use lines::{LineError, Span, next_line};
 pub use writing::write_all;

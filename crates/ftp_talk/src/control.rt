@@ -20,8 +20,8 @@ use ftp_events::{Answer, Decision, EventKind, HubEvent};
 use ftp_shared::Desk;
 use std::alloc::Global;
 
-// How many bytes the buffer has until a line is longer.
-const FIRST_SIZE: usize = 512;
+// A buffer in which any line fits, and one byte more.
+const BUFFER_SIZE: usize = 8193;
 
 // The client: behind a proxy the one that the header names.
 fn client_of(raw: IpAddr, answer: &Answer) -> IpAddr
@@ -80,8 +80,8 @@ impl ControlSession {
 
 /// Serves a control connection: submits the opening, greets the client, and serves its lines to their end.
 ///
-/// A line has at most 8,192 bytes with its line feed. It reads into one buffer, of 512 bytes until a line is longer, and of
-/// 8,193 from then on; it waits for a second at most before it looks at the times of the session.
+/// A line has at most 8,192 bytes with its line feed. It reads into one buffer of 8,193 bytes, and waits for a second at
+/// most before it looks at the times of the session.
 ///
 /// # Proved
 ///
@@ -145,10 +145,7 @@ pub fn serve_control<D: Desk, C: Control, E: Edge, A: Authenticator>(
     let Ok(state) = ControlSession::open(alloc, desk.options(), peer) else {
         return ServeEnd::OutOfMemory;
     };
-    let Ok(buffer) = Vec::from_elem(alloc, 0u8, FIRST_SIZE) else {
-        return ServeEnd::OutOfMemory;
-    };
-    let (mut state, mut buffer) = (state, buffer);
+    let mut state = state;
     let Ok(told) = desk.submit(opening, answer) else {
         return ServeEnd::OutOfMemory;
     };
@@ -159,5 +156,6 @@ pub fn serve_control<D: Desk, C: Control, E: Edge, A: Authenticator>(
         state.leave(desk, edge);
         return end_by(failed);
     }
+    let mut buffer = [0u8; BUFFER_SIZE];
     serve_lines(&mut state, desk, control, edge, auth, &mut buffer)
 }

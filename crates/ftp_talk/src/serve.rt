@@ -9,7 +9,7 @@ ghost use Rattle.ftp_talk.specs.Speaking.{Talking, Outcome, IsOf};
 use crate::control_session::ControlSession;
 use crate::serving::ServeEnd;
 use ftp_base::{Authenticator, Control, Edge};
-use ftp_lines::{Got, Held, Span, next_control_line, widen};
+use ftp_lines::{Got, Held, Span, next_control_line};
 use ftp_shared::Desk;
 
 impl ControlSession {
@@ -24,7 +24,7 @@ impl ControlSession {
         held: &mut Held,
     ) -> Option<ServeEnd>
         requires held { IsHeld buffer.old held.old }
-        requires room { length buffer.old ≤ 8193 }
+        requires room { length buffer.old ≡ 8193 }
         ensures goes_on { IfNone result ((g : Ground) → IsOf g D.vouches D.draws_next C.is_always_ready (A.may_answer auth.now) →
             Talking g self.old (E.view edge.old) (D.view desk.old) (C.sending control.old).sent (held_in buffer.old held.old) (C.left control.old) →
             Talking g self.new (E.view edge.new) (D.view desk.new) (C.sending control.new).sent (held_in buffer.new held.new) (C.left control.new)) }
@@ -51,7 +51,6 @@ impl ControlSession {
                 let next = self.serve_long(desk, control, edge);
                 self.proceed(desk, control, edge, next)
             }
-            Ok(Got::Full) => None,
             Ok(Got::End) => Some(self.close(desk, control, edge)),
             Err(_) => {
                 self.leave(desk, edge);
@@ -61,16 +60,16 @@ impl ControlSession {
     }
 }
 
-// Serves the lines to their end, by way of a buffer that becomes one in which any line fits at the first that is longer.
+// Serves the lines to their end, by way of a buffer in which any line fits.
 pub(crate) fn serve_lines<D: Desk, C: Control, E: Edge, A: Authenticator>(
     state: &mut ControlSession,
     desk: &mut D,
     control: &mut C,
     edge: &mut E,
     auth: &A,
-    buffer: &mut Vec<u8>,
+    buffer: &mut [u8],
 ) -> ServeEnd
-    requires room { length buffer.old.items ≤ 8193 }
+    requires room { length buffer.old ≡ 8193 }
     ensures ended { (g : Ground) → IsOf g D.vouches D.draws_next C.is_always_ready (A.may_answer auth.now) →
         Talking g state.old (E.view edge.old) (D.view desk.old) (C.sending control.old).sent [] (C.left control.old) →
         Outcome result g (E.view edge.new) (D.view desk.new) (C.sending control.new).sent }
@@ -83,11 +82,7 @@ pub(crate) fn serve_lines<D: Desk, C: Control, E: Edge, A: Authenticator>(
         scanned: 0,
     };
     for _ in 0..u64::MAX {
-        if widen(buffer, held).is_err() {
-            break;
-        }
-        let bytes = buffer.as_mut_slice();
-        if let Some(end) = state.serve_next(desk, control, edge, auth, bytes, &mut held) {
+        if let Some(end) = state.serve_next(desk, control, edge, auth, buffer, &mut held) {
             return end;
         }
     }

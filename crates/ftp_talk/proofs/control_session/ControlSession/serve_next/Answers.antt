@@ -1,4 +1,4 @@
-use Rattle.std.proofs.Common.{[], ap, ◌∙◌, refl}
+use Rattle.std.proofs.Common.{[], ap, ◌∙◌}
 use Rattle.std.specs.Prelude.{Ok}
 use Rattle.ftp_lines.specs.Lines.{bytes_in}
 use Rattle.ftp_lines.specs.ControlLine.{held_in}
@@ -117,12 +117,3 @@ returns-in-Err-clause-ended g c = λ q is t0.
     let t = talking-sent q c.args.self.now (g.E.Edge.view c.args.edge.now) (g.D.Desk.view c.args.desk.now) (g.C.Source.sending c.args.control.now).sent (g.C.Source.sending c.next_control_line.new.control).sent _ _ c.next_control_line.ensures.sent t0 in
     c.leave.ensures q (g.C.Source.sending c.next_control_line.new.control).sent is.about
     (cut-standing q c.args.self.now _ _ _ _ _ _ _ t.standing (same_edge (g.E.Edge.view c.args.edge.now)) (same_desk (g.D.Desk.view c.args.desk.now)))
-
-pub returns-in-Ok-Full-clause-goes_on : goal.returns-in-Ok-Full-clause-goes_on
-returns-in-Ok-Full-clause-goes_on g c = λ q is t0.
-    let held = held_in c.args.buffer.now c.args.held.now in
-    let held1 = held_in c.next_control_line.new.buffer c.next_control_line.new.held in
-    let told = rw c.in-Ok-Full.field-0-is at c.in-Ok-Full.ensures.told in
-    let t = talking-sent q c.args.self.now (g.E.Edge.view c.args.edge.now) (g.D.Desk.view c.args.desk.now) (g.C.Source.sending c.args.control.now).sent (g.C.Source.sending c.next_control_line.new.control).sent held (g.C.Source.left c.args.control.now) c.next_control_line.ensures.sent t0 in
-    let st = standing-line q c.args.self.now _ _ _ [] held held1 (g.C.Source.left c.args.control.now) (g.C.Source.left c.next_control_line.new.control) t told in
-    talking-on q _ _ _ _ held1 st.0 (g.C.Source.left c.next_control_line.new.control) _ st.1 st.2 refl
