@@ -1,10 +1,19 @@
-//! Keys that passwords derive: PBKDF2 with HMAC and SHA-256 (RFC 8018, section 5.2).
+//! The users of a gateway: a file of users, and hashes of their passwords by PBKDF2 (RFC 8018, section 5.2).
 //!
-//! The key is the one of the standard, and a password is right exactly where its key is the stored one. Begin with
-//! `derived_key`.
+//! The users are those that the lines of the file spell, or the first bad line is named by its number. Begin with `Users` and
+//! specs/Line.antt.
 #![tactic(auto)]
 
 mod hmac;
+mod home;
+mod line;
+mod number;
+mod parts;
 mod pbkdf2;
+mod user;
+mod users;
 
+pub use home::Home;
 pub use pbkdf2::{derived_key, same_key};
+pub use user::{Credential, PasswordHash, Rights, User};
+pub use users::{Users, UsersError};

@@ -1,0 +1,161 @@
+//! The users of a file.
+
+ghost use Rattle.std.specs.Prelude.{◌≡◌, ℕ, ◌++◌, ◌∷◌, [], List, true, not, is_some, if◌then◌else◌, Some, IfOk};
+ghost use Rattle.std.specs.List.{list_all};
+ghost use Rattle.std.specs.Option.{option_copied};
+ghost use Rattle.std.specs.Str.{bytes_eq};
+ghost use Rattle.ftp_users.specs.Users.{is_blank, is_comment, is_passed_over, named, user_named, users_in, is_good_behind, HasUsersOf};
+
+use crate::line::spelled_user;
+use crate::parts::parts;
+use crate::user::User;
+use std::alloc::{AllocError, Global};
+use std::collections::BTreeMap;
+use std::marker::Model;
+
+/// Why a file has no users.
+#[derive(Clone, Copy, Debug, PartialEq, Eq)]
+pub enum UsersError {
+    /// The line of this number spells no user, or one whose name an earlier line has. Lines are counted from 1.
+    Line(u64),
+    OutOfMemory,
+}
+
+impl From<AllocError> for UsersError {
+    ghost use Rattle.std.specs.Prelude.{◌≡◌};
+    ghost use Rattle.ftp_users.specs.declared.users.UsersError.TheVariants as error;
+
+    ghost from_gives = { λ _ e. e ≡ error.OutOfMemory };
+
+    fn from(_e: AllocError) -> UsersError {
+        UsersError::OutOfMemory
+    }
+}
+
+/// Users by their names, which contracts see in byte order.
+#[derive(Drop)]
+pub struct Users {
+    by_name: BTreeMap<Vec<u8>, User>,
+}
+
+impl Model for Users {
+    ghost use Rattle.std.specs.Prelude.{ℕ, List};
+    ghost use Rattle.ftp_users.specs.declared.user.User.{User};
+    ghost use Rattle.ftp_users.specs.Users.{named};
+
+    ghost Value = { List (List ℕ × User) };
+
+    ghost view = { λ u. named u.by_name.entries };
+}
+
+fn is_blank(line: &[u8]) -> bool
+    ensures { result ≡ list_all is_blank line.now }
+{
+    line.iter().all(|b| *b == b' ' || *b == b'\t')
+}
+
+fn is_comment(line: &[u8]) -> bool
+    ensures { result ≡ is_comment line.now }
+{
+    match line {
+        [b'#', ..] => true,
+        _ => false,
+    }
+}
+
+fn is_passed_over(line: &[u8]) -> bool
+    ensures { result ≡ is_passed_over line.now }
+{
+    is_blank(line) || is_comment(line)
+}
+
+// The user of a name.
+fn user_named<'a>(users: &'a BTreeMap<Vec<u8>, User>, name: &[u8]) -> Option<&'a User>
+    ensures { option_copied result ≡ user_named name.now (named users.now.entries) }
+{
+    users.get(name)
+}
+
+// Adds a user, unless there is one of its name, and says whether it did.
+fn add(users: &mut BTreeMap<Vec<u8>, User>, name: Vec<u8>, user: User) -> Result<bool, AllocError>
+    ensures added { IfOk result (λ added. added ≡ not (is_some (user_named name.items (named users.old.entries)))) }
+    ensures users { IfOk result (λ added. added ≡ true → (q : List ℕ) → user_named q (named users.new.entries) ≡ (if bytes_eq q name.items then Some user else user_named q (named users.old.entries))) }
+{
+    if user_named(users, name.as_slice()).is_some() {
+        return Ok(false);
+    }
+    users.insert(name, user)?;
+    Ok(true)
+}
+
+// Takes in a line, and says whether it is good behind the lines before it.
+fn take_line(
+    alloc: Global,
+    users: &mut BTreeMap<Vec<u8>, User>,
+    line: &[u8],
+) -> Result<bool, AllocError>
+    ensures good { (before : List (List ℕ)) → HasUsersOf users.old.entries before → IfOk result (λ good. good ≡ is_good_behind before line.now) }
+    ensures users { (before : List (List ℕ)) → HasUsersOf users.old.entries before → IfOk result (λ good. good ≡ true → HasUsersOf users.new.entries (before ++ line.now ∷ [])) }
+{
+    if is_passed_over(line) {
+        return Ok(true);
+    }
+    match spelled_user(alloc, line)? {
+        Some((name, user)) => add(users, name.into_vec(), user),
+        None => Ok(false),
+    }
+}
+
+impl Users {
+    ghost use Rattle.std.specs.Prelude.{◌≡◌, ℕ, List, map, IfOk, IfErr};
+    ghost use Rattle.std.specs.Option.{option_copied};
+    ghost use Rattle.ftp_users.specs.Users.{lines_of_file, users_in, user_named, AreGood};
+    ghost use Rattle.ftp_users.specs.Faults.{NamesFirstBad};
+
+    /// Reads a file of users, with a line `NAME:HASH:RIGHTS:HOME` or `NAME:HASH:RIGHTS:HOME:BUDGET` for each. Blank lines,
+    /// and those that begin with `#`, are passed over.
+    ///
+    /// HASH is `$pbkdf2-sha256$ROUNDS$SALT$KEY`, the last two in hexadecimal digits, or `*` where every password is right,
+    /// or `!` where none is. RIGHTS are `rw` or `ro`. HOME is an absolute path. BUDGET is a number of bytes, or of the power
+    /// of 1024 that `K`, `M` or `G` behind it stands for.
+    ///
+    /// # Proved
+    ///
+    /// - The users are those that the lines spell, each with its name, and no two have one name (`users`, `good`).
+    /// - A file is refused exactly where a line spells no user or one whose name an earlier line has, and the error names the
+    ///   first such line (`good`, `line`).
+    pub fn read(alloc: Global, text: &[u8]) -> Result<Users, UsersError>
+        ensures users { IfOk result (λ users. (name : List ℕ) → user_named name users ≡ user_named name (users_in (lines_of_file text.now))) }
+        ensures good { IfOk result (λ _. AreGood (lines_of_file text.now)) }
+        ensures line { IfErr result (λ e. NamesFirstBad e (lines_of_file text.now)) }
+    {
+        let lines = parts(alloc, text, b'\n')?;
+        Users::of_lines(alloc, lines.as_slice())
+    }
+
+    // The users that lines spell.
+    fn of_lines(alloc: Global, lines: &[&[u8]]) -> Result<Users, UsersError>
+        ensures users { IfOk result (λ users. (name : List ℕ) → user_named name users ≡ user_named name (users_in (map (λ l. l.now) lines.now))) }
+        ensures good { IfOk result (λ _. AreGood (map (λ l. l.now) lines.now)) }
+        ensures line { IfErr result (λ e. NamesFirstBad e (map (λ l. l.now) lines.now)) }
+    {
+        let mut by_name = BTreeMap::new(alloc);
+        for (i, line) in lines.iter().enumerate() {
+            if !take_line(alloc, &mut by_name, *line)? {
+                return Err(UsersError::Line(i as u64 + 1));
+            }
+        }
+        Ok(Users { by_name })
+    }
+
+    /// The user of a name, in a time that grows with the logarithm of the count of users.
+    ///
+    /// # Proved
+    ///
+    /// - The user is that of the name, where there is one.
+    pub fn find(&self, name: &[u8]) -> Option<&User>
+        ensures { option_copied result ≡ user_named name.now self.now }
+    {
+        user_named(&self.by_name, name)
+    }
+}
