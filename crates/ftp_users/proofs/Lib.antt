@@ -4,3 +4,4 @@ pub mod Digits
 pub mod PartLemmas
 pub mod NameLemmas
 pub mod LineLemmas
+pub mod VerdictLemmas

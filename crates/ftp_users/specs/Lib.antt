@@ -6,3 +6,4 @@ pub mod Home
 pub mod Line
 pub mod Users
 pub mod Faults
+pub mod Verdict

@@ -4,11 +4,13 @@ ghost use Rattle.std.specs.Prelude.{◌≡◌, ℕ, ◌++◌, ◌∷◌, [], Lis
 ghost use Rattle.std.specs.List.{list_all};
 ghost use Rattle.std.specs.Option.{option_copied};
 ghost use Rattle.std.specs.Str.{bytes_eq};
+ghost use Rattle.ftp_users.specs.Verdict.{tried_hash, said_to};
 ghost use Rattle.ftp_users.specs.Users.{is_blank, is_comment, is_passed_over, named, user_named, users_in, is_good_behind, HasUsersOf};
 
 use crate::line::spelled_user;
 use crate::parts::parts;
-use crate::user::User;
+use crate::user::{Credential, PasswordHash, User};
+use ftp_base::{AuthAnswer, Authenticator, Bytes, IpAddr};
 use std::alloc::{AllocError, Global};
 use std::collections::BTreeMap;
 use std::marker::Model;
@@ -36,6 +38,8 @@ impl From<AllocError> for UsersError {
 #[derive(Drop)]
 pub struct Users {
     by_name: BTreeMap<Vec<u8>, User>,
+    // What a password is tried on where a name has no hash, so that the time does not tell names.
+    stand_in: PasswordHash,
 }
 
 impl Model for Users {
@@ -76,6 +80,41 @@ fn user_named<'a>(users: &'a BTreeMap<Vec<u8>, User>, name: &[u8]) -> Option<&'a
     users.get(name)
 }
 
+// A hash of as many rounds as the users' hashes have at most.
+fn stand_in(alloc: Global, users: &BTreeMap<Vec<u8>, User>) -> PasswordHash {
+    let mut rounds = 1;
+    for user in users.values() {
+        if let Credential::Hash(hash) = &user.credential {
+            rounds = rounds.max(hash.rounds);
+        }
+    }
+    PasswordHash {
+        rounds,
+        salt: Bytes::from_vec(Vec::new(alloc)),
+        key: [0; 32],
+    }
+}
+
+// The hash that a password is tried on.
+fn hash_to_try<'a>(user: Option<&'a User>, stand_in: &'a PasswordHash) -> &'a PasswordHash
+    ensures { result.now ≡ tried_hash (option_copied user.entry) stand_in.now }
+{
+    match user {
+        Some(user) => user.credential.hash_or(stand_in),
+        None => stand_in,
+    }
+}
+
+// What is said where the password is right for the hash that it was tried on, or is not.
+fn answer(user: Option<&User>, right: bool) -> AuthAnswer
+    ensures { result ≡ said_to (option_copied user.entry) right }
+{
+    match user {
+        Some(user) => user.credential.answer(right),
+        None => AuthAnswer::BadUser,
+    }
+}
+
 // Adds a user, unless there is one of its name, and says whether it did.
 fn add(users: &mut BTreeMap<Vec<u8>, User>, name: Vec<u8>, user: User) -> Result<bool, AllocError>
     ensures added { IfOk result (λ added. added ≡ not (is_some (user_named name.items (named users.old.entries)))) }
@@ -107,10 +146,12 @@ fn take_line(
 }
 
 impl Users {
-    ghost use Rattle.std.specs.Prelude.{◌≡◌, ℕ, List, map, IfOk, IfErr};
+    ghost use Rattle.std.specs.Prelude.{◌≡◌, ◌↔◌, ℕ, List, map, IfOk, IfErr};
     ghost use Rattle.std.specs.Option.{option_copied};
     ghost use Rattle.ftp_users.specs.Users.{lines_of_file, users_in, user_named, AreGood};
     ghost use Rattle.ftp_users.specs.Faults.{NamesFirstBad};
+    ghost use Rattle.ftp_base.specs.declared.login.AuthAnswer.TheVariants.{Good};
+    ghost use Rattle.ftp_users.specs.Verdict.{answer_for, MayLogIn};
 
     /// Reads a file of users, with a line `NAME:HASH:RIGHTS:HOME` or `NAME:HASH:RIGHTS:HOME:BUDGET` for each. Blank lines,
     /// and those that begin with `#`, are passed over.
@@ -145,7 +186,8 @@ impl Users {
                 return Err(UsersError::Line(i as u64 + 1));
             }
         }
-        Ok(Users { by_name })
+        let stand_in = stand_in(alloc, &by_name);
+        Ok(Users { by_name, stand_in })
     }
 
     /// The user of a name, in a time that grows with the logarithm of the count of users.
@@ -157,5 +199,40 @@ impl Users {
         ensures { option_copied result ≡ user_named name.now self.now }
     {
         user_named(&self.by_name, name)
+    }
+    /// Says whether a user logs in with a password.
+    ///
+    /// The password is tried on a hash also where nobody has the name, or the user has no hash, so that the time does not tell
+    /// which names there are; no clause says that.
+    ///
+    /// # Proved
+    ///
+    /// - Good is said exactly where the file has a user of the name, and every password lets it in, or the password derives the
+    ///   key of its hash (`good`).
+    /// - Nobody has the name exactly where that is said, a disabled user is said to be disabled, and every other password is
+    ///   refused (`answer`).
+    pub fn verify(&self, name: &[u8], password: &[u8]) -> AuthAnswer
+        ensures answer { result ≡ answer_for (user_named name.now self.now) password.now }
+        ensures good { (result ≡ Good) ↔ MayLogIn self.now name.now password.now }
+    {
+        let user = self.find(name);
+        let right = hash_to_try(user, &self.stand_in).verify(password);
+        answer(user, right)
+    }
+}
+
+impl Authenticator for Users {
+    ghost use Rattle.std.specs.Prelude.{◌≡◌, true};
+    ghost use Rattle.ftp_base.specs.Login.{same_answer};
+    ghost use Rattle.ftp_users.specs.Users.{user_named};
+    ghost use Rattle.ftp_users.specs.Verdict.{answer_for};
+
+    ghost may_answer = { λ users name password source answer. same_answer answer (answer_for (user_named name users) password) };
+
+    fn check(&self, user: &Bytes, password: &Bytes, _source: IpAddr) -> AuthAnswer
+        ensures answer { result ≡ answer_for (user_named user.now self.now) password.now }
+        ensures may { same_answer result (answer_for (user_named user.now self.now) password.now) ≡ true }
+    {
+        self.verify(user.as_slice(), password.as_slice())
     }
 }
