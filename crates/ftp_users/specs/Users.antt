@@ -1,7 +1,7 @@
 -- The users of a file, line by line.
-use Rattle.std.specs.Prelude.{◌≡◌, ℕ, ◌+◌, ◌-◌, ◌<◌, ◌≤◌, ◌==◌, ◌||◌, not, Bool, true, false, List, [], ◌∷◌, length, take, get_or, map, is_some, Vec, Option, Some, None, if◌then◌else◌}
+use Rattle.std.specs.Prelude.{◌≡◌, ℕ, ◌+◌, ◌-◌, ◌<◌, ◌≤◌, ◌==◌, ◌&&◌, ◌||◌, not, Bool, true, false, List, [], ◌∷◌, length, take, get_or, map, is_some, Vec, Option, Some, None, if◌then◌else◌}
 use Rattle.std.specs.Global.{Global}
-use Rattle.std.specs.List.{list_all, filter_map, slice_split}
+use Rattle.std.specs.List.{filter_map, slice_split}
 use Rattle.std.specs.Map.{lookup}
 use Rattle.std.specs.Str.{bytes_eq}
 use Rattle.ftp_users.specs.declared.user.User.{User}
@@ -15,14 +15,10 @@ lines_of_file text = slice_split (is_byte 10) text
 abbrev pub is_blank : ℕ → Bool
 is_blank b = b == 32 || b == 9
 
--- the line is a comment
-abbrev pub is_comment : List ℕ → Bool
-is_comment [] = false
-is_comment (b ∷ line) = b == 35
-
--- the line is blank or a comment, and so spells no user
+-- the line is blank or a comment, and so spells no user: before its end or a `#` stand only blanks
 abbrev pub is_passed_over : List ℕ → Bool
-is_passed_over line = list_all is_blank line || is_comment line
+is_passed_over [] = true
+is_passed_over (b ∷ line) = b == 35 || (is_blank b && is_passed_over line)
 
 -- the user that a line spells, with its name
 abbrev pub line_user : List ℕ → Option (List ℕ × User)

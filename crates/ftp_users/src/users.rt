@@ -1,11 +1,10 @@
 //! The users of a file.
 
 ghost use Rattle.std.specs.Prelude.{◌≡◌, ℕ, ◌++◌, ◌∷◌, [], List, true, not, is_some, if◌then◌else◌, Some, IfOk};
-ghost use Rattle.std.specs.List.{list_all};
 ghost use Rattle.std.specs.Option.{option_copied};
 ghost use Rattle.std.specs.Str.{bytes_eq};
 ghost use Rattle.ftp_users.specs.Verdict.{tried_hash, said_to};
-ghost use Rattle.ftp_users.specs.Users.{is_blank, is_comment, is_passed_over, named, user_named, users_in, is_good_behind, HasUsersOf};
+ghost use Rattle.ftp_users.specs.Users.{is_passed_over, named, user_named, users_in, is_good_behind, HasUsersOf};
 
 use crate::line::spelled_user;
 use crate::parts::parts;
@@ -52,25 +51,19 @@ impl Model for Users {
     ghost view = { λ u. named u.by_name.entries };
 }
 
-fn is_blank(line: &[u8]) -> bool
-    ensures { result ≡ list_all is_blank line.now }
-{
-    line.iter().all(|b| *b == b' ' || *b == b'\t')
-}
-
-fn is_comment(line: &[u8]) -> bool
-    ensures { result ≡ is_comment line.now }
-{
-    match line {
-        [b'#', ..] => true,
-        _ => false,
-    }
-}
-
+// Says whether a line is blank or a comment.
 fn is_passed_over(line: &[u8]) -> bool
     ensures { result ≡ is_passed_over line.now }
 {
-    is_blank(line) || is_comment(line)
+    for b in line {
+        if *b == b'#' {
+            return true;
+        }
+        if *b != b' ' && *b != b'\t' {
+            return false;
+        }
+    }
+    true
 }
 
 // The user of a name.
@@ -154,7 +147,7 @@ impl Users {
     ghost use Rattle.ftp_users.specs.Verdict.{answer_for, MayLogIn};
 
     /// Reads a file of users, with a line `NAME:HASH:RIGHTS:HOME` or `NAME:HASH:RIGHTS:HOME:BUDGET` for each. Blank lines,
-    /// and those that begin with `#`, are passed over.
+    /// and those of which the first byte that is not blank is `#`, are passed over.
     ///
     /// HASH is `$pbkdf2-sha256$ROUNDS$SALT$KEY`, the last two in hexadecimal digits, or `*` where every password is right,
     /// or `!` where none is. RIGHTS are `rw` or `ro`. HOME is an absolute path. BUDGET is a number of bytes, or of the power
