@@ -5,3 +5,5 @@ pub mod PartLemmas
 pub mod NameLemmas
 pub mod LineLemmas
 pub mod VerdictLemmas
+pub mod HashTextLemmas
+pub mod ResultLemmas

@@ -1,6 +1,6 @@
 -- The users of lines, as the lines are read.
-use Rattle.std.proofs.Common.{◌≡◌, ◌∙◌, ℕ, ◌+◌, ◌-◌, ◌<◌, ◌≤◌, Bool, true, false, cond, not, ◌||◌, List, [], ◌∷◌, ◌++◌, length, take, map, get_or, Bor, Option, Some, None, refl, ap, sym, append-nil, arith}
-use Rattle.std.specs.Prelude.{is_some, option_to_list}
+use Rattle.std.proofs.Common.{◌≡◌, ◌∙◌, ℕ, ◌+◌, ◌-◌, ◌<◌, Bool, true, false, cond, not, List, [], ◌∷◌, ◌++◌, length, take, get_or, Bor, Option, Some, None, refl, ap, sym, append-nil, arith}
+use Rattle.std.specs.Prelude.{is_some}
 use Rattle.std.specs.List.{filter_map}
 use Rattle.std.specs.Option.{option_or}
 use Rattle.std.specs.Str.{bytes_eq}
@@ -9,7 +9,7 @@ use Rattle.std.proofs.lemmas.List.Elements.{filter_map-append}
 use Rattle.std.proofs.lemmas.Slice.Eq.{bytes_eq-Decides}
 use Rattle.ftp_users.specs.declared.user.User.{User}
 use Rattle.ftp_users.specs.Line.{spelled_user}
-use Rattle.ftp_users.specs.Users.{is_passed_over, line_user, users_in, user_named, is_new, is_good_behind, is_good_at, IsFirstBadLine}
+use Rattle.ftp_users.specs.Users.{is_passed_over, line_user, users_in, user_named, is_good_behind, is_good_at, IsFirstBadLine}
 use Rattle.ftp_users.proofs.PartLemmas.{texts}
 
 user_named-append : (q : List ℕ) (xs ys : List (List ℕ × User)) → user_named q (xs ++ ys) ≡ option_or (user_named q xs) (user_named q ys)

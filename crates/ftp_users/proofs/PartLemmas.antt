@@ -1,11 +1,9 @@
 -- The parts of a hash and of a line, as they are counted.
-use Rattle.std.proofs.Common.{◌≡◌, ◌∙◌, ℕ, ◌<◌, ◌≤◌, List, [], ◌∷◌, length, map, get_or, Bor, Option, Some, None, refl, sym, ap, arith}
+use Rattle.std.proofs.Common.{◌≡◌, ◌∙◌, ℕ, List, [], ◌∷◌, length, map, get_or, Bor, Some, None, refl, sym, ap, arith}
 use Rattle.std.specs.Prelude.{if◌then◌else◌}
 use Rattle.std.specs.List.{slice_split}
 use Rattle.std.specs.Option.{option_and_then}
 use Rattle.std.proofs.lemmas.List.{length-map}
-use Rattle.ftp_users.specs.declared.user.User.{User}
-use Rattle.ftp_users.specs.declared.user.PasswordHash.{PasswordHash}
 use Rattle.ftp_users.specs.Line.{is_byte, is_scheme, hash_with, hash_of_parts, hash_of, budget_size, user_with, user_of_fields, spelled_user}
 
 -- the texts of parts

@@ -1,11 +1,10 @@
 -- What is said to a password, and who is let in.
 use Rattle.std.proofs.Common.{rules, ◌≡◌, ◌∙◌, ℕ, Bool, true, false, List, Option, Some, None, refl, sym, ap, eq-eqb}
 use Rattle.std.specs.Prelude.{◌↔◌, IsTrue}
-use Rattle.std.specs.Str.{bytes_eq}
 use Rattle.std.proofs.lemmas.Slice.Eq.{bytes_eq-Decides}
 use Rattle.ftp_base.specs.Login.{place_of, same_answer}
 use Rattle.ftp_base.specs.declared.login.AuthAnswer.{AuthAnswer}
-use Rattle.ftp_base.specs.declared.login.AuthAnswer.TheVariants.{Good, BadUser, Refused, Disabled}
+use Rattle.ftp_base.specs.declared.login.AuthAnswer.TheVariants.{Good, Refused}
 use Rattle.ftp_users.specs.declared.user.User.{User}
 use Rattle.ftp_users.specs.declared.user.Credential.{Credential}
 use Rattle.ftp_users.specs.declared.user.Credential.TheVariants as credential

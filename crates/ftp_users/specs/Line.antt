@@ -1,10 +1,10 @@
 -- The line of a user: NAME:HASH:RIGHTS:HOME, or NAME:HASH:RIGHTS:HOME:BUDGET.
-use Rattle.std.specs.Prelude.{ℕ, ◌-◌, ◌*◌, ◌^◌, ◌==◌, ◌&&◌, ◌||◌, nat_lt, Bool, List, [], ◌∷◌, length, take, slice_index, codes, Option, Some, None, if◌then◌else◌}
+use Rattle.std.specs.Prelude.{ℕ, ◌-◌, ◌*◌, ◌^◌, ◌==◌, ◌&&◌, nat_lt, Bool, List, [], ◌∷◌, ◌++◌, length, take, slice_index, codes, decimal, Option, Some, None, if◌then◌else◌}
 use Rattle.std.specs.List.{slice_split}
 use Rattle.std.specs.Option.{option_map, option_and_then}
 use Rattle.std.specs.Result.{result_ok}
 use Rattle.std.specs.Str.{bytes_eq}
-use Rattle.hex.specs.Hex.{decode_of, decode_sized}
+use Rattle.hex.specs.Hex.{encode_lower, decode_of, decode_sized}
 use Rattle.ftp_users.specs.declared.user.User.{User}
 use Rattle.ftp_users.specs.declared.user.Credential.{Credential}
 use Rattle.ftp_users.specs.declared.user.Credential.TheVariants as credential
@@ -45,6 +45,10 @@ hash_of_parts _ = None
 -- the hash that a text spells: $pbkdf2-sha256$ROUNDS$SALT$KEY
 abbrev pub hash_of : List ℕ → Option PasswordHash
 hash_of text = hash_of_parts (slice_split (is_byte 36) text)
+
+-- how a hash is spelled
+abbrev pub hash_text : ℕ → List ℕ → List ℕ → List ℕ
+hash_text rounds salt key = codes "$pbkdf2-sha256$" ++ (decimal rounds ++ 36 ∷ (encode_lower salt ++ 36 ∷ encode_lower key))
 
 -- which passwords a text lets in: `*` is every one, `!` is none
 unfoldable pub credential_of : List ℕ → Option Credential

@@ -54,3 +54,7 @@ said_by (credential.Hash hash) right = if right then answer.Good else answer.Ref
 abbrev pub said_to : Option User → Bool → AuthAnswer
 said_to None right = answer.BadUser
 said_to (Some user) right = said_by user.credential right
+
+-- the hash of a password by a salt in so many rounds
+abbrev pub hash_by : List ℕ → List ℕ → ℕ → PasswordHash
+hash_by password salt rounds = record { rounds = rounds; salt = salt; key = derived_key password salt rounds }

@@ -7,6 +7,7 @@
 mod hmac;
 mod home;
 mod line;
+mod mkpasswd;
 mod number;
 mod parts;
 mod pbkdf2;
@@ -14,6 +15,7 @@ mod user;
 mod users;
 
 pub use home::Home;
+pub use mkpasswd::hash_line;
 pub use pbkdf2::{derived_key, same_key};
 pub use user::{Credential, PasswordHash, Rights, User};
 pub use users::{Users, UsersError};

@@ -99,7 +99,7 @@ fn hash_to_try<'a>(user: Option<&'a User>, stand_in: &'a PasswordHash) -> &'a Pa
 }
 
 // What is said where the password is right for the hash that it was tried on, or is not.
-fn answer(user: Option<&User>, right: bool) -> AuthAnswer
+fn said_to(user: Option<&User>, right: bool) -> AuthAnswer
     ensures { result ≡ said_to (option_copied user.entry) right }
 {
     match user {
@@ -210,7 +210,7 @@ impl Users {
     {
         let user = self.find(name);
         let right = hash_to_try(user, &self.stand_in).verify(password);
-        answer(user, right)
+        said_to(user, right)
     }
 }
 

@@ -1,4 +1,4 @@
-use Rattle.std.proofs.Common.{[], ◌≡◌, ◌∙◌, ℕ, length, map, get_or, true, false, sym, ap, refl, arith}
+use Rattle.std.proofs.Common.{[], ◌≡◌, ◌∙◌, length, map, sym, ap, arith}
 use Rattle.std.proofs.lemmas.Bool.Decides.{nat_tests}
 use Rattle.ftp_users.proofs.PartLemmas.{hash_of-five, hash_of-other}
 use Rattle.ftp_users.proofs.line.hash_of.Goals as goal

@@ -1,4 +1,4 @@
-use Rattle.std.proofs.Common.{Option, Some, None, [], ◌≡◌, ◌∙◌, ℕ, length, map, get_or, true, false, sym, ap, refl, arith}
+use Rattle.std.proofs.Common.{[], ◌≡◌, ◌∙◌, length, map, sym, ap, arith}
 use Rattle.std.proofs.lemmas.Bool.Decides.{nat_tests}
 use Rattle.ftp_users.proofs.PartLemmas.{spelled_user-four, spelled_user-five, spelled_user-other}
 use Rattle.ftp_users.proofs.line.spelled_user.Goals as goal

@@ -1,15 +1,11 @@
-use Rattle.std.proofs.Common.{◌≡◌, ◌∙◌, ℕ, ◌∷◌, ◌++◌, [], List, Bool, true, false, cond, not, Option, Some, None, Result, Ok, Err, refl, ap, sym}
-use Rattle.std.specs.Prelude.{is_some, IfOk}
+use Rattle.std.proofs.Common.{◌≡◌, ◌∙◌, ℕ, List, true, false, cond, not, Some, ap, sym}
+use Rattle.std.specs.Prelude.{is_some}
 use Rattle.std.specs.Str.{bytes_eq}
 use Rattle.ftp_users.specs.Line.{spelled_user}
-use Rattle.ftp_users.specs.Users.{is_passed_over, is_good_behind, user_named, users_in, named, HasUsersOf}
+use Rattle.ftp_users.specs.Users.{is_passed_over, is_good_behind, user_named, users_in, named}
 use Rattle.ftp_users.proofs.LineLemmas.{users_in-passed, good-some, users_in-taken}
+use Rattle.ftp_users.proofs.ResultLemmas.{by_both}
 use Rattle.ftp_users.proofs.users.take_line.Goals as goal
-
--- what holds of a value by two facts of it
-by_both : {A E : Type 0} (r : Result A E) (P Q R : A → Type 0) → IfOk r P → IfOk r Q → ((x : A) → P x → Q x → R x) → IfOk r R
-by_both (Ok x) P Q R p q step = step x p q
-by_both (Err e) P Q R p q step = tt
 
 pub returns-then-is_passed_over-clause-users : goal.returns-then-is_passed_over-clause-users
 returns-then-is_passed_over-clause-users c = λ before has t name.

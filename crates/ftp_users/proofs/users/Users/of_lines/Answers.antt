@@ -1,5 +1,5 @@
-use Rattle.std.proofs.Common.{◌≡◌, ◌∙◌, ℕ, ◌+◌, [], take, true, refl, ap, sym, below_more, arith}
-use Rattle.ftp_users.specs.Users.{user_named, users_in, named, is_good_at}
+use Rattle.std.proofs.Common.{◌∙◌, [], take, ap, sym, below_more, arith}
+use Rattle.ftp_users.specs.Users.{user_named, users_in, named}
 use Rattle.ftp_users.proofs.PartLemmas.{texts}
 use Rattle.ftp_users.proofs.LineLemmas.{take-line, good_at-line, first-bad}
 use Rattle.ftp_users.proofs.users.Users.of_lines.Goals as goal
