@@ -1,8 +1,10 @@
 //! Tests of what only the gateway is to use by its public calls: values that were published, with ample memory.
 //!
 //! They stand here and not beside the code, since a crate with tests is proved twice. This one has no code but tests.
-//! Begin with `keys`.
+//! Begin with `users`.
 #![tactic(auto)]
 
 #[cfg(test)]
 mod keys;
+#[cfg(test)]
+mod users;

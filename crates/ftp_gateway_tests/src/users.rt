@@ -1,0 +1,163 @@
+//! Users of a file.
+
+use ftp_base::{AuthAnswer, Authenticator, Bytes, IpAddr};
+use ftp_users::{Rights, Users, UsersError};
+use std::alloc::Global;
+use std::test::Fail;
+
+// The keys of ann and bob are OpenSSL's for the password `password` and the salt `salt`, in one round and in two.
+const FILE: &[u8] = b"# NAME:HASH:RIGHTS:HOME[:BUDGET]\n\
+    ann:$pbkdf2-sha256$1$73616c74$120fb6cffcf8b32c43e7225256c4f837a86548c92ccc35480805987cb70be17b:rw:/srv/ann:10G\n\
+    \n\
+    bob:$pbkdf2-sha256$2$73616C74$AE4D0C95AF6B46D32D0ADFF928F06DD02A303F8EF3C251DFD6E2D85A95474C43:ro:/srv/pub\n\
+    anonymous:*:ro:/srv/pub:0\n\
+    eve:!:rw:/srv/eve e:640K\n";
+
+fn check<A: Authenticator>(
+    alloc: Global,
+    who: &A,
+    name: &[u8],
+    password: &[u8],
+) -> Result<AuthAnswer, Fail> {
+    let name = Bytes::from_slice(alloc, name)?;
+    let password = Bytes::from_slice(alloc, password)?;
+    Ok(who.check(&name, &password, IpAddr::V4(0)))
+}
+
+#[test]
+fn a_user_logs_in_with_its_password(rt: HostRuntime) -> Result<(), Fail> {
+    let alloc = rt.alloc();
+    let users = Users::read(alloc, FILE)?;
+    for (name, password, due) in [
+        (b"ann".as_slice(), b"password".as_slice(), AuthAnswer::Good),
+        (b"ann", b"Password", AuthAnswer::Refused),
+        (b"ann", b"", AuthAnswer::Refused),
+        (b"bob", b"password", AuthAnswer::Good),
+        (b"bob", b"passwor", AuthAnswer::Refused),
+        (b"anonymous", b"me@example.org", AuthAnswer::Good),
+        (b"eve", b"password", AuthAnswer::Disabled),
+        (b"Ann", b"password", AuthAnswer::BadUser),
+        (b"# NAME", b"password", AuthAnswer::BadUser),
+    ] {
+        assert_eq!(rt; check(alloc, &users, name, password)?, due);
+    }
+    Ok(())
+}
+
+fn has_user(users: &Users, name: &[u8], home: &str, rights: Rights, budget: Option<u64>) -> bool {
+    match users.find(name) {
+        Some(user) => {
+            user.home.as_str() == home && user.rights == rights && user.budget == budget
+        }
+        None => false,
+    }
+}
+
+#[test]
+fn a_user_has_the_home_of_its_line(rt: HostRuntime) -> Result<(), Fail> {
+    let users = Users::read(rt.alloc(), FILE)?;
+    for (name, home, rights, budget) in [
+        (
+            b"ann".as_slice(),
+            "/srv/ann",
+            Rights::ReadWrite,
+            Some(10737418240),
+        ),
+        (b"bob", "/srv/pub", Rights::ReadOnly, None),
+        (b"anonymous", "/srv/pub", Rights::ReadOnly, Some(0)),
+        (b"eve", "/srv/eve e", Rights::ReadWrite, Some(655360)),
+    ] {
+        assert!(rt; has_user(&users, name, home, rights, budget), "{home}");
+    }
+    Ok(())
+}
+
+fn bad_line(alloc: Global, text: &[u8]) -> u64 {
+    match Users::read(alloc, text) {
+        Err(UsersError::Line(number)) => number,
+        _ => 0,
+    }
+}
+
+#[test]
+fn the_first_bad_line_is_named(rt: HostRuntime) -> Result<(), Fail> {
+    for (text, due) in [
+        // Good files, and notes.
+        (b"".as_slice(), 0),
+        (b"\n \t\n#\n # ann:*:ro:/\n", 0),
+        (b" # ann:*:ro:/\nann", 2),
+        (b"ann:*:ro:/", 0),
+        (b"ann:*:ro:/\nbob:*:ro:/\n", 0),
+        (b"a b:!:rw:/home/a b:18014398509481983K", 0),
+        // Too few fields, and too many.
+        (b"ann", 1),
+        (b"ann:*:ro", 1),
+        (b"ann:*:ro:/:1:", 1),
+        // NAME
+        (b":*:ro:/", 1),
+        (b"ann:*:ro:/\n\nann:!:rw:/ann", 3),
+        // HASH
+        (b"ann::ro:/", 1),
+        (b"ann:**:ro:/", 1),
+        (b"ann:password:ro:/", 1),
+        // RIGHTS
+        (b"ann:*::/", 1),
+        (b"ann:*:wr:/", 1),
+        // HOME
+        (b"ann:*:ro:", 1),
+        (b"ann:*:ro:srv", 1),
+        (b"ann:*:ro:/\r\n", 1),
+        (b"ann:*:ro:/\0", 1),
+        (b"ann:*:ro:/\xff", 1),
+        // BUDGET
+        (b"ann:*:ro:/:", 1),
+        (b"ann:*:ro:/:K", 1),
+        (b"ann:*:ro:/:1k", 1),
+        (b"ann:*:ro:/:1T", 1),
+        (b"ann:*:ro:/:+1", 1),
+        (b"ann:*:ro:/:010", 1),
+        (b"ann:*:ro:/:18014398509481984K", 1),
+        // The first of two.
+        (b"ann:*:ro:/\nbob\ncat\n", 2),
+    ] {
+        assert_eq!(rt; bad_line(rt.alloc(), text), due);
+    }
+    Ok(())
+}
+
+#[test]
+fn the_line_of_a_bad_hash_is_named(rt: HostRuntime) -> Result<(), Fail> {
+    for (text, due) in [
+        (
+            b"#\nann:$pbkdf2-sha256$1$00$120fb6cffcf8b32c43e7225256c4f837a86548c92ccc35480805987cb70be17b:ro:/".as_slice(),
+            0,
+        ),
+        (
+            b"#\nann:$pbkdf2-sha256$0$00$120fb6cffcf8b32c43e7225256c4f837a86548c92ccc35480805987cb70be17b:ro:/",
+            2,
+        ),
+        (
+            b"#\nann:$pbkdf2-sha256$01$00$120fb6cffcf8b32c43e7225256c4f837a86548c92ccc35480805987cb70be17b:ro:/",
+            2,
+        ),
+        (
+            b"#\nann:$pbkdf2-sha256$4294967296$00$120fb6cffcf8b32c43e7225256c4f837a86548c92ccc35480805987cb70be17b:ro:/",
+            2,
+        ),
+        (
+            b"#\nann:$pbkdf2-sha256$1$0$120fb6cffcf8b32c43e7225256c4f837a86548c92ccc35480805987cb70be17b:ro:/",
+            2,
+        ),
+        (
+            b"#\nann:$pbkdf2-sha256$1$00$120fb6cffcf8b32c43e7225256c4f837a86548c92ccc35480805987cb70be1:ro:/",
+            2,
+        ),
+        (
+            b"#\nann:$pbkdf2-sha1$1$00$120fb6cffcf8b32c43e7225256c4f837a86548c92ccc35480805987cb70be17b:ro:/",
+            2,
+        ),
+    ] {
+        assert_eq!(rt; bad_line(rt.alloc(), text), due);
+    }
+    Ok(())
+}
