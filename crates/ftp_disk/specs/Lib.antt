@@ -1,0 +1,5 @@
+pub mod Refusal
+pub mod FileSystem
+pub mod Standing
+pub mod Home
+pub mod Listing

@@ -1,0 +1,247 @@
+//! The files of users' homes, as a storage.
+
+ghost use Rattle.std.specs.Prelude.{◌≡◌, ◌+◌, ◌^◌, ◌<◌, ◌≤◌, false, length, IfOk, IsErrOf};
+ghost use Rattle.std.specs.Arc.{arc_value};
+ghost use Rattle.ftp_base.specs.declared.error_kind.ErrorKind.TheVariants.{PermissionDenied};
+ghost use Rattle.ftp_base.specs.Outside.{HasRisen};
+ghost use Rattle.ftp_disk.specs.Home.{has_home, may_write};
+
+use crate::file_system::FileSystem;
+use crate::home::{Homes, Writable};
+use crate::listing::{list, meta_of};
+use crate::opened::{Access, Opened, Use};
+use crate::opening::{cut, go_to, open_to_append, open_to_begin, open_to_read};
+use crate::refusals::refusal;
+use crate::standing::resolve;
+use ftp_base::{Bytes, ErrorKind, FEATURE_RESTART, FileInfo, Meta, Storage, StoreError};
+use ftp_places::Place;
+use std::alloc::Global;
+use std::fs::OpenFile;
+use std::io::{Read, SeekFrom, Write};
+use std::sync::Arc;
+
+/// The files of users' homes, for one transfer: the file that it reads or writes is kept open between its pieces.
+#[derive(Drop)]
+pub struct DiskStorage<S: FileSystem + Drop> {
+    system: S,
+    alloc: Global,
+    homes: Arc<Homes, Global>,
+    opened: Option<Opened<S::File>>,
+    faults: u64,
+}
+
+impl<S: FileSystem + Drop> DiskStorage<S> {
+    /// The files of these homes.
+    pub fn new(alloc: Global, system: S, homes: Arc<Homes, Global>) -> DiskStorage<S>
+        ensures faults { result.faults ≡ 0 }
+    {
+        DiskStorage {
+            system,
+            alloc,
+            homes,
+            opened: None,
+            faults: 0,
+        }
+    }
+
+    // Where a user's path leads.
+    fn place(&self, user: &Bytes, path: &Bytes) -> Result<Place, StoreError>
+        ensures homeless { has_home (arc_value self.now.homes) user.now ≡ false → IsErrOf result (StoreError.Kind PermissionDenied) }
+    {
+        let home = self.homes.find(user)?;
+        home.place(self.alloc, path.as_slice())
+    }
+
+    // Where a path of a user's leads who may write.
+    fn writable(&self, user: &Bytes, path: &Bytes) -> Result<Writable, StoreError>
+        ensures read_only { may_write (arc_value self.now.homes) user.now ≡ false → IsErrOf result (StoreError.Kind PermissionDenied) }
+    {
+        let home = self.homes.find(user)?;
+        home.writable(self.alloc, path.as_slice())
+    }
+
+    // Counts a call that failed.
+    fn counted<T>(&mut self, answer: Result<T, StoreError>) -> Result<T, StoreError>
+        ensures same { result ≡ answer }
+        ensures fault_rose { IsErrOf answer StoreError.Failed → HasRisen self.old.faults self.new.faults }
+        ensures count { self.old.faults ≤ self.new.faults }
+    {
+        if let Err(StoreError::Failed) = &answer {
+            self.faults = self.faults.saturating_add(1);
+        }
+        answer
+    }
+
+    // What stands at a path.
+    fn look(&self, user: &Bytes, path: &Bytes) -> Result<Meta, StoreError>
+        ensures homeless { has_home (arc_value self.now.homes) user.now ≡ false → IsErrOf result (StoreError.Kind PermissionDenied) }
+    {
+        let place = self.place(user, path)?;
+        match meta_of(resolve(&self.system, self.alloc, &place)?) {
+            Some(meta) => Ok(meta),
+            None => Err(StoreError::Kind(ErrorKind::PermanentFileNotAvailable)),
+        }
+    }
+
+    // What a listing of a directory shows.
+    fn children(&self, user: &Bytes, path: &Bytes) -> Result<Vec<FileInfo>, StoreError>
+        ensures homeless { has_home (arc_value self.now.homes) user.now ≡ false → IsErrOf result (StoreError.Kind PermissionDenied) }
+    {
+        let place = self.place(user, path)?;
+        list(&self.system, self.alloc, &place)
+    }
+
+    // The file that is open to be read at a place, or which is opened there; none past its end.
+    fn reader(
+        &mut self,
+        user: &Bytes,
+        path: &Bytes,
+        at: u64,
+    ) -> Result<Option<Opened<S::File>>, StoreError>
+        ensures homeless { has_home (arc_value self.old.homes) user.now ≡ false → IsErrOf result (StoreError.Kind PermissionDenied) }
+        ensures faults { self.new.faults ≡ self.old.faults }
+    {
+        let place = self.place(user, path)?;
+        if let Some(opened) = self.opened.take() {
+            if opened.by.is(user, path, Access::Read) && opened.at == at {
+                return Ok(Some(opened));
+            }
+        }
+        let by = Use::new(self.alloc, user, path, Access::Read)?;
+        let (mut file, len) = open_to_read(&self.system, self.alloc, &place)?;
+        if at > len {
+            return Ok(None);
+        }
+        go_to(&mut file, SeekFrom::Start(at))?;
+        Ok(Some(Opened { by, file, at }))
+    }
+
+    // Reads from a place in a file, and keeps it open behind what was read.
+    fn read(
+        &mut self,
+        user: &Bytes,
+        path: &Bytes,
+        at: u64,
+        out: &mut [u8],
+    ) -> Result<usize, StoreError>
+        ensures within { IfOk result (λ n. n ≤ length out.new) }
+        ensures in_range { IfOk result (λ n. at + n < 2 ^ 64) }
+        ensures homeless { has_home (arc_value self.old.homes) user.now ≡ false → IsErrOf result (StoreError.Kind PermissionDenied) }
+        ensures faults { self.new.faults ≡ self.old.faults }
+    {
+        let Some(mut opened) = self.reader(user, path, at)? else {
+            return Ok(0);
+        };
+        let n = match opened.file.read(out) {
+            Ok(n) => n,
+            Err(error) => return Err(refusal(error.kind())),
+        };
+        let Some(behind) = at.checked_add(n as u64) else {
+            return Err(StoreError::Failed);
+        };
+        opened.at = behind;
+        self.opened = Some(opened);
+        Ok(n)
+    }
+
+    // Cuts a file at a place, and keeps it open there.
+    fn start(&mut self, user: &Bytes, path: &Bytes, start: u64) -> Result<(), StoreError>
+        ensures read_only { may_write (arc_value self.old.homes) user.now ≡ false → IsErrOf result (StoreError.Kind PermissionDenied) }
+        ensures faults { self.new.faults ≡ self.old.faults }
+    {
+        self.opened = None;
+        let place = self.writable(user, path)?;
+        let by = Use::new(self.alloc, user, path, Access::Write)?;
+        let mut file = open_to_begin(&self.system, self.alloc, &place)?;
+        cut(&mut file, start)?;
+        self.opened = Some(Opened {
+            by,
+            file,
+            at: start,
+        });
+        Ok(())
+    }
+
+    // The file that is open to be written, or which is opened at its end.
+    fn writer(&mut self, user: &Bytes, path: &Bytes) -> Result<Opened<S::File>, StoreError>
+        ensures read_only { may_write (arc_value self.old.homes) user.now ≡ false → IsErrOf result (StoreError.Kind PermissionDenied) }
+        ensures faults { self.new.faults ≡ self.old.faults }
+    {
+        let place = self.writable(user, path)?;
+        if let Some(opened) = self.opened.take() {
+            if opened.by.is(user, path, Access::Write) {
+                return Ok(opened);
+            }
+        }
+        let by = Use::new(self.alloc, user, path, Access::Write)?;
+        let mut file = open_to_append(&self.system, self.alloc, &place)?;
+        let at = go_to(&mut file, SeekFrom::End(0))?;
+        Ok(Opened { by, file, at })
+    }
+
+    // Puts bytes at the end of a file, and keeps it open there. What was written before an error is cut off again.
+    fn write(&mut self, user: &Bytes, path: &Bytes, bytes: &[u8]) -> Result<(), StoreError>
+        ensures read_only { may_write (arc_value self.old.homes) user.now ≡ false → IsErrOf result (StoreError.Kind PermissionDenied) }
+        ensures faults { self.new.faults ≡ self.old.faults }
+    {
+        let mut opened = self.writer(user, path)?;
+        if let Err(error) = opened.file.write_all(bytes) {
+            return match opened.file.set_len(opened.at) {
+                Ok(()) => Err(refusal(error.kind())),
+                Err(_) => Err(StoreError::Failed),
+            };
+        }
+        opened.at = opened.at.saturating_add(bytes.len() as u64);
+        self.opened = Some(opened);
+        Ok(())
+    }
+}
+
+impl<S: FileSystem + Drop> Storage for DiskStorage<S> {
+    ghost use Rattle.std.specs.Prelude.{None, true};
+
+    ghost abilities = { λ _. 1 };
+
+    ghost files = { λ _. None };
+
+    ghost rule = { λ _ _ _ _. None };
+
+    ghost faults = { λ s. s.faults };
+
+    ghost reads_take_memory = { true };
+
+    fn features(&self) -> u32 {
+        FEATURE_RESTART
+    }
+
+    fn metadata(&mut self, user: &Bytes, path: &Bytes) -> Result<Meta, StoreError> {
+        let found = self.look(user, path);
+        self.counted(found)
+    }
+
+    fn list(&mut self, user: &Bytes, path: &Bytes) -> Result<Vec<FileInfo>, StoreError> {
+        let found = self.children(user, path);
+        self.counted(found)
+    }
+
+    fn read_at(
+        &mut self,
+        user: &Bytes,
+        path: &Bytes,
+        at: u64,
+        out: &mut [u8],
+    ) -> Result<usize, StoreError> {
+        let read = self.read(user, path, at, out);
+        self.counted(read)
+    }
+
+    fn begin(&mut self, user: &Bytes, path: &Bytes, start: u64) -> Result<(), StoreError> {
+        let begun = self.start(user, path, start);
+        self.counted(begun)
+    }
+
+    fn append(&mut self, user: &Bytes, path: &Bytes, bytes: &[u8]) -> Result<(), StoreError> {
+        let grown = self.write(user, path, bytes);
+        self.counted(grown)
+    }
+}

@@ -1,0 +1,52 @@
+//! A file that is kept open between the pieces of a transfer.
+
+ghost use Rattle.std.specs.Prelude.{◌≡◌, IsTrue};
+
+use ftp_base::Bytes;
+use std::alloc::{AllocError, Global};
+
+/// What a file was opened for.
+#[derive(Clone, Copy, Debug, PartialEq, Eq)]
+pub(crate) enum Access {
+    Read,
+    Write,
+}
+
+/// Who opened a file, by which path, and what for.
+#[derive(Drop)]
+pub(crate) struct Use {
+    user: Bytes,
+    path: Bytes,
+    access: Access,
+}
+
+impl Use {
+    pub(crate) fn new(
+        alloc: Global,
+        user: &Bytes,
+        path: &Bytes,
+        access: Access,
+    ) -> Result<Use, AllocError> {
+        Ok(Use {
+            user: user.copy(alloc)?,
+            path: path.copy(alloc)?,
+            access,
+        })
+    }
+
+    pub(crate) fn is(&self, user: &Bytes, path: &Bytes, access: Access) -> bool
+        ensures user { IsTrue result → self.now.user ≡ user.now }
+        ensures path { IsTrue result → self.now.path ≡ path.now }
+        ensures access { IsTrue result → self.now.access ≡ access }
+    {
+        self.access == access && self.path == *path && self.user == *user
+    }
+}
+
+/// A file that is open, and the place of the byte that is read or written next.
+#[derive(Drop)]
+pub(crate) struct Opened<F> {
+    pub(crate) by: Use,
+    pub(crate) file: F,
+    pub(crate) at: u64,
+}

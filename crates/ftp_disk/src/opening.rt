@@ -1,0 +1,130 @@
+//! How files are opened: never over a link, and never what is no file.
+
+ghost use Rattle.std.specs.Prelude.{IfOk, OnOk};
+ghost use Rattle.ftp_disk.specs.FileSystem.{IsUnlinked, WasFileOrNothing};
+ghost use Rattle.ftp_disk.specs.Standing.{Stood};
+
+use crate::file_system::FileSystem;
+use crate::home::Writable;
+use crate::refusals::refusal;
+use crate::standing::{Standing, resolve};
+use ftp_base::{ErrorKind, StoreError};
+use ftp_places::Place;
+use std::alloc::Global;
+use std::fs::{OpenFile, TryLockError};
+use std::io;
+use std::io::{Seek, SeekFrom};
+
+/// A file that was opened to read it, and how long it was.
+pub(crate) fn open_to_read<S: FileSystem>(
+    system: &S,
+    alloc: Global,
+    place: &Place,
+) -> Result<(S::File, u64), StoreError>
+    ensures unlinked { OnOk result (IsUnlinked (S.told system.now) place.now) }
+{
+    let found = resolve(system, alloc, place)?;
+    let Standing::File(len) = found else {
+        return Err(StoreError::Kind(ErrorKind::PermanentFileNotAvailable));
+    };
+    match system.open(place) {
+        Ok(file) => Ok((file, len)),
+        Err(error) => Err(refusal(error.kind())),
+    }
+}
+
+// What stands at a place that may be changed.
+fn resolve_writable<S: FileSystem>(
+    system: &S,
+    alloc: Global,
+    place: &Writable,
+) -> Result<Standing, StoreError>
+    ensures found { IfOk result (Stood (S.told system.now) place.now) }
+    ensures unlinked { OnOk result (IsUnlinked (S.told system.now) place.now) }
+{
+    resolve(system, alloc, place.as_place())
+}
+
+/// A file that was opened for an upload, and made where there was none.
+pub(crate) fn open_to_begin<S: FileSystem>(
+    system: &S,
+    alloc: Global,
+    place: &Writable,
+) -> Result<S::File, StoreError>
+    ensures unlinked { OnOk result (IsUnlinked (S.told system.now) place.now) }
+{
+    let found = resolve_writable(system, alloc, place)?;
+    match found {
+        Standing::Directory => Err(StoreError::Kind(ErrorKind::FileNameNotAllowedError)),
+        Standing::File(_) => create(system, place),
+        Standing::Nothing => match create(system, place) {
+            Ok(file) => Ok(file),
+            Err(error) => Err(in_directory(error)),
+        },
+    }
+}
+
+/// A file that was opened to put bytes at its end.
+pub(crate) fn open_to_append<S: FileSystem>(
+    system: &S,
+    alloc: Global,
+    place: &Writable,
+) -> Result<S::File, StoreError>
+    ensures unlinked { OnOk result (IsUnlinked (S.told system.now) place.now) }
+{
+    let found = resolve_writable(system, alloc, place)?;
+    match found {
+        Standing::File(_) => create(system, place),
+        Standing::Nothing | Standing::Directory => {
+            Err(StoreError::Kind(ErrorKind::PermanentFileNotAvailable))
+        }
+    }
+}
+
+// The file with its lock, unless another upload has that.
+fn create<S: FileSystem>(system: &S, place: &Writable) -> Result<S::File, StoreError>
+    requires unlinked { IsUnlinked (S.told system.now) place.now }
+    requires file { WasFileOrNothing (S.told system.now) place.now }
+{
+    let file = match system.create(place) {
+        Ok(file) => file,
+        Err(error) => return Err(refusal(error.kind())),
+    };
+    match system.try_lock(&file) {
+        Ok(()) => Ok(file),
+        Err(TryLockError::WouldBlock) => {
+            Err(StoreError::Kind(ErrorKind::TransientFileNotAvailable))
+        }
+        Err(TryLockError::Error(error)) => Err(refusal(error.kind())),
+    }
+}
+
+/// A refusal of what is missing, where a directory is.
+pub(crate) fn in_directory(error: StoreError) -> StoreError {
+    match error {
+        StoreError::Kind(ErrorKind::PermanentFileNotAvailable) => {
+            StoreError::Kind(ErrorKind::PermanentDirectoryNotAvailable)
+        }
+        error => error,
+    }
+}
+
+/// Goes to a place of a file.
+pub(crate) fn go_to<F: Seek>(file: &mut F, to: SeekFrom) -> Result<u64, StoreError> {
+    match file.seek(to) {
+        Ok(at) => Ok(at),
+        Err(error) => Err(refusal(error.kind())),
+    }
+}
+
+/// Cuts a file at a place, or fills it with zeros up to there, and goes to that place.
+pub(crate) fn cut<F: OpenFile + Seek>(file: &mut F, start: u64) -> Result<(), StoreError> {
+    if i64::try_from(start).is_err() {
+        return Err(refusal(io::ErrorKind::FileTooLarge));
+    }
+    if let Err(error) = file.set_len(start) {
+        return Err(refusal(error.kind()));
+    }
+    go_to(file, SeekFrom::Start(start))?;
+    Ok(())
+}
