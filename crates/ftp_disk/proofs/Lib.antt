@@ -1,2 +1,3 @@
 pub mod StandingLemmas
 pub mod ListingLemmas
+pub mod DiskLemmas

@@ -19,6 +19,10 @@ IsNoLink-told (Err error) standing h = tt
 front-whole : (place : Location) (n : ℕ) → n ≡ length place.names → front_of place n ≡ place
 front-whole place n e = ap (λ names. below_by place.root names) (ap (λ k. take k place.names) e ∙ take-length place.names)
 
+-- what was told of a place was told of the front that it is
+pub told-front : (told : Told) (place at : Location) (n : ℕ) (answer : Answer) → at ≡ front_of place n → told at answer → told (front_of place n) answer
+told-front told place at n answer e said = subst (λ (p : Location). told p answer) e said
+
 -- the root stands without a look
 pub Stood-root : (told : Told) (place : Location) → Stood told (front_of place 0) Directory
 Stood-root told place = record { root = λ e. refl; below = λ lt. absurd (omega arith) }

@@ -3,3 +3,4 @@ pub mod FileSystem
 pub mod Standing
 pub mod Home
 pub mod Listing
+pub mod Disk

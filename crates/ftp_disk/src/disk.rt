@@ -1,9 +1,9 @@
 //! The files of users' homes, as a storage.
 
-ghost use Rattle.std.specs.Prelude.{◌≡◌, ◌+◌, ◌^◌, ◌<◌, ◌≤◌, false, length, IfOk, IsErrOf};
-ghost use Rattle.std.specs.Arc.{arc_value};
+ghost use Rattle.std.specs.Prelude.{◌≡◌, ◌+◌, ◌^◌, ◌<◌, ◌≤◌, false, length, Some, IfOk, OnOk, IsErrOf};
 ghost use Rattle.ftp_base.specs.declared.error_kind.ErrorKind.TheVariants.{PermissionDenied};
 ghost use Rattle.ftp_base.specs.Outside.{HasRisen};
+ghost use Rattle.ftp_disk.specs.Disk.{place_in_home, IsReached, WasFound, WasListed};
 ghost use Rattle.ftp_disk.specs.Home.{has_home, may_write};
 
 use crate::file_system::FileSystem;
@@ -18,6 +18,7 @@ use ftp_places::Place;
 use std::alloc::Global;
 use std::fs::OpenFile;
 use std::io::{Read, SeekFrom, Write};
+use std::marker::Model;
 use std::sync::Arc;
 
 /// The files of users' homes, for one transfer: the file that it reads or writes is kept open between its pieces.
@@ -30,9 +31,22 @@ pub struct DiskStorage<S: FileSystem + Drop> {
     faults: u64,
 }
 
+impl<S: FileSystem + Drop> Model for DiskStorage<S> {
+    ghost use Rattle.std.specs.Arc.{arc_value};
+    ghost use Rattle.ftp_disk.specs.Disk.{DiskState};
+
+    ghost Value = { DiskState S };
+
+    ghost view = { λ s. record { system = s.system; homes = arc_value s.homes; faults = s.faults } };
+}
+
 impl<S: FileSystem + Drop> DiskStorage<S> {
-    /// The files of these homes.
+    ghost use Rattle.std.specs.Arc.{arc_value};
+
+    /// The files of these homes, before any call.
     pub fn new(alloc: Global, system: S, homes: Arc<Homes, Global>) -> DiskStorage<S>
+        ensures system { result.system ≡ system }
+        ensures homes { result.homes ≡ arc_value homes }
         ensures faults { result.faults ≡ 0 }
     {
         DiskStorage {
@@ -46,15 +60,17 @@ impl<S: FileSystem + Drop> DiskStorage<S> {
 
     // Where a user's path leads.
     fn place(&self, user: &Bytes, path: &Bytes) -> Result<Place, StoreError>
-        ensures homeless { has_home (arc_value self.now.homes) user.now ≡ false → IsErrOf result (StoreError.Kind PermissionDenied) }
+        ensures place { IfOk result (λ place. place_in_home self.now.homes user.now path.now ≡ Some place) }
+        ensures homeless { has_home self.now.homes user.now ≡ false → IsErrOf result (StoreError.Kind PermissionDenied) }
     {
         let home = self.homes.find(user)?;
         home.place(self.alloc, path.as_slice())
     }
 
     // Where a path of a user's leads who may write.
-    fn writable(&self, user: &Bytes, path: &Bytes) -> Result<Writable, StoreError>
-        ensures read_only { may_write (arc_value self.now.homes) user.now ≡ false → IsErrOf result (StoreError.Kind PermissionDenied) }
+    fn place_to_write(&self, user: &Bytes, path: &Bytes) -> Result<Writable, StoreError>
+        ensures place { IfOk result (λ place. place_in_home self.now.homes user.now path.now ≡ Some place) }
+        ensures read_only { may_write self.now.homes user.now ≡ false → IsErrOf result (StoreError.Kind PermissionDenied) }
     {
         let home = self.homes.find(user)?;
         home.writable(self.alloc, path.as_slice())
@@ -64,6 +80,7 @@ impl<S: FileSystem + Drop> DiskStorage<S> {
     fn counted<T>(&mut self, answer: Result<T, StoreError>) -> Result<T, StoreError>
         ensures same { result ≡ answer }
         ensures fault_rose { IsErrOf answer StoreError.Failed → HasRisen self.old.faults self.new.faults }
+        ensures others { self.new ≡ record self.old { faults = self.new.faults } }
         ensures count { self.old.faults ≤ self.new.faults }
     {
         if let Err(StoreError::Failed) = &answer {
@@ -74,7 +91,8 @@ impl<S: FileSystem + Drop> DiskStorage<S> {
 
     // What stands at a path.
     fn look(&self, user: &Bytes, path: &Bytes) -> Result<Meta, StoreError>
-        ensures homeless { has_home (arc_value self.now.homes) user.now ≡ false → IsErrOf result (StoreError.Kind PermissionDenied) }
+        ensures found { IfOk result (WasFound (S.told self.now.system) self.now.homes user.now path.now) }
+        ensures homeless { has_home self.now.homes user.now ≡ false → IsErrOf result (StoreError.Kind PermissionDenied) }
     {
         let place = self.place(user, path)?;
         match meta_of(resolve(&self.system, self.alloc, &place)?) {
@@ -85,7 +103,8 @@ impl<S: FileSystem + Drop> DiskStorage<S> {
 
     // What a listing of a directory shows.
     fn children(&self, user: &Bytes, path: &Bytes) -> Result<Vec<FileInfo>, StoreError>
-        ensures homeless { has_home (arc_value self.now.homes) user.now ≡ false → IsErrOf result (StoreError.Kind PermissionDenied) }
+        ensures listed { IfOk result (λ found. WasListed (S.told self.now.system) self.now.homes user.now path.now found.items) }
+        ensures homeless { has_home self.now.homes user.now ≡ false → IsErrOf result (StoreError.Kind PermissionDenied) }
     {
         let place = self.place(user, path)?;
         list(&self.system, self.alloc, &place)
@@ -98,8 +117,8 @@ impl<S: FileSystem + Drop> DiskStorage<S> {
         path: &Bytes,
         at: u64,
     ) -> Result<Option<Opened<S::File>>, StoreError>
-        ensures homeless { has_home (arc_value self.old.homes) user.now ≡ false → IsErrOf result (StoreError.Kind PermissionDenied) }
-        ensures faults { self.new.faults ≡ self.old.faults }
+        ensures homeless { has_home self.old.homes user.now ≡ false → IsErrOf result (StoreError.Kind PermissionDenied) }
+        ensures unchanged { self.new ≡ self.old }
     {
         let place = self.place(user, path)?;
         if let Some(opened) = self.opened.take() {
@@ -126,8 +145,8 @@ impl<S: FileSystem + Drop> DiskStorage<S> {
     ) -> Result<usize, StoreError>
         ensures within { IfOk result (λ n. n ≤ length out.new) }
         ensures in_range { IfOk result (λ n. at + n < 2 ^ 64) }
-        ensures homeless { has_home (arc_value self.old.homes) user.now ≡ false → IsErrOf result (StoreError.Kind PermissionDenied) }
-        ensures faults { self.new.faults ≡ self.old.faults }
+        ensures homeless { has_home self.old.homes user.now ≡ false → IsErrOf result (StoreError.Kind PermissionDenied) }
+        ensures unchanged { self.new ≡ self.old }
     {
         let Some(mut opened) = self.reader(user, path, at)? else {
             return Ok(0);
@@ -146,11 +165,12 @@ impl<S: FileSystem + Drop> DiskStorage<S> {
 
     // Cuts a file at a place, and keeps it open there.
     fn start(&mut self, user: &Bytes, path: &Bytes, start: u64) -> Result<(), StoreError>
-        ensures read_only { may_write (arc_value self.old.homes) user.now ≡ false → IsErrOf result (StoreError.Kind PermissionDenied) }
-        ensures faults { self.new.faults ≡ self.old.faults }
+        ensures reached { OnOk result (IsReached (S.told self.old.system) self.old.homes user.now path.now) }
+        ensures read_only { may_write self.old.homes user.now ≡ false → IsErrOf result (StoreError.Kind PermissionDenied) }
+        ensures unchanged { self.new ≡ self.old }
     {
         self.opened = None;
-        let place = self.writable(user, path)?;
+        let place = self.place_to_write(user, path)?;
         let by = Use::new(self.alloc, user, path, Access::Write)?;
         let mut file = open_to_begin(&self.system, self.alloc, &place)?;
         cut(&mut file, start)?;
@@ -164,10 +184,10 @@ impl<S: FileSystem + Drop> DiskStorage<S> {
 
     // The file that is open to be written, or which is opened at its end.
     fn writer(&mut self, user: &Bytes, path: &Bytes) -> Result<Opened<S::File>, StoreError>
-        ensures read_only { may_write (arc_value self.old.homes) user.now ≡ false → IsErrOf result (StoreError.Kind PermissionDenied) }
-        ensures faults { self.new.faults ≡ self.old.faults }
+        ensures read_only { may_write self.old.homes user.now ≡ false → IsErrOf result (StoreError.Kind PermissionDenied) }
+        ensures unchanged { self.new ≡ self.old }
     {
-        let place = self.writable(user, path)?;
+        let place = self.place_to_write(user, path)?;
         if let Some(opened) = self.opened.take() {
             if opened.by.is(user, path, Access::Write) {
                 return Ok(opened);
@@ -181,8 +201,8 @@ impl<S: FileSystem + Drop> DiskStorage<S> {
 
     // Puts bytes at the end of a file, and keeps it open there. What was written before an error is cut off again.
     fn write(&mut self, user: &Bytes, path: &Bytes, bytes: &[u8]) -> Result<(), StoreError>
-        ensures read_only { may_write (arc_value self.old.homes) user.now ≡ false → IsErrOf result (StoreError.Kind PermissionDenied) }
-        ensures faults { self.new.faults ≡ self.old.faults }
+        ensures read_only { may_write self.old.homes user.now ≡ false → IsErrOf result (StoreError.Kind PermissionDenied) }
+        ensures unchanged { self.new ≡ self.old }
     {
         let mut opened = self.writer(user, path)?;
         if let Err(error) = opened.file.write_all(bytes) {
@@ -214,12 +234,32 @@ impl<S: FileSystem + Drop> Storage for DiskStorage<S> {
         FEATURE_RESTART
     }
 
-    fn metadata(&mut self, user: &Bytes, path: &Bytes) -> Result<Meta, StoreError> {
+    // # Proved
+    //
+    // - What is told of a path, listed in a directory and begun for an upload lies below the user's home, and no link was
+    //   there when it was looked at; a listing is in byte order of names (`found`; also `DiskStorage::list`: `listed`;
+    //   `DiskStorage::begin`: `reached`).
+    // - A user without a home is refused by each call, and one who may not write by each that changes anything
+    //   (`homeless`; also `DiskStorage::list`: `homeless`; `DiskStorage::read_at`: `homeless`; `DiskStorage::begin`:
+    //   `read_only`; `DiskStorage::append`: `read_only`).
+    fn metadata(&mut self, user: &Bytes, path: &Bytes) -> Result<Meta, StoreError>
+        ensures found { IfOk result (WasFound (S.told self.old.system) self.old.homes user.now path.now) }
+        ensures homeless { has_home self.old.homes user.now ≡ false → IsErrOf result (StoreError.Kind PermissionDenied) }
+        ensures fault_rose { IsErrOf result StoreError.Failed → HasRisen self.old.faults self.new.faults }
+        ensures count { self.old.faults ≤ self.new.faults }
+        ensures others { self.new ≡ record self.old { faults = self.new.faults } }
+    {
         let found = self.look(user, path);
         self.counted(found)
     }
 
-    fn list(&mut self, user: &Bytes, path: &Bytes) -> Result<Vec<FileInfo>, StoreError> {
+    fn list(&mut self, user: &Bytes, path: &Bytes) -> Result<Vec<FileInfo>, StoreError>
+        ensures listed { IfOk result (λ found. WasListed (S.told self.old.system) self.old.homes user.now path.now found.items) }
+        ensures homeless { has_home self.old.homes user.now ≡ false → IsErrOf result (StoreError.Kind PermissionDenied) }
+        ensures fault_rose { IsErrOf result StoreError.Failed → HasRisen self.old.faults self.new.faults }
+        ensures count { self.old.faults ≤ self.new.faults }
+        ensures others { self.new ≡ record self.old { faults = self.new.faults } }
+    {
         let found = self.children(user, path);
         self.counted(found)
     }
@@ -230,17 +270,35 @@ impl<S: FileSystem + Drop> Storage for DiskStorage<S> {
         path: &Bytes,
         at: u64,
         out: &mut [u8],
-    ) -> Result<usize, StoreError> {
+    ) -> Result<usize, StoreError>
+        ensures within { IfOk result (λ n. n ≤ length out.new) }
+        ensures in_range { IfOk result (λ n. at + n < 2 ^ 64) }
+        ensures homeless { has_home self.old.homes user.now ≡ false → IsErrOf result (StoreError.Kind PermissionDenied) }
+        ensures fault_rose { IsErrOf result StoreError.Failed → HasRisen self.old.faults self.new.faults }
+        ensures count { self.old.faults ≤ self.new.faults }
+        ensures others { self.new ≡ record self.old { faults = self.new.faults } }
+    {
         let read = self.read(user, path, at, out);
         self.counted(read)
     }
 
-    fn begin(&mut self, user: &Bytes, path: &Bytes, start: u64) -> Result<(), StoreError> {
+    fn begin(&mut self, user: &Bytes, path: &Bytes, start: u64) -> Result<(), StoreError>
+        ensures reached { OnOk result (IsReached (S.told self.old.system) self.old.homes user.now path.now) }
+        ensures read_only { may_write self.old.homes user.now ≡ false → IsErrOf result (StoreError.Kind PermissionDenied) }
+        ensures fault_rose { IsErrOf result StoreError.Failed → HasRisen self.old.faults self.new.faults }
+        ensures count { self.old.faults ≤ self.new.faults }
+        ensures others { self.new ≡ record self.old { faults = self.new.faults } }
+    {
         let begun = self.start(user, path, start);
         self.counted(begun)
     }
 
-    fn append(&mut self, user: &Bytes, path: &Bytes, bytes: &[u8]) -> Result<(), StoreError> {
+    fn append(&mut self, user: &Bytes, path: &Bytes, bytes: &[u8]) -> Result<(), StoreError>
+        ensures read_only { may_write self.old.homes user.now ≡ false → IsErrOf result (StoreError.Kind PermissionDenied) }
+        ensures fault_rose { IsErrOf result StoreError.Failed → HasRisen self.old.faults self.new.faults }
+        ensures count { self.old.faults ≤ self.new.faults }
+        ensures others { self.new ≡ record self.old { faults = self.new.faults } }
+    {
         let grown = self.write(user, path, bytes);
         self.counted(grown)
     }

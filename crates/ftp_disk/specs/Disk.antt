@@ -1,0 +1,48 @@
+-- Storages over homes: what callers see of one, and what its calls tell.
+use Rattle.std.specs.Prelude.{◌≡◌, ℕ, List, All, IsSortedByKey, Option, Some, string_bytes}
+use Rattle.std.specs.Option.{option_map}
+use Rattle.std.specs.Ordering.{nat_cmp}
+use Rattle.std.specs.Cmp.Lexicographic.{slice_cmp}
+use Rattle.ftp_base.specs.declared.storage.Meta.{Meta}
+use Rattle.ftp_base.specs.declared.storage.FileInfo.{FileInfo}
+use Rattle.ftp_places.specs.Names.{names_of}
+use Rattle.ftp_places.specs.Place.{Location, below_by}
+use Rattle.ftp_disk.specs.declared.home.Home.{Home}
+use Rattle.ftp_disk.specs.declared.standing.Standing.{Standing}
+use Rattle.ftp_disk.specs.FileSystem.{Told, IsUnlinked}
+use Rattle.ftp_disk.specs.Home.{home_of}
+use Rattle.ftp_disk.specs.Listing.{WasShown, shown_meta}
+use Rattle.ftp_disk.specs.Standing.{Stood}
+
+-- the system that is asked, the homes of users, and how many calls failed
+pub record DiskState (S : Type 0) : Type 0 where
+  pub system : S
+  pub homes : List Home
+  pub faults : ℕ
+
+-- where a user's path leads: below the user's home
+abbrev pub place_in_home : List Home → List ℕ → List ℕ → Option Location
+place_in_home homes user path = option_map (λ home. below_by (string_bytes home.root) (names_of path)) (home_of homes user)
+
+-- a user's path leads over no link
+pub record IsReached (told : Told) (homes : List Home) (user path : List ℕ) : Type 0 where
+  pub place : Location
+  pub leads : place_in_home homes user path ≡ Some place
+  pub unlinked : IsUnlinked told place
+
+-- what stands where a user's path leads, over no link, was looked at, and this is told of it
+pub record WasFound (told : Told) (homes : List Home) (user path : List ℕ) (meta : Meta) : Type 0 where
+  pub place : Location
+  pub leads : place_in_home homes user path ≡ Some place
+  pub unlinked : IsUnlinked told place
+  pub standing : Standing
+  pub stood : Stood told place standing
+  pub shown : shown_meta standing ≡ Some meta
+
+-- the children of the directory to which a user's path leads, over no link, were looked at, and are told in order
+pub record WasListed (told : Told) (homes : List Home) (user path : List ℕ) (infos : List FileInfo) : Type 0 where
+  pub place : Location
+  pub leads : place_in_home homes user path ≡ Some place
+  pub unlinked : IsUnlinked told place
+  pub shown : All (WasShown told place) infos
+  pub in_order : IsSortedByKey (λ info. info.name) (slice_cmp nat_cmp) infos
