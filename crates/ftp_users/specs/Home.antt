@@ -17,5 +17,5 @@ abbrev pub is_home : List ℕ → Bool
 is_home path = is_rooted path && not (list_any is_control path) && is_utf8 path
 
 -- the home that the bytes spell
-abbrev pub home_of : List ℕ → Option (List ℕ)
-home_of path = if is_home path then Some path else None
+abbrev pub spelled_home : List ℕ → Option (List ℕ)
+spelled_home path = if is_home path then Some path else None

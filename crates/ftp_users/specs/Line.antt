@@ -12,7 +12,7 @@ use Rattle.ftp_users.specs.declared.user.PasswordHash.{PasswordHash}
 use Rattle.ftp_users.specs.declared.user.Rights.{Rights}
 use Rattle.ftp_users.specs.declared.user.Rights.TheVariants as rights
 use Rattle.ftp_users.specs.Number.{number_of, rounds_of}
-use Rattle.ftp_users.specs.Home.{home_of}
+use Rattle.ftp_users.specs.Home.{spelled_home}
 
 infixl 10 ◌>>=◌
 -- the next step, where this one gave something
@@ -95,7 +95,7 @@ unfoldable pub user_with : List ℕ → List ℕ → List ℕ → List ℕ → O
 user_with name hash rights home budget = do
   who ← credential_of hash
   may ← rights_of rights
-  place ← home_of home
+  place ← spelled_home home
   if length name == 0 then None else Some (name, record { credential = who; rights = may; home = place; budget = budget })
 
 -- the user of these fields, with its name

@@ -3,7 +3,7 @@
 ghost use Rattle.std.specs.Prelude.{◌≡◌, true, is_some, IfSome, IfOk};
 ghost use Rattle.std.specs.List.{list_any};
 ghost use Rattle.std.specs.Str.{is_utf8};
-ghost use Rattle.ftp_users.specs.Home.{is_rooted, is_control, is_home, home_of};
+ghost use Rattle.ftp_users.specs.Home.{is_rooted, is_control, is_home, spelled_home};
 
 use std::alloc::{AllocError, Global};
 use std::marker::Model;
@@ -28,7 +28,7 @@ impl Model for Home {
 impl Home {
     /// The home that the bytes spell.
     pub(crate) fn of(alloc: Global, path: &[u8]) -> Result<Option<Home>, AllocError>
-        ensures { IfOk result (λ home. home ≡ home_of path.now) }
+        ensures { IfOk result (λ home. home ≡ spelled_home path.now) }
     {
         let Some(path) = home_path(path) else {
             return Ok(None);
