@@ -3,8 +3,7 @@
 use crate::values::{CLIENT, pooled};
 use ftp_base::{AuthAnswer, Bytes, IpAddr, Reply, ReplyCode, SocketAddr};
 use ftp_events::{Answer, Decision, EventKind, HubEvent, Log, replies_of};
-use ftp_hub::Hub;
-use ftp_hub::isolation;
+use ftp_hub::{Hub, isolation};
 use std::alloc::Global;
 use std::test::Fail;
 

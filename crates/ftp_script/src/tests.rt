@@ -2,10 +2,9 @@
 
 use ftp_base::{MemorySink, MemorySource};
 use ftp_script_run::{
-    Status, run_script, settled_runs_are_determined, taken_transfers_are_done,
-    told_faults_are_listed,
+    Status, a_line_has_one_item, bytes_are_one_script, run_script, settled_runs_are_determined,
+    taken_transfers_are_done, told_faults_are_listed,
 };
-use ftp_script_run::{a_line_has_one_item, bytes_are_one_script};
 use std::alloc::{AllocError, Global};
 use std::test::Fail;
 
