@@ -1,7 +1,7 @@
 -- The text of a hash is read back.
 use Rattle.std.proofs.Common.{◌≡◌, ◌∙◌, ℕ, ◌^◌, ◌<◌, Bool, true, false, cond, ◌&&◌, List, [], ◌∷◌, ◌++◌, length, get_or, Some, None, refl, sym, ap, arith}
 use Rattle.std.specs.Prelude.{codes, decimal, nat_lt, ◌==◌, option_map, option_and_then}
-use Rattle.std.specs.List.{All, list_all, slice_split}
+use Rattle.std.specs.List.{All, AllPass, list_all, slice_split}
 use Rattle.std.specs.Char.{is_ascii_digit, digit_value}
 use Rattle.std.specs.Str.{bytes_eq}
 use Rattle.std.specs.Str.Parse.{AllDigits, digits_value}
@@ -28,8 +28,12 @@ apart test b not_it is = by (is_byte 36 b) refl where
   by true same = absurd (let here : test 36 ≡ true = ap test (sym (eqb-true b 36 same)) ∙ is in cc (here, not_it))
   by false other = refl
 
+-- in hexadecimal digits
+pub hex_digits-apart : (text : List ℕ) → AllPass is_hex_digit text → All (λ b. is_byte 36 b ≡ false) text
+hex_digits-apart text digits k d lt = apart is_hex_digit _ refl (digits k d lt)
+
 hex-apart : (bytes : List ℕ) → IsBytes bytes → All (λ b. is_byte 36 b ≡ false) (encode_lower bytes)
-hex-apart bytes are k d lt = apart is_hex_digit _ refl ((decode_of-ok (encode_lower bytes) bytes (decode_of-encode_lower bytes are)).1 k d lt)
+hex-apart bytes are = hex_digits-apart (encode_lower bytes) (decode_of-ok (encode_lower bytes) bytes (decode_of-encode_lower bytes are)).1
 
 small_digit : (c : ℕ) → digit_value c < 10 → is_ascii_digit c ≡ true
 small_digit c h = grind (arith, nat_tests)
@@ -38,7 +42,8 @@ are_digits : (ds : List ℕ) → AllDigits 10 ds → list_all is_ascii_digit ds 
 are_digits [] h = refl
 are_digits (d ∷ ds) h = rw (small_digit d h.0) (are_digits ds h.1)
 
-digits-apart : (ds : List ℕ) → list_all is_ascii_digit ds ≡ true → All (λ b. is_byte 36 b ≡ false) ds
+-- in decimal digits
+pub digits-apart : (ds : List ℕ) → list_all is_ascii_digit ds ≡ true → All (λ b. is_byte 36 b ≡ false) ds
 digits-apart ds h k d lt = apart is_ascii_digit _ refl (AllPass-from_list_all is_ascii_digit ds h k d lt)
 
 -- ---- a number of rounds is read back

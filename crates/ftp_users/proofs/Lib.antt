@@ -7,3 +7,4 @@ pub mod LineLemmas
 pub mod VerdictLemmas
 pub mod HashTextLemmas
 pub mod ResultLemmas
+pub mod GrammarLemmas

@@ -7,3 +7,4 @@ pub mod Line
 pub mod Users
 pub mod Faults
 pub mod Verdict
+pub mod Grammar

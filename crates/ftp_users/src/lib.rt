@@ -6,6 +6,7 @@
 
 mod hmac;
 mod home;
+mod laws;
 mod line;
 mod mkpasswd;
 mod number;
@@ -15,6 +16,7 @@ mod user;
 mod users;
 
 pub use home::Home;
+pub use laws::lines_are_spelled;
 pub use mkpasswd::hash_line;
 pub use pbkdf2::{derived_key, same_key};
 pub use user::{Credential, PasswordHash, Rights, User};

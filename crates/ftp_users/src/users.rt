@@ -155,7 +155,8 @@ impl Users {
     ///
     /// # Proved
     ///
-    /// - The users are those that the lines spell, each with its name, and no two have one name (`users`, `good`).
+    /// - The users are those that the lines spell, each with its name, and no two have one name (`users`, `good`; also
+    ///   `lines_are_spelled`: `spelled`).
     /// - A file is refused exactly where a line spells no user or one whose name an earlier line has, and the error names the
     ///   first such line (`good`, `line`).
     pub fn read(alloc: Global, text: &[u8]) -> Result<Users, UsersError>
