@@ -10,7 +10,7 @@ use crate::file_system::FileSystem;
 use crate::home::{Homes, Writable};
 use crate::listing::{list, meta_of};
 use crate::opened::{Access, Opened, Use};
-use crate::opening::{cut, go_to, open_to_append, open_to_begin, open_to_read};
+use crate::opening::{check_reach, cut, go_to, open_to_append, open_to_begin, open_to_read};
 use crate::refusals::refusal;
 use crate::standing::resolve;
 use ftp_base::{Bytes, ErrorKind, FEATURE_RESTART, FileInfo, Meta, Storage, StoreError};
@@ -21,7 +21,8 @@ use std::io::{Read, SeekFrom, Write};
 use std::marker::Model;
 use std::sync::Arc;
 
-/// The files of users' homes, for one transfer: the file that it reads or writes is kept open between its pieces.
+/// The files of users' homes, for one transfer: the file that it reads or writes is kept open between its pieces, and an
+/// upload's is locked. It tells no content.
 #[derive(Drop)]
 pub struct DiskStorage<S: FileSystem + Drop> {
     system: S,
@@ -171,6 +172,7 @@ impl<S: FileSystem + Drop> DiskStorage<S> {
     {
         self.opened = None;
         let place = self.place_to_write(user, path)?;
+        check_reach(start)?;
         let by = Use::new(self.alloc, user, path, Access::Write)?;
         let mut file = open_to_begin(&self.system, self.alloc, &place)?;
         cut(&mut file, start)?;

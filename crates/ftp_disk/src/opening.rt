@@ -117,11 +117,16 @@ pub(crate) fn go_to<F: Seek>(file: &mut F, to: SeekFrom) -> Result<u64, StoreErr
     }
 }
 
+/// Refuses a place that no file of the system reaches.
+pub(crate) fn check_reach(at: u64) -> Result<(), StoreError> {
+    match i64::try_from(at) {
+        Ok(_) => Ok(()),
+        Err(_) => Err(refusal(io::ErrorKind::FileTooLarge)),
+    }
+}
+
 /// Cuts a file at a place, or fills it with zeros up to there, and goes to that place.
 pub(crate) fn cut<F: OpenFile + Seek>(file: &mut F, start: u64) -> Result<(), StoreError> {
-    if i64::try_from(start).is_err() {
-        return Err(refusal(io::ErrorKind::FileTooLarge));
-    }
     if let Err(error) = file.set_len(start) {
         return Err(refusal(error.kind()));
     }

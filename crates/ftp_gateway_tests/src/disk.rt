@@ -1,0 +1,203 @@
+//! The storage over a real directory, beside the one in memory.
+
+use ftp_base::{Bytes, MemoryStorage, Storage};
+use ftp_disk::{Below, DiskStorage, Home, Homes};
+use std::alloc::{AllocError, Global};
+use std::os::unix::fs::symlink;
+use std::sync::Arc;
+use std::test::Fail;
+use std::{env, fs, io, process};
+
+/// A new directory for a test. In it stand `home`, which has a directory `d` with another one `e` in it, and a link to it.
+fn make_base(rt: &HostRuntime, test: &str) -> io::Result<String> {
+    let id = process::id(rt.process());
+    let temp = env::temp_dir(rt)?;
+    let base = format!(in rt.alloc(); "{}/ftp_disk_{test}_{id}", temp.as_str())?;
+    for dir in ["", "/home", "/home/d", "/home/d/e"] {
+        fs::create_dir(rt, below(rt.alloc(), base.as_str(), dir)?.as_str())?;
+    }
+    symlink(
+        rt,
+        "home",
+        below(rt.alloc(), base.as_str(), "/link")?.as_str(),
+    )?;
+    Ok(base)
+}
+
+fn below(alloc: Global, root: &str, path: &str) -> Result<String, AllocError> {
+    format!(in alloc; "{root}{path}")
+}
+
+/// The home of ann, who may write, and of bob, who may not. Carl comes to it by the link.
+fn homes(alloc: Global, base: &str) -> Result<Arc<Homes, Global>, AllocError> {
+    let mut homes = Vec::new(alloc);
+    for (user, root, may_write) in [
+        ("ann", "/home", true),
+        ("bob", "/home", false),
+        ("carl", "/link", false),
+    ] {
+        homes.push(Home {
+            user: Bytes::from_slice(alloc, user.as_bytes())?,
+            root: below(alloc, base, root)?,
+            may_write,
+        })?;
+    }
+    Ok(Arc::new(alloc, Homes::new(homes))?)
+}
+
+/// What is asked of a storage.
+#[derive(Clone, Copy)]
+struct Call {
+    kind: u64,
+    path: &'static str,
+    number: u8,
+}
+
+/// What a storage answers, as a text.
+fn answer<S: Storage>(
+    storage: &mut S,
+    alloc: Global,
+    user: &str,
+    call: Call,
+) -> Result<String, AllocError> {
+    let user = Bytes::from_slice(alloc, user.as_bytes())?;
+    let path = Bytes::from_slice(alloc, call.path.as_bytes())?;
+    match call.kind {
+        0 => {
+            let found = storage.metadata(&user, &path);
+            format!(in alloc; "{found:?}")
+        }
+        1 => {
+            let found = storage.list(&user, &path);
+            format!(in alloc; "{found:?}")
+        }
+        2 => {
+            let mut out = [0; 4];
+            let n = storage.read_at(&user, &path, u64::from(call.number), &mut out);
+            format!(in alloc; "{n:?} {out:?}")
+        }
+        3 => {
+            let begun = storage.begin(&user, &path, u64::from(call.number));
+            format!(in alloc; "{begun:?}")
+        }
+        _ => {
+            let bytes = [call.number; 3];
+            let grown = storage.append(&user, &path, &bytes);
+            format!(in alloc; "{grown:?}")
+        }
+    }
+}
+
+fn call_of(kind: u64, path: &'static str) -> Call {
+    Call {
+        kind,
+        path,
+        number: 0,
+    }
+}
+
+const PATHS: [&str; 8] = ["/", "/a", "/b", "/d", "/d/a", "/d/e", "/x/y", "/a/c"];
+
+/// The next call of those that are drawn.
+fn draw(state: &mut u64) -> Call {
+    *state = state
+        .wrapping_mul(6_364_136_223_846_793_005)
+        .wrapping_add(1_442_695_040_888_963_407);
+    let drawn = *state >> 33;
+    Call {
+        kind: drawn % 6,
+        path: PATHS[(drawn / 8 % 8) as usize],
+        number: (drawn / 64 % 9) as u8,
+    }
+}
+
+/// Whether the files in memory are on disk.
+fn is_same(rt: &HostRuntime, base: &str, memory: &MemoryStorage) -> io::Result<bool> {
+    for (path, bytes) in memory.files() {
+        let path = String::from_utf8_lossy(rt.alloc(), path)?;
+        let path = format!(in rt.alloc(); "{base}/home{path}")?;
+        if fs::read(rt, path.as_str())?.as_slice() != bytes {
+            return Ok(false);
+        }
+    }
+    Ok(true)
+}
+
+#[test]
+fn a_directory_answers_as_a_storage_in_memory(rt: HostRuntime) -> Result<(), Fail> {
+    let alloc = rt.alloc();
+    let base = make_base(&rt, "same")?;
+    let mut disk = DiskStorage::new(alloc, Below::new(&rt), homes(alloc, base.as_str())?);
+    let mut memory = MemoryStorage::new(alloc, u64::MAX, Vec::new(alloc));
+    for dir in ["/d", "/d/e"] {
+        memory.mkdir(Bytes::from_slice(alloc, dir.as_bytes())?)?;
+    }
+    let mut state = 7;
+    for _ in 0..400 {
+        let call = draw(&mut state);
+        let due = answer(&mut memory, alloc, "ann", call)?;
+        let given = answer(&mut disk, alloc, "ann", call)?;
+        let same = is_same(&rt, base.as_str(), &memory)?;
+        assert!(rt;
+            given == due && same,
+            "{} {}: {given} for {due}",
+            call.kind,
+            call.path
+        );
+    }
+    fs::remove_dir_all(&rt, base.as_str())?;
+    Ok(())
+}
+
+#[test]
+fn links_strangers_and_readers_are_refused(rt: HostRuntime) -> Result<(), Fail> {
+    let alloc = rt.alloc();
+    let base = make_base(&rt, "refused")?;
+    for (to, link) in [("/etc/passwd", "/home/passwd"), ("/etc", "/home/d/etc")] {
+        symlink(&rt, to, below(alloc, base.as_str(), link)?.as_str())?;
+    }
+    let mut storage = DiskStorage::new(alloc, Below::new(&rt), homes(alloc, base.as_str())?);
+    let denied = "Err(Kind(PermissionDenied))";
+    let missing = "Err(Kind(PermanentFileNotAvailable))";
+    let only_d =
+        "Ok([FileInfo { name: Bytes { items: [100] }, meta: Meta { is_dir: true, len: 0 } }])";
+    let only_e =
+        "Ok([FileInfo { name: Bytes { items: [101] }, meta: Meta { is_dir: true, len: 0 } }])";
+    for (user, kind, path, due) in [
+        ("ann", 0, "/passwd", denied),
+        ("ann", 3, "/passwd", denied),
+        ("ann", 4, "/passwd", denied),
+        ("ann", 1, "/d/etc", denied),
+        ("ann", 0, "/d/etc/passwd", denied),
+        ("ann", 0, "/../../etc/passwd", missing),
+        ("ann", 1, "/d/e/..//.", only_e),
+        ("bob", 3, "/b", denied),
+        ("bob", 4, "/b", denied),
+        ("carl", 1, "/", only_d),
+        ("eve", 1, "/", denied),
+    ] {
+        let given = answer(&mut storage, alloc, user, call_of(kind, path))?;
+        assert_eq!(rt; given.as_str(), due, "{user} {kind} {path}");
+    }
+    fs::remove_dir_all(&rt, base.as_str())?;
+    Ok(())
+}
+
+#[test]
+fn a_path_has_one_upload_at_a_time(rt: HostRuntime) -> Result<(), Fail> {
+    let alloc = rt.alloc();
+    let base = make_base(&rt, "busy")?;
+    let mut first = DiskStorage::new(alloc, Below::new(&rt), homes(alloc, base.as_str())?);
+    let mut second = DiskStorage::new(alloc, Below::new(&rt), homes(alloc, base.as_str())?);
+    let begun = answer(&mut first, alloc, "ann", call_of(3, "/b"))?;
+    let busy = answer(&mut second, alloc, "ann", call_of(3, "/b"))?;
+    drop(first);
+    let free = answer(&mut second, alloc, "ann", call_of(3, "/b"))?;
+    let given = format!(in alloc; "{begun} {busy} {free}")?;
+    assert_eq!(rt;
+        given.as_str(),
+        "Ok(()) Err(Kind(TransientFileNotAvailable)) Ok(())"
+    );
+    fs::remove_dir_all(&rt, base.as_str())?;
+    Ok(())
+}
