@@ -35,22 +35,24 @@ AcceptsPassword (credential.Hash hash) password = derived_key password hash.salt
 abbrev pub MayLogIn : List (List ℕ × User) → List ℕ → List ℕ → Type 0
 MayLogIn users name password = (user : User) × (user_named name users ≡ Some user) × AcceptsPassword user.credential password
 
--- the hash that a password is tried on: that of the user, or a stand-in where there is none
+-- its hash, or a stand-in where it has none
 abbrev pub hash_or : Credential → PasswordHash → PasswordHash
 hash_or credential.Any stand_in = stand_in
 hash_or credential.Disabled stand_in = stand_in
 hash_or (credential.Hash hash) stand_in = hash
 
+-- the hash that a password is tried on
 abbrev pub tried_hash : Option User → PasswordHash → PasswordHash
 tried_hash None stand_in = stand_in
 tried_hash (Some user) stand_in = hash_or user.credential stand_in
 
--- what is said where the password derives the key that it was tried on, or does not
+-- what is said by what lets a user in, where the password is right for its hash, or is not
 abbrev pub said_by : Credential → Bool → AuthAnswer
 said_by credential.Any right = answer.Good
 said_by credential.Disabled right = answer.Disabled
 said_by (credential.Hash hash) right = if right then answer.Good else answer.Refused
 
+-- what is said to a user or to nobody, where the password is right for the hash that it was tried on, or is not
 abbrev pub said_to : Option User → Bool → AuthAnswer
 said_to None right = answer.BadUser
 said_to (Some user) right = said_by user.credential right

@@ -194,6 +194,7 @@ impl Users {
     {
         user_named(&self.by_name, name)
     }
+
     /// Says whether a user logs in with a password.
     ///
     /// The password is tried on a hash also where nobody has the name, or the user has no hash, so that the time does not tell
