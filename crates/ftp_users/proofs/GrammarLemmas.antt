@@ -21,7 +21,7 @@ use Rattle.ftp_users.specs.declared.user.PasswordHash.{PasswordHash}
 use Rattle.ftp_users.specs.declared.user.Rights.{Rights}
 use Rattle.ftp_users.specs.declared.user.Rights.TheVariants.{ReadWrite, ReadOnly}
 use Rattle.ftp_users.specs.Number.{is_decimal, number_of, rounds_of}
-use Rattle.ftp_users.specs.Home.{is_home, home_of}
+use Rattle.ftp_users.specs.Home.{is_home, spelled_home}
 use Rattle.ftp_users.specs.Line.{is_byte, is_scheme, hash_with, hash_of_parts, hash_of, credential_of, rights_of, budget_size, user_with, user_of_fields, spelled_user}
 use Rattle.ftp_users.specs.Grammar.{HasNone, IsHash, IsCredential, IsRights, IsBudget, IsLineOf, LinesAreSpelled}
 use Rattle.ftp_users.proofs.HashTextLemmas.{hex_digits-apart, digits-apart}
@@ -166,13 +166,13 @@ rights-read text ReadOnly h = ap rights_of h
 
 -- ---- HOME
 
-home-spelled : (home path : List ℕ) → home_of home ≡ Some path → (home ≡ path) × (is_home path ≡ true)
+home-spelled : (home path : List ℕ) → spelled_home home ≡ Some path → (home ≡ path) × (is_home path ≡ true)
 home-spelled home path e = by (is_home home) refl e where
   by : (t : Bool) → is_home home ≡ t → cond t (Some home) None ≡ Some path → (home ≡ path) × (is_home path ≡ true)
   by true is e = let same : home ≡ path = cc e in (same, ap is_home (sym same) ∙ is)
   by false is e = absurd (cc e)
 
-home-read : (path : List ℕ) → is_home path ≡ true → home_of path ≡ Some path
+home-read : (path : List ℕ) → is_home path ≡ true → spelled_home path ≡ Some path
 home-read path is = rw is refl
 
 -- ---- the line
@@ -185,14 +185,14 @@ pub record IsMadeOf (name hash may home : List ℕ) (budget : Option ℕ) (n : L
   pub called : name ≡ n
   pub opens : credential_of hash ≡ Some user.credential
   pub allows : rights_of may ≡ Some user.rights
-  pub lies : home_of home ≡ Some user.home
+  pub lies : spelled_home home ≡ Some user.home
   pub keeps : budget ≡ user.budget
   pub some : 0 < length n
 
 user_with-some : (name hash may home : List ℕ) (budget : Option ℕ) (n : List ℕ) (user : User) → user_with name hash may home budget ≡ Some (n, user) → IsMadeOf name hash may home budget n user
 unfolding user_with made
-user_with-some name hash may home budget n user e = by (credential_of hash) (rights_of may) (home_of home) (length name == 0) refl refl refl refl e where
-  by : (c : Option Credential) (r : Option Rights) (h : Option (List ℕ)) (empty : Bool) → credential_of hash ≡ c → rights_of may ≡ r → home_of home ≡ h → (length name == 0) ≡ empty →
+user_with-some name hash may home budget n user e = by (credential_of hash) (rights_of may) (spelled_home home) (length name == 0) refl refl refl refl e where
+  by : (c : Option Credential) (r : Option Rights) (h : Option (List ℕ)) (empty : Bool) → credential_of hash ≡ c → rights_of may ≡ r → spelled_home home ≡ h → (length name == 0) ≡ empty →
       option_and_then (λ who. option_and_then (λ may. option_and_then (λ place. cond empty None (Some (made name who may place budget))) h) r) c ≡ Some (n, user) → IsMadeOf name hash may home budget n user
   by None r h empty p q s t e = absurd (cc e)
   by (Some c) None h empty p q s t e = absurd (cc e)
@@ -249,7 +249,7 @@ fields-spelled line (a ∷ b ∷ c ∷ d ∷ f ∷ []) name user joined all e = 
       all.0 all.1.0 all.1.1.0 all.1.1.1.0 (f, refl, all.1.1.1.1.0, is) (user_with-some a b c d (Some n) name user e)
 fields-spelled line (a ∷ b ∷ c ∷ d ∷ f ∷ g ∷ fields) name user joined all e = absurd (cc e)
 
-user_with-read : (name hash may : List ℕ) (user : User) (budget : Option ℕ) → credential_of hash ≡ Some user.credential → rights_of may ≡ Some user.rights → home_of user.home ≡ Some user.home →
+user_with-read : (name hash may : List ℕ) (user : User) (budget : Option ℕ) → credential_of hash ≡ Some user.credential → rights_of may ≡ Some user.rights → spelled_home user.home ≡ Some user.home →
     0 < length name → budget ≡ user.budget → user_with name hash may user.home budget ≡ Some (name, user)
 unfolding user_with
 user_with-read name hash may user budget c r h some same =
