@@ -3,7 +3,7 @@
 //! The commands are `ftp_check check` and `ftp_check why K`, and `--help` and `--version` alone. It ends with 0 where the
 //! log is right, 1 where an entry is wrong, 2 at a bad line, 3 where standard input fails, 4 where standard output fails,
 //! 5 where memory runs out, 6 where a right log has no entry K, and 64 where the words are no command.
-//! Begin with `run_check` of `ftp_check_run`.
+//! Begin with `run_check` of `ftp_check_log`.
 #![tactic(auto)]
 
 use ftp_check_log::{CheckStatus, run_check};
