@@ -220,6 +220,8 @@ def plain_two_transfers(place, name):
         session.tell(f"STOR {name}-2", 150)
         first.sendall(b"x")
         session.tell("NOOP", 200)
+        # A PASV that is decided before the connection that came gives it up.
+        time.sleep(wire.PASSED_ON)
         second = session.link()
         session.tell(f"RETR {name}", 150)
         session.tell("NLST", 425)
