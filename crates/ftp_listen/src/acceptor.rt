@@ -4,9 +4,9 @@ ghost use Rattle.std.specs.Prelude.{◌≡◌, ◌≤◌};
 
 use crate::listening::{AcceptPoll, Door, ListeningSockets};
 use crate::spawning::spawn_wanted;
-use ftp_base::{Authenticator, Gate, Spawner, Storage};
+use ftp_base::{Authenticator, Gate, Spawner};
 use ftp_shared::Serving;
-use ftp_system::ServerRuntime;
+use ftp_system::{Depot, ServerRuntime};
 use ftp_workers::{EventSinks, ServerDesk, ServerState};
 use mio::Token;
 use mio::net::TcpStream;
@@ -39,12 +39,12 @@ pub(crate) struct Acceptor<
     L: Serving,
     A: Authenticator + Drop,
     N: EventSinks + Drop,
-    S: Storage + Drop,
+    D: Depot + Drop,
     G: Gate + Drop,
 > {
     rt: R,
-    state: Arc<ServerState<L, A, N, S, G>, Global>,
-    desk: ServerDesk<R, L, A, N, S, G>,
+    state: Arc<ServerState<L, A, N, D, G>, Global>,
+    desk: ServerDesk<R, L, A, N, D, G>,
     // All connections to the control port come from a proxy.
     is_behind_proxy: bool,
     // Sockets whose accept failed, by their tokens, and from when on they are looked at again.
@@ -62,18 +62,18 @@ impl<
     L: Serving + Send + Sync + 'static,
     A: Authenticator + Send + Sync + Drop + 'static,
     N: EventSinks + Send + Drop + 'static,
-    S: Storage + Send + Drop + 'static,
+    D: Depot + Send + Sync + Drop + 'static,
     G: Gate + Send + Sync + Drop + 'static,
-> Acceptor<R, L, A, N, S, G> {
+> Acceptor<R, L, A, N, D, G> {
     /// No connection has come yet, at this moment in milliseconds.
     pub(crate) fn new(
         rt: R,
         alloc: Global,
-        state: Arc<ServerState<L, A, N, S, G>, Global>,
-        desk: ServerDesk<R, L, A, N, S, G>,
+        state: Arc<ServerState<L, A, N, D, G>, Global>,
+        desk: ServerDesk<R, L, A, N, D, G>,
         is_behind_proxy: bool,
         at: u64,
-    ) -> Acceptor<R, L, A, N, S, G> {
+    ) -> Acceptor<R, L, A, N, D, G> {
         Acceptor {
             rt,
             state,

@@ -3,45 +3,71 @@
 use ftp_base::{Authenticator, DataListener, PresenceListener, Storage};
 use ftp_feed::JournalFeed;
 use ftp_options::Indicator;
+use ftp_system::SharedDepot;
 use ftp_workers::Listeners;
-use std::alloc::Global;
-use std::sync::Arc;
+use std::alloc::{AllocError, Global};
+use std::sync::{Arc, Wait};
 
 /// Who may log in, who is told, who asks for a shutdown, and the files.
 #[derive(Drop)]
-pub struct Parts<S: Storage + Drop> {
+pub struct Parts<S: Drop> {
     pub authenticator: Box<dyn Authenticator + Send + Sync + Drop>,
     /// Is told of transfers.
     pub data_listener: Box<dyn DataListener + Send + Drop>,
     /// Is told who logs in and who leaves.
     pub presence_listener: Box<dyn PresenceListener + Send + Drop>,
     pub indicator: Box<dyn Indicator + Drop>,
-    /// One storage for all sessions, behind a lock.
+    /// One storage for all sessions, behind a lock, or with `Server::over` a depot.
     pub storage: S,
 }
 
-/// What a server's threads share: who may log in, who is told, the files, and where the journal's entries go.
+/// What a server's threads share: who may log in, who is told, where the files are, and where the journal's entries go.
 #[derive(Drop)]
-pub(crate) struct ServerParts<A, N, S> {
+pub(crate) struct ServerParts<A, N, D> {
     pub(crate) authenticator: A,
     pub(crate) sinks: N,
-    pub(crate) storage: S,
+    pub(crate) depot: D,
     pub(crate) feed: Option<Arc<JournalFeed, Global>>,
 }
 
 /// Anybody whom boxes hold.
-pub(crate) type Boxed<S> = ServerParts<
+pub(crate) type Boxed<D> = ServerParts<
     Box<dyn Authenticator + Send + Sync + Drop>,
     Listeners<Box<dyn DataListener + Send + Drop>, Box<dyn PresenceListener + Send + Drop>>,
-    S,
+    D,
 >;
 
 impl<S: Storage + Drop> Parts<S> {
+    /// The same parts, with the storage behind a lock.
+    pub(crate) fn shared<R: Wait + Copy + Drop>(
+        self,
+        rt: R,
+        alloc: Global,
+    ) -> Result<Parts<SharedDepot<R, S>>, AllocError> {
+        let Parts {
+            authenticator,
+            data_listener,
+            presence_listener,
+            indicator,
+            storage,
+        } = self;
+        let storage = SharedDepot::new(rt, alloc, storage)?;
+        Ok(Parts {
+            authenticator,
+            data_listener,
+            presence_listener,
+            indicator,
+            storage,
+        })
+    }
+}
+
+impl<D: Drop> Parts<D> {
     /// Who asks for a shutdown, and all else, with a feed for the journal's entries where there is one.
     pub(crate) fn open(
         self,
         feed: Option<Arc<JournalFeed, Global>>,
-    ) -> (Box<dyn Indicator + Drop>, Boxed<S>) {
+    ) -> (Box<dyn Indicator + Drop>, Boxed<D>) {
         let Parts {
             authenticator,
             data_listener,
@@ -56,7 +82,7 @@ impl<S: Storage + Drop> Parts<S> {
         let server_parts = ServerParts {
             authenticator,
             sinks,
-            storage,
+            depot: storage,
             feed,
         };
         (indicator, server_parts)

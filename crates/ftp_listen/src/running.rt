@@ -8,10 +8,10 @@ use crate::acceptor::Acceptor;
 use crate::listening::{AcceptPoll, ListeningSockets};
 use crate::parts::ServerParts;
 use crate::spawning::spawn_worker;
-use ftp_base::{Authenticator, Gate, Spawner, Storage};
+use ftp_base::{Authenticator, Gate, Spawner};
 use ftp_options::{Indicator, Options, ServerError, Shutdown};
 use ftp_shared::Serving;
-use ftp_system::{Doors, Front, ServerRuntime, SessionLimits};
+use ftp_system::{Depot, Doors, Front, ServerRuntime, SessionLimits};
 use ftp_workers::{AcceptorHandle, EventSinks, ServerDesk, ServerState};
 use std::alloc::{AllocError, Global};
 use std::sync::Arc;
@@ -31,17 +31,17 @@ pub(crate) fn new_state<
     L: Serving,
     A: Authenticator + Drop,
     N: EventSinks + Drop,
-    S: Storage + Drop,
+    D: Depot + Drop,
     G: Gate + Drop,
 >(
     alloc: Global,
     options: Options,
     limits: SessionLimits,
     blank: Blank,
-    server_parts: ServerParts<A, N, S>,
+    server_parts: ServerParts<A, N, D>,
     gate: Arc<G, Global>,
     acceptor: AcceptorHandle,
-) -> Result<Arc<ServerState<L, A, N, S, G>, Global>, AllocError>
+) -> Result<Arc<ServerState<L, A, N, D, G>, Global>, AllocError>
     requires name { blank.name ≡ L.name }
     requires parts { blank.parts ≡ L.parts }
     requires all { blank.parts ≡ PARTS }
@@ -50,7 +50,7 @@ pub(crate) fn new_state<
     let ServerParts {
         authenticator,
         sinks,
-        storage,
+        depot,
         feed,
     } = server_parts;
     let (steps, parts) = blank.open::<L>();
@@ -61,7 +61,7 @@ pub(crate) fn new_state<
         (steps, parts, PARTS),
         authenticator,
         sinks,
-        storage,
+        depot,
         gate,
         acceptor,
     )?;
@@ -80,14 +80,14 @@ fn accept_until_shutdown<
     L: Serving + Send + Sync + 'static,
     A: Authenticator + Send + Sync + Drop + 'static,
     N: EventSinks + Send + Drop + 'static,
-    S: Storage + Send + Drop + 'static,
+    D: Depot + Send + Sync + Drop + 'static,
     G: Gate + Send + Sync + Drop + 'static,
     P: Spawner,
     F: Front,
     I: Indicator,
 >(
     rt: &R,
-    acceptor: &mut Acceptor<R, L, A, N, S, G>,
+    acceptor: &mut Acceptor<R, L, A, N, D, G>,
     poll: &mut AcceptPoll,
     sockets: &ListeningSockets,
     spawner: &mut P,
@@ -119,13 +119,13 @@ fn drain<
     L: Serving + Send + Sync + 'static,
     A: Authenticator + Send + Sync + Drop + 'static,
     N: EventSinks + Send + Drop + 'static,
-    S: Storage + Send + Drop + 'static,
+    D: Depot + Send + Sync + Drop + 'static,
     G: Gate + Send + Sync + Drop + 'static,
     P: Spawner,
     F: Front,
 >(
     rt: &R,
-    acceptor: &mut Acceptor<R, L, A, N, S, G>,
+    acceptor: &mut Acceptor<R, L, A, N, D, G>,
     poll: &mut AcceptPoll,
     spawner: &mut P,
     front: &mut F,
@@ -159,7 +159,7 @@ pub(crate) fn run_server<
     R: ServerRuntime,
     A: Authenticator + Send + Sync + Drop + 'static,
     N: EventSinks + Send + Drop + 'static,
-    S: Storage + Send + Drop + 'static,
+    D: Depot + Send + Sync + Drop + 'static,
     G: Gate + Send + Sync + Drop + 'static,
     P: Spawner,
     F: Front,
@@ -170,7 +170,7 @@ pub(crate) fn run_server<
     options: Options,
     limits: SessionLimits,
     blank: Blank,
-    server_parts: ServerParts<A, N, S>,
+    server_parts: ServerParts<A, N, D>,
     gate: Arc<G, Global>,
     doors: Doors,
     spawner: &mut P,
@@ -192,7 +192,7 @@ pub(crate) fn run_server<
     let Ok((poll, sockets, acceptor)) = AcceptPoll::over(rt, alloc, doors) else {
         return Err(ServerError::OutOfMemory);
     };
-    let Ok(state) = new_state::<L, A, N, S, G>(
+    let Ok(state) = new_state::<L, A, N, D, G>(
         alloc,
         options,
         limits,

@@ -1,20 +1,22 @@
 //! A server, from its options to its end.
 
-ghost use Rattle.std.specs.Prelude.{◌≡◌, ◌↔◌, ◌⊎◌, None, true, false, IfErr, IsErrOf, IsSome, OnOk};
+ghost use Rattle.std.specs.Prelude.{◌≡◌, ◌↔◌, ◌⊎◌, None, true, false, IfErr, IfOk, IsErrOf, IsSome, OnOk};
 ghost use Rattle.ftp_base.specs.Outside.{HasRisen};
 ghost use Rattle.ftp_options.specs.Modes.{is_legacy};
 ghost use Rattle.ftp_listen.specs.Causes.{WritesNone, WritesV6, IsPastGrace, is_of_listening, is_of_running};
 
-use crate::parts::{Boxed, Parts, ServerParts};
+use crate::parts::{Parts, ServerParts};
 use crate::place::{doors_at, place_of};
 use crate::running::{PARTS, run_server};
 use crate::single::serve_one;
 use ftp_base::{Authenticator, Gate, SocketAddr, Spawner, Storage};
 use ftp_feed::JournalFeed;
 use ftp_options::{Built, Indicator, Options, ServerError};
-use ftp_system::{Front, OpenGate, ServerRuntime, SessionLimits, SystemFront, SystemThreads};
+use ftp_system::{
+    Depot, Front, OpenGate, ServerRuntime, SessionLimits, SharedDepot, SystemFront, SystemThreads,
+};
 use ftp_workers::EventSinks;
-use std::alloc::Global;
+use std::alloc::{AllocError, Global};
 use std::marker::Brand;
 use std::net::TcpStream;
 use std::sync::Arc;
@@ -35,7 +37,7 @@ fn usual_limits() -> SessionLimits {
 
 /// A server that does not listen yet.
 #[derive(Drop)]
-pub struct Server<S: Storage + Drop> {
+pub struct Server<S: Drop> {
     alloc: Global,
     options: Options,
     limits: SessionLimits,
@@ -49,7 +51,7 @@ impl<S: Storage + Send + Drop + 'static> Server<S> {
     /// # Proved
     ///
     /// - A server has the options that were built, or that it is given (also `PreboundListener::new`; also
-    ///   `Server::with_options`, `PreboundListener::with_options`).
+    ///   `Server::with_options`, `PreboundListener::with_options`, `Server::over`).
     pub fn new(alloc: Global, built: Built, parts: Parts<S>) -> Server<S>
         ensures { result.options ≡ built.options }
     {
@@ -79,31 +81,6 @@ impl<S: Storage + Send + Drop + 'static> Server<S> {
         }
     }
 
-    /// There are at most so many sessions at a time. A connection that is one too many is told 421 and closed.
-    pub fn most_sessions(&mut self, all: u64)
-        ensures limit { self.new.limits ≡ record self.old.limits { all = all } }
-        ensures options { self.new.options ≡ self.old.options }
-    {
-        self.limits.all = all;
-    }
-
-    /// There are at most so many sessions of one client address at a time; else as `most_sessions`.
-    pub fn most_sessions_of_one(&mut self, of_one: u64)
-        ensures limit { self.new.limits ≡ record self.old.limits { of_one = of_one } }
-        ensures options { self.new.options ≡ self.old.options }
-    {
-        self.limits.of_one = of_one;
-    }
-
-    /// Hands each entry of the journal to a feed, in order, once it is decided. A thread of the caller's takes them out; where it
-    /// does not keep up, it is told that entries are lost. The caller closes the feed once the server has ended.
-    pub fn feed_journal(&mut self, feed: Arc<JournalFeed, Global>)
-        ensures limits { self.new.limits ≡ self.old.limits }
-        ensures options { self.new.options ≡ self.old.options }
-    {
-        self.feed = Some(feed);
-    }
-
     /// Listens at an address such as `127.0.0.1:21` or `[::1]:21`, until the indicator asks for a shutdown and all
     /// transfers are over.
     ///
@@ -111,41 +88,21 @@ impl<S: Storage + Send + Drop + 'static> Server<S> {
     ///
     /// - A text is refused exactly where it writes no address with a port (`WritesNone` in
     ///   `ftp_listen/specs/Causes.antt`), and an address of IP version 6 exactly where sessions share the ports
-    ///   (`WritesV6`) (`address`, `ipv6`; also `Server::listen_with`, `PreboundListener::listen_pooled`,
-    ///   `PreboundListener::listen_proxy_protocol`).
+    ///   (`WritesV6`) (`address`, `ipv6`; also `Server::listen_with`, `Server::listen_over`,
+    ///   `PreboundListener::listen_pooled`, `PreboundListener::listen_proxy_protocol`).
     pub fn listen<R: ServerRuntime>(self, rt: &R, bind_address: &[u8]) -> Result<(), ServerError>
         ensures address { IsErrOf result ServerError.Address ↔ WritesNone bind_address.now }
         ensures ipv6 { IsErrOf result ServerError.Ipv6OutsideLegacy ↔ (WritesV6 bind_address.now × (is_legacy self.options.mode ≡ false)) }
         ensures only { IfErr result (λ e. is_of_listening e ≡ true) }
     {
-        let Server {
-            alloc,
-            options,
-            limits,
-            parts,
-            feed,
-        } = self;
-        let (indicator, server_parts) = parts.open(feed);
-        let mut indicator = indicator;
-        let at = match place_of(bind_address, options.mode) {
+        let at = match place_of(bind_address, self.options.mode) {
             Ok(at) => at,
             Err(error) => return Err(error),
         };
-        let Ok(gate) = Arc::new(alloc, OpenGate) else {
-            return Err(ServerError::OutOfMemory);
-        };
-        listen_boxed(
-            rt,
-            alloc,
-            options,
-            limits,
-            server_parts,
-            at,
-            gate,
-            &mut SystemThreads::new(),
-            &mut SystemFront::new(*rt, alloc),
-            &mut indicator,
-        )
+        match self.shared(*rt) {
+            Ok(server) => server.listen_there(rt, at),
+            Err(_) => Err(ServerError::OutOfMemory),
+        }
     }
 
     /// Listens as `listen` does, with a gate before each transfer, and with a spawner, a front and an indicator of the
@@ -184,6 +141,172 @@ impl<S: Storage + Send + Drop + 'static> Server<S> {
         ensures has_asked { IsErrOf result ServerError.Shutdown → IsSome (⟦<Box<dyn Indicator + Drop> as Indicator>⟧.asked indicator.new) }
         ensures only { IfErr result (λ e. is_of_listening e ≡ true) }
     {
+        let at = match place_of(bind_address, self.options.mode) {
+            Ok(at) => at,
+            Err(error) => return Err(error),
+        };
+        match self.shared(*rt) {
+            Ok(server) => server.listen_there_with(rt, at, gate, spawner, front, indicator),
+            Err(_) => Err(ServerError::OutOfMemory),
+        }
+    }
+
+    /// Serves one control connection to its end, in legacy mode whatever mode was built. The indicator is not asked.
+    ///
+    /// A fault of the connection is `Io`.
+    pub fn service<R: ServerRuntime>(self, rt: &R, stream: TcpStream) -> Result<(), ServerError>
+        ensures only { IfErr result (λ e. (e ≡ ServerError.Io) ⊎ (e ≡ ServerError.OutOfMemory)) }
+    {
+        let Ok(server) = self.shared(*rt) else {
+            return Err(ServerError::OutOfMemory);
+        };
+        let Server {
+            alloc,
+            options,
+            limits,
+            parts,
+            feed,
+        } = server;
+        let (own, server_parts) = parts.open(feed);
+        drop(own);
+        serve_one(rt, alloc, options, limits, server_parts, stream)
+    }
+
+    // The same server, over a depot of its storage.
+    fn shared<R: ServerRuntime>(self, rt: R) -> Result<Server<SharedDepot<R, S>>, AllocError>
+        ensures options { IfOk result (λ server. server.options ≡ self.options) }
+        ensures limits { IfOk result (λ server. server.limits ≡ self.limits) }
+    {
+        let Server {
+            alloc,
+            options,
+            limits,
+            parts,
+            feed,
+        } = self;
+        let parts = parts.shared(rt, alloc)?;
+        Ok(Server {
+            alloc,
+            options,
+            limits,
+            parts,
+            feed,
+        })
+    }
+}
+
+impl<S: Drop> Server<S> {
+    /// There are at most so many sessions at a time. A connection that is one too many is told 421 and closed.
+    pub fn most_sessions(&mut self, all: u64)
+        ensures limit { self.new.limits ≡ record self.old.limits { all = all } }
+        ensures options { self.new.options ≡ self.old.options }
+    {
+        self.limits.all = all;
+    }
+
+    /// There are at most so many sessions of one client address at a time; else as `most_sessions`.
+    pub fn most_sessions_of_one(&mut self, of_one: u64)
+        ensures limit { self.new.limits ≡ record self.old.limits { of_one = of_one } }
+        ensures options { self.new.options ≡ self.old.options }
+    {
+        self.limits.of_one = of_one;
+    }
+
+    /// Hands each entry of the journal to a feed, in order, once it is decided. A thread of the caller's takes them out; where it
+    /// does not keep up, it is told that entries are lost. The caller closes the feed once the server has ended.
+    pub fn feed_journal(&mut self, feed: Arc<JournalFeed, Global>)
+        ensures limits { self.new.limits ≡ self.old.limits }
+        ensures options { self.new.options ≡ self.old.options }
+    {
+        self.feed = Some(feed);
+    }
+}
+
+impl<D: Depot + Send + Sync + Drop + 'static> Server<D> {
+    /// A server without handlers of SITE commands, over a depot: it takes a storage from there for each transfer, which is dropped
+    /// with it.
+    pub fn over(alloc: Global, options: Options, parts: Parts<D>) -> Server<D>
+        ensures { result.options ≡ options }
+    {
+        Server {
+            alloc,
+            options,
+            limits: usual_limits(),
+            parts,
+            feed: None,
+        }
+    }
+
+    /// Listens over its depot at an address, as `listen` does.
+    pub fn listen_over<R: ServerRuntime>(
+        self,
+        rt: &R,
+        bind_address: &[u8],
+    ) -> Result<(), ServerError>
+        ensures address { IsErrOf result ServerError.Address ↔ WritesNone bind_address.now }
+        ensures ipv6 { IsErrOf result ServerError.Ipv6OutsideLegacy ↔ (WritesV6 bind_address.now × (is_legacy self.options.mode ≡ false)) }
+        ensures only { IfErr result (λ e. is_of_listening e ≡ true) }
+    {
+        let at = match place_of(bind_address, self.options.mode) {
+            Ok(at) => at,
+            Err(error) => return Err(error),
+        };
+        self.listen_there(rt, at)
+    }
+
+    // Listens at an address, with the indicator of its parts.
+    fn listen_there<R: ServerRuntime>(self, rt: &R, at: SocketAddr) -> Result<(), ServerError>
+        ensures only { IfErr result (λ e. is_of_running e ≡ true) }
+    {
+        let Server {
+            alloc,
+            options,
+            limits,
+            parts,
+            feed,
+        } = self;
+        let (indicator, server_parts) = parts.open(feed);
+        let mut indicator = indicator;
+        let Ok(gate) = Arc::new(alloc, OpenGate) else {
+            return Err(ServerError::OutOfMemory);
+        };
+        listen_at(
+            rt,
+            alloc,
+            options,
+            limits,
+            server_parts,
+            at,
+            gate,
+            &mut SystemThreads::new(),
+            &mut SystemFront::new(*rt, alloc),
+            &mut indicator,
+        )
+    }
+
+    // Listens at an address, with an indicator that is not of its parts.
+    fn listen_there_with<
+        R: ServerRuntime,
+        G: Gate + Send + Sync + Drop + 'static,
+        P: Spawner,
+        F: Front,
+        I: Indicator,
+    >(
+        self,
+        rt: &R,
+        at: SocketAddr,
+        gate: Arc<G, Global>,
+        spawner: &mut P,
+        front: &mut F,
+        indicator: &mut I,
+    ) -> Result<(), ServerError>
+        ensures ok { OnOk result (IsSome (I.asked indicator.new)) }
+        ensures io { IsErrOf result ServerError.Io → HasRisen (F.faults front.old) (F.faults front.new) }
+        ensures listener { IsErrOf result ServerError.Listener → HasRisen (P.faults spawner.old) (P.faults spawner.new) }
+        ensures shutdown { IsErrOf result ServerError.Shutdown → I.asked indicator.old ≡ None → IsPastGrace (I.asked indicator.new) (F.latest front.new) }
+        ensures has_asked { IsErrOf result ServerError.Shutdown → IsSome (I.asked indicator.new) }
+        ensures only { IfErr result (λ e. is_of_running e ≡ true) }
+    {
         let Server {
             alloc,
             options,
@@ -193,11 +316,7 @@ impl<S: Storage + Send + Drop + 'static> Server<S> {
         } = self;
         let (own, server_parts) = parts.open(feed);
         drop(own);
-        let at = match place_of(bind_address, options.mode) {
-            Ok(at) => at,
-            Err(error) => return Err(error),
-        };
-        listen_boxed(
+        listen_at(
             rt,
             alloc,
             options,
@@ -210,65 +329,6 @@ impl<S: Storage + Send + Drop + 'static> Server<S> {
             indicator,
         )
     }
-
-    /// Serves one control connection to its end, in legacy mode whatever mode was built. The indicator is not asked.
-    ///
-    /// A fault of the connection is `Io`.
-    pub fn service<R: ServerRuntime>(self, rt: &R, stream: TcpStream) -> Result<(), ServerError>
-        ensures only { IfErr result (λ e. (e ≡ ServerError.Io) ⊎ (e ≡ ServerError.OutOfMemory)) }
-    {
-        let Server {
-            alloc,
-            options,
-            limits,
-            parts,
-            feed,
-        } = self;
-        let (own, server_parts) = parts.open(feed);
-        drop(own);
-        serve_one(rt, alloc, options, limits, server_parts, stream)
-    }
-}
-
-// Listens at an address, with parts that boxes hold.
-fn listen_boxed<
-    R: ServerRuntime,
-    S: Storage + Send + Drop + 'static,
-    G: Gate + Send + Sync + Drop + 'static,
-    P: Spawner,
-    F: Front,
-    I: Indicator,
->(
-    rt: &R,
-    alloc: Global,
-    options: Options,
-    limits: SessionLimits,
-    server_parts: Boxed<S>,
-    at: SocketAddr,
-    gate: Arc<G, Global>,
-    spawner: &mut P,
-    front: &mut F,
-    indicator: &mut I,
-) -> Result<(), ServerError>
-    ensures ok { OnOk result (IsSome (I.asked indicator.new)) }
-    ensures io { IsErrOf result ServerError.Io → HasRisen (F.faults front.old) (F.faults front.new) }
-    ensures listener { IsErrOf result ServerError.Listener → HasRisen (P.faults spawner.old) (P.faults spawner.new) }
-    ensures shutdown { IsErrOf result ServerError.Shutdown → I.asked indicator.old ≡ None → IsPastGrace (I.asked indicator.new) (F.latest front.new) }
-    ensures has_asked { IsErrOf result ServerError.Shutdown → IsSome (I.asked indicator.new) }
-    ensures only { IfErr result (λ e. is_of_running e ≡ true) }
-{
-    listen_at(
-        rt,
-        alloc,
-        options,
-        limits,
-        server_parts,
-        at,
-        gate,
-        spawner,
-        front,
-        indicator,
-    )
 }
 
 // Listens at an address, until the indicator asks for a shutdown and all transfers are over.
@@ -276,7 +336,7 @@ fn listen_at<
     R: ServerRuntime,
     A: Authenticator + Send + Sync + Drop + 'static,
     N: EventSinks + Send + Drop + 'static,
-    S: Storage + Send + Drop + 'static,
+    D: Depot + Send + Sync + Drop + 'static,
     G: Gate + Send + Sync + Drop + 'static,
     P: Spawner,
     F: Front,
@@ -286,7 +346,7 @@ fn listen_at<
     alloc: Global,
     options: Options,
     limits: SessionLimits,
-    server_parts: ServerParts<A, N, S>,
+    server_parts: ServerParts<A, N, D>,
     at: SocketAddr,
     gate: Arc<G, Global>,
     spawner: &mut P,
@@ -304,7 +364,7 @@ fn listen_at<
         Ok(doors) => doors,
         Err(error) => return Err(error),
     };
-    run_server::<Brand, R, A, N, S, G, P, F, I>(
+    run_server::<Brand, R, A, N, D, G, P, F, I>(
         rt,
         alloc,
         options,

@@ -8,10 +8,12 @@ use crate::listening::AcceptPoll;
 use crate::parts::{Boxed, ServerParts};
 use crate::running::{PARTS, new_state};
 use crate::spawning::spawn_wanted;
-use ftp_base::{Authenticator, Gate, Storage};
+use ftp_base::{Authenticator, Gate};
 use ftp_options::{ListenerMode, Options, ServerError};
 use ftp_shared::{Serving, StepShare};
-use ftp_system::{Front, OpenGate, ServerRuntime, SessionLimits, SystemFront, SystemThreads};
+use ftp_system::{
+    Depot, Front, OpenGate, ServerRuntime, SessionLimits, SystemFront, SystemThreads,
+};
 use ftp_talk::ServeEnd;
 use ftp_workers::{EventSinks, ServerDesk, ServerState, Worker};
 use std::alloc::Global;
@@ -53,11 +55,11 @@ fn served<
     L: Serving,
     A: Authenticator + Drop,
     N: EventSinks + Drop,
-    S: Storage + Drop,
+    D: Depot + Drop,
     G: Gate + Drop,
 >(
     rt: &R,
-    state: Arc<ServerState<L, A, N, S, G>, Global>,
+    state: Arc<ServerState<L, A, N, D, G>, Global>,
     share: StepShare<L>,
     stream: TcpStream,
     raw: SocketAddr,
@@ -83,13 +85,13 @@ fn spawn_on<
     L: Serving + Send + Sync + 'static,
     A: Authenticator + Send + Sync + Drop + 'static,
     N: EventSinks + Send + Drop + 'static,
-    S: Storage + Send + Drop + 'static,
+    D: Depot + Send + Sync + Drop + 'static,
     G: Gate + Send + Sync + Drop + 'static,
 >(
     rt: &R,
     alloc: Global,
-    state: &Arc<ServerState<L, A, N, S, G>, Global>,
-    desk: ServerDesk<R, L, A, N, S, G>,
+    state: &Arc<ServerState<L, A, N, D, G>, Global>,
+    desk: ServerDesk<R, L, A, N, D, G>,
     poll: &mut AcceptPoll,
     is_over: &AtomicBool,
 ) {
@@ -121,14 +123,14 @@ fn serve_inside<
     R: ServerRuntime,
     A: Authenticator + Send + Sync + Drop + 'static,
     N: EventSinks + Send + Drop + 'static,
-    S: Storage + Send + Drop + 'static,
+    D: Depot + Send + Sync + Drop + 'static,
 >(
     rt: &R,
     alloc: Global,
     options: Options,
     limits: SessionLimits,
     blank: Blank,
-    server_parts: ServerParts<A, N, S>,
+    server_parts: ServerParts<A, N, D>,
     stream: TcpStream,
     raw: SocketAddr,
 ) -> Result<(), ServerError>
@@ -147,7 +149,7 @@ fn serve_inside<
     let Ok(waker) = Arc::try_clone(&acceptor.waker) else {
         return Err(ServerError::OutOfMemory);
     };
-    let Ok(state) = new_state::<L, A, N, S, OpenGate>(
+    let Ok(state) = new_state::<L, A, N, D, OpenGate>(
         alloc,
         options,
         limits,
@@ -184,12 +186,12 @@ fn serve_inside<
 }
 
 /// Serves one control connection to its end, in legacy mode.
-pub(crate) fn serve_one<R: ServerRuntime, S: Storage + Send + Drop + 'static>(
+pub(crate) fn serve_one<R: ServerRuntime, D: Depot + Send + Sync + Drop + 'static>(
     rt: &R,
     alloc: Global,
     options: Options,
     limits: SessionLimits,
-    server_parts: Boxed<S>,
+    server_parts: Boxed<D>,
     stream: TcpStream,
 ) -> Result<(), ServerError>
     ensures only { IfErr result (λ e. (e ≡ ServerError.Io) ⊎ (e ≡ ServerError.OutOfMemory)) }
@@ -199,7 +201,7 @@ pub(crate) fn serve_one<R: ServerRuntime, S: Storage + Send + Drop + 'static>(
         return Ok(());
     };
     let options = in_legacy_mode(options);
-    serve_inside::<Brand, R, _, _, S>(
+    serve_inside::<Brand, R, _, _, D>(
         rt,
         alloc,
         options,

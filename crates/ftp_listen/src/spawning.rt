@@ -3,9 +3,9 @@
 ghost use Rattle.std.specs.Prelude.{◌≡◌, ◌≤◌, false};
 ghost use Rattle.ftp_base.specs.Outside.{HasRisen};
 
-use ftp_base::{Authenticator, Gate, Spawner, Storage};
+use ftp_base::{Authenticator, Gate, Spawner};
 use ftp_shared::Serving;
-use ftp_system::{ServerRuntime, start};
+use ftp_system::{Depot, ServerRuntime, start};
 use ftp_workers::{EventSinks, ServerState, work};
 use std::alloc::Global;
 use std::sync::Arc;
@@ -17,10 +17,10 @@ pub(crate) fn spawn_worker<
     L: Serving + Send + Sync + 'static,
     A: Authenticator + Send + Sync + Drop + 'static,
     N: EventSinks + Send + Drop + 'static,
-    S: Storage + Send + Drop + 'static,
+    D: Depot + Send + Sync + Drop + 'static,
     G: Gate + Send + Sync + Drop + 'static,
     P: Spawner,
->(rt: &R, state: &Arc<ServerState<L, A, N, S, G>, Global>, spawner: &mut P) -> bool
+>(rt: &R, state: &Arc<ServerState<L, A, N, D, G>, Global>, spawner: &mut P) -> bool
     ensures fault_rose { result ≡ false → HasRisen (P.faults spawner.old) (P.faults spawner.new) }
     ensures count { P.faults spawner.old ≤ P.faults spawner.new }
 {
@@ -41,10 +41,10 @@ pub(crate) fn spawn_wanted<
     L: Serving + Send + Sync + 'static,
     A: Authenticator + Send + Sync + Drop + 'static,
     N: EventSinks + Send + Drop + 'static,
-    S: Storage + Send + Drop + 'static,
+    D: Depot + Send + Sync + Drop + 'static,
     G: Gate + Send + Sync + Drop + 'static,
     P: Spawner,
->(rt: &R, state: &Arc<ServerState<L, A, N, S, G>, Global>, spawner: &mut P, owed: u64) -> u64
+>(rt: &R, state: &Arc<ServerState<L, A, N, D, G>, Global>, spawner: &mut P, owed: u64) -> u64
     ensures count { P.faults spawner.old ≤ P.faults spawner.new }
 {
     let wanted = owed.saturating_add(state.wanted());

@@ -1,14 +1,16 @@
-//! What a test puts in the place of the system and of a server's user: a front, an indicator, gates, listeners, an authenticator.
+//! What a test puts in the place of the system and of a server's user: a front, an indicator, gates, listeners, an authenticator,
+//! a depot.
 
+use crate::files::AnnsFiles;
 use ftp_base::{
     AuthAnswer, Authenticator, Bytes, DataEvent, DataListener, EventMeta, Gate, IpAddr,
     PresenceEvent, PresenceListener, SocketAddr,
 };
 use ftp_options::{Indicator, Shutdown};
-use ftp_system::{Doors, Front};
+use ftp_system::{Depot, Doors, Front, SharedDepot, SharedStorage};
 use std::alloc::{AllocError, Global};
-use std::sync::Arc;
 use std::sync::atomic::{AtomicBool, AtomicU64, Ordering};
+use std::sync::{Arc, Wait};
 use std::thread;
 use std::time::{Clock, Duration};
 
@@ -33,6 +35,8 @@ pub struct Board {
     pub gots: AtomicU64,
     pub puts: AtomicU64,
     pub others: AtomicU64,
+    /// How many storages a depot gave.
+    pub stores: AtomicU64,
 }
 
 pub type SharedBoard = Arc<Board, Global>;
@@ -52,6 +56,7 @@ pub fn new_board(alloc: Global) -> Result<SharedBoard, AllocError> {
         gots: AtomicU64::new(0),
         puts: AtomicU64::new(0),
         others: AtomicU64::new(0),
+        stores: AtomicU64::new(0),
     };
     match Arc::new(alloc, board) {
         Ok(board) => Ok(board),
@@ -246,5 +251,21 @@ impl Gate for InPairs {
             }
             thread::yield_now();
         }
+    }
+}
+
+/// A depot of one storage, which counts on the board the storages that it gives.
+#[derive(Drop)]
+pub struct CountedDepot<R: Wait + Copy + Drop> {
+    pub files: SharedDepot<R, AnnsFiles>,
+    pub board: SharedBoard,
+}
+
+impl<R: Wait + Copy + Drop> Depot for CountedDepot<R> {
+    type Store = SharedStorage<R, AnnsFiles>;
+
+    fn store(&self) -> Result<SharedStorage<R, AnnsFiles>, AllocError> {
+        self.board.stores.fetch_add(1, Ordering::SeqCst);
+        self.files.store()
     }
 }

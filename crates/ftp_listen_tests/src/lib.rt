@@ -9,6 +9,8 @@ mod aborts;
 #[cfg(test)]
 mod client;
 #[cfg(test)]
+mod depots;
+#[cfg(test)]
 mod doubles;
 #[cfg(test)]
 mod endings;

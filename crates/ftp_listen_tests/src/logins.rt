@@ -38,7 +38,7 @@ fn reaches<C: Clock>(clock: &C, count: &AtomicU64, wanted: u64) -> Result<(), Me
 }
 
 /// Ann comes after others were refused, stores, lists and fetches; then she comes again, and her connection fails.
-struct AnnAlone;
+pub struct AnnAlone;
 
 /// Tries a name with a password in vain.
 fn refused(client: &mut Client, name: &str, password: &str) -> Result<(), Met> {

@@ -1,7 +1,7 @@
 //! What several tests serve, and how a client and its server meet.
 
 use crate::client::Met;
-use crate::doubles::{Asks, Board, Counting, OnlyAnn, SharedBoard, Watched};
+use crate::doubles::{Asks, Board, CountedDepot, Counting, OnlyAnn, SharedBoard, Watched};
 use crate::files::AnnsFiles;
 use crate::place::{PASSIVE, Place};
 use ftp_base::{Bytes, Gate, MemoryStorage};
@@ -10,7 +10,7 @@ use ftp_options::{
     FailedLoginsBlock, FailedLoginsPolicy, Indicator, ListenerMode, Options, ServerBuilder,
     ServerError, Shutdown,
 };
-use ftp_system::{Front, ServerRuntime, SystemThreads};
+use ftp_system::{Front, ServerRuntime, SharedDepot, SystemThreads};
 use std::alloc::{AllocError, Global};
 use std::net::{Net, TcpStream};
 use std::sync::Arc;
@@ -90,7 +90,10 @@ pub fn agreed(met: Result<(), Met>, ended: Result<(), ServerError>) -> Result<()
 
 /// Ann may log in, the board counts what is told and says when to shut down, and there are three files of hers.
 macro_rules! parts {
-    ($alloc:expr, $board:expr) => {{
+    ($alloc:expr, $board:expr) => {
+        parts!($alloc, $board, storage($alloc)?)
+    };
+    ($alloc:expr, $board:expr, $storage:expr) => {{
         let alloc = $alloc;
         let asks = Asks {
             board: Arc::try_clone($board)?,
@@ -114,7 +117,7 @@ macro_rules! parts {
             data_listener,
             presence_listener,
             indicator,
-            storage: storage(alloc)?,
+            storage: $storage,
         }
     }};
 }
@@ -148,6 +151,22 @@ pub fn listen_to_few<R: ServerRuntime>(
     Ok(server.listen(rt, text.as_bytes()))
 }
 
+/// Listens at the text in this mode, over a depot that counts the storages that it gives.
+pub fn listen_over<R: ServerRuntime>(
+    rt: &R,
+    alloc: Global,
+    board: &SharedBoard,
+    mode: ListenerMode,
+    text: &str,
+) -> Ended {
+    let depot = CountedDepot {
+        files: SharedDepot::new(*rt, alloc, storage(alloc)?)?,
+        board: Arc::try_clone(board)?,
+    };
+    let server = Server::over(alloc, options(alloc, mode)?, parts!(alloc, board, depot));
+    Ok(server.listen_over(rt, text.as_bytes()))
+}
+
 /// What a client does at a server.
 pub trait Visit {
     fn pay<R: Net<Stream = TcpStream> + Clock>(
@@ -179,7 +198,7 @@ pub fn served<R: ServerRuntime, V: Visit + Sync>(
 }
 
 /// The visit, after which the server is asked to shut down.
-fn paid<R: Net<Stream = TcpStream> + Clock, V: Visit>(
+pub fn paid<R: Net<Stream = TcpStream> + Clock, V: Visit>(
     rt: &R,
     alloc: Global,
     place: Place,

@@ -1,15 +1,58 @@
-//! One storage for all threads.
+//! One storage for all transfers.
 
 ghost use Rattle.std.specs.Prelude.{◌≡◌};
 
+use crate::depot::Depot;
 use crate::uploads::Uploads;
 use ftp_base::{Bytes, ErrorKind, FileInfo, Meta, Storage, StoreError};
 use std::alloc::{AllocError, Global};
 use std::sync::{Arc, Mutex, Wait};
 
-/// A storage behind a lock, which is taken for each call. Beside it stands which paths are being written, each of which
-/// refuses a second upload.
+/// A storage behind a lock, and beside it which paths are being written, each of which refuses a second upload.
 #[derive(Drop)]
+pub struct SharedDepot<R: Wait + Copy + Drop, S: Storage + Drop> {
+    rt: R,
+    alloc: Global,
+    files: Arc<Mutex<S>, Global>,
+    uploads: Arc<Mutex<Uploads>, Global>,
+    features: u32,
+}
+
+impl<R: Wait + Copy + Drop, S: Storage + Drop> SharedDepot<R, S> {
+    /// What the storage can do is asked once.
+    pub fn new(rt: R, alloc: Global, storage: S) -> Result<SharedDepot<R, S>, AllocError> {
+        let features = storage.features();
+        let files = Arc::new(alloc, Mutex::new(storage))?;
+        let uploads = Arc::new(alloc, Mutex::new(Uploads::new(alloc)))?;
+        Ok(SharedDepot {
+            rt,
+            alloc,
+            files,
+            uploads,
+            features,
+        })
+    }
+}
+
+impl<R: Wait + Copy + Drop, S: Storage + Drop> Depot for SharedDepot<R, S> {
+    type Store = SharedStorage<R, S>;
+
+    fn store(&self) -> Result<SharedStorage<R, S>, AllocError> {
+        let files = Arc::try_clone(&self.files)?;
+        let uploads = Arc::try_clone(&self.uploads)?;
+        Ok(SharedStorage {
+            rt: self.rt,
+            alloc: self.alloc,
+            files,
+            uploads,
+            own: None,
+            features: self.features,
+            faults: 0,
+        })
+    }
+}
+
+/// The storage of a `SharedDepot`, for one transfer. The lock is taken for each call. Once it is dropped, its upload is over.
 pub struct SharedStorage<R: Wait + Drop, S: Storage + Drop> {
     rt: R,
     alloc: Global,
@@ -21,26 +64,22 @@ pub struct SharedStorage<R: Wait + Drop, S: Storage + Drop> {
     faults: u64,
 }
 
-impl<R: Wait + Drop, S: Storage + Drop> SharedStorage<R, S> {
-    /// What the storage can do is asked once.
-    pub fn new(
-        rt: R,
-        alloc: Global,
-        files: Arc<Mutex<S>, Global>,
-        uploads: Arc<Mutex<Uploads>, Global>,
-    ) -> SharedStorage<R, S> {
-        let features = files.lock(&rt).features();
-        SharedStorage {
-            rt,
-            alloc,
-            files,
-            uploads,
-            own: None,
-            features,
-            faults: 0,
-        }
+impl<R: Wait + Drop, S: Storage + Drop> Drop for SharedStorage<R, S> {
+    fn drop(mut self) {
+        self.end_upload();
+        let SharedStorage {
+            rt: _,
+            alloc: _,
+            files: _,
+            uploads: _,
+            own: _,
+            features: _,
+            faults: _,
+        } = self;
     }
+}
 
+impl<R: Wait + Drop, S: Storage + Drop> SharedStorage<R, S> {
     // Has an upload to the path begin, and says whether no other is under way there. One that began before is over.
     fn begin_upload(&mut self, path: &Bytes) -> Result<bool, AllocError>
         ensures features { self.new.features ≡ self.old.features }
@@ -55,8 +94,8 @@ impl<R: Wait + Drop, S: Storage + Drop> SharedStorage<R, S> {
         Ok(is_free)
     }
 
-    /// The upload that began last is over.
-    pub fn end_upload(&mut self)
+    // The upload that began last is over.
+    fn end_upload(&mut self)
         ensures features { self.new.features ≡ self.old.features }
         ensures faults { self.new.faults ≡ self.old.faults }
     {

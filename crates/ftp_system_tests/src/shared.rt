@@ -1,11 +1,11 @@
-//! One storage for all threads.
+//! One storage for all transfers.
 
 use ftp_base::{
     Bytes, ErrorKind, FEATURE_RESTART, FileInfo, MemoryStorage, Meta, Storage, StoreError,
 };
-use ftp_system::{SharedStorage, Uploads};
+use ftp_system::{Depot, SharedDepot};
 use std::alloc::{AllocError, Global};
-use std::sync::{Arc, Mutex, Wait};
+use std::sync::Wait;
 use std::test::Fail;
 
 const HELLO: Meta = Meta {
@@ -13,32 +13,21 @@ const HELLO: Meta = Meta {
     len: 5,
 };
 
-/// Two ways to one empty storage, whose call of this number fails.
-fn both<R: Wait + Drop + Copy>(
+/// A depot of one empty storage, whose call of this number fails.
+fn depot<R: Wait + Drop + Copy>(
     rt: R,
     alloc: Global,
     fails: u64,
-) -> Result<
-    (
-        SharedStorage<R, MemoryStorage>,
-        SharedStorage<R, MemoryStorage>,
-    ),
-    AllocError,
-> {
+) -> Result<SharedDepot<R, MemoryStorage>, AllocError> {
     let storage = MemoryStorage::new(alloc, u64::MAX, [fails].to_vec(alloc)?);
-    let files = Arc::new(alloc, Mutex::new(storage))?;
-    let uploads = Arc::new(alloc, Mutex::new(Uploads::new(alloc)))?;
-    let (other_files, other_uploads) = (Arc::try_clone(&files)?, Arc::try_clone(&uploads)?);
-    Ok((
-        SharedStorage::new(rt, alloc, files, uploads),
-        SharedStorage::new(rt, alloc, other_files, other_uploads),
-    ))
+    SharedDepot::new(rt, alloc, storage)
 }
 
 #[test]
-fn what_one_thread_stores_another_finds(rt: HostRuntime) -> Result<(), Fail> {
+fn what_one_transfer_stores_another_finds(rt: HostRuntime) -> Result<(), Fail> {
     let alloc = rt.alloc();
-    let (mut one, mut two) = both(rt, alloc, 99)?;
+    let depot = depot(rt, alloc, 99)?;
+    let (mut one, mut two) = (depot.store()?, depot.store()?);
     let ann = Bytes::from_slice(alloc, b"ann")?;
     let path = Bytes::from_slice(alloc, b"/a")?;
     let root = Bytes::from_slice(alloc, b"/")?;
@@ -64,7 +53,7 @@ fn what_one_thread_stores_another_finds(rt: HostRuntime) -> Result<(), Fail> {
 #[test]
 fn a_call_that_fails_or_is_refused_is_told(rt: HostRuntime) -> Result<(), Fail> {
     let alloc = rt.alloc();
-    let (mut one, _) = both(rt, alloc, 1)?;
+    let mut one = depot(rt, alloc, 1)?.store()?;
     let ann = Bytes::from_slice(alloc, b"ann")?;
     let path = Bytes::from_slice(alloc, b"/a")?;
     let absent = StoreError::Kind(ErrorKind::PermanentFileNotAvailable);
@@ -77,7 +66,8 @@ fn a_call_that_fails_or_is_refused_is_told(rt: HostRuntime) -> Result<(), Fail> 
 #[test]
 fn a_path_has_one_upload_at_a_time(rt: HostRuntime) -> Result<(), Fail> {
     let alloc = rt.alloc();
-    let (mut one, mut two) = both(rt, alloc, 99)?;
+    let depot = depot(rt, alloc, 99)?;
+    let (mut one, mut two) = (depot.store()?, depot.store()?);
     let ann = Bytes::from_slice(alloc, b"ann")?;
     let path = Bytes::from_slice(alloc, b"/a")?;
     let other = Bytes::from_slice(alloc, b"/b")?;
@@ -90,9 +80,11 @@ fn a_path_has_one_upload_at_a_time(rt: HostRuntime) -> Result<(), Fail> {
     );
     // What is there can be read meanwhile, and nothing was cut.
     assert_eq!(rt; two.metadata(&ann, &path), Ok(HELLO));
-    one.end_upload();
+    // An upload is over where its transfer is, or begins another.
+    drop(one);
+    let mut three = depot.store()?;
     assert_eq!(rt;
-        (two.begin(&ann, &path, 0), one.begin(&ann, &other, 0)),
+        (two.begin(&ann, &path, 0), three.begin(&ann, &other, 0)),
         (Ok(()), Ok(()))
     );
     Ok(())

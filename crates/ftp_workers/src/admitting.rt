@@ -2,8 +2,9 @@
 
 use crate::event_sinks::EventSinks;
 use crate::server_state::ServerState;
-use ftp_base::{Authenticator, Gate, Storage};
+use ftp_base::{Authenticator, Gate};
 use ftp_shared::Serving;
+use ftp_system::Depot;
 use std::io::Write;
 use std::net::IpAddr;
 use std::sync::Wait;
@@ -23,9 +24,9 @@ impl<
     L: Serving,
     A: Authenticator + Drop,
     N: EventSinks + Drop,
-    S: Storage + Drop,
+    D: Depot + Drop,
     G: Gate + Drop,
-> ServerState<L, A, N, S, G> {
+> ServerState<L, A, N, D, G> {
     /// Counts one more session of the client, and says whether it is admitted. If not, the connection is told so.
     pub(crate) fn enter<R: Wait, W: Write>(&self, rt: &R, client: IpAddr, stream: &mut W) -> bool {
         let admitted = self.counts.lock(rt).admit(number_of(client), self.limits);

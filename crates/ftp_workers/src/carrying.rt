@@ -8,18 +8,19 @@ use crate::event_sinks::EventSinks;
 use crate::handoff::Handoff;
 use crate::server_state::ServerState;
 use crate::task::Task;
-use ftp_base::{Authenticator, Gate, Storage};
+use ftp_base::{Authenticator, Gate};
 use ftp_events::{Action, Decision, Entry};
 use ftp_shared::{JobShare, Serving};
+use ftp_system::Depot;
 use std::sync::Wait;
 
 impl<
     L: Serving,
     A: Authenticator + Drop,
     N: EventSinks + Drop,
-    S: Storage + Drop,
+    D: Depot + Drop,
     G: Gate + Drop,
-> ServerState<L, A, N, S, G> {
+> ServerState<L, A, N, D, G> {
     /// Hands the job to a worker, shuts down the link of a job that is to stop, closes the links that the entry closes, and
     /// tells the listeners.
     pub(crate) fn carry_out<R: Wait>(&self, rt: &R, entry: &Entry, job: Option<JobShare>) {

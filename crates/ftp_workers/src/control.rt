@@ -7,10 +7,10 @@ use crate::event_sinks::EventSinks;
 use crate::runtime::WorkerRuntime;
 use crate::session_edge::SessionEdge;
 use crate::worker::Worker;
-use ftp_base::{Authenticator, Control, Edge, Gate, Link, Storage};
+use ftp_base::{Authenticator, Control, Edge, Gate, Link};
 use ftp_events::{Answer, EventKind, HubEvent};
 use ftp_shared::Serving;
-use ftp_system::{ControlHandle, LIMIT, SocketControl, SystemEdge, told_address};
+use ftp_system::{ControlHandle, Depot, LIMIT, SocketControl, SystemEdge, told_address};
 use ftp_talk::{ServeEnd, serve_control};
 use std::net::{IpAddr, SocketAddr, TcpStream};
 
@@ -30,9 +30,9 @@ impl<
     L: Serving,
     A: Authenticator + Drop,
     N: EventSinks + Drop,
-    S: Storage + Drop,
+    D: Depot + Drop,
     G: Gate + Drop,
-> Worker<R, L, A, N, S, G> {
+> Worker<R, L, A, N, D, G> {
     /// Serves a control connection to its end. None where its socket could not be set up.
     #[inline(never)]
     pub fn serve(&mut self, stream: TcpStream, raw: SocketAddr) -> Option<ServeEnd> {

@@ -13,6 +13,7 @@ use ftp_base::{Authenticator, Bytes, ErrorKind, Gate, Storage, StoreError};
 use ftp_events::{Answer, HubEvent};
 use ftp_options::Options;
 use ftp_shared::{Desk, Receipt, Serving, StepShare, Submitted, Told, Turn};
+use ftp_system::Depot;
 use std::alloc::{AllocError, Global};
 use std::sync::{Arc, Wait};
 
@@ -25,11 +26,11 @@ pub struct ServerDesk<
     L: Serving,
     A: Authenticator + Drop,
     N: EventSinks + Drop,
-    S: Storage + Drop,
+    D: Depot + Drop,
     G: Gate + Drop,
 > {
     pub(crate) rt: R,
-    pub(crate) state: Arc<ServerState<L, A, N, S, G>, Global>,
+    pub(crate) state: Arc<ServerState<L, A, N, D, G>, Global>,
     pub(crate) share: StepShare<L>,
     pub(crate) faults: u64,
     pub(crate) refused: u64,
@@ -40,17 +41,17 @@ impl<
     L: Serving,
     A: Authenticator + Drop,
     N: EventSinks + Drop,
-    S: Storage + Drop,
+    D: Depot + Drop,
     G: Gate + Drop,
-> ServerDesk<R, L, A, N, S, G> {
+> ServerDesk<R, L, A, N, D, G> {
     /// # Proved
     ///
     /// - A desk has the share that it was made with, and gives it back (`share`; also `ServerDesk::into_share`).
     pub fn new(
         rt: R,
-        state: Arc<ServerState<L, A, N, S, G>, Global>,
+        state: Arc<ServerState<L, A, N, D, G>, Global>,
         share: StepShare<L>,
-    ) -> ServerDesk<R, L, A, N, S, G>
+    ) -> ServerDesk<R, L, A, N, D, G>
         ensures share { result.share ≡ share }
     {
         ServerDesk {
@@ -132,9 +133,9 @@ impl<
     L: Serving,
     A: Authenticator + Drop,
     N: EventSinks + Drop,
-    S: Storage + Drop,
+    D: Depot + Drop,
     G: Gate + Drop,
-> Desk for ServerDesk<R, L, A, N, S, G> {
+> Desk for ServerDesk<R, L, A, N, D, G> {
     ghost view = { λ d. record {
       options = L.options;
       files = None;
@@ -184,7 +185,8 @@ impl<
     }
 
     fn directory(&mut self, user: &Bytes, path: &Bytes) -> Result<Option<ErrorKind>, AllocError> {
-        let found = self.state.files.lock(&self.rt).metadata(user, path);
+        let mut storage = self.state.depot.store()?;
+        let found = storage.metadata(user, path);
         match found {
             Ok(meta) => {
                 if meta.is_dir {

@@ -8,10 +8,10 @@ use crate::event_sinks::EventSinks;
 use crate::handoff::PendingConnection;
 use crate::server_state::ServerState;
 use crate::task::Task;
-use ftp_base::{Authenticator, Gate, Storage};
+use ftp_base::{Authenticator, Gate};
 use ftp_events::{Answer, EventKind, HubEvent};
 use ftp_shared::{Serving, StepShare};
-use ftp_system::told_address;
+use ftp_system::{Depot, told_address};
 use std::net::{SocketAddr, TcpStream};
 use std::sync::Wait;
 
@@ -19,9 +19,9 @@ impl<
     L: Serving,
     A: Authenticator + Drop,
     N: EventSinks + Drop,
-    S: Storage + Drop,
+    D: Depot + Drop,
     G: Gate + Drop,
-> ServerState<L, A, N, S, G> {
+> ServerState<L, A, N, D, G> {
     /// Has a control connection served by a thread. Where there is no room for it, it is closed, and told so where it is one
     /// too many.
     pub fn queue_control<R: Wait>(&self, rt: &R, stream: TcpStream, raw: SocketAddr) {
@@ -77,9 +77,9 @@ impl<
     L: Serving,
     A: Authenticator + Drop,
     N: EventSinks + Drop,
-    S: Storage + Drop,
+    D: Depot + Drop,
     G: Gate + Drop,
-> ServerDesk<R, L, A, N, S, G> {
+> ServerDesk<R, L, A, N, D, G> {
     /// Takes in a data connection that came to a passive port, at this moment in milliseconds. It is closed where no
     /// session takes it.
     pub fn receive(&mut self, at: u64, stream: mio::net::TcpStream, raw: SocketAddr, port: u16)

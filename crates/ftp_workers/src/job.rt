@@ -1,21 +1,27 @@
 //! A job, on the link that waits for it.
 
+ghost use Rattle.std.specs.Prelude.{IfSome};
+ghost use Rattle.ftp_events.specs.Leads.{views};
+ghost use Rattle.ftp_shared.specs.Answers.{moved_in, outcome_in};
+ghost use Rattle.ftp_shared.specs.Runs.{IsLastOf, site};
+ghost use Rattle.ftp_workers.specs.OwnStorage.{RunsOnItsOwn, StopsOnItsOwn};
+
 use crate::event_sinks::EventSinks;
 use crate::handoff::PendingConnection;
 use crate::runtime::WorkerRuntime;
 use crate::worker::Worker;
-use ftp_base::{Authenticator, Gate, Storage};
-use ftp_shared::{JobShare, Serving, serve_job};
-use ftp_system::{Ahead, Gathered, LIMIT, SocketLink, gathering_buffer};
+use ftp_base::{Authenticator, Gate, Link};
+use ftp_shared::{JobShare, Serving, Submitted, serve_job};
+use ftp_system::{Ahead, Depot, Gathered, LIMIT, SocketLink, gathering_buffer};
 
 impl<
     R: WorkerRuntime,
     L: Serving,
     A: Authenticator + Drop,
     N: EventSinks + Drop,
-    S: Storage + Drop,
+    D: Depot + Drop,
     G: Gate + Drop,
-> Worker<R, L, A, N, S, G> {
+> Worker<R, L, A, N, D, G> {
     // The buffer for the next link, which is empty where there is no memory for it.
     fn take_buffer(&mut self) -> Vec<u8> {
         let none = Vec::new(self.alloc);
@@ -47,8 +53,34 @@ impl<
         let buffer = self.take_buffer();
         let link = SocketLink::new(self.rt, self.alloc, stream, LIMIT);
         let mut link = Gathered::new(Ahead::new(link, ahead), buffer);
+        let served = self.run_on_own_storage(job, &mut link);
+        self.buffer = link.into_buffer();
+        self.state.handoff.end_job(&self.rt, session, number);
+        // Where memory ran out the job never ends.
+        if let Some(submitted) = served {
+            self.desk.carry_out(submitted);
+        }
+    }
+
+    // Runs a job on its link, and on a storage of its own, which is gone before the job's session is woken. None where memory ran
+    // out.
+    //
+    // # Proved
+    //
+    // - A job of a server is run on a storage of the server's depot that had counted no fault before, and all holds of it that
+    //   `serve_job` says of its last entry (`next`, `runs`, `stops`).
+    fn run_on_own_storage<K: Link>(&mut self, job: JobShare, link: &mut K) -> Option<Submitted>
+        ensures next { IfSome result (λ s. IsLastOf L.options job s.receipt) }
+        ensures runs { IfSome result (λ s. IfSome (outcome_in s.receipt.entry.answer) (λ outcome.
+            RunsOnItsOwn (site (views D.Store.files D.Store.rule D.Store.faults D.Store.fault_limit D.Store.calls K.left K.sending K.faults K.fault_limit K.calls) D.Store.reads_take_memory K.takes_memory)
+            job outcome link.old link.new)) }
+        ensures stops { IfSome result (λ s. IfSome (moved_in s.receipt.entry.answer) (λ told.
+            StopsOnItsOwn (site (views D.Store.files D.Store.rule D.Store.faults D.Store.fault_limit D.Store.calls K.left K.sending K.faults K.fault_limit K.calls) D.Store.reads_take_memory K.takes_memory)
+            job told link.old link.new)) }
+    {
+        let mut storage = self.state.depot.store().ok()?;
         let call = self.state.handoff.next_call();
-        let served = serve_job(
+        serve_job(
             &self.rt,
             self.alloc,
             &self.state.hub,
@@ -56,17 +88,10 @@ impl<
             job,
             &*self.state.gate,
             call,
-            &mut self.storage,
-            &mut link,
+            &mut storage,
+            link,
             &mut self.edge,
-        );
-        self.buffer = link.into_buffer();
-        self.state.handoff.end_job(&self.rt, session, number);
-        // However the job ended, its upload is over, and was before its session is woken.
-        self.storage.end_upload();
-        // Where memory ran out the job never ends.
-        if let Ok(submitted) = served {
-            self.desk.carry_out(submitted);
-        }
+        )
+        .ok()
     }
 }

@@ -7,10 +7,10 @@ ghost use Rattle.ftp_shared.specs.Outbox.{has_ticket};
 use crate::desk::ServerDesk;
 use crate::event_sinks::EventSinks;
 use crate::handoff::{Handoff, PendingConnection};
-use ftp_base::{Authenticator, Gate, Storage};
+use ftp_base::{Authenticator, Gate};
 use ftp_events::{Answer, Decision, Entry, EventKind, HubEvent, SlotMove};
 use ftp_shared::Serving;
-use ftp_system::told_address;
+use ftp_system::{Depot, told_address};
 use mio::net::{TcpListener, TcpStream};
 use mio::{Interest, Registry, Token, Waker};
 use std::alloc::Global;
@@ -171,9 +171,9 @@ impl<
     L: Serving,
     A: Authenticator + Drop,
     N: EventSinks + Drop,
-    S: Storage + Drop,
+    D: Depot + Drop,
     G: Gate + Drop,
-> ServerDesk<R, L, A, N, S, G> {
+> ServerDesk<R, L, A, N, D, G> {
     /// Takes in the connection that came to the port of a session, at this moment in milliseconds. The port is closed then.
     pub fn accept_for(&mut self, at: u64, session: u64)
         ensures share { self.old.share.count ≤ self.new.share.count }

@@ -10,11 +10,11 @@ use crate::handoff::PendingConnection;
 use crate::proxy_header::answer_proxied;
 use crate::runtime::WorkerRuntime;
 use crate::worker::Worker;
-use ftp_base::{Authenticator, Edge, Gate, Storage};
+use ftp_base::{Authenticator, Edge, Gate};
 use ftp_events::{Answer, HubEvent};
 use ftp_options::ListenerMode;
 use ftp_shared::Serving;
-use ftp_system::{Ahead, Gathered, LIMIT, SocketLink, std_address, told_address};
+use ftp_system::{Ahead, Depot, Gathered, LIMIT, SocketLink, std_address, told_address};
 use mio::net::TcpStream;
 use std::net;
 use std::net::{IpAddr, SocketAddr};
@@ -45,9 +45,9 @@ impl<
     L: Serving,
     A: Authenticator + Drop,
     N: EventSinks + Drop,
-    S: Storage + Drop,
+    D: Depot + Drop,
     G: Gate + Drop,
-> Worker<R, L, A, N, S, G> {
+> Worker<R, L, A, N, D, G> {
     // Reads the header of a connection, and serves its session or keeps it for a job.
     #[inline(never)]
     pub(crate) fn pass_on(&mut self, stream: net::TcpStream, raw: SocketAddr) {

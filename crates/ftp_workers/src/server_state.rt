@@ -6,11 +6,11 @@ ghost use Rattle.ftp_options.specs.declared.options.Options.{Options};
 use crate::event_sinks::EventSinks;
 use crate::handoff::Handoff;
 use crate::listening::AcceptorHandle;
-use ftp_base::{Authenticator, Gate, Storage};
+use ftp_base::{Authenticator, Gate};
 use ftp_feed::JournalFeed;
 use ftp_options::Options;
 use ftp_shared::{Serving, SharedHub};
-use ftp_system::{SessionCounts, SessionLimits, Uploads};
+use ftp_system::{Depot, SessionCounts, SessionLimits};
 use std::alloc::{AllocError, Global};
 use std::sync::ledger::{Book, Share};
 use std::sync::{Arc, Mutex};
@@ -21,7 +21,7 @@ pub struct ServerState<
     L: Serving,
     A: Authenticator + Drop,
     N: EventSinks + Drop,
-    S: Storage + Drop,
+    D: Depot + Drop,
     G: Gate + Drop,
 > {
     pub(crate) alloc: Global,
@@ -30,8 +30,7 @@ pub struct ServerState<
     pub(crate) handoff: Handoff,
     pub(crate) authenticator: A,
     pub(crate) sinks: Mutex<N>,
-    pub(crate) files: Arc<Mutex<S>, Global>,
-    pub(crate) uploads: Arc<Mutex<Uploads>, Global>,
+    pub(crate) depot: D,
     pub(crate) limits: SessionLimits,
     pub(crate) counts: Mutex<SessionCounts>,
     pub(crate) gate: Arc<G, Global>,
@@ -42,9 +41,9 @@ impl<
     L: Serving,
     A: Authenticator + Drop,
     N: EventSinks + Drop,
-    S: Storage + Drop,
+    D: Depot + Drop,
     G: Gate + Drop,
-> ServerState<L, A, N, S, G> {
+> ServerState<L, A, N, D, G> {
     ghost use Rattle.std.specs.Prelude.{◌<◌};
 
     /// A fresh hub, and what its threads will share; no thread serves it yet.
@@ -63,10 +62,10 @@ impl<
         ledger: (Book<L>, Share<L>, u64),
         authenticator: A,
         sinks: N,
-        storage: S,
+        depot: D,
         gate: Arc<G, Global>,
         acceptor: AcceptorHandle,
-    ) -> Result<ServerState<L, A, N, S, G>, AllocError>
+    ) -> Result<ServerState<L, A, N, D, G>, AllocError>
         requires options { options ≡ L.options }
         requires none { ledger.0.total ≡ 0 }
         requires some { 0 < ledger.2 }
@@ -75,8 +74,6 @@ impl<
     {
         let (steps, share, parts) = ledger;
         let told = options.copy(alloc)?;
-        let files = Arc::new(alloc, Mutex::new(storage))?;
-        let uploads = Arc::new(alloc, Mutex::new(Uploads::new(alloc)))?;
         Ok(ServerState {
             alloc,
             options: told,
@@ -84,8 +81,7 @@ impl<
             handoff: Handoff::new(alloc, acceptor),
             authenticator,
             sinks: Mutex::new(sinks),
-            files,
-            uploads,
+            depot,
             limits,
             counts: Mutex::new(SessionCounts::new(alloc)),
             gate,

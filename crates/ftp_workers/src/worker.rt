@@ -5,9 +5,9 @@ use crate::event_sinks::EventSinks;
 use crate::runtime::WorkerRuntime;
 use crate::server_state::ServerState;
 use crate::task::Task;
-use ftp_base::{Authenticator, Gate, Storage};
+use ftp_base::{Authenticator, Gate};
 use ftp_shared::{Serving, StepShare};
-use ftp_system::{LIMIT, SharedStorage, SystemEdge};
+use ftp_system::{Depot, LIMIT, SystemEdge};
 use std::alloc::{AllocError, Global};
 use std::net::{IpAddr, Ipv4Addr};
 use std::sync::Arc;
@@ -19,15 +19,14 @@ pub struct Worker<
     L: Serving,
     A: Authenticator + Drop,
     N: EventSinks + Drop,
-    S: Storage + Drop,
+    D: Depot + Drop,
     G: Gate + Drop,
 > {
     pub(crate) rt: R,
     pub(crate) alloc: Global,
-    pub(crate) state: Arc<ServerState<L, A, N, S, G>, Global>,
-    pub(crate) desk: ServerDesk<R, L, A, N, S, G>,
+    pub(crate) state: Arc<ServerState<L, A, N, D, G>, Global>,
+    pub(crate) desk: ServerDesk<R, L, A, N, D, G>,
     pub(crate) edge: SystemEdge<R>,
-    pub(crate) storage: SharedStorage<R, S>,
     // Where the pieces of transfers are gathered; empty before the first transfer, and after a control connection.
     pub(crate) buffer: Vec<u8>,
 }
@@ -37,25 +36,22 @@ impl<
     L: Serving,
     A: Authenticator + Drop,
     N: EventSinks + Drop,
-    S: Storage + Drop,
+    D: Depot + Drop,
     G: Gate + Drop,
-> Worker<R, L, A, N, S, G> {
+> Worker<R, L, A, N, D, G> {
     /// A thread that has done nothing yet.
     pub fn new(
         rt: R,
-        state: Arc<ServerState<L, A, N, S, G>, Global>,
+        state: Arc<ServerState<L, A, N, D, G>, Global>,
         share: StepShare<L>,
-    ) -> Result<Worker<R, L, A, N, S, G>, AllocError> {
+    ) -> Result<Worker<R, L, A, N, D, G>, AllocError> {
         let theirs = Arc::try_clone(&state)?;
-        let files = Arc::try_clone(&state.files)?;
-        let uploads = Arc::try_clone(&state.uploads)?;
         let alloc = state.alloc;
         Ok(Worker {
             rt,
             alloc,
             desk: ServerDesk::new(rt, theirs, share),
             edge: SystemEdge::new(rt, alloc, IpAddr::V4(Ipv4Addr::from_bits(0)), LIMIT),
-            storage: SharedStorage::new(rt, alloc, files, uploads),
             buffer: Vec::new(alloc),
             state,
         })
@@ -92,7 +88,6 @@ impl<
             state,
             desk,
             edge: _,
-            storage: _,
             buffer: _,
         } = self;
         state.take_back(&rt, desk.into_share());
@@ -105,9 +100,9 @@ pub fn work<
     L: Serving,
     A: Authenticator + Drop,
     N: EventSinks + Drop,
-    S: Storage + Drop,
+    D: Depot + Drop,
     G: Gate + Drop,
->(rt: R, state: Arc<ServerState<L, A, N, S, G>, Global>, share: StepShare<L>) {
+>(rt: R, state: Arc<ServerState<L, A, N, D, G>, Global>, share: StepShare<L>) {
     if let Some(worker) = new_worker(rt, state, share) {
         let mut worker = worker;
         worker.work();
@@ -122,13 +117,13 @@ fn new_worker<
     L: Serving,
     A: Authenticator + Drop,
     N: EventSinks + Drop,
-    S: Storage + Drop,
+    D: Depot + Drop,
     G: Gate + Drop,
 >(
     rt: R,
-    state: Arc<ServerState<L, A, N, S, G>, Global>,
+    state: Arc<ServerState<L, A, N, D, G>, Global>,
     share: StepShare<L>,
-) -> Option<Box<Worker<R, L, A, N, S, G>>> {
+) -> Option<Box<Worker<R, L, A, N, D, G>>> {
     let alloc = state.alloc;
     let worker = Worker::new(rt, state, share).ok()?;
     Box::new(alloc, worker).ok()

@@ -11,5 +11,5 @@ spawn_on-requires-send-A g c κs within = param_send 2 _ c.requires.1.1.1.1.1.1.
 pub spawn_on-requires-send-N : goal.spawn_on-requires-send-N
 spawn_on-requires-send-N g c κs within = param_send 3 _ c.requires.1.1.1.1.1.1.1.1.1.1.3
 
-pub spawn_on-requires-send-S : goal.spawn_on-requires-send-S
-spawn_on-requires-send-S g c κs within = param_send 4 _ c.requires.1.1.1.1.1.1.1.1.1.1.4
+pub spawn_on-requires-send-D : goal.spawn_on-requires-send-D
+spawn_on-requires-send-D g c κs within = param_send 4 _ c.requires.1.1.1.1.1.1.1.1.1.1.4
