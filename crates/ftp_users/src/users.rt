@@ -12,6 +12,7 @@ use crate::user::{Credential, PasswordHash, User};
 use ftp_base::{AuthAnswer, Authenticator, Bytes, IpAddr};
 use std::alloc::{AllocError, Global};
 use std::collections::BTreeMap;
+use std::collections::btree_map::Iter;
 use std::marker::Model;
 
 /// Why a file has no users.
@@ -141,7 +142,7 @@ fn take_line(
 impl Users {
     ghost use Rattle.std.specs.Prelude.{◌≡◌, ◌↔◌, ℕ, List, map, IfOk, IfErr};
     ghost use Rattle.std.specs.Option.{option_copied};
-    ghost use Rattle.ftp_users.specs.Users.{lines_of_file, users_in, user_named, AreGood};
+    ghost use Rattle.ftp_users.specs.Users.{lines_of_file, named, users_in, user_named, AreGood};
     ghost use Rattle.ftp_users.specs.Faults.{NamesFirstBad};
     ghost use Rattle.ftp_base.specs.declared.login.AuthAnswer.TheVariants.{Good};
     ghost use Rattle.ftp_users.specs.Verdict.{answer_for, MayLogIn};
@@ -193,6 +194,13 @@ impl Users {
         ensures { option_copied result ≡ user_named name.now self.now }
     {
         user_named(&self.by_name, name)
+    }
+
+    /// One user after another with its name, in the byte order of the names.
+    pub fn iter(&self) -> Iter<'_, Vec<u8>, User>
+        ensures { named result ≡ self.now }
+    {
+        self.by_name.iter()
     }
 
     /// Says whether a user logs in with a password.

@@ -1,0 +1,23 @@
+-- Whose home is whose.
+use Rattle.std.specs.Prelude.{◌≡◌, ℕ, Bool, true, false, List, Option, Some, None, string_bytes, ⊤}
+use Rattle.ftp_disk.specs.Home.{home_of}
+use Rattle.ftp_disk.specs.declared.home.Home.{Home}
+use Rattle.ftp_users.specs.Users.{user_named}
+use Rattle.ftp_users.specs.declared.user.Rights.{Rights}
+use Rattle.ftp_users.specs.declared.user.Rights.TheVariants.{ReadOnly, ReadWrite}
+use Rattle.ftp_users.specs.declared.user.User.{User}
+
+-- who may write
+abbrev pub may_write : Rights → Bool
+may_write ReadOnly = false
+may_write ReadWrite = true
+
+-- a home is that of the user: its directory, and the right to write there
+abbrev pub IsHomeOf : Option User → Option Home → Type 0
+IsHomeOf None None = ⊤
+IsHomeOf (Some user) (Some home) = (string_bytes home.root ≡ user.home) × (home.may_write ≡ may_write user.rights)
+IsHomeOf _ _ = ⊥
+
+-- each name has the home of its user, and no other
+abbrev pub AreHomesOf : List (List ℕ × User) → List Home → Type 0
+AreHomesOf users homes = (name : List ℕ) → IsHomeOf (user_named name users) (home_of homes name)
