@@ -60,10 +60,3 @@ gives_up _ = false
 abbrev pub queues_one : SlotMove → Bool
 queues_one (Queues ticket) = true
 queues_one _ = false
-
--- the moves from which the age of the slot counts
-abbrev pub renews : SlotMove → Bool
-renews (Awaits port) = true
-renews Connects = true
-renews Links = true
-renews _ = false

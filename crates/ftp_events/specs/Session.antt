@@ -16,14 +16,15 @@ use Rattle.ftp_events.specs.declared.session.Pending.{Pending}
 use Rattle.ftp_events.specs.declared.session.Session.{Session}
 use Rattle.ftp_events.specs.declared.session.Slot.TheVariants.{Empty}
 use Rattle.ftp_events.specs.Words.{◌⇒◌∣◌, latest}
-use Rattle.ftp_events.specs.Classes.{life, is_stop}
+use Rattle.ftp_events.specs.Classes.{life, is_stop, slot_move}
+use Rattle.ftp_events.specs.Log.{new_number}
 use Rattle.ftp_events.specs.Opening.{opener, opened_number}
 use Rattle.ftp_events.specs.History.{history}
 use Rattle.ftp_events.specs.Login.{login_by, name_by, login_state, user_name, logged_user}
 use Rattle.ftp_events.specs.Notices.{notice_count}
 use Rattle.ftp_events.specs.Place.{cwd_after, cwd, offset_by, offset, is_queued, ticket_count}
 use Rattle.ftp_events.specs.Slot.{Lane, lane_after, lane, queued_by, kept_running}
-use Rattle.ftp_events.specs.Ages.{slot_at_by, slot_at, active_at_by, active_at}
+use Rattle.ftp_events.specs.Ages.{slot_at_after, slot_at, active_at_by, active_at}
 
 -- what a turn of a life says of it
 abbrev pub told_of_life : Life → Option Bool
@@ -113,7 +114,7 @@ session_after at k answer d sent job v =
       cwd = cwd_after d k v.cwd;
       offset = unwrap_or (offset_by d k answer) v.offset;
       slot = (next_lane k d job v).slot;
-      slot_at = unwrap_or (slot_at_by d at) v.slot_at;
+      slot_at = slot_at_after (slot_move d) at (new_number k d) (queued_for d k v) (lane_in v job) v.slot_at;
       active_at = unwrap_or (active_at_by k d at) v.active_at;
       pending = (next_lane k d job v).pending;
       tickets = v.tickets + (if is_queued d then 1 else 0);

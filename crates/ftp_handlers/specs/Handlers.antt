@@ -312,9 +312,9 @@ abbrev pub with_end : ℕ → EventKind → Answer → Session → Session
 with_end at k answer v =
     record v { offset = unwrap_or (offset_by Finished k answer) v.offset; active_at = at; notices = v.notices + notices_of k Finished answer }
 
--- a session with another slot and transfer
-abbrev pub with_lane : Session → Lane → Session
-with_lane v l = record v { slot = l.slot; pending = l.pending }
+-- a session with another slot and transfer, and the moment of that slot
+abbrev pub with_lane : Session → Lane → ℕ → Session
+with_lane v l at = record v { slot = l.slot; slot_at = at; pending = l.pending }
 
 -- the jobs that run, by session
 abbrev pub Jobs : Type 0

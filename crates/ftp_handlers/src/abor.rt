@@ -66,6 +66,7 @@ pub fn handle(
     room.cancel_and_tell(*number, mem::replace(&mut session.pending, None));
     room.close_link(session.slot);
     session.slot = Slot::Empty;
+    session.slot_at = 0;
     // Where a transfer is to stop, its end says so.
     if stops {
         return Decision::Aborting;

@@ -52,6 +52,7 @@ pub(crate) fn handle(
     room.cancel_and_tell(*number, mem::replace(&mut session.pending, None));
     room.close_link(session.slot);
     session.slot = Slot::Empty;
+    session.slot_at = 0;
     Decision::SlotDropped
 }
 

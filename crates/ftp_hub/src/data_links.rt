@@ -10,6 +10,8 @@ ghost use Rattle.ftp_events.specs.declared.entry.Entry.{Entry};
 ghost use Rattle.ftp_events.specs.declared.event.Answer.{Answer};
 ghost use Rattle.ftp_events.specs.declared.event.EventKind.TheVariants.{DataIn};
 ghost use Rattle.ftp_events.specs.Modes.{in_range};
+ghost use Rattle.ftp_events.specs.declared.decision.SlotMove.TheVariants.{Links};
+ghost use Rattle.ftp_events.specs.Ages.{moved_at};
 ghost use Rattle.ftp_events.specs.Session.{session_after};
 ghost use Rattle.ftp_events.specs.Slot.{is_waiting, with_link};
 ghost use Rattle.ftp_events.specs.Acts.{session_acts, starting};
@@ -172,25 +174,25 @@ fn come(
     ensures twice { twice_in room.new ≡ twice_in room.old }
 {
     if welcome {
-        session.slot = with_link(session.slot, number);
-        session.slot_at = at;
+        link(session, number, at);
         start(session, holder, jobs, room);
         return Decision::Attached { session: holder };
     }
     if is_waiting(session.slot) {
         room.cancel_and_tell(holder, mem::replace(&mut session.pending, None));
         session.slot = Slot::Empty;
+        session.slot_at = 0;
     }
     room.close(number);
     Decision::Turned
 }
 
-// A link comes for a slot that waits.
-fn with_link(slot: Slot, number: u64) -> Slot
-    ensures { result ≡ with_link slot (Some number) }
+// A link comes at a moment for a slot that waits.
+fn link(session: &mut Session, number: u64, at: u64)
+    ensures { session.new ≡ record session.old { slot = with_link session.old.slot (Some number); slot_at = moved_at Links at (Some number) session.old.slot session.old.slot_at } }
 {
-    match slot {
-        Slot::Waits { port: _ } => Slot::Linked { number },
-        Slot::Empty | Slot::Linked { .. } => slot,
+    if let Slot::Waits { port: _ } = session.slot {
+        session.slot = Slot::Linked { number };
+        session.slot_at = at;
     }
 }

@@ -9,6 +9,7 @@ ghost use Rattle.ftp_events.specs.declared.event.Answer.TheVariants as answer;
 ghost use Rattle.ftp_events.specs.declared.event.EventKind.TheVariants.{End};
 ghost use Rattle.ftp_events.specs.declared.decision.Decision.TheVariants.{Cut, Finished};
 ghost use Rattle.ftp_events.specs.Acts.{session_acts, start_acts, starting};
+ghost use Rattle.ftp_events.specs.Ages.{left_at};
 ghost use Rattle.ftp_events.specs.CommandRows.{if_logged_in, transfer_row};
 ghost use Rattle.ftp_events.specs.EndRows.{can_end, can_move};
 ghost use Rattle.ftp_events.specs.Log.{named_session};
@@ -41,7 +42,7 @@ pub(crate) fn start(
 )
     requires place { HasPlace room.old }
     requires spare { 0 < map.spare jobs.old }
-    ensures session { session.new ≡ with_lane session.old (lane_of session.old.slot session.old.pending (map.get nat_eq jobs.old number)) }
+    ensures session { session.new ≡ with_lane session.old (lane_of session.old.slot session.old.pending (map.get nat_eq jobs.old number)) (left_at (startable session.old.slot session.old.pending (map.get nat_eq jobs.old number)) session.old.slot_at) }
     ensures starts { Starts jobs.old jobs.new number (startable session.old.slot session.old.pending (map.get nat_eq jobs.old number)) }
     ensures actions { actions_in room.new ≡ actions_in room.old ++ start_acts (startable session.old.slot session.old.pending (map.get nat_eq jobs.old number)) }
     ensures twice { twice_in room.new ≡ twice_in room.old }
@@ -56,6 +57,7 @@ pub(crate) fn start(
         return;
     };
     session.slot = Slot::Empty;
+    session.slot_at = 0;
     room.start(pending.ticket, link);
     put(jobs, number, pending.on(link));
 }

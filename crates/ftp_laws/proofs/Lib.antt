@@ -51,3 +51,4 @@ pub mod CensusLemmas
 pub mod ReplyLemmas
 mod Premises
 pub mod PieceLemmas
+pub mod AgeLemmas

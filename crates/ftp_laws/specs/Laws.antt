@@ -17,6 +17,7 @@ use Rattle.ftp_events.specs.declared.event.HubEvent.{HubEvent}
 use Rattle.ftp_events.specs.declared.session.Pending.{Pending}
 use Rattle.ftp_events.specs.declared.session.Running.{Running}
 use Rattle.ftp_events.specs.declared.session.Session.{Session}
+use Rattle.ftp_events.specs.declared.session.Slot.TheVariants.{Empty}
 use Rattle.ftp_events.specs.Acts.{pending_in, acts_for}
 use Rattle.ftp_events.specs.Board.{holder}
 use Rattle.ftp_events.specs.Fate.{AwaitsConnection, AwaitsEarlierEnd, cancels, settlement, is_running, is_pending, wait, fate}
@@ -367,3 +368,7 @@ SweepsChangeNothing =
 abbrev pub PassiveRepliesAreReadBack : Type 0
 PassiveRepliesAreReadBack = (ip port : ℕ) → ip < 2 ^ 32 → port < 2 ^ 16 →
     port_target (join_with_byte 44 (map decimal (six_numbers ip port))) ≡ Some (record { ip = V4 ip; port = port })
+
+-- the age of an empty slot counts from no moment
+abbrev pub EmptySlotsHaveNoAge : Type 0
+EmptySlotsHaveNoAge = (o : Options) (past : List Entry) (s : ℕ) (v : Session) → session o past s ≡ Some v → v.slot ≡ Empty → v.slot_at ≡ 0

@@ -4,7 +4,7 @@ ghost use Rattle.ftp_laws.specs.Laws.{NoticesAreNumbered, NoticesAreCounted, End
 ghost use Rattle.ftp_laws.specs.Laws.{LinksTakeOneJob, SessionsRunOneJob, StartsOnOwnLink, EndsSetOffset, OffsetsLast};
 ghost use Rattle.ftp_laws.specs.Laws.{QueuedHaveFates, SettledDoNotWait, SettledOnce, QueuedOnce, RunningAreInNoSlot, RunningAreUnsettled, CancelledOnlySo, CancelledWithSlot};
 ghost use Rattle.ftp_laws.specs.Laws.{EarlierEndsAreOfRunning, AwaitedPortsAreHeld, WaitingAreAsQueued, RunningAreAsQueued, RunningAreAsStarted};
-ghost use Rattle.ftp_laws.specs.Laws.{NothingIsLeft, NewcomersAreClosed, OnlyEndsAreServed, StopsAgainDoNothing, NoHeaderIsRead, StopsPartWithAll, LiveAreInOrder, PartingsAreTheSame};
+ghost use Rattle.ftp_laws.specs.Laws.{NothingIsLeft, NewcomersAreClosed, OnlyEndsAreServed, StopsAgainDoNothing, NoHeaderIsRead, StopsPartWithAll, LiveAreInOrder, PartingsAreTheSame, EmptySlotsHaveNoAge};
 ghost use Rattle.ftp_laws.specs.Laws.{LiveAreCounted, RunningAreCounted, RepliesFollowOpenings, SweepsChangeNothing, ScavengesChangeNothing, PassiveRepliesAreReadBack, PiecesAreCounted, AbortedAreMarked};
 
 /// There is one right and acted log for given events and answers.
@@ -271,4 +271,13 @@ pub fn passive_replies_are_read_back()
 pub fn pieces_add_up()
     ensures counted { PiecesAreCounted }
     ensures marked { AbortedAreMarked }
+{}
+
+/// The age of a slot counts from no moment where the slot is empty.
+///
+/// # Proved
+///
+/// - A live session whose slot is empty has the moment 0 for it (`empty`).
+pub fn empty_slots_have_no_age()
+    ensures empty { EmptySlotsHaveNoAge }
 {}
