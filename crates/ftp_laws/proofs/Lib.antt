@@ -52,3 +52,4 @@ pub mod ReplyLemmas
 mod Premises
 pub mod PieceLemmas
 pub mod AgeLemmas
+pub mod MannedLemmas

@@ -1,5 +1,5 @@
 -- What holds of every right log, in plain words.
-use Rattle.std.specs.Prelude.{ℕ, ◌+◌, ◌^◌, ◌≡◌, ◌≤◌, ◌<◌, ◌↔◌, ◌⊎◌, List, [], ◌∷◌, ◌++◌, map, length, true, false, Some, None, decimal, is_some, if◌then◌else◌}
+use Rattle.std.specs.Prelude.{ℕ, ◌+◌, ◌^◌, ◌≡◌, ◌≢◌, ◌≤◌, ◌<◌, ◌↔◌, ◌⊎◌, List, [], ◌∷◌, ◌++◌, map, length, true, false, Some, None, decimal, is_some, if◌then◌else◌}
 use Rattle.std.specs.List.{flat_map, join_with_byte, list_any, range_with_len}
 use Rattle.ftp_base.specs.declared.net.IpAddr.{IpAddr}
 use Rattle.ftp_base.specs.declared.net.IpAddr.TheVariants.{V4}
@@ -14,6 +14,7 @@ use Rattle.ftp_events.specs.declared.event.Answer.TheVariants.{Done}
 use Rattle.ftp_events.specs.declared.event.EventKind.{EventKind}
 use Rattle.ftp_events.specs.declared.event.EventKind.TheVariants.{Sweep, Scavenge}
 use Rattle.ftp_events.specs.declared.event.HubEvent.{HubEvent}
+use Rattle.ftp_events.specs.declared.session.Login.TheVariants.{LoggedIn}
 use Rattle.ftp_events.specs.declared.session.Pending.{Pending}
 use Rattle.ftp_events.specs.declared.session.Running.{Running}
 use Rattle.ftp_events.specs.declared.session.Session.{Session}
@@ -26,6 +27,7 @@ use Rattle.ftp_events.specs.History.{concerns}
 use Rattle.ftp_events.specs.Isolation.{client_log, IsApart, locks_by_address}
 use Rattle.ftp_events.specs.Leads.{header_to_read}
 use Rattle.ftp_events.specs.Log.{past_of, is_refusal, is_stopped, job_ticket, named_session, new_number}
+use Rattle.ftp_events.specs.Login.{logged_user}
 use Rattle.ftp_events.specs.Right.{IsRight, IsActed, next_entry, log_of, events_of, replies}
 use Rattle.ftp_events.specs.Running.{running_count}
 use Rattle.ftp_events.specs.Session.{session, running_job, live_count, live_sessions}
@@ -372,3 +374,21 @@ PassiveRepliesAreReadBack = (ip port : ℕ) → ip < 2 ^ 32 → port < 2 ^ 16 �
 -- the age of an empty slot counts from no moment
 abbrev pub EmptySlotsHaveNoAge : Type 0
 EmptySlotsHaveNoAge = (o : Options) (past : List Entry) (s : ℕ) (v : Session) → session o past s ≡ Some v → v.slot ≡ Empty → v.slot_at ≡ 0
+
+-- a slot has something only where its session is logged in
+abbrev pub SlotsNeedLogins : Type 0
+SlotsNeedLogins =
+    (o : Options) (log : List Entry) (s : ℕ) (v : Session) → IsRight o log →
+    session o (past_of log) s ≡ Some v → v.slot ≢ Empty → v.login ≡ LoggedIn
+
+-- a transfer waits only in a slot that has something
+abbrev pub WaitingAreInSlots : Type 0
+WaitingAreInSlots =
+    (o : Options) (log : List Entry) (s : ℕ) (v : Session) (p : Pending) → IsRight o log →
+    session o (past_of log) s ≡ Some v → v.pending ≡ Some p → v.slot ≢ Empty
+
+-- it is for the user who is logged in
+abbrev pub WaitingAreOfUsers : Type 0
+WaitingAreOfUsers =
+    (o : Options) (log : List Entry) (s : ℕ) (v : Session) (p : Pending) → IsRight o log →
+    session o (past_of log) s ≡ Some v → v.pending ≡ Some p → p.user ≡ logged_user v.login v.name

@@ -11,7 +11,7 @@ pub use right_logs::{
     holders_wait, holds_end, links_take_one_job, logged_out_comes_last, notices_are_numbered,
     passive_replies_are_read_back, pieces_add_up, replies_follow_openings,
     right_logs_are_determined, right_logs_serve, scavenges_change_nothing, sessions_run_one_job,
-    stops_last, stops_part_with_all, sweeps_change_nothing,
+    slots_are_of_users, stops_last, stops_part_with_all, sweeps_change_nothing,
     transfers_are_cancelled_with_their_slot, transfers_are_fixed_when_queued,
     transfers_have_one_fate, transfers_wait_for_what_comes,
 };

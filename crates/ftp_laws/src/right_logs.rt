@@ -4,7 +4,7 @@ ghost use Rattle.ftp_laws.specs.Laws.{NoticesAreNumbered, NoticesAreCounted, End
 ghost use Rattle.ftp_laws.specs.Laws.{LinksTakeOneJob, SessionsRunOneJob, StartsOnOwnLink, EndsSetOffset, OffsetsLast};
 ghost use Rattle.ftp_laws.specs.Laws.{QueuedHaveFates, SettledDoNotWait, SettledOnce, QueuedOnce, RunningAreInNoSlot, RunningAreUnsettled, CancelledOnlySo, CancelledWithSlot};
 ghost use Rattle.ftp_laws.specs.Laws.{EarlierEndsAreOfRunning, AwaitedPortsAreHeld, WaitingAreAsQueued, RunningAreAsQueued, RunningAreAsStarted};
-ghost use Rattle.ftp_laws.specs.Laws.{NothingIsLeft, NewcomersAreClosed, OnlyEndsAreServed, StopsAgainDoNothing, NoHeaderIsRead, StopsPartWithAll, LiveAreInOrder, PartingsAreTheSame, EmptySlotsHaveNoAge};
+ghost use Rattle.ftp_laws.specs.Laws.{NothingIsLeft, NewcomersAreClosed, OnlyEndsAreServed, StopsAgainDoNothing, NoHeaderIsRead, StopsPartWithAll, LiveAreInOrder, PartingsAreTheSame, EmptySlotsHaveNoAge, SlotsNeedLogins, WaitingAreInSlots, WaitingAreOfUsers};
 ghost use Rattle.ftp_laws.specs.Laws.{LiveAreCounted, RunningAreCounted, RepliesFollowOpenings, SweepsChangeNothing, ScavengesChangeNothing, PassiveRepliesAreReadBack, PiecesAreCounted, AbortedAreMarked};
 
 /// There is one right and acted log for given events and answers.
@@ -280,4 +280,17 @@ pub fn pieces_add_up()
 /// - A live session whose slot is empty has the moment 0 for it (`empty`).
 pub fn empty_slots_have_no_age()
     ensures empty { EmptySlotsHaveNoAge }
+{}
+
+/// A slot has something only where its session is logged in, and a transfer waits only in such a slot, for the user of the
+/// session.
+///
+/// # Proved
+///
+/// - The slot of a session that is not logged in is empty (`logged_in`).
+/// - A transfer waits only in a slot that has a port or a link, for the user who is logged in (`placed`, `user`).
+pub fn slots_are_of_users()
+    ensures logged_in { SlotsNeedLogins }
+    ensures placed { WaitingAreInSlots }
+    ensures user { WaitingAreOfUsers }
 {}
