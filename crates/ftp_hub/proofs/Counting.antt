@@ -59,11 +59,11 @@ Notes o answer d done ended old new =
 -- the counters after an entry
 pub counted-more :
     (hub : Hub) (log : List Entry) (event : HubEvent) (answer : Answer) (d : Decision) (done : List Action) (new : Counters) →
-    Stands hub log → hub.count < 2 ^ 64 - 1 →
+    Stands hub log → Counted hub.options (past_of log) hub.counters → hub.count < 2 ^ 64 - 1 →
     Notes hub.options answer d done (ended_in hub event.kind) hub.counters new →
     (is_refusal d ≡ true → new ≡ hub.counters) →
     Counted hub.options (past_of (entry event answer d done ∷ log)) new
-counted-more hub log event answer d done new st below notes stays = by_test (is_refusal d) refused counts
+counted-more hub log event answer d done new st told below notes stays = by_test (is_refusal d) refused counts
   where
     o : Options
     o = hub.options
@@ -80,7 +80,7 @@ counted-more hub log event answer d done new st below notes stays = by_test (is_
     refused : is_refusal d ≡ true → Counted o (past_of (e ∷ log)) new
     refused r =
         subst (λ (p : List Entry). Counted o p new) (sym (counting-refused e log r))
-        (subst (λ (x : Counters). Counted o past x) (sym (stays r)) st.counters)
+        (subst (λ (x : Counters). Counted o past x) (sym (stays r)) told)
 
     -- another event, of which nothing is counted
     swept : HubEvent
@@ -90,11 +90,11 @@ counted-more hub log event answer d done new st below notes stays = by_test (is_
     counts r =
         subst (λ (p : List Entry). Counted o p new) (sym (counting-counts e log r))
         (by_test o.collect_metrics
-        (λ kept. notes past event r few (ended-due hub log event.kind st kept) st.counters)
+        (λ kept. notes past event r few (ended-due hub log event.kind st kept) told)
         (λ off.
         record {
           kept = λ kept.
               let clash : true ≡ false = sym kept ∙ off in
               cc;
-          none = (notes past swept r few (ended-none hub event.kind off) st.counters).none;
+          none = (notes past swept r few (ended-none hub event.kind off) told).none;
         }))

@@ -16,9 +16,14 @@ pub mod Counting
 pub mod Ascending
 pub mod Leaving
 pub mod Commands
-pub mod Rows
+pub mod RowCases
 pub mod Ends
 pub mod Links
 pub mod Runs
 pub mod Twins
 pub mod Pieces
+pub mod States
+pub mod Lines
+pub mod Told
+pub mod Tidy
+pub mod Claiming

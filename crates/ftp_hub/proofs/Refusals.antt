@@ -1,5 +1,5 @@
 -- Refused events, and tables that give the same answers.
-use Rattle.std.proofs.Common.{◌≡◌, sym, ap, ◌∙◌, subst, ◌+◌, true, List, [], length}
+use Rattle.std.proofs.Common.{◌≡◌, sym, ap, ◌∙◌, subst, true, List, [], arith}
 use Rattle.ftp_hub.proofs.Common.{Action, Answer, Decision, Entry, Hub, HubEvent, IsActed, IsRight, Options, Serves, Stands, Tables, V4, acts, decide, entry, failures, holder, is_refusal, past_of, running_job, session}
 use Rattle.ftp_events.specs.declared.counters.Counters.{Counters}
 use Rattle.ftp_events.specs.Counts.{Counted}
@@ -57,8 +57,11 @@ stands-same old new log same st =
       right = subst (λ (o : Options). IsRight o log) (sym same.head.options) st.right;
       acted = subst (λ (o : Options). IsActed o log) (sym same.head.options) st.acted;
       tables = tables-same old new (past_of log) same.head.options same.tables st.tables;
-      counted = same.head.count ∙ st.counted ∙ ap (λ n. n + length log) (sym same.head.start);
-      counters =
-          subst (λ (o : Options). Counted o (past_of log) new.counters) (sym same.head.options)
-          (subst (λ (x : Counters). Counted old.options (past_of log) x) (sym same.head.counters) st.counters);
+      counted = omega (arith, same.head.count, st.counted);
     }
+
+-- hubs that give the same answers have counted the same
+pub counted-same : (old new : Hub) (past : List Entry) → SameAnswers old new → Counted old.options past old.counters → Counted new.options past new.counters
+counted-same old new past same told =
+    subst (λ (o : Options). Counted o past new.counters) (sym same.head.options)
+    (subst (λ (x : Counters). Counted old.options past x) (sym same.head.counters) told)

@@ -79,6 +79,12 @@ leads-on v o old mid new a b c first second =
       led = leads-append v o old first.newer second.newer a b c first.led (subst (λ (log : List Entry). Leads v o log second.newer b c) first.log_is second.led);
     }
 
+-- what an entry did to storage and links by options, it did by equal ones
+pub leads-one-under :
+    {S L : Type 0} (v : Views S L) (old new : Options) (past : List Entry) (e : Entry) (before after : Outside S L) →
+    old ≡ new → LeadsOne v old past e before after → LeadsOne v new past e before after
+leads-one-under v old new past e before after same led = subst (λ (o : Options). LeadsOne v o past e before after) same led
+
 -- under the same options
 pub leads-under : {S L : Type 0} (v : Views S L) (o same : Options) (old new : List Entry) (a b : Outside S L) → o ≡ same → LeadsOn v o old new a b → LeadsOn v same old new a b
 leads-under v o same old new a b e led = subst (λ (x : Options). LeadsOn v x old new a b) e led

@@ -7,3 +7,4 @@ pub mod Stands
 pub mod Runs
 pub mod Headline
 pub mod Twin
+pub mod State

@@ -12,6 +12,7 @@ use Rattle.ftp_switchboard.specs.Board.{holder_at, HasRoom}
 use Rattle.ftp_numbers.specs.Used.{has, HasSpare}
 use Rattle.ftp_events.specs.declared.action.Action.{Action}
 use Rattle.ftp_events.specs.declared.decision.Decision.{Decision}
+use Rattle.ftp_events.specs.declared.counters.Counters.{Counters}
 use Rattle.ftp_events.specs.declared.entry.Entry.{Entry}
 use Rattle.ftp_events.specs.declared.event.Answer.{Answer}
 use Rattle.ftp_events.specs.declared.event.EventKind.{EventKind}
@@ -19,7 +20,6 @@ use Rattle.ftp_events.specs.declared.event.EventKind.TheVariants as kind
 use Rattle.ftp_events.specs.declared.event.HubEvent.{HubEvent}
 use Rattle.ftp_events.specs.declared.session.Pending.{Pending}
 use Rattle.ftp_events.specs.declared.status.Ended.{Ended}
-use Rattle.ftp_events.specs.Counts.{Counted}
 use Rattle.ftp_events.specs.Statuses.{ended_of}
 use Rattle.ftp_events.specs.declared.session.Session.{Session}
 use Rattle.ftp_events.specs.Log.{job_ticket, past_of, is_stopped, is_used, named_session}
@@ -43,6 +43,10 @@ use Rattle.ftp_hub.specs.Leavers.{AreLeavers, is_shutdown}
 abbrev pub options_of : Hub → Options
 options_of hub = hub.options
 
+-- what a hub has counted of the entries that it made
+abbrev pub counters_of : Hub → Counters
+counters_of hub = hub.counters
+
 -- how many events a hub has counted
 abbrev pub count_of : Hub → ℕ
 count_of hub = hub.count
@@ -59,13 +63,12 @@ pub record Tables (hub : Hub) (past : List Entry) : Type 0 where
   pub failures : (key : LoginKey) → failures_in hub.failures key ≡ failures hub.options past key
   pub stopped : hub.stopped ≡ is_stopped past
 
--- the log is right and acted, the tables answer as it does, its entries were counted, and so was what they tell
+-- the log is right and acted, the tables answer as it does, and its entries were counted
 pub record Stands (hub : Hub) (log : List Entry) : Type 0 where
   pub right : IsRight hub.options log
   pub acted : IsActed hub.options log
   pub tables : Tables hub (past_of log)
-  pub counted : hub.count ≡ hub.start + length log
-  pub counters : Counted hub.options (past_of log) hub.counters
+  pub counted : length log ≤ hub.count
 
 -- an entry with these parts
 abbrev pub entry : HubEvent → Answer → Decision → List Action → Entry
@@ -80,7 +83,6 @@ pub record Serves (old new : Hub) (log : List Entry) (event : HubEvent) (answer 
 -- what no event changes but the step itself
 pub record SameHead (old new : Hub) : Type 0 where
   pub options : new.options ≡ old.options
-  pub start : new.start ≡ old.start
   pub count : new.count ≡ old.count
   pub counters : new.counters ≡ old.counters
 

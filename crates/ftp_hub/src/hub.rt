@@ -30,8 +30,6 @@ pub struct Hub {
     // Every session was ended, and no other is opened.
     pub(crate) stopped: bool,
     pub(crate) counters: Counters,
-    // The count of events that the hub was made with.
-    pub(crate) start: u64,
     pub(crate) count: u64,
     ghost lo: { is_legacy options.mode ≡ false → board.lo ≡ options.lo },
     ghost hi: { is_legacy options.mode ≡ false → board.hi ≡ options.hi },
@@ -46,17 +44,19 @@ impl Hub {
     ghost use Rattle.ftp_events.specs.Log.{past_of};
     ghost use Rattle.ftp_events.specs.Session.{session, live_count};
     ghost use Rattle.ftp_events.specs.Running.{running_count};
-    ghost use Rattle.ftp_hub.specs.Stands.{Stands, options_of, count_of};
+    ghost use Rattle.ftp_hub.specs.Stands.{Stands, options_of, count_of, counters_of};
 
     /// A hub to which nothing has happened.
     ///
     /// # Proved
     ///
-    /// - A new hub stands for the empty log, in every mode (`stands`; also `Hub::with_count`: `stands`).
+    /// - A new hub stands for the empty log, in every mode (`stands`; also `Hub::with_count`: `stands`), and has counted
+    ///   nothing (`counters`; also `Hub::with_count`: `counters`).
     pub fn new(alloc: Global, options: Options) -> Hub
         ensures stands { Stands result [] }
         ensures options { options_of result ≡ options }
         ensures count { count_of result ≡ 0 }
+        ensures counters { Counted options [] (counters_of result) }
     {
         Hub::with_count(alloc, options, 0)
     }
@@ -66,6 +66,7 @@ impl Hub {
         ensures stands { Stands result [] }
         ensures options { options_of result ≡ options }
         ensures count { count_of result ≡ count }
+        ensures counters { Counted options [] (counters_of result) }
     {
         let board = Switchboard::new(alloc, options.lo.max(1), options.hi.max(1));
         let failures = no_failures(alloc, options.lockout);
@@ -79,7 +80,6 @@ impl Hub {
             failures,
             stopped: false,
             counters: Counters::new(),
-            start: count,
             count,
         }
     }
@@ -99,9 +99,9 @@ impl Hub {
     ///
     /// # Proved
     ///
-    /// - The counters are those of the log, where metrics are kept, and 0 else, if the hub stands for the log.
+    /// - The counters that are lent are those that the steps count.
     pub fn counters(&self) -> &Counters
-        ensures { (log : List Entry) → Stands self.now log → Counted (options_of self.now) (past_of log) result.now }
+        ensures { result.now ≡ counters_of self.now }
     {
         &self.counters
     }

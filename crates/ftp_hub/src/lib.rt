@@ -5,13 +5,17 @@
 #![tactic(auto)]
 
 mod arrivals;
+mod claims;
 mod data_links;
 mod hub;
 mod jobs;
+mod laws;
 mod own_sessions;
 mod prepare;
 mod replay;
+mod resume;
 mod run;
+mod state;
 mod step;
 mod stop;
 mod tables;
@@ -21,7 +25,12 @@ pub use ftp_handlers::{
     Need, Room, appe, cwd, list, mlsd, nlst, pass, pasv, quit, rest, retr, stor, stou,
 };
 pub use hub::Hub;
+pub use laws::{sessions_are_told, states_stand_for_logs};
 pub use prepare::PrepareError;
 pub use replay::isolation;
 pub use run::{RunError, covers, keep, run_event, run_events};
+pub use state::{
+    HubState, JobLine, LoginState, QueuedLine, RecordLine, Rows, SessionLine, SlotKind, SlotLine,
+    StateError,
+};
 pub use twin::{Twin, TwinRoom};

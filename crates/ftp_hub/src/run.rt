@@ -5,12 +5,13 @@ ghost use Rattle.std.specs.List.{list_all};
 ghost use Rattle.ftp_events.specs.declared.entry.Entry.{Entry};
 ghost use Rattle.ftp_events.specs.Right.{next_entry};
 ghost use Rattle.ftp_hub.specs.Headline.{IsFresh, Headline};
+ghost use Rattle.ftp_events.specs.Counts.{Counted};
 ghost use Rattle.ftp_events.specs.Covers.{is_covered};
 ghost use Rattle.ftp_events.specs.Leads.{HasLinks, LeadsOne, LeavesAll, MovesPiece, RunsJob, beside, views};
 ghost use Rattle.ftp_events.specs.Log.{past_of};
 ghost use Rattle.ftp_handlers.specs.Rooms.{job_in};
 ghost use Rattle.ftp_hub.specs.Runs.{GoesOn, LeadsOn, has_link_of, is_linked, job_due, done_of, IsExhausted};
-ghost use Rattle.ftp_hub.specs.Stands.{Stands, SameAnswers, Fits, job_for, options_of, count_of};
+ghost use Rattle.ftp_hub.specs.Stands.{Stands, SameAnswers, Fits, job_for, options_of, count_of, counters_of};
 
 use crate::hub::Hub;
 use crate::prepare::PrepareError;
@@ -134,6 +135,10 @@ pub fn run_event<S: Storage, L: Link>(
     ensures linked { (n : ℕ) → is_linked links.old n ≡ true → is_linked links.new n ≡ true }
     ensures options { options_of hub.new ≡ options_of hub.old }
     ensures count { OnOk result (count_of hub.new ≡ count_of hub.old + 1) }
+    ensures counters { IfOk result (λ e.
+        (log : List Entry) → Stands hub.old log →
+        Counted (options_of hub.old) (past_of log) (counters_of hub.old) →
+        Counted (options_of hub.old) (past_of (e ∷ log)) (counters_of hub.new)) }
     ensures unchanged { OnErr result (SameAnswers hub.old hub.new) }
     ensures none_done { IfErr result (λ e. done_of e ≡ 0) }
     ensures exhausted { IsErrOf result (RunError.Exhausted 0) ↔ (count_of hub.old ≡ 2 ^ 64 - 1) }
@@ -173,6 +178,9 @@ fn run_prepared<S: Storage, L: Link>(
     ensures linked { (n : ℕ) → is_linked links.old n ≡ true → is_linked links.new n ≡ true }
     ensures options { options_of hub.new ≡ options_of hub.old }
     ensures count { count_of hub.new ≡ count_of hub.old + 1 }
+    ensures counters { (log : List Entry) → Stands hub.old log →
+        Counted (options_of hub.old) (past_of log) (counters_of hub.old) →
+        Counted (options_of hub.old) (past_of (result ∷ log)) (counters_of hub.new) }
 {
     let mut room = room;
     let answer = ask(hub, &mut room, storage, links, &event);
@@ -311,6 +319,9 @@ pub fn run_events<S: Storage, L: Link>(
     ensures count { OnOk result (count_of hub.new ≡ count_of hub.old + length events.now) }
     ensures count_stopped { IfErr result (λ e. count_of hub.new ≡ count_of hub.old + done_of e) }
     ensures options { options_of hub.new ≡ options_of hub.old }
+    ensures counters { Stands hub.old log.old.entries →
+        Counted (options_of hub.old) (past_of log.old.entries) (counters_of hub.old) →
+        Counted (options_of hub.old) (past_of log.new.entries) (counters_of hub.new) }
     ensures leads { Stands hub.old log.old.entries →
         HasLinks (options_of hub.old) (past_of log.old.entries) links.old →
         LeadsOn (views S.files S.rule S.faults S.fault_limit S.calls L.left L.sending L.faults L.fault_limit L.calls)
@@ -349,6 +360,9 @@ fn run_next<S: Storage, L: Link>(
     ensures exhausted { IfErr result (λ e. IsExhausted e ↔ (count_of hub.old ≡ 2 ^ 64 - 1)) }
     ensures count { OnOk result (count_of hub.new ≡ count_of hub.old + 1) }
     ensures options { options_of hub.new ≡ options_of hub.old }
+    ensures counters { Stands hub.old log.old.entries →
+        Counted (options_of hub.old) (past_of log.old.entries) (counters_of hub.old) →
+        Counted (options_of hub.old) (past_of log.new.entries) (counters_of hub.new) }
     ensures leads { Stands hub.old log.old.entries →
         HasLinks (options_of hub.old) (past_of log.old.entries) links.old →
         LeadsOn (views S.files S.rule S.faults S.fault_limit S.calls L.left L.sending L.faults L.fault_limit L.calls)

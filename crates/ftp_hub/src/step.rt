@@ -8,13 +8,14 @@ ghost use Rattle.ftp_switchboard.specs.Board.{HasRoom};
 ghost use Rattle.ftp_numbers.specs.Used.{HasSpare, has};
 ghost use Rattle.ftp_events.specs.declared.entry.Entry.{Entry};
 ghost use Rattle.ftp_events.specs.EndRows.{can_end, can_move};
-ghost use Rattle.ftp_events.specs.Log.{is_refusal, job_ticket, named_session, new_number};
+ghost use Rattle.ftp_events.specs.Log.{is_refusal, job_ticket, named_session, new_number, past_of};
 ghost use Rattle.ftp_events.specs.Right.{next_entry};
 ghost use Rattle.ftp_events.specs.Words.{is_number};
 ghost use Rattle.ftp_handlers.specs.Handlers.{can_reply, ends_session, is_command, is_idle_tick, is_port, is_transfer, kept_by, places_for};
 ghost use Rattle.ftp_handlers.specs.Rooms.{CanReply, IsReady, actions_in, kept_in, twice_in};
 ghost use Rattle.ftp_hub.specs.Endings.{is_over};
-ghost use Rattle.ftp_hub.specs.Stands.{Stands, Serves, SameHead, SameTables, Fits, ended_in, entry, options_of, count_of, kept_for, client_for};
+ghost use Rattle.ftp_events.specs.Counts.{Counted};
+ghost use Rattle.ftp_hub.specs.Stands.{Stands, Serves, SameHead, SameTables, Fits, ended_in, entry, options_of, count_of, counters_of, kept_for, client_for};
 
 use crate::hub::Hub;
 use crate::jobs::{can_end, can_move, cut, finish, is_piece, mark, queue};
@@ -54,6 +55,9 @@ impl Hub {
     ///   told by the hub as by the log, if the hub stands for the log (`due`, `stands`; also `run_event`: `due`,
     ///   `stands`).
     /// - A refused event changes no table, if the hub stands for the log (`refused`).
+    /// - The counters are those of the log with the entry, where metrics are kept, and 0 else, if they were those of the log
+    ///   and the hub stands for it (`counters`; also `Hub::step_twin`: `counters`; `run_event`: `counters`; `run_events`:
+    ///   `counters`).
     /// - A step gives the due entry also where the allocator has nothing left: it has no answer of want of memory. That
     ///   it asks for none is no clause, if the room is of this event and count (`due`).
     /// - An ABOR of a session whose job runs marks the job, and its next piece or its end cuts it: the transfer is
@@ -74,6 +78,7 @@ impl Hub {
         ensures options { options_of self.new ≡ options_of self.old }
         ensures count { count_of self.new ≡ count_of self.old + 1 }
         ensures refused { (log : List Entry) → Stands self.old log → IsTrue (is_refusal result.decision) → SameTables self.old self.new }
+        ensures counters { (log : List Entry) → Stands self.old log → Counted (options_of self.old) (past_of log) (counters_of self.old) → Counted (options_of self.old) (past_of (result ∷ log)) (counters_of self.new) }
     {
         let mut room = room;
         let decision = self.enter(&mut room, &event, answer);
@@ -93,6 +98,7 @@ impl Hub {
         ensures options { options_of self.new ≡ options_of self.old }
         ensures count { count_of self.new ≡ count_of self.old + 1 }
         ensures refused { (log : List Entry) → Stands self.old log → IsTrue (is_refusal result) → SameTables self.old self.new }
+        ensures counters { (log : List Entry) → Stands self.old log → Counted (options_of self.old) (past_of log) (counters_of self.old) → Counted (options_of self.old) (past_of (entry event.now answer result (actions_in room.new) ∷ log)) (counters_of self.new) }
         ensures twice { twice_in room.new ≡ twice_in room.old }
     {
         let ended = self.ended(&event.kind);

@@ -50,7 +50,7 @@ impl Hub {
     }
 
     // The numbers of the live sessions in order.
-    fn live_numbers(&self) -> Result<Vec<u64>, AllocError>
+    pub(crate) fn live_numbers(&self) -> Result<Vec<u64>, AllocError>
         ensures in_order { IfOk result (λ numbers. IsAscending numbers.items) }
         ensures all { IfOk result (λ numbers. (s : ℕ) → is_listed numbers.items s ≡ is_some (map.get nat_eq self.now.sessions s)) }
     {

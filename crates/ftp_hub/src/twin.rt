@@ -3,10 +3,11 @@
 ghost use Rattle.std.specs.Prelude.{◌≡◌, ◌+◌, ◌-◌, ◌^◌, ◌↔◌, List, ◌∷◌, IfOk, IsErrOf, IsTrue, None};
 ghost use Rattle.std.specs.Option.{option_and_then, option_map};
 ghost use Rattle.ftp_events.specs.declared.entry.Entry.{Entry};
+ghost use Rattle.ftp_events.specs.Counts.{Counted};
 ghost use Rattle.ftp_events.specs.Log.{is_refusal, past_of};
 ghost use Rattle.ftp_events.specs.Right.{next_entry};
 ghost use Rattle.ftp_handlers.specs.Rooms.{job_in, need_in};
-ghost use Rattle.ftp_hub.specs.Stands.{SameAnswers, SameTables, Stands, count_of, job_for, options_of};
+ghost use Rattle.ftp_hub.specs.Stands.{SameAnswers, SameTables, Stands, count_of, counters_of, job_for, options_of};
 ghost use Rattle.ftp_hub.specs.Twin.{FitsTwin, arrival_holder, can_start, concerned_in, first_start, job_at, started_job, waiting_in};
 
 use crate::hub::Hub;
@@ -146,6 +147,7 @@ impl Hub {
         ensures options { options_of self.new ≡ options_of self.old }
         ensures count { count_of self.new ≡ count_of self.old + 1 }
         ensures refused { (log : List Entry) → Stands self.old log → IsTrue (is_refusal result.kept.decision) → SameTables self.old self.new }
+        ensures counters { (log : List Entry) → Stands self.old log → Counted (options_of self.old) (past_of log) (counters_of self.old) → Counted (options_of self.old) (past_of (result.kept ∷ log)) (counters_of self.new) }
     {
         let TwinRoom {
             room,

@@ -1,5 +1,7 @@
-use Rattle.std.proofs.Common.{◌∙◌, sym, arith}
-use Rattle.ftp_hub.proofs.Common.{options_of}
+use Rattle.std.proofs.Common.{◌≡◌, ◌∙◌, sym, subst, arith}
+use Rattle.ftp_hub.proofs.Common.{Options, options_of, past_of}
+use Rattle.ftp_events.specs.Counts.{Counted}
+use Rattle.ftp_hub.specs.Stands.{counters_of}
 use Rattle.ftp_hub.proofs.Links.{has_links-under}
 use Rattle.ftp_hub.proofs.Runs.{goes-on-more, headline-fresh, leads-on, leads-under}
 use Rattle.ftp_hub.proofs.run.run_events.Goals as goal
@@ -15,6 +17,10 @@ loop-event-preserved g c =
       done = omega (arith, so_far.done);
       count = omega (arith, next.count, so_far.count);
       options = next.options ∙ so_far.options;
+      counters = λ stood told.
+          subst (λ (o : Options). Counted o (past_of c.run_next.new.log.entries) (counters_of c.run_next.new.hub)) so_far.options
+          (next.counters (so_far.stands stood)
+          (subst (λ (o : Options). Counted o (past_of c.loop-event.log.entries) (counters_of c.loop-event.hub)) (sym so_far.options) (so_far.counters stood told)));
       leads = λ stood has.
           leads-on _ (options_of c.args.hub.now) c.args.log.now.entries c.loop-event.log.entries c.run_next.new.log.entries _ _ _
           (so_far.leads stood has)

@@ -16,7 +16,7 @@ use Rattle.ftp_hub.proofs.Commands.{at-work, serves-unknown, serves-command, end
 use Rattle.ftp_laws.proofs.GrantLemmas.{holder-legacy}
 use Rattle.ftp_hub.proofs.Failures.{failures-stay}
 use Rattle.ftp_hub.proofs.Named.{ends-none}
-use Rattle.ftp_hub.proofs.Rows.{EndsLife, ending-ends}
+use Rattle.ftp_hub.proofs.RowCases.{EndsLife, ending-ends}
 use Rattle.ftp_hub.proofs.Moved.{jobs-stay, tables-lent}
 use Rattle.ftp_hub.proofs.hub.Hub.close.Goals as goal
 

@@ -12,7 +12,7 @@ use Rattle.ftp_hub.specs.Stands.{stops_for, used_for}
 use Rattle.ftp_hub.proofs.Commands.{serves-unknown, serves-command, command-plain, command-unmoved, row-same}
 use Rattle.ftp_hub.proofs.Decisions.{kept-unanswered}
 use Rattle.ftp_hub.proofs.Moved.{jobs-kept, sessions-stay, tables-lent}
-use Rattle.ftp_hub.proofs.Rows.{goes_on-lives}
+use Rattle.ftp_hub.proofs.RowCases.{goes_on-lives}
 use Rattle.ftp_hub.proofs.hub.Hub.command.Goals as goal
 
 -- a session that is not live

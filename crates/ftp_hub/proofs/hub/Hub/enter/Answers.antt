@@ -2,7 +2,6 @@ use Rattle.std.proofs.Common.{◌≡◌, sym, ap, ◌∙◌, subst, [], ◌∷�
 use Rattle.ftp_hub.proofs.Common.{Action, Answer, Decision, Entry, Hub, IsActed, IsRight, Options, acts, decide, entry, past_of}
 use Rattle.ftp_events.specs.declared.counters.Counters.{Counters}
 use Rattle.ftp_events.specs.declared.status.Ended.{Ended}
-use Rattle.ftp_events.specs.Counts.{Counted}
 use Rattle.ftp_handlers.specs.Rooms.{actions_in}
 use Rattle.ftp_hub.specs.Stands.{ended_in}
 use Rattle.ftp_hub.proofs.Counting.{Notes, counted-more}
@@ -40,23 +39,9 @@ returns-clause-stands c log st =
     let d : Decision = c.serve-decision.result in
     let done : List Action = actions_in c.serve-decision.new.room in
     let e : Entry = entry event a d done in
-    let counters : Counters = c.note.new.self in
     let head = c.serve-decision.ensures.head in
     let served = c.serve-decision.ensures.serves log st in
     let tables = served.tables in
-    let notes : Notes h.options a d c.actions.result.now c.ended-ended.result h.counters counters = c.note.ensures.counted in
-    let by_done : Notes h.options a d done c.ended-ended.result h.counters counters =
-    subst (λ (xs : List Action). Notes h.options a d xs c.ended-ended.result h.counters counters) c.actions.ensures notes
-    in
-    let by_ended : Notes h.options a d done (ended_in old event.kind) h.counters counters =
-    subst (λ (x : Option Ended). Notes h.options a d done x h.counters counters) c.ended-ended.ensures by_done
-    in
-    let by_old : Notes h.options a d done (ended_in old event.kind) old.counters counters =
-    subst (λ (x : Counters). Notes h.options a d done (ended_in old event.kind) x counters) head.counters by_ended
-    in
-    let by_options : Notes old.options a d done (ended_in old event.kind) old.counters counters =
-    subst (λ (o : Options). Notes o a d done (ended_in old event.kind) old.counters counters) head.options by_old
-    in
     record {
       right = subst (λ (o : Options). IsRight o (e ∷ log)) (sym head.options) (st.right, served.decision);
       acted = subst (λ (o : Options). IsActed o (e ∷ log)) (sym head.options) (st.acted, served.done);
@@ -70,8 +55,32 @@ returns-clause-stands c log st =
         failures = tables.failures;
         stopped = tables.stopped;
       };
-      counted = omega (arith, head.count, head.start, st.counted);
-      counters =
-          subst (λ (o : Options). Counted o (past_of (e ∷ log)) counters) (sym head.options)
-          (counted-more old log event a d done counters st c.requires.below by_options (λ r. c.note.ensures.refused r ∙ head.counters));
+      counted = omega (arith, head.count, st.counted);
     }
+
+-- what the entry tells was counted
+pub returns-clause-counters : goal.returns-clause-counters
+unfolding decide acts
+returns-clause-counters c log st told =
+    let old : Hub = c.args.self.now in
+    let h : Hub = c.serve-decision.new.self in
+    let event = c.args.event.now in
+    let a : Answer = c.args.answer in
+    let d : Decision = c.serve-decision.result in
+    let done : List Action = actions_in c.serve-decision.new.room in
+    let counters : Counters = c.note.new.self in
+    let head = c.serve-decision.ensures.head in
+    let notes : Notes h.options a d c.actions.result.now c.ended-ended.result h.counters counters = c.note.ensures.counted in
+    let by_done : Notes h.options a d done c.ended-ended.result h.counters counters =
+    subst (λ (xs : List Action). Notes h.options a d xs c.ended-ended.result h.counters counters) c.actions.ensures notes
+    in
+    let by_ended : Notes h.options a d done (ended_in old event.kind) h.counters counters =
+    subst (λ (x : Option Ended). Notes h.options a d done x h.counters counters) c.ended-ended.ensures by_done
+    in
+    let by_old : Notes h.options a d done (ended_in old event.kind) old.counters counters =
+    subst (λ (x : Counters). Notes h.options a d done (ended_in old event.kind) x counters) head.counters by_ended
+    in
+    let by_options : Notes old.options a d done (ended_in old event.kind) old.counters counters =
+    subst (λ (o : Options). Notes o a d done (ended_in old event.kind) old.counters counters) head.options by_old
+    in
+    counted-more old log event a d done counters st told c.requires.below by_options (λ r. c.note.ensures.refused r ∙ head.counters)

@@ -11,7 +11,7 @@ use Rattle.ftp_handlers.specs.Handlers.{goes_on, is_auth, is_idle_tick, number_o
 use Rattle.ftp_hub.proofs.Commands.{IsPlain, at-work, serves-command, serves-unknown}
 use Rattle.ftp_hub.proofs.Failures.{failures-stay}
 use Rattle.ftp_hub.proofs.Moved.{Sessions, jobs-stay, sessions-stay, tables-lent}
-use Rattle.ftp_hub.proofs.Rows.{LivesOn, goes_on-lives}
+use Rattle.ftp_hub.proofs.RowCases.{LivesOn, goes_on-lives}
 use Rattle.ftp_hub.proofs.hub.Hub.idle.Goals as goal
 
 -- a look at the idle time is plain, brings no number and says nothing of a password

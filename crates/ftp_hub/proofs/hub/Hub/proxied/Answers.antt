@@ -65,6 +65,6 @@ returns-in-None c =
           let going : is_stopped (past_of log) ≡ false = sym st.tables.stopped ∙ c.if-self.false in
           serves-refused c.args.self.now log c.args.event.now c.args.answer decision.NotExpected _ st
           (sym (rw (c.in-Proxied.is, sym c.if-not-is_proxy.ensures, sym c.if-is_v6.ensures, unused, going) (headless c.args.self.now.options (past_of log) c.in-Proxied.raw c.args.answer c.in-None.is))) refl c.requires.ready.actions;
-      head = record { options = refl; start = refl; count = refl; counters = refl };
+      head = record { options = refl; count = refl; counters = refl };
       twice = refl;
     }

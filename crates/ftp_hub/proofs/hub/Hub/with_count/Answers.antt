@@ -29,5 +29,4 @@ returns-clause-stands c =
         holders = λ a p. ap (λ (held : Held). finmap.get held (key a p)) c.new-board.ensures.free ∙ finmap.get-empty key_cmp (key a p);
       };
       counted = omega arith;
-      counters = c.new-4.ensures.counted c.args.options;
     }

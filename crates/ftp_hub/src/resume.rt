@@ -1,0 +1,340 @@
+//! A hub's tables from the lines of a state.
+
+ghost use Rattle.std.specs.Prelude.{◌≡◌, ℕ, ◌+◌, ◌==◌, ◌↔◌, List, IfOk, OnOk, Some, None, true, false, length, map as each, nat_eq, if◌then◌else◌};
+ghost use Rattle.std.specs.Option.{option_map};
+ghost use Rattle.std.specs.HashMap as map;
+ghost use Rattle.ftp_events.specs.Login.{logged_user};
+ghost use Rattle.ftp_laws.specs.Census.{IsAscending};
+ghost use Rattle.ftp_options.specs.Modes.{is_legacy};
+ghost use Rattle.ftp_lockout.specs.declared.key.LoginKey.{LoginKey};
+ghost use Rattle.ftp_numbers.specs.Used.{has, is_used as is_in_lines};
+ghost use Rattle.ftp_switchboard.specs.Board.{holder_at};
+ghost use Rattle.ftp_events.specs.declared.entry.Entry.{Entry};
+ghost use Rattle.ftp_events.specs.Right.{IsActed, IsRight};
+ghost use Rattle.ftp_handlers.specs.Handlers.{failures_in, policy_in};
+ghost use Rattle.ftp_hub.specs.Stands.{Stands, options_of};
+ghost use Rattle.ftp_hub.specs.State.{HoldsAreTold, IsState, TellsState, WaitsAt, failures_told, bare_session, job_line, told_login, told_pending, queued_line, session_by_lines, session_line, slot_line, told_slot, told_running, with_slot, with_transfer};
+
+use crate::hub::Hub;
+use crate::state::{
+    HubState, JobLine, LoginState, QueuedLine, SessionLine, SlotKind, SlotLine, StateError,
+};
+use crate::tables::{put, take};
+use ftp_base::Bytes;
+use ftp_events::{Counters, Login, Opening, Pending, Running, Session, Slot};
+use ftp_lockout::FailedLoginsCache;
+use ftp_numbers::Numbers;
+use ftp_options::Options;
+use ftp_switchboard::Switchboard;
+use ftp_transfer::Ticket;
+use std::alloc::{AllocError, Global};
+use std::collections::HashMap;
+
+impl LoginState {
+    // How far the login is.
+    pub(crate) fn login(self) -> Login
+        ensures { result ≡ told_login self }
+    {
+        match self {
+            LoginState::New => Login::New,
+            LoginState::Pass => Login::Named,
+            LoginState::Out => Login::Checking,
+            LoginState::Cmd => Login::LoggedIn,
+        }
+    }
+}
+
+impl SlotKind {
+    // The slot.
+    pub(crate) fn slot(self) -> Slot
+        ensures { result ≡ told_slot self }
+    {
+        match self {
+            SlotKind::Waits { port } => Slot::Waits { port },
+            SlotKind::HasLink { number } => Slot::Linked { number },
+        }
+    }
+}
+
+// The session of a line, with nothing in its slot.
+fn opened(line: SessionLine) -> Session
+    ensures { result ≡ bare_session line }
+{
+    Session {
+        opening: Opening {
+            raw: line.raw,
+            local: line.local,
+            client: line.client,
+            trace: line.trace,
+        },
+        login: line.state.login(),
+        name: line.user,
+        cwd: line.cwd,
+        offset: line.offset,
+        slot: Slot::Empty,
+        slot_at: 0,
+        active_at: line.active,
+        pending: None,
+        tickets: line.tickets,
+        notices: line.notices,
+    }
+}
+
+// Puts a value into a table, in room that is made for it.
+fn put_new<V: Drop>(table: &mut HashMap<u64, V>, number: u64, value: V) -> Result<(), AllocError>
+    ensures updates { OnOk result ((s : ℕ) → map.get nat_eq table.new s ≡ (if number == s then Some value else map.get nat_eq table.old s)) }
+    ensures len { OnOk result (map.get nat_eq table.old number ≡ None → map.hash_map_len table.new ≡ map.hash_map_len table.old + 1) }
+{
+    table.reserve(1)?;
+    put(table, number, value);
+    Ok(())
+}
+
+// The sessions of these lines.
+pub(crate) fn open_all(
+    alloc: Global,
+    lines: Vec<SessionLine>,
+) -> Result<HashMap<u64, Session>, AllocError>
+    requires { IsAscending (each (λ line. line.session) lines.items) }
+    ensures sessions { IfOk result (λ table. (s : ℕ) → map.get nat_eq table s ≡ option_map bare_session (session_line lines.items s)) }
+    ensures len { IfOk result (λ table. map.hash_map_len table ≡ length lines.items) }
+{
+    let mut table = HashMap::new(alloc);
+    let mut lines = lines;
+    while let Some(line) = lines.pop() {
+        let number = line.session;
+        put_new(&mut table, number, opened(line))?;
+    }
+    Ok(table)
+}
+
+// Puts the slot of a line into its session.
+fn fill_slot(sessions: &mut HashMap<u64, Session>, line: SlotLine) -> Result<(), AllocError>
+    ensures sessions { OnOk result ((s : ℕ) → map.get nat_eq sessions.new s ≡ (if line.session == s then option_map (with_slot (Some line)) (map.get nat_eq sessions.old s) else map.get nat_eq sessions.old s)) }
+    ensures len { OnOk result (map.hash_map_len sessions.new ≡ map.hash_map_len sessions.old) }
+{
+    let Some(session) = take(sessions, line.session) else {
+        return Ok(());
+    };
+    let mut session = session;
+    session.slot = line.what.slot();
+    session.slot_at = line.at;
+    sessions.reserve(1)?;
+    put(sessions, line.session, session);
+    Ok(())
+}
+
+// Puts the slots of these lines into their sessions.
+pub(crate) fn fill_slots(
+    sessions: &mut HashMap<u64, Session>,
+    lines: Vec<SlotLine>,
+) -> Result<(), AllocError>
+    ensures sessions { OnOk result ((s : ℕ) → map.get nat_eq sessions.new s ≡ option_map (with_slot (slot_line lines.items s)) (map.get nat_eq sessions.old s)) }
+    ensures len { OnOk result (map.hash_map_len sessions.new ≡ map.hash_map_len sessions.old) }
+{
+    let mut lines = lines;
+    while let Some(line) = lines.pop() {
+        fill_slot(sessions, line)?;
+    }
+    Ok(())
+}
+
+// The transfer of a line, for the user of its session.
+fn waiting(alloc: Global, line: QueuedLine, session: &Session) -> Result<Pending, AllocError>
+    ensures { IfOk result (λ pending. pending ≡ told_pending line session.now) }
+{
+    Ok(Pending {
+        ticket: Ticket {
+            session: line.session,
+            nr: line.nr,
+        },
+        user: user_of(alloc, session)?,
+        command: line.command,
+        path: line.path,
+        offset: line.offset,
+    })
+}
+
+// Who is logged in.
+fn user_of(alloc: Global, session: &Session) -> Result<Bytes, AllocError>
+    ensures { IfOk result (λ user. user ≡ logged_user session.now.login session.now.name) }
+{
+    match (session.login, &session.name) {
+        (Login::LoggedIn, Some(name)) => name.copy(alloc),
+        _ => Bytes::from_slice(alloc, b"unknown"),
+    }
+}
+
+// Puts the transfer of a line into the slot of its session.
+fn queue_one(
+    alloc: Global,
+    sessions: &mut HashMap<u64, Session>,
+    line: QueuedLine,
+) -> Result<(), AllocError>
+    ensures sessions { OnOk result ((s : ℕ) → map.get nat_eq sessions.new s ≡ (if line.session == s then option_map (with_transfer (Some line)) (map.get nat_eq sessions.old s) else map.get nat_eq sessions.old s)) }
+    ensures len { OnOk result (map.hash_map_len sessions.new ≡ map.hash_map_len sessions.old) }
+{
+    let number = line.session;
+    let Some(session) = take(sessions, number) else {
+        return Ok(());
+    };
+    let mut session = session;
+    session.pending = Some(waiting(alloc, line, &session)?);
+    sessions.reserve(1)?;
+    put(sessions, number, session);
+    Ok(())
+}
+
+// Puts the transfers of these lines into the slots of their sessions.
+pub(crate) fn queue_all(
+    alloc: Global,
+    sessions: &mut HashMap<u64, Session>,
+    lines: Vec<QueuedLine>,
+) -> Result<(), AllocError>
+    ensures sessions { OnOk result ((s : ℕ) → map.get nat_eq sessions.new s ≡ option_map (with_transfer (queued_line lines.items s)) (map.get nat_eq sessions.old s)) }
+    ensures len { OnOk result (map.hash_map_len sessions.new ≡ map.hash_map_len sessions.old) }
+{
+    let mut lines = lines;
+    while let Some(line) = lines.pop() {
+        queue_one(alloc, sessions, line)?;
+    }
+    Ok(())
+}
+
+// The jobs of these lines.
+pub(crate) fn run_all(
+    alloc: Global,
+    lines: Vec<JobLine>,
+) -> Result<HashMap<u64, Running>, AllocError>
+    requires { IsAscending (each (λ line. line.job.ticket.session) lines.items) }
+    ensures jobs { IfOk result (λ table. (s : ℕ) → map.get nat_eq table s ≡ option_map told_running (job_line lines.items s)) }
+    ensures len { IfOk result (λ table. map.hash_map_len table ≡ length lines.items) }
+{
+    let mut table = HashMap::new(alloc);
+    let mut lines = lines;
+    while let Some(line) = lines.pop() {
+        let number = line.job.ticket.session;
+        put_new(
+            &mut table,
+            number,
+            Running {
+                job: line.job,
+                marked: line.marked,
+            },
+        )?;
+    }
+    Ok(table)
+}
+
+// The live sessions of a state's lines, each with its slot and its transfer.
+pub(crate) fn sessions_of(
+    alloc: Global,
+    sessions: Vec<SessionLine>,
+    slots: Vec<SlotLine>,
+    queued: Vec<QueuedLine>,
+) -> Result<HashMap<u64, Session>, AllocError>
+    requires { IsAscending (each (λ line. line.session) sessions.items) }
+    ensures told { IfOk result (λ table. (s : ℕ) → map.get nat_eq table s ≡ session_by_lines sessions.items slots.items queued.items s) }
+    ensures len { IfOk result (λ table. map.hash_map_len table ≡ length sessions.items) }
+{
+    let mut table = open_all(alloc, sessions)?;
+    fill_slots(&mut table, slots)?;
+    queue_all(alloc, &mut table, queued)?;
+    Ok(table)
+}
+
+impl Hub {
+    // A hub of a state, with the numbers of its intervals and the failed logins of its records.
+    pub(crate) fn resumed(
+        alloc: Global,
+        options: Options,
+        state: HubState,
+        numbers: Numbers,
+        failures: Option<FailedLoginsCache>,
+    ) -> Result<Hub, StateError>
+        requires policy { policy_in failures ≡ options.lockout }
+        requires numbers { (n : ℕ) → has numbers n ≡ is_in_lines state.used n }
+        requires failures { (key : LoginKey) → failures_in failures key ≡ failures_told options.lockout state.records key }
+        requires sessions { IsAscending (each (λ line. line.session) state.sessions) }
+        requires jobs { IsAscending (each (λ line. line.job.ticket.session) state.jobs) }
+        ensures options { IfOk result (λ hub. options_of hub ≡ options) }
+        ensures told { IfOk result (λ hub. TellsState hub state) }
+        ensures holds { IfOk result (λ hub. HoldsAreTold hub state) }
+        ensures stands { IfOk result (λ hub. (log : List Entry) → IsRight options log → IsActed options log → IsState options log state → Stands hub log) }
+    {
+        let hub = Hub::rebuilt(alloc, options, state, numbers, failures)?;
+        Ok(hub)
+    }
+
+    // A hub that tells a state.
+    fn rebuilt(
+        alloc: Global,
+        options: Options,
+        state: HubState,
+        numbers: Numbers,
+        failures: Option<FailedLoginsCache>,
+    ) -> Result<Hub, StateError>
+        requires policy { policy_in failures ≡ options.lockout }
+        requires numbers { (n : ℕ) → has numbers n ≡ is_in_lines state.used n }
+        requires failures { (key : LoginKey) → failures_in failures key ≡ failures_told options.lockout state.records key }
+        requires sessions { IsAscending (each (λ line. line.session) state.sessions) }
+        requires jobs { IsAscending (each (λ line. line.job.ticket.session) state.jobs) }
+        ensures options { IfOk result (λ hub. options_of hub ≡ options) }
+        ensures told { IfOk result (λ hub. TellsState hub state) }
+        ensures holds { IfOk result (λ hub. HoldsAreTold hub state) }
+    {
+        let HubState {
+            events,
+            stopped,
+            used: _,
+            records: _,
+            sessions,
+            slots,
+            queued,
+            jobs,
+        } = state;
+        let table = sessions_of(
+            alloc,
+            sessions.into_vec(),
+            slots.into_vec(),
+            queued.into_vec(),
+        )?;
+        let jobs = run_all(alloc, jobs.into_vec())?;
+        let board = Switchboard::new(alloc, options.lo.max(1), options.hi.max(1));
+        let hub = Hub {
+            alloc,
+            options,
+            sessions: table,
+            jobs,
+            numbers,
+            board,
+            failures,
+            stopped,
+            counters: Counters::new(),
+            count: events,
+        };
+        let hub = hub.with_ports()?;
+        Ok(hub)
+    }
+
+    // The hub, with each port held by the session that waits for it.
+    fn with_ports(self) -> Result<Hub, StateError>
+        requires free { (a p : ℕ) → holder_at self.board a p ≡ None }
+        ensures sessions { IfOk result (λ hub. hub.sessions ≡ self.sessions) }
+        ensures jobs { IfOk result (λ hub. hub.jobs ≡ self.jobs) }
+        ensures numbers { IfOk result (λ hub. hub.numbers ≡ self.numbers) }
+        ensures failures { IfOk result (λ hub. hub.failures ≡ self.failures) }
+        ensures stopped { IfOk result (λ hub. hub.stopped ≡ self.stopped) }
+        ensures options { IfOk result (λ hub. hub.options ≡ self.options) }
+        ensures count { IfOk result (λ hub. hub.count ≡ self.count) }
+        ensures held { IfOk result (λ hub. is_legacy self.options.mode ≡ false → (a p s : ℕ) → (holder_at hub.board a p ≡ Some s) ↔ WaitsAt (map.get nat_eq self.sessions s) a p) }
+        ensures nobody { IfOk result (λ hub. is_legacy self.options.mode ≡ true → (a p : ℕ) → holder_at hub.board a p ≡ None) }
+    {
+        let mut hub = self;
+        if hub.options.mode.is_legacy() {
+            return Ok(hub);
+        }
+        hub.hold_ports()?;
+        Ok(hub)
+    }
+}
