@@ -61,7 +61,7 @@ outbox-step box new actions e own s all kept next told =
     go false = refl
 
 -- an outbox is the last of the replies, also after a step
-rest-step : (old all more : List (ℕ × Reply)) (b : Bool) → IsRest old all → IsRest (cond b [] (old ++ more)) (all ++ more)
+pub rest-step : (old all more : List (ℕ × Reply)) (b : Bool) → IsRest old all → IsRest (cond b [] (old ++ more)) (all ++ more)
 rest-step old all more true h = (all ++ more, sym (append-nil (all ++ more)))
 rest-step old all more false h = (h.0, ap (λ xs. xs ++ more) h.1 ∙ append_assoc h.0 old more)
 

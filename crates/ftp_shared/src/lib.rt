@@ -5,6 +5,7 @@
 //! Begin with `Locked::append`, `Desk` and `serve_job`.
 #![tactic(auto)]
 
+mod cut;
 mod desk;
 mod locked;
 mod marks;
@@ -22,6 +23,7 @@ mod shared_hub;
 mod shown;
 mod solo_desk;
 
+pub use cut::Cut;
 pub use desk::{Desk, Told};
 pub use locked::{Locked, Serving};
 pub use notifier::{Listener, Notifier};

@@ -1,8 +1,11 @@
 //! What an append does before and after the step.
 
-ghost use Rattle.std.specs.Prelude.{◌≡◌, ◌≤◌, ◌<◌, ℕ, ◌∷◌, length, IfOk, OnOk};
+ghost use Rattle.std.specs.Prelude.{◌≡◌, ◌-◌, ◌^◌, ◌≤◌, ◌<◌, ◌↔◌, ℕ, [], ◌∷◌, length, nat_lt, true, false, None, List, unwrap_or, IfOk, OnOk, OnErr, IsErrOf, IsSomeAnd, if◌then◌else◌};
 ghost use Rattle.ftp_options.specs.declared.options.Options.{Options};
+ghost use Rattle.ftp_events.specs.declared.entry.Entry.{Entry};
+ghost use Rattle.ftp_hub.specs.Stands.{Stands, count_of, options_of};
 ghost use Rattle.ftp_hub.specs.Twin.{FitsTwin};
+ghost use Rattle.ftp_shared.specs.Cut.{KeepsCut};
 ghost use Rattle.ftp_shared.specs.Keeps.{Keeps};
 ghost use Rattle.ftp_shared.specs.Outbox.{newest, outbox_in, own_session};
 
@@ -10,9 +13,9 @@ use crate::marks::Marks;
 use crate::outbox::Outbox;
 use crate::receipt::JobShare;
 use ftp_events::{Action, Answer, Entry, EventKind, HubEvent, Log};
-use ftp_hub::{Hub, TwinRoom};
+use ftp_hub::{Hub, PrepareError, TwinRoom};
 use ftp_transfer::Job;
-use std::alloc::AllocError;
+use std::alloc::{AllocError, Global};
 
 /// Takes all memory of the next entry: in the outboxes, in the journal, and for the step.
 pub(crate) fn make_ready(
@@ -36,6 +39,64 @@ pub(crate) fn make_ready(
     match hub.prepare_twin(event, answer) {
         Ok(room) => Ok(room),
         Err(_) => Err(AllocError),
+    }
+}
+
+/// Takes all memory of the next entry as `make_ready` does, and tells the end of the count from want of memory. A tail that
+/// is full gives way to a new checkpoint then.
+pub(crate) fn ready_cut(
+    alloc: Global,
+    hub: &mut Hub,
+    tail: &mut Log,
+    every: u64,
+    outbox: &mut Outbox,
+    marks: &mut Marks,
+    event: &HubEvent,
+    answer: &Answer,
+) -> Result<TwinRoom, PrepareError>
+    ensures fits { IfOk result (λ room. FitsTwin room hub.new event.now answer.now) }
+    ensures room { OnOk result (0 < tail.new.room) }
+    ensures sorted { OnOk result (length (newest tail.old.entries) ≤ outbox.new.next) }
+    ensures keeps { (o : Options) → KeepsCut o hub.old tail.old.entries outbox.old → KeepsCut o hub.new tail.new.entries outbox.new }
+    ensures cut { OnOk result (tail.new.entries ≡ (if nat_lt (length tail.old.entries) every then tail.old.entries else [])) }
+    ensures same_tail { OnErr result (tail.new.entries ≡ tail.old.entries) }
+    ensures outbox { (s : ℕ) → outbox_in outbox.new (newest tail.old.entries) s ≡ outbox_in outbox.old (newest tail.old.entries) s }
+    ensures stands { (log : List Entry) → Stands hub.old log → Stands hub.new log }
+    ensures options { options_of hub.new ≡ options_of hub.old }
+    ensures exhausted { IsErrOf result PrepareError.Exhausted ↔ (count_of hub.old ≡ 2 ^ 64 - 1) }
+{
+    if hub.events() == u64::MAX {
+        return Err(PrepareError::Exhausted);
+    }
+    marks.reserve()?;
+    outbox.catch_up(newest(tail))?;
+    let fresh = place_for(alloc, tail, every)?;
+    let room = hub.prepare_twin(event, answer)?;
+    cut_at(tail, fresh);
+    Ok(room)
+}
+
+// A place for one entry more: in the tail, or where that is full in a new one.
+fn place_for(alloc: Global, tail: &mut Log, every: u64) -> Result<Option<Log>, AllocError>
+    ensures same { tail.new.entries ≡ tail.old.entries }
+    ensures here { IfOk result (λ fresh. nat_lt (length tail.old.entries) every ≡ true → (fresh ≡ None) × (0 < tail.new.room)) }
+    ensures new { IfOk result (λ fresh. nat_lt (length tail.old.entries) every ≡ false → IsSomeAnd fresh (λ new. (new.entries ≡ []) × (0 < new.room))) }
+{
+    if tail.len() < every {
+        tail.make_room()?;
+        return Ok(None);
+    }
+    let mut fresh = Log::new(alloc);
+    fresh.make_room()?;
+    Ok(Some(fresh))
+}
+
+// A new tail takes the place of one that is full.
+fn cut_at(tail: &mut Log, fresh: Option<Log>)
+    ensures { tail.new ≡ unwrap_or fresh tail.old }
+{
+    if let Some(fresh) = fresh {
+        *tail = fresh;
     }
 }
 

@@ -1,0 +1,113 @@
+use Rattle.std.proofs.Common.{◌≡◌, sym, ap, ◌∙◌, subst, ◌+◌, ◌≤◌, cond, List, [], ◌∷◌, ◌++◌, length, arith}
+use Rattle.std.proofs.Math.Logic.{∥∥₁_elim, ∥∥₁_map}
+use Rattle.std.specs.Prelude.{nat_lt}
+use Rattle.ftp_events.specs.declared.entry.Entry.{Entry}
+use Rattle.ftp_events.specs.Right.{next_entry}
+use Rattle.ftp_hub.specs.Stands.{Stands}
+use Rattle.ftp_shared.specs.Cut.{KeepsCut}
+use Rattle.ftp_shared.specs.Outbox.{newest}
+use Rattle.ftp_shared.proofs.CutLemmas.{cut-acted, cut-bounded, cut-right, cut-stands, cut-step, newest-at, told-cut, turn-cut}
+use Rattle.ftp_shared.proofs.KeepsLemmas.{entry-set, turn-whole}
+use Rattle.ftp_shared.proofs.cut.Cut.take_step.Goals as goal
+
+-- memory that was taken changes nothing
+pub invariant_of-self : goal.invariant_of-self
+invariant_of-self g c = record {
+  some = c.args.self.now.some;
+  bounded = subst (λ (l : List Entry). length l ≤ c.args.self.now.every) (sym c.in_err-room.ensures.same_tail) c.args.self.now.bounded;
+  kept = ∥∥₁_map c.args.self.now.kept (c.ready_cut.ensures.keeps g.L.Serving.options);
+}
+
+-- the step keeps all
+pub invariant_of-self-2 : goal.invariant_of-self-2
+invariant_of-self-2 g c =
+    let o = g.L.Serving.options in
+    let before : List Entry = c.args.self.now.tail.entries in
+    let every = c.args.self.now.every in
+    let tail : List Entry = c.ready_cut.new.tail.entries in
+    let e = c.step_twin-kept.result.kept in
+    let all : length (newest tail) ≤ c.ready_cut.new.outbox.next =
+    subst (λ (l : List Entry). length (newest l) ≤ c.ready_cut.new.outbox.next) (sym c.in_ok-room.ensures.cut)
+    (newest-at before (nat_lt (length before) every) c.ready_cut.new.outbox.next c.in_ok-room.ensures.sorted)
+    in
+    let one = ap length c.keep.ensures in
+    let two = ap length c.in_ok-room.ensures.cut in
+    let few = cut-bounded before every c.args.self.now.some in
+    record {
+      some = c.args.self.now.some;
+      bounded = omega (arith, one, two, few);
+      kept = ∥∥₁_map c.args.self.now.kept (λ was.
+          subst (λ (l : List Entry). KeepsCut o c.step_twin-kept.new.self l c.hand-earlier.new.self) (sym c.keep.ensures)
+          (cut-step o c.ready_cut.new.hub c.step_twin-kept.new.self tail e c.ready_cut.new.outbox c.hand-earlier.new.self c.args.own (c.ready_cut.ensures.keeps o was)
+          c.step_twin-kept.ensures.stands c.step_twin-kept.ensures.options c.step_twin-kept.ensures.count all
+          c.hand-earlier.ensures.sorted c.hand-earlier.ensures.next c.hand-earlier.ensures.told));
+    }
+
+-- the entry is the next one of a right and acted log
+pub returns-clause-next : goal.returns-clause-next
+returns-clause-next g c =
+    let o = g.L.Serving.options in
+    let hub = c.ready_cut.new.hub in
+    let tail : List Entry = c.ready_cut.new.tail.entries in
+    let box = c.ready_cut.new.outbox in
+    ∥∥₁_map c.args.self.now.kept (λ was.
+    let k = c.ready_cut.ensures.keeps o was in
+    record {
+      journal = tail ++ k.front;
+      right = cut-right o hub tail box k;
+      acted = cut-acted o hub tail box k;
+      place = c.events-place.ensures ∙ k.events;
+      entry = told-cut o hub (tail ++ k.front) c.args.event c.args.answer c.step_twin-kept.result.kept c.step_twin-kept.result.told k.options (cut-stands o hub tail box k) c.step_twin-kept.ensures.due c.step_twin-kept.ensures.told;
+    })
+
+-- and the replies before it are the last
+pub returns-clause-rest : goal.returns-clause-rest
+returns-clause-rest g c =
+    let o = g.L.Serving.options in
+    let before : List Entry = c.args.self.now.tail.entries in
+    let hub = c.ready_cut.new.hub in
+    let tail : List Entry = c.ready_cut.new.tail.entries in
+    let box = c.ready_cut.new.outbox in
+    let all : length (newest tail) ≤ box.next =
+    subst (λ (l : List Entry). length (newest l) ≤ box.next) (sym c.in_ok-room.ensures.cut)
+    (newest-at before (nat_lt (length before) c.args.self.now.every) box.next c.in_ok-room.ensures.sorted)
+    in
+    ∥∥₁_map c.args.self.now.kept (λ was.
+    let k = c.ready_cut.ensures.keeps o was in
+    record {
+      next = record {
+        journal = tail ++ k.front;
+        right = cut-right o hub tail box k;
+        acted = cut-acted o hub tail box k;
+        place = c.events-place.ensures ∙ k.events;
+        entry = told-cut o hub (tail ++ k.front) c.args.event c.args.answer c.step_twin-kept.result.kept c.step_twin-kept.result.told k.options (cut-stands o hub tail box k) c.step_twin-kept.ensures.due c.step_twin-kept.ensures.told;
+      };
+      earlier = turn-cut c.args.own c.from_vec.result tail (tail ++ k.front) box (c.from_vec.ensures ∙ c.hand-earlier.ensures.earlier) all k.rests;
+    })
+
+-- so it is of every log for which the hub stood
+pub returns-clause-due : goal.returns-clause-due
+returns-clause-due g c log st =
+    let o = g.L.Serving.options in
+    let hub = c.ready_cut.new.hub in
+    ∥∥₁_elim c.args.self.now.kept (entry-set c.step_twin-kept.result.told (next_entry o log c.args.event c.args.answer)) (λ was.
+    told-cut o hub log c.args.event c.args.answer c.step_twin-kept.result.kept c.step_twin-kept.result.told (c.ready_cut.ensures.keeps o was).options (c.ready_cut.ensures.stands log st) c.step_twin-kept.ensures.due c.step_twin-kept.ensures.told)
+
+-- and the hub stands for each of them with it
+pub returns-clause-stands : goal.returns-clause-stands
+returns-clause-stands g c log st =
+    subst (λ (e : Entry). Stands c.step_twin-kept.new.self (e ∷ log)) (sym c.step_twin-kept.ensures.told) (c.step_twin-kept.ensures.stands log (c.ready_cut.ensures.stands log st))
+
+-- the tail has the entry that is told
+pub returns-clause-tail : goal.returns-clause-tail
+returns-clause-tail g c =
+    let before : List Entry = c.args.self.now.tail.entries in
+    c.keep.ensures
+    ∙ ap (λ (l : List Entry). c.step_twin-kept.result.kept ∷ l) c.in_ok-room.ensures.cut
+    ∙ ap (λ (e : Entry). e ∷ cond (nat_lt (length before) c.args.self.now.every) before []) (sym c.step_twin-kept.ensures.told)
+
+-- all that was waiting is handed out
+pub returns-clause-earlier : goal.returns-clause-earlier
+returns-clause-earlier g c =
+    turn-whole c.args.own c.from_vec.result c.ready_cut.new.outbox c.args.self.now.outbox (newest c.args.self.now.tail.entries)
+    (c.from_vec.ensures ∙ c.hand-earlier.ensures.earlier) c.in_ok-room.ensures.sorted c.ready_cut.ensures.outbox
