@@ -1,5 +1,5 @@
 -- What intervals by where they begin say of numbers, and what one more number makes of them.
-use Rattle.std.proofs.Common.{◌≡◌, ◌≢◌, ℕ, zero, suc, ◌+◌, ◌-◌, ◌<◌, ◌≤◌, ◌^◌, true, false, cond, ◌||◌, ◌==◌, List, [], ◌∷◌, length, Option, Some, None, unwrap_or, leb, refl, ap, sym, ◌∙◌, ◌⊎◌, inl, inr, arith}
+use Rattle.std.proofs.Common.{◌≡◌, ◌≢◌, ℕ, zero, suc, ◌+◌, ◌-◌, ◌<◌, ◌≤◌, ◌^◌, Bool, true, false, cond, ◌||◌, ◌==◌, List, [], ◌∷◌, ◌++◌, length, Option, Some, None, unwrap_or, leb, refl, ap, sym, ◌∙◌, ◌⊎◌, inl, inr, arith}
 use Rattle.std.specs.List.{AllByRecursion}
 use Rattle.std.specs.List.Sorted.{IsStrictlySortedBy}
 use Rattle.std.specs.Map.{keys_of}
@@ -9,6 +9,7 @@ use Rattle.std.specs.declared.cmp.Ordering.TheVariants.{Less}
 use Rattle.std.proofs.lemmas.Bool.{or_cases, leb-true, le-leb, and_parts, cases_lt, cases_order, false≢true, false_from_ne_true}
 use Rattle.std.proofs.lemmas.Bool.Decides.{nat_tests, same_from_decides}
 use Rattle.std.proofs.lemmas.Map.Keys.{sorted_head, sorted_tail}
+use Rattle.ftp_numbers.specs.declared.numbers.Interval.{Interval}
 use Rattle.ftp_numbers.specs.Used.{is_in, is_used, lo_at, hi_at, IsApart}
 use Rattle.ftp_numbers.specs.Settled.{end_at, intervals_of, BeginsWith, BeginsNoneBy, IsDisjoint, IsLastBy}
 
@@ -319,3 +320,102 @@ IsDisjoint-widened old new n lo hi widens = record {
         ]
       ];
 }
+
+-- the new intervals are the old ones, with the one from lo to hi behind them
+pub record Appends (old new : List (ℕ × ℕ)) (lo hi : ℕ) : Type 0 where
+  pub disjoint : IsDisjoint old
+  pub was_sorted : IsStrictlySortedBy nat_cmp (keys_of old)
+  pub sorted : IsStrictlySortedBy nat_cmp (keys_of new)
+  pub filled : lo ≤ hi
+  pub fits : hi < 2 ^ 64
+  pub behind : (first last : ℕ) → end_at old first ≡ Some last → last + 1 < lo
+  pub after : (q : ℕ) → end_at new q ≡ cond (is_at (nat_cmp lo) q) (Some hi) (end_at old q)
+
+-- a new interval is the one behind, or an old one
+pub appended-cases :
+    (old new : List (ℕ × ℕ)) (lo hi first last : ℕ) →
+    Appends old new lo hi →
+    end_at new first ≡ Some last →
+    ((first ≡ lo) × (last ≡ hi)) ⊎ (end_at old first ≡ Some last)
+appended-cases old new lo hi first last appends ends =
+    let after = appends.after first in
+    grind (arith, nat_tests, after)
+
+-- the one behind is there
+appended-own : (old new : List (ℕ × ℕ)) (lo hi : ℕ) → Appends old new lo hi → end_at new lo ≡ Some hi
+appended-own old new lo hi appends =
+    let after = appends.after lo in
+    grind (arith, nat_tests, after)
+
+-- an old interval stays
+appended-other :
+    (old new : List (ℕ × ℕ)) (lo hi first last : ℕ) →
+    Appends old new lo hi →
+    end_at old first ≡ Some last →
+    end_at new first ≡ Some last
+appended-other old new lo hi first last appends ends =
+    let after = appends.after first in
+    let each = appends.disjoint.each first last ends in
+    let behind = appends.behind first last ends in
+    grind (arith, nat_tests, after)
+
+-- a number is used where the interval behind has it, or was used before
+pub is_used-appended :
+    (old new : List (ℕ × ℕ)) (lo hi : ℕ) →
+    Appends old new lo hi →
+    (q : ℕ) →
+    is_used (intervals_of new) q ≡ (is_in (record { lo = lo; hi = hi }) q || is_used (intervals_of old) q)
+is_used-appended old new lo hi appends q =
+    same_from_decides {P = ((lo ≤ q) × (q ≤ hi)) ⊎ (is_used (intervals_of old) q ≡ true)} _ _
+    (there, back) (λ e. grind (arith, nat_tests), λ either. grind (arith, nat_tests))
+  where
+    there : is_used (intervals_of new) q ≡ true → ((lo ≤ q) × (q ≤ hi)) ⊎ (is_used (intervals_of old) q ≡ true)
+    there used =
+        let found = end_at-used new q appends.sorted used in
+        elim (appended-cases old new lo hi found.0 found.1 appends found.2) [
+          | inl ours ↦ inl (omega (arith, ours.0, found.3), omega (arith, ours.1, found.4))
+          | inr other ↦ inr (is_used-within old q found.0 found.1 other found.3 found.4)
+        ]
+
+    back : ((lo ≤ q) × (q ≤ hi)) ⊎ (is_used (intervals_of old) q ≡ true) → is_used (intervals_of new) q ≡ true
+    back (inl within) = is_used-within new q lo hi (appended-own old new lo hi appends) within.0 within.1
+    back (inr used) =
+        let found = end_at-used old q appends.was_sorted used in
+        is_used-within new q found.0 found.1 (appended-other old new lo hi found.0 found.1 appends found.2) found.3 found.4
+
+-- the new intervals are disjoint
+pub IsDisjoint-appended :
+    (old new : List (ℕ × ℕ)) (lo hi : ℕ) → Appends old new lo hi → IsDisjoint new
+IsDisjoint-appended old new lo hi appends = record {
+  each = λ first last ends. elim (appended-cases old new lo hi first last appends ends) [
+    | inl ours ↦ omega (arith, ours.0, ours.1, appends.filled)
+    | inr other ↦ appends.disjoint.each first last other
+  ];
+  fits = λ first last ends. elim (appended-cases old new lo hi first last appends ends) [
+    | inl ours ↦ (let fits = appends.fits in omega (arith, ours.1))
+    | inr other ↦ appends.disjoint.fits first last other
+  ];
+  gaps = λ a b c d first second less.
+      elim (appended-cases old new lo hi a b appends first) [
+        | inl ours ↦ elim (appended-cases old new lo hi c d appends second) [
+          | inl same ↦ absurd (omega (arith, ours.0, same.0))
+          | inr other ↦ (let behind = appends.behind c d other in
+              let each = appends.disjoint.each c d other in
+              absurd (omega (arith, ours.0)))
+        ]
+        | inr other ↦ elim (appended-cases old new lo hi c d appends second) [
+          | inl ours ↦ (let behind = appends.behind a b other in omega (arith, ours.0))
+          | inr another ↦ appends.disjoint.gaps a b c d other another less
+        ]
+      ];
+}
+
+-- the numbers of intervals with one more behind them
+pub is_used-last-one : (xs : List Interval) (x : Interval) (q : ℕ) → is_used (xs ++ x ∷ []) q ≡ (is_in x q || is_used xs q)
+is_used-last-one [] x q = refl
+is_used-last-one (y ∷ xs) x q = go (is_in y q) (is_in x q) (is_used (xs ++ x ∷ []) q) (is_used xs q) (is_used-last-one xs x q)
+  where
+    go : (a b all rest : Bool) → all ≡ (b || rest) → (a || all) ≡ (b || (a || rest))
+    go true true all rest h = refl
+    go true false all rest h = refl
+    go false b all rest h = h

@@ -1,9 +1,9 @@
 //! Numbers as intervals that do not touch.
 
-ghost use Rattle.std.specs.Prelude.{◌≡◌, ℕ, ◌+◌, ◌-◌, ◌<◌, ◌≤◌, ◌^◌, ◌||◌, ◌==◌, ◌≢◌, Some, true, false, map, unwrap_or, IfSome, IfNone, IfOk, OnOk, OnErr};
+ghost use Rattle.std.specs.Prelude.{◌≡◌, ℕ, ◌+◌, ◌-◌, ◌<◌, ◌≤◌, ◌^◌, ◌||◌, ◌==◌, ◌≢◌, ◌⊎◌, Some, true, false, map, unwrap_or, IfSome, IfNone, IfOk, OnOk, OnErr};
 ghost use Rattle.std.specs.Ordering.{nat_cmp};
 ghost use Rattle.std.specs.BTreeMap.{IsOrdered};
-ghost use Rattle.ftp_numbers.specs.Used.{has, is_used, HasSpare, IsApart, SameNumbers};
+ghost use Rattle.ftp_numbers.specs.Used.{has, is_in, is_used, HasSpare, IsApart, SameNumbers};
 ghost use Rattle.ftp_numbers.specs.Settled.{end_at, intervals_of, BeginsWith, BeginsNoneBy, IsDisjoint, IsLastBy};
 
 use std::alloc::{AllocError, Global};
@@ -46,6 +46,26 @@ impl Numbers {
             settled: BTreeMap::new(alloc),
             newest: None,
         }
+    }
+
+    /// The numbers of intervals that are in order and do not touch.
+    ///
+    /// # Proved
+    ///
+    /// - The numbers that intervals give back are those that the intervals have (the intervals are in order and do not
+    ///   touch) (`same`).
+    pub fn of(alloc: Global, intervals: &[Interval]) -> Result<Numbers, AllocError>
+        requires apart { IsApart intervals.now }
+        ensures same { IfOk result (λ numbers. (n : ℕ) → has numbers n ≡ is_used intervals.now n) }
+    {
+        let mut settled = BTreeMap::new(alloc);
+        for interval in intervals {
+            append(&mut settled, interval.lo, interval.hi)?;
+        }
+        Ok(Numbers {
+            settled,
+            newest: None,
+        })
     }
 
     /// Says whether the number was put, in a time that grows with the logarithm of the count of intervals.
@@ -174,6 +194,19 @@ fn settle(settled: &mut BTreeMap<u64, u64>, n: u64) -> Result<(), AllocError>
     if hi > n {
         settled.remove(&(n + 1));
     }
+    Ok(())
+}
+
+// Adds an interval behind all others.
+fn append(settled: &mut BTreeMap<u64, u64>, lo: u64, hi: u64) -> Result<(), AllocError>
+    requires disjoint { IsDisjoint settled.old.entries }
+    requires filled { lo ≤ hi }
+    requires behind { (first last : ℕ) → end_at settled.old.entries first ≡ Some last → last + 1 < lo }
+    ensures numbers { OnOk result ((n : ℕ) → is_used (intervals_of settled.new.entries) n ≡ (is_in (record { lo = lo; hi = hi }) n || is_used (intervals_of settled.old.entries) n)) }
+    ensures disjoint { OnOk result (IsDisjoint settled.new.entries) }
+    ensures ends { OnOk result ((first last : ℕ) → end_at settled.new.entries first ≡ Some last → ((first ≡ lo) × (last ≡ hi)) ⊎ (end_at settled.old.entries first ≡ Some last)) }
+{
+    settled.insert(lo, hi)?;
     Ok(())
 }
 
