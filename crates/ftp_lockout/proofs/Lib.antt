@@ -1,5 +1,6 @@
 pub mod Tables
 pub mod Records
+pub mod KeyLemmas
 pub mod BlockLemmas
 pub mod BlockEdits
 mod Examples

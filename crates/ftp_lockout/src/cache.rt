@@ -1,14 +1,18 @@
 //! The table of failed logins.
 
 ghost use Rattle.std.specs.Prelude.{◌≡◌, ◌<◌, ◌≤◌, ◌∷◌, List, [], length, filter, not, vec_len, vec_capacity, Some, None, IfOk, OnOk, OnErr, IsOk, if◌then◌else◌};
+ghost use Rattle.std.specs.List.{AllByRecursion};
+ghost use Rattle.std.specs.Map.{keys_of};
 ghost use Rattle.ftp_lockout.specs.Keys.{key_of, key_lent, same_key};
 ghost use Rattle.ftp_lockout.specs.Failures.{recorded, failures_of, is_expired, one_more, lock_state, is_locked, let_in, swept};
+ghost use Rattle.ftp_lockout.specs.Logins.{IsKey};
 ghost use Rattle.ftp_lockout.specs.Tally.{Call, StandsFor, Failed, Succeeded, Swept};
 ghost use Rattle.ftp_lockout.specs.Places.{AreBlocks, AreInKeyOrder, HasGap, IsGapFor, place_in, records_in};
 
 use crate::blocks::{Block, begin, drop_empty, make_room, open_block, put_at, set_at, take_at};
 use crate::key::{LentKey, LoginKey, lent_key};
 use crate::places::{Place, failures_at, place_of};
+use crate::restoring::{restore, write_down};
 use ftp_base::{Bytes, IpAddr, LockState};
 use ftp_options::FailedLoginsPolicy;
 use std::alloc::{AllocError, Global};
@@ -37,13 +41,14 @@ pub struct FailedLoginsCache {
 impl Model for FailedLoginsCache {
     ghost use Rattle.std.specs.Prelude.{◌≡◌, ◌-◌, ◌/◌, [], min, vec_len, vec_capacity};
     ghost use Rattle.ftp_lockout.specs.Failures.{Table};
+    ghost use Rattle.ftp_lockout.specs.Logins.{AreKeys};
     ghost use Rattle.ftp_lockout.specs.Places.{AreBlocks, AreInKeyOrder, records_in};
 
     ghost Value = { Table };
 
     ghost view = { λ c. record { policy = c.policy; records = records_in c.blocks.items; spare = min (vec_capacity c.blocks - vec_len c.blocks) (vec_capacity c.next / 128) } };
 
-    ghost invariant = { λ c. AreInKeyOrder (records_in c.blocks.items) × AreBlocks c.blocks.items × (c.next.items ≡ []) };
+    ghost invariant = { λ c. AreInKeyOrder (records_in c.blocks.items) × AreBlocks c.blocks.items × (c.next.items ≡ []) × AreKeys c.policy.block_by (records_in c.blocks.items) };
 }
 
 impl FailedLoginsCache {
@@ -63,6 +68,37 @@ impl FailedLoginsCache {
             blocks: Vec::new(alloc),
             next: Vec::new(alloc),
         }
+    }
+
+    /// Sets what is recorded of a key. Without memory nothing changes.
+    ///
+    /// # Proved
+    ///
+    /// - A record that is given back stands under its key, and no other key changes; without memory nothing is recorded,
+    ///   and nothing is lost (`recorded`, `unchanged`).
+    pub fn restore(&mut self, key: LoginKey, failures: Failures) -> Result<(), AllocError>
+        requires key { IsKey self.old.policy.block_by key }
+        ensures recorded { OnOk result ((other : LoginKey) → failures_of self.new other ≡ (if same_key other key then Some failures else failures_of self.old other)) }
+        ensures policy { self.new.policy ≡ self.old.policy }
+        ensures unchanged { OnErr result (self.new.records ≡ self.old.records) }
+    {
+        let alloc = self.alloc;
+        restore(alloc, &mut self.blocks, &mut self.next, key, failures)?;
+        Ok(())
+    }
+
+    /// Gives a copy of every record, in order of keys.
+    ///
+    /// # Proved
+    ///
+    /// - The records that are given are those of the table, in order of keys, each of the key of some login (`records`,
+    ///   `order`, `keys`).
+    pub fn records(&self, alloc: Global) -> Result<Vec<(LoginKey, Failures)>, AllocError>
+        ensures records { IfOk result (λ records. records.items ≡ self.now.records) }
+        ensures order { IfOk result (λ records. AreInKeyOrder records.items) }
+        ensures keys { IfOk result (λ records. AllByRecursion (IsKey self.now.policy.block_by) (keys_of records.items)) }
+    {
+        write_down(alloc, &self.blocks)
     }
 
     /// Takes the memory that the next `failed` needs.
@@ -180,8 +216,8 @@ fn count(
     }
 }
 
-// Puts the key before the place. There is memory for it.
-fn put(
+/// Puts the key before the place. There is memory for it.
+pub(crate) fn put(
     alloc: Global,
     blocks: &mut Vec<Block>,
     next: &mut Block,

@@ -1,12 +1,14 @@
 //! Keys of failed logins.
 
-ghost use Rattle.std.specs.Prelude.{◌≡◌, ℕ, List, []};
+ghost use Rattle.std.specs.Prelude.{◌≡◌, ℕ, List, [], IfOk};
 ghost use Rattle.std.specs.Ordering.{nat_cmp};
 ghost use Rattle.std.specs.Cmp.Lexicographic.{slice_cmp};
 ghost use Rattle.ftp_lockout.specs.Keys.{key_at, key_cmp, key_of, key_lent};
+ghost use Rattle.ftp_lockout.specs.Logins.{IsOfVersion};
 
 use ftp_base::{Bytes, IpAddr};
 use ftp_options::FailedLoginsBlock;
+use std::alloc::{AllocError, Global};
 use std::cmp::Ordering;
 
 /// What failed logins are counted by. Without an address the version is 0, without a name the name is empty.
@@ -18,9 +20,21 @@ pub struct LoginKey {
 }
 
 impl LoginKey {
+    /// Gives an equal key.
+    pub fn copy(&self, alloc: Global) -> Result<LoginKey, AllocError>
+        ensures { IfOk result (λ copy. copy ≡ self.now) }
+    {
+        Ok(LoginKey {
+            version: self.version,
+            number: self.number,
+            name: self.name.copy(alloc)?,
+        })
+    }
+
     /// The key of a login.
     pub(crate) fn new(block_by: FailedLoginsBlock, ip: IpAddr, user: Bytes) -> LoginKey
-        ensures { result ≡ key_of block_by ip user }
+        ensures key { result ≡ key_of block_by ip user }
+        ensures within { IsOfVersion ip }
     {
         let (version, number) = address(ip);
         match block_by {
@@ -99,7 +113,8 @@ pub(crate) fn lent_key(block_by: FailedLoginsBlock, ip: IpAddr, user: &[u8]) -> 
 
 // The version of an address, and its number.
 fn address(ip: IpAddr) -> (u8, u128)
-    ensures { (name : List ℕ) → key_at ip name ≡ record { version = result.0; number = result.1; name = name } }
+    ensures key { (name : List ℕ) → key_at ip name ≡ record { version = result.0; number = result.1; name = name } }
+    ensures within { IsOfVersion ip }
 {
     match ip {
         IpAddr::V4(number) => (4, u128::from(number)),

@@ -7,6 +7,7 @@ mod blocks;
 mod cache;
 mod key;
 mod places;
+mod restoring;
 
 pub use cache::{FailedLoginsCache, Failures};
 pub use key::LoginKey;

@@ -6,4 +6,5 @@ invariant_of-result c = (
   rw c.new.ensures.items none_in_order,
   (λ i v got. let e = rw c.new.ensures.items at got in cc),
   c.new-2.ensures.items,
+  (λ key f found. let e = rw c.new.ensures.items at found in cc),
 )
