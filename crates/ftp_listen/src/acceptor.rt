@@ -64,7 +64,10 @@ impl<
     N: EventSinks + Send + Drop + 'static,
     D: Depot + Send + Sync + Drop + 'static,
     G: Gate + Send + Sync + Drop + 'static,
-> Acceptor<R, L, A, N, D, G> {
+> Acceptor<R, L, A, N, D, G>
+where
+    D::Store: Send + 'static,
+{
     /// No connection has come yet, at this moment in milliseconds.
     pub(crate) fn new(
         rt: R,

@@ -94,6 +94,8 @@ fn accept_until_shutdown<
     front: &mut F,
     indicator: &mut I,
 ) -> (u64, Shutdown)
+where
+    D::Store: Send + 'static,
     ensures asked { I.asked indicator.old ≡ None → I.asked indicator.new ≡ Some (result.0, result.1.grace_ms) }
     ensures has_asked { IsSome (I.asked indicator.new) }
     ensures spawner { P.faults spawner.old ≤ P.faults spawner.new }
@@ -131,6 +133,8 @@ fn drain<
     front: &mut F,
     asked: (u64, Shutdown),
 ) -> Result<(), ServerError>
+where
+    D::Store: Send + 'static,
     ensures shutdown { IsErrOf result ServerError.Shutdown → asked.0 + asked.1.grace_ms < F.latest front.new }
     ensures only { IfErr result (λ e. e ≡ ServerError.Shutdown) }
     ensures spawner { P.faults spawner.old ≤ P.faults spawner.new }
@@ -177,6 +181,8 @@ pub(crate) fn run_server<
     front: &mut F,
     indicator: &mut I,
 ) -> Result<(), ServerError>
+where
+    D::Store: Send + 'static,
     requires name { blank.name ≡ L.name }
     requires parts { blank.parts ≡ L.parts }
     requires all { blank.parts ≡ PARTS }

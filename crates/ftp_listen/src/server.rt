@@ -222,7 +222,10 @@ impl<S: Drop> Server<S> {
     }
 }
 
-impl<D: Depot + Send + Sync + Drop + 'static> Server<D> {
+impl<D: Depot + Send + Sync + Drop + 'static> Server<D>
+where
+    D::Store: Send + 'static,
+{
     /// A server without handlers of SITE commands, over a depot: it takes a storage from there for each transfer, which is dropped
     /// with it.
     pub fn over(alloc: Global, options: Options, parts: Parts<D>) -> Server<D>
@@ -353,6 +356,8 @@ fn listen_at<
     front: &mut F,
     indicator: &mut I,
 ) -> Result<(), ServerError>
+where
+    D::Store: Send + 'static,
     ensures ok { OnOk result (IsSome (I.asked indicator.new)) }
     ensures io { IsErrOf result ServerError.Io → HasRisen (F.faults front.old) (F.faults front.new) }
     ensures listener { IsErrOf result ServerError.Listener → HasRisen (P.faults spawner.old) (P.faults spawner.new) }

@@ -94,7 +94,10 @@ fn spawn_on<
     desk: ServerDesk<R, L, A, N, D, G>,
     poll: &mut AcceptPoll,
     is_over: &AtomicBool,
-) {
+)
+where
+    D::Store: Send + 'static,
+{
     let mut desk = desk;
     let mut front = SystemFront::new(*rt, alloc);
     let mut threads = SystemThreads::new();
@@ -134,6 +137,8 @@ fn serve_inside<
     stream: TcpStream,
     raw: SocketAddr,
 ) -> Result<(), ServerError>
+where
+    D::Store: Send + 'static,
     requires name { blank.name ≡ L.name }
     requires parts { blank.parts ≡ L.parts }
     requires all { blank.parts ≡ PARTS }
@@ -194,6 +199,8 @@ pub(crate) fn serve_one<R: ServerRuntime, D: Depot + Send + Sync + Drop + 'stati
     server_parts: Boxed<D>,
     stream: TcpStream,
 ) -> Result<(), ServerError>
+where
+    D::Store: Send + 'static,
     ensures only { IfErr result (λ e. (e ≡ ServerError.Io) ⊎ (e ≡ ServerError.OutOfMemory)) }
 {
     // If the peer has gone, nothing is served.

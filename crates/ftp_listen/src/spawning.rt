@@ -21,6 +21,8 @@ pub(crate) fn spawn_worker<
     G: Gate + Send + Sync + Drop + 'static,
     P: Spawner,
 >(rt: &R, state: &Arc<ServerState<L, A, N, D, G>, Global>, spawner: &mut P) -> bool
+where
+    D::Store: Send + 'static,
     ensures fault_rose { result ≡ false → HasRisen (P.faults spawner.old) (P.faults spawner.new) }
     ensures count { P.faults spawner.old ≤ P.faults spawner.new }
 {
@@ -45,6 +47,8 @@ pub(crate) fn spawn_wanted<
     G: Gate + Send + Sync + Drop + 'static,
     P: Spawner,
 >(rt: &R, state: &Arc<ServerState<L, A, N, D, G>, Global>, spawner: &mut P, owed: u64) -> u64
+where
+    D::Store: Send + 'static,
     ensures count { P.faults spawner.old ≤ P.faults spawner.new }
 {
     let wanted = owed.saturating_add(state.wanted());
