@@ -5,7 +5,7 @@ ghost use Rattle.ftp_base.specs.Outside.{HasRisen};
 ghost use Rattle.ftp_options.specs.Modes.{is_legacy};
 ghost use Rattle.ftp_listen.specs.Causes.{WritesNone, WritesV6, IsPastGrace, is_of_listening, is_of_running};
 
-use crate::parts::{Parts, ServerParts};
+use crate::parts::{Boxed, Parts, ServerParts};
 use crate::place::{doors_at, place_of};
 use crate::running::{PARTS, run_server};
 use crate::single::serve_one;
@@ -319,7 +319,7 @@ where
         } = self;
         let (own, server_parts) = parts.open(feed);
         drop(own);
-        listen_at(
+        listen_boxed(
             rt,
             alloc,
             options,
@@ -332,6 +332,49 @@ where
             indicator,
         )
     }
+}
+
+// Listens at an address, with parts that boxes hold.
+fn listen_boxed<
+    R: ServerRuntime,
+    D: Depot + Send + Sync + Drop + 'static,
+    G: Gate + Send + Sync + Drop + 'static,
+    P: Spawner,
+    F: Front,
+    I: Indicator,
+>(
+    rt: &R,
+    alloc: Global,
+    options: Options,
+    limits: SessionLimits,
+    server_parts: Boxed<D>,
+    at: SocketAddr,
+    gate: Arc<G, Global>,
+    spawner: &mut P,
+    front: &mut F,
+    indicator: &mut I,
+) -> Result<(), ServerError>
+where
+    D::Store: Send + 'static,
+    ensures ok { OnOk result (IsSome (I.asked indicator.new)) }
+    ensures io { IsErrOf result ServerError.Io → HasRisen (F.faults front.old) (F.faults front.new) }
+    ensures listener { IsErrOf result ServerError.Listener → HasRisen (P.faults spawner.old) (P.faults spawner.new) }
+    ensures shutdown { IsErrOf result ServerError.Shutdown → I.asked indicator.old ≡ None → IsPastGrace (I.asked indicator.new) (F.latest front.new) }
+    ensures has_asked { IsErrOf result ServerError.Shutdown → IsSome (I.asked indicator.new) }
+    ensures only { IfErr result (λ e. is_of_running e ≡ true) }
+{
+    listen_at(
+        rt,
+        alloc,
+        options,
+        limits,
+        server_parts,
+        at,
+        gate,
+        spawner,
+        front,
+        indicator,
+    )
 }
 
 // Listens at an address, until the indicator asks for a shutdown and all transfers are over.
