@@ -145,10 +145,30 @@ impl<S: Storage + Send + Drop + 'static> Server<S> {
             Ok(at) => at,
             Err(error) => return Err(error),
         };
-        match self.shared(*rt) {
-            Ok(server) => server.listen_there_with(rt, at, gate, spawner, front, indicator),
-            Err(_) => Err(ServerError::OutOfMemory),
-        }
+        let Ok(server) = self.shared(*rt) else {
+            return Err(ServerError::OutOfMemory);
+        };
+        let Server {
+            alloc,
+            options,
+            limits,
+            parts,
+            feed,
+        } = server;
+        let (own, server_parts) = parts.open(feed);
+        drop(own);
+        listen_boxed(
+            rt,
+            alloc,
+            options,
+            limits,
+            server_parts,
+            at,
+            gate,
+            spawner,
+            front,
+            indicator,
+        )
     }
 
     /// Serves one control connection to its end, in legacy mode whatever mode was built. The indicator is not asked.
@@ -286,58 +306,12 @@ where
             &mut indicator,
         )
     }
-
-    // Listens at an address, with an indicator that is not of its parts.
-    fn listen_there_with<
-        R: ServerRuntime,
-        G: Gate + Send + Sync + Drop + 'static,
-        P: Spawner,
-        F: Front,
-        I: Indicator,
-    >(
-        self,
-        rt: &R,
-        at: SocketAddr,
-        gate: Arc<G, Global>,
-        spawner: &mut P,
-        front: &mut F,
-        indicator: &mut I,
-    ) -> Result<(), ServerError>
-        ensures ok { OnOk result (IsSome (I.asked indicator.new)) }
-        ensures io { IsErrOf result ServerError.Io → HasRisen (F.faults front.old) (F.faults front.new) }
-        ensures listener { IsErrOf result ServerError.Listener → HasRisen (P.faults spawner.old) (P.faults spawner.new) }
-        ensures shutdown { IsErrOf result ServerError.Shutdown → I.asked indicator.old ≡ None → IsPastGrace (I.asked indicator.new) (F.latest front.new) }
-        ensures has_asked { IsErrOf result ServerError.Shutdown → IsSome (I.asked indicator.new) }
-        ensures only { IfErr result (λ e. is_of_running e ≡ true) }
-    {
-        let Server {
-            alloc,
-            options,
-            limits,
-            parts,
-            feed,
-        } = self;
-        let (own, server_parts) = parts.open(feed);
-        drop(own);
-        listen_boxed(
-            rt,
-            alloc,
-            options,
-            limits,
-            server_parts,
-            at,
-            gate,
-            spawner,
-            front,
-            indicator,
-        )
-    }
 }
 
-// Listens at an address, with parts that boxes hold.
+// Listens at an address, with parts that boxes hold over a storage that transfers share.
 fn listen_boxed<
     R: ServerRuntime,
-    D: Depot + Send + Sync + Drop + 'static,
+    S: Storage + Send + Drop + 'static,
     G: Gate + Send + Sync + Drop + 'static,
     P: Spawner,
     F: Front,
@@ -347,15 +321,13 @@ fn listen_boxed<
     alloc: Global,
     options: Options,
     limits: SessionLimits,
-    server_parts: Boxed<D>,
+    server_parts: Boxed<SharedDepot<R, S>>,
     at: SocketAddr,
     gate: Arc<G, Global>,
     spawner: &mut P,
     front: &mut F,
     indicator: &mut I,
 ) -> Result<(), ServerError>
-where
-    D::Store: Send + 'static,
     ensures ok { OnOk result (IsSome (I.asked indicator.new)) }
     ensures io { IsErrOf result ServerError.Io → HasRisen (F.faults front.old) (F.faults front.new) }
     ensures listener { IsErrOf result ServerError.Listener → HasRisen (P.faults spawner.old) (P.faults spawner.new) }
