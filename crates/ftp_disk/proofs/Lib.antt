@@ -1,3 +1,4 @@
 pub mod StandingLemmas
 pub mod ListingLemmas
 pub mod DiskLemmas
+pub mod HomeLemmas

@@ -17,21 +17,21 @@ use Rattle.ftp_disk.specs.Standing.{Stood}
 -- the system that is asked, the homes of users, and how many calls failed
 pub record DiskState (S : Type 0) : Type 0 where
   pub system : S
-  pub homes : List Home
+  pub homes : List (List ℕ × Home)
   pub faults : ℕ
 
 -- where a user's path leads: below the user's home
-abbrev pub place_in_home : List Home → List ℕ → List ℕ → Option Location
+abbrev pub place_in_home : List (List ℕ × Home) → List ℕ → List ℕ → Option Location
 place_in_home homes user path = option_map (λ home. below_by (string_bytes home.root) (names_of path)) (home_of homes user)
 
 -- a user's path leads over no link
-pub record IsReached (told : Told) (homes : List Home) (user path : List ℕ) : Type 0 where
+pub record IsReached (told : Told) (homes : List (List ℕ × Home)) (user path : List ℕ) : Type 0 where
   pub place : Location
   pub leads : place_in_home homes user path ≡ Some place
   pub unlinked : IsUnlinked told place
 
 -- what stands where a user's path leads, over no link, was looked at, and this is told of it
-pub record WasFound (told : Told) (homes : List Home) (user path : List ℕ) (meta : Meta) : Type 0 where
+pub record WasFound (told : Told) (homes : List (List ℕ × Home)) (user path : List ℕ) (meta : Meta) : Type 0 where
   pub place : Location
   pub leads : place_in_home homes user path ≡ Some place
   pub unlinked : IsUnlinked told place
@@ -40,7 +40,7 @@ pub record WasFound (told : Told) (homes : List Home) (user path : List ℕ) (me
   pub shown : shown_meta standing ≡ Some meta
 
 -- the children of the directory to which a user's path leads, over no link, were looked at, and are told in order
-pub record WasListed (told : Told) (homes : List Home) (user path : List ℕ) (infos : List FileInfo) : Type 0 where
+pub record WasListed (told : Told) (homes : List (List ℕ × Home)) (user path : List ℕ) (infos : List FileInfo) : Type 0 where
   pub place : Location
   pub leads : place_in_home homes user path ≡ Some place
   pub unlinked : IsUnlinked told place

@@ -1,12 +1,13 @@
 //! The files of the system below roots. Nothing else of this crate asks the system for anything.
 
+use crate::budget::Grant;
 use crate::file_system::FileSystem;
 use crate::home::Writable;
 use ftp_places::Place;
 use std::alloc::Global;
 use std::fs::{File, Metadata, OpenOptions, TryLockError};
 use std::io;
-use std::io::Read;
+use std::io::{Read, Write};
 use std::rt::Files;
 
 /// How many bytes of names are read at a time. No name fits a small buffer.
@@ -64,6 +65,14 @@ impl<R: Files<File = File>> FileSystem for Below<R> {
 
     fn try_lock(&self, file: &File) -> Result<(), TryLockError> {
         file.try_lock()
+    }
+
+    fn write(&self, file: &mut File, bytes: &[u8], _grant: &Grant) -> io::Result<()> {
+        file.write_all(bytes)
+    }
+
+    fn set_len(&self, file: &File, _bytes: u64, len: u64, _grant: &Grant) -> io::Result<()> {
+        file.set_len(len)
     }
 
     fn names(&self, alloc: Global, place: &Place) -> io::Result<Vec<u8>> {

@@ -7,24 +7,25 @@ ghost use Rattle.ftp_disk.specs.Disk.{place_in_home, IsReached, WasFound, WasLis
 ghost use Rattle.ftp_disk.specs.Home.{has_home, may_write};
 
 use crate::file_system::FileSystem;
-use crate::home::{Homes, Writable};
+use crate::home::Homes;
 use crate::listing::{list, meta_of};
 use crate::opened::{Access, Opened, Use};
-use crate::opening::{check_reach, cut, go_to, open_to_append, open_to_begin, open_to_read};
+use crate::opening::{open_to_append, open_to_begin, open_to_read};
 use crate::refusals::refusal;
 use crate::standing::resolve;
+use crate::writing::{check_reach, cut, go_to, put};
 use ftp_base::{Bytes, ErrorKind, FEATURE_RESTART, FileInfo, Meta, Storage, StoreError};
 use ftp_places::Place;
 use std::alloc::Global;
-use std::fs::OpenFile;
-use std::io::{Read, SeekFrom, Write};
+use std::io::{Read, SeekFrom};
 use std::marker::Model;
-use std::sync::Arc;
+use std::sync::{Arc, Wait};
 
 /// The files of users' homes, for one transfer: the file that it reads or writes is kept open between its pieces, and an
 /// upload's is locked. It tells no content.
 #[derive(Drop)]
-pub struct DiskStorage<S: FileSystem + Drop> {
+pub struct DiskStorage<R: Wait + Drop, S: FileSystem + Drop> {
+    rt: R,
     system: S,
     alloc: Global,
     homes: Arc<Homes, Global>,
@@ -32,7 +33,7 @@ pub struct DiskStorage<S: FileSystem + Drop> {
     faults: u64,
 }
 
-impl<S: FileSystem + Drop> Model for DiskStorage<S> {
+impl<R: Wait + Drop, S: FileSystem + Drop> Model for DiskStorage<R, S> {
     ghost use Rattle.std.specs.Arc.{arc_value};
     ghost use Rattle.ftp_disk.specs.Disk.{DiskState};
 
@@ -41,16 +42,17 @@ impl<S: FileSystem + Drop> Model for DiskStorage<S> {
     ghost view = { λ s. record { system = s.system; homes = arc_value s.homes; faults = s.faults } };
 }
 
-impl<S: FileSystem + Drop> DiskStorage<S> {
+impl<R: Wait + Drop, S: FileSystem + Drop> DiskStorage<R, S> {
     ghost use Rattle.std.specs.Arc.{arc_value};
 
     /// The files of these homes, before any call.
-    pub fn new(alloc: Global, system: S, homes: Arc<Homes, Global>) -> DiskStorage<S>
+    pub fn new(rt: R, alloc: Global, system: S, homes: Arc<Homes, Global>) -> DiskStorage<R, S>
         ensures system { result.system ≡ system }
         ensures homes { result.homes ≡ arc_value homes }
         ensures faults { result.faults ≡ 0 }
     {
         DiskStorage {
+            rt,
             system,
             alloc,
             homes,
@@ -66,15 +68,6 @@ impl<S: FileSystem + Drop> DiskStorage<S> {
     {
         let home = self.homes.find(user)?;
         home.place(self.alloc, path.as_slice())
-    }
-
-    // Where a path of a user's leads who may write.
-    fn place_to_write(&self, user: &Bytes, path: &Bytes) -> Result<Writable, StoreError>
-        ensures place { IfOk result (λ place. place_in_home self.now.homes user.now path.now ≡ Some place) }
-        ensures read_only { may_write self.now.homes user.now ≡ false → IsErrOf result (StoreError.Kind PermissionDenied) }
-    {
-        let home = self.homes.find(user)?;
-        home.writable(self.alloc, path.as_slice())
     }
 
     // Counts a call that failed.
@@ -121,12 +114,13 @@ impl<S: FileSystem + Drop> DiskStorage<S> {
         ensures homeless { has_home self.old.homes user.now ≡ false → IsErrOf result (StoreError.Kind PermissionDenied) }
         ensures unchanged { self.new ≡ self.old }
     {
-        let place = self.place(user, path)?;
+        let home = self.homes.find(user)?;
         if let Some(opened) = self.opened.take() {
             if opened.by.is(user, path, Access::Read) && opened.at == at {
                 return Ok(Some(opened));
             }
         }
+        let place = home.place(self.alloc, path.as_slice())?;
         let by = Use::new(self.alloc, user, path, Access::Read)?;
         let (mut file, len) = open_to_read(&self.system, self.alloc, &place)?;
         if at > len {
@@ -171,11 +165,19 @@ impl<S: FileSystem + Drop> DiskStorage<S> {
         ensures unchanged { self.new ≡ self.old }
     {
         self.opened = None;
-        let place = self.place_to_write(user, path)?;
+        let home = self.homes.find(user)?;
+        let place = home.writable(self.alloc, path.as_slice())?;
         check_reach(start)?;
         let by = Use::new(self.alloc, user, path, Access::Write)?;
-        let mut file = open_to_begin(&self.system, self.alloc, &place)?;
-        cut(&mut file, start)?;
+        let mut file = open_to_begin(
+            &self.rt,
+            &self.system,
+            self.alloc,
+            &place,
+            &home.budget,
+            start,
+        )?;
+        cut(&self.rt, &self.system, &home.budget, &mut file, start)?;
         self.opened = Some(Opened {
             by,
             file,
@@ -189,37 +191,42 @@ impl<S: FileSystem + Drop> DiskStorage<S> {
         ensures read_only { may_write self.old.homes user.now ≡ false → IsErrOf result (StoreError.Kind PermissionDenied) }
         ensures unchanged { self.new ≡ self.old }
     {
-        let place = self.place_to_write(user, path)?;
+        let home = self.homes.find(user)?;
+        home.check_may_write()?;
         if let Some(opened) = self.opened.take() {
             if opened.by.is(user, path, Access::Write) {
                 return Ok(opened);
             }
         }
+        let place = home.writable(self.alloc, path.as_slice())?;
         let by = Use::new(self.alloc, user, path, Access::Write)?;
         let mut file = open_to_append(&self.system, self.alloc, &place)?;
         let at = go_to(&mut file, SeekFrom::End(0))?;
         Ok(Opened { by, file, at })
     }
 
-    // Puts bytes at the end of a file, and keeps it open there. What was written before an error is cut off again.
+    // Puts bytes at the end of a file, and keeps it open there.
     fn write(&mut self, user: &Bytes, path: &Bytes, bytes: &[u8]) -> Result<(), StoreError>
         ensures read_only { may_write self.old.homes user.now ≡ false → IsErrOf result (StoreError.Kind PermissionDenied) }
         ensures unchanged { self.new ≡ self.old }
     {
         let mut opened = self.writer(user, path)?;
-        if let Err(error) = opened.file.write_all(bytes) {
-            return match opened.file.set_len(opened.at) {
-                Ok(()) => Err(refusal(error.kind())),
-                Err(_) => Err(StoreError::Failed),
-            };
-        }
+        let home = self.homes.find(user)?;
+        put(
+            &self.rt,
+            &self.system,
+            &home.budget,
+            &mut opened.file,
+            opened.at,
+            bytes,
+        )?;
         opened.at = opened.at.saturating_add(bytes.len() as u64);
         self.opened = Some(opened);
         Ok(())
     }
 }
 
-impl<S: FileSystem + Drop> Storage for DiskStorage<S> {
+impl<R: Wait + Drop, S: FileSystem + Drop> Storage for DiskStorage<R, S> {
     ghost use Rattle.std.specs.Prelude.{None, true};
 
     ghost abilities = { λ _. 1 };

@@ -1,21 +1,23 @@
 //! What is asked of a system about the files below roots.
 
+ghost use Rattle.std.specs.Prelude.{◌+◌, ◌≤◌, length};
 ghost use Rattle.ftp_disk.specs.FileSystem.{Told, IsUnlinked, WasFile, WasFileOrNothing};
 
+use crate::budget::Grant;
 use crate::home::Writable;
 use ftp_places::Place;
 use std::alloc::Global;
-use std::fs::{Metadata, OpenFile, TryLockError};
+use std::fs::{Metadata, TryLockError};
 use std::io;
-use std::io::{Read, Seek, Write};
+use std::io::{Read, Seek};
 
 /// Asks a system for files by places alone.
 ///
 /// No clause says what it answers, but that a look tells its answer. What is opened was looked at before, as was each
-/// directory on the way to it, and none was a link. Somebody else may put one there in between.
+/// directory on the way to it, and none was a link. Somebody else may put one there in between. What a file grows by was granted.
 pub trait FileSystem {
     /// A file that is open.
-    type File: Read + Write + Seek + OpenFile + Drop;
+    type File: Read + Seek + Drop;
 
     // The system was asked what stands at a place, and this was its answer.
     ghost told: { Self → Told };
@@ -36,6 +38,14 @@ pub trait FileSystem {
 
     /// Takes the lock of a file for as long as it is open, unless it is taken.
     fn try_lock(&self, file: &Self::File) -> Result<(), TryLockError>;
+
+    /// Writes bytes to a file where it stands.
+    fn write(&self, file: &mut Self::File, bytes: &[u8], grant: &Grant) -> io::Result<()>
+        requires granted { length bytes.now ≤ grant.now.bytes };
+
+    /// Cuts a file that has so many bytes, or fills it with zeros.
+    fn set_len(&self, file: &Self::File, bytes: u64, len: u64, grant: &Grant) -> io::Result<()>
+        requires granted { len ≤ bytes + grant.now.bytes };
 
     /// The names in a directory, a NUL behind each.
     fn names(&self, alloc: Global, place: &Place) -> io::Result<Vec<u8>>

@@ -4,20 +4,24 @@ ghost use Rattle.std.specs.Prelude.{◌≡◌, false, IfOk, IfErr, OnOk, OnErr, 
 ghost use Rattle.std.specs.List.{list_all};
 ghost use Rattle.ftp_base.specs.declared.error_kind.ErrorKind.TheVariants.{PermissionDenied, FileNameNotAllowedError};
 ghost use Rattle.ftp_places.specs.Names.{names_of, is_taken_name};
+ghost use Rattle.std.specs.Option.{option_copied};
 ghost use Rattle.ftp_places.specs.Place.{below_by};
+ghost use Rattle.ftp_disk.specs.Home.{by_name, home_of};
 
+use crate::budget::Budget;
 use ftp_base::{Bytes, ErrorKind, StoreError};
 use ftp_places::{Place, PlaceError};
-use std::alloc::Global;
+use std::alloc::{AllocError, Global};
+use std::collections::BTreeMap;
 use std::marker::Model;
 
 /// A user's directory.
 #[derive(Drop)]
 pub struct Home {
-    pub user: Bytes,
     /// The directory, without a slash at its end. It may be a link.
     pub root: String,
     pub may_write: bool,
+    pub budget: Budget,
 }
 
 /// A place in a home that its user may change.
@@ -58,6 +62,18 @@ impl Home {
         }
     }
 
+    /// Refuses a user who may not write.
+    pub fn check_may_write(&self) -> Result<(), StoreError>
+        ensures may_write { OnOk result (IsTrue self.now.may_write) }
+        ensures read_only { self.now.may_write ≡ false → IsErrOf result (StoreError.Kind PermissionDenied) }
+    {
+        if self.may_write {
+            Ok(())
+        } else {
+            Err(StoreError::Kind(ErrorKind::PermissionDenied))
+        }
+    }
+
     /// Where a client's path leads in the home, where its user may change what stands there.
     ///
     /// # Proved
@@ -69,41 +85,65 @@ impl Home {
         ensures may_write { OnOk result (IsTrue self.now.may_write) }
         ensures read_only { self.now.may_write ≡ false → IsErrOf result (StoreError.Kind PermissionDenied) }
     {
-        if !self.may_write {
-            return Err(StoreError::Kind(ErrorKind::PermissionDenied));
-        }
+        self.check_may_write()?;
         let place = self.place(alloc, path)?;
         Ok(Writable { place })
     }
 }
 
-/// Each user's home, which contracts see as a list.
+/// Each user's home by the user's name, which contracts see in byte order of the names.
 #[derive(Drop)]
 pub struct Homes {
-    homes: Vec<Home>,
+    by_user: BTreeMap<Vec<u8>, Home>,
 }
 
 impl Model for Homes {
-    ghost use Rattle.std.specs.Prelude.{List};
+    ghost use Rattle.std.specs.Prelude.{ℕ, List};
     ghost use Rattle.ftp_disk.specs.declared.home.Home.{Home};
+    ghost use Rattle.ftp_disk.specs.Home.{by_name};
 
-    ghost Value = { List Home };
+    ghost Value = { List (List ℕ × Home) };
 
-    ghost view = { λ h. h.homes.items };
+    ghost view = { λ h. by_name h.by_user.entries };
+}
+
+// The home of a user.
+fn home_of<'a>(homes: &'a BTreeMap<Vec<u8>, Home>, user: &[u8]) -> Option<&'a Home>
+    ensures { option_copied result ≡ home_of (by_name homes.now.entries) user.now }
+{
+    homes.get(user)
 }
 
 impl Homes {
-    ghost use Rattle.std.specs.Prelude.{None, Some};
-    ghost use Rattle.ftp_disk.specs.Home.{home_of};
+    ghost use Rattle.std.specs.Prelude.{◌≡◌, ℕ, List, [], None, Some, OnOk, OnErr};
+    ghost use Rattle.std.specs.Option.{option_or};
+    ghost use Rattle.ftp_disk.specs.Home.{home_of, home_if};
 
-    /// The homes; of two of one user the first counts.
-    pub fn new(homes: Vec<Home>) -> Homes
-        ensures { result ≡ homes.items }
+    /// Nobody has a home.
+    pub fn new(alloc: Global) -> Homes
+        ensures { result ≡ [] }
     {
-        Homes { homes }
+        Homes {
+            by_user: BTreeMap::new(alloc),
+        }
     }
 
-    /// The home of a user.
+    /// Gives a user a home, unless the user has one.
+    ///
+    /// # Proved
+    ///
+    /// - A user who has a home keeps it, and the others keep theirs (`added`).
+    pub fn add(&mut self, user: Vec<u8>, home: Home) -> Result<(), AllocError>
+        ensures added { OnOk result ((name : List ℕ) → home_of self.new name ≡ option_or (home_of self.old name) (home_if name user.items home)) }
+    {
+        if home_of(&self.by_user, user.as_slice()).is_some() {
+            return Ok(());
+        }
+        self.by_user.insert(user, home)?;
+        Ok(())
+    }
+
+    /// The home of a user, in a time that grows with the logarithm of the count of homes.
     ///
     /// # Proved
     ///
@@ -113,11 +153,9 @@ impl Homes {
         ensures homeless { OnErr result (home_of self.now user.now ≡ None) }
         ensures denied { IfErr result (λ e. e ≡ StoreError.Kind PermissionDenied) }
     {
-        for home in &self.homes {
-            if home.user.as_slice() == user.as_slice() {
-                return Ok(home);
-            }
+        match home_of(&self.by_user, user.as_slice()) {
+            Some(home) => Ok(home),
+            None => Err(StoreError::Kind(ErrorKind::PermissionDenied)),
         }
-        Err(StoreError::Kind(ErrorKind::PermissionDenied))
     }
 }

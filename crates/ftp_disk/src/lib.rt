@@ -1,21 +1,29 @@
 //! Files of real directories, as a storage.
 //!
-//! What is asked of the system is a home or lies below it, and no link leads there. Begin with `FileSystem`.
+//! What is asked of the system is a home or lies below it, and no link leads there; what is written was granted by the home's
+//! budget. Begin with `FileSystem`.
 #![tactic(auto)]
 
 mod below;
+mod budget;
+mod counting;
 mod disk;
 mod file_system;
 mod home;
 mod listing;
 mod opened;
 mod opening;
+mod purse;
 mod refusals;
 mod standing;
+mod writing;
 
 pub use below::Below;
+pub use budget::{Budget, Grant};
+pub use counting::usage;
 pub use disk::DiskStorage;
 pub use file_system::FileSystem;
 pub use home::{Home, Homes, Writable};
+pub use purse::Purse;
 pub use refusals::refusal;
 pub use standing::{Standing, resolve};

@@ -4,6 +4,7 @@ ghost use Rattle.std.specs.Prelude.{IfOk, OnOk};
 ghost use Rattle.ftp_disk.specs.FileSystem.{IsUnlinked, WasFileOrNothing};
 ghost use Rattle.ftp_disk.specs.Standing.{Stood};
 
+use crate::budget::Budget;
 use crate::file_system::FileSystem;
 use crate::home::Writable;
 use crate::refusals::refusal;
@@ -11,9 +12,8 @@ use crate::standing::{Standing, resolve};
 use ftp_base::{ErrorKind, StoreError};
 use ftp_places::Place;
 use std::alloc::Global;
-use std::fs::{OpenFile, TryLockError};
-use std::io;
-use std::io::{Seek, SeekFrom};
+use std::fs::TryLockError;
+use std::sync::Wait;
 
 /// A file that was opened to read it, and how long it was.
 pub(crate) fn open_to_read<S: FileSystem>(
@@ -45,11 +45,14 @@ fn resolve_writable<S: FileSystem>(
     resolve(system, alloc, place.as_place())
 }
 
-/// A file that was opened for an upload, and made where there was none.
-pub(crate) fn open_to_begin<S: FileSystem>(
+/// A file that was opened for an upload, and made where there was none and the budget has room for an upload from this place on.
+pub(crate) fn open_to_begin<R: Wait, S: FileSystem>(
+    rt: &R,
     system: &S,
     alloc: Global,
     place: &Writable,
+    budget: &Budget,
+    start: u64,
 ) -> Result<S::File, StoreError>
     ensures unlinked { OnOk result (IsUnlinked (S.told system.now) place.now) }
 {
@@ -57,10 +60,13 @@ pub(crate) fn open_to_begin<S: FileSystem>(
     match found {
         Standing::Directory => Err(StoreError::Kind(ErrorKind::FileNameNotAllowedError)),
         Standing::File(_) => create(system, place),
-        Standing::Nothing => match create(system, place) {
-            Ok(file) => Ok(file),
-            Err(error) => Err(in_directory(error)),
-        },
+        Standing::Nothing => {
+            budget.check(rt, start)?;
+            match create(system, place) {
+                Ok(file) => Ok(file),
+                Err(error) => Err(in_directory(error)),
+            }
+        }
     }
 }
 
@@ -107,29 +113,4 @@ pub(crate) fn in_directory(error: StoreError) -> StoreError {
         }
         error => error,
     }
-}
-
-/// Goes to a place of a file.
-pub(crate) fn go_to<F: Seek>(file: &mut F, to: SeekFrom) -> Result<u64, StoreError> {
-    match file.seek(to) {
-        Ok(at) => Ok(at),
-        Err(error) => Err(refusal(error.kind())),
-    }
-}
-
-/// Refuses a place that no file of the system reaches.
-pub(crate) fn check_reach(at: u64) -> Result<(), StoreError> {
-    match i64::try_from(at) {
-        Ok(_) => Ok(()),
-        Err(_) => Err(refusal(io::ErrorKind::FileTooLarge)),
-    }
-}
-
-/// Cuts a file at a place, or fills it with zeros up to there, and goes to that place.
-pub(crate) fn cut<F: OpenFile + Seek>(file: &mut F, start: u64) -> Result<(), StoreError> {
-    if let Err(error) = file.set_len(start) {
-        return Err(refusal(error.kind()));
-    }
-    go_to(file, SeekFrom::Start(start))?;
-    Ok(())
 }

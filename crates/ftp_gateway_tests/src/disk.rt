@@ -1,7 +1,7 @@
 //! The storage over a real directory, beside the one in memory.
 
 use ftp_base::{Bytes, MemoryStorage, Storage};
-use ftp_disk::{Below, DiskStorage, Home, Homes};
+use ftp_disk::{Below, Budget, DiskStorage, Home, Homes, usage};
 use std::alloc::{AllocError, Global};
 use std::os::unix::fs::symlink;
 use std::sync::Arc;
@@ -28,21 +28,31 @@ fn below(alloc: Global, root: &str, path: &str) -> Result<String, AllocError> {
     format!(in alloc; "{root}{path}")
 }
 
-/// The home of ann, who may write, and of bob, who may not. Carl comes to it by the link.
-fn homes(alloc: Global, base: &str) -> Result<Arc<Homes, Global>, AllocError> {
-    let mut homes = Vec::new(alloc);
+/// The home of ann, who may write, and of bob, who may not. Carl comes to it by the link. They have one budget.
+fn homes_within(
+    alloc: Global,
+    base: &str,
+    budget: &Budget,
+) -> Result<Arc<Homes, Global>, AllocError> {
+    let mut homes = Homes::new(alloc);
     for (user, root, may_write) in [
         ("ann", "/home", true),
         ("bob", "/home", false),
         ("carl", "/link", false),
     ] {
-        homes.push(Home {
-            user: Bytes::from_slice(alloc, user.as_bytes())?,
+        let home = Home {
             root: below(alloc, base, root)?,
             may_write,
-        })?;
+            budget: budget.share()?,
+        };
+        homes.add(Vec::from_slice(alloc, user.as_bytes())?, home)?;
     }
-    Ok(Arc::new(alloc, Homes::new(homes))?)
+    Ok(Arc::new(alloc, homes)?)
+}
+
+/// The same homes without a budget.
+fn homes(alloc: Global, base: &str) -> Result<Arc<Homes, Global>, AllocError> {
+    homes_within(alloc, base, &Budget::none())
 }
 
 /// What is asked of a storage.
@@ -127,7 +137,7 @@ fn is_same(rt: &HostRuntime, base: &str, memory: &MemoryStorage) -> io::Result<b
 fn a_directory_answers_as_a_storage_in_memory(rt: HostRuntime) -> Result<(), Fail> {
     let alloc = rt.alloc();
     let base = make_base(&rt, "same")?;
-    let mut disk = DiskStorage::new(alloc, Below::new(&rt), homes(alloc, base.as_str())?);
+    let mut disk = DiskStorage::new(&rt, alloc, Below::new(&rt), homes(alloc, base.as_str())?);
     let mut memory = MemoryStorage::new(alloc, u64::MAX, Vec::new(alloc));
     for dir in ["/d", "/d/e"] {
         memory.mkdir(Bytes::from_slice(alloc, dir.as_bytes())?)?;
@@ -156,7 +166,7 @@ fn links_strangers_and_readers_are_refused(rt: HostRuntime) -> Result<(), Fail> 
     for (to, link) in [("/etc/passwd", "/home/passwd"), ("/etc", "/home/d/etc")] {
         symlink(&rt, to, below(alloc, base.as_str(), link)?.as_str())?;
     }
-    let mut storage = DiskStorage::new(alloc, Below::new(&rt), homes(alloc, base.as_str())?);
+    let mut storage = DiskStorage::new(&rt, alloc, Below::new(&rt), homes(alloc, base.as_str())?);
     let denied = "Err(Kind(PermissionDenied))";
     let missing = "Err(Kind(PermanentFileNotAvailable))";
     let only_d =
@@ -187,8 +197,8 @@ fn links_strangers_and_readers_are_refused(rt: HostRuntime) -> Result<(), Fail> 
 fn a_path_has_one_upload_at_a_time(rt: HostRuntime) -> Result<(), Fail> {
     let alloc = rt.alloc();
     let base = make_base(&rt, "busy")?;
-    let mut first = DiskStorage::new(alloc, Below::new(&rt), homes(alloc, base.as_str())?);
-    let mut second = DiskStorage::new(alloc, Below::new(&rt), homes(alloc, base.as_str())?);
+    let mut first = DiskStorage::new(&rt, alloc, Below::new(&rt), homes(alloc, base.as_str())?);
+    let mut second = DiskStorage::new(&rt, alloc, Below::new(&rt), homes(alloc, base.as_str())?);
     let begun = answer(&mut first, alloc, "ann", call_of(3, "/b"))?;
     let busy = answer(&mut second, alloc, "ann", call_of(3, "/b"))?;
     drop(first);
@@ -198,6 +208,51 @@ fn a_path_has_one_upload_at_a_time(rt: HostRuntime) -> Result<(), Fail> {
         given.as_str(),
         "Ok(()) Err(Kind(TransientFileNotAvailable)) Ok(())"
     );
+    fs::remove_dir_all(&rt, base.as_str())?;
+    Ok(())
+}
+
+#[test]
+fn uploads_share_the_budget_of_a_home(rt: HostRuntime) -> Result<(), Fail> {
+    let alloc = rt.alloc();
+    let base = make_base(&rt, "budget")?;
+    let root = below(alloc, base.as_str(), "/home")?;
+    fs::write(
+        &rt,
+        below(alloc, root.as_str(), "/d/old")?.as_str(),
+        b"1234",
+    )?;
+    let found = usage(&Below::new(&rt), alloc, root.as_str())?;
+    let budget = Budget::new(alloc, 10, found)?;
+    let homes = homes_within(alloc, base.as_str(), &budget)?;
+    let theirs = Arc::try_clone(&homes)?;
+    let mut first = DiskStorage::new(&rt, alloc, Below::new(&rt), homes);
+    let mut second = DiskStorage::new(&rt, alloc, Below::new(&rt), theirs);
+    let full = "Err(Kind(ExceededStorageAllocationError))";
+    // Each call appends three bytes, or cuts a file at a place or fills it up to there.
+    for (is_first, kind, path, number, due) in [
+        (true, 3, "/a", 0, "Ok(())"),
+        (false, 3, "/b", 0, "Ok(())"),
+        (true, 4, "/a", 1, "Ok(())"),
+        (false, 4, "/b", 2, "Ok(())"),
+        (true, 4, "/a", 3, full),
+        (false, 3, "/b", 4, full),
+        (false, 3, "/c", 1, full),
+        (false, 3, "/b", 1, "Ok(())"),
+        (true, 4, "/a", 4, full),
+        (true, 3, "/a", 1, "Ok(())"),
+        (true, 4, "/a", 5, "Ok(())"),
+    ] {
+        let call = Call { kind, path, number };
+        let given = if is_first {
+            answer(&mut first, alloc, "ann", call)?
+        } else {
+            answer(&mut second, alloc, "ann", call)?
+        };
+        assert_eq!(rt; given.as_str(), due, "{kind} {path} {number}");
+    }
+    let left = usage(&Below::new(&rt), alloc, root.as_str())?;
+    assert!(rt; found == 4 && left == 9, "{found} {left}");
     fs::remove_dir_all(&rt, base.as_str())?;
     Ok(())
 }

@@ -1,0 +1,69 @@
+//! How an open file is cut and written to, within the budget of the home that it lies in.
+
+ghost use Rattle.std.specs.Prelude.{◌≡◌};
+
+use crate::budget::Budget;
+use crate::file_system::FileSystem;
+use crate::refusals::refusal;
+use ftp_base::StoreError;
+use std::io;
+use std::io::{Seek, SeekFrom};
+use std::sync::Wait;
+
+/// Goes to a place of a file.
+pub(crate) fn go_to<F: Seek>(file: &mut F, to: SeekFrom) -> Result<u64, StoreError> {
+    match file.seek(to) {
+        Ok(at) => Ok(at),
+        Err(error) => Err(refusal(error.kind())),
+    }
+}
+
+/// Refuses a place that no file of the system reaches.
+pub(crate) fn check_reach(at: u64) -> Result<(), StoreError> {
+    match i64::try_from(at) {
+        Ok(_) => Ok(()),
+        Err(_) => Err(refusal(io::ErrorKind::FileTooLarge)),
+    }
+}
+
+/// Cuts a file at a place, or fills it with zeros up to there, and goes to that place.
+pub(crate) fn cut<R: Wait, S: FileSystem>(
+    rt: &R,
+    system: &S,
+    budget: &Budget,
+    file: &mut S::File,
+    start: u64,
+) -> Result<(), StoreError> {
+    let len = go_to(file, SeekFrom::End(0))?;
+    let grant = budget.grant(rt, start.saturating_sub(len))?;
+    if let Err(error) = system.set_len(file, len, start, &grant) {
+        budget.give_back(rt, grant);
+        return Err(refusal(error.kind()));
+    }
+    grant.spend();
+    budget.free(rt, len.saturating_sub(start));
+    go_to(file, SeekFrom::Start(start))?;
+    Ok(())
+}
+
+/// Writes bytes at the end of a file, which stands at this place. What was written before an error is cut off again.
+pub(crate) fn put<R: Wait, S: FileSystem>(
+    rt: &R,
+    system: &S,
+    budget: &Budget,
+    file: &mut S::File,
+    at: u64,
+    bytes: &[u8],
+) -> Result<(), StoreError> {
+    let grant = budget.grant(rt, bytes.len() as u64)?;
+    let Err(error) = system.write(file, bytes, &grant) else {
+        grant.spend();
+        return Ok(());
+    };
+    if system.set_len(file, at, at, &grant).is_err() {
+        grant.spend();
+        return Err(StoreError::Failed);
+    }
+    budget.give_back(rt, grant);
+    Err(refusal(error.kind()))
+}
