@@ -13,11 +13,15 @@ may_write ReadOnly = false
 may_write ReadWrite = true
 
 -- a home is that of the user: its directory, and the right to write there
+abbrev pub IsHome : User → Home → Type 0
+IsHome user home = (string_bytes home.root ≡ user.home) × (home.may_write ≡ may_write user.rights)
+
+-- a user has the user's home, and nobody has none
 abbrev pub IsHomeOf : Option User → Option Home → Type 0
 IsHomeOf None None = ⊤
-IsHomeOf (Some user) (Some home) = (string_bytes home.root ≡ user.home) × (home.may_write ≡ may_write user.rights)
+IsHomeOf (Some user) (Some home) = IsHome user home
 IsHomeOf _ _ = ⊥
 
 -- each name has the home of its user, and no other
-abbrev pub AreHomesOf : List (List ℕ × User) → List Home → Type 0
+abbrev pub AreHomesOf : List (List ℕ × User) → List (List ℕ × Home) → Type 0
 AreHomesOf users homes = (name : List ℕ) → IsHomeOf (user_named name users) (home_of homes name)

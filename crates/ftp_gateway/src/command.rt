@@ -3,6 +3,8 @@
 ghost use Rattle.std.specs.Prelude.{◌≡◌, map, string_bytes};
 ghost use Rattle.ftp_gateway.specs.Words.{command_of, command_of_word, command_of_two};
 
+use crate::request::Request;
+
 /// What is asked for. A command with a file has it as its second word.
 #[derive(Clone, Copy, Debug, PartialEq, Eq)]
 pub enum Command {
@@ -14,8 +16,8 @@ pub enum Command {
     Check,
     /// Writes the hash of a password.
     MakePassword,
-    /// Tells a gateway, by its control socket, to stop.
-    Stop,
+    /// Asks a running gateway for something, at its control socket.
+    Ask(Request),
 }
 
 impl Command {
@@ -58,7 +60,11 @@ impl Command {
         } else if word == b"check".as_slice() {
             Some(Command::Check)
         } else if word == b"stop".as_slice() {
-            Some(Command::Stop)
+            Some(Command::Ask(Request::Stop))
+        } else if word == b"reload".as_slice() {
+            Some(Command::Ask(Request::Reload))
+        } else if word == b"status".as_slice() {
+            Some(Command::Ask(Request::Status))
         } else {
             None
         }

@@ -1,85 +1,191 @@
-//! The socket by which a running gateway is told to stop.
+//! The socket by which a running gateway is asked for something.
 
 ghost use Rattle.std.specs.Prelude.{◌≡◌};
 
+use crate::duties::Duties;
+use crate::request::Request;
 use ftp_options::{Indicator, Shutdown};
-use std::io;
+use std::alloc::AllocError;
+use std::fs::File;
 use std::io::{Read, Write};
 use std::net::Net;
+use std::os::unix::fs::FileTypeExt;
 use std::os::unix::net::{UnixListener, UnixStream};
 use std::rt::Files;
+use std::sync::Wait;
+use std::{io, mem};
 
-// What is said to stop a gateway.
-const STOP: &[u8] = b"stop\n";
+/// How many callers there may be at a time.
+const CALLERS: usize = 16;
 
-/// Asks for a shutdown once somebody says so at a Unix socket. Who said so is answered by the end of the connection, which is
-/// that of the gateway.
+/// How long a caller may say nothing, in milliseconds.
+const PATIENCE: u64 = 5000;
+
+/// One who has called, and when.
 #[derive(Drop)]
-pub struct ControlSocket {
-    listener: UnixListener,
-    caller: Option<UnixStream>,
+struct Caller {
+    stream: UnixStream,
+    since: u64,
+}
+
+/// What came of a caller.
+#[derive(Drop)]
+enum Heard {
+    /// Nothing was said yet.
+    Waits(Caller),
+    /// A stop was asked for. The end of the connection, which is that of the gateway, answers it.
+    Stop(Caller),
+    /// It was answered, or is gone.
+    Over,
+}
+
+/// Does what callers at a Unix socket ask for, and asks for a shutdown once one of them does.
+#[derive(Drop)]
+pub struct ControlSocket<R: Wait + Copy + Drop> {
+    listener: Option<UnixListener>,
+    duties: Duties<R>,
+    callers: Vec<Caller>,
     grace_ms: u64,
+    // When the first turn was.
+    started: Option<u64>,
     asked: Option<(u64, u64)>,
 }
 
-impl ControlSocket {
-    /// Listens at a path, where nothing may stand but a socket that nobody listens at any more.
-    pub fn bind<R: Files + Net>(rt: &R, path: &str, grace_ms: u64) -> io::Result<ControlSocket> {
-        if UnixStream::connect(rt, path).is_err() {
-            let _ = rt.remove_file(path);
-        }
-        let listener = UnixListener::bind(rt, path)?;
-        listener.set_nonblocking(true)?;
+// What a caller says, where it has said something.
+fn said(stream: &mut UnixStream) -> io::Result<Option<Request>> {
+    let mut line = [0; 16];
+    let n = stream.read(&mut line)?;
+    Ok(Request::of(&line[..n]))
+}
+
+// Whether a socket stands at a path at which nobody listens.
+fn is_left_behind<R: Files + Net>(rt: &R, path: &str) -> bool {
+    match rt.symlink_metadata(path) {
+        Ok(found) => found.file_type().is_socket() && UnixStream::connect(rt, path).is_err(),
+        Err(_) => false,
+    }
+}
+
+// A listener at a path, where nothing may stand but a socket that was left behind.
+fn listener_at<R: Files + Net>(rt: &R, path: &str) -> io::Result<UnixListener> {
+    if is_left_behind(rt, path) {
+        rt.remove_file(path)?;
+    }
+    let listener = UnixListener::bind(rt, path)?;
+    listener.set_nonblocking(true)?;
+    Ok(listener)
+}
+
+impl<R: Wait + Files<File = File> + AllocGlobal + Copy + Drop> ControlSocket<R> {
+    /// Listens at a path, or nowhere, where a shutdown is never asked for.
+    pub fn bind<N: Files + Net>(
+        net: &N,
+        path: Option<&str>,
+        grace_ms: u64,
+        duties: Duties<R>,
+    ) -> io::Result<ControlSocket<R>> {
+        let listener = match path {
+            Some(path) => Some(listener_at(net, path)?),
+            None => None,
+        };
+        let callers = Vec::new(duties.alloc);
         Ok(ControlSocket {
             listener,
-            caller: None,
+            duties,
+            callers,
             grace_ms,
+            started: None,
             asked: None,
         })
     }
 
-    // Takes the next caller, if there is none.
-    fn answer(&mut self)
+    // Takes in who calls, unless there are too many.
+    fn accept(&mut self, at: u64)
         ensures asked { self.new.asked ≡ self.old.asked }
         ensures grace { self.new.grace_ms ≡ self.old.grace_ms }
     {
-        if self.caller.is_some() {
+        let Some(listener) = &self.listener else {
             return;
-        }
-        if let Ok((caller, _)) = self.listener.accept() {
-            if caller.set_nonblocking(true).is_ok() {
-                self.caller = Some(caller);
+        };
+        for _ in self.callers.len()..CALLERS {
+            let Ok((stream, _)) = listener.accept() else {
+                return;
+            };
+            if stream.set_nonblocking(true).is_ok() {
+                let _ = self.callers.push(Caller { stream, since: at });
             }
         }
     }
 
-    // Whether the caller has said that the gateway is to stop. One that says anything else, or goes, is let go.
-    fn hears_stop(&mut self) -> bool
+    // The answer to a request that is no stop, or to a line that is none.
+    fn answer(&self, request: Option<Request>, at: u64) -> Result<String, AllocError> {
+        match request {
+            Some(Request::Reload) => self.duties.reload(),
+            Some(Request::Status) => {
+                let started = self.started.unwrap_or(at);
+                self.duties.status(at.saturating_sub(started))
+            }
+            Some(Request::Stop) | None => self.duties.refused("there is no such request"),
+        }
+    }
+
+    // Hears a caller, and answers it.
+    fn hear(&self, caller: Caller, at: u64) -> Heard {
+        let mut caller = caller;
+        let request = match said(&mut caller.stream) {
+            Ok(request) => request,
+            Err(error) if error.kind() == io::ErrorKind::WouldBlock => {
+                return if at.saturating_sub(caller.since) < PATIENCE {
+                    Heard::Waits(caller)
+                } else {
+                    Heard::Over
+                };
+            }
+            Err(_) => return Heard::Over,
+        };
+        if let Some(Request::Stop) = request {
+            return Heard::Stop(caller);
+        }
+        if let Ok(answer) = self.answer(request, at) {
+            let _ = caller.stream.write_all(answer.as_bytes());
+        }
+        Heard::Over
+    }
+
+    // Hears all callers, and says whether one of them asks for a stop.
+    fn hear_all(&mut self, at: u64) -> bool
         ensures asked { self.new.asked ≡ self.old.asked }
         ensures grace { self.new.grace_ms ≡ self.old.grace_ms }
     {
-        let Some(caller) = &mut self.caller else {
-            return false;
-        };
-        let mut said = [0; 16];
-        match caller.read(&mut said) {
-            Ok(n) if &said[..n] == STOP => true,
-            Err(e) if e.kind() == io::ErrorKind::WouldBlock => false,
-            _ => {
-                self.caller = None;
-                false
+        let waiting = Vec::new(self.duties.alloc);
+        let callers = mem::replace(&mut self.callers, waiting);
+        let mut is_asked = false;
+        for caller in callers {
+            match self.hear(caller, at) {
+                Heard::Waits(caller) => {
+                    let _ = self.callers.push(caller);
+                }
+                Heard::Stop(caller) => {
+                    is_asked = true;
+                    let _ = self.callers.push(caller);
+                }
+                Heard::Over => {}
             }
         }
+        is_asked
     }
 }
 
-impl Indicator for ControlSocket {
+impl<R: Wait + Files<File = File> + AllocGlobal + Copy + Drop> Indicator for ControlSocket<R> {
     ghost asked = { λ s. s.asked };
 
     fn poll(&mut self, at: u64) -> Option<Shutdown> {
         if self.asked.is_none() {
-            self.answer();
-            if !self.hears_stop() {
+            if self.started.is_none() {
+                self.started = Some(at);
+            }
+            self.accept(at);
+            if !self.hear_all(at) {
                 return None;
             }
             self.asked = Some((at, self.grace_ms));
@@ -87,17 +193,4 @@ impl Indicator for ControlSocket {
         let (_, grace_ms) = self.asked?;
         Some(Shutdown::new().grace_period(grace_ms))
     }
-}
-
-/// Tells the gateway at a socket to stop, and waits until it has ended.
-pub fn stop<R: Net>(rt: &R, path: &str) -> io::Result<()> {
-    let mut gateway = UnixStream::connect(rt, path)?;
-    gateway.write_all(STOP)?;
-    let mut rest = [0; 16];
-    for _ in 0..u64::MAX {
-        if gateway.read(&mut rest)? == 0 {
-            break;
-        }
-    }
-    Ok(())
 }

@@ -1,11 +1,11 @@
 //! The homes of the users of a file.
 
 ghost use Rattle.std.specs.Prelude.{◌≡◌, ◌++◌, ◌∷◌, [], IfOk};
-ghost use Rattle.ftp_gateway.specs.Owned.{AreHomesOf, may_write};
+ghost use Rattle.ftp_gateway.specs.Owned.{AreHomesOf, IsHome, may_write};
 
-use ftp_base::Bytes;
+use crate::budgets::Budgets;
 use ftp_disk::{Home, Homes};
-use ftp_users::{Rights, Users};
+use ftp_users::{Rights, User, Users};
 use std::alloc::{AllocError, Global};
 
 // Whether a user may write.
@@ -18,22 +18,30 @@ fn may_write(rights: Rights) -> bool
     }
 }
 
+// The home of a user.
+fn home(alloc: Global, user: &User, budgets: &Budgets) -> Result<Home, AllocError>
+    ensures { IfOk result (IsHome user.now) }
+{
+    Ok(Home {
+        root: String::from_str(alloc, user.home.as_str())?,
+        may_write: may_write(user.rights),
+        budget: budgets.find(user.home.as_str())?,
+    })
+}
+
 /// The homes of users.
 ///
 /// # Proved
 ///
 /// - Each name has the home of its user, with the right to write there that the user has, and no other (`AreHomesOf` in
 ///   `ftp_gateway/specs/Owned.antt`).
-pub fn homes_of(alloc: Global, users: &Users) -> Result<Homes, AllocError>
+pub fn homes_of(alloc: Global, users: &Users, budgets: &Budgets) -> Result<Homes, AllocError>
     ensures { IfOk result (AreHomesOf users.now) }
 {
-    let mut homes = Vec::new(alloc);
+    let mut homes = Homes::new(alloc);
     for (name, user) in users.iter() {
-        homes.push(Home {
-            user: Bytes::from_slice(alloc, name.as_slice())?,
-            root: String::from_str(alloc, user.home.as_str())?,
-            may_write: may_write(user.rights),
-        })?;
+        let home = home(alloc, user, budgets)?;
+        homes.add(Vec::from_slice(alloc, name.as_slice())?, home)?;
     }
-    Ok(Homes::new(homes))
+    Ok(homes)
 }

@@ -1,39 +1,53 @@
 //! A gateway: serves the files of real directories to the users of a file.
 //!
-//! `ftp_gateway serve FILE` serves as the configuration file says, until `ftp_gateway stop SOCKET` tells it to stop. `ftp_gateway check
-//! FILE` reads the configuration and the users, and says what is wrong with them. `ftp_gateway mkpasswd` reads a password from
-//! standard input and writes its hash. It ends with 0, with 1 and a line of why, and with 64 where the words are no command.
+//! `ftp_gateway serve FILE` serves as the configuration file says, until `ftp_gateway stop SOCKET` tells it to stop. `ftp_gateway reload
+//! SOCKET` has it read its users anew, and `ftp_gateway status SOCKET` tells what it does. `ftp_gateway check FILE` reads the
+//! configuration and the users, and says what is wrong with them. `ftp_gateway mkpasswd` reads a password from standard input and
+//! writes its hash. It ends with 0, with 1 and a line of why, and with 64 where the words are no command.
 #![tactic(auto)]
 
+mod activity;
+mod asking;
+mod budgets;
 mod command;
 mod control_socket;
+mod current_users;
+mod duties;
 mod homes;
 mod password_check;
 mod passwords;
 mod refusal;
+mod request;
 mod serving;
 mod settings;
 mod setup;
+mod user_table;
 
 use command::Command;
+use ftp_listen::Parts;
 use refusal::{Refusal, tell};
+use serving::Gateway;
 use std::env;
-use std::net::{TcpListener, TcpStream};
+use std::net::{Net, TcpListener, TcpStream};
 use std::process::ExitCode;
+use std::random::RandomSource;
+use std::rt::{Env, Files};
 
 const HELP: &str = "\
-Usage: ftp_gateway serve FILE | check FILE | stop SOCKET | mkpasswd
+Usage: ftp_gateway serve FILE | check FILE | stop SOCKET | reload SOCKET | status SOCKET | mkpasswd
 Serves the files of real directories to the users of a file.
 serve FILE serves as the configuration file says.
 check FILE says what is wrong with the configuration file or with its users.
 stop SOCKET tells the gateway at a control socket to stop, and waits for its end.
+reload SOCKET has it read its file of users anew.
+status SOCKET tells what it does.
 mkpasswd reads a password from standard input and writes its hash.
 ";
 
 const VERSION: &str = "ftp_gateway 0.1.0\n";
 
 // The status of what was done, of which is told why it was not.
-fn ended<R: Print>(rt: &R, done: Result<(), Refusal>) -> ExitCode {
+fn ended<R: Print + AllocGlobal>(rt: &R, done: Result<(), Refusal>) -> ExitCode {
     match done {
         Ok(()) => ExitCode::SUCCESS,
         Err(refusal) => {
@@ -43,37 +57,74 @@ fn ended<R: Print>(rt: &R, done: Result<(), Refusal>) -> ExitCode {
     }
 }
 
+// Does what a command asks for that does not serve.
+fn run<R: Files + Input + Net + Print + RandomSource + AllocGlobal>(
+    rt: &R,
+    command: Command,
+    file: &str,
+) -> ExitCode {
+    let done = match command {
+        Command::Serve | Command::Check => {
+            let read = setup::read_setup(rt, file).map(drop);
+            return ended(rt, read);
+        }
+        Command::Ask(request) => asking::ask(rt, file, request),
+        Command::MakePassword => passwords::make(rt).map(|()| true),
+        Command::Help => print!(rt; "{HELP}").map(|()| true),
+        Command::Version => print!(rt; "{VERSION}").map(|()| true),
+    };
+    match done {
+        Ok(true) => ExitCode::SUCCESS,
+        Ok(false) | Err(_) => ExitCode::from(1),
+    }
+}
+
+// The words behind the program's name.
+fn words<R: Env + AllocGlobal>(rt: &R) -> Option<Vec<String>> {
+    let words = env::args(rt).ok()?;
+    words.skip(1).collect::<Vec<String>>(rt.alloc()).ok()
+}
+
 fn main(rt: HostRuntime) -> ExitCode {
     // The check looks for the types of a bound among those of the function.
     let types: Option<(TcpListener, TcpStream)> = None;
     drop(types);
-    let Ok(words) = env::args(&rt) else {
-        return ExitCode::from(1);
-    };
-    let Ok(words) = words.skip(1).collect::<Vec<String>>(rt.alloc()) else {
+    let Some(words) = words(&rt) else {
         return ExitCode::from(1);
     };
     let words = words.as_slice();
     let Some(command) = Command::of(words) else {
         return ExitCode::from(64);
     };
-    let file = match words {
-        [_, file] => file.as_str(),
-        _ => "",
-    };
-    let written = match command {
-        Command::Serve => return ended(&rt, serving::serve(&rt, file)),
-        Command::Check => {
-            let read = setup::read_setup(&rt, file).map(drop);
-            return ended(&rt, read);
-        }
-        Command::Stop => control_socket::stop(&rt, file),
-        Command::MakePassword => passwords::make(&rt),
-        Command::Help => print!(rt; "{HELP}"),
-        Command::Version => print!(rt; "{VERSION}"),
-    };
-    match written {
-        Ok(()) => ExitCode::SUCCESS,
-        Err(_) => ExitCode::from(1),
+    let file = words.get(1).map_or("", |file| file.as_str());
+    if command != Command::Serve {
+        return run(&rt, command, file);
     }
+    let Gateway {
+        plan,
+        check,
+        depot,
+        control,
+        transfers,
+        logins,
+    } = match serving::prepare(&rt, file) {
+        Ok(gateway) => gateway,
+        Err(refusal) => return ended(&rt, Err(refusal)),
+    };
+    let (Ok(authenticator), Ok(data_listener), Ok(presence_listener), Ok(indicator)) = (
+        Box::new(rt.alloc(), check),
+        Box::new(rt.alloc(), transfers),
+        Box::new(rt.alloc(), logins),
+        Box::new(rt.alloc(), control),
+    ) else {
+        return ended(&rt, Err(Refusal::OutOfMemory));
+    };
+    let parts = Parts {
+        authenticator,
+        data_listener,
+        presence_listener,
+        indicator,
+        storage: depot,
+    };
+    ended(&rt, serving::serve(&rt, plan, parts))
 }

@@ -4,7 +4,7 @@ use ftp_base::Bytes;
 use ftp_config::{ConfigError, key_name};
 use ftp_options::ServerError;
 use ftp_users::UsersError;
-use std::alloc::AllocError;
+use std::alloc::{AllocError, Global};
 use std::io;
 
 /// Why a gateway does not serve, or serves no more.
@@ -31,34 +31,40 @@ impl From<AllocError> for Refusal {
     }
 }
 
-// Says a name as text, where it is one.
+// A name as text, where it is one.
 fn shown(name: &Bytes) -> &str {
     std::str::from_utf8(name.as_slice()).unwrap_or("?")
 }
 
-/// Says why.
-pub fn tell<R: Print>(rt: &R, refusal: &Refusal) -> io::Result<()> {
+/// Why, as a line without its end.
+pub fn reason(alloc: Global, refusal: &Refusal) -> Result<String, AllocError> {
     match refusal {
         Refusal::Unreadable(path) => {
             let path = shown(path);
-            println!(rt; "{path}: cannot be read")
+            format!(in alloc; "{path}: cannot be read")
         }
-        Refusal::Config(ConfigError::Syntax(error)) => println!(rt; "{error}"),
+        Refusal::Config(ConfigError::Syntax(error)) => format!(in alloc; "{error}"),
         Refusal::Config(ConfigError::UnknownKey(name)) => {
             let name = shown(name);
-            println!(rt; "there is no key {name}")
+            format!(in alloc; "there is no key {name}")
         }
         Refusal::Config(ConfigError::Value(key)) => {
             let name = key_name(*key);
-            println!(rt; "the key {name} has no value that it takes")
+            format!(in alloc; "the key {name} has no value that it takes")
         }
-        Refusal::Users(UsersError::Line(number)) => println!(rt;
-            "line {number} of the users is no user's"
-        ),
-        Refusal::ControlSocket => println!(rt; "the control socket cannot be made"),
-        Refusal::Server(error) => println!(rt; "{error}"),
+        Refusal::Users(UsersError::Line(number)) => {
+            format!(in alloc; "line {number} of the users is no user's")
+        }
+        Refusal::ControlSocket => format!(in alloc; "the control socket cannot be made"),
+        Refusal::Server(error) => format!(in alloc; "{error}"),
         Refusal::Config(ConfigError::OutOfMemory)
         | Refusal::Users(UsersError::OutOfMemory)
-        | Refusal::OutOfMemory => println!(rt; "out of memory"),
+        | Refusal::OutOfMemory => format!(in alloc; "out of memory"),
     }
+}
+
+/// Says why.
+pub fn tell<R: Print + AllocGlobal>(rt: &R, refusal: &Refusal) -> io::Result<()> {
+    let text = reason(rt.alloc(), refusal)?;
+    println!(rt; "{text}")
 }

@@ -1,112 +1,135 @@
 //! A gateway that serves.
 
+use crate::activity::Activity;
+use crate::budgets::Budgets;
 use crate::control_socket::ControlSocket;
-use crate::homes::homes_of;
+use crate::current_users::{CurrentUsers, UserSource};
+use crate::duties::Duties;
 use crate::password_check::PasswordCheck;
 use crate::refusal::Refusal;
 use crate::settings::options;
 use crate::setup::{Setup, read_setup};
-use ftp_base::NopListener;
+use crate::user_table::UserTable;
 use ftp_config::GatewayConfig;
-use ftp_disk::{Below, DiskStorage, Homes};
+use ftp_disk::{Below, DiskStorage};
 use ftp_listen::{Parts, Server};
-use ftp_options::Indicator;
-use ftp_system::{Depot, NeverAsks, ServerRuntime};
-use ftp_users::Users;
+use ftp_options::Options;
+use ftp_system::{Depot, ServerRuntime};
 use std::alloc::{AllocError, Global};
 use std::fs::File;
 use std::rt::Files;
-use std::sync::Arc;
+use std::sync::{Arc, Wait};
 
 /// What a gateway uses of the runtime.
 pub trait GatewayRuntime: ServerRuntime + Files<File = File> + AllocGlobal {}
 
 impl<R: ServerRuntime + Files<File = File> + AllocGlobal> GatewayRuntime for R {}
 
-/// Gives each transfer a storage of its own over the homes.
+/// Gives each transfer a storage of its own over the homes of the users that count.
 #[derive(Drop)]
-pub struct HomeDepot<R> {
+pub struct HomeDepot<R: Wait + Drop> {
     rt: R,
     alloc: Global,
-    homes: Arc<Homes, Global>,
+    users: CurrentUsers<R>,
 }
 
-impl<R: Files<File = File> + Copy + Drop> Depot for HomeDepot<R> {
-    type Store = DiskStorage<Below<R>>;
+impl<R: Wait + Files<File = File> + Copy + Drop> Depot for HomeDepot<R> {
+    type Store = DiskStorage<R, Below<R>>;
 
-    fn store(&self) -> Result<DiskStorage<Below<R>>, AllocError> {
-        let homes = Arc::try_clone(&self.homes)?;
-        Ok(DiskStorage::new(self.alloc, Below::new(self.rt), homes))
+    fn store(&self) -> Result<DiskStorage<R, Below<R>>, AllocError> {
+        let table = self.users.users()?;
+        let homes = Arc::try_clone(&table.homes)?;
+        Ok(DiskStorage::new(self.rt, self.alloc, Below::new(self.rt), homes))
     }
 }
 
-// Who asks for a shutdown: whoever says so at the control socket, where there is one.
-fn indicator<R: GatewayRuntime>(
+/// How a gateway serves.
+#[derive(Drop)]
+pub struct Plan {
+    options: Options,
+    config: GatewayConfig,
+}
+
+/// What a gateway is made of: how it serves, who may log in, whose homes are served, who asks it for something, and who counts
+/// what it does.
+#[derive(Drop)]
+pub struct Gateway<R: Wait + Copy + Drop> {
+    pub plan: Plan,
+    pub check: PasswordCheck<R, CurrentUsers<R>>,
+    pub depot: HomeDepot<R>,
+    pub control: ControlSocket<R>,
+    pub transfers: Activity,
+    pub logins: Activity,
+}
+
+// The control socket of a configuration, which reads its users' file anew.
+fn control_of<R: GatewayRuntime>(
     rt: &R,
     config: &GatewayConfig,
-) -> Result<Box<dyn Indicator + Drop>, Refusal> {
+    users: CurrentUsers<R>,
+    activity: Activity,
+) -> Result<ControlSocket<R>, Refusal> {
     let alloc = rt.alloc();
-    let Some(path) = &config.control_socket else {
-        return match Box::new(alloc, NeverAsks) {
-            Ok(never) => Ok(never),
-            Err(_) => Err(Refusal::OutOfMemory),
-        };
+    let duties = Duties {
+        rt: *rt,
+        alloc,
+        users_file: config.users_file.copy(alloc)?,
+        users,
+        activity,
     };
-    let Ok(path) = std::str::from_utf8(path.as_slice()) else {
-        return Err(Refusal::ControlSocket);
+    let path = match &config.control_socket {
+        Some(path) => match std::str::from_utf8(path.as_slice()) {
+            Ok(path) => Some(path),
+            Err(_) => return Err(Refusal::ControlSocket),
+        },
+        None => None,
     };
     let grace_ms = u64::from(config.shutdown_grace) * 1000;
-    let Ok(socket) = ControlSocket::bind(rt, path, grace_ms) else {
-        return Err(Refusal::ControlSocket);
-    };
-    match Box::new(alloc, socket) {
+    match ControlSocket::bind(rt, path, grace_ms, duties) {
         Ok(socket) => Ok(socket),
-        Err(_) => Err(Refusal::OutOfMemory),
+        Err(_) => Err(Refusal::ControlSocket),
     }
 }
 
-// What a server is made with: the users' passwords are checked, and their homes are served.
-fn parts_of<R: GatewayRuntime>(
-    rt: &R,
-    users: Users,
-    indicator: Box<dyn Indicator + Drop>,
-) -> Result<Parts<HomeDepot<R>>, Refusal> {
-    let alloc = rt.alloc();
-    let homes = homes_of(alloc, &users)?;
-    let (Ok(homes), Ok(users)) = (Arc::new(alloc, homes), Arc::new(alloc, users)) else {
-        return Err(Refusal::OutOfMemory);
-    };
-    let (Ok(authenticator), Ok(data_listener), Ok(presence_listener)) = (
-        Box::new(alloc, PasswordCheck::new(*rt, users)),
-        Box::new(alloc, NopListener),
-        Box::new(alloc, NopListener),
-    ) else {
-        return Err(Refusal::OutOfMemory);
-    };
-    Ok(Parts {
-        authenticator,
-        data_listener,
-        presence_listener,
-        indicator,
-        storage: HomeDepot {
-            rt: *rt,
-            alloc,
-            homes,
-        },
-    })
-}
-
-/// Serves as the configuration file at a path says, until it is told to stop and all transfers are over.
-pub fn serve<R: GatewayRuntime>(rt: &R, path: &str) -> Result<(), Refusal> {
+/// The gateway that the configuration file at a path describes.
+pub fn prepare<R: GatewayRuntime>(rt: &R, path: &str) -> Result<Gateway<R>, Refusal> {
     let alloc = rt.alloc();
     let Setup { config, users } = read_setup(rt, path)?;
     let options = match options(alloc, &config) {
         Ok(options) => options,
         Err(error) => return Err(Refusal::Server(error)),
     };
-    let indicator = indicator(rt, &config)?;
-    let parts = parts_of(rt, users, indicator)?;
-    let mut server = Server::over(alloc, options, parts);
+    let system = Below::new(*rt);
+    let table = UserTable::new(rt, &system, alloc, users, &Budgets::none(alloc))?;
+    let users = CurrentUsers::new(*rt, alloc, table)?;
+    let activity = Activity::new(alloc)?;
+    let transfers = activity.share()?;
+    let logins = activity.share()?;
+    let depot = HomeDepot {
+        rt: *rt,
+        alloc,
+        users: users.share()?,
+    };
+    let check = PasswordCheck::new(*rt, users.share()?);
+    let control = control_of(rt, &config, users, activity)?;
+    Ok(Gateway {
+        plan: Plan { options, config },
+        check,
+        depot,
+        control,
+        transfers,
+        logins,
+    })
+}
+
+/// Serves over these parts, until the gateway is told to stop and all transfers are over.
+pub fn serve<R: GatewayRuntime>(
+    rt: &R,
+    plan: Plan,
+    parts: Parts<HomeDepot<R>>,
+) -> Result<(), Refusal> {
+    let Plan { options, config } = plan;
+    let mut server = Server::over(rt.alloc(), options, parts);
     server.most_sessions(u64::from(config.max_clients));
     server.most_sessions_of_one(u64::from(config.max_per_ip));
     match server.listen_over(rt, config.listen.as_slice()) {

@@ -34,12 +34,19 @@ pub fn read_setup<R: Files + AllocGlobal>(rt: &R, path: &str) -> Result<Setup, R
         Ok(config) => config,
         Err(error) => return Err(Refusal::Config(error)),
     };
-    let Ok(users_file) = std::str::from_utf8(config.users_file.as_slice()) else {
-        return Err(Refusal::Unreadable(config.users_file.copy(alloc)?));
+    let users = read_users(rt, &config.users_file)?;
+    Ok(Setup { config, users })
+}
+
+/// Reads a file of users.
+pub fn read_users<R: Files + AllocGlobal>(rt: &R, path: &Bytes) -> Result<Users, Refusal> {
+    let alloc = rt.alloc();
+    let Ok(text) = std::str::from_utf8(path.as_slice()) else {
+        return Err(Refusal::Unreadable(path.copy(alloc)?));
     };
-    let lines = bytes_of(rt, users_file)?;
+    let lines = bytes_of(rt, text)?;
     match Users::read(alloc, lines.as_slice()) {
-        Ok(users) => Ok(Setup { config, users }),
+        Ok(users) => Ok(users),
         Err(error) => Err(Refusal::Users(error)),
     }
 }

@@ -1,0 +1,18 @@
+-- The lines by which a running gateway is asked for something.
+use Rattle.std.specs.Prelude.{ℕ, List, ◌++◌, ◌∷◌, [], Option, Some, None, codes, if◌then◌else◌}
+use Rattle.std.specs.Str.{bytes_eq}
+use Rattle.ftp_gateway.specs.declared.request.Request.{Request}
+use Rattle.ftp_gateway.specs.declared.request.Request.TheVariants.{Stop, Reload, Status}
+
+-- the line that asks for something
+abbrev pub request_text : Request → List ℕ
+request_text Stop = codes "stop\n"
+request_text Reload = codes "reload\n"
+request_text Status = codes "status\n"
+
+-- what a line asks for
+abbrev pub request_of : List ℕ → Option Request
+request_of line =
+    if bytes_eq line (request_text Stop) then Some Stop else
+    (if bytes_eq line (request_text Reload) then Some Reload else
+    (if bytes_eq line (request_text Status) then Some Status else None))
