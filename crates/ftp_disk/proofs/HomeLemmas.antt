@@ -11,17 +11,17 @@ use Rattle.std.specs.Str.{bytes_eq}
 use Rattle.std.proofs.lemmas.Slice.Eq.{bytes_eq-Decides}
 use Rattle.std.proofs.lemmas.Map.Text.{is_eq-slice_cmp}
 use Rattle.ftp_disk.specs.declared.home.Home.{Home}
-use Rattle.ftp_disk.specs.Home.{by_name, home_of, home_if}
+use Rattle.ftp_disk.specs.Home.{homes_by_user, home_of, home_if}
 
 -- the order of names that are vectors
 abbrev pub name_cmp : Vec ℕ Global → Vec ℕ Global → Ordering
 name_cmp x y = slice_cmp nat_cmp x.items y.items
 
 -- the home of a user is what is looked up
-pub home_of-lookup : (user : List ℕ) (entries : List (Vec ℕ Global × Home)) → home_of (by_name entries) user ≡ lookup (is_at (λ key. slice_cmp nat_cmp user key.items)) entries
+pub home_of-lookup : (user : List ℕ) (entries : List (Vec ℕ Global × Home)) → home_of (homes_by_user entries) user ≡ lookup (is_at (λ key. slice_cmp nat_cmp user key.items)) entries
 home_of-lookup user [] = refl
 home_of-lookup user (e ∷ entries) =
-    ap (λ b. cond b (Some e.1) (home_of (by_name entries) user)) (sym (is_eq-slice_cmp user e.0.items))
+    ap (λ b. cond b (Some e.1) (home_of (homes_by_user entries) user)) (sym (is_eq-slice_cmp user e.0.items))
     ∙ ap (cond (is_eq (slice_cmp nat_cmp user e.0.items)) (Some e.1)) (home_of-lookup user entries)
 
 swaps : {A : Type 0} (a b : Bool) (x y z : A) → (a ≡ true → b ≡ true → ⊥) → cond a x (cond b y z) ≡ cond b y (cond a x z)
@@ -37,19 +37,19 @@ not_both q a b apart first second =
     cc (itself, other)
 
 -- for a user who had none stands the home that is put there, and nothing else changes
-home_of-insert : (q : List ℕ) (entries : List (Vec ℕ Global × Home)) (key : Vec ℕ Global) (home : Home) → home_of (by_name entries) key.items ≡ None →
-    home_of (by_name (insert_entry name_cmp entries key home)) q ≡ cond (bytes_eq q key.items) (Some home) (home_of (by_name entries) q)
+home_of-insert : (q : List ℕ) (entries : List (Vec ℕ Global × Home)) (key : Vec ℕ Global) (home : Home) → home_of (homes_by_user entries) key.items ≡ None →
+    home_of (homes_by_user (insert_entry name_cmp entries key home)) q ≡ cond (bytes_eq q key.items) (Some home) (home_of (homes_by_user entries) q)
 home_of-insert q [] key home absent = refl
 home_of-insert q (e ∷ entries) key home absent =
     elim (slice_cmp nat_cmp key.items e.0.items) as (λ r. slice_cmp nat_cmp key.items e.0.items ≡ r →
-    home_of (by_name (insert_entry name_cmp (e ∷ entries) key home)) q ≡ cond (bytes_eq q key.items) (Some home) (home_of (by_name (e ∷ entries)) q)) [
+    home_of (homes_by_user (insert_entry name_cmp (e ∷ entries) key home)) q ≡ cond (bytes_eq q key.items) (Some home) (home_of (homes_by_user (e ∷ entries)) q)) [
       | Less ↦ λ p. rw p refl
-      | Equal ↦ λ p. absurd (let there : home_of (by_name (e ∷ entries)) key.items ≡ Some e.1 = rw (← is_eq-slice_cmp key.items e.0.items, p) refl in cc (there, absent))
+      | Equal ↦ λ p. absurd (let there : home_of (homes_by_user (e ∷ entries)) key.items ≡ Some e.1 = rw (← is_eq-slice_cmp key.items e.0.items, p) refl in cc (there, absent))
       | Greater ↦ λ p.
-          let skipped : home_of (by_name (e ∷ entries)) key.items ≡ home_of (by_name entries) key.items = rw (← is_eq-slice_cmp key.items e.0.items, p) refl in
+          let skipped : home_of (homes_by_user (e ∷ entries)) key.items ≡ home_of (homes_by_user entries) key.items = rw (← is_eq-slice_cmp key.items e.0.items, p) refl in
           rw p
           (ap (cond (bytes_eq q e.0.items) (Some e.1)) (home_of-insert q entries key home (sym skipped ∙ absent))
-          ∙ swaps (bytes_eq q e.0.items) (bytes_eq q key.items) (Some e.1) (Some home) (home_of (by_name entries) q)
+          ∙ swaps (bytes_eq q e.0.items) (bytes_eq q key.items) (Some e.1) (Some home) (home_of (homes_by_user entries) q)
           (λ first second. not_both q e.0.items key.items p first second))
     ] refl
 
@@ -88,14 +88,14 @@ add-present name user home homes lent same h = at (bytes_eq name user) refl
 -- who had no home has the new one, and nothing else changes
 pub add-absent :
     (name : List ℕ) (key : Vec ℕ Global) (home : Home) (entries : List (Vec ℕ Global × Home)) (lent : Option (Bor Home)) →
-    option_copied lent ≡ home_of (by_name entries) key.items → is_some lent ≡ false →
-    home_of (by_name (insert_entry name_cmp entries key home)) name ≡ option_or (home_of (by_name entries) name) (home_if name key.items home)
+    option_copied lent ≡ home_of (homes_by_user entries) key.items → is_some lent ≡ false →
+    home_of (homes_by_user (insert_entry name_cmp entries key home)) name ≡ option_or (home_of (homes_by_user entries) name) (home_if name key.items home)
 add-absent name key home entries lent same h =
-    let none : home_of (by_name entries) key.items ≡ None = absent lent _ same h in
+    let none : home_of (homes_by_user entries) key.items ≡ None = absent lent _ same h in
     home_of-insert name entries key home none ∙ at (bytes_eq name key.items) refl none
   where
-    at : (b : Bool) → bytes_eq name key.items ≡ b → home_of (by_name entries) key.items ≡ None →
-        cond b (Some home) (home_of (by_name entries) name) ≡ option_or (home_of (by_name entries) name) (cond b (Some home) None)
+    at : (b : Bool) → bytes_eq name key.items ≡ b → home_of (homes_by_user entries) key.items ≡ None →
+        cond b (Some home) (home_of (homes_by_user entries) name) ≡ option_or (home_of (homes_by_user entries) name) (cond b (Some home) None)
     at true e none =
-        sym (ap (λ o. option_or o (Some home)) (ap (λ n. home_of (by_name entries) n) ((bytes_eq-Decides name key.items).0 e) ∙ none))
-    at false e none = sym (or-none (home_of (by_name entries) name))
+        sym (ap (λ o. option_or o (Some home)) (ap (λ n. home_of (homes_by_user entries) n) ((bytes_eq-Decides name key.items).0 e) ∙ none))
+    at false e none = sym (or-none (home_of (homes_by_user entries) name))

@@ -7,8 +7,8 @@ use Rattle.std.specs.Str.{bytes_eq}
 use Rattle.ftp_disk.specs.declared.home.Home.{Home}
 
 -- homes under names that are vectors
-abbrev pub by_name : List (Vec ℕ Global × Home) → List (List ℕ × Home)
-by_name entries = map (λ e. (e.0.items, e.1)) entries
+abbrev pub homes_by_user : List (Vec ℕ Global × Home) → List (List ℕ × Home)
+homes_by_user entries = map (λ e. (e.0.items, e.1)) entries
 
 -- the home of a user
 abbrev pub home_of : List (List ℕ × Home) → List ℕ → Option Home

@@ -6,7 +6,7 @@ ghost use Rattle.ftp_base.specs.declared.error_kind.ErrorKind.TheVariants.{Permi
 ghost use Rattle.ftp_places.specs.Names.{names_of, is_taken_name};
 ghost use Rattle.std.specs.Option.{option_copied};
 ghost use Rattle.ftp_places.specs.Place.{below_by};
-ghost use Rattle.ftp_disk.specs.Home.{by_name, home_of};
+ghost use Rattle.ftp_disk.specs.Home.{homes_by_user, home_of};
 
 use crate::budget::Budget;
 use ftp_base::{Bytes, ErrorKind, StoreError};
@@ -100,16 +100,16 @@ pub struct Homes {
 impl Model for Homes {
     ghost use Rattle.std.specs.Prelude.{ℕ, List};
     ghost use Rattle.ftp_disk.specs.declared.home.Home.{Home};
-    ghost use Rattle.ftp_disk.specs.Home.{by_name};
+    ghost use Rattle.ftp_disk.specs.Home.{homes_by_user};
 
     ghost Value = { List (List ℕ × Home) };
 
-    ghost view = { λ h. by_name h.by_user.entries };
+    ghost view = { λ h. homes_by_user h.by_user.entries };
 }
 
 // The home of a user.
 fn home_of<'a>(homes: &'a BTreeMap<Vec<u8>, Home>, user: &[u8]) -> Option<&'a Home>
-    ensures { option_copied result ≡ home_of (by_name homes.now.entries) user.now }
+    ensures { option_copied result ≡ home_of (homes_by_user homes.now.entries) user.now }
 {
     homes.get(user)
 }

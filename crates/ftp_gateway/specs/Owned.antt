@@ -8,13 +8,13 @@ use Rattle.ftp_users.specs.declared.user.Rights.TheVariants.{ReadOnly, ReadWrite
 use Rattle.ftp_users.specs.declared.user.User.{User}
 
 -- who may write
-abbrev pub may_write : Rights → Bool
-may_write ReadOnly = false
-may_write ReadWrite = true
+abbrev pub is_writer : Rights → Bool
+is_writer ReadOnly = false
+is_writer ReadWrite = true
 
 -- a home is that of the user: its directory, and the right to write there
 abbrev pub IsHome : User → Home → Type 0
-IsHome user home = (string_bytes home.root ≡ user.home) × (home.may_write ≡ may_write user.rights)
+IsHome user home = (string_bytes home.root ≡ user.home) × (home.may_write ≡ is_writer user.rights)
 
 -- a user has the user's home, and nobody has none
 abbrev pub IsHomeOf : Option User → Option Home → Type 0

@@ -82,13 +82,16 @@ impl DataListener for Activity {
 impl PresenceListener for Activity {
     ghost heard = { λ _. None };
 
-    fn receive_presence_event(&mut self, e: &PresenceEvent, _m: &EventMeta) {
+    fn receive_presence_event(&mut self, e: &PresenceEvent, m: &EventMeta) {
         match e {
             PresenceEvent::LoggedIn => {
                 self.counts.logins.fetch_add(1, Ordering::SeqCst);
             }
+            // What is told first of a session is its login: one whose end is told first had none.
             PresenceEvent::LoggedOut => {
-                self.counts.logouts.fetch_add(1, Ordering::SeqCst);
+                if m.sequence_number > 1 {
+                    self.counts.logouts.fetch_add(1, Ordering::SeqCst);
+                }
             }
         }
     }

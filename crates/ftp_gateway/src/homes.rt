@@ -1,7 +1,7 @@
 //! The homes of the users of a file.
 
 ghost use Rattle.std.specs.Prelude.{◌≡◌, ◌++◌, ◌∷◌, [], IfOk};
-ghost use Rattle.ftp_gateway.specs.Owned.{AreHomesOf, IsHome, may_write};
+ghost use Rattle.ftp_gateway.specs.Owned.{AreHomesOf, IsHome, is_writer};
 
 use crate::budgets::Budgets;
 use ftp_disk::{Home, Homes};
@@ -9,8 +9,8 @@ use ftp_users::{Rights, User, Users};
 use std::alloc::{AllocError, Global};
 
 // Whether a user may write.
-fn may_write(rights: Rights) -> bool
-    ensures { result ≡ may_write rights }
+fn is_writer(rights: Rights) -> bool
+    ensures { result ≡ is_writer rights }
 {
     match rights {
         Rights::ReadOnly => false,
@@ -24,7 +24,7 @@ fn home(alloc: Global, user: &User, budgets: &Budgets) -> Result<Home, AllocErro
 {
     Ok(Home {
         root: String::from_str(alloc, user.home.as_str())?,
-        may_write: may_write(user.rights),
+        may_write: is_writer(user.rights),
         budget: budgets.find(user.home.as_str())?,
     })
 }
