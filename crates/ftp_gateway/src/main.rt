@@ -24,7 +24,7 @@ mod setup;
 mod user_table;
 
 use command::Command;
-use ftp_listen::Parts;
+use ftp_listen::{Parts, Server};
 use refusal::{Refusal, tell};
 use serving::Gateway;
 use std::env;
@@ -79,26 +79,39 @@ fn run<R: Files + Input + Net + Print + RandomSource + AllocGlobal>(
     }
 }
 
-// The words behind the program's name.
-fn words<R: Env + AllocGlobal>(rt: &R) -> Option<Vec<String>> {
-    let words = env::args(rt).ok()?;
-    words.skip(1).collect::<Vec<String>>(rt.alloc()).ok()
+// What the words behind the program's name ask for, with the file that is the second of them, or the status where they are no
+// command.
+fn asked<R: Env + AllocGlobal>(rt: &R) -> Result<(Command, String), u8> {
+    let alloc = rt.alloc();
+    let Ok(words) = env::args(rt) else {
+        return Err(1);
+    };
+    let Ok(words) = words.skip(1).collect::<Vec<String>>(alloc) else {
+        return Err(1);
+    };
+    let Some(command) = Command::of(words.as_slice()) else {
+        return Err(64);
+    };
+    let file = match words.as_slice() {
+        [_, file] => file.as_str(),
+        _ => "",
+    };
+    match String::from_str(alloc, file) {
+        Ok(file) => Ok((command, file)),
+        Err(_) => Err(1),
+    }
 }
 
 fn main(rt: HostRuntime) -> ExitCode {
     // The check looks for the types of a bound among those of the function.
     let types: Option<(TcpListener, TcpStream)> = None;
     drop(types);
-    let Some(words) = words(&rt) else {
-        return ExitCode::from(1);
+    let (command, file) = match asked(&rt) {
+        Ok(asked) => asked,
+        Err(status) => return ExitCode::from(status),
     };
-    let words = words.as_slice();
-    let Some(command) = Command::of(words) else {
-        return ExitCode::from(64);
-    };
-    let file = words.get(1).map_or("", |file| file.as_str());
     if command != Command::Serve {
-        return run(&rt, command, file);
+        return run(&rt, command, file.as_str());
     }
     let Gateway {
         plan,
@@ -107,7 +120,7 @@ fn main(rt: HostRuntime) -> ExitCode {
         control,
         transfers,
         logins,
-    } = match serving::prepare(&rt, file) {
+    } = match serving::prepare(&rt, file.as_str()) {
         Ok(gateway) => gateway,
         Err(refusal) => return ended(&rt, Err(refusal)),
     };
@@ -126,5 +139,11 @@ fn main(rt: HostRuntime) -> ExitCode {
         indicator,
         storage: depot,
     };
-    ended(&rt, serving::serve(&rt, plan, parts))
+    let mut server = Server::over(rt.alloc(), plan.options, parts);
+    server.most_sessions(plan.most_sessions);
+    server.most_sessions_of_one(plan.most_of_one);
+    match server.listen_over(&rt, plan.address.as_slice()) {
+        Ok(()) => ExitCode::SUCCESS,
+        Err(error) => ended(&rt, Err(Refusal::Server(error))),
+    }
 }

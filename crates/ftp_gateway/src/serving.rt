@@ -10,9 +10,9 @@ use crate::refusal::Refusal;
 use crate::settings::options;
 use crate::setup::{Setup, read_setup};
 use crate::user_table::UserTable;
+use ftp_base::Bytes;
 use ftp_config::GatewayConfig;
 use ftp_disk::{Below, DiskStorage};
-use ftp_listen::{Parts, Server};
 use ftp_options::Options;
 use ftp_system::{Depot, ServerRuntime};
 use std::alloc::{AllocError, Global};
@@ -43,11 +43,13 @@ impl<R: Wait + Files<File = File> + Copy + Drop> Depot for HomeDepot<R> {
     }
 }
 
-/// How a gateway serves.
+/// Where a gateway serves, how, and how many sessions at a time, of all clients and of one address.
 #[derive(Drop)]
 pub struct Plan {
-    options: Options,
-    config: GatewayConfig,
+    pub options: Options,
+    pub address: Bytes,
+    pub most_sessions: u64,
+    pub most_of_one: u64,
 }
 
 /// What a gateway is made of: how it serves, who may log in, whose homes are served, who asks it for something, and who counts
@@ -112,28 +114,18 @@ pub fn prepare<R: GatewayRuntime>(rt: &R, path: &str) -> Result<Gateway<R>, Refu
     };
     let check = PasswordCheck::new(*rt, users.share()?);
     let control = control_of(rt, &config, users, activity)?;
+    let plan = Plan {
+        options,
+        address: config.listen.copy(alloc)?,
+        most_sessions: u64::from(config.max_clients),
+        most_of_one: u64::from(config.max_per_ip),
+    };
     Ok(Gateway {
-        plan: Plan { options, config },
+        plan,
         check,
         depot,
         control,
         transfers,
         logins,
     })
-}
-
-/// Serves over these parts, until the gateway is told to stop and all transfers are over.
-pub fn serve<R: GatewayRuntime>(
-    rt: &R,
-    plan: Plan,
-    parts: Parts<HomeDepot<R>>,
-) -> Result<(), Refusal> {
-    let Plan { options, config } = plan;
-    let mut server = Server::over(rt.alloc(), options, parts);
-    server.most_sessions(u64::from(config.max_clients));
-    server.most_sessions_of_one(u64::from(config.max_per_ip));
-    match server.listen_over(rt, config.listen.as_slice()) {
-        Ok(()) => Ok(()),
-        Err(error) => Err(Refusal::Server(error)),
-    }
 }
