@@ -137,7 +137,7 @@ fn is_same(rt: &HostRuntime, base: &str, memory: &MemoryStorage) -> io::Result<b
 fn a_directory_answers_as_a_storage_in_memory(rt: HostRuntime) -> Result<(), Fail> {
     let alloc = rt.alloc();
     let base = make_base(&rt, "same")?;
-    let mut disk = DiskStorage::new(&rt, alloc, Below::new(&rt), homes(alloc, base.as_str())?);
+    let mut disk = DiskStorage::new(rt, alloc, Below::new(rt), homes(alloc, base.as_str())?);
     let mut memory = MemoryStorage::new(alloc, u64::MAX, Vec::new(alloc));
     for dir in ["/d", "/d/e"] {
         memory.mkdir(Bytes::from_slice(alloc, dir.as_bytes())?)?;
@@ -166,7 +166,7 @@ fn links_strangers_and_readers_are_refused(rt: HostRuntime) -> Result<(), Fail> 
     for (to, link) in [("/etc/passwd", "/home/passwd"), ("/etc", "/home/d/etc")] {
         symlink(&rt, to, below(alloc, base.as_str(), link)?.as_str())?;
     }
-    let mut storage = DiskStorage::new(&rt, alloc, Below::new(&rt), homes(alloc, base.as_str())?);
+    let mut storage = DiskStorage::new(rt, alloc, Below::new(rt), homes(alloc, base.as_str())?);
     let denied = "Err(Kind(PermissionDenied))";
     let missing = "Err(Kind(PermanentFileNotAvailable))";
     let only_d =
@@ -197,8 +197,8 @@ fn links_strangers_and_readers_are_refused(rt: HostRuntime) -> Result<(), Fail> 
 fn a_path_has_one_upload_at_a_time(rt: HostRuntime) -> Result<(), Fail> {
     let alloc = rt.alloc();
     let base = make_base(&rt, "busy")?;
-    let mut first = DiskStorage::new(&rt, alloc, Below::new(&rt), homes(alloc, base.as_str())?);
-    let mut second = DiskStorage::new(&rt, alloc, Below::new(&rt), homes(alloc, base.as_str())?);
+    let mut first = DiskStorage::new(rt, alloc, Below::new(rt), homes(alloc, base.as_str())?);
+    let mut second = DiskStorage::new(rt, alloc, Below::new(rt), homes(alloc, base.as_str())?);
     let begun = answer(&mut first, alloc, "ann", call_of(3, "/b"))?;
     let busy = answer(&mut second, alloc, "ann", call_of(3, "/b"))?;
     drop(first);
@@ -222,12 +222,12 @@ fn uploads_share_the_budget_of_a_home(rt: HostRuntime) -> Result<(), Fail> {
         below(alloc, root.as_str(), "/d/old")?.as_str(),
         b"1234",
     )?;
-    let found = usage(&Below::new(&rt), alloc, root.as_str())?;
+    let found = usage(&Below::new(rt), alloc, root.as_str())?;
     let budget = Budget::new(alloc, 10, found)?;
     let homes = homes_within(alloc, base.as_str(), &budget)?;
     let theirs = Arc::try_clone(&homes)?;
-    let mut first = DiskStorage::new(&rt, alloc, Below::new(&rt), homes);
-    let mut second = DiskStorage::new(&rt, alloc, Below::new(&rt), theirs);
+    let mut first = DiskStorage::new(rt, alloc, Below::new(rt), homes);
+    let mut second = DiskStorage::new(rt, alloc, Below::new(rt), theirs);
     let full = "Err(Kind(ExceededStorageAllocationError))";
     // Each call appends three bytes, or cuts a file at a place or fills it up to there.
     for (is_first, kind, path, number, due) in [
@@ -251,7 +251,7 @@ fn uploads_share_the_budget_of_a_home(rt: HostRuntime) -> Result<(), Fail> {
         };
         assert_eq!(rt; given.as_str(), due, "{kind} {path} {number}");
     }
-    let left = usage(&Below::new(&rt), alloc, root.as_str())?;
+    let left = usage(&Below::new(rt), alloc, root.as_str())?;
     assert!(rt; found == 4 && left == 9, "{found} {left}");
     fs::remove_dir_all(&rt, base.as_str())?;
     Ok(())
