@@ -68,8 +68,8 @@ def sentence(mode, abuse):
     return f"{mode} a client {abuse.__name__.replace('_', ' ')}"
 
 
-def run_mode(tally, words, mode):
-    with Server(words, mode) as server, Witness(server.door(), WITNESS) as witness:
+def run_mode(tally, words, mode, kind=Server):
+    with kind(words, mode) as server, Witness(server.door(), WITNESS) as witness:
         slow = [abuse for abuse, modes in abuses.SLOW.items() if mode in modes and tally.only in sentence(mode, abuse)]
         # Each of the slow ones has an address of its own, whose ports are its own.
         places = {abuse: abuses.Abuse(server, f"127.0.1.{n}") for n, abuse in enumerate(slow, 1)}

@@ -69,7 +69,7 @@ def never_reads_replies(abuse):
     # Its reply is the longest for its length.
     lines = b"REST 18446744073709551615\r\n" * 1000
     with abuse.door.dial(abuse.source) as stream:
-        stream.sendall(b"USER ann\r\nPASS x\r\n")
+        stream.sendall(b"USER ann\r\nPASS secret\r\n")
         stream.settimeout(1)
         taken, length = time.monotonic(), 0
         while length < UNREAD and time.monotonic() < taken + LIMIT + SLACK:

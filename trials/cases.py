@@ -83,15 +83,15 @@ class Tally:
         return 1 if self.failed else 0
 
 
-def begin(description):
-    """What a script of cases is asked: the words that start the server, and who counts the cases."""
+def begin(description, program="ftp_serve"):
+    """What a script of cases is asked: the words that start the program, and who counts the cases."""
     parser = argparse.ArgumentParser(description=description)
     parser.add_argument("--front", action="store_true")
     parser.add_argument("--only", default="", metavar="WORD")
     parser.add_argument("command", nargs=argparse.REMAINDER)
     asked = parser.parse_args()
     prepare()
-    return command(asked.command), Tally(asked.only, asked.front)
+    return command(asked.command, program), Tally(asked.only, asked.front)
 
 
 class Place:
@@ -123,6 +123,10 @@ class Place:
 
     def session(self):
         return wire.Session(self.door, self.source).login()
+
+    def long_line(self, name, size):
+        """The line of a file in a LIST."""
+        return f"-rw-rw-rw- 1 ftp ftp {size:12} Jan 01 1970 {name}"
 
     def put(self, name, data):
         with self.session() as session:

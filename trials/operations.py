@@ -34,7 +34,7 @@ def lists(place, told, name, line):
     """The client's output has the line of a file."""
     place.put(name, place.bytes)
     out = ran(place, told, place.words(name)).decode().splitlines()
-    due = line.format(size=len(place.bytes), name=name)
+    due = line.format(long=place.long_line(name, len(place.bytes)), size=len(place.bytes), name=name)
     holds(out.count(due) == 1, f"no line {due!r} in {out}")
 
 
@@ -96,7 +96,7 @@ OPERATIONS = {
     "download by wget": downloads,
     "resumed download": lambda *case: downloads(*case, have=PART),
     "range": lambda *case: downloads(*case, first=1000, last=PART + 1),
-    "list": lambda *case: lists(*case, "-rw-rw-rw- 1 ftp ftp {size:12} Jan 01 1970 {name}"),
+    "list": lambda *case: lists(*case, "{long}"),
     "names": lambda *case: lists(*case, "{name}"),
     "facts": lambda *case: lists(*case, "type=file;size={size}; {name}"),
     "many uploads": uploads_many,

@@ -15,7 +15,7 @@ from pathlib import Path
 import wire
 
 TOP = Path(__file__).resolve().parent.parent
-PROGRAM = TOP / "crates" / "ftp_serve" / "out" / "ftp_serve"
+BUILT = TOP / "crates" / "{name}" / "out" / "{name}"
 HAPROXY = TOP / "examples" / "haproxy.cfg"
 # What HAProxy sends ahead of connections: a header of version 2, or of version 1.
 HEADER_2, HEADER_1 = "send-proxy-v2", "send-proxy"
@@ -25,9 +25,9 @@ LOWEST, HIGHEST = 10000, 32000
 OPENING = 120
 
 
-def command(words):
-    """The server's command: these words, else those of FTP_SERVE, else the program that `rt ci` builds."""
-    return list(words) or shlex.split(os.environ.get("FTP_SERVE", "")) or [str(PROGRAM)]
+def command(words, name="ftp_serve"):
+    """The server's command: these words, else those of FTP_SERVE, or of FTP_GATEWAY, else the program that `rt ci` builds."""
+    return list(words) or shlex.split(os.environ.get(name.upper(), "")) or [str(BUILT).format(name=name)]
 
 
 def is_free(port):
@@ -120,9 +120,13 @@ class Server(Program):
         self.mode = mode
         self.at, self.port = at.strip("[]"), port or free_ports(1)
         self.control, self.first, self.last = called or self.range(ports)
-        word = f"proxy:{self.control}" if mode == "proxy" else mode
-        super().__init__([*words, f"{at}:{self.port}", word, str(self.first), str(self.last)], descriptors)
+        super().__init__(self.words(words, at), descriptors)
         self.wait_for(self.port, self.at)
+
+    def words(self, command, at):
+        """The command line of the program."""
+        word = f"proxy:{self.control}" if self.mode == "proxy" else self.mode
+        return [*command, f"{at}:{self.port}", word, str(self.first), str(self.last)]
 
     def range(self, ports):
         first = free_ports(ports + 1)

@@ -73,7 +73,7 @@ def ftplib_lists(place, name):
         ftp.dir(lines.append)
         names = ftp.nlst()
         facts = dict(ftp.mlsd())
-    holds(f"-rw-rw-rw- 1 ftp ftp {LENGTH:12} Jan 01 1970 {name}" in lines, f"no line of {name} in {lines}")
+    holds(place.long_line(name, LENGTH) in lines, f"no line of {name} in {lines}")
     holds(names == sorted(names) == sorted(facts), f"other names in {names} than in {facts}")
     same(str(facts[name]), str({"type": "file", "size": str(LENGTH)}))
 
@@ -140,8 +140,8 @@ def plain_listings(place, _):
     with place.session() as session:
         same(session.fetch("NLST"), b"a\r\nb\r\n")
         same(session.fetch("MLSD"), b"type=file;size=1234567; a\r\ntype=file;size=3; b\r\n")
-        long = b"-rw-rw-rw- 1 ftp ftp      1234567 Jan 01 1970 a\r\n-rw-rw-rw- 1 ftp ftp            3 Jan 01 1970 b\r\n"
-        same(session.fetch("LIST -la"), long)
+        lines = [place.long_line("a", 1234567), place.long_line("b", 3), ""]
+        same(session.fetch("LIST -la"), "\r\n".join(lines).encode())
 
 
 def plain_stou(place, _):
@@ -175,7 +175,7 @@ def plain_missing(place, _):
 def plain_pieces(place, _):
     """Lines that come all at once, and a line that comes byte by byte."""
     with wire.Session(place.door, place.source) as session:
-        session.send(b"USER ann\r\nPASS x\r\nTYPE I\r\nNOOP\r\n")
+        session.send(b"USER ann\r\nPASS secret\r\nTYPE I\r\nNOOP\r\n")
         for code in 331, 230, 200, 200:
             session.expect(code)
         for byte in b"noop\r\n":
@@ -251,14 +251,15 @@ PLAIN = [
     plain_missing,
     plain_pieces,
     plain_long_line,
-    plain_largest,
     plain_two_transfers,
 ]
+# Those of a storage in memory.
+IN_MEMORY = [plain_largest]
 
 
-def run(tally, mode, place):
+def run(tally, mode, place, more=IN_MEMORY):
     """The cases by plain sockets, which send headers themselves where they have to; those by ftplib cannot."""
-    for case in PLAIN + (FTPLIB if place.door.proxied is None else []):
+    for case in PLAIN + more + (FTPLIB if place.door.proxied is None else []):
         tally.case(f"{mode} {case.__name__.replace('_', ' ')}", case, place, place.name())
 
 
@@ -288,8 +289,8 @@ def fill_the_range(server):
         second.tell("PASV", 227)
 
 
-def run_addresses(tally, words, mode):
+def run_addresses(tally, words, mode, kind=Server):
     """The cases on who is granted which port, with a server that has one."""
-    with Server(words, mode, ports=1) as server:
+    with kind(words, mode, ports=1) as server:
         tally.case(f"{mode} two addresses on one port", share_a_port, server)
         tally.case(f"{mode} an address that holds every port", fill_the_range, server)

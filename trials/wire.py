@@ -97,7 +97,7 @@ class Session:
         self.send(line)
         return self.expect(*codes)
 
-    def login(self, name="ann", password="ann@example.org"):
+    def login(self, name="ann", password="secret"):
         self.tell(f"USER {name}", 331)
         self.tell(f"PASS {password}", 230)
         return self
