@@ -55,6 +55,16 @@ def is_refused(session, line, code, data=b""):
     holds(got[0] == code and not got[2], f"{line} is answered {got[0]} {got[1]} with {len(got[2])} bytes, and {code} is due")
 
 
+def wait_for(fact, seconds=10):
+    """Whether it holds within some seconds."""
+    until = time.monotonic() + seconds
+    while not fact():
+        if time.monotonic() > until:
+            return False
+        time.sleep(0.02)
+    return True
+
+
 def names_in(session, line="NLST"):
     lines = session.fetch(line).split(b"\r\n")
     holds(lines.pop() == b"", "a listing without CR LF at its end")
@@ -140,10 +150,7 @@ def has_so_many_sessions(words, mode):
         others = [let_in(gateway, source=ELSEWHERE) for _ in range(2)]
         holds(greeting(gateway, "127.0.0.3") == 421, "a sixth session of all is greeted")
         first.pop().quit()
-        until = time.monotonic() + 10
-        while greeting(gateway, "127.0.0.3") != 220 and time.monotonic() < until:
-            time.sleep(0.1)
-        holds(greeting(gateway, "127.0.0.3") == 220, "no room behind the end of a session")
+        holds(wait_for(lambda: greeting(gateway, "127.0.0.3") == 220), "no room behind the end of a session")
         for session in *first, *others:
             session.tell("NOOP", 200)
             session.close()
@@ -208,21 +215,18 @@ def has_a_home_for_each(words, mode):
                 same_tree(home, {"own": home.name.encode() * 1000})
 
 
-def is_of_whoever_logged_in_last(words, mode):
-    """A session that logs in anew, by another name, has the home and the rights of that name."""
+def keeps_a_session_to_its_login(words, mode):
+    """A session that is logged in does not become another user's."""
     with Gateway(words, mode) as gateway:
         mine = gateway.folder / "mine"
         mine.mkdir()
         (mine / "own").write_bytes(b"mine")
-        (gateway.home / "own").write_bytes(b"of the other")
-        users = [user_line(WRITER, mine), user_line(READER, gateway.home, "ro")]
-        with Gateway(words, mode, users=users) as other, let_in(other) as session:
+        users = [user_line(READER, mine, "ro"), user_line(WRITER, gateway.home)]
+        with Gateway(words, mode, users=users) as other, let_in(other, READER) as session:
+            session.tell(f"USER {WRITER}", 503)
+            session.tell(f"PASS {PASSWORD}", 530)
             same(session.fetch("RETR own"), b"mine")
-            code, _ = answer(session, READER, PASSWORD)
-            if code == 230:
-                same(session.fetch("RETR own"), b"of the other")
-                is_refused(session, "STOR own", 550, b"x")
-            same_tree(gateway.home, {"own": b"of the other"})
+            is_refused(session, "STOR own", 550, b"x")
 
 
 USERS = [
@@ -235,7 +239,7 @@ USERS = [
     keeps_a_reader_from_writing,
     stays_below_the_root,
     has_a_home_for_each,
-    is_of_whoever_logged_in_last,
+    keeps_a_session_to_its_login,
 ]
 
 

@@ -2,13 +2,12 @@
 
 import os
 import socket
-import time
 import unicodedata
 
 import wire
 from cases import body, holds, same
 from gateways import Gateway, same_tree, tree
-from homes import DATA, is_refused, let_in, names_in, outcome
+from homes import DATA, is_refused, let_in, names_in, outcome, wait_for
 
 NAMES = int(os.environ.get("GATEWAY_NAMES", "100000"))
 LONGEST = 255
@@ -56,11 +55,16 @@ def keeps_names_as_they_are(words, mode):
 
 
 def refuses_names_that_no_file_has(words, mode):
-    with Gateway(words, mode) as gateway, let_in(gateway) as session:
-        for name in b"x" * (LONGEST + 1), b"not text \xff\xfe", b"a\0b", b"\xc3", b"d/" + b"y" * (LONGEST + 1):
-            code, text, _ = outcome(session, b"STOR " + name + b"\r\n", b"x")
-            holds(code in (501, 550, 553), f"STOR {name[:20]} is answered {code} {text}")
-            session.tell("ABOR", 226)
+    """Names that are too long or have a NUL; a line that is no text ends its session, as every server of this repository does."""
+    with Gateway(words, mode) as gateway:
+        with let_in(gateway) as session:
+            for name in b"x" * (LONGEST + 1), b"a\0b", b"none/x", b"none/" + b"y" * (LONGEST + 1):
+                code, text, _ = outcome(session, b"STOR " + name + b"\r\n", b"x")
+                holds(code in (550, 553), f"STOR {name[:20]} is answered {code} {text}")
+        for name in b"\xc3", b"a\xfeb", b"\xc0\xaf":
+            with let_in(gateway) as session:
+                code, text, _ = outcome(session, b"STOR " + name + b"\r\n", b"x")
+                holds(code == 500, f"STOR {name} is answered {code} {text}")
         same_tree(gateway.home, {})
 
 
@@ -163,15 +167,6 @@ def takes_one_upload_of_a_path_at_a_time(words, mode):
             same((gateway.home / "one").read_bytes(), DATA)
             second.store("STOR one", b"other")
         same_tree(gateway.home, {"one": b"other", "two": DATA})
-
-
-def wait_for(fact, seconds=10):
-    until = time.monotonic() + seconds
-    while not fact():
-        if time.monotonic() > until:
-            return False
-        time.sleep(0.02)
-    return True
 
 
 def reads_a_file_that_is_replaced(words, mode):

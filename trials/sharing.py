@@ -10,8 +10,7 @@ import sessions
 import wire
 from cases import holds, same
 from gateways import PASSWORD, WRITER, Gateway, HomePlace, same_tree
-from homes import DATA, is_refused, let_in
-from places import wait_for
+from homes import DATA, is_refused, let_in, wait_for
 from programs import HOST, TOP, Program, Proxy
 
 
