@@ -86,7 +86,8 @@ def main():
     endings.run(tally, words, "pooled", endings.STARTS)
     for mode in MODES:
         tally.group(mode, run_direct, words, mode)
-        tally.group(f"{mode} with one port", sessions.run_addresses, words, mode, Gateway)
+        if mode != "legacy":
+            tally.group(f"{mode} with one port", sessions.run_addresses, words, mode, Gateway)
         for cases in homes, places, disks, endings:
             tally.group(f"{mode} {cases.__name__}", cases.run, words, mode)
     run_behind_haproxy(tally, words)

@@ -61,10 +61,11 @@ def lay_out(folder, files):
 class Task:
     """What is due behind a task: files of the client, what changes in the directory, or words that the client shows."""
 
-    def __init__(self, got=None, put=None, shows=(), hides=()):
-        self.got, self.put, self.shows, self.hides = got or {}, put or {}, shows, hides
+    def __init__(self, got=None, put=None, shows=(), hides=(), fails=False):
+        self.got, self.put, self.shows, self.hides, self.fails = got or {}, put or {}, shows, hides, fails
 
-    def check(self, own, home, out):
+    def check(self, own, home, out, status):
+        holds(not self.fails or status != 0, f"the client says that it did it: {out}")
         for name, data in self.got.items():
             if data is not None:
                 holds((own / name).exists(), f"the client has no {name}: {out}")
@@ -102,6 +103,7 @@ TASKS = {
     "put below": Task(put={"sub/d2/s.txt": SMALL}),
     "resumed put": Task(put={"part.bin": BIG}),
     "append": Task(put={"a.txt": SMALL + SMALL}),
+    "get that is refused": Task(fails=True),
     "way down and up": Task(shows=["a.txt", "hollow"], hides=["d3"]),
 }
 
@@ -314,10 +316,8 @@ def wput():
 
 
 def axel():
-    return {
-        "get": "axel -q -n 1 -o {own}/got " + URL + "/a.txt",
-        "get of a big file": "axel -q -n 1 -o {own}/got " + URL + "/big.bin",
-    }
+    """It asks for SIZE, and else for a LIST of the file, which is of directories here."""
+    return {"get that is refused": "axel -q -n 1 -o {own}/got " + URL + "/a.txt"}
 
 
 CLIENTS = {made.__name__: made() for made in (curl, wget, lftp, ncftp, tnftp, inetutils, rclone, ftplib, busybox, perl, php, wput, axel)}
@@ -342,7 +342,7 @@ def run_task(place, told, task):
             env={"PATH": os.environ["PATH"], "HOME": str(place.folder), "LC_ALL": "C.UTF-8"},
             check=False,
         )
-    TASKS[task].check(own, place.home, done.stdout.decode("utf-8", "replace"))
+    TASKS[task].check(own, place.home, done.stdout.decode("utf-8", "replace"), done.returncode)
 
 
 def filled(text, words):
