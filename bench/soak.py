@@ -145,9 +145,14 @@ def cut_off(client):
 
 
 def aborted(client):
-    name, session = client.known(), client.at_work()
+    """A download is aborted once its first byte came: a connection that no transfer has yet might be taken for the next one."""
+    upload(client)
+    name = max(client.files, key=lambda name: len(client.files[name]))
+    session = client.at_work()
     stream = session.link()
     session.tell(f"RETR {name}", 150)
+    if client.files[name]:
+        client.compare(stream.recv(1), client.files[name][:1], "the first byte")
     session.send("ABOR")
     session.expect(226, 426)
     session.expect(226)
