@@ -1,5 +1,6 @@
 """The cases on how the gateway starts, is told things, and ends, which trials/gateway.py runs."""
 
+import calendar
 import hashlib
 import os
 import shlex
@@ -344,6 +345,33 @@ def two_at_once(gateway, home, budget):
     (home / "three").unlink(missing_ok=True)
 
 
+def logs_each_transfer(command, mode):
+    """A line of wu-ftpd's form for each file that was sent or received, whole or not, in their order, with the moment of its end."""
+    with Gateway(command, mode) as other:
+        log = other.folder / "transfers.log"
+        began = time.time()
+        with Gateway(command, mode, keys={"xferlog_file": log}) as gateway:
+            with let_in(gateway, source="127.0.0.7") as session:
+                session.store("STOR a name", DATA)
+                session.fetch("RETR a name")
+                session.fetch("RETR a name", 1000)
+                outcome(session, "RETR none")
+                session.fetch("NLST")
+                session.quit()
+            holds(gateway.tells("stop")[0] == 0, "stop fails")
+        lines = [line.split() for line in log.read_text().splitlines()]
+        due = [(len(DATA), "/a_name", "i", "c"), (len(DATA), "/a_name", "o", "c"), (len(DATA) - 1000, "/a_name", "o", "c"), (0, "/none", "o", "i")]
+        holds(len(lines) == len(due), f"{len(lines)} lines of {len(due)}: {lines}")
+        for line, (length, path, way, end) in zip(lines, due):
+            holds(began - 1 <= moment(line) <= time.time() + 1, f"another moment: {line}")
+            fields = ["127.0.0.7", str(length), path, "b", "_", way, "r", WRITER, "ftp", "0", "*", end]
+            holds(line[6:] == fields, f"{line[6:]}, and {fields} is due")
+
+
+def moment(line):
+    return calendar.timegm(time.strptime(" ".join(line[:5]), "%a %b %d %H:%M:%S %Y"))
+
+
 STARTS = [refuses_what_is_no_command, tells_of_itself, says_what_is_wrong_with_its_files, leaves_a_file_at_its_socket_alone]
 STARTS += [does_not_take_the_socket_of_another, is_tried_with_one_command, makes_hashes]
 ENDS = [
@@ -356,6 +384,7 @@ ENDS = [
     tells_how_it_goes,
     starts_again_where_it_was_killed,
     keeps_a_budget,
+    logs_each_transfer,
 ]
 
 
