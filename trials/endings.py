@@ -15,7 +15,7 @@ from pathlib import Path
 import wire
 from cases import body, holds, same
 from gateways import READER, ROUNDS, WRITER, Gateway, hash_of, same_tree, user_line
-from homes import DATA, greeting, is_let_in, let_in, outcome
+from homes import DATA, greeting, is_let_in, is_refused, let_in, outcome, wait_for
 from programs import HOST, OPENING, TOP, Program, free_ports
 
 USAGE = 64
@@ -227,9 +227,10 @@ def hears_others_beside_one_who_says_nothing(command, mode):
 
 
 def takes_in_users_anew(command, mode):
-    """A reload has the users of the file: a new password counts, an old one and a name that is gone do not; sessions go on."""
+    """A reload has the users of the file: a new password counts, an old one and a name that is gone do not; sessions go on,
+    and those of a name that is gone find nothing any more."""
     with Gateway(command, mode) as gateway:
-        with let_in(gateway) as session:
+        with let_in(gateway) as session, let_in(gateway, READER) as leaver:
             gateway.write_users([user_line(WRITER, gateway.home, secret=hash_of("other")), user_line("new", gateway.home)])
             holds(is_let_in(gateway, WRITER), "the file counts before a reload")
             holds(gateway.tells("reload")[0] == 0, "reload fails")
@@ -239,6 +240,7 @@ def takes_in_users_anew(command, mode):
             holds(is_let_in(gateway, "new"), "a new name is refused")
             session.store("STOR kept", DATA)
             same(session.fetch("RETR kept"), DATA)
+            is_refused(leaver, "RETR kept", 550)
         with let_in(gateway, "new") as session:
             same(session.fetch("RETR kept"), DATA)
 
@@ -255,13 +257,36 @@ def keeps_its_users_where_the_file_is_wrong(command, mode):
         holds(not is_let_in(gateway, WRITER, "wrong"), "a wrong password is let in")
 
 
+def figures(gateway):
+    """What `status` tells, by its first words."""
+    status, text = gateway.tells("status")
+    holds(status == 0, f"status is answered {status} {text!r}")
+    return {line.split()[0]: int(line.split()[1]) for line in text.splitlines()}
+
+
 def tells_how_it_goes(command, mode):
-    """`status` tells counts that follow what is done."""
+    """`status` counts the users, the sessions that are logged in, and the transfers that ended well."""
     with Gateway(command, mode) as gateway:
-        status, before = gateway.tells("status")
-        holds(status == 0 and before, f"status is answered {status} {before!r}")
-        with let_in(gateway):
-            holds(gateway.tells("status")[1] != before, "a session changes nothing")
+        due = {"users": 4, "sessions": 0, "downloads": 0, "uploads": 0}
+        shows_figures(gateway, due)
+        with let_in(gateway) as session, let_in(gateway, READER) as reader:
+            shows_figures(gateway, {**due, "sessions": 2})
+            session.store("STOR one", DATA)
+            session.store("APPE one", DATA)
+            reader.fetch("RETR one")
+            outcome(reader, "STOR one", DATA)
+            outcome(reader, "RETR none")
+            shows_figures(gateway, {**due, "sessions": 2, "downloads": 1, "uploads": 2})
+            reader.quit()
+            shows_figures(gateway, {**due, "sessions": 1, "downloads": 1, "uploads": 2})
+        holds(figures(gateway)["uptime"] < 60, "it serves for longer than it runs")
+
+
+def shows_figures(gateway, due):
+    """Listeners are told behind what they are told of, so a figure may come a little later."""
+    wait_for(lambda: due.items() <= figures(gateway).items())
+    got = figures(gateway)
+    holds(due.items() <= got.items(), f"status tells {got}, and {due} is due")
 
 
 def starts_again_where_it_was_killed(command, mode):
