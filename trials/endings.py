@@ -3,20 +3,17 @@
 import calendar
 import hashlib
 import os
-import shlex
 import signal
 import socket
 import subprocess
-import tempfile
 import threading
 import time
-from pathlib import Path
 
 import wire
 from cases import body, holds, same
-from gateways import READER, ROUNDS, WRITER, Gateway, hash_of, same_tree, user_line
+from gateways import READER, WRITER, Gateway, hash_of, same_tree, user_line
 from homes import DATA, greeting, is_let_in, is_refused, let_in, outcome, wait_for
-from programs import HOST, OPENING, TOP, Program, free_ports
+from programs import HOST, OPENING
 
 USAGE = 64
 # More than the buffers between a client and a server hold.
@@ -125,23 +122,6 @@ def does_not_take_the_socket_of_another(command, mode):
             holds("control socket" in str(why), f"it ends by {why}")
         holds(is_let_in(gateway, WRITER), "the first gateway does not go on")
         holds(gateway.tells("stop")[0] == 0, "the first gateway does not hear")
-
-
-def is_tried_with_one_command(command, _):
-    """The example serves a directory to a user with a password of its own, and the lines that it writes work as they stand."""
-    port = free_ports(1)
-    with tempfile.TemporaryDirectory(prefix="celuviamo-") as folder:
-        home = Path(folder) / "home"
-        (Path(folder) / "FILE").write_bytes(DATA)
-        words = {"FTP_GATEWAY": shlex.join(command), "GATEWAY_ROUNDS": str(ROUNDS)}
-        with Program([str(TOP / "examples" / "try_gateway"), str(home), str(port)], **words) as program:
-            program.wait_for(port)
-            put, get = [line.strip() for line in program.text().splitlines() if line.startswith("    curl ")]
-            for line in put, get + " -o got":
-                done = subprocess.run(shlex.split(line), cwd=folder, capture_output=True, timeout=OPENING, check=False)
-                holds(done.returncode == 0, f"{line} ends with {done.returncode}: {done.stderr.decode()}")
-        same((home / "FILE").read_bytes(), DATA, "those of the directory")
-        same((Path(folder) / "got").read_bytes(), DATA, "those of the client")
 
 
 class Asking:
@@ -398,7 +378,7 @@ def moment(line):
 
 
 STARTS = [refuses_what_is_no_command, tells_of_itself, says_what_is_wrong_with_its_files, leaves_a_file_at_its_socket_alone]
-STARTS += [does_not_take_the_socket_of_another, is_tried_with_one_command, makes_hashes]
+STARTS += [does_not_take_the_socket_of_another, makes_hashes]
 ENDS = [
     ends_at_once_without_work,
     ends_behind_its_transfers,

@@ -25,6 +25,7 @@ import endings  # noqa: E402
 import homes  # noqa: E402
 import interrupts  # noqa: E402
 import operations  # noqa: E402
+import packaged  # noqa: E402
 import places  # noqa: E402
 import sessions  # noqa: E402
 import sharing  # noqa: E402
@@ -66,6 +67,7 @@ def run_front(tally, words):
         tasks.run(tally, "pooled", place, clients=["ftplib"])
     for case in FRONT:
         tally.case(f"pooled the gateway {case.__name__.replace('_', ' ')}", case, words, "pooled")
+    tally.case("the gateway is tried with one command", packaged.is_tried_with_one_command, words, "pooled")
     endings.run(tally, words, "pooled", [endings.says_what_is_wrong_with_its_files, endings.ends_at_once_without_work])
     return tally.end()
 
@@ -83,6 +85,7 @@ def main():
     words, tally = begin("the FTP clients of this machine against the gateway", "ftp_gateway")
     if tally.is_front:
         return run_front(tally, words)
+    packaged.run(tally, words)
     endings.run(tally, words, "pooled", endings.STARTS)
     for mode in MODES:
         tally.group(mode, run_direct, words, mode)
