@@ -128,26 +128,30 @@ def leaves_no_threads(server):
         moves_a_file(session, "of-one-who-came-later")
 
 
-def run_crowd(tally, words, mode):
+def run_crowd(tally, words, mode, kind=Server):
     name = f"{mode} a client leaves no threads"
     if tally.only in name:
-        with Server(words, mode) as server:
+        with kind(words, mode) as server:
             tally.case(name, leaves_no_threads, server)
 
 
-def run_few(tally, words, mode):
+def run_few(tally, words, mode, kind=Server):
     name = f"{mode} a client takes all descriptors"
     if tally.only in name:
-        with Server(words, mode, ports=10, descriptors=FEW) as server:
+        with kind(words, mode, ports=10, descriptors=FEW) as server:
             tally.case(name, takes_all_descriptors, server)
+
+
+def run(tally, words, kind=Server):
+    for mode in abuses.EVERY:
+        tally.group(f"{mode} abused", run_mode, words, mode, kind)
+        tally.group(f"{mode} with few descriptors", run_few, words, mode, kind)
+    tally.group("a crowd", run_crowd, words, "pooled", kind)
 
 
 def main():
     words, tally = begin("abuses of the server")
-    for mode in abuses.EVERY:
-        tally.group(mode, run_mode, words, mode)
-        tally.group(f"{mode} with few descriptors", run_few, words, mode)
-    tally.group("a crowd", run_crowd, words, "pooled")
+    run(tally, words)
     return tally.end()
 
 

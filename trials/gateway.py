@@ -18,10 +18,10 @@ import sys
 
 sys.dont_write_bytecode = True
 import abuse  # noqa: E402
-import abuses  # noqa: E402
 import aborts  # noqa: E402
 import disks  # noqa: E402
 import endings  # noqa: E402
+import health  # noqa: E402
 import homes  # noqa: E402
 import interrupts  # noqa: E402
 import operations  # noqa: E402
@@ -32,7 +32,7 @@ import sharing  # noqa: E402
 import tasks  # noqa: E402
 from cases import begin  # noqa: E402
 from gateways import Gateway, HomePlace  # noqa: E402
-from programs import Proxy  # noqa: E402
+from programs import HEADER_1, HEADER_2, Proxy  # noqa: E402
 
 MODES = "legacy", "pooled", "proxy"
 # What half a minute has: who is let in and where to, and that what is there stays.
@@ -56,9 +56,9 @@ def run_direct(tally, words, mode):
         run_clients(tally, mode, gateway, gateway.door())
 
 
-def run_proxied(tally, words):
-    with Gateway(words, "proxy") as gateway, Proxy([gateway]) as proxy:
-        run_clients(tally, "haproxy", gateway, proxy.door(), relayed=True)
+def run_proxied(tally, words, name, header):
+    with Gateway(words, "proxy") as gateway, Proxy([gateway], header) as proxy:
+        run_clients(tally, name, gateway, proxy.door(), relayed=True)
 
 
 def run_front(tally, words):
@@ -74,9 +74,11 @@ def run_front(tally, words):
 
 def run_behind_haproxy(tally, words):
     if shutil.which("haproxy"):
-        tally.group("haproxy", run_proxied, words)
+        for header, name in (HEADER_2, "haproxy"), (HEADER_1, "haproxy, version 1"):
+            tally.group(name, run_proxied, words, name, header)
         tally.group("two gateways", sharing.run, words)
         tally.group("TLS", sharing.run_tls, words)
+        tally.group("health checks", health.run, words, Gateway)
     else:
         tally.skip("haproxy", "it is not installed")
 
@@ -94,8 +96,7 @@ def main():
         for cases in homes, places, disks, endings:
             tally.group(f"{mode} {cases.__name__}", cases.run, words, mode)
     run_behind_haproxy(tally, words)
-    for mode in abuses.EVERY:
-        tally.group(f"{mode} abused", abuse.run_mode, words, mode, Gateway)
+    abuse.run(tally, words, Gateway)
     return tally.end()
 
 

@@ -87,8 +87,8 @@ def is_closed(server):
             same(stream.recv(1), b"", "those behind a header that is local")
 
 
-def run(tally, words):
-    with Server(words, "proxy") as server:
+def run(tally, words, kind=Server):
+    with kind(words, "proxy") as server:
         tally.case("health checks, one whose balancer stays", is_closed, server)
         tally.case("health checks leave nothing behind", leave_nothing, server)
         tally.runs_on("health checks", server)

@@ -320,7 +320,17 @@ def axel():
     return {"get that is refused": "axel -q -n 1 -o {own}/got " + URL + "/a.txt"}
 
 
-CLIENTS = {made.__name__: made() for made in (curl, wget, lftp, ncftp, tnftp, inetutils, rclone, ftplib, busybox, perl, php, wput, axel)}
+def aria2c():
+    """It stops where PWD is refused."""
+    return {"get that is refused": "aria2c -q --timeout=8 --connect-timeout=8 -m 1 -d {own} -o got " + URL + "/a.txt"}
+
+
+def yafc():
+    """It lists and gets behind a PWD alone."""
+    return {"put": ("yafc -q " + URL, "lcd {own}\nput s.txt\nquit\n")}
+
+
+CLIENTS = {made.__name__: made() for made in (curl, wget, lftp, ncftp, tnftp, inetutils, rclone, ftplib, busybox, perl, php, wput, axel, aria2c, yafc)}
 INSTALLED = {"ncftp": "ncftpput", "inetutils": "inetutils-ftp", "ftplib": "sh"}
 
 
