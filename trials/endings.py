@@ -248,6 +248,7 @@ def tells_how_it_goes(command, mode):
     """`status` counts the users, the sessions that are logged in, and the transfers that ended well."""
     with Gateway(command, mode) as gateway:
         due = {"users": 4, "sessions": 0, "downloads": 0, "uploads": 0}
+        holds(greeting(gateway) == 220, "a session that leaves without a login is not greeted")
         shows_figures(gateway, due)
         with let_in(gateway) as session, let_in(gateway, READER) as reader:
             shows_figures(gateway, {**due, "sessions": 2})
