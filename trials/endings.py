@@ -9,9 +9,10 @@ import subprocess
 import threading
 import time
 
+import starting
 import wire
 from cases import body, holds, same
-from gateways import READER, WRITER, Gateway, hash_of, same_tree, user_line
+from gateways import READER, WRITER, Gateway, hash_of, same_tree, toml_of, user_line
 from homes import DATA, greeting, is_let_in, is_refused, let_in, outcome, wait_for
 from programs import HOST, OPENING
 
@@ -86,6 +87,28 @@ def says_what_is_wrong_with_its_files(command, mode):
         holds(status == 1 and "line 2" in text, f"a name that comes twice is answered {status} {text}")
         status, text = run_words(command, "check", str(gateway.folder / "none.toml"))
         holds(status == 1 and "none.toml" in text, f"no file is answered {status} {text}")
+
+
+def says_why_it_does_not_serve(command, mode):
+    """What a key takes, and what no server can be made of, or not now."""
+    with Gateway(command, mode) as gateway, socket.create_server((HOST, 0)) as taken:
+        port = taken.getsockname()[1]
+        for keys, why in [
+            ({"pasv_min_port": 20099, "pasv_max_port": 20000}, "empty passive port range"),
+            ({"listen": "nowhere"}, "could not parse address"),
+            ({"listen": "localhost:2121"}, "could not parse address"),
+            ({"listen": "[::1]:2121"}, "IPv6 outside legacy mode"),
+            ({"listen": f"{HOST}:{port}"}, "io error"),
+            ({"listen": f"{HOST}:0", "pasv_min_port": port, "pasv_max_port": port}, "io error"),
+        ]:
+            own = {"users_file": gateway.folder / "users", "mode": "pooled", **keys}
+            (gateway.folder / "other.toml").write_text(toml_of(own))
+            status, text = run_words(command, "serve", str(gateway.folder / "other.toml"))
+            holds(status == 1 and why in text, f"{keys} are answered {status} {text}")
+
+
+def shows_no_port_at_ipv6(command, _):
+    starting.shows_no_port_at_ipv6(command, Gateway)
 
 
 def makes_hashes(command, _):
@@ -379,7 +402,7 @@ def moment(line):
 
 
 STARTS = [refuses_what_is_no_command, tells_of_itself, says_what_is_wrong_with_its_files, leaves_a_file_at_its_socket_alone]
-STARTS += [does_not_take_the_socket_of_another, makes_hashes]
+STARTS += [does_not_take_the_socket_of_another, says_why_it_does_not_serve, shows_no_port_at_ipv6, makes_hashes]
 ENDS = [
     ends_at_once_without_work,
     ends_behind_its_transfers,

@@ -80,14 +80,14 @@ def ends_where_a_port_is_taken(command):
         same(str(answer), str((1, "server error: io error\n")))
 
 
-def shows_no_port_at_ipv6(command):
+def shows_no_port_at_ipv6(command, kind=Server):
     """In legacy mode a session comes by IPv6, and has no address of version 4 to show."""
     try:
         with socket.create_server(("::1", 0), family=socket.AF_INET6) as probe:
             port = probe.getsockname()[1]
     except OSError as why:
         raise Skipped(f"no IPv6 here: {why}") from why
-    with Server(command, "legacy", at="[::1]", port=port):
+    with kind(command, "legacy", at="[::1]", port=port):
         with wire.Session(wire.Door("::1", port), "::1").login() as session:
             same(session.tell("PASV", 425), "No data connection established")
             session.tell("NOOP", 200)
