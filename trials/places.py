@@ -151,6 +151,32 @@ def opens_files_alone(words, mode):
             same(session.fetch("NLST"), b"", "the names")
 
 
+def tells_files_from_directories(words, mode):
+    """Neither is taken for the other, whatever stands behind its name, and what is missing is neither."""
+    with Gateway(words, mode) as gateway, let_in(gateway) as session:
+        (gateway.home / "sub/in").mkdir(parents=True)
+        (gateway.home / "file").write_bytes(DATA)
+        before = tree(gateway.home)
+        holds([line[:1] for line in names_in(session, "LIST")] == [b"-", b"d"], "LIST tells other kinds")
+        holds([line.partition(b";")[0] for line in names_in(session, "MLSD")] == [b"type=file", b"type=dir"], "MLSD tells other kinds")
+        for path in "sub", "sub/", "/sub/.", ".", "/", "..", "sub/in/..", "none", "none/file", "file/none", "file/..x":
+            is_refused(session, f"RETR {path}", 550)
+        for path in "sub", "sub/", "/sub/.", ".", "/", "..", "none/file", "file/none":
+            for word in "STOR", "APPE":
+                code, text, _ = outcome(session, f"{word} {path}", b"x")
+                holds(code in (550, 553), f"{word} {path} is answered {code} {text}")
+        for path in "file", "none", "file/none", "none/..x":
+            holds(session.ask(f"CWD {path}")[0] == 550, f"CWD {path} is taken")
+            for word in "LIST", "NLST", "MLSD":
+                is_refused(session, f"{word} {path}", 550)
+        for path in "sub/", "/sub/./in/..", "sub//in/../../sub":
+            session.tell(f"CWD {path}", 250)
+            same(names_in(session), [b"in"], f"the names of {path}")
+            session.tell("CWD /", 250)
+        session.store("STOR sub//./in/../new", DATA)
+        same_tree(gateway.home, {**before, "sub/new": DATA})
+
+
 def takes_one_upload_of_a_path_at_a_time(words, mode):
     with Gateway(words, mode) as gateway:
         first, second = let_in(gateway), let_in(gateway)
@@ -220,6 +246,7 @@ CASES = [
     follows_no_link,
     serves_a_root_that_is_a_link,
     opens_files_alone,
+    tells_files_from_directories,
     takes_one_upload_of_a_path_at_a_time,
     reads_a_file_that_is_replaced,
     lists_a_large_directory,
