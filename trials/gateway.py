@@ -35,8 +35,15 @@ from gateways import Gateway, HomePlace  # noqa: E402
 from programs import HEADER_1, HEADER_2, Proxy  # noqa: E402
 
 MODES = "legacy", "pooled", "proxy"
-# What half a minute has: who is let in and where to, and that what is there stays.
+# What half a minute has: who is let in and where to, that what is there stays, and that the gateway hears.
 FRONT = [homes.lets_in_by_the_right_password_alone, homes.keeps_a_reader_from_writing, homes.stays_below_the_root, places.follows_no_link]
+
+FRONT_ENDINGS = [
+    endings.says_what_is_wrong_with_its_files,
+    endings.takes_in_users_anew,
+    endings.keeps_a_budget,
+    endings.ends_at_once_without_work,
+]
 
 
 def run_clients(tally, name, gateway, door, relayed=False):
@@ -68,7 +75,7 @@ def run_front(tally, words):
     for case in FRONT:
         tally.case(f"pooled the gateway {case.__name__.replace('_', ' ')}", case, words, "pooled")
     tally.case("the gateway is tried with one command", packaged.is_tried_with_one_command, words, "pooled")
-    endings.run(tally, words, "pooled", [endings.says_what_is_wrong_with_its_files, endings.ends_at_once_without_work])
+    endings.run(tally, words, "pooled", FRONT_ENDINGS)
     return tally.end()
 
 
