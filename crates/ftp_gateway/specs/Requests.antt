@@ -11,8 +11,8 @@ request_text Reload = codes "reload\n"
 request_text Status = codes "status\n"
 
 -- what a line asks for
-abbrev pub request_of : List ℕ → Option Request
-request_of line =
+abbrev pub line_request : List ℕ → Option Request
+line_request line =
     if bytes_eq line (request_text Stop) then Some Stop else
     (if bytes_eq line (request_text Reload) then Some Reload else
     (if bytes_eq line (request_text Status) then Some Status else None))

@@ -1,7 +1,7 @@
 //! What a running gateway is asked for.
 
 ghost use Rattle.std.specs.Prelude.{◌≡◌};
-ghost use Rattle.ftp_gateway.specs.Requests.{request_text, request_of};
+ghost use Rattle.ftp_gateway.specs.Requests.{request_text, line_request};
 
 /// What a running gateway is asked for at its control socket.
 #[derive(Clone, Copy, Debug, PartialEq, Eq)]
@@ -29,10 +29,10 @@ impl Request {
     ///
     /// # Proved
     ///
-    /// - A line asks for what it is the text of, and for nothing else (`request_text`, `request_of` in
+    /// - A line asks for what it is the text of, and for nothing else (`request_text`, `line_request` in
     ///   `ftp_gateway/specs/Requests.antt`).
     pub fn of(line: &[u8]) -> Option<Request>
-        ensures { result ≡ request_of line.now }
+        ensures { result ≡ line_request line.now }
     {
         if line == Request::Stop.text() {
             Some(Request::Stop)
