@@ -15,4 +15,4 @@ pub spawn_on-requires-send-D : goal.spawn_on-requires-send-D
 spawn_on-requires-send-D g c κs within = param_send 4 _ c.requires.1.1.1.1.1.1.1.1.1.1.1.1.4
 
 pub spawn_on-requires-send-D-Store : goal.spawn_on-requires-send-D-Store
-spawn_on-requires-send-D-Store g c κs within = param_send 5 _ c.requires.1.1.1.1.1.1.1.1.1.1.1.1.5
+spawn_on-requires-send-D-Store g c κs within = param_send 6 _ c.requires.1.1.1.1.1.1.1.1.1.1.1.1.5
