@@ -39,8 +39,10 @@ def tells_that_the_disk_is_full(words, mode):
             for line in "STOR large", "APPE large", "STOR other":
                 code, text, _ = outcome(session, line, data)
                 holds(code == 452, f"{line} on a full disk is answered {code} {text}")
-            got = (gateway.home / "large").read_bytes()
+                if line == "STOR large":
+                    got = (gateway.home / "large").read_bytes()
             same(got, data[: len(got)], "the part that fitted")
+            same((gateway.home / "large").read_bytes()[: len(got)], got, "what stood before an append")
             holds(len(got) > ROOM // 2, f"{len(got)} bytes fitted")
             same(session.fetch("RETR kept"), DATA)
             (gateway.home / "large").unlink()

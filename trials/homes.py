@@ -92,16 +92,25 @@ def lets_in_by_the_right_password_alone(words, mode):
 
 
 def takes_as_long_for_a_name_that_nobody_has(words, mode):
+    rounds = SLOW_ROUNDS
+    took = times_with(rounds, words, mode)
+    while took[WRITER] < 0.02:
+        rounds *= 10
+        took = times_with(rounds, words, mode)
+    ratio = took["nobody"] / took[WRITER]
+    holds(0.5 < ratio < 2, f"a name that nobody has takes {ratio:.2f} of the time of one that somebody has")
+
+
+def times_with(rounds, words, mode):
+    """How long wrong passwords of a user and of nobody take, where a hash has so many rounds."""
     with Gateway(words, mode) as gateway:
-        slow = user_line(WRITER, gateway.home, secret=hash_of(PASSWORD, SLOW_ROUNDS))
+        slow = user_line(WRITER, gateway.home, secret=hash_of(PASSWORD, rounds))
         with Gateway(words, mode, home=gateway.home, users=[slow]) as other:
             took = {}
             for name in WRITER, "nobody":
                 with greeted(other) as session:
                     took[name] = min(time_of(session, name) for _ in range(5))
-        holds(took[WRITER] > 0.002, f"a password takes {took[WRITER]:.4f} s, too little to compare: raise GATEWAY_SLOW_ROUNDS")
-        ratio = took["nobody"] / took[WRITER]
-        holds(0.5 < ratio < 2, f"a name that nobody has takes {ratio:.2f} of the time of one that somebody has")
+            return took
 
 
 def time_of(session, name):

@@ -69,14 +69,17 @@ def is_stopped_by_a_signal_to_its_entry(command, _):
         holds(gateway.process.wait(20) == 0, f"it ends with {gateway.process.returncode}: {gateway.text()}")
 
 
+def is_let_in_after(seconds, gateway, name):
+    time.sleep(seconds)
+    return is_let_in(gateway, name)
+
+
 def is_read_anew_by_a_signal_to_its_entry(command, _):
     with Entered(command) as gateway:
         gateway.write_users([line.replace("ann:", "eve:") for line in gateway.usual_users()])
         os.kill(gateway.process.pid, signal.SIGHUP)
-        until = time.monotonic() + 10
-        while not is_let_in(gateway, "eve") and time.monotonic() < until:
-            time.sleep(0.2)
-        holds(is_let_in(gateway, "eve"), "a new name is refused")
+        # Five failed logins lock the address.
+        holds(any(is_let_in_after(4, gateway, "eve") for _ in range(4)), "a new name is refused")
         holds(not is_let_in(gateway, "ann"), "a name that is gone is let in")
 
 
