@@ -333,13 +333,15 @@ def dies_in_an_upload(gateway):
 
 
 def keeps_a_budget(command, mode):
-    """What a user's files have together is at most the budget; beyond it 552, and two uploads at once do not pass it."""
+    """What the files of a home have together is at most the smallest budget of its users; beyond it 552, and two uploads at once do
+    not pass it."""
     budget = 3 * len(DATA)
     with Gateway(command, mode) as gateway:
         home = gateway.folder / "bounded"
         home.mkdir()
         (home / "old").write_bytes(DATA)
-        with Gateway(command, mode, users=[user_line(WRITER, home, budget=str(budget))]) as other, let_in(other) as session:
+        users = [user_line(WRITER, home, budget=str(9 * budget)), user_line(READER, home, budget=str(budget))]
+        with Gateway(command, mode, users=users) as other, let_in(other) as session:
             session.store("STOR one", DATA)
             code, text, _ = outcome(session, "STOR two", DATA + DATA)
             holds(code == 552, f"an upload beyond the budget is answered {code} {text}")
