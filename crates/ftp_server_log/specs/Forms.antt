@@ -1,0 +1,140 @@
+-- The two forms of a line: one of its own, and that of wu-ftpd's xferlog, which tells files that were sent, received or removed.
+use Rattle.std.specs.Prelude.{ℕ, ◌+◌, ◌/◌, ◌==◌, ◌||◌, nat_le, List, [], ◌∷◌, ◌++◌, Option, Some, None, codes, map, if◌then◌else◌}
+use Rattle.std.specs.List.{flat_map}
+use Rattle.std.specs.Int.{w128, to_be_bytes}
+use Rattle.ftp_base.specs.declared.net.IpAddr.{IpAddr}
+use Rattle.ftp_base.specs.declared.net.IpAddr.TheVariants.{V4, V6}
+use Rattle.ftp_events.specs.declared.status.CommandWord.{CommandWord}
+use Rattle.ftp_events.specs.declared.status.CommandWord.TheVariants as command
+use Rattle.ftp_events.specs.Tallies.{saturated}
+use Rattle.ftp_text.specs.Fields.{dotted, escape_byte, field, hex_text, kind_text, number}
+use Rattle.ftp_server_log.specs.Calendar.{iso_text, ctime_text}
+use Rattle.ftp_server_log.specs.declared.line.LogForm.{LogForm}
+use Rattle.ftp_server_log.specs.declared.line.LogForm.TheVariants as form
+use Rattle.ftp_server_log.specs.declared.line.LogLine.{LogLine}
+use Rattle.ftp_server_log.specs.declared.line.LineWord.{LineWord}
+use Rattle.ftp_server_log.specs.declared.line.LineWord.TheVariants as word
+use Rattle.ftp_server_log.specs.declared.line.LineResult.{LineResult}
+use Rattle.ftp_server_log.specs.declared.line.LineResult.TheVariants as result
+
+-- ---- fields
+
+-- pairs of bytes in hexadecimal digits, with colons between them
+unfoldable pub colon_pairs : List ℕ → List ℕ
+colon_pairs (a ∷ b ∷ []) = hex_text (a ∷ b ∷ [])
+colon_pairs (a ∷ b ∷ bytes) = hex_text (a ∷ b ∷ []) ++ 58 ∷ colon_pairs bytes
+colon_pairs _ = []
+
+-- where a client is: four numbers joined by dots, or eight groups of four hexadecimal digits joined by colons
+abbrev pub client_text : IpAddr → List ℕ
+client_text (V4 ip) = dotted ip
+client_text (V6 ip) = colon_pairs (to_be_bytes w128 ip)
+
+-- a hyphen where it is not known
+abbrev pub maybe_client : Option IpAddr → List ℕ
+maybe_client None = codes "-"
+maybe_client (Some ip) = client_text ip
+
+-- a byte of a text that has no blank: printable ones but the backslash stand for themselves, each other behind a backslash and an x
+abbrev pub bare_byte : ℕ → List ℕ
+bare_byte b = if b == 32 then codes "\\x20" else escape_byte b
+
+-- a text without blanks
+abbrev pub bare : List ℕ → List ℕ
+bare text = flat_map bare_byte text
+
+-- a path, or a hyphen where there is none
+abbrev pub bare_path : List ℕ → List ℕ
+bare_path [] = codes "-"
+bare_path (b ∷ path) = bare (b ∷ path)
+
+-- a second path
+abbrev pub second_path : Option (List ℕ) → List ℕ
+second_path None = []
+second_path (Some path) = field (bare_path path)
+
+-- the words of commands
+abbrev pub command_text : CommandWord → List ℕ
+command_text command.Retr = codes "RETR"
+command_text command.Stor = codes "STOR"
+command_text command.Appe = codes "APPE"
+command_text command.List = codes "LIST"
+command_text command.Nlst = codes "NLST"
+command_text command.Mlsd = codes "MLSD"
+
+-- the words of lines
+abbrev pub line_word_text : LineWord → List ℕ
+line_word_text word.Connect = codes "connect"
+line_word_text word.Login = codes "login"
+line_word_text word.End = codes "end"
+line_word_text (word.Transfer None) = codes "-"
+line_word_text (word.Transfer (Some w)) = command_text w
+line_word_text word.Dele = codes "DELE"
+line_word_text word.Rmd = codes "RMD"
+line_word_text word.Mkd = codes "MKD"
+line_word_text word.Rnto = codes "RNTO"
+
+-- the words of results
+abbrev pub line_result_text : LineResult → List ℕ
+line_result_text result.Done = codes "ok"
+line_result_text result.Failed = codes "failed"
+line_result_text result.Locked = codes "locked"
+line_result_text result.Quit = codes "quit"
+line_result_text result.Closed = codes "closed"
+line_result_text result.TimedOut = codes "timeout"
+line_result_text result.Stopped = codes "stopped"
+line_result_text result.Aborted = codes "aborted"
+line_result_text (result.Refused kind) = kind_text kind
+line_result_text result.OutOfMemory = codes "memory"
+
+-- ---- the own form
+
+-- a line, at a moment in milliseconds since the first day of 1970
+abbrev pub own_line : ℕ → LogLine → List ℕ
+own_line moment l =
+    iso_text moment ++ number l.session ++ field (maybe_client l.client) ++ field (bare l.user)
+    ++ field (line_word_text l.word) ++ number l.bytes ++ number l.millis ++ field (line_result_text l.result)
+    ++ field (bare_path l.path) ++ second_path l.to ++ 10 ∷ []
+
+-- ---- xferlog
+
+-- blanks and control bytes become underscores
+abbrev pub xferlog_byte : ℕ → ℕ
+xferlog_byte b = if nat_le b 32 || (b == 127) then 95 else b
+
+-- the direction of a command: o for a file that is sent, i for one that is received
+abbrev pub command_direction : CommandWord → Option ℕ
+command_direction command.Retr = Some 111
+command_direction command.Stor = Some 105
+command_direction command.Appe = Some 105
+command_direction _ = None
+
+-- the direction of a line: d for a file that is removed
+abbrev pub direction_of : LineWord → Option ℕ
+direction_of (word.Transfer (Some w)) = command_direction w
+direction_of word.Dele = Some 100
+direction_of _ = None
+
+-- c where it is complete, and i where not
+abbrev pub completion_byte : LineResult → ℕ
+completion_byte result.Done = 99
+completion_byte _ = 105
+
+-- a line with this direction
+abbrev pub xferlog_with : ℕ → LogLine → ℕ → List ℕ
+xferlog_with moment l direction =
+    ctime_text moment ++ number (l.millis / 1000) ++ field (maybe_client l.client) ++ number l.bytes
+    ++ field (map xferlog_byte l.path) ++ codes " b _ " ++ direction ∷ codes " r " ++ map xferlog_byte l.user
+    ++ codes " ftp 0 * " ++ completion_byte l.result ∷ 10 ∷ []
+
+-- a line of a file that was sent, received or removed, and no other
+abbrev pub xferlog_by : Option ℕ → ℕ → LogLine → List ℕ
+xferlog_by None moment l = []
+xferlog_by (Some direction) moment l = xferlog_with moment l direction
+
+-- ---- both
+
+-- a line in a form, where the server started at a moment in milliseconds since the first day of 1970
+abbrev pub line_in : LogForm → ℕ → LogLine → List ℕ
+line_in form.Own start l = own_line (saturated (start + l.at)) l
+line_in form.Xferlog start l = xferlog_by (direction_of l.word) (saturated (start + l.at)) l
