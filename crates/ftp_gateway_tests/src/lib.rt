@@ -2,12 +2,14 @@
 //! directory, with ample memory.
 //!
 //! They stand here and not beside the code, since a crate with tests is proved twice. This one has no code but tests.
-//! Begin with `users` and `disk`.
+//! Begin with `users`, `disk` and `server_log`.
 #![tactic(auto)]
 
 #[cfg(test)]
 mod disk;
 #[cfg(test)]
 mod keys;
+#[cfg(test)]
+mod server_log;
 #[cfg(test)]
 mod users;

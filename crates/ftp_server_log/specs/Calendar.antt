@@ -57,7 +57,7 @@ abbrev pub date_text : Date → List ℕ
 date_text date = decimal date.year ++ 45 ∷ two date.month ++ 45 ∷ two date.day
 
 -- a moment with its milliseconds (ISO 8601)
-abbrev pub iso_text : ℕ → List ℕ
+unfoldable pub iso_text : ℕ → List ℕ
 iso_text moment =
     date_text (date_of (day_of moment)) ++ 84 ∷ clock_text moment ++ 46 ∷ (48 + moment / 100 % 10) ∷ two (moment % 100) ++ 90 ∷ []
 
@@ -82,7 +82,7 @@ abbrev pub padded_day : ℕ → List ℕ
 padded_day n = if nat_lt n 10 then 32 ∷ (48 + n) ∷ [] else two n
 
 -- a moment as C's ctime writes it
-abbrev pub ctime_text : ℕ → List ℕ
+unfoldable pub ctime_text : ℕ → List ℕ
 ctime_text moment =
     let date = date_of (day_of moment) in
     weekday_text (day_of moment) ++ 32 ∷ month_text date.month ++ 32 ∷ padded_day date.day ++ 32 ∷ clock_text moment ++ 32 ∷ decimal date.year

@@ -19,16 +19,14 @@ use Rattle.ftp_server_log.specs.declared.line.LineResult.TheVariants as result
 
 -- ---- fields
 
--- pairs of bytes in hexadecimal digits, with colons between them
-unfoldable pub colon_pairs : List ℕ → List ℕ
-colon_pairs (a ∷ b ∷ []) = hex_text (a ∷ b ∷ [])
-colon_pairs (a ∷ b ∷ bytes) = hex_text (a ∷ b ∷ []) ++ 58 ∷ colon_pairs bytes
-colon_pairs _ = []
+-- the digits of an IPv6 address
+unfoldable pub v6_digits : ℕ → List ℕ
+v6_digits ip = hex_text (to_be_bytes w128 ip)
 
--- where a client is: four numbers joined by dots, or eight groups of four hexadecimal digits joined by colons
+-- where a client is: four numbers joined by dots, or 32 hexadecimal digits in brackets
 abbrev pub client_text : IpAddr → List ℕ
 client_text (V4 ip) = dotted ip
-client_text (V6 ip) = colon_pairs (to_be_bytes w128 ip)
+client_text (V6 ip) = 91 ∷ v6_digits ip ++ 93 ∷ []
 
 -- a hyphen where it is not known
 abbrev pub maybe_client : Option IpAddr → List ℕ
@@ -89,12 +87,19 @@ line_result_text result.OutOfMemory = codes "memory"
 
 -- ---- the own form
 
+-- when, where and who
+unfoldable pub own_front : ℕ → LogLine → List ℕ
+own_front moment l =
+    iso_text moment ++ number l.session ++ field (maybe_client l.client) ++ field (bare l.user) ++ field (line_word_text l.word)
+
+-- how it came out
+unfoldable pub own_back : LogLine → List ℕ
+own_back l =
+    number l.bytes ++ number l.millis ++ field (line_result_text l.result) ++ field (bare_path l.path) ++ second_path l.to ++ 10 ∷ []
+
 -- a line, at a moment in milliseconds since the first day of 1970
 abbrev pub own_line : ℕ → LogLine → List ℕ
-own_line moment l =
-    iso_text moment ++ number l.session ++ field (maybe_client l.client) ++ field (bare l.user)
-    ++ field (line_word_text l.word) ++ number l.bytes ++ number l.millis ++ field (line_result_text l.result)
-    ++ field (bare_path l.path) ++ second_path l.to ++ 10 ∷ []
+own_line moment l = own_front moment l ++ own_back l
 
 -- ---- xferlog
 
@@ -120,12 +125,19 @@ abbrev pub completion_byte : LineResult → ℕ
 completion_byte result.Done = 99
 completion_byte _ = 105
 
+-- up to the path
+unfoldable pub xferlog_front : ℕ → LogLine → List ℕ
+xferlog_front moment l =
+    ctime_text moment ++ number (l.millis / 1000) ++ field (maybe_client l.client) ++ number l.bytes ++ field (map xferlog_byte l.path)
+
+-- what stands behind it, with this direction
+unfoldable pub xferlog_back : LogLine → ℕ → List ℕ
+xferlog_back l direction =
+    codes " b _ " ++ direction ∷ codes " r " ++ map xferlog_byte l.user ++ codes " ftp 0 * " ++ completion_byte l.result ∷ 10 ∷ []
+
 -- a line with this direction
 abbrev pub xferlog_with : ℕ → LogLine → ℕ → List ℕ
-xferlog_with moment l direction =
-    ctime_text moment ++ number (l.millis / 1000) ++ field (maybe_client l.client) ++ number l.bytes
-    ++ field (map xferlog_byte l.path) ++ codes " b _ " ++ direction ∷ codes " r " ++ map xferlog_byte l.user
-    ++ codes " ftp 0 * " ++ completion_byte l.result ∷ 10 ∷ []
+xferlog_with moment l direction = xferlog_front moment l ++ xferlog_back l direction
 
 -- a line of a file that was sent, received or removed, and no other
 abbrev pub xferlog_by : Option ℕ → ℕ → LogLine → List ℕ

@@ -15,11 +15,11 @@ use Rattle.ftp_text.specs.Fields.{number}
 use Rattle.ftp_server_log.specs.Forms.{command_text}
 
 -- the lines that say what a metric is
-abbrev pub metric_head : List ℕ → List ℕ → List ℕ → List ℕ
+unfoldable pub metric_head : List ℕ → List ℕ → List ℕ → List ℕ
 metric_head name kind help = codes "# HELP " ++ name ++ 32 ∷ help ++ codes "\n# TYPE " ++ name ++ 32 ∷ kind ++ 10 ∷ []
 
 -- a metric without labels
-abbrev pub plain_metric : List ℕ → List ℕ → List ℕ → ℕ → List ℕ
+unfoldable pub plain_metric : List ℕ → List ℕ → List ℕ → ℕ → List ℕ
 plain_metric name kind help n = metric_head name kind help ++ name ++ number n ++ 10 ∷ []
 
 -- the words of statuses
@@ -32,15 +32,22 @@ status_text status.ClientInterrupted = codes "client_interrupted"
 status_text status.NetworkError = codes "network_error"
 status_text status.UnknownError = codes "unknown_error"
 
+-- a label with its value
+unfoldable pub label_text : List ℕ → List ℕ → List ℕ
+label_text name value = name ++ 61 ∷ 34 ∷ value ++ 34 ∷ []
+
+-- the number of a metric for a command and another label
+unfoldable pub sample_text : List ℕ → CommandWord → List ℕ → List ℕ → ℕ → List ℕ
+sample_text name w label value n =
+    name ++ 123 ∷ label_text (codes "command") (command_text w) ++ 44 ∷ label_text label value ++ 125 ∷ number n ++ 10 ∷ []
+
 -- the bytes of a command in a direction
-abbrev pub bytes_sample : List ℕ → (CommandWord → ℕ) → CommandWord → List ℕ
-bytes_sample direction bytes w =
-    codes "ftp_bytes_total{command=\"" ++ command_text w ++ codes "\",direction=\"" ++ direction ++ codes "\"}" ++ number (bytes w) ++ 10 ∷ []
+unfoldable pub bytes_sample : List ℕ → (CommandWord → ℕ) → CommandWord → List ℕ
+bytes_sample direction bytes w = sample_text (codes "ftp_bytes_total") w (codes "direction") direction (bytes w)
 
 -- the transfers by a command with a status
-abbrev pub transfers_sample : (CommandWord → Status7 → ℕ) → CommandWord → Status7 → List ℕ
-transfers_sample count w s =
-    codes "ftp_transfers_total{command=\"" ++ command_text w ++ codes "\",result=\"" ++ status_text s ++ codes "\"}" ++ number (count w s) ++ 10 ∷ []
+unfoldable pub transfers_sample : (CommandWord → Status7 → ℕ) → CommandWord → Status7 → List ℕ
+transfers_sample count w s = sample_text (codes "ftp_transfers_total") w (codes "result") (status_text s) (count w s)
 
 -- the commands that send, and those that receive
 abbrev pub senders : List CommandWord
@@ -59,18 +66,49 @@ statuses =
     status.Success ∷ status.ClientError ∷ status.ServerError ∷ status.PermissionError
     ∷ status.ClientInterrupted ∷ status.NetworkError ∷ status.UnknownError ∷ []
 
+-- the bytes that commands have sent, or received
+unfoldable pub sent_text : (CommandWord → ℕ) → List ℕ
+sent_text sent = flat_map (bytes_sample (codes "sent") sent) senders
+
+unfoldable pub received_text : (CommandWord → ℕ) → List ℕ
+received_text received = flat_map (bytes_sample (codes "received") received) receivers
+
+-- the transfers by each command with each status
+unfoldable pub ended_text : (CommandWord → Status7 → ℕ) → List ℕ
+ended_text ended = flat_map (λ w. flat_map (transfers_sample ended w) statuses) movers
+
+-- each metric without labels
+unfoldable pub live_text : ℕ → List ℕ
+live_text n = plain_metric (codes "ftp_sessions") (codes "gauge") (codes "Sessions that are live.") n
+
+unfoldable pub opened_text : ℕ → List ℕ
+opened_text n = plain_metric (codes "ftp_sessions_total") (codes "counter") (codes "Sessions that were opened.") n
+
+unfoldable pub failures_text : ℕ → List ℕ
+failures_text n = plain_metric (codes "ftp_auth_failures_total") (codes "counter") (codes "Logins that failed.") n
+
+unfoldable pub locked_text : ℕ → List ℕ
+locked_text n = plain_metric (codes "ftp_locked_logins_total") (codes "counter") (codes "Logins that were locked out.") n
+
+-- what those with labels are
+unfoldable pub bytes_head : List ℕ
+bytes_head = metric_head (codes "ftp_bytes_total") (codes "counter") (codes "Bytes that transfers have moved.")
+
+unfoldable pub ended_head : List ℕ
+ended_head = metric_head (codes "ftp_transfers_total") (codes "counter") (codes "Transfers that have ended.")
+
+-- the metrics of sessions and of bytes
+unfoldable pub sessions_text : ℕ → ℕ → (CommandWord → ℕ) → (CommandWord → ℕ) → List ℕ
+sessions_text live opened sent received = live_text live ++ opened_text opened ++ bytes_head ++ sent_text sent ++ received_text received
+
+-- those of transfers and of logins
+unfoldable pub logins_text : ℕ → ℕ → (CommandWord → Status7 → ℕ) → List ℕ
+logins_text failures locked ended = ended_head ++ ended_text ended ++ failures_text failures ++ locked_text locked
+
 -- the text of all metrics, with each number
 abbrev pub metrics_with : ℕ → ℕ → ℕ → ℕ → (CommandWord → ℕ) → (CommandWord → ℕ) → (CommandWord → Status7 → ℕ) → List ℕ
 metrics_with live opened failures locked sent received ended =
-    plain_metric (codes "ftp_sessions") (codes "gauge") (codes "Sessions that are live.") live
-    ++ plain_metric (codes "ftp_sessions_total") (codes "counter") (codes "Sessions that were opened.") opened
-    ++ metric_head (codes "ftp_bytes_total") (codes "counter") (codes "Bytes that transfers have moved.")
-    ++ flat_map (bytes_sample (codes "sent") sent) senders
-    ++ flat_map (bytes_sample (codes "received") received) receivers
-    ++ metric_head (codes "ftp_transfers_total") (codes "counter") (codes "Transfers that have ended.")
-    ++ flat_map (λ w. flat_map (transfers_sample ended w) statuses) movers
-    ++ plain_metric (codes "ftp_auth_failures_total") (codes "counter") (codes "Logins that failed.") failures
-    ++ plain_metric (codes "ftp_locked_logins_total") (codes "counter") (codes "Logins that were locked out.") locked
+    sessions_text live opened sent received ++ logins_text failures locked ended
 
 -- that of counters
 abbrev pub metrics_text : Counters → ℕ → List ℕ

@@ -82,11 +82,13 @@ with_more n r = record r { moved = more_moved r.moved n }
 abbrev pub begun_at : ℕ → Request → Request
 begun_at at r = record r { started = Some at }
 
--- what an entry's decision makes of what is known of a transfer, with what is known of its session
+-- what an entry that queues a transfer makes of what is known of it, with what is known of its session
+abbrev pub request_asked : Entry → Ticket → Option Guest → Option Request → Option Request
+request_asked e t g r = queues t e.decision ⇒ option_and_then (request_by e) g ∣ r
+
+-- what an entry's decision makes of it
 abbrev pub request_decided : Entry → Ticket → Option Guest → Option Request → Option Request
-request_decided e t g r =
-    queues t e.decision ⇒ option_and_then (request_by e) g
-    ∣ option_map (with_more (moved_by t e)) r
+request_decided e t g r = option_map (with_more (moved_by t e)) (request_asked e t g r)
 
 -- what actions make of it, the first one first
 abbrev pub request_acted : ℕ → List Action → Ticket → Option Request → Option Request

@@ -16,7 +16,7 @@ use Rattle.ftp_server_log.specs.declared.line.LogLine.{LogLine}
 use Rattle.ftp_server_log.specs.declared.server_log.ServerLog.{ServerLog}
 use Rattle.ftp_server_log.specs.Guests.{guest_by, guest_in}
 use Rattle.ftp_server_log.specs.Lines.{lines_by}
-use Rattle.ftp_server_log.specs.Requests.{request_by_entry, request_in}
+use Rattle.ftp_server_log.specs.Requests.{request_asked, request_by_entry, request_in}
 use Rattle.ftp_server_log.specs.Tickets.{request_at}
 
 -- the lines that an entry tells after a log
@@ -71,3 +71,11 @@ pub record Knows (old new : ServerLog) (e : Entry) : Type 0 where
   pub guests : (s : ℕ) → map.get nat_eq new.guests s ≡ guest_by e s (map.get nat_eq old.guests s)
   pub requests : (t : Ticket) → request_at new.requests t ≡ request_by_entry e t (map.get nat_eq old.guests t.session) (request_at old.requests t)
   pub locked : new.locked ≡ saturated (old.locked + one_if (is_lockout e.decision))
+
+-- what an entry tells of sessions, and of a transfer that it queues
+pub record Learns (old new : ServerLog) (e : Entry) : Type 0 where
+  pub form : new.form ≡ old.form
+  pub start : new.start ≡ old.start
+  pub guests : (s : ℕ) → map.get nat_eq new.guests s ≡ guest_by e s (map.get nat_eq old.guests s)
+  pub requests : (t : Ticket) → request_at new.requests t ≡ request_asked e t (map.get nat_eq old.guests t.session) (request_at old.requests t)
+  pub locked : new.locked ≡ old.locked

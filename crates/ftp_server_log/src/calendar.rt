@@ -126,6 +126,7 @@ fn put_date(out: &mut Vec<u8>, moment: u64) -> Result<(), AllocError>
 }
 
 /// Writes a moment, in milliseconds since the first day of 1970, with its milliseconds (ISO 8601).
+#[tactic(auto, unfolding(crate::specs::Calendar::iso_text))]
 pub(crate) fn put_iso(out: &mut Vec<u8>, moment: u64) -> Result<(), AllocError>
     ensures { OnOk result (out.new.items ≡ out.old.items ++ iso_text moment) }
 {
@@ -182,6 +183,7 @@ fn put_padded(out: &mut Vec<u8>, day: u64) -> Result<(), AllocError>
 }
 
 /// Writes a moment, in milliseconds since the first day of 1970, as C's ctime does.
+#[tactic(auto, unfolding(crate::specs::Calendar::ctime_text))]
 pub(crate) fn put_ctime(out: &mut Vec<u8>, moment: u64) -> Result<(), AllocError>
     ensures { OnOk result (out.new.items ≡ out.old.items ++ ctime_text moment) }
 {

@@ -4,7 +4,7 @@ ghost use Rattle.std.specs.Prelude.{◌≡◌, ◌++◌, map, OnOk};
 ghost use Rattle.std.specs.List.{flat_map};
 ghost use Rattle.std.specs.Option.{option_to_list};
 ghost use Rattle.ftp_text.specs.Fields.{field};
-ghost use Rattle.ftp_server_log.specs.Forms.{maybe_client, bare_byte, bare, bare_path, second_path, command_text, line_word_text, line_result_text, own_line, xferlog_byte, command_direction, direction_of, completion_byte, xferlog_with, line_in, colon_pairs};
+ghost use Rattle.ftp_server_log.specs.Forms.{maybe_client, bare_byte, bare, bare_path, second_path, command_text, line_word_text, line_result_text, own_front, own_back, own_line, xferlog_byte, command_direction, direction_of, completion_byte, xferlog_front, xferlog_back, xferlog_with, line_in, v6_digits};
 
 use crate::calendar::{put_ctime, put_iso};
 use crate::line::{LineResult, LineWord, LogForm, LogLine};
@@ -16,19 +16,12 @@ use ftp_text::writing::{
 };
 use std::alloc::AllocError;
 
-// Pairs of bytes in hexadecimal digits, with colons between them.
-fn put_pairs(out: &mut Vec<u8>, bytes: &[u8]) -> Result<(), AllocError>
-    ensures { OnOk result (out.new.items ≡ out.old.items ++ colon_pairs bytes.now) }
+// The digits of an IPv6 address.
+#[tactic(auto, unfolding(crate::specs::Forms::v6_digits))]
+fn put_v6_digits(out: &mut Vec<u8>, ip: u128) -> Result<(), AllocError>
+    ensures { OnOk result (out.new.items ≡ out.old.items ++ v6_digits ip) }
 {
-    match bytes {
-        [a, b] => put_hex_bytes(out, &[*a, *b]),
-        [a, b, rest @ ..] => {
-            put_hex_bytes(out, &[*a, *b])?;
-            put_byte(out, b':')?;
-            put_pairs(out, rest)
-        }
-        _ => Ok(()),
-    }
+    put_hex_bytes(out, &ip.to_be_bytes())
 }
 
 // Writes a space and where a client is.
@@ -39,8 +32,9 @@ fn put_client(out: &mut Vec<u8>, client: Option<IpAddr>) -> Result<(), AllocErro
         None => put(out, b" -"),
         Some(IpAddr::V4(ip)) => put_optional_dotted(out, Some(ip)),
         Some(IpAddr::V6(ip)) => {
-            put_byte(out, b' ')?;
-            put_pairs(out, &ip.to_be_bytes())
+            put(out, b" [")?;
+            put_v6_digits(out, ip)?;
+            put_byte(out, b']')
         }
     }
 }
@@ -133,22 +127,38 @@ fn put_result(out: &mut Vec<u8>, outcome: LineResult) -> Result<(), AllocError>
     }
 }
 
-// A line in its own form.
-fn put_own(out: &mut Vec<u8>, moment: u64, line: &LogLine) -> Result<(), AllocError>
-    ensures { OnOk result (out.new.items ≡ out.old.items ++ own_line moment line.now) }
+// When, where and who.
+#[tactic(auto, unfolding(crate::specs::Forms::own_front))]
+fn put_own_front(out: &mut Vec<u8>, moment: u64, line: &LogLine) -> Result<(), AllocError>
+    ensures { OnOk result (out.new.items ≡ out.old.items ++ own_front moment line.now) }
 {
     put_iso(out, moment)?;
     put_number(out, line.session)?;
     put_client(out, line.client)?;
     put_byte(out, b' ')?;
     put_bare(out, line.user.as_slice())?;
-    put_field(out, word_text(line.word))?;
+    put_field(out, word_text(line.word))
+}
+
+// How it came out.
+#[tactic(auto, unfolding(crate::specs::Forms::own_back))]
+fn put_own_back(out: &mut Vec<u8>, line: &LogLine) -> Result<(), AllocError>
+    ensures { OnOk result (out.new.items ≡ out.old.items ++ own_back line.now) }
+{
     put_number(out, line.bytes)?;
     put_number(out, line.millis)?;
     put_result(out, line.result)?;
     put_path(out, line.path.as_slice())?;
     put_second(out, &line.to)?;
     put_byte(out, b'\n')
+}
+
+// A line in its own form.
+fn put_own(out: &mut Vec<u8>, moment: u64, line: &LogLine) -> Result<(), AllocError>
+    ensures { OnOk result (out.new.items ≡ out.old.items ++ own_line moment line.now) }
+{
+    put_own_front(out, moment, line)?;
+    put_own_back(out, line)
 }
 
 // A text in which blanks and control bytes are underscores.
@@ -190,6 +200,33 @@ fn completion_byte(outcome: LineResult) -> u8
     }
 }
 
+// A line of xferlog up to the path.
+#[tactic(auto, unfolding(crate::specs::Forms::xferlog_front))]
+fn put_xferlog_front(out: &mut Vec<u8>, moment: u64, line: &LogLine) -> Result<(), AllocError>
+    ensures { OnOk result (out.new.items ≡ out.old.items ++ xferlog_front moment line.now) }
+{
+    put_ctime(out, moment)?;
+    put_number(out, line.millis / 1000)?;
+    put_client(out, line.client)?;
+    put_number(out, line.bytes)?;
+    put_byte(out, b' ')?;
+    put_underscored(out, line.path.as_slice())
+}
+
+// What stands behind it.
+#[tactic(auto, unfolding(crate::specs::Forms::xferlog_back))]
+fn put_xferlog_back(out: &mut Vec<u8>, line: &LogLine, direction: u8) -> Result<(), AllocError>
+    ensures { OnOk result (out.new.items ≡ out.old.items ++ xferlog_back line.now direction) }
+{
+    put(out, b" b _ ")?;
+    put_byte(out, direction)?;
+    put(out, b" r ")?;
+    put_underscored(out, line.user.as_slice())?;
+    put(out, b" ftp 0 * ")?;
+    put_byte(out, completion_byte(line.result))?;
+    put_byte(out, b'\n')
+}
+
 // A line of xferlog.
 fn put_xferlog(
     out: &mut Vec<u8>,
@@ -199,19 +236,8 @@ fn put_xferlog(
 ) -> Result<(), AllocError>
     ensures { OnOk result (out.new.items ≡ out.old.items ++ xferlog_with moment line.now direction) }
 {
-    put_ctime(out, moment)?;
-    put_number(out, line.millis / 1000)?;
-    put_client(out, line.client)?;
-    put_number(out, line.bytes)?;
-    put_byte(out, b' ')?;
-    put_underscored(out, line.path.as_slice())?;
-    put(out, b" b _ ")?;
-    put_byte(out, direction)?;
-    put(out, b" r ")?;
-    put_underscored(out, line.user.as_slice())?;
-    put(out, b" ftp 0 * ")?;
-    put_byte(out, completion_byte(line.result))?;
-    put_byte(out, b'\n')
+    put_xferlog_front(out, moment, line)?;
+    put_xferlog_back(out, line, direction)
 }
 
 /// Writes a line in a form, where the server started at a moment in milliseconds since the first day of 1970.

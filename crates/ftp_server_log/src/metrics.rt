@@ -8,7 +8,7 @@ ghost use Rattle.ftp_events.specs.declared.entry.Entry.{Entry};
 ghost use Rattle.ftp_events.specs.Counts.{CountsOf};
 ghost use Rattle.ftp_events.specs.Statuses.{word_of};
 ghost use Rattle.ftp_events.specs.Tallies.{of_status, of_word};
-ghost use Rattle.ftp_server_log.specs.Metrics.{bytes_sample, metric_head, metrics_of, metrics_text, plain_metric, status_text, statuses, transfers_sample};
+ghost use Rattle.ftp_server_log.specs.Metrics.{bytes_head, bytes_sample, ended_head, ended_text, failures_text, label_text, live_text, locked_text, logins_text, metric_head, metrics_of, metrics_text, opened_text, plain_metric, received_text, sample_text, sent_text, sessions_text, status_text, statuses, transfers_sample};
 
 use crate::form::command_text;
 use ftp_base::{Bytes, DataChanCmd};
@@ -71,55 +71,116 @@ fn put_metrics_of(
 ) -> Result<(), AllocError>
     ensures { OnOk result (out.new.items ≡ out.old.items ++ metrics_text counters.now locked) }
 {
-    let live = counters.session();
-    put_plain(
-        out,
-        b"ftp_sessions",
-        b"gauge",
-        b"Sessions that are live.",
-        live,
-    )?;
-    let opened = counters.sessions_count();
-    put_plain(
-        out,
-        b"ftp_sessions_total",
-        b"counter",
-        b"Sessions that were opened.",
-        opened,
-    )?;
-    put_head(
-        out,
-        b"ftp_bytes_total",
-        b"counter",
-        b"Bytes that transfers have moved.",
-    )?;
-    put_sent(out, alloc, counters, &SENDERS)?;
-    put_received(out, alloc, counters, &RECEIVERS)?;
-    put_head(
-        out,
-        b"ftp_transfers_total",
-        b"counter",
-        b"Transfers that have ended.",
-    )?;
-    put_transfers(out, alloc, counters, &MOVERS)?;
-    let failures = counters.auth_failures();
-    put_plain(
-        out,
-        b"ftp_auth_failures_total",
-        b"counter",
-        b"Logins that failed.",
-        failures,
-    )?;
-    put_plain(
-        out,
-        b"ftp_locked_logins_total",
-        b"counter",
-        b"Logins that were locked out.",
-        locked,
-    )
+    put_sessions(out, alloc, counters)?;
+    put_logins(out, alloc, counters, locked)
+}
+
+// The metrics of sessions and of bytes.
+#[tactic(auto, unfolding(crate::specs::Metrics::sessions_text))]
+fn put_sessions(out: &mut Vec<u8>, alloc: Global, counters: &Counters) -> Result<(), AllocError>
+    ensures { OnOk result (out.new.items ≡ out.old.items ++ sessions_text counters.now.session counters.now.sessions_count (of_word counters.now.sent) (of_word counters.now.received)) }
+{
+    put_live(out, counters.session())?;
+    put_opened(out, counters.sessions_count())?;
+    put_bytes_head(out)?;
+    put_all_sent(out, alloc, counters)?;
+    put_all_received(out, alloc, counters)
+}
+
+// Those of transfers and of logins.
+#[tactic(auto, unfolding(crate::specs::Metrics::logins_text))]
+fn put_logins(
+    out: &mut Vec<u8>,
+    alloc: Global,
+    counters: &Counters,
+    locked: u64,
+) -> Result<(), AllocError>
+    ensures { OnOk result (out.new.items ≡ out.old.items ++ logins_text counters.now.auth_failures locked (λ w s. of_word (of_status counters.now.transferred s) w)) }
+{
+    put_ended_head(out)?;
+    put_all_transfers(out, alloc, counters)?;
+    put_failures(out, counters.auth_failures())?;
+    put_locked(out, locked)
+}
+
+#[tactic(auto, unfolding(crate::specs::Metrics::live_text))]
+fn put_live(out: &mut Vec<u8>, n: u64) -> Result<(), AllocError>
+    ensures { OnOk result (out.new.items ≡ out.old.items ++ live_text n) }
+{
+    let help = b"Sessions that are live.";
+    put_plain(out, b"ftp_sessions", b"gauge", help, n)
+}
+
+#[tactic(auto, unfolding(crate::specs::Metrics::opened_text))]
+fn put_opened(out: &mut Vec<u8>, n: u64) -> Result<(), AllocError>
+    ensures { OnOk result (out.new.items ≡ out.old.items ++ opened_text n) }
+{
+    let help = b"Sessions that were opened.";
+    put_plain(out, b"ftp_sessions_total", b"counter", help, n)
+}
+
+#[tactic(auto, unfolding(crate::specs::Metrics::failures_text))]
+fn put_failures(out: &mut Vec<u8>, n: u64) -> Result<(), AllocError>
+    ensures { OnOk result (out.new.items ≡ out.old.items ++ failures_text n) }
+{
+    let help = b"Logins that failed.";
+    put_plain(out, b"ftp_auth_failures_total", b"counter", help, n)
+}
+
+#[tactic(auto, unfolding(crate::specs::Metrics::locked_text))]
+fn put_locked(out: &mut Vec<u8>, n: u64) -> Result<(), AllocError>
+    ensures { OnOk result (out.new.items ≡ out.old.items ++ locked_text n) }
+{
+    let help = b"Logins that were locked out.";
+    put_plain(out, b"ftp_locked_logins_total", b"counter", help, n)
+}
+
+#[tactic(auto, unfolding(crate::specs::Metrics::bytes_head))]
+fn put_bytes_head(out: &mut Vec<u8>) -> Result<(), AllocError>
+    ensures { OnOk result (out.new.items ≡ out.old.items ++ bytes_head) }
+{
+    let help = b"Bytes that transfers have moved.";
+    put_head(out, b"ftp_bytes_total", b"counter", help)
+}
+
+#[tactic(auto, unfolding(crate::specs::Metrics::ended_head))]
+fn put_ended_head(out: &mut Vec<u8>) -> Result<(), AllocError>
+    ensures { OnOk result (out.new.items ≡ out.old.items ++ ended_head) }
+{
+    let help = b"Transfers that have ended.";
+    put_head(out, b"ftp_transfers_total", b"counter", help)
+}
+
+// The bytes that each command has sent.
+#[tactic(auto, unfolding(crate::specs::Metrics::sent_text))]
+fn put_all_sent(out: &mut Vec<u8>, alloc: Global, counters: &Counters) -> Result<(), AllocError>
+    ensures { OnOk result (out.new.items ≡ out.old.items ++ sent_text (of_word counters.now.sent)) }
+{
+    put_sent(out, alloc, counters, &SENDERS)
+}
+
+// The bytes that each command has received.
+#[tactic(auto, unfolding(crate::specs::Metrics::received_text))]
+fn put_all_received(out: &mut Vec<u8>, alloc: Global, counters: &Counters) -> Result<(), AllocError>
+    ensures { OnOk result (out.new.items ≡ out.old.items ++ received_text (of_word counters.now.received)) }
+{
+    put_received(out, alloc, counters, &RECEIVERS)
+}
+
+// The transfers by each command with each status.
+#[tactic(auto, unfolding(crate::specs::Metrics::ended_text))]
+fn put_all_transfers(
+    out: &mut Vec<u8>,
+    alloc: Global,
+    counters: &Counters,
+) -> Result<(), AllocError>
+    ensures { OnOk result (out.new.items ≡ out.old.items ++ ended_text (λ w s. of_word (of_status counters.now.transferred s) w)) }
+{
+    put_transfers(out, alloc, counters, &MOVERS)
 }
 
 // The lines that say what a metric is.
+#[tactic(auto, unfolding(crate::specs::Metrics::metric_head))]
 fn put_head(out: &mut Vec<u8>, name: &[u8], kind: &[u8], help: &[u8]) -> Result<(), AllocError>
     ensures { OnOk result (out.new.items ≡ out.old.items ++ metric_head name.now kind.now help.now) }
 {
@@ -135,6 +196,7 @@ fn put_head(out: &mut Vec<u8>, name: &[u8], kind: &[u8], help: &[u8]) -> Result<
 }
 
 // A metric without labels.
+#[tactic(auto, unfolding(crate::specs::Metrics::plain_metric))]
 fn put_plain(
     out: &mut Vec<u8>,
     name: &[u8],
@@ -173,22 +235,58 @@ fn command_of(alloc: Global, word: CommandWord) -> DataChanCmd
     }
 }
 
-// The bytes of a command in a direction.
-fn put_bytes(
+// A label with its value.
+#[tactic(auto, unfolding(crate::specs::Metrics::label_text))]
+fn put_label(out: &mut Vec<u8>, name: &[u8], value: &[u8]) -> Result<(), AllocError>
+    ensures { OnOk result (out.new.items ≡ out.old.items ++ label_text name.now value.now) }
+{
+    put(out, name)?;
+    put(out, b"=\"")?;
+    put(out, value)?;
+    put_byte(out, b'"')
+}
+
+// The number of a metric for a command and another label.
+#[tactic(auto, unfolding(crate::specs::Metrics::sample_text))]
+fn put_sample(
     out: &mut Vec<u8>,
+    name: &[u8],
     word: CommandWord,
-    direction: &[u8],
+    label: &[u8],
+    value: &[u8],
     n: u64,
 ) -> Result<(), AllocError>
-    ensures { OnOk result (out.new.items ≡ out.old.items ++ bytes_sample direction.now (λ w. n) word) }
+    ensures { OnOk result (out.new.items ≡ out.old.items ++ sample_text name.now word label.now value.now n) }
 {
-    put(out, b"ftp_bytes_total{command=\"")?;
-    put(out, command_text(word))?;
-    put(out, b"\",direction=\"")?;
-    put(out, direction)?;
-    put(out, b"\"}")?;
+    put(out, name)?;
+    put_byte(out, b'{')?;
+    put_label(out, b"command", command_text(word))?;
+    put_byte(out, b',')?;
+    put_label(out, label, value)?;
+    put_byte(out, b'}')?;
     put_number(out, n)?;
     put_byte(out, b'\n')
+}
+
+// How many bytes a command has sent.
+fn sent_by(alloc: Global, counters: &Counters, word: CommandWord) -> u64
+    ensures { result ≡ of_word counters.now.sent word }
+{
+    counters.sent_bytes(&command_of(alloc, word))
+}
+
+// The bytes that a command has sent.
+#[tactic(auto, unfolding(crate::specs::Metrics::bytes_sample))]
+fn put_sent_of(
+    out: &mut Vec<u8>,
+    alloc: Global,
+    counters: &Counters,
+    word: CommandWord,
+) -> Result<(), AllocError>
+    ensures { OnOk result (out.new.items ≡ out.old.items ++ bytes_sample (codes "sent") (of_word counters.now.sent) word) }
+{
+    let n = sent_by(alloc, counters, word);
+    put_sample(out, b"ftp_bytes_total", word, b"direction", b"sent", n)
 }
 
 // The bytes that commands have sent.
@@ -201,10 +299,30 @@ fn put_sent(
     ensures { OnOk result (out.new.items ≡ out.old.items ++ flat_map (bytes_sample (codes "sent") (of_word counters.now.sent)) words.now) }
 {
     for word in words {
-        let n = counters.sent_bytes(&command_of(alloc, *word));
-        put_bytes(out, *word, b"sent", n)?;
+        put_sent_of(out, alloc, counters, *word)?;
     }
     Ok(())
+}
+
+// How many bytes a command has received.
+fn received_by(alloc: Global, counters: &Counters, word: CommandWord) -> u64
+    ensures { result ≡ of_word counters.now.received word }
+{
+    counters.received_bytes(&command_of(alloc, word))
+}
+
+// The bytes that a command has received.
+#[tactic(auto, unfolding(crate::specs::Metrics::bytes_sample))]
+fn put_received_of(
+    out: &mut Vec<u8>,
+    alloc: Global,
+    counters: &Counters,
+    word: CommandWord,
+) -> Result<(), AllocError>
+    ensures { OnOk result (out.new.items ≡ out.old.items ++ bytes_sample (codes "received") (of_word counters.now.received) word) }
+{
+    let n = received_by(alloc, counters, word);
+    put_sample(out, b"ftp_bytes_total", word, b"direction", b"received", n)
 }
 
 // The bytes that commands have received.
@@ -217,8 +335,7 @@ fn put_received(
     ensures { OnOk result (out.new.items ≡ out.old.items ++ flat_map (bytes_sample (codes "received") (of_word counters.now.received)) words.now) }
 {
     for word in words {
-        let n = counters.received_bytes(&command_of(alloc, *word));
-        put_bytes(out, *word, b"received", n)?;
+        put_received_of(out, alloc, counters, *word)?;
     }
     Ok(())
 }
@@ -238,21 +355,25 @@ fn status_text(status: Status7) -> &'static [u8]
 }
 
 // The transfers by a command with a status.
-fn put_transfer(
+#[tactic(auto, unfolding(crate::specs::Metrics::transfers_sample))]
+fn put_status_of(
     out: &mut Vec<u8>,
-    word: CommandWord,
+    counters: &Counters,
+    command: &DataChanCmd,
     status: Status7,
-    n: u64,
 ) -> Result<(), AllocError>
-    ensures { OnOk result (out.new.items ≡ out.old.items ++ transfers_sample (λ w s. n) word status) }
+    ensures { OnOk result (out.new.items ≡ out.old.items ++ transfers_sample (λ w s. of_word (of_status counters.now.transferred s) w) (word_of command.now) status) }
 {
-    put(out, b"ftp_transfers_total{command=\"")?;
-    put(out, command_text(word))?;
-    put(out, b"\",result=\"")?;
-    put(out, status_text(status))?;
-    put(out, b"\"}")?;
-    put_number(out, n)?;
-    put_byte(out, b'\n')
+    let n = counters.transferred(command, status);
+    let word = CommandWord::of(command);
+    put_sample(
+        out,
+        b"ftp_transfers_total",
+        word,
+        b"result",
+        status_text(status),
+        n,
+    )
 }
 
 // The transfers by a command, with each of these statuses.
@@ -265,8 +386,7 @@ fn put_statuses(
     ensures { OnOk result (out.new.items ≡ out.old.items ++ flat_map (transfers_sample (λ w s. of_word (of_status counters.now.transferred s) w) (word_of command.now)) words.now) }
 {
     for status in words {
-        let n = counters.transferred(command, *status);
-        put_transfer(out, CommandWord::of(command), *status, n)?;
+        put_status_of(out, counters, command, *status)?;
     }
     Ok(())
 }

@@ -1,15 +1,17 @@
 //! The log.
 
-ghost use Rattle.std.specs.Prelude.{◌≡◌, ◌++◌, [], ◌∷◌, List, filter_map, OnOk, OnErr, IfOk, nat_eq};
+ghost use Rattle.std.specs.Prelude.{◌≡◌, ◌+◌, ◌++◌, [], ◌∷◌, List, filter_map, OnOk, OnErr, IfOk, nat_eq};
 ghost use Rattle.std.specs.HashMap as map;
 ghost use Rattle.std.specs.List.{flat_map};
 ghost use Rattle.ftp_options.specs.declared.options.Options.{Options};
 ghost use Rattle.ftp_events.specs.declared.entry.Entry.{Entry};
+ghost use Rattle.ftp_events.specs.Counts.{one_if};
+ghost use Rattle.ftp_events.specs.Tallies.{saturated};
 ghost use Rattle.ftp_events.specs.Right.{IsRight, IsActed};
 ghost use Rattle.ftp_server_log.specs.Forms.{line_in};
 ghost use Rattle.ftp_server_log.specs.Lines.{line_by_action, lines_by};
 ghost use Rattle.ftp_server_log.specs.Tickets.{request_at};
-ghost use Rattle.ftp_server_log.specs.Written.{HasTaken, Knows, SameKnown, form_of, is_lockout, lines_on, locked_of, log_lines, start_of};
+ghost use Rattle.ftp_server_log.specs.Written.{HasTaken, Knows, Learns, SameKnown, form_of, is_lockout, lines_on, locked_of, log_lines, start_of};
 
 use crate::form::put_maybe;
 use crate::guest::{self, Guest};
@@ -121,22 +123,43 @@ impl ServerLog {
         Ok(())
     }
 
-    // What an entry tells of sessions and transfers. A transfer that is queued changes nothing of its session.
+    // What an entry tells of sessions and transfers.
     fn know(&mut self, entry: &Entry) -> Result<(), AllocError>
         ensures known { OnOk result (Knows self.old self.new entry.now) }
         ensures unchanged { OnErr result (SameKnown self.old self.new) }
     {
-        if let Decision::Queued { ticket } = entry.decision {
-            let kind = &entry.event.kind;
-            request::ask(&mut self.requests, self.alloc, &self.guests, kind, ticket)?;
-        } else {
-            guest::hear(&mut self.guests, self.alloc, entry)?;
-        }
+        self.learn(entry)?;
         request::hear(&mut self.requests, entry);
-        if is_lockout(entry.decision) {
-            self.locked = self.locked.saturating_add(1);
-        }
+        self.locked = more_locked(self.locked, entry.decision);
         Ok(())
+    }
+
+    // What needs memory of it. A transfer that is queued changes nothing of its session.
+    fn learn(&mut self, entry: &Entry) -> Result<(), AllocError>
+        ensures learnt { OnOk result (Learns self.old self.new entry.now) }
+        ensures unchanged { OnErr result (SameKnown self.old self.new) }
+    {
+        match entry.decision {
+            Decision::Queued { ticket } => request::ask(
+                &mut self.requests,
+                self.alloc,
+                &self.guests,
+                &entry.event.kind,
+                ticket,
+            ),
+            _ => guest::hear(&mut self.guests, self.alloc, entry),
+        }
+    }
+}
+
+// One more, where a login was locked out.
+fn more_locked(locked: u64, decision: Decision) -> u64
+    ensures { result ≡ saturated (locked + one_if (is_lockout decision)) }
+{
+    if is_lockout(decision) {
+        locked.saturating_add(1)
+    } else {
+        locked
     }
 }
 
