@@ -20,7 +20,7 @@ use Rattle.ftp_laws.proofs.TableLemmas.{same-both}
 use Rattle.ftp_server_log.specs.declared.guest.Guest.{Guest}
 use Rattle.ftp_server_log.specs.declared.request.Request.{Request}
 use Rattle.ftp_server_log.specs.Guests.{guest_in}
-use Rattle.ftp_server_log.specs.Requests.{asked_for_in, begins_it, begun_at, more_moved, moved_in, request_acted, request_by, request_by_entry, request_decided, request_in, request_of, settles_in, started_in_log, with_more, with_progress}
+use Rattle.ftp_server_log.specs.Requests.{asked_for_in, begins_it, begun_at, more_moved, pieces_moved, request_acted, request_by, request_by_entry, request_decided, request_in, request_of, settles_in, started_in_log, with_more, with_progress}
 
 -- so many bytes more, where no more are counted than a type has
 pub more-saturated : (m n : ℕ) → more_moved (saturated m) n ≡ saturated (m + n)
@@ -86,8 +86,8 @@ request_in-more o log e t = go (settles_in e t) (queues t e.decision) (list_any 
     go false true false x y z =
         rw (x, y, z, queued-still t e y)
         (made (guest_in o log t.session) ∙ sym (with-none (option_and_then (request_by e) (guest_in o log t.session))))
-    go false false true x y z = rw (x, y, z) (later-begun (started_in_log log t) e.event.at (moved_in log t) (moved_by t e) old)
-    go false false false x y z = rw (x, y, z) (later (started_in_log log t) (moved_in log t) (moved_by t e) old)
+    go false false true x y z = rw (x, y, z) (later-begun (started_in_log log t) e.event.at (pieces_moved log t) (moved_by t e) old)
+    go false false false x y z = rw (x, y, z) (later (started_in_log log t) (pieces_moved log t) (moved_by t e) old)
 
 -- one action more
 pub acted-more :

@@ -18,12 +18,12 @@ use Rattle.ftp_server_log.specs.declared.line.LogForm.{LogForm}
 use Rattle.ftp_server_log.specs.declared.line.LogLine.{LogLine}
 use Rattle.ftp_server_log.specs.declared.request.Request.{Request}
 use Rattle.ftp_server_log.specs.declared.server_log.ServerLog.{ServerLog}
-use Rattle.ftp_server_log.specs.Forms.{line_in}
+use Rattle.ftp_server_log.specs.Forms.{log_line_text}
 use Rattle.ftp_server_log.specs.Guests.{guest_by, guest_in}
 use Rattle.ftp_server_log.specs.Lines.{lines_by}
 use Rattle.ftp_server_log.specs.Requests.{request_acted, request_by_entry, request_in, with_more}
 use Rattle.ftp_server_log.specs.Tickets.{request_at}
-use Rattle.ftp_server_log.specs.Written.{HasTaken, Knows, Learns, is_lockout, lines_on, lockout_count, log_lines}
+use Rattle.ftp_server_log.specs.Written.{HasTaken, Knows, Learns, is_lockout, lines_on, lockout_count, told_lines}
 use Rattle.ftp_server_log.proofs.GuestLemmas.{guest_in-more}
 use Rattle.ftp_server_log.proofs.RequestLemmas.{request_in-more}
 
@@ -96,19 +96,19 @@ one-more items i e lt is =
 -- after so many entries of a right and acted log these were taken, and the text is theirs
 pub record IsSoFar (o : Options) (form : LogForm) (start : ℕ) (taken : ServerLog) (text : List ℕ) (log : List Entry) : Type 0 where
   pub known : HasTaken o taken log
-  pub told : text ≡ flat_map (line_in form start) (log_lines o log)
+  pub told : text ≡ flat_map (log_line_text form start) (told_lines o log)
 
 -- and after one more
 pub so-far-more :
     (o : Options) (form : LogForm) (start : ℕ) (old new : ServerLog) (before after : List ℕ) (log : List Entry) (e : Entry) →
     IsSoFar o form start old before log →
     HasTaken o new (e ∷ log) →
-    after ≡ before ++ flat_map (line_in form start) (lines_on o log e) →
+    after ≡ before ++ flat_map (log_line_text form start) (lines_on o log e) →
     IsSoFar o form start new after (e ∷ log)
 so-far-more o form start old new before after log e h taken more =
     record {
       known = taken;
       told = more
-          ∙ (ap (λ (text : List ℕ). text ++ flat_map (line_in form start) (lines_on o log e)) h.told
-          ∙ sym (flat_map-append (line_in form start) (log_lines o log) (lines_on o log e)));
+          ∙ (ap (λ (text : List ℕ). text ++ flat_map (log_line_text form start) (lines_on o log e)) h.told
+          ∙ sym (flat_map-append (log_line_text form start) (told_lines o log) (lines_on o log e)));
     }

@@ -38,18 +38,18 @@ abbrev pub bare_byte : ℕ → List ℕ
 bare_byte b = if b == 32 then codes "\\x20" else escape_byte b
 
 -- a text without blanks
-abbrev pub bare : List ℕ → List ℕ
-bare text = flat_map bare_byte text
+abbrev pub blankless : List ℕ → List ℕ
+blankless text = flat_map bare_byte text
 
 -- a path, or a hyphen where there is none
 abbrev pub bare_path : List ℕ → List ℕ
 bare_path [] = codes "-"
-bare_path (b ∷ path) = bare (b ∷ path)
+bare_path (b ∷ path) = blankless (b ∷ path)
 
 -- a second path
-abbrev pub second_path : Option (List ℕ) → List ℕ
-second_path None = []
-second_path (Some path) = field (bare_path path)
+abbrev pub other_path : Option (List ℕ) → List ℕ
+other_path None = []
+other_path (Some path) = field (bare_path path)
 
 -- the words of commands
 abbrev pub command_text : CommandWord → List ℕ
@@ -90,12 +90,12 @@ line_result_text result.OutOfMemory = codes "memory"
 -- when, where and who
 unfoldable pub own_front : ℕ → LogLine → List ℕ
 own_front moment l =
-    iso_text moment ++ number l.session ++ field (maybe_client l.client) ++ field (bare l.user) ++ field (line_word_text l.word)
+    iso_text moment ++ number l.session ++ field (maybe_client l.client) ++ field (blankless l.user) ++ field (line_word_text l.word)
 
 -- how it came out
 unfoldable pub own_back : LogLine → List ℕ
 own_back l =
-    number l.bytes ++ number l.millis ++ field (line_result_text l.result) ++ field (bare_path l.path) ++ second_path l.to ++ 10 ∷ []
+    number l.bytes ++ number l.millis ++ field (line_result_text l.result) ++ field (bare_path l.path) ++ other_path l.to ++ 10 ∷ []
 
 -- a line, at a moment in milliseconds since the first day of 1970
 abbrev pub own_line : ℕ → LogLine → List ℕ
@@ -147,6 +147,6 @@ xferlog_by (Some direction) moment l = xferlog_with moment l direction
 -- ---- both
 
 -- a line in a form, where the server started at a moment in milliseconds since the first day of 1970
-abbrev pub line_in : LogForm → ℕ → LogLine → List ℕ
-line_in form.Own start l = own_line (saturated (start + l.at)) l
-line_in form.Xferlog start l = xferlog_by (direction_of l.word) (saturated (start + l.at)) l
+abbrev pub log_line_text : LogForm → ℕ → LogLine → List ℕ
+log_line_text form.Own start l = own_line (saturated (start + l.at)) l
+log_line_text form.Xferlog start l = xferlog_by (direction_of l.word) (saturated (start + l.at)) l

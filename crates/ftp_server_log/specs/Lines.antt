@@ -88,17 +88,17 @@ line_by_notice e s g user _ = None
 -- ---- transfers
 
 -- how a transfer ended
-abbrev pub result_of : Completion → LineResult
-result_of outcome.Sent = result.Done
-result_of outcome.Written = result.Done
-result_of outcome.Listed = result.Done
-result_of outcome.WriteFailed = result.Failed
-result_of (outcome.Refused kind) = result.Refused kind
-result_of outcome.OutOfMemory = result.OutOfMemory
+abbrev pub line_result_of : Completion → LineResult
+line_result_of outcome.Sent = result.Done
+line_result_of outcome.Written = result.Done
+line_result_of outcome.Listed = result.Done
+line_result_of outcome.WriteFailed = result.Failed
+line_result_of (outcome.Refused kind) = result.Refused kind
+line_result_of outcome.OutOfMemory = result.OutOfMemory
 
 -- how one ended that was not cut
 abbrev pub completed_result : Answer → LineResult
-completed_result (answer.Done found) = result_of found.result
+completed_result (answer.Done found) = line_result_of found.result
 completed_result _ = result.Failed
 
 -- how many bytes it moved, wherever in its file it began

@@ -49,10 +49,11 @@ bytes_sample direction bytes w = sample_text (codes "ftp_bytes_total") w (codes 
 unfoldable pub transfers_sample : (CommandWord → Status7 → ℕ) → CommandWord → Status7 → List ℕ
 transfers_sample count w s = sample_text (codes "ftp_transfers_total") w (codes "result") (status_text s) (count w s)
 
--- the commands that send, and those that receive
+-- the commands that send
 abbrev pub senders : List CommandWord
 senders = Retr ∷ Lists ∷ Nlst ∷ Mlsd ∷ []
 
+-- the commands that receive
 abbrev pub receivers : List CommandWord
 receivers = Stor ∷ Appe ∷ []
 
@@ -66,10 +67,11 @@ statuses =
     status.Success ∷ status.ClientError ∷ status.ServerError ∷ status.PermissionError
     ∷ status.ClientInterrupted ∷ status.NetworkError ∷ status.UnknownError ∷ []
 
--- the bytes that commands have sent, or received
+-- the bytes that commands have sent
 unfoldable pub sent_text : (CommandWord → ℕ) → List ℕ
 sent_text sent = flat_map (bytes_sample (codes "sent") sent) senders
 
+-- the bytes that commands have received
 unfoldable pub received_text : (CommandWord → ℕ) → List ℕ
 received_text received = flat_map (bytes_sample (codes "received") received) receivers
 
@@ -77,23 +79,27 @@ received_text received = flat_map (bytes_sample (codes "received") received) rec
 unfoldable pub ended_text : (CommandWord → Status7 → ℕ) → List ℕ
 ended_text ended = flat_map (λ w. flat_map (transfers_sample ended w) statuses) movers
 
--- each metric without labels
+-- the sessions that are live
 unfoldable pub live_text : ℕ → List ℕ
 live_text n = plain_metric (codes "ftp_sessions") (codes "gauge") (codes "Sessions that are live.") n
 
+-- the sessions that were opened
 unfoldable pub opened_text : ℕ → List ℕ
 opened_text n = plain_metric (codes "ftp_sessions_total") (codes "counter") (codes "Sessions that were opened.") n
 
+-- the logins that failed
 unfoldable pub failures_text : ℕ → List ℕ
 failures_text n = plain_metric (codes "ftp_auth_failures_total") (codes "counter") (codes "Logins that failed.") n
 
+-- the logins that were locked out
 unfoldable pub locked_text : ℕ → List ℕ
 locked_text n = plain_metric (codes "ftp_locked_logins_total") (codes "counter") (codes "Logins that were locked out.") n
 
--- what those with labels are
+-- what the bytes are
 unfoldable pub bytes_head : List ℕ
 bytes_head = metric_head (codes "ftp_bytes_total") (codes "counter") (codes "Bytes that transfers have moved.")
 
+-- what the transfers are
 unfoldable pub ended_head : List ℕ
 ended_head = metric_head (codes "ftp_transfers_total") (codes "counter") (codes "Transfers that have ended.")
 

@@ -58,9 +58,9 @@ abbrev pub started_in_log : List Entry → Ticket → Option ℕ
 started_in_log log t = latest None (start_by t) log
 
 -- how many bytes the pieces of the transfer have moved
-abbrev pub moved_in : List Entry → Ticket → ℕ
-moved_in [] t = 0
-moved_in (e ∷ log) t = queues t e.decision ⇒ 0 ∣ moved_in log t + moved_by t e
+abbrev pub pieces_moved : List Entry → Ticket → ℕ
+pieces_moved [] t = 0
+pieces_moved (e ∷ log) t = queues t e.decision ⇒ 0 ∣ pieces_moved log t + moved_by t e
 
 -- a transfer with its start and its bytes
 abbrev pub with_progress : Option ℕ → ℕ → Request → Request
@@ -68,7 +68,7 @@ with_progress started moved r = record r { started = started; moved = moved }
 
 -- what the log tells of a transfer that is not settled
 abbrev pub request_in : Options → List Entry → Ticket → Option Request
-request_in o log t = option_map (with_progress (started_in_log log t) (saturated (moved_in log t))) (asked_for_in o log t)
+request_in o log t = option_map (with_progress (started_in_log log t) (saturated (pieces_moved log t))) (asked_for_in o log t)
 
 -- so many bytes more, up to the last of their type
 abbrev pub more_moved : ℕ → ℕ → ℕ

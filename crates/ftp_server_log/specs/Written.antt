@@ -24,9 +24,9 @@ abbrev pub lines_on : Options → List Entry → Entry → List LogLine
 lines_on o log e = lines_by (guest_in o log) (request_in o log) e
 
 -- the lines of a log, the oldest first
-abbrev pub log_lines : Options → List Entry → List LogLine
-log_lines o [] = []
-log_lines o (e ∷ log) = log_lines o log ++ lines_on o log e
+abbrev pub told_lines : Options → List Entry → List LogLine
+told_lines o [] = []
+told_lines o (e ∷ log) = told_lines o log ++ lines_on o log e
 
 -- a login was locked out
 abbrev pub is_lockout : Decision → Bool
@@ -37,12 +37,13 @@ is_lockout _ = false
 abbrev pub lockout_count : List Entry → ℕ
 lockout_count log = total (λ e. one_if (is_lockout e.decision)) log
 
--- the form of the lines, and when the server started
+-- the form of the lines
 abbrev pub form_of : ServerLog → LogForm
 form_of l = l.form
 
-abbrev pub start_of : ServerLog → ℕ
-start_of l = l.start
+-- when the server started
+abbrev pub log_start : ServerLog → ℕ
+log_start l = l.start
 
 -- how many locked out logins were counted
 abbrev pub locked_of : ServerLog → ℕ

@@ -4,7 +4,7 @@ ghost use Rattle.std.specs.Prelude.{◌≡◌, ◌++◌, map, OnOk};
 ghost use Rattle.std.specs.List.{flat_map};
 ghost use Rattle.std.specs.Option.{option_to_list};
 ghost use Rattle.ftp_text.specs.Fields.{field};
-ghost use Rattle.ftp_server_log.specs.Forms.{maybe_client, bare_byte, bare, bare_path, second_path, command_text, line_word_text, line_result_text, own_front, own_back, own_line, xferlog_byte, command_direction, direction_of, completion_byte, xferlog_front, xferlog_back, xferlog_with, line_in, v6_digits};
+ghost use Rattle.ftp_server_log.specs.Forms.{maybe_client, bare_byte, blankless, bare_path, other_path, command_text, line_word_text, line_result_text, own_front, own_back, own_line, xferlog_byte, command_direction, direction_of, completion_byte, xferlog_front, xferlog_back, xferlog_with, log_line_text, v6_digits};
 
 use crate::calendar::{put_ctime, put_iso};
 use crate::line::{LineResult, LineWord, LogForm, LogLine};
@@ -50,7 +50,7 @@ fn put_bare_byte(out: &mut Vec<u8>, b: u8) -> Result<(), AllocError>
 
 // A text without blanks.
 fn put_bare(out: &mut Vec<u8>, text: &[u8]) -> Result<(), AllocError>
-    ensures { OnOk result (out.new.items ≡ out.old.items ++ bare text.now) }
+    ensures { OnOk result (out.new.items ≡ out.old.items ++ blankless text.now) }
 {
     for b in text {
         put_bare_byte(out, *b)?;
@@ -71,7 +71,7 @@ fn put_path(out: &mut Vec<u8>, path: &[u8]) -> Result<(), AllocError>
 
 // Writes a second path.
 fn put_second(out: &mut Vec<u8>, path: &Option<Bytes>) -> Result<(), AllocError>
-    ensures { OnOk result (out.new.items ≡ out.old.items ++ second_path path.now) }
+    ensures { OnOk result (out.new.items ≡ out.old.items ++ other_path path.now) }
 {
     match path {
         None => Ok(()),
@@ -247,7 +247,7 @@ pub(crate) fn put_line(
     start: u64,
     line: &LogLine,
 ) -> Result<(), AllocError>
-    ensures { OnOk result (out.new.items ≡ out.old.items ++ line_in form start line.now) }
+    ensures { OnOk result (out.new.items ≡ out.old.items ++ log_line_text form start line.now) }
 {
     let moment = start.saturating_add(line.at);
     match form {
@@ -266,7 +266,7 @@ pub(crate) fn put_maybe(
     start: u64,
     line: &Option<LogLine>,
 ) -> Result<(), AllocError>
-    ensures { OnOk result (out.new.items ≡ out.old.items ++ flat_map (line_in form start) (option_to_list line.now)) }
+    ensures { OnOk result (out.new.items ≡ out.old.items ++ flat_map (log_line_text form start) (option_to_list line.now)) }
 {
     match line {
         Some(line) => put_line(out, form, start, line),

@@ -3,7 +3,7 @@
 ghost use Rattle.std.specs.Prelude.{◌≡◌, ℕ, IfOk, OnOk, nat_eq, ◌++◌};
 ghost use Rattle.std.specs.HashMap as map;
 ghost use Rattle.std.specs.Option.{option_copied};
-ghost use Rattle.ftp_server_log.specs.Lines.{plain_line, client_of_guest, failure_line, failure_result, line_by_decision, line_by_notice, line_by_action, ending_result, result_of, completed_result, completed_bytes, cancelled_bytes, moved_of, settled_line};
+ghost use Rattle.ftp_server_log.specs.Lines.{plain_line, client_of_guest, failure_line, failure_result, line_by_decision, line_by_notice, line_by_action, ending_result, line_result_of, completed_result, completed_bytes, cancelled_bytes, moved_of, settled_line};
 ghost use Rattle.ftp_server_log.specs.Tickets.{request_at};
 
 use crate::guest::{Guest, client_by, opened_number};
@@ -324,8 +324,8 @@ fn line_by_notice(
 }
 
 // How a transfer ended.
-fn result_of(completion: Completion) -> LineResult
-    ensures { result ≡ result_of completion }
+fn line_result_of(completion: Completion) -> LineResult
+    ensures { result ≡ line_result_of completion }
 {
     match completion {
         Completion::Sent | Completion::Written | Completion::Listed => LineResult::Done,
@@ -341,7 +341,7 @@ fn completed(answer: Answer) -> (u64, LineResult)
     ensures outcome { result.1 ≡ completed_result answer }
 {
     match answer {
-        Answer::Done(outcome) => (outcome.bytes, result_of(outcome.result)),
+        Answer::Done(outcome) => (outcome.bytes, line_result_of(outcome.result)),
         _ => (0, LineResult::Failed),
     }
 }

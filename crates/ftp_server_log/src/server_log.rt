@@ -8,10 +8,10 @@ ghost use Rattle.ftp_events.specs.declared.entry.Entry.{Entry};
 ghost use Rattle.ftp_events.specs.Counts.{one_if};
 ghost use Rattle.ftp_events.specs.Tallies.{saturated};
 ghost use Rattle.ftp_events.specs.Right.{IsRight, IsActed};
-ghost use Rattle.ftp_server_log.specs.Forms.{line_in};
+ghost use Rattle.ftp_server_log.specs.Forms.{log_line_text};
 ghost use Rattle.ftp_server_log.specs.Lines.{line_by_action, lines_by};
 ghost use Rattle.ftp_server_log.specs.Tickets.{request_at};
-ghost use Rattle.ftp_server_log.specs.Written.{HasTaken, Knows, Learns, SameKnown, form_of, is_lockout, lines_on, locked_of, log_lines, start_of};
+ghost use Rattle.ftp_server_log.specs.Written.{HasTaken, Knows, Learns, SameKnown, form_of, is_lockout, lines_on, locked_of, told_lines, log_start};
 
 use crate::form::put_maybe;
 use crate::guest::{self, Guest};
@@ -45,7 +45,7 @@ impl ServerLog {
     pub fn new(alloc: Global, form: LogForm, start: u64) -> ServerLog
         ensures taken { (o : Options) → HasTaken o result [] }
         ensures form { form_of result ≡ form }
-        ensures start { start_of result ≡ start }
+        ensures start { log_start result ≡ start }
     {
         ServerLog {
             alloc,
@@ -66,11 +66,11 @@ impl ServerLog {
     /// - After an error nothing is written, and all is known as before (`unchanged`).
     pub fn take(&mut self, entry: &Entry, out: &mut Vec<u8>) -> Result<(), AllocError>
         ensures told { OnOk result ((o : Options) (log : List Entry) → HasTaken o self.old log →
-            out.new.items ≡ out.old.items ++ flat_map (line_in (form_of self.old) (start_of self.old)) (lines_on o log entry.now)) }
+            out.new.items ≡ out.old.items ++ flat_map (log_line_text (form_of self.old) (log_start self.old)) (lines_on o log entry.now)) }
         ensures taken { OnOk result ((o : Options) (log : List Entry) → HasTaken o self.old log →
             IsRight o (entry.now ∷ log) → IsActed o (entry.now ∷ log) → HasTaken o self.new (entry.now ∷ log)) }
         ensures form { form_of self.new ≡ form_of self.old }
-        ensures start { start_of self.new ≡ start_of self.old }
+        ensures start { log_start self.new ≡ log_start self.old }
         ensures unchanged { OnErr result (SameKnown self.old self.new) }
         ensures unwritten { OnErr result (out.new.items ≡ out.old.items) }
     {
@@ -98,7 +98,7 @@ impl ServerLog {
 
     // The lines that an entry tells.
     fn tell(&self, entry: &Entry) -> Result<Vec<u8>, AllocError>
-        ensures { IfOk result (λ text. text.items ≡ flat_map (line_in (form_of self.now) (start_of self.now)) (lines_by (λ s. map.get nat_eq self.now.guests s) (request_at self.now.requests) entry.now)) }
+        ensures { IfOk result (λ text. text.items ≡ flat_map (log_line_text (form_of self.now) (log_start self.now)) (lines_by (λ s. map.get nat_eq self.now.guests s) (request_at self.now.requests) entry.now)) }
     {
         let mut text = Vec::new(self.alloc);
         let line = line_by_decision(self.alloc, &self.guests, entry)?;
@@ -114,7 +114,7 @@ impl ServerLog {
         actions: &[Action],
         text: &mut Vec<u8>,
     ) -> Result<(), AllocError>
-        ensures { OnOk result (text.new.items ≡ text.old.items ++ flat_map (line_in (form_of self.now) (start_of self.now)) (filter_map (line_by_action (λ s. map.get nat_eq self.now.guests s) (request_at self.now.requests) entry.now) actions.now)) }
+        ensures { OnOk result (text.new.items ≡ text.old.items ++ flat_map (log_line_text (form_of self.now) (log_start self.now)) (filter_map (line_by_action (λ s. map.get nat_eq self.now.guests s) (request_at self.now.requests) entry.now) actions.now)) }
     {
         for action in actions {
             let line = line_by_action(self.alloc, &self.guests, &self.requests, entry, action)?;
@@ -182,7 +182,7 @@ fn is_lockout(decision: Decision) -> bool
 ///
 /// - They are the lines that its entries tell, each once and none besides, if the log is right and acted.
 pub fn log_text(alloc: Global, form: LogForm, start: u64, log: &Log) -> Result<Bytes, AllocError>
-    ensures { IfOk result (λ text. (o : Options) → IsRight o log.now.entries → IsActed o log.now.entries → text ≡ flat_map (line_in form start) (log_lines o log.now.entries)) }
+    ensures { IfOk result (λ text. (o : Options) → IsRight o log.now.entries → IsActed o log.now.entries → text ≡ flat_map (log_line_text form start) (told_lines o log.now.entries)) }
 {
     let mut taken = ServerLog::new(alloc, form, start);
     let mut text = Vec::new(alloc);

@@ -5,8 +5,8 @@ use Rattle.std.proofs.lemmas.List.{reverse-reverse}
 use Rattle.ftp_events.specs.declared.entry.Entry.{Entry}
 use Rattle.ftp_events.specs.Right.{IsRight, IsActed}
 use Rattle.ftp_server_log.specs.declared.line.LogForm.{LogForm}
-use Rattle.ftp_server_log.specs.Forms.{line_in}
-use Rattle.ftp_server_log.specs.Written.{lines_on, log_lines}
+use Rattle.ftp_server_log.specs.Forms.{log_line_text}
+use Rattle.ftp_server_log.specs.Written.{lines_on, told_lines}
 use Rattle.ftp_server_log.proofs.TakenLemmas.{IsSoFar, acted-front, one-more, right-front, so-far-more}
 use Rattle.ftp_server_log.proofs.server_log.log_text.Goals as goal
 
@@ -33,7 +33,7 @@ loop-entry-preserved c =
           subst (IsSoFar o c.args.form c.args.start c.take.new.self c.take.new.out.items) (sym more)
           (so-far-more o c.args.form c.args.start c.loop-entry.taken c.take.new.self c.loop-entry.text.items c.take.new.out.items log e so (c.in_ok-take.ensures.taken o log so.known right acted)
           (c.in_ok-take.ensures.told o log so.known
-          ∙ ap₂ (λ (f : LogForm) (n : ℕ). c.loop-entry.text.items ++ flat_map (line_in f n) (lines_on o log e)) c.loop-entry.invariant.0 c.loop-entry.invariant.1)),
+          ∙ ap₂ (λ (f : LogForm) (n : ℕ). c.loop-entry.text.items ++ flat_map (log_line_text f n) (lines_on o log e)) c.loop-entry.invariant.0 c.loop-entry.invariant.1)),
     )
 
 pub returns : goal.returns
@@ -44,4 +44,4 @@ returns c = λ o r a.
     let so = c.loop-entry.invariant.2 o (subst (IsRight o) (sym whole) r) (subst (IsActed o) (sym whole) a) in
     c.from_vec.ensures
     ∙ (so.told
-    ∙ ap (λ (log : List Entry). flat_map (line_in c.args.form c.args.start) (log_lines o log)) (ap (λ (k : ℕ). reverse (take k items)) all ∙ (ap reverse (take-length items) ∙ whole)))
+    ∙ ap (λ (log : List Entry). flat_map (log_line_text c.args.form c.args.start) (told_lines o log)) (ap (λ (k : ℕ). reverse (take k items)) all ∙ (ap reverse (take-length items) ∙ whole)))

@@ -1,7 +1,7 @@
 use Rattle.std.proofs.Common.{◌≡◌, take, reverse}
 use Rattle.ftp_options.specs.declared.options.Options.{Options}
 use Rattle.ftp_events.specs.Right.{IsRight, IsActed}
-use Rattle.ftp_server_log.specs.Written.{form_of, start_of}
+use Rattle.ftp_server_log.specs.Written.{form_of, log_start}
 use Rattle.ftp_server_log.proofs.TakenLemmas.{IsSoFar}
 use Rattle.ftp_server_log.proofs.server_log.log_text.Given as goal
 
@@ -9,6 +9,6 @@ use Rattle.ftp_server_log.proofs.server_log.log_text.Given as goal
 abbrev pub invariant-loop-entry : goal.invariant-loop-entry
 invariant-loop-entry l =
     (form_of l.taken ≡ l.fn.form)
-    × (start_of l.taken ≡ l.fn.start)
+    × (log_start l.taken ≡ l.fn.start)
     × ((o : Options) → IsRight o (reverse l.entry-items) → IsActed o (reverse l.entry-items) →
     IsSoFar o l.fn.form l.fn.start l.taken l.text.items (reverse (take l.entry-index l.entry-items)))
