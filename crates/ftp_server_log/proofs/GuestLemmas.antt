@@ -1,6 +1,6 @@
 -- What an entry of a right and acted log makes of what is known of sessions.
-use Rattle.std.proofs.Common.{◌≡◌, refl, sym, ◌∙◌, ap, subst, ℕ, Bool, true, false, true≢false, ◌||◌, cond, List, [], ◌∷◌, Option, Some, None, eq-eqb, eqb-true, arith}
-use Rattle.std.specs.Prelude.{◌==◌, is_some, not, ◌&&◌, Ok, Err}
+use Rattle.std.proofs.Common.{◌≡◌, refl, sym, ◌∙◌, ap, subst, ℕ, Bool, true, false, true≢false, ◌||◌, cond, List, [], ◌∷◌, Option, Some, None, eqb-true, arith}
+use Rattle.std.specs.Prelude.{◌==◌, not, ◌&&◌, Ok, Err}
 use Rattle.std.specs.Option.{option_map, option_or}
 use Rattle.std.proofs.lemmas.Bool.{or_parts}
 use Rattle.ftp_base.specs.Net.{is_v6}
@@ -8,7 +8,6 @@ use Rattle.ftp_base.specs.declared.net.IpAddr.{IpAddr}
 use Rattle.ftp_base.specs.declared.net.SocketAddr.{SocketAddr}
 use Rattle.ftp_options.specs.declared.options.Options.{Options}
 use Rattle.ftp_options.specs.Modes.{is_pooled, is_proxy, is_control_port}
-use Rattle.ftp_events.specs.declared.action.Action.{Action}
 use Rattle.ftp_events.specs.declared.decision.Decision.{Decision}
 use Rattle.ftp_events.specs.declared.decision.Decision.TheVariants as decision
 use Rattle.ftp_events.specs.declared.decision.Life.{Life}
@@ -20,7 +19,7 @@ use Rattle.ftp_events.specs.declared.event.EventKind.{EventKind}
 use Rattle.ftp_events.specs.declared.event.EventKind.TheVariants as kind
 use Rattle.ftp_events.specs.declared.session.Opening.{Opening}
 use Rattle.ftp_events.specs.declared.session.Session.{Session}
-use Rattle.ftp_events.specs.Acts.{acts, acts_of, subject_acts}
+use Rattle.ftp_events.specs.Acts.{acts, acts_of}
 use Rattle.ftp_events.specs.Board.{holder, holder_of_target}
 use Rattle.ftp_events.specs.Classes.{ends, life, is_stop}
 use Rattle.ftp_events.specs.ConnectionRows.{arrival_row, header_row, holder_row}

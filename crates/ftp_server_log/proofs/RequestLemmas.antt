@@ -9,7 +9,6 @@ use Rattle.ftp_options.specs.declared.options.Options.{Options}
 use Rattle.ftp_transfer.specs.declared.job.Ticket.{Ticket}
 use Rattle.ftp_events.specs.declared.action.Action.{Action}
 use Rattle.ftp_events.specs.declared.decision.Decision.{Decision}
-use Rattle.ftp_events.specs.declared.decision.Decision.TheVariants as decision
 use Rattle.ftp_events.specs.declared.entry.Entry.{Entry}
 use Rattle.ftp_events.specs.declared.session.Pending.{Pending}
 use Rattle.ftp_events.specs.Tallies.{saturated}
@@ -20,7 +19,7 @@ use Rattle.ftp_laws.proofs.TableLemmas.{same-both}
 use Rattle.ftp_server_log.specs.declared.guest.Guest.{Guest}
 use Rattle.ftp_server_log.specs.declared.request.Request.{Request}
 use Rattle.ftp_server_log.specs.Guests.{guest_in}
-use Rattle.ftp_server_log.specs.Requests.{asked_for_in, begins_it, begun_at, more_moved, pieces_moved, request_acted, request_by, request_by_entry, request_decided, request_in, request_of, settles_in, started_in_log, with_more, with_progress}
+use Rattle.ftp_server_log.specs.Requests.{asked_for_in, begins_it, begun_at, more_moved, pieces_moved, request_acted, request_by, request_by_entry, request_in, request_of, settles_in, started_in_log, with_more, with_progress}
 
 -- so many bytes more, where no more are counted than a type has
 pub more-saturated : (m n : ℕ) → more_moved (saturated m) n ≡ saturated (m + n)

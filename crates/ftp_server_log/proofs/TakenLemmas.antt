@@ -1,5 +1,5 @@
 -- What has taken the entries of a log, and what it knows after one more.
-use Rattle.std.proofs.Common.{◌≡◌, refl, sym, ◌∙◌, ap, ap₂, subst, ℕ, ◌+◌, ◌<◌, List, [], ◌∷◌, ◌++◌, length, take, drop, get_or, reverse, Option, arith}
+use Rattle.std.proofs.Common.{◌≡◌, sym, ◌∙◌, ap, ap₂, subst, ℕ, ◌+◌, ◌<◌, List, [], ◌∷◌, ◌++◌, length, take, drop, get_or, reverse, Option, arith}
 use Rattle.std.specs.Prelude.{nat_eq}
 use Rattle.std.specs.HashMap as map
 use Rattle.std.specs.List.{flat_map}
@@ -15,13 +15,12 @@ use Rattle.ftp_events.specs.Tallies.{saturated}
 use Rattle.ftp_laws.specs.Pieces.{moved_by}
 use Rattle.ftp_server_log.specs.declared.guest.Guest.{Guest}
 use Rattle.ftp_server_log.specs.declared.line.LogForm.{LogForm}
-use Rattle.ftp_server_log.specs.declared.line.LogLine.{LogLine}
 use Rattle.ftp_server_log.specs.declared.request.Request.{Request}
 use Rattle.ftp_server_log.specs.declared.server_log.ServerLog.{ServerLog}
 use Rattle.ftp_server_log.specs.Forms.{log_line_text}
-use Rattle.ftp_server_log.specs.Guests.{guest_by, guest_in}
+use Rattle.ftp_server_log.specs.Guests.{guest_by}
 use Rattle.ftp_server_log.specs.Lines.{lines_by}
-use Rattle.ftp_server_log.specs.Requests.{request_acted, request_by_entry, request_in, with_more}
+use Rattle.ftp_server_log.specs.Requests.{request_acted, request_by_entry, with_more}
 use Rattle.ftp_server_log.specs.Tickets.{request_at}
 use Rattle.ftp_server_log.specs.Written.{HasTaken, Knows, Learns, is_lockout, lines_on, lockout_count, told_lines}
 use Rattle.ftp_server_log.proofs.GuestLemmas.{guest_in-more}

@@ -1,5 +1,5 @@
 -- A table by tickets, as it is read and written.
-use Rattle.std.proofs.Common.{◌≡◌, refl, sym, ◌∙◌, ap, ap₂, subst, ℕ, Bool, true, false, ◌&&◌, cond, List, Option, Some, None, eq-eqb, eqb-true}
+use Rattle.std.proofs.Common.{◌≡◌, refl, ◌∙◌, ap, ap₂, subst, ℕ, Bool, true, false, ◌&&◌, cond, Some, eq-eqb, eqb-true}
 use Rattle.std.specs.Prelude.{◌==◌, IsSome}
 use Rattle.std.specs.Cmp.{IsEquivalence}
 use Rattle.std.specs.Map.{lookup, set_value}

@@ -1,5 +1,5 @@
 -- What is known of a session while it lives: where its client is, its name, how far its login is, and its directory.
-use Rattle.std.specs.Prelude.{ℕ, ◌||◌, List, Option, Some, None, codes, unwrap_or}
+use Rattle.std.specs.Prelude.{ℕ, ◌||◌, List, Option, None, unwrap_or}
 use Rattle.std.specs.Option.{option_map}
 use Rattle.ftp_base.specs.Storage.{root}
 use Rattle.ftp_options.specs.declared.options.Options.{Options}

@@ -1,6 +1,6 @@
 -- The lines that an entry tells, one for each: a control connection that opens, a login, one that fails or is locked out, a
 -- transfer that is settled, a change of a file or a directory, and a session that ends.
-use Rattle.std.specs.Prelude.{ℕ, ◌+◌, ◌-◌, List, [], ◌∷◌, ◌++◌, Option, Some, None, codes, filter_map, unwrap_or}
+use Rattle.std.specs.Prelude.{ℕ, ◌+◌, ◌-◌, List, [], ◌++◌, Option, Some, None, codes, filter_map, unwrap_or}
 use Rattle.std.specs.Option.{option_map, option_to_list}
 use Rattle.ftp_base.specs.declared.login.LockState.{LockState}
 use Rattle.ftp_base.specs.declared.login.LockState.TheVariants.{AlreadyLocked}

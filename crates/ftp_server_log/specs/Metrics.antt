@@ -75,9 +75,13 @@ sent_text sent = flat_map (bytes_sample (codes "sent") sent) senders
 unfoldable pub received_text : (CommandWord → ℕ) → List ℕ
 received_text received = flat_map (bytes_sample (codes "received") received) receivers
 
+-- the transfers by a command with each status
+unfoldable pub ended_sample : (CommandWord → Status7 → ℕ) → CommandWord → List ℕ
+ended_sample ended w = flat_map (transfers_sample ended w) statuses
+
 -- the transfers by each command with each status
 unfoldable pub ended_text : (CommandWord → Status7 → ℕ) → List ℕ
-ended_text ended = flat_map (λ w. flat_map (transfers_sample ended w) statuses) movers
+ended_text ended = flat_map (ended_sample ended) movers
 
 -- the sessions that are live
 unfoldable pub live_text : ℕ → List ℕ

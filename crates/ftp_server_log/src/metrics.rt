@@ -8,7 +8,7 @@ ghost use Rattle.ftp_events.specs.declared.entry.Entry.{Entry};
 ghost use Rattle.ftp_events.specs.Counts.{CountsOf};
 ghost use Rattle.ftp_events.specs.Statuses.{word_of};
 ghost use Rattle.ftp_events.specs.Tallies.{of_status, of_word};
-ghost use Rattle.ftp_server_log.specs.Metrics.{bytes_head, bytes_sample, ended_head, ended_text, failures_text, label_text, live_text, locked_text, logins_text, metric_head, metrics_of, metrics_text, opened_text, plain_metric, received_text, sample_text, sent_text, sessions_text, status_text, statuses, transfers_sample};
+ghost use Rattle.ftp_server_log.specs.Metrics.{bytes_head, bytes_sample, ended_head, ended_sample, ended_text, failures_text, label_text, live_text, locked_text, logins_text, metric_head, metrics_of, metrics_text, opened_text, plain_metric, received_text, sample_text, sent_text, sessions_text, status_text, transfers_sample};
 
 use crate::form::command_text;
 use ftp_base::{Bytes, DataChanCmd};
@@ -354,41 +354,56 @@ fn status_text(status: Status7) -> &'static [u8]
     }
 }
 
+// How many transfers by a command had a status.
+fn ended_by(alloc: Global, counters: &Counters, word: CommandWord, status: Status7) -> u64
+    ensures { result ≡ of_word (of_status counters.now.transferred status) word }
+{
+    counters.transferred(&command_of(alloc, word), status)
+}
+
 // The transfers by a command with a status.
 #[tactic(auto, unfolding(crate::specs::Metrics::transfers_sample))]
 fn put_status_of(
     out: &mut Vec<u8>,
+    alloc: Global,
     counters: &Counters,
-    command: &DataChanCmd,
+    word: CommandWord,
     status: Status7,
 ) -> Result<(), AllocError>
-    ensures { OnOk result (out.new.items ≡ out.old.items ++ transfers_sample (λ w s. of_word (of_status counters.now.transferred s) w) (word_of command.now) status) }
+    ensures { OnOk result (out.new.items ≡ out.old.items ++ transfers_sample (λ w s. of_word (of_status counters.now.transferred s) w) word status) }
 {
-    let n = counters.transferred(command, status);
-    let word = CommandWord::of(command);
-    put_sample(
-        out,
-        b"ftp_transfers_total",
-        word,
-        b"result",
-        status_text(status),
-        n,
-    )
+    let n = ended_by(alloc, counters, word, status);
+    let value = status_text(status);
+    put_sample(out, b"ftp_transfers_total", word, b"result", value, n)
 }
 
 // The transfers by a command, with each of these statuses.
 fn put_statuses(
     out: &mut Vec<u8>,
+    alloc: Global,
     counters: &Counters,
-    command: &DataChanCmd,
+    word: CommandWord,
     words: &[Status7],
 ) -> Result<(), AllocError>
-    ensures { OnOk result (out.new.items ≡ out.old.items ++ flat_map (transfers_sample (λ w s. of_word (of_status counters.now.transferred s) w) (word_of command.now)) words.now) }
+    ensures { OnOk result (out.new.items ≡ out.old.items ++ flat_map (transfers_sample (λ w s. of_word (of_status counters.now.transferred s) w) word) words.now) }
 {
     for status in words {
-        put_status_of(out, counters, command, *status)?;
+        put_status_of(out, alloc, counters, word, *status)?;
     }
     Ok(())
+}
+
+// The transfers by a command, with each status.
+#[tactic(auto, unfolding(crate::specs::Metrics::ended_sample))]
+fn put_ended_of(
+    out: &mut Vec<u8>,
+    alloc: Global,
+    counters: &Counters,
+    word: CommandWord,
+) -> Result<(), AllocError>
+    ensures { OnOk result (out.new.items ≡ out.old.items ++ ended_sample (λ w s. of_word (of_status counters.now.transferred s) w) word) }
+{
+    put_statuses(out, alloc, counters, word, &STATUSES)
 }
 
 // The transfers by each of these commands.
@@ -398,11 +413,10 @@ fn put_transfers(
     counters: &Counters,
     words: &[CommandWord],
 ) -> Result<(), AllocError>
-    ensures { OnOk result (out.new.items ≡ out.old.items ++ flat_map (λ w. flat_map (transfers_sample (λ w s. of_word (of_status counters.now.transferred s) w) w) statuses) words.now) }
+    ensures { OnOk result (out.new.items ≡ out.old.items ++ flat_map (ended_sample (λ w s. of_word (of_status counters.now.transferred s) w)) words.now) }
 {
     for word in words {
-        let command = command_of(alloc, *word);
-        put_statuses(out, counters, &command, &STATUSES)?;
+        put_ended_of(out, alloc, counters, *word)?;
     }
     Ok(())
 }

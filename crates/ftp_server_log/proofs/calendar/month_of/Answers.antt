@@ -1,4 +1,4 @@
-use Rattle.std.proofs.Common.{◌≡◌, ◌∙◌, refl, sym, ap, List, ℕ, drop, length, arith}
+use Rattle.std.proofs.Common.{◌≡◌, ◌∙◌, sym, ap, ℕ, drop, length, arith}
 use Rattle.ftp_server_log.specs.Calendar.{month_at}
 use Rattle.ftp_server_log.proofs.CalendarLemmas.{month-later, month-here, month-last}
 use Rattle.ftp_server_log.proofs.calendar.month_of.Goals as goal

@@ -1,4 +1,4 @@
-use Rattle.std.proofs.Common.{◌≡◌, ◌∙◌, sym, ap, subst, ℕ, ◌+◌, ◌-◌, ◌<◌, ◌≤◌, arith}
+use Rattle.std.proofs.Common.{◌≡◌, ◌∙◌, sym, ap, ℕ, ◌+◌, ◌-◌, ◌<◌, ◌≤◌, arith}
 use Rattle.ftp_server_log.specs.Calendar.{year_days, year_at}
 use Rattle.ftp_server_log.proofs.CalendarLemmas.{year-later, year-here, year-last}
 use Rattle.ftp_server_log.proofs.calendar.year_of.Goals as goal

@@ -1,4 +1,4 @@
-use Rattle.std.proofs.Common.{◌∙◌, ap, ℕ, List, ◌++◌}
+use Rattle.std.proofs.Common.{◌∙◌, ap, ℕ, ◌++◌}
 use Rattle.std.specs.Prelude.{codes}
 use Rattle.std.proofs.lemmas.Result.{on_ok_weaker}
 use Rattle.ftp_server_log.specs.Metrics.{bytes_sample, sample_text}

@@ -1,6 +1,5 @@
-use Rattle.std.proofs.Common.{◌∙◌, sym, ap, Option, take, ◌∷◌, [], List}
+use Rattle.std.proofs.Common.{◌∙◌, sym, ap, take, ◌∷◌, []}
 use Rattle.ftp_events.specs.declared.action.Action.{Action}
-use Rattle.ftp_server_log.specs.declared.request.Request.{Request}
 use Rattle.ftp_server_log.specs.Requests.{request_acted}
 use Rattle.ftp_server_log.specs.Tickets.{request_at}
 use Rattle.ftp_server_log.proofs.RequestLemmas.{acted-more}

@@ -1,6 +1,5 @@
 use Rattle.std.proofs.Common.{◌∙◌, ap, ℕ, List, ◌++◌}
 use Rattle.std.specs.List.{flat_map}
-use Rattle.ftp_server_log.specs.declared.line.LogLine.{LogLine}
 use Rattle.ftp_server_log.specs.Forms.{log_line_text}
 use Rattle.ftp_server_log.proofs.TakenLemmas.{lines-known, taken-more}
 use Rattle.ftp_server_log.proofs.server_log.ServerLog.take.Goals as goal
