@@ -128,6 +128,14 @@ class Place:
         """The line of a file in a LIST."""
         return f"-rw-rw-rw- 1 ftp ftp {size:12} Jan 01 1970 {name}"
 
+    def facts(self, name, size):
+        """The facts of a file in an MLSD."""
+        return {"type": "file", "size": str(size)}
+
+    def facts_line(self, name, size):
+        """The line of a file in an MLSD."""
+        return "".join(f"{fact}={value};" for fact, value in self.facts(name, size).items()) + f" {name}"
+
     def put(self, name, data):
         with self.session() as session:
             session.store(f"STOR {name}", data)

@@ -4,8 +4,10 @@ import hashlib
 import json
 import os
 import shutil
+import stat
 import subprocess
 import tempfile
+import time
 from pathlib import Path
 
 from cases import Place, holds, same
@@ -115,6 +117,17 @@ class HomePlace(Place):
     def __init__(self, door, home, source="127.0.0.1"):
         super().__init__(door, source)
         self.home = home
+
+    def changed(self, name, form):
+        """When a file was last changed, by the directory."""
+        return time.strftime(form, time.gmtime((self.home / name).stat().st_mtime))
+
+    def long_line(self, name, size):
+        mode = stat.filemode((self.home / name).stat().st_mode)
+        return f"{mode} 1 ftp ftp {size:12} {self.changed(name, '%b %d %H:%M')} {name}"
+
+    def facts(self, name, size):
+        return {**super().facts(name, size), "modify": self.changed(name, "%Y%m%d%H%M%S")}
 
     def put(self, name, data):
         (self.home / name).write_bytes(data)

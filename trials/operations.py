@@ -34,7 +34,7 @@ def lists(place, told, name, line):
     """The client's output has the line of a file."""
     place.put(name, place.bytes)
     out = ran(place, told, place.words(name)).decode().splitlines()
-    due = line.format(long=place.long_line(name, len(place.bytes)), size=len(place.bytes), name=name)
+    due = line.format(long=place.long_line(name, len(place.bytes)), facts=place.facts_line(name, len(place.bytes)), name=name)
     holds(out.count(due) == 1, f"no line {due!r} in {out}")
 
 
@@ -98,7 +98,7 @@ OPERATIONS = {
     "range": lambda *case: downloads(*case, first=1000, last=PART + 1),
     "list": lambda *case: lists(*case, "{long}"),
     "names": lambda *case: lists(*case, "{name}"),
-    "facts": lambda *case: lists(*case, "type=file;size={size}; {name}"),
+    "facts": lambda *case: lists(*case, "{facts}"),
     "many uploads": uploads_many,
     "many downloads": downloads_many,
     "refused download": is_refused,

@@ -75,7 +75,7 @@ def ftplib_lists(place, name):
         facts = dict(ftp.mlsd())
     holds(place.long_line(name, LENGTH) in lines, f"no line of {name} in {lines}")
     holds(names == sorted(names) == sorted(facts), f"other names in {names} than in {facts}")
-    same(str(facts[name]), str({"type": "file", "size": str(LENGTH)}))
+    same(str(facts[name]), str(place.facts(name, LENGTH)))
 
 
 class Sent(io.BytesIO):
@@ -139,7 +139,8 @@ def plain_listings(place, _):
     place.put("a", body(1234567))
     with place.session() as session:
         same(session.fetch("NLST"), b"a\r\nb\r\n")
-        same(session.fetch("MLSD"), b"type=file;size=1234567; a\r\ntype=file;size=3; b\r\n")
+        lines = [place.facts_line("a", 1234567), place.facts_line("b", 3), ""]
+        same(session.fetch("MLSD"), "\r\n".join(lines).encode())
         lines = [place.long_line("a", 1234567), place.long_line("b", 3), ""]
         same(session.fetch("LIST -la"), "\r\n".join(lines).encode())
 

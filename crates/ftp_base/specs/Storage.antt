@@ -103,9 +103,9 @@ with_place places entry = map.insert places (name entry.0, entry.0) (meta_of ent
 abbrev pub children : Files → List ℕ → map.FinMap place_cmp Meta
 children files dir = fold with_place map.empty (filter (λ e. is_child dir e.0) (map.entries files))
 
--- what a listing shows of a child
+-- what a listing shows of a child, without a mode and a date
 abbrev pub info_of : (List ℕ × List ℕ) × Meta → FileInfo
-info_of child = record { name = child.0.0; meta = child.1 }
+info_of child = record { name = child.0.0; meta = child.1; looks = None }
 
 -- what a listing of a directory shows, in byte order of names and equal names in byte order of paths
 abbrev pub listing : Files → List ℕ → List FileInfo

@@ -56,6 +56,6 @@ pub use notice::{DataEvent, EventMeta, Notice, PresenceEvent};
 pub use outside::{Link, Sink, Source};
 pub use port_error::PortAllocationError;
 pub use reply::{Reply, ReplyCode};
-pub use storage::{FEATURE_RESTART, FileInfo, Meta, Storage, StoreError};
+pub use storage::{FEATURE_RESTART, FileInfo, Looks, Meta, Storage, StoreError};
 pub use trace::TraceId;
 pub use worker::{Gate, Spawner};

@@ -27,11 +27,24 @@ pub struct Meta {
     pub len: u64,
 }
 
+/// The mode and the date of a child of a directory, in plain ASCII.
+#[derive(Clone, Copy, Debug, PartialEq, Eq)]
+pub struct Looks {
+    /// Who may do what, as `rwxr-xr--`.
+    pub mode: [u8; 9],
+    /// When it was last changed, as LIST shows that: `Nov 28 13:57` or `Nov 28  2020`.
+    pub shown: [u8; 12],
+    /// When it was last changed, as `YYYYMMDDHHMMSS` in UTC (RFC 3659, section 2.3).
+    pub modify: [u8; 14],
+}
+
 /// What a listing shows of a child of a directory.
 #[derive(Debug, PartialEq, Eq, Drop)]
 pub struct FileInfo {
     pub name: Bytes,
     pub meta: Meta,
+    /// None where the storage knows neither modes nor dates.
+    pub looks: Option<Looks>,
 }
 
 /// Why a storage did not do what it was asked for.

@@ -2,5 +2,6 @@ pub mod Refusal
 pub mod FileSystem
 pub mod Standing
 pub mod Home
+pub mod Looks
 pub mod Listing
 pub mod Disk

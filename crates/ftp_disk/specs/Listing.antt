@@ -6,6 +6,7 @@ use Rattle.ftp_places.specs.Place.{Location, below_by}
 use Rattle.ftp_disk.specs.declared.standing.Standing.{Standing}
 use Rattle.ftp_disk.specs.declared.standing.Standing.TheVariants.{Nothing, Directory, File}
 use Rattle.ftp_disk.specs.FileSystem.{Answer, Told}
+use Rattle.ftp_disk.specs.Looks.{ShowsLooks}
 use Rattle.ftp_disk.specs.Standing.{ShowsStanding}
 
 -- the place of a name in a directory
@@ -18,10 +19,12 @@ shown_meta Nothing = None
 shown_meta Directory = Some (record { is_dir = true; len = 0 })
 shown_meta (File len) = Some (record { is_dir = false; len = len })
 
--- a child of a directory was looked at, and what is shown is what was told of it: a directory, or a file with its length
+-- a child of a directory was looked at, and what is shown is what was told of it: a directory, or a file with its length,
+-- and its looks
 pub record WasShown (told : Told) (place : Location) (info : FileInfo) : Type 0 where
   pub answer : Answer
   pub standing : Standing
   pub asked : told (child place info.name) answer
   pub tells : ShowsStanding answer standing
   pub meta : shown_meta standing ≡ Some info.meta
+  pub looks : ShowsLooks answer info.looks

@@ -9,6 +9,7 @@ use std::fs::{File, Metadata, OpenOptions, TryLockError};
 use std::io;
 use std::io::{Read, Write};
 use std::rt::Files;
+use std::time::Clock;
 
 /// How many bytes of names are read at a time. No name fits a small buffer.
 const NAMES_LEN: usize = 32_768;
@@ -41,7 +42,7 @@ fn read_names<D: Read>(alloc: Global, dir: &mut D) -> io::Result<Vec<u8>> {
     Ok(names)
 }
 
-impl<R: Files<File = File>> FileSystem for Below<R> {
+impl<R: Files<File = File> + Clock> FileSystem for Below<R> {
     ghost use Rattle.std.specs.Prelude.{⊤};
 
     type File = File;
@@ -50,6 +51,13 @@ impl<R: Files<File = File>> FileSystem for Below<R> {
 
     fn look(&self, place: &Place) -> io::Result<Metadata> {
         self.rt.symlink_metadata(place.text())
+    }
+
+    fn now(&self) -> i64 {
+        match self.rt.since_1970() {
+            Ok(time) => i64::try_from(time.as_secs()).unwrap_or(i64::MAX),
+            Err(_) => 0,
+        }
     }
 
     fn open(&self, place: &Place) -> io::Result<File> {

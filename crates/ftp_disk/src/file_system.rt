@@ -26,6 +26,9 @@ pub trait FileSystem {
     fn look(&self, place: &Place) -> io::Result<Metadata>
         ensures { told self.now place.now result };
 
+    /// Seconds since 1970 by the system's clock; 0 where that cannot be read.
+    fn now(&self) -> i64;
+
     /// Opens a file to read it from its front.
     fn open(&self, place: &Place) -> io::Result<Self::File>
         requires unlinked { IsUnlinked (told self.now) place.now }

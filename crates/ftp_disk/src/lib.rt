@@ -11,6 +11,7 @@ mod disk;
 mod file_system;
 mod home;
 mod listing;
+mod looks;
 mod opened;
 mod opening;
 mod purse;

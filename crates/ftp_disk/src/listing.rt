@@ -7,6 +7,7 @@ ghost use Rattle.ftp_disk.specs.FileSystem.{IsUnlinked};
 ghost use Rattle.ftp_disk.specs.Listing.{WasShown, shown_meta};
 
 use crate::file_system::FileSystem;
+use crate::looks::looks_told;
 use crate::opening::in_directory;
 use crate::refusals::refusal;
 use crate::standing::{Standing, resolve, standing_of};
@@ -35,6 +36,7 @@ fn shown<S: FileSystem>(
     alloc: Global,
     place: &Place,
     name: &[u8],
+    now: i64,
 ) -> Result<Option<FileInfo>, AllocError>
     ensures shown { IfOk result (λ shown. IfSome shown (WasShown (S.told system.now) place.now)) }
 {
@@ -43,14 +45,16 @@ fn shown<S: FileSystem>(
         Err(PlaceError::Name) => return Ok(None),
         Err(PlaceError::OutOfMemory) => return Err(AllocError),
     };
-    let Ok(found) = standing_of(system.look(&child)) else {
+    let answer = system.look(&child);
+    let looks = looks_told(&answer, now);
+    let Ok(found) = standing_of(answer) else {
         return Ok(None);
     };
     let Some(meta) = meta_of(found) else {
         return Ok(None);
     };
     let name = Bytes::from_slice(alloc, name)?;
-    Ok(Some(FileInfo { name, meta }))
+    Ok(Some(FileInfo { name, meta, looks }))
 }
 
 // Puts what is shown of a name behind the rest.
@@ -60,10 +64,11 @@ fn show<S: FileSystem>(
     alloc: Global,
     place: &Place,
     name: &[u8],
+    now: i64,
 ) -> Result<(), AllocError>
     ensures shown { OnOk result (All (WasShown (S.told system.now) place.now) infos.old.items → All (WasShown (S.told system.now) place.now) infos.new.items) }
 {
-    if let Some(info) = shown(system, alloc, place, name)? {
+    if let Some(info) = shown(system, alloc, place, name, now)? {
         infos.push(info)?;
     }
     Ok(())
@@ -84,9 +89,10 @@ fn children<S: FileSystem>(
     ensures shown { IfOk result (λ infos. All (WasShown (S.told system.now) place.now) infos.items) }
 {
     let parts = parts(alloc, names)?;
+    let now = system.now();
     let mut infos = Vec::new(alloc);
     for name in &parts {
-        show(&mut infos, system, alloc, place, *name)?;
+        show(&mut infos, system, alloc, place, *name, now)?;
     }
     Ok(infos)
 }

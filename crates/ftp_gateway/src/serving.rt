@@ -19,6 +19,7 @@ use std::alloc::{AllocError, Global};
 use std::fs::File;
 use std::rt::Files;
 use std::sync::{Arc, Wait};
+use std::time::Clock;
 
 /// What a gateway uses of the runtime.
 pub trait GatewayRuntime: ServerRuntime + Files<File = File> + AllocGlobal {}
@@ -33,7 +34,7 @@ pub struct HomeDepot<R: Wait + Drop> {
     users: CurrentUsers<R>,
 }
 
-impl<R: Wait + Files<File = File> + Copy + Drop> Depot for HomeDepot<R> {
+impl<R: Wait + Files<File = File> + Clock + Copy + Drop> Depot for HomeDepot<R> {
     type Store = DiskStorage<R, Below<R>>;
 
     fn store(&self) -> Result<DiskStorage<R, Below<R>>, AllocError> {

@@ -1,11 +1,13 @@
 //! The storage over a real directory, beside the one in memory.
 
-use ftp_base::{Bytes, MemoryStorage, Storage};
+use ftp_base::{Bytes, Looks, MemoryStorage, Storage};
 use ftp_disk::{Below, Budget, DiskStorage, Home, Homes, usage};
 use std::alloc::{AllocError, Global};
-use std::os::unix::fs::symlink;
+use std::fs::{File, Permissions};
+use std::os::unix::fs::{PermissionsExt, symlink};
 use std::sync::Arc;
 use std::test::Fail;
+use std::time::{Duration, UNIX_EPOCH};
 use std::{env, fs, io, process};
 
 /// A new directory for a test. In it stand `home`, which has a directory `d` with another one `e` in it, and a link to it.
@@ -63,7 +65,7 @@ struct Call {
     number: u8,
 }
 
-/// What a storage answers, as a text.
+/// What a storage answers, as a text without modes and dates.
 fn answer<S: Storage>(
     storage: &mut S,
     alloc: Global,
@@ -78,7 +80,12 @@ fn answer<S: Storage>(
             format!(in alloc; "{found:?}")
         }
         1 => {
-            let found = storage.list(&user, &path);
+            let mut found = storage.list(&user, &path);
+            if let Ok(infos) = &mut found {
+                for info in infos.iter_mut() {
+                    info.looks = None;
+                }
+            }
             format!(in alloc; "{found:?}")
         }
         2 => {
@@ -170,9 +177,9 @@ fn links_strangers_and_readers_are_refused(rt: HostRuntime) -> Result<(), Fail> 
     let denied = "Err(Kind(PermissionDenied))";
     let missing = "Err(Kind(PermanentFileNotAvailable))";
     let only_d =
-        "Ok([FileInfo { name: Bytes { items: [100] }, meta: Meta { is_dir: true, len: 0 } }])";
+        "Ok([FileInfo { name: Bytes { items: [100] }, meta: Meta { is_dir: true, len: 0 }, looks: None }])";
     let only_e =
-        "Ok([FileInfo { name: Bytes { items: [101] }, meta: Meta { is_dir: true, len: 0 } }])";
+        "Ok([FileInfo { name: Bytes { items: [101] }, meta: Meta { is_dir: true, len: 0 }, looks: None }])";
     for (user, kind, path, due) in [
         ("ann", 0, "/passwd", denied),
         ("ann", 3, "/passwd", denied),
@@ -253,6 +260,28 @@ fn uploads_share_the_budget_of_a_home(rt: HostRuntime) -> Result<(), Fail> {
     }
     let left = usage(&Below::new(rt), alloc, root.as_str())?;
     assert!(rt; found == 4 && left == 9, "{found} {left}");
+    fs::remove_dir_all(&rt, base.as_str())?;
+    Ok(())
+}
+
+#[test]
+fn a_listing_shows_the_mode_and_the_date(rt: HostRuntime) -> Result<(), Fail> {
+    let alloc = rt.alloc();
+    let base = make_base(&rt, "looks")?;
+    let file = File::create(&rt, below(alloc, base.as_str(), "/home/d/a")?.as_str())?;
+    file.set_permissions(Permissions::from_mode(0o640))?;
+    // The 28th of November 2020, 13:57:09 UTC.
+    file.set_modified(UNIX_EPOCH + Duration::from_secs(1_606_571_829))?;
+    let mut storage = DiskStorage::new(rt, alloc, Below::new(rt), homes(alloc, base.as_str())?);
+    let user = Bytes::from_slice(alloc, b"ann")?;
+    let path = Bytes::from_slice(alloc, b"/d")?;
+    let infos = storage.list(&user, &path)?;
+    let looks = Looks {
+        mode: *b"rw-r-----",
+        shown: *b"Nov 28  2020",
+        modify: *b"20201128135709",
+    };
+    assert_eq!(rt; infos[0].looks, Some(looks));
     fs::remove_dir_all(&rt, base.as_str())?;
     Ok(())
 }

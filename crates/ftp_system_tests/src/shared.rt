@@ -44,6 +44,7 @@ fn what_one_transfer_stores_another_finds(rt: HostRuntime) -> Result<(), Fail> {
     let info = FileInfo {
         name: Bytes::from_slice(alloc, b"a")?,
         meta: HELLO,
+        looks: None,
     };
     assert_eq!(rt; listed[0], info);
     assert_eq!(rt; two.features(), FEATURE_RESTART);

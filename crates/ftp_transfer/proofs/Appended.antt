@@ -14,3 +14,10 @@ pub appended-5 : (t t1 t2 t3 t4 t5 a b c d e : List ℕ) → t1 ≡ t ++ a → t
     t5 ≡ t ++ ((((a ++ b) ++ c) ++ d) ++ e)
 appended-5 t t1 t2 t3 t4 t5 a b c d e e1 e2 e3 e4 e5 =
     appended-3 t t3 t4 t5 ((a ++ b) ++ c) d e (appended-3 t t1 t2 t3 a b c e1 e2 e3) e4 e5
+
+-- seven texts put one after the other
+pub appended-7 : (t t1 t2 t3 t4 t5 t6 t7 a b c d e f g : List ℕ) →
+    t1 ≡ t ++ a → t2 ≡ t1 ++ b → t3 ≡ t2 ++ c → t4 ≡ t3 ++ d → t5 ≡ t4 ++ e → t6 ≡ t5 ++ f → t7 ≡ t6 ++ g →
+    t7 ≡ t ++ ((((((a ++ b) ++ c) ++ d) ++ e) ++ f) ++ g)
+appended-7 t t1 t2 t3 t4 t5 t6 t7 a b c d e f g e1 e2 e3 e4 e5 e6 e7 =
+    appended-3 t t5 t6 t7 ((((a ++ b) ++ c) ++ d) ++ e) f g (appended-5 t t1 t2 t3 t4 t5 a b c d e e1 e2 e3 e4 e5) e6 e7

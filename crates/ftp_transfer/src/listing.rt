@@ -1,10 +1,10 @@
 //! The texts of LIST, NLST (RFC 959, section 4.1.3) and MLSD (RFC 3659, section 7).
 
 ghost use Rattle.std.specs.Prelude.{◌≡◌, ◌++◌, true, IfOk, OnOk, codes, decimal};
-ghost use Rattle.ftp_transfer.specs.Listing.{facts, mode, twelve_places, entry_of, listing_text as text_of};
+ghost use Rattle.ftp_transfer.specs.Listing.{facts, modify_fact, mode, date_shown, twelve_places, entry_of, listing_text as text_of};
 ghost use Rattle.ftp_transfer.specs.Transfer.{is_listing};
 
-use ftp_base::{Bytes, DataChanCmd, FileInfo, Meta};
+use ftp_base::{Bytes, DataChanCmd, FileInfo, Looks, Meta};
 use std::alloc::{AllocError, Global};
 
 /// The facts that MLSD tells of a file or a directory.
@@ -41,6 +41,7 @@ fn put_entry(text: &mut Vec<u8>, command: &DataChanCmd, child: &FileInfo) -> Res
         DataChanCmd::Nlst { .. } => text.extend_from_slice(child.name.as_slice())?,
         DataChanCmd::Mlsd { .. } => {
             put_facts(text, &child.meta)?;
+            put_modify(text, child.looks)?;
             text.extend_from_slice(b" ")?;
             text.extend_from_slice(child.name.as_slice())?;
         }
@@ -63,26 +64,54 @@ fn put_facts(text: &mut Vec<u8>, meta: &Meta) -> Result<(), AllocError>
     Ok(())
 }
 
-fn put_long(text: &mut Vec<u8>, child: &FileInfo) -> Result<(), AllocError>
-    ensures { OnOk result (text.new.items ≡ text.old.items ++ (mode child.now.meta ++ codes " 1 ftp ftp " ++ twelve_places child.now.meta.len ++ codes " Jan 01 1970 " ++ child.now.name)) }
+fn put_modify(text: &mut Vec<u8>, looks: Option<Looks>) -> Result<(), AllocError>
+    ensures { OnOk result (text.new.items ≡ text.old.items ++ modify_fact looks) }
 {
-    text.extend_from_slice(mode_of(&child.meta))?;
+    if let Some(looks) = looks {
+        text.extend_from_slice(b"modify=")?;
+        text.extend_from_slice(&looks.modify)?;
+        text.extend_from_slice(b";")?;
+    }
+    Ok(())
+}
+
+fn put_long(text: &mut Vec<u8>, child: &FileInfo) -> Result<(), AllocError>
+    ensures { OnOk result (text.new.items ≡ text.old.items ++ (mode child.now.meta child.now.looks ++ codes " 1 ftp ftp " ++ twelve_places child.now.meta.len ++ codes " " ++ date_shown child.now.looks ++ codes " " ++ child.now.name)) }
+{
+    put_mode(text, &child.meta, child.looks)?;
     text.extend_from_slice(b" 1 ftp ftp ")?;
     put_size(text, child.meta.len)?;
-    text.extend_from_slice(b" Jan 01 1970 ")?;
+    text.extend_from_slice(b" ")?;
+    put_date(text, child.looks)?;
+    text.extend_from_slice(b" ")?;
     text.extend_from_slice(child.name.as_slice())?;
     Ok(())
 }
 
-/// Who may do what, in ten letters.
-fn mode_of(meta: &Meta) -> &'static [u8]
-    ensures { result.now ≡ mode meta.now }
+/// Writes what it is and who may do what, in ten letters.
+fn put_mode(text: &mut Vec<u8>, meta: &Meta, looks: Option<Looks>) -> Result<(), AllocError>
+    ensures { OnOk result (text.new.items ≡ text.old.items ++ mode meta.now looks) }
 {
-    if meta.is_dir {
-        b"drwxrwxrwx"
-    } else {
-        b"-rw-rw-rw-"
+    match (looks, meta.is_dir) {
+        (None, true) => text.extend_from_slice(b"drwxrwxrwx")?,
+        (None, false) => text.extend_from_slice(b"-rw-rw-rw-")?,
+        (Some(looks), is_dir) => {
+            text.push(if is_dir { b'd' } else { b'-' })?;
+            text.extend_from_slice(&looks.mode)?;
+        }
     }
+    Ok(())
+}
+
+/// Writes when it was last changed.
+fn put_date(text: &mut Vec<u8>, looks: Option<Looks>) -> Result<(), AllocError>
+    ensures { OnOk result (text.new.items ≡ text.old.items ++ date_shown looks) }
+{
+    match looks {
+        None => text.extend_from_slice(b"Jan 01 1970")?,
+        Some(looks) => text.extend_from_slice(&looks.shown)?,
+    }
+    Ok(())
 }
 
 /// Writes a number in twelve places, on the right of them.

@@ -110,6 +110,7 @@ pub(crate) fn infos_of(
         found.push(FileInfo {
             name: Bytes::from_vec(place.0),
             meta,
+            looks: None,
         })?;
     }
     Ok(found)

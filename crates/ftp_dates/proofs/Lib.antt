@@ -1,0 +1,3 @@
+mod DateLemmas
+mod DigitLemmas
+mod Examples
