@@ -88,6 +88,9 @@ pub trait Storage {
     // Whether reading a file may fail for want of memory.
     ghost reads_take_memory: { Bool };
 
+    // Whether the last upload that came whole stands under its path.
+    ghost is_settled: { Self → Bool } = { λ _. true };
+
     /// What the storage can do: the sum of the `FEATURE_` constants.
     fn features(&self) -> u32
         ensures { result ≡ abilities self.now };
@@ -180,5 +183,21 @@ pub trait Storage {
         ensures made { WentThrough result → OneMore (calls self.old) (calls self.new) }
         ensures unchanged { OnErr result (files self.new ≡ files self.old) }
         ensures untold { files self.old ≡ None → files self.new ≡ None }
+        ensures storage_kept { StorageKept rule faults fault_limit self.old self.new };
+
+    /// Is told that all bytes of an upload have come, before its link is closed. An error is how the upload ends.
+    ///
+    /// # Proved
+    ///
+    /// - An upload that came whole is settled, or the call fails, finds no memory, or is refused, which a storage that tells its
+    ///   files does not do; files and rule stay (`settled`, `refused`, `fault_rose`, `unlisted`, `as_listed`, `unchanged`,
+    ///   `storage_kept`).
+    fn settle(&mut self, user: &Bytes, path: &Bytes) -> Result<(), StoreError>
+        ensures settled { OnOk result (is_settled self.new ≡ true) }
+        ensures refused { Answers (files self.old) None result }
+        ensures fault_rose { IsErrOf result StoreError.Failed → HasRisen (faults self.old) (faults self.new) }
+        ensures unlisted { (IsErrOf result StoreError.Failed → ⊥) → AllWell (λ call. call) (calls self.old) (calls self.new) }
+        ensures as_listed { IsErrOf result StoreError.Failed → StorageMet (calls self.old) (calls self.new) }
+        ensures unchanged { files self.new ≡ files self.old }
         ensures storage_kept { StorageKept rule faults fault_limit self.old self.new };
 }

@@ -1,6 +1,6 @@
 //! The files of users' homes, as a storage.
 
-ghost use Rattle.std.specs.Prelude.{◌≡◌, ◌+◌, ◌^◌, ◌<◌, ◌≤◌, false, length, Some, IfOk, OnOk, IsErrOf};
+ghost use Rattle.std.specs.Prelude.{◌≡◌, ◌+◌, ◌^◌, ◌<◌, ◌≤◌, false, length, Some, IsOk, IfOk, OnOk, IsErrOf};
 ghost use Rattle.ftp_base.specs.declared.error_kind.ErrorKind.TheVariants.{PermissionDenied};
 ghost use Rattle.ftp_base.specs.Outside.{HasRisen};
 ghost use Rattle.ftp_disk.specs.Disk.{place_in_home, IsReached, WasFound, WasListed};
@@ -310,5 +310,13 @@ impl<R: Wait + Drop, S: FileSystem + Drop> Storage for DiskStorage<R, S> {
     {
         let grown = self.write(user, path, bytes);
         self.counted(grown)
+    }
+
+    // An upload goes into its file as it comes, so nothing is left to be done.
+    fn settle(&mut self, _user: &Bytes, _path: &Bytes) -> Result<(), StoreError>
+        ensures done { IsOk result }
+        ensures unchanged { self.new ≡ self.old }
+    {
+        Ok(())
     }
 }

@@ -86,4 +86,12 @@ impl Storage for AnnsFiles {
         }
         grown
     }
+
+    fn settle(&mut self, user: &Bytes, path: &Bytes) -> Result<(), StoreError> {
+        let settled = self.files.settle(user, path);
+        if let Err(StoreError::Failed) = &settled {
+            self.faults = self.faults.saturating_add(1);
+        }
+        settled
+    }
 }

@@ -1,7 +1,8 @@
 //! One job, from its gate to its last entry in the journal.
 
-ghost use Rattle.std.specs.Prelude.{◌≡◌, ◌+◌, ◌-◌, ◌<◌, ◌≤◌, ◌⊎◌, IfOk, IfErr, IfSome, OnOk, OnErr};
+ghost use Rattle.std.specs.Prelude.{◌≡◌, ◌+◌, ◌-◌, ◌<◌, ◌≤◌, ◌⊎◌, true, IfOk, IfErr, IfSome, OnOk, OnErr};
 ghost use Rattle.ftp_events.specs.Leads.{views};
+ghost use Rattle.ftp_transfer.specs.declared.job.Completion.TheVariants.{Written};
 ghost use Rattle.ftp_shared.specs.Answers.{moved_in, outcome_in};
 ghost use Rattle.ftp_shared.specs.Moments.{TakesMoments};
 ghost use Rattle.ftp_shared.specs.Runs.{IsLastOf, RunsOn, StopsOn, IsUntouched, IsUntold, site};
@@ -26,6 +27,7 @@ use std::sync::Wait;
 /// - An outcome is that of a run of this job on the storage and the link handed in, from what had moved before, and all
 ///   holds of it that `execute` says: what moved, what was left, why it ended, that it suits the command (`RunsOn` in
 ///   `ftp_shared/specs/Runs.antt`) (`runs`).
+/// - An upload is told as `Written` only where the storage, told that it came whole, settled it (`settled`).
 /// - At a piece a front of what such a run moves was moved, of at least the bytes that were told, and the link was
 ///   closed (`StopsOn`) (`stops`).
 /// - Its moment is the last that was taken of the edge; at least one was taken for each entry, and nothing else
@@ -57,6 +59,8 @@ pub fn serve_job<R: Wait, H: Serving, S: Storage, L: Link, G: Gate, E: Edge>(
     ensures stops { IfOk result (λ s. IfSome (moved_in s.receipt.entry.answer) (λ told.
         StopsOn (site (views S.files S.rule S.faults S.fault_limit S.calls L.left L.sending L.faults L.fault_limit L.calls) S.reads_take_memory L.takes_memory)
         job told storage.old storage.new link.old link.new)) }
+    ensures settled { IfOk result (λ s. IfSome (outcome_in s.receipt.entry.answer) (λ outcome.
+        outcome.result ≡ Written → S.is_settled storage.new ≡ true)) }
     ensures moments { IfOk result (λ s. TakesMoments (E.view edge.old) (E.view edge.new) (share.new.count - share.old.count) s.receipt.entry.event.at) }
     ensures share { OnOk result (share.old.count < share.new.count) }
 

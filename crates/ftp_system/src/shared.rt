@@ -173,4 +173,12 @@ impl<R: Wait + Drop, S: Storage + Drop> Storage for SharedStorage<R, S> {
         }
         grown
     }
+
+    fn settle(&mut self, user: &Bytes, path: &Bytes) -> Result<(), StoreError> {
+        let settled = self.files.lock(&self.rt).settle(user, path);
+        if let Err(StoreError::Failed) = &settled {
+            self.faults = self.faults.saturating_add(1);
+        }
+        settled
+    }
 }

@@ -41,6 +41,7 @@ pub fn store<S: Storage, L: Link>(
     ensures countable { IsDone (result_of result.end) → job.now.done + result.bytes < 2 ^ 64 - 1 }
 
     ensures suits { suits (result_of result.end) job.now.command ≡ true }
+    ensures settled { result_of result.end ≡ done.Written → S.is_settled storage.new ≡ true }
     ensures cause { Caused (done.Refused kind.ConnectionClosed)
         (LinkRose (L.faults link.old) (L.faults link.new) (L.calls link.old) (L.calls link.new) (L.sending link.new).last_fault) (L.sending link.old).last_fault (L.sending link.new).last_fault
         (StorageRose (S.faults storage.old) (S.faults storage.new) (S.calls storage.old) (S.calls storage.new))
@@ -94,6 +95,7 @@ pub fn append<S: Storage, L: Link>(
     ensures countable { IsDone (result_of result.end) → job.now.done + result.bytes < 2 ^ 64 - 1 }
 
     ensures suits { suits (result_of result.end) job.now.command ≡ true }
+    ensures settled { result_of result.end ≡ done.Written → S.is_settled storage.new ≡ true }
     ensures cause { Caused (done.Refused kind.ConnectionClosed)
         (LinkRose (L.faults link.old) (L.faults link.new) (L.calls link.old) (L.calls link.new) (L.sending link.new).last_fault) (L.sending link.old).last_fault (L.sending link.new).last_fault
         (StorageRose (S.faults storage.old) (S.faults storage.new) (S.calls storage.old) (S.calls storage.new))
@@ -157,6 +159,7 @@ pub fn fill<S: Storage, L: Link>(
     ensures countable { IsDone (result_of result.end) → job.now.done + result.bytes < 2 ^ 64 - 1 }
 
     ensures suits { suits (result_of result.end) job.now.command ≡ true }
+    ensures settled { result_of result.end ≡ done.Written → S.is_settled storage.new ≡ true }
     ensures cause { Caused (done.Refused kind.ConnectionClosed)
         (LinkRose (L.faults link.old) (L.faults link.new) (L.calls link.old) (L.calls link.new) (L.sending link.new).last_fault) (L.sending link.old).last_fault (L.sending link.new).last_fault
         (StorageRose (S.faults storage.old) (S.faults storage.new) (S.calls storage.old) (S.calls storage.new))
@@ -199,6 +202,7 @@ fn store_piece<S: Storage, L: Link>(
     ensures countable { IfSome result.end (λ e. IsDone e.result → job.now.done + result.bytes < 2 ^ 64 - 1) }
 
     ensures suits { IfSome result.end (λ e. suits e.result job.now.command ≡ true) }
+    ensures settled { IfSome result.end (λ e. e.result ≡ done.Written → S.is_settled storage.new ≡ true) }
     ensures cause { IfSome result.end (λ e. Caused (done.Refused kind.ConnectionClosed)
         (LinkRose (L.faults link.old) (L.faults link.new) (L.calls link.old) (L.calls link.new) (L.sending link.new).last_fault) (L.sending link.old).last_fault (L.sending link.new).last_fault
         (StorageRose (S.faults storage.old) (S.faults storage.new) (S.calls storage.old) (S.calls storage.new))
@@ -222,7 +226,7 @@ fn store_piece<S: Storage, L: Link>(
         return Turn::last(0, Completion::Refused(ErrorKind::LocalError), None);
     }
     match link.read(&mut buffer[..room]) {
-        Ok(0) => Turn::last(0, Completion::Written, None),
+        Ok(0) => settle(job, storage),
         Ok(n) => append_read(job, &buffer[..n], storage),
         Err(_) => Turn::last(
             0,
@@ -253,6 +257,24 @@ fn append_read<S: Storage>(job: &Job, bytes: &[u8], storage: &mut S) -> Turn
 {
     match storage.append(&job.user, &job.path, bytes) {
         Ok(()) => Turn::more(bytes.len() as u64),
+        Err(error) => Turn::last(0, stopped_by(error), None),
+    }
+}
+
+/// Tells the storage that the upload came whole, and ends it.
+fn settle<S: Storage>(job: &Job, storage: &mut S) -> Turn
+    ensures last { result.bytes ≡ 0 }
+    ensures ends { IfSome result.end (λ e. (e.fault ≡ None) × ((e.result ≡ done.Written)
+        ⊎ StopsStoring (StorageRose (S.faults storage.old) (S.faults storage.new) (S.calls storage.old) (S.calls storage.new))
+        (λ k. IsSome (S.files storage.old) → ⊥) e.result)) }
+    ensures over { IsSome result.end }
+    ensures settled { IfSome result.end (λ e. e.result ≡ done.Written → S.is_settled storage.new ≡ true) }
+    ensures unchanged { S.files storage.new ≡ S.files storage.old }
+    ensures storage_kept { StorageKept S.rule S.faults S.fault_limit storage.old storage.new }
+    ensures storage_held { IfSome result.end (λ e. StorageWent (S.calls storage.old) (S.calls storage.new) e.result) }
+{
+    match storage.settle(&job.user, &job.path) {
+        Ok(()) => Turn::last(0, Completion::Written, None),
         Err(error) => Turn::last(0, stopped_by(error), None),
     }
 }

@@ -50,6 +50,7 @@ use std::alloc::Global;
 ///   memory is found, is done (`complete`).
 /// - No count of faults falls, and no limit of faults rises (`storage_counts`, `link_counts`).
 /// - RETR answers want of memory only where the storage's reads or the link's writes may (`no_memory`).
+/// - An upload is told as `Written` only where the storage, told that it came whole, settled it (`settled`).
 pub fn execute<S: Storage, L: Link>(
     alloc: Global,
     job: Job,
@@ -72,6 +73,7 @@ pub fn execute<S: Storage, L: Link>(
         (L.left link.new) (L.sending link.new) (L.faults link.new) (L.calls link.new))
         result → IsDone result.result }
     ensures no_memory { is_retrieve job.command ≡ true → S.reads_take_memory ≡ false → L.takes_memory ≡ false → result.result ≡ done.OutOfMemory → ⊥ }
+    ensures settled { result.result ≡ done.Written → S.is_settled storage.new ≡ true }
     ensures storage_counts { CountsOn S.faults S.fault_limit storage.old storage.new }
     ensures link_counts { CountsOn L.faults L.fault_limit link.old link.new }
 {
@@ -88,7 +90,7 @@ pub fn execute<S: Storage, L: Link>(
 /// - A piece of a RETR, a STOR or an APPE moves what such a turn moves of what is left behind earlier pieces, and
 ///   leaves the link as open as before; the job then counts its bytes (`Went` in `ftp_transfer/specs/Ran.antt`). Or it
 ///   ends the transfer, and then all holds that `execute` says (`ran`, `raised`, `suits`, `complete`, `no_memory`,
-///   `storage_counts`, `link_counts`).
+///   `settled`, `storage_counts`, `link_counts`).
 pub fn execute_piece<S: Storage, L: Link>(
     alloc: Global,
     job: &mut Job,
@@ -110,6 +112,7 @@ pub fn execute_piece<S: Storage, L: Link>(
         (L.left link.new) (L.sending link.new) (L.faults link.new) (L.calls link.new))
         o → IsDone o.result) }
     ensures no_memory { is_retrieve job.old.command ≡ true → S.reads_take_memory ≡ false → L.takes_memory ≡ false → IfEnded result (λ o. o.result ≡ done.OutOfMemory → ⊥) }
+    ensures settled { IfEnded result (λ o. o.result ≡ done.Written → S.is_settled storage.new ≡ true) }
     ensures storage_counts { CountsOn S.faults S.fault_limit storage.old storage.new }
     ensures link_counts { CountsOn L.faults L.fault_limit link.old link.new }
 {
@@ -138,6 +141,7 @@ fn run<S: Storage, L: Link>(alloc: Global, job: Job, storage: &mut S, link: &mut
         (result.bytes - job.done) result.result result.fault }
     ensures suits { suits result.result job.command ≡ true }
     ensures no_memory { is_retrieve job.command ≡ true → S.reads_take_memory ≡ false → L.takes_memory ≡ false → result.result ≡ done.OutOfMemory → ⊥ }
+    ensures settled { result.result ≡ done.Written → S.is_settled storage.new ≡ true }
     ensures storage_counts { CountsOn S.faults S.fault_limit storage.old storage.new }
     ensures closed { (L.sending link.new).closed ≡ (L.sending link.old).closed }
     ensures link_counts { CountsOn L.faults L.fault_limit link.old link.new }
@@ -182,6 +186,7 @@ fn take_turn<S: Storage, L: Link>(
     ensures told { IsSome (S.files storage.old) → IsSome (S.files storage.new) }
     ensures suits { suits (result_of result.end) job.now.command ≡ true }
     ensures no_memory { is_retrieve job.now.command ≡ true → S.reads_take_memory ≡ false → L.takes_memory ≡ false → IfSome result.end (λ e. e.result ≡ done.OutOfMemory → ⊥) }
+    ensures settled { result_of result.end ≡ done.Written → S.is_settled storage.new ≡ true }
     ensures storage_counts { CountsOn S.faults S.fault_limit storage.old storage.new }
     ensures closed { (L.sending link.new).closed ≡ (L.sending link.old).closed }
     ensures link_counts { CountsOn L.faults L.fault_limit link.old link.new }

@@ -10,7 +10,7 @@ use crate::error_kind::ErrorKind;
 use crate::storage::{FEATURE_RESTART, FileInfo, Meta, Storage, StoreError};
 
 impl Storage for MemoryStorage {
-    ghost use Rattle.std.specs.Prelude.{◌≡◌, ◌+◌, ◌^◌, ◌<◌, ◌≤◌, length, Some, IsSomeAnd, false, IfOk, OnOk, OnErr, IsErrOf};
+    ghost use Rattle.std.specs.Prelude.{◌≡◌, ◌+◌, ◌^◌, ◌<◌, ◌≤◌, length, Some, IsSomeAnd, false, IsOk, IfOk, OnOk, OnErr, IsErrOf};
     ghost use Rattle.ftp_base.specs.Calls.{NoneFailed};
     ghost use Rattle.ftp_base.specs.Kept.{StorageKept};
     ghost use Rattle.ftp_base.specs.Memory.{StorageMet};
@@ -135,6 +135,14 @@ impl Storage for MemoryStorage {
             return Err(StoreError::Kind(kind));
         }
         self.grow(path.as_slice(), bytes)?;
+        Ok(())
+    }
+
+    // Nothing is left to be done, and no call is counted.
+    fn settle(&mut self, _user: &Bytes, _path: &Bytes) -> Result<(), StoreError>
+        ensures done { IsOk result }
+        ensures unchanged { self.new ≡ self.old }
+    {
         Ok(())
     }
 }

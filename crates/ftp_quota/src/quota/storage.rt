@@ -27,6 +27,8 @@ impl<S: Storage + Drop> Storage for Quota<S> {
 
     ghost reads_take_memory = { S.reads_take_memory };
 
+    ghost is_settled = { λ q. S.is_settled q.inner };
+
     fn features(&self) -> u32 {
         self.inner.features()
     }
@@ -164,5 +166,19 @@ impl<S: Storage + Drop> Storage for Quota<S> {
             Some(accounts) => append_owned(accounts, &mut self.inner, user, path, bytes),
             None => self.inner.append(user, path, bytes),
         }
+    }
+
+    fn settle(&mut self, user: &Bytes, path: &Bytes) -> Result<(), StoreError>
+        ensures settled { OnOk result (S.is_settled self.new.inner ≡ true) }
+        ensures refused { Answers (S.files self.old.inner) None result }
+        ensures fault_rose { IsErrOf result StoreError.Failed → HasRisen (S.faults self.old.inner) (S.faults self.new.inner) }
+        ensures unlisted { (IsErrOf result StoreError.Failed → ⊥) → AllWell (λ call. call) (S.calls self.old.inner) (S.calls self.new.inner) }
+        ensures as_listed { IsErrOf result StoreError.Failed → StorageMet (S.calls self.old.inner) (S.calls self.new.inner) }
+        ensures same_owners { self.new.accounts ≡ self.old.accounts }
+        ensures unchanged { S.files self.new.inner ≡ S.files self.old.inner }
+        ensures same_rule { quota_rule self.new.accounts (S.rule self.new.inner) ≡ quota_rule self.old.accounts (S.rule self.old.inner) }
+        ensures counts { CountsOn S.faults S.fault_limit self.old.inner self.new.inner }
+    {
+        self.inner.settle(user, path)
     }
 }

@@ -53,6 +53,16 @@ returns-in-Ended-clause-runs g c =
     c.in-Ended.ensures.ran c.in-Ended.ensures.suits c.in-Ended.ensures.no_memory))
     c.finish.ensures.next
 
+-- an upload is written only where it was settled
+pub returns-in-Ended-clause-settled : goal.returns-in-Ended-clause-settled
+returns-in-Ended-clause-settled g c =
+    IfOk-weaker c.finish.result _ _
+    (λ s next.
+    outcome-told _ s.receipt.entry.answer c.in-Ended.outcome
+    (answer-told g.H.Serving.options s.receipt (end_of c.pieces.job c.now-at.result) (Done c.in-Ended.outcome) next)
+    c.in-Ended.ensures.settled)
+    c.finish.ensures.next
+
 pub returns-in-Ended-clause-stops : goal.returns-in-Ended-clause-stops
 returns-in-Ended-clause-stops g c =
     IfOk-weaker c.finish.result _ _
@@ -99,6 +109,12 @@ returns-in-Over-clause-next g c =
 
 pub returns-in-Over-clause-runs : goal.returns-in-Over-clause-runs
 returns-in-Over-clause-runs g c =
+    let over = c.in-Over.ensures in
+    bytes-alone _ c.in-Over.submitted.receipt.entry.answer over.bytes
+    (answer-told g.H.Serving.options c.in-Over.submitted.receipt (piece_of c.pieces.job over.at) (Moved over.bytes) over.next)
+
+pub returns-in-Over-clause-settled : goal.returns-in-Over-clause-settled
+returns-in-Over-clause-settled g c =
     let over = c.in-Over.ensures in
     bytes-alone _ c.in-Over.submitted.receipt.entry.answer over.bytes
     (answer-told g.H.Serving.options c.in-Over.submitted.receipt (piece_of c.pieces.job over.at) (Moved over.bytes) over.next)
