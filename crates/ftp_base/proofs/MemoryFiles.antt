@@ -3,7 +3,7 @@ use Rattle.std.proofs.Common.{◌≡◌, ◌≢◌, ℕ, Bool, true, false, cond
 use Rattle.std.specs.Prelude.{IsSome, Result, Ok, Err, OnErr}
 use Rattle.std.specs.Option.{option_map, option_and_then}
 use Rattle.std.specs.FinMap as map
-use Rattle.std.specs.Map.{lookup, set_value}
+use Rattle.std.specs.Map.{lookup, set_value, remove_entry}
 use Rattle.std.specs.BTreeMap.{insert_entry, is_at}
 use Rattle.std.specs.declared.cmp.Ordering.TheVariants.{Less, Equal, Greater}
 use Rattle.std.specs.Ordering.{nat_cmp, eq_by_cmp, is_eq}
@@ -204,3 +204,29 @@ file_has_node nodes path there none =
 pub after_error : {A E : Type 0} (r : Result A E) (P : Type 0) → P → OnErr r P
 after_error (Ok x) P p = tt
 after_error (Err e) P p = p
+
+find-remove_other : (q path : List ℕ) (nodes : Nodes) → eq_by_cmp (slice_cmp nat_cmp) q path ≡ false →
+    find (slice_cmp nat_cmp) q (items (remove_entry (at_path path) nodes)) ≡ find (slice_cmp nat_cmp) q (items nodes)
+find-remove_other q path [] apart = refl
+find-remove_other q path (e ∷ nodes) apart =
+    elim (at_path path e.0) as (λ b. eq_by_cmp (slice_cmp nat_cmp) path e.0.items ≡ b → find (slice_cmp nat_cmp) q (items (cond b nodes (e ∷ remove_entry (at_path path) nodes))) ≡ find (slice_cmp nat_cmp) q (items (e ∷ nodes))) [
+      | true ↦ λ same.
+          let equal : e.0.items ≡ path = sym (tied path e.0.items same) in
+          rw (equal, apart) refl
+      | false ↦ λ other. ap (cond (eq_by_cmp (slice_cmp nat_cmp) q e.0.items) (Some (item_of e.1))) (find-remove_other q path nodes apart)
+    ] refl
+
+-- a node that is taken away, so that none is left at its path, is an item that is removed
+pub files_of-remove_entry : (nodes : Nodes) (path : List ℕ) → lookup (at_path path) (remove_entry (at_path path) nodes) ≡ None →
+    files_of (remove_entry (at_path path) nodes) ≡ map.remove (files_of nodes) path
+files_of-remove_entry nodes path gone =
+    map.same_map nat_list_cmp_total paths_apart _ _ (λ q.
+    map.get-from_entries nat_list_cmp_total (items (remove_entry (at_path path) nodes)) q
+    ∙ elim (eq_by_cmp (slice_cmp nat_cmp) q path) as (λ b. eq_by_cmp (slice_cmp nat_cmp) q path ≡ b → find (slice_cmp nat_cmp) q (items (remove_entry (at_path path) nodes)) ≡ cond b None (find (slice_cmp nat_cmp) q (items nodes))) [
+      | true ↦ λ same.
+          let equal : q ≡ path = tied q path same in
+          rw equal (find-items path (remove_entry (at_path path) nodes) ∙ ap (option_map item_of) gone)
+      | false ↦ λ apart. find-remove_other q path nodes apart
+    ] refl
+    ∙ ap (cond (eq_by_cmp (slice_cmp nat_cmp) q path) None) (sym (map.get-from_entries nat_list_cmp_total (items nodes) q))
+    ∙ sym (map.get-remove nat_list_cmp_total (files_of nodes) path q))

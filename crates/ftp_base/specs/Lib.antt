@@ -14,3 +14,4 @@ pub mod Calls
 pub mod Memory
 pub mod MemoryStorage
 pub mod Kept
+pub mod Moved

@@ -54,6 +54,7 @@ pub use message::ControlChanMsg;
 pub use net::{IpAddr, SocketAddr, SocketAddrPair};
 pub use notice::{DataEvent, EventMeta, Notice, PresenceEvent};
 pub use outside::{Link, Sink, Source};
+pub use path::{is_below, parent_of};
 pub use port_error::PortAllocationError;
 pub use reply::{Reply, ReplyCode};
 pub use storage::{FEATURE_RESTART, FileInfo, Looks, Meta, Storage, StoreError};

@@ -1,5 +1,6 @@
 //! A storage in memory.
 
+mod changes;
 mod listing;
 mod storage;
 mod stored_files;
@@ -23,7 +24,7 @@ pub(crate) struct Node {
 }
 
 impl Node {
-    ghost use Rattle.std.specs.Prelude.{◌≡◌, ◌++◌, OnOk, OnErr};
+    ghost use Rattle.std.specs.Prelude.{◌≡◌, ◌++◌, IfOk, OnOk, OnErr};
     ghost use Rattle.ftp_base.specs.Storage.{cut, meta_of};
     ghost use Rattle.ftp_base.specs.MemoryStorage.{item_of};
 
@@ -48,6 +49,16 @@ impl Node {
                 self.bytes.as_slice().len() as u64
             },
         }
+    }
+
+    /// An equal node.
+    fn copy(&self, alloc: Global) -> Result<Node, AllocError>
+        ensures { IfOk result (λ copy. item_of copy ≡ item_of self.now) }
+    {
+        Ok(Node {
+            is_dir: self.is_dir,
+            bytes: Vec::from_slice(alloc, self.bytes.as_slice())?,
+        })
     }
 
     /// Puts bytes at the end.

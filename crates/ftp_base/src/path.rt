@@ -3,6 +3,7 @@
 ghost use Rattle.std.specs.Prelude.{◌≡◌, ◌-◌, not, length};
 ghost use Rattle.std.specs.List.{suffix_len};
 ghost use Rattle.std.specs.Str.{bytes_eq};
+ghost use Rattle.ftp_base.specs.Moved.{is_below};
 ghost use Rattle.ftp_base.specs.Storage.{root, is_slash, parent, name, is_child};
 
 /// Says whether a path lies in a directory.
@@ -19,7 +20,7 @@ pub(crate) fn is_root(path: &[u8]) -> bool
 }
 
 /// The directory that a path lies in.
-pub(crate) fn parent_of(path: &[u8]) -> &[u8]
+pub fn parent_of(path: &[u8]) -> &[u8]
     ensures { result.now ≡ parent path.now }
 {
     let start = name_start(path);
@@ -27,6 +28,13 @@ pub(crate) fn parent_of(path: &[u8]) -> &[u8]
         return b"/".as_slice();
     }
     &path[..start - 1]
+}
+
+/// Says whether a path lies below a directory.
+pub fn is_below(dir: &[u8], path: &[u8]) -> bool
+    ensures { result ≡ is_below dir.now path.now }
+{
+    path.starts_with(dir) && path.len() > dir.len() && path[dir.len()] == b'/'
 }
 
 /// What a path is called in its directory.

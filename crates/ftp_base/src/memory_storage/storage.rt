@@ -147,7 +147,7 @@ impl Storage for MemoryStorage {
     }
 }
 /// What is told of a file or a directory.
-fn meta_at(standing: Standing<'_>) -> Meta
+pub(super) fn meta_at(standing: Standing<'_>) -> Meta
     ensures { result ≡ meta_of (standing_item standing.entry) }
 {
     match standing {
