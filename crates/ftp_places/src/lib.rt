@@ -8,4 +8,5 @@ mod names;
 mod place;
 
 pub use laws::names_are_plain;
+pub use names::names_of;
 pub use place::{Place, PlaceError};

@@ -41,7 +41,7 @@ fn parts(alloc: Global, path: &[u8]) -> Result<Vec<&[u8]>, AllocError>
 }
 
 /// The names that a path leads through from the root, from which `..` leads nowhere else.
-pub(crate) fn names_of<'a>(alloc: Global, path: &'a [u8]) -> Result<Vec<&'a [u8]>, AllocError>
+pub fn names_of<'a>(alloc: Global, path: &'a [u8]) -> Result<Vec<&'a [u8]>, AllocError>
     ensures { IfOk result (λ names. map (λ n. n.now) names.items ≡ names_of path.now) }
 {
     let parts = parts(alloc, path)?;
