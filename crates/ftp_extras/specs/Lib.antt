@@ -1,0 +1,10 @@
+pub mod Moment
+pub mod Archive
+pub mod ReplyLines
+pub mod Extra
+pub mod Words
+pub mod Texts
+pub mod Plan
+pub mod Answers
+pub mod MemoryArchive
+pub mod Laws

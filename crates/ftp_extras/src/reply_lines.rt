@@ -1,0 +1,57 @@
+//! Replies as they are sent (RFC 959, section 4.2).
+
+ghost use Rattle.std.specs.Prelude.{◌≡◌, ◌++◌, ℕ, List, IfOk, OnOk};
+ghost use Rattle.std.specs.List.{flat_map};
+ghost use Rattle.ftp_extras.specs.ReplyLines.{OneLine, ManyLines, line_with_end, reply_bytes};
+ghost use Rattle.ftp_extras.specs.Extra.{says_text, tells};
+
+use crate::extra::Extra;
+use ftp_base::{Bytes, ControlChanMsg, Reply, ReplyCode};
+use std::alloc::{AllocError, Global};
+
+/// Puts a line at the end of a text.
+pub(crate) fn put_line(text: &mut Vec<u8>, line: &[u8]) -> Result<(), AllocError>
+    ensures { OnOk result (text.new.items ≡ text.old.items ++ line_with_end line.now) }
+{
+    text.extend_from_slice(line)?;
+    text.extend_from_slice(b"\r\n")?;
+    Ok(())
+}
+
+/// A reply of one line, of a code that the hub does not send.
+pub(crate) fn say(alloc: Global, code: &[u8], text: &[u8]) -> Result<Extra, AllocError>
+    ensures { IfOk result (λ x. x ≡ says_text (OneLine code.now text.now)) }
+{
+    let mut line = Vec::from_slice(alloc, code)?;
+    line.extend_from_slice(b" ")?;
+    put_line(&mut line, text)?;
+    Ok(Extra::Say(Bytes::from_vec(line)))
+}
+
+/// A reply of several lines, of which those between the first and the last one come with their ends.
+pub(crate) fn say_many(
+    alloc: Global,
+    code: &[u8],
+    first: &[u8],
+    middle: &[u8],
+    last: &[u8],
+) -> Result<Extra, AllocError>
+    ensures { IfOk result (λ x. (lines : List (List ℕ)) → middle.now ≡ flat_map line_with_end lines → x ≡ says_text (ManyLines code.now first.now lines last.now)) }
+{
+    let mut text = Vec::from_slice(alloc, code)?;
+    text.extend_from_slice(b"-")?;
+    put_line(&mut text, first)?;
+    text.extend_from_slice(middle)?;
+    text.extend_from_slice(code)?;
+    text.extend_from_slice(b" ")?;
+    put_line(&mut text, last)?;
+    Ok(Extra::Say(Bytes::from_vec(text)))
+}
+
+/// A reply that the hub sends.
+pub(crate) fn tell(alloc: Global, code: ReplyCode, text: &[u8]) -> Result<Extra, AllocError>
+    ensures { IfOk result (λ x. x ≡ tells code text.now) }
+{
+    let msg = Bytes::from_slice(alloc, text)?;
+    Ok(Extra::Tell(ControlChanMsg::CommandChannelReply(Reply::CodeAndMsg { code, msg })))
+}
