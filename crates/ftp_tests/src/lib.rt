@@ -7,6 +7,8 @@
 #[cfg(test)]
 mod control_lines;
 #[cfg(test)]
+mod extra_words;
+#[cfg(test)]
 mod links;
 #[cfg(test)]
 mod lockout;
