@@ -24,6 +24,9 @@ pub mod Twins
 pub mod Pieces
 pub mod States
 pub mod Lines
+pub mod Paths
 pub mod Told
 pub mod Tidy
 pub mod Claiming
+pub mod Recording
+pub mod Telling

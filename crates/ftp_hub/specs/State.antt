@@ -1,17 +1,23 @@
 -- What a state tells: plain data, from which the tables of a hub can be made.
-use Rattle.std.specs.Prelude.{◌≡◌, ℕ, ◌≤◌, ◌==◌, ◌↔◌, Bool, true, false, List, [], ◌∷◌, length, map as each, Option, Some, None, nat_eq, if◌then◌else◌}
+use Rattle.std.specs.Prelude.{◌≡◌, ◌≢◌, ℕ, ◌≤◌, ◌==◌, ◌&&◌, ◌||◌, ◌↔◌, Bool, true, false, not, List, [], ◌∷◌, filter, length, map as each, slice_get, Option, Some, None, is_some, nat_eq, unwrap_or, if◌then◌else◌}
+use Rattle.std.specs.List.{AllByRecursion}
 use Rattle.std.specs.Option.{option_map, option_and_then}
 use Rattle.std.proofs.Common.{BuildHasherDefault, FoldHasher}
 use Rattle.std.specs.HashMap as map
 use Rattle.ftp_base.specs.declared.net.IpAddr.{IpAddr}
-use Rattle.ftp_base.specs.declared.net.IpAddr.TheVariants.{V4, V6}
+use Rattle.ftp_base.specs.declared.net.IpAddr.TheVariants.{V4}
 use Rattle.ftp_options.specs.declared.options.Options.{Options}
+use Rattle.ftp_options.specs.declared.lockout.FailedLoginsBlock.{FailedLoginsBlock}
+use Rattle.ftp_options.specs.declared.lockout.FailedLoginsBlock.TheVariants.{IP, User, UserAndIP}
 use Rattle.ftp_options.specs.declared.lockout.FailedLoginsPolicy.{FailedLoginsPolicy}
 use Rattle.ftp_options.specs.Modes.{is_legacy}
 use Rattle.ftp_lockout.specs.declared.cache.Failures.{Failures}
 use Rattle.ftp_lockout.specs.declared.key.LoginKey.{LoginKey}
-use Rattle.ftp_lockout.specs.Keys.{same_key}
-use Rattle.ftp_numbers.specs.Used.{has, is_used as is_in_lines}
+use Rattle.ftp_lockout.specs.Failures.{recorded}
+use Rattle.ftp_lockout.specs.Keys.{key_at}
+use Rattle.ftp_lockout.specs.Places.{AreInKeyOrder}
+use Rattle.ftp_numbers.specs.Used.{IsApart, has, is_used as is_in_lines}
+use Rattle.ftp_transfer.specs.Path.{is_slash}
 use Rattle.ftp_switchboard.specs.Board.{holder_at}
 use Rattle.ftp_events.specs.declared.entry.Entry.{Entry}
 use Rattle.ftp_events.specs.declared.session.Login.{Login}
@@ -157,9 +163,17 @@ abbrev pub queued_told : ℕ → Session → Option QueuedLine
 queued_told s v =
     option_map (λ (p : Pending). record { session = s; nr = p.ticket.nr; offset = p.offset; command = p.command; path = p.path }) v.pending
 
--- lines tell all of session s: an empty slot has no age, and a transfer that waits is of the session and its user
+-- the path begins with a slash
+abbrev pub IsAbsolute : List ℕ → Type 0
+IsAbsolute path = is_slash (slice_get path 0) ≡ true
+
+-- lines tell all of session s: an empty slot has no age, a transfer waits in a slot that is not, and is of the session and
+-- its user, and paths begin with a slash
 pub record IsTidy (s : ℕ) (v : Session) : Type 0 where
+  pub absolute : IsAbsolute v.cwd
+  pub path : (p : Pending) → v.pending ≡ Some p → IsAbsolute p.path
   pub aged : v.slot ≡ Empty → v.slot_at ≡ 0
+  pub placed : (p : Pending) → v.pending ≡ Some p → v.slot ≢ Empty
   pub own : (p : Pending) → v.pending ≡ Some p → p.ticket.session ≡ s
   pub user : (p : Pending) → v.pending ≡ Some p → p.user ≡ logged_user v.login v.name
 
@@ -172,27 +186,45 @@ abbrev pub session_by_lines : List SessionLine → List SlotLine → List Queued
 session_by_lines sessions slots queued s =
     option_map (with_transfer (queued_line queued s)) (option_map (with_slot (slot_line slots s)) (option_map bare_session (session_line sessions s)))
 
+-- lines of sessions, slots and transfers are in order of the numbers, a slot's is of a session that is there, a transfer's of
+-- one that has a slot, and paths begin with a slash
+pub record AreSessionLines (sessions : List SessionLine) (slots : List SlotLine) (queued : List QueuedLine) : Type 0 where
+  pub sessions_rise : IsAscending (each (λ (line : SessionLine). line.session) sessions)
+  pub slots_rise : IsAscending (each (λ (line : SlotLine). line.session) slots)
+  pub queued_rise : IsAscending (each (λ (line : QueuedLine). line.session) queued)
+  pub live : (s : ℕ) → is_some (slot_line slots s) ≡ true → is_some (session_line sessions s) ≡ true
+  pub placed : (s : ℕ) → is_some (queued_line queued s) ≡ true → is_some (slot_line slots s) ≡ true
+  pub absolute : AllByRecursion (λ (line : SessionLine). IsAbsolute line.cwd) sessions
+  pub paths : AllByRecursion (λ (line : QueuedLine). IsAbsolute line.path) queued
+
 -- lines tell the sessions of a table, in order of their numbers
 pub record TellsSessions (table : Sessions) (sessions : List SessionLine) (slots : List SlotLine) (queued : List QueuedLine) : Type 0 where
   pub told : (s : ℕ) → session_by_lines sessions slots queued s ≡ map.get nat_eq table s
-  pub in_order : IsAscending (each (λ (line : SessionLine). line.session) sessions)
+  pub len : length sessions ≡ map.hash_map_len table
+  pub form : AreSessionLines sessions slots queued
 
 -- the job of a line, as it runs
 abbrev pub told_running : JobLine → Running
 told_running line = record { job = line.job; marked = line.marked }
 
--- each job is of the session that it stands for
+-- each job is of the session that it stands for, and its path begins with a slash
 abbrev pub AreOwn : (ℕ → Option Running) → Type 0
-AreOwn jobs = (s : ℕ) (r : Running) → jobs s ≡ Some r → r.job.ticket.session ≡ s
+AreOwn jobs = (s : ℕ) (r : Running) → jobs s ≡ Some r → (r.job.ticket.session ≡ s) × IsAbsolute r.job.path
 
 -- the line of a job
 abbrev pub job_told : Running → JobLine
 job_told r = record { job = r.job; marked = r.marked }
 
--- lines tell the jobs of a table, in order of their sessions
+-- lines of jobs are in order of their sessions, and paths begin with a slash
+pub record AreJobLines (lines : List JobLine) : Type 0 where
+  pub in_order : IsAscending (each (λ (line : JobLine). line.job.ticket.session) lines)
+  pub paths : AllByRecursion (λ (line : JobLine). IsAbsolute line.job.path) lines
+
+-- lines tell the jobs of a table
 pub record TellsJobs (table : Jobs) (lines : List JobLine) : Type 0 where
   pub told : (s : ℕ) → option_map told_running (job_line lines s) ≡ map.get nat_eq table s
-  pub in_order : IsAscending (each (λ (line : JobLine). line.job.ticket.session) lines)
+  pub len : length lines ≡ map.hash_map_len table
+  pub form : AreJobLines lines
 
 -- session s by its lines
 abbrev pub session_in : HubState → ℕ → Option Session
@@ -202,32 +234,57 @@ session_in x s = session_by_lines x.sessions x.slots x.queued s
 abbrev pub running_in : HubState → ℕ → Option Running
 running_in x s = option_map told_running (job_line x.jobs s)
 
+-- the key of an address, or of none, with a name
+abbrev pub key_with : Option IpAddr → List ℕ → LoginKey
+key_with None name = record { version = 0; number = 0; name = name }
+key_with (Some ip) name = key_at ip name
+
 -- the key of a record: without an address the version is 0, without a name the name is empty
 abbrev pub record_key : RecordLine → LoginKey
-record_key line = record { version = version line.ip; number = number line.ip; name = name line.user }
-  where
-    version : Option IpAddr → ℕ
-    version None = 0
-    version (Some (V4 n)) = 4
-    version (Some (V6 n)) = 6
+record_key line = key_with line.ip (unwrap_or line.user [])
 
-    number : Option IpAddr → ℕ
-    number None = 0
-    number (Some (V4 n)) = n
-    number (Some (V6 n)) = n
+-- the failures of a record
+abbrev pub record_failures : RecordLine → Failures
+record_failures line = record { count = line.count; last = line.at }
 
-    name : Option (List ℕ) → List ℕ
-    name None = []
-    name (Some text) = text
+-- the records by their keys
+abbrev pub entries_of : List RecordLine → List (LoginKey × Failures)
+entries_of lines = each (λ (line : RecordLine). (record_key line, record_failures line)) lines
 
 -- the failures of a key by the records
 abbrev pub recorded_in : List RecordLine → LoginKey → Option Failures
-recorded_in [] key = None
-recorded_in (line ∷ lines) key = if same_key (record_key line) key then Some (record { count = line.count; last = line.at }) else recorded_in lines key
+recorded_in lines key = recorded (entries_of lines) key
 
--- where failed logins lock at all
+-- the record is of a key that some policy makes: it has an address, a name, or both
+abbrev pub is_keyed : RecordLine → Bool
+is_keyed line = is_some line.ip || is_some line.user
+
+-- lines of records are of such keys, in order of these
+pub record AreRecords (lines : List RecordLine) : Type 0 where
+  pub keyed : AllByRecursion (λ (line : RecordLine). is_keyed line ≡ true) lines
+  pub in_order : AreInKeyOrder (entries_of lines)
+
+-- the record is of a key that this policy makes: it has an address and a name, or one of them alone
+abbrev pub is_made_by : FailedLoginsBlock → RecordLine → Bool
+is_made_by UserAndIP line = is_some line.ip && is_some line.user
+is_made_by IP line = is_some line.ip && not (is_some line.user)
+is_made_by User line = not (is_some line.ip) && is_some line.user
+
+-- each record is; where failed logins do not lock there is none
+abbrev pub AreMadeBy : Option FailedLoginsPolicy → List RecordLine → Type 0
+AreMadeBy None lines = lines ≡ []
+AreMadeBy (Some policy) lines = AllByRecursion (λ (line : RecordLine). is_made_by policy.block_by line ≡ true) lines
+
+-- the failures of a key, where failed logins lock at all: records of keys that the policy does not make count for nothing
 abbrev pub failures_told : Option FailedLoginsPolicy → List RecordLine → LoginKey → Option Failures
-failures_told policy lines key = option_and_then (λ p. recorded_in lines key) policy
+failures_told policy lines key = option_and_then (λ p. recorded_in (filter (is_made_by p.block_by) lines) key) policy
+
+-- the lists have the order and the form of a state's lines
+pub record IsForm (x : HubState) : Type 0 where
+  pub used : IsApart x.used
+  pub records : AreRecords x.records
+  pub sessions : AreSessionLines x.sessions x.slots x.queued
+  pub jobs : AreJobLines x.jobs
 
 -- the state answers each question as the log does
 pub record IsState (o : Options) (log : List Entry) (x : HubState) : Type 0 where
@@ -251,9 +308,13 @@ pub record TellsState (hub : Hub) (x : HubState) : Type 0 where
   pub stopped : hub.stopped ≡ x.stopped
   pub events : hub.count ≡ x.events
 
+-- the session is there, waits for port p, and this is its client
+abbrev pub WaitsFor : Option Session → IpAddr → ℕ → Type 0
+WaitsFor there client p = (v : Session) × (there ≡ Some v) × (v.opening.client ≡ client) × (v.slot ≡ Waits p)
+
 -- the session is there, waits for port p, and its client is a
 abbrev pub WaitsAt : Option Session → ℕ → ℕ → Type 0
-WaitsAt there a p = (v : Session) × (there ≡ Some v) × (v.opening.client ≡ V4 a) × (v.slot ≡ Waits p)
+WaitsAt there a p = WaitsFor there (V4 a) p
 
 -- by the state, session s waits for port p, and its client is a
 abbrev pub WaitsIn : HubState → ℕ → ℕ → ℕ → Type 0

@@ -20,7 +20,8 @@ pub fn states_stand_for_logs()
 /// # Proved
 ///
 /// - Of a hub that stands for a log each live session has an age only where it has a slot, and its transfer waits in the slot,
-///   for its user (`sessions`); each job is of the session that it stands for (`jobs`).
+///   for its user (`sessions`); each job is of the session that it stands for (`jobs`); directories and paths begin with a
+///   slash (`sessions`, `jobs`).
 pub fn sessions_are_told()
     ensures sessions { LiveSessionsAreTidy }
     ensures jobs { RunningJobsAreOwn }

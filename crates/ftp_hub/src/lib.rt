@@ -12,6 +12,7 @@ mod jobs;
 mod laws;
 mod own_sessions;
 mod prepare;
+mod records;
 mod replay;
 mod resume;
 mod run;

@@ -1,10 +1,12 @@
 //! What a hub knows, as plain data.
 
-ghost use Rattle.std.specs.Prelude.{◌≡◌, ◌++◌, ℕ, List, [], ◌∷◌, map as each, IfOk, OnOk, Some, option_to_list, nat_eq, is_some};
+ghost use Rattle.std.specs.Prelude.{◌≡◌, ◌++◌, ℕ, List, [], ◌∷◌, length, map as each, IfOk, OnOk, Some, option_to_list, nat_eq, is_some};
 ghost use Rattle.std.specs.Option.{option_map, option_and_then};
 ghost use Rattle.std.specs.HashMap as map;
 ghost use Rattle.ftp_laws.specs.Census.{IsAscending, has as is_listed};
-ghost use Rattle.ftp_hub.specs.State.{AreOwn, AreTidy, TellsJobs, TellsSessions, kept_of, queued_told, session_told, slot_told, told_of};
+ghost use Rattle.ftp_events.specs.declared.entry.Entry.{Entry};
+ghost use Rattle.ftp_hub.specs.Stands.{Stands, options_of};
+ghost use Rattle.ftp_hub.specs.State.{AreMadeBy, AreOwn, AreTidy, IsForm, IsState, TellsState, TellsJobs, TellsSessions, kept_of, queued_told, session_told, slot_told, told_of};
 
 use crate::hub::Hub;
 use ftp_base::{Bytes, DataChanCmd, IpAddr, SocketAddr};
@@ -292,6 +294,41 @@ fn queued_line(
 }
 
 impl Hub {
+    /// All that the hub knows of the events so far, as plain data.
+    ///
+    /// # Proved
+    ///
+    /// - The state answers every question as the log does, if the hub stands for the log (`state`).
+    /// - Its lists have the order and the form of a state's lines, if the hub stands for a log (`form`), and its records are of
+    ///   keys that the policy makes (`made`).
+    pub fn state(&self) -> Result<HubState, AllocError>
+        ensures tells { (log : List Entry) → Stands self.now log → IfOk result (TellsState self.now) }
+        ensures state { (log : List Entry) → Stands self.now log → IfOk result (IsState (options_of self.now) log) }
+        ensures form { (log : List Entry) → Stands self.now log → IfOk result IsForm }
+        ensures made { IfOk result (λ state. AreMadeBy (options_of self.now).lockout state.records) }
+    {
+        let used = self.numbers.intervals(self.alloc)?;
+        let records = self.record_lines()?;
+        let lines = self.session_lines()?;
+        let jobs = self.job_lines()?;
+        let SessionLines {
+            alloc: _,
+            sessions,
+            slots,
+            queued,
+        } = lines;
+        Ok(HubState {
+            events: self.count,
+            stopped: self.stopped,
+            used: Rows::from_vec(used),
+            records: Rows::from_vec(records),
+            sessions: Rows::from_vec(sessions),
+            slots: Rows::from_vec(slots),
+            queued: Rows::from_vec(queued),
+            jobs: Rows::from_vec(jobs),
+        })
+    }
+
     // The lines of every live session, in order of its number.
     pub(crate) fn session_lines(&self) -> Result<SessionLines, AllocError>
         ensures { IfOk result (λ lines. AreTidy (map.get nat_eq self.now.sessions) → TellsSessions self.now.sessions lines.sessions.items lines.slots.items lines.queued.items) }
@@ -308,9 +345,10 @@ impl Hub {
     }
 
     // The numbers of the sessions of which a job runs, in order.
-    fn running_numbers(&self) -> Result<Vec<u64>, AllocError>
+    pub(crate) fn running_numbers(&self) -> Result<Vec<u64>, AllocError>
         ensures in_order { IfOk result (λ numbers. IsAscending numbers.items) }
         ensures all { IfOk result (λ numbers. (s : ℕ) → is_listed numbers.items s ≡ is_some (map.get nat_eq self.now.jobs s)) }
+        ensures len { IfOk result (λ numbers. length numbers.items ≡ map.hash_map_len self.now.jobs) }
     {
         let mut numbers = Vec::with_capacity(self.alloc, self.jobs.len())?;
         for number in self.jobs.keys() {

@@ -1,6 +1,6 @@
 //! A stop: who leaves, and how.
 
-ghost use Rattle.std.specs.Prelude.{◌≡◌, ◌++◌, ◌-◌, ◌^◌, ◌<◌, ℕ, List, Option, IfOk, IsTrue, None, flat_map, is_some, nat_eq};
+ghost use Rattle.std.specs.Prelude.{◌≡◌, ◌++◌, ◌-◌, ◌^◌, ◌<◌, ℕ, List, Option, IfOk, IsTrue, None, flat_map, is_some, nat_eq, length};
 ghost use Rattle.std.specs.HashMap as map;
 ghost use Rattle.ftp_events.specs.declared.entry.Entry.{Entry};
 ghost use Rattle.ftp_events.specs.declared.decision.Decision.TheVariants.{Stopped};
@@ -53,6 +53,7 @@ impl Hub {
     pub(crate) fn live_numbers(&self) -> Result<Vec<u64>, AllocError>
         ensures in_order { IfOk result (λ numbers. IsAscending numbers.items) }
         ensures all { IfOk result (λ numbers. (s : ℕ) → is_listed numbers.items s ≡ is_some (map.get nat_eq self.now.sessions s)) }
+        ensures len { IfOk result (λ numbers. length numbers.items ≡ map.hash_map_len self.now.sessions) }
     {
         let mut numbers = Vec::with_capacity(self.alloc, self.sessions.len())?;
         for number in self.sessions.keys() {
