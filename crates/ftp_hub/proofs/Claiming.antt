@@ -1,17 +1,29 @@
 -- A port that is claimed while nobody holds it.
-use Rattle.std.proofs.Common.{◌≡◌, refl, sym, ap, ◌∙◌, subst, ℕ, Bool, true, false, true≢false, cond, List, [], ◌∷◌, ◌++◌, Option, Some, None, eqb-true, eq-eqb, inl, inr}
-use Rattle.std.specs.Prelude.{◌⊎◌, ◌==◌, ◌||◌, ◌↔◌, IsSome, is_some}
+use Rattle.std.proofs.Common.{◌≡◌, refl, sym, ap, ◌∙◌, subst, ℕ, ◌<◌, ◌≤◌, Bool, true, false, true≢false, cond, List, [], ◌∷◌, ◌++◌, Option, Some, None, eqb-true, eq-eqb, inl, inr, arith}
+use Rattle.std.specs.Prelude.{◌⊎◌, ◌==◌, ◌||◌, IsSome, is_some, nat_le}
+use Rattle.std.specs.List.{AllByRecursion, list_any}
+use Rattle.std.specs.Option.{option_map_or}
 use Rattle.std.specs.FinMap as finmap
-use Rattle.std.proofs.lemmas.Bool.{and_parts}
+use Rattle.std.proofs.lemmas.Bool.{and_parts, leb-true}
 use Rattle.std.proofs.lemmas.Option.{same_Some}
+use Rattle.ftp_base.specs.declared.net.IpAddr.{IpAddr}
+use Rattle.ftp_base.specs.declared.net.IpAddr.TheVariants.{V6}
+use Rattle.ftp_events.specs.declared.session.Slot.{Slot}
 use Rattle.ftp_events.specs.declared.session.Slot.TheVariants.{Waits}
-use Rattle.ftp_laws.specs.Census.{has as is_listed}
+use Rattle.ftp_events.specs.Modes.{in_range}
+use Rattle.ftp_events.specs.Slot.{waiting_port}
+use Rattle.ftp_laws.specs.Census.{IsAscending, has as is_listed}
 use Rattle.ftp_laws.proofs.Cases.{by_test}
 use Rattle.ftp_switchboard.specs.declared.key.SwitchboardKey.{SwitchboardKey}
 use Rattle.ftp_switchboard.specs.Board.{Board, Held, holder_at, is_key, key as key_pair}
 use Rattle.ftp_switchboard.proofs.BoardLemmas.{get-insert-key}
-use Rattle.ftp_hub.proofs.Common.{Session, V4}
-use Rattle.ftp_hub.specs.State.{WaitsAt}
+use Rattle.ftp_hub.proofs.Common.{Options, Session, V4}
+use Rattle.ftp_hub.proofs.Lines.{ascending-last}
+use Rattle.ftp_hub.proofs.Refusing.{twice-rivals}
+use Rattle.ftp_hub.specs.declared.state.StateError.{StateError}
+use Rattle.ftp_hub.specs.declared.state.StateError.TheVariants.{OutOfMemory, Port}
+use Rattle.ftp_hub.specs.Refused.{FindsHolder, WaitTwice, has_port, has_v6_rival}
+use Rattle.ftp_hub.specs.State.{WaitsAt, WaitsFor}
 
 -- the holders after a claim
 pub claim-after :
@@ -89,3 +101,69 @@ pub claimed-waits :
     WaitsAt (there s) a p
 claimed-waits there holder n v a p s known before (inl h) = before h
 claimed-waits there holder n v a p s known before (inr w) = (v, ap there w.0 ∙ known, w.1, w.2)
+
+-- who waits for a port that another holds waits for it beside that one
+last-below : (xs : List ℕ) (x s : ℕ) → AllByRecursion (λ n. n < s) (xs ++ x ∷ []) → x < s
+last-below [] x s h = h.0
+last-below (y ∷ xs) x s h = last-below xs x s h.1
+
+pub holder-twice :
+    (there : ℕ → Option Session) (board : Board) (n : ℕ) (v : Session) (left all : List ℕ) → all ≡ left ++ n ∷ [] → there n ≡ Some v →
+    ((a p s : ℕ) → holder_at board a p ≡ Some s → WaitsAt (there s) a p) →
+    ((a p s : ℕ) → holder_at board a p ≡ Some s → AllByRecursion (λ m. m < s) all) →
+    FindsHolder board v → WaitTwice there
+holder-twice there board n v left all same known held above f =
+    let s : ℕ = f.2 in
+    let below : n < s = last-below left n s (subst (λ xs. AllByRecursion (λ m. m < s) xs) same (above f.0 f.1 s f.5)) in
+    (V4 f.0, f.1, n, s, λ e. absurd (omega (arith, below, e)), (v, known, f.3, f.4), held f.0 f.1 s f.5)
+
+-- so a claim that is refused is one of two that wait for one port
+pub claim-refused :
+    (there : ℕ → Option Session) (board : Board) (n : ℕ) (v : Session) (left all : List ℕ) (e : StateError) → all ≡ left ++ n ∷ [] → there n ≡ Some v →
+    ((a p s : ℕ) → holder_at board a p ≡ Some s → WaitsAt (there s) a p) →
+    ((a p s : ℕ) → holder_at board a p ≡ Some s → AllByRecursion (λ m. m < s) all) →
+    (e ≡ OutOfMemory) ⊎ ((e ≡ Port) × FindsHolder board v) →
+    (e ≡ OutOfMemory) ⊎ ((e ≡ Port) × WaitTwice there)
+claim-refused there board n v left all e same known held above (inl h) = inl h
+claim-refused there board n v left all e same known held above (inr h) = inr (h.0, holder-twice there board n v left all same known held above h.1)
+
+-- who holds a port then is above all that are left
+pub above-step :
+    (board : Board) (n a p s : ℕ) (v : Session) (left all : List ℕ) → all ≡ left ++ n ∷ [] → IsAscending all →
+    ((a p s : ℕ) → holder_at board a p ≡ Some s → AllByRecursion (λ m. m < s) all) →
+    (holder_at board a p ≡ Some s) ⊎ ((s ≡ n) × (v.opening.client ≡ V4 a) × (v.slot ≡ Waits p)) → AllByRecursion (λ m. m < s) left
+above-step board n a p s v left all same up above (inl h) = front left (subst (λ xs. AllByRecursion (λ m. m < s) xs) same (above a p s h))
+  where
+    front : (xs : List ℕ) → AllByRecursion (λ m. m < s) (xs ++ n ∷ []) → AllByRecursion (λ m. m < s) xs
+    front [] h = tt
+    front (x ∷ xs) h = (h.0, front xs h.1)
+above-step board n a p s v left all same up above (inr w) =
+    subst (λ (k : ℕ). AllByRecursion (λ m. m < k) left) (sym w.0) (ascending-last left n (subst IsAscending same up)).1
+
+-- nor is it otherwise where nobody has claimed a port
+pub above-left :
+    (board : Board) (n a p s : ℕ) (left all : List ℕ) → all ≡ left ++ n ∷ [] →
+    ((a p s : ℕ) → holder_at board a p ≡ Some s → AllByRecursion (λ m. m < s) all) →
+    holder_at board a p ≡ Some s → AllByRecursion (λ m. m < s) left
+above-left board n a p s left all same above h = front left (subst (λ xs. AllByRecursion (λ m. m < s) xs) same (above a p s h))
+  where
+    front : (xs : List ℕ) → AllByRecursion (λ m. m < s) (xs ++ n ∷ []) → AllByRecursion (λ m. m < s) xs
+    front [] h = tt
+    front (x ∷ xs) h = (h.0, front xs h.1)
+
+-- a port that a slot waits for lies in the range
+pub port-within : (o : Options) (v : Session) (p : ℕ) → has_port o v ≡ true → v.slot ≡ Waits p → (o.lo ≤ p) × (p ≤ o.hi)
+port-within o v p h waits =
+    let parts = and_parts (nat_le o.lo p) (nat_le p o.hi) (subst (λ (s : Slot). option_map_or (in_range o) (waiting_port s) true ≡ true) waits h) in
+    (leb-true o.lo p parts.0, leb-true p o.hi parts.1)
+
+-- where each holds the port that it waits for, and there are no rivals of version 6, no two wait for one port
+pub once-clear :
+    (live : ℕ → Option Session) (board : Board) (numbers : List ℕ) → ((s : ℕ) → is_listed numbers s ≡ is_some (live s)) →
+    ((a p s : ℕ) → WaitsAt (live s) a p → holder_at board a p ≡ Some s) →
+    list_any (has_v6_rival live numbers) numbers ≡ false → WaitTwice live → ⊥
+once-clear live board numbers all claimed none w = go w.0 w.5 w.6
+  where
+    go : (client : IpAddr) → WaitsFor (live w.2) client w.1 → WaitsFor (live w.3) client w.1 → ⊥
+    go (V4 a) here there = w.4 (same_Some _ _ (sym (claimed a w.1 w.2 here) ∙ claimed a w.1 w.3 there))
+    go (V6 n) here there = true≢false (sym (twice-rivals live numbers n w.1 w.2 w.3 all w.4 here there) ∙ none)

@@ -24,9 +24,12 @@ pub mod Twins
 pub mod Pieces
 pub mod States
 pub mod Lines
+pub mod Forms
 pub mod Paths
 pub mod Told
 pub mod Tidy
+pub mod Refusing
 pub mod Claiming
 pub mod Recording
 pub mod Telling
+pub mod Lawful

@@ -1,12 +1,12 @@
 -- Hubs that tell a state, and stand for the logs of which it is the state.
-use Rattle.std.proofs.Common.{◌≡◌, refl, sym, ap, ◌∙◌, subst, ℕ, ◌↔◌, Bool, true, false, List, Option, Some, None, arith}
+use Rattle.std.proofs.Common.{◌≡◌, refl, sym, ◌∙◌, ℕ, List, Option, Some, None, arith}
 use Rattle.ftp_laws.proofs.Cases.{by_test}
 use Rattle.ftp_laws.proofs.GrantLemmas.{holder-legacy}
 use Rattle.ftp_laws.proofs.HoldEndLemmas.{waits-on, on-waits}
 use Rattle.ftp_laws.proofs.HoldLemmas.{holder-waits}
 use Rattle.ftp_laws.proofs.PortLemmas.{waits-holds}
 use Rattle.ftp_laws.specs.Holds.{WaitsOn}
-use Rattle.ftp_hub.proofs.Common.{Entry, Hub, IsActed, IsRight, Options, Session, Stands, V4, holder, holder_at, is_legacy, past_of}
+use Rattle.ftp_hub.proofs.Common.{Entry, Hub, IsActed, IsRight, Options, Stands, V4, holder, holder_at, is_legacy, past_of}
 use Rattle.ftp_hub.specs.declared.state.HubState.{HubState}
 use Rattle.ftp_hub.specs.State.{HoldsAreTold, IsState, TellsState, WaitsIn}
 
@@ -31,7 +31,7 @@ same-values (Some s) y to from = sym (to s refl)
 same-values None (Some s) to from = from s refl
 
 -- by the state a session waits as it does by its log
-waits-told : (o : Options) (log : List Entry) (x : HubState) (s a p : ℕ) → IsState o log x → WaitsIn x s a p → WaitsOn o (past_of log) s (V4 a) p
+pub waits-told : (o : Options) (log : List Entry) (x : HubState) (s a p : ℕ) → IsState o log x → WaitsIn x s a p → WaitsOn o (past_of log) s (V4 a) p
 waits-told o log x s a p is w = (w.0, sym (is.sessions s) ∙ w.1, w.2, w.3)
 
 told-waits : (o : Options) (log : List Entry) (x : HubState) (s a p : ℕ) → IsState o log x → WaitsOn o (past_of log) s (V4 a) p → WaitsIn x s a p

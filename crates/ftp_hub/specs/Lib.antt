@@ -8,3 +8,4 @@ pub mod Runs
 pub mod Headline
 pub mod Twin
 pub mod State
+pub mod Refused

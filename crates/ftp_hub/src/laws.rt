@@ -1,5 +1,6 @@
 //! What states are of logs. The functions do nothing: their clauses are the laws.
 
+ghost use Rattle.ftp_hub.specs.Refused.{LogsPass};
 ghost use Rattle.ftp_hub.specs.State.{EqualStatesStandAlike, HubsTellStates, LiveSessionsAreTidy, RunningJobsAreOwn, StatesGiveHubs};
 
 /// What a hub tells is the state of each log that it stands for, and a hub that is made from it stands for each of these.
@@ -25,4 +26,13 @@ pub fn states_stand_for_logs()
 pub fn sessions_are_told()
     ensures sessions { LiveSessionsAreTidy }
     ensures jobs { RunningJobsAreOwn }
+{}
+
+/// The state of a right and acted log gives cause to no refusal.
+///
+/// # Proved
+///
+/// - The state of a right and acted log gives cause to no refusal (its records are of keys that the policy makes) (`passes`).
+pub fn states_of_logs_pass()
+    ensures passes { LogsPass }
 {}

@@ -5,6 +5,7 @@
 #![tactic(auto)]
 
 mod arrivals;
+mod causes;
 mod claims;
 mod data_links;
 mod hub;
@@ -26,7 +27,7 @@ pub use ftp_handlers::{
     Need, Room, appe, cwd, list, mlsd, nlst, pass, pasv, quit, rest, retr, stor, stou,
 };
 pub use hub::Hub;
-pub use laws::{sessions_are_told, states_stand_for_logs};
+pub use laws::{sessions_are_told, states_of_logs_pass, states_stand_for_logs};
 pub use prepare::PrepareError;
 pub use replay::isolation;
 pub use run::{RunError, covers, keep, run_event, run_events};

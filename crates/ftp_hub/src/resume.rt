@@ -6,23 +6,22 @@ ghost use Rattle.std.specs.HashMap as map;
 ghost use Rattle.ftp_events.specs.Login.{logged_user};
 ghost use Rattle.ftp_laws.specs.Census.{IsAscending};
 ghost use Rattle.ftp_options.specs.Modes.{is_legacy};
-ghost use Rattle.ftp_lockout.specs.declared.key.LoginKey.{LoginKey};
-ghost use Rattle.ftp_numbers.specs.Used.{has, is_used as is_in_lines};
 ghost use Rattle.ftp_switchboard.specs.Board.{holder_at};
 ghost use Rattle.ftp_events.specs.declared.entry.Entry.{Entry};
 ghost use Rattle.ftp_events.specs.Right.{IsActed, IsRight};
-ghost use Rattle.ftp_handlers.specs.Handlers.{failures_in, policy_in};
 ghost use Rattle.ftp_hub.specs.Stands.{Stands, options_of};
-ghost use Rattle.ftp_hub.specs.State.{HoldsAreTold, IsState, TellsState, WaitsAt, failures_told, bare_session, job_line, told_login, told_pending, queued_line, session_by_lines, session_line, slot_line, told_slot, told_running, with_slot, with_transfer};
+ghost use Rattle.ftp_hub.specs.State.{HoldsAreTold, IsState, TellsState, bare_session, job_line, told_login, told_pending, queued_line, session_by_lines, session_line, slot_line, told_slot, told_running, with_slot, with_transfer};
 
+use crate::causes::has_v6;
+use crate::claims::free_board;
 use crate::hub::Hub;
+use crate::records::failures_by;
 use crate::state::{
     HubState, JobLine, LoginState, QueuedLine, SessionLine, SlotKind, SlotLine, StateError,
 };
 use crate::tables::{put, take};
 use ftp_base::Bytes;
 use ftp_events::{Counters, Login, Opening, Pending, Running, Session, Slot};
-use ftp_lockout::FailedLoginsCache;
 use ftp_numbers::Numbers;
 use ftp_options::Options;
 use ftp_switchboard::Switchboard;
@@ -244,97 +243,149 @@ pub(crate) fn sessions_of(
 }
 
 impl Hub {
-    // A hub of a state, with the numbers of its intervals and the failed logins of its records.
-    pub(crate) fn resumed(
-        alloc: Global,
-        options: Options,
-        state: HubState,
-        numbers: Numbers,
-        failures: Option<FailedLoginsCache>,
-    ) -> Result<Hub, StateError>
-        requires policy { policy_in failures ≡ options.lockout }
-        requires numbers { (n : ℕ) → has numbers n ≡ is_in_lines state.used n }
-        requires failures { (key : LoginKey) → failures_in failures key ≡ failures_told options.lockout state.records key }
-        requires sessions { IsAscending (each (λ line. line.session) state.sessions) }
-        requires jobs { IsAscending (each (λ line. line.job.ticket.session) state.jobs) }
+    ghost use Rattle.std.specs.Prelude.{◌⊎◌, ◌&&◌, IfErr, [], not};
+    ghost use Rattle.ftp_events.specs.Counts.{Counted};
+    ghost use Rattle.ftp_hub.specs.Refused.{GivesCause, HasCause, IsFirst, IsFirstRefusal, known_by};
+    ghost use Rattle.ftp_hub.specs.Stands.{count_of, counters_of};
+    ghost use Rattle.ftp_hub.specs.State.{AreMadeBy, IsForm, WaitsAt};
+    ghost use Rattle.ftp_hub.specs.declared.state.StateError.{StateError};
+    ghost use Rattle.ftp_hub.specs.declared.state.StateError.TheVariants.{OutOfMemory};
+
+    /// A hub that goes on from a state, under these options. Its counters start at 0. Records of failed logins under keys that
+    /// the policy of the options does not make are left out.
+    ///
+    /// # Proved
+    ///
+    /// - The hub tells the state (its lists have the order and the form of a state's lines) (`told`), and each port is held by
+    ///   the session that waits for it (`holds`).
+    /// - It stands for every right and acted log of which this is the state (`stands`), and counts events on (`count`).
+    /// - A state is refused where it gives cause to a refusal, and then by the first to which it does (`passed`, `refused`). The
+    ///   state of a right and acted log is refused for nothing but want of memory (its records are of keys that the policy
+    ///   makes) (`lawful`).
+    /// - Its counters have counted nothing (`counters`).
+    pub fn from_state(alloc: Global, options: Options, state: HubState) -> Result<Hub, StateError>
+        requires form { IsForm state }
         ensures options { IfOk result (λ hub. options_of hub ≡ options) }
         ensures told { IfOk result (λ hub. TellsState hub state) }
         ensures holds { IfOk result (λ hub. HoldsAreTold hub state) }
         ensures stands { IfOk result (λ hub. (log : List Entry) → IsRight options log → IsActed options log → IsState options log state → Stands hub log) }
+        ensures count { IfOk result (λ hub. count_of hub ≡ state.events) }
+        ensures passed { OnOk result ((e : StateError) → HasCause options state e → ⊥) }
+        ensures refused { IfErr result (λ e. (e ≡ OutOfMemory) ⊎ IsFirstRefusal options state e) }
+        ensures lawful { IfErr result (λ e. (log : List Entry) → IsRight options log → IsActed options log → IsState options log state → AreMadeBy options.lockout state.records → e ≡ OutOfMemory) }
+        ensures counters { IfOk result (λ hub. Counted options [] (counters_of hub)) }
     {
-        let hub = Hub::rebuilt(alloc, options, state, numbers, failures)?;
+        let brings_v6 = has_v6(state.records.as_slice());
+        let tables = Hub::rebuilt(alloc, options, state)?;
+        let hub = tables.checked(brings_v6)?;
         Ok(hub)
     }
 
-    // A hub that tells a state.
-    fn rebuilt(
-        alloc: Global,
-        options: Options,
-        state: HubState,
-        numbers: Numbers,
-        failures: Option<FailedLoginsCache>,
-    ) -> Result<Hub, StateError>
-        requires policy { policy_in failures ≡ options.lockout }
-        requires numbers { (n : ℕ) → has numbers n ≡ is_in_lines state.used n }
-        requires failures { (key : LoginKey) → failures_in failures key ≡ failures_told options.lockout state.records key }
-        requires sessions { IsAscending (each (λ line. line.session) state.sessions) }
-        requires jobs { IsAscending (each (λ line. line.job.ticket.session) state.jobs) }
+    /// A hub that goes on from the state of this one, under the same options.
+    ///
+    /// # Proved
+    ///
+    /// - It stands for every log for which this one stands (`stands`), and counts events on (`count`); nothing but want of memory
+    ///   refuses it (this one stands for a log) (`memory`).
+    pub fn resumed(&self) -> Result<Hub, StateError>
+        requires log { (log : List Entry) × Stands self.now log }
+        ensures stands { IfOk result (λ hub. (log : List Entry) → Stands self.now log → Stands hub log) }
+        ensures count { IfOk result (λ hub. count_of hub ≡ count_of self.now) }
+        ensures memory { IfErr result (λ e. e ≡ OutOfMemory) }
+    {
+        let options = self.options.copy(self.alloc)?;
+        let state = self.state()?;
+        let hub = Hub::from_state(self.alloc, options, state)?;
+        Ok(hub)
+    }
+
+    // A hub that tells a state, in which nobody holds a port yet.
+    fn rebuilt(alloc: Global, options: Options, state: HubState) -> Result<Hub, StateError>
+        requires form { IsForm state }
         ensures options { IfOk result (λ hub. options_of hub ≡ options) }
         ensures told { IfOk result (λ hub. TellsState hub state) }
-        ensures holds { IfOk result (λ hub. HoldsAreTold hub state) }
+        ensures counters { IfOk result (λ hub. Counted options [] (counters_of hub)) }
+        ensures memory { IfErr result (λ e. e ≡ OutOfMemory) }
     {
         let HubState {
             events,
             stopped,
-            used: _,
-            records: _,
+            used,
+            records,
             sessions,
             slots,
             queued,
             jobs,
         } = state;
+        let numbers = Numbers::of(alloc, used.as_slice())?;
+        let failures = failures_by(alloc, options.lockout, records.into_vec())?;
         let table = sessions_of(
             alloc,
             sessions.into_vec(),
             slots.into_vec(),
             queued.into_vec(),
         )?;
-        let jobs = run_all(alloc, jobs.into_vec())?;
-        let board = Switchboard::new(alloc, options.lo.max(1), options.hi.max(1));
-        let hub = Hub {
+        let running = run_all(alloc, jobs.into_vec())?;
+        let board = free_board(alloc, &options);
+        Ok(Hub {
             alloc,
             options,
             sessions: table,
-            jobs,
+            jobs: running,
             numbers,
             board,
             failures,
             stopped,
             counters: Counters::new(),
             count: events,
-        };
-        let hub = hub.with_ports()?;
-        Ok(hub)
+        })
     }
 
-    // The hub, with each port held by the session that waits for it.
-    fn with_ports(self) -> Result<Hub, StateError>
-        requires free { (a p : ℕ) → holder_at self.board a p ≡ None }
+    // The hub with each port held by the session that waits for it, where nothing is refused.
+    fn checked(self, brings_v6: bool) -> Result<Hub, StateError>
         ensures sessions { IfOk result (λ hub. hub.sessions ≡ self.sessions) }
         ensures jobs { IfOk result (λ hub. hub.jobs ≡ self.jobs) }
         ensures numbers { IfOk result (λ hub. hub.numbers ≡ self.numbers) }
         ensures failures { IfOk result (λ hub. hub.failures ≡ self.failures) }
         ensures stopped { IfOk result (λ hub. hub.stopped ≡ self.stopped) }
         ensures options { IfOk result (λ hub. hub.options ≡ self.options) }
+        ensures counters { IfOk result (λ hub. hub.counters ≡ self.counters) }
         ensures count { IfOk result (λ hub. hub.count ≡ self.count) }
         ensures held { IfOk result (λ hub. is_legacy self.options.mode ≡ false → (a p s : ℕ) → (holder_at hub.board a p ≡ Some s) ↔ WaitsAt (map.get nat_eq self.sessions s) a p) }
         ensures nobody { IfOk result (λ hub. is_legacy self.options.mode ≡ true → (a p : ℕ) → holder_at hub.board a p ≡ None) }
+        ensures passed { OnOk result ((e : StateError) → GivesCause (known_by self) (map.get nat_eq self.sessions) (map.get nat_eq self.jobs) brings_v6 e → ⊥) }
+        ensures refused { IfErr result (λ e. (e ≡ OutOfMemory) ⊎ IsFirst (GivesCause (known_by self) (map.get nat_eq self.sessions) (map.get nat_eq self.jobs) brings_v6) e) }
     {
+        let board = self.admitted(brings_v6)?;
         let mut hub = self;
-        if hub.options.mode.is_legacy() {
-            return Ok(hub);
-        }
-        hub.hold_ports()?;
+        hub.board = board;
         Ok(hub)
+    }
+
+    // Says whether addresses of version 6 are brought to ports that the sessions share.
+    fn is_barred(&self, brings_v6: bool) -> bool
+        ensures { result ≡ (brings_v6 && not (is_legacy self.now.options.mode)) }
+    {
+        brings_v6 && !self.options.mode.is_legacy()
+    }
+
+    // The board of the ports that sessions wait for, where nothing is refused.
+    fn admitted(&self, brings_v6: bool) -> Result<Switchboard, StateError>
+        ensures held { IfOk result (λ board. is_legacy self.now.options.mode ≡ false → (a p s : ℕ) → (holder_at board a p ≡ Some s) ↔ WaitsAt (map.get nat_eq self.now.sessions s) a p) }
+        ensures nobody { IfOk result (λ board. is_legacy self.now.options.mode ≡ true → (a p : ℕ) → holder_at board a p ≡ None) }
+        ensures range { IfOk result (λ board. is_legacy self.now.options.mode ≡ false → (board.lo ≡ self.now.options.lo) × (board.hi ≡ self.now.options.hi)) }
+        ensures passed { OnOk result ((e : StateError) → GivesCause (known_by self.now) (map.get nat_eq self.now.sessions) (map.get nat_eq self.now.jobs) brings_v6 e → ⊥) }
+        ensures refused { IfErr result (λ e. (e ≡ OutOfMemory) ⊎ IsFirst (GivesCause (known_by self.now) (map.get nat_eq self.now.sessions) (map.get nat_eq self.now.jobs) brings_v6) e) }
+    {
+        self.look_for(StateError::Number)?;
+        self.look_for(StateError::Port)?;
+        let board = self.claimed_ports()?;
+        self.look_for(StateError::Ticket)?;
+        if self.is_barred(brings_v6) {
+            return Err(StateError::Mode);
+        }
+        self.look_for(StateError::Mode)?;
+        self.look_for(StateError::Login)?;
+        Ok(board)
     }
 }

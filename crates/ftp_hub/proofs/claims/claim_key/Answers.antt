@@ -1,6 +1,6 @@
-use Rattle.std.proofs.Common.{◌≡◌, sym, ap, ◌∙◌, ℕ, cond, Option, Some, None}
+use Rattle.std.proofs.Common.{◌≡◌, sym, ap, ◌∙◌, None}
 use Rattle.std.specs.FinMap as finmap
-use Rattle.ftp_switchboard.specs.Board.{Held, holder_at, is_key, key as key_pair}
+use Rattle.ftp_switchboard.specs.Board.{Held, holder_at, key as key_pair}
 use Rattle.ftp_hub.proofs.Claiming.{claim-after, claim-held, claim-kept, claim-own, nobody-there}
 use Rattle.ftp_hub.proofs.claims.claim_key.Goals as goal
 
