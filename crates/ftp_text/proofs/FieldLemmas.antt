@@ -14,12 +14,12 @@ use Rattle.ftp_base.specs.declared.error_kind.ErrorKind.TheVariants as error
 use Rattle.ftp_proxy.specs.declared.error.ProxyError.{ProxyError}
 use Rattle.ftp_proxy.specs.declared.error.ProxyError.TheVariants as proxy
 use Rattle.ftp_proxy.specs.declared.error.ReadError.TheVariants as read
-use Rattle.ftp_text.specs.Fields.{field, number, dotted, address_text, optional, optional_text, ticket, hex_digits, answer_text, refusal_text, fault_text, proxy_error_text, link_call_text, listed, IsAddress, IsNumber, AreCalls, Each}
-use Rattle.ftp_text.specs.Reading.{◌>>=◌, after, begins, number_at, small_at, dotted_at, number_field, small_field, address_field, optional_field, ticket_field, hex_word_field, find_word, word_value, answers, answer_field, refusals, refusal_field, proxy_errors, faults, calls_field, call_of, link_call_of}
+use Rattle.ftp_text.specs.Fields.{field, number, dotted, ip_text, address_text, optional, optional_text, ticket, hex_digits, answer_text, refusal_text, fault_text, proxy_error_text, link_call_text, listed, IsIp, IsAddress, IsNumber, AreCalls, Each}
+use Rattle.ftp_text.specs.Reading.{◌>>=◌, after, begins, number_at, small_at, dotted_at, ip_at, number_field, small_field, address_field, ip_field, optional_field, ticket_field, hex_word_field, find_word, word_value, answers, answer_field, refusals, refusal_field, proxy_errors, faults, calls_field, call_of, link_call_of}
 use Rattle.ftp_text.proofs.Exact.{Ends, IsNil, Ends-from_nil, NoDigit-from_ends, IsExact, exact_weaker, pair_exact, behind_exact, Pass, bind_ok, some_is, after_ok, find_takes, find_passes, digits_pass, tested_exact, table_exact, optional_exact, number_exact, small_exact, all_of-takes, all_of-again}
 use Rattle.ftp_text.proofs.Numerals.{own}
 use Rattle.ftp_text.proofs.Lists.{is_inner, pass-more, pass-append, listed_exact}
-use Rattle.ftp_text.proofs.Values.{begins_decimal, begins_dotted, dotted_exact, hex_word_exact, address_exact}
+use Rattle.ftp_text.proofs.Values.{begins_decimal, begins_dotted, begins_ip, dotted_exact, ip_exact, hex_word_exact, address_exact}
 
 pub number_is : IsExact number (λ n. n < 2 ^ 64) Ends number_field
 number_is = exact_weaker (behind_exact 32 number_exact) NoDigit-from_ends
@@ -32,6 +32,12 @@ port_is = small_is (2 ^ 16) (omega arith)
 
 pub address_is : IsExact (λ a. field (address_text a)) IsAddress Ends address_field
 address_is = exact_weaker (behind_exact 32 address_exact) NoDigit-from_ends
+
+pub ip_is : IsExact (λ ip. field (ip_text ip)) IsIp Ends ip_field
+ip_is = exact_weaker (behind_exact 32 ip_exact) NoDigit-from_ends
+
+pub optional_ip_is : IsExact (optional ip_text) (Each IsIp) Ends (optional_field ip_at)
+optional_ip_is = exact_weaker (optional_exact ip_exact (λ ip rest fits. begins_ip 45 ip rest refl refl)) NoDigit-from_ends
 
 answer_found : (v : AuthAnswer) → find_word answer_text answers (answer_text v) ≡ Some v
 answer_found auth.Good = refl

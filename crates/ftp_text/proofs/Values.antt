@@ -19,11 +19,11 @@ use Rattle.ftp_base.specs.declared.net.IpAddr.{IpAddr}
 use Rattle.ftp_base.specs.declared.net.IpAddr.TheVariants.{V4, V6}
 use Rattle.ftp_base.specs.declared.net.SocketAddr.{SocketAddr}
 use Rattle.ftp_text.specs.Fields.{Each, IsText, IsIp, IsAddress, hex_digits, hex_byte, dotted, ip_text, address_text, is_plain, escape_byte, escape, optional_text}
-use Rattle.ftp_text.specs.Reading.{◌>>=◌, after, behind, begins, pair, small_at, dotted_at, hex_numeral, hex_word_at, port_at_colon, ipv4_at, ipv6_at, address_at, escaped_at, text_byte_at, text_from, text_of, text_field, optional_text_field}
+use Rattle.ftp_text.specs.Reading.{◌>>=◌, after, behind, begins, pair, small_at, dotted_at, hex_numeral, hex_word_at, port_at_colon, ipv4_at, ipv6_at, address_at, ip_at, made, before_text, escaped_at, text_byte_at, text_from, text_of, text_field, optional_text_field}
 use Rattle.ftp_text.proofs.Numerals.{own}
 use Rattle.ftp_text.proofs.Texts.{then_text, text_step, text_byte_shorter}
 use Rattle.ftp_text.proofs.Hex.{length-hex_digits, glyph_value, hex_done}
-use Rattle.ftp_text.proofs.Exact.{IsNil, NoDigit, IsExact, bind_ok, some_is, after_ok, pair_exact, behind_exact, made_exact, made_takes, made_again, small_exact}
+use Rattle.ftp_text.proofs.Exact.{IsNil, NoDigit, IsExact, bind_ok, some_is, after_ok, pair_exact, behind_exact, before_text_exact, made_exact, made_takes, made_again, small_exact}
 
 -- ---- dotted addresses
 
@@ -138,6 +138,27 @@ address_exact = record {
   takes = λ bytes y e. address_cases (begins 91 bytes) bytes y e;
   again = λ a rest fits follows. address_again a.ip a.port rest fits.0 fits.1 follows;
 }
+
+-- an address of version 6 in brackets
+brackets : IsExact (λ (n : ℕ). 91 ∷ (hex_digits 32 n ++ 93 ∷ [])) (λ n. n < 2 ^ 128) NoDigit (behind 91 (before_text (93 ∷ []) hex_word_at))
+brackets = behind_exact 91 (before_text_exact (93 ∷ []) hex_word_exact (λ rest h. tt))
+
+ip_cases : (b : Bool) (bytes : List ℕ) (y : IpAddr × List ℕ) → cond b (made V6 (behind 91 (before_text (93 ∷ []) hex_word_at)) bytes) (made V4 dotted_at bytes) ≡ Some y → (bytes ≡ ip_text y.0 ++ y.1) × IsIp y.0
+ip_cases true bytes y e = made_takes brackets V6 ip_text IsIp [] (λ x. refl) (λ x f. f) bytes y e
+ip_cases false bytes y e = made_takes dotted_exact V4 ip_text IsIp [] (λ x. refl) (λ x f. f) bytes y e
+
+ip_again : (ip : IpAddr) (rest : List ℕ) → IsIp ip → NoDigit rest → ip_at (ip_text ip ++ rest) ≡ Some (ip, rest)
+unfolding ip_at
+ip_again (V4 ip) rest fits follows = rw (begins_dotted 91 ip rest refl) (made_again dotted_exact V4 ip rest fits follows)
+ip_again (V6 ip) rest fits follows = made_again brackets V6 ip rest fits follows
+
+pub ip_exact : IsExact ip_text IsIp NoDigit ip_at
+unfolding ip_at
+ip_exact = record { takes = λ bytes y e. ip_cases (begins 91 bytes) bytes y e; again = ip_again }
+
+pub begins_ip : (c : ℕ) (ip : IpAddr) (rest : List ℕ) → is_ascii_digit c ≡ false → eqb 91 c ≡ false → begins c (ip_text ip ++ rest) ≡ false
+begins_ip c (V4 ip) rest no_digit no_bracket = begins_dotted c ip rest no_digit
+begins_ip c (V6 ip) rest no_digit no_bracket = no_bracket
 
 -- ---- texts
 

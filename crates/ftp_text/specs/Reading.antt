@@ -6,6 +6,7 @@ use Rattle.std.specs.Char.{is_ascii_digit, digit_value}
 use Rattle.std.specs.Str.Parse.{digits_value}
 use Rattle.std.specs.Int.{w32, from_be_bytes}
 use Rattle.std.specs.Fmt.{digit_glyph}
+use Rattle.ftp_base.specs.declared.net.IpAddr.{IpAddr}
 use Rattle.ftp_base.specs.declared.net.IpAddr.TheVariants.{V4, V6}
 use Rattle.ftp_base.specs.declared.net.SocketAddr.{SocketAddr}
 use Rattle.ftp_base.specs.declared.login.AuthAnswer.{AuthAnswer}
@@ -158,6 +159,10 @@ ipv6_at = made (λ x. record { ip = V6 x.0; port = x.1 }) (behind 91 (pair hex_w
 unfoldable pub address_at : Reader SocketAddr
 address_at bytes = if begins 91 bytes then ipv6_at bytes else ipv4_at bytes
 
+-- an address of either version
+unfoldable pub ip_at : Reader IpAddr
+ip_at bytes = if begins 91 bytes then made V6 (behind 91 (before_text (codes "]") hex_word_at)) bytes else made V4 dotted_at bytes
+
 -- ---- texts
 
 -- n is the value of the digit or lower-case letter c
@@ -233,6 +238,10 @@ small_field limit bytes = behind 32 (small_at limit) bytes
 -- an address and a port
 abbrev pub address_field : Reader SocketAddr
 address_field bytes = behind 32 address_at bytes
+
+-- an address without a port
+abbrev pub ip_field : Reader IpAddr
+ip_field bytes = behind 32 ip_at bytes
 
 -- a hyphen, or a value
 unfoldable pub optional_field : {A : Type 0} → Reader A → Reader (Option A)

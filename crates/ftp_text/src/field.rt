@@ -1,10 +1,11 @@
 //! Reading the fields of a line, each with the bytes behind it. A field begins with the space before it.
 
-ghost use Rattle.std.specs.Prelude.{◌≡◌, ◌^◌, ◌<◌, ◌≤◌, length, IfOk, MatchOption};
+ghost use Rattle.std.specs.Prelude.{◌≡◌, ◌^◌, ◌<◌, ◌≤◌, length, take, drop, codes, IfOk, MatchOption};
+ghost use Rattle.ftp_base.specs.declared.net.IpAddr.TheVariants.{V6};
 ghost use Rattle.std.specs.List.{prefix_len, position_or_len};
 ghost use Rattle.std.specs.Char.{is_ascii_digit};
 ghost use Rattle.std.specs.Str.Parse.{AllDigits, digits_value};
-ghost use Rattle.ftp_text.specs.Reading.{Gives, after, literal_at, is_space, numeral, number_at, small_at, dotted_at, port_at_colon, ipv4_at, hex_numeral, hex_word_at, ipv6_at, address_at, number_field, small_field, address_field, optional_field, text_field, optional_text_field, ticket_field, hex_word_field, word_at, hex_field, word_value};
+ghost use Rattle.ftp_text.specs.Reading.{Gives, made, behind, before_text, after, literal_at, is_space, numeral, number_at, small_at, dotted_at, port_at_colon, ipv4_at, hex_numeral, hex_word_at, ipv6_at, address_at, ip_at, number_field, small_field, address_field, ip_field, optional_field, text_field, optional_text_field, ticket_field, hex_word_field, word_at, hex_field, word_value};
 
 use crate::fault::LineFault;
 use crate::text::{self, nibble, whole_text};
@@ -201,6 +202,28 @@ fn address_here(bytes: &[u8]) -> Result<(SocketAddr, &[u8]), LineFault>
     }
 }
 
+// The IPv6 address that stands in brackets at the front.
+fn ip_in_brackets(bytes: &[u8]) -> Result<(IpAddr, &[u8]), LineFault>
+    ensures { Gives (λ x. (x.0, x.1.now)) result (made V6 (behind 91 (before_text (codes "]") hex_word_at)) bytes.now) }
+{
+    let (ip, rest) = hex_word_here(after(b'[', bytes)?)?;
+    let rest = literal(b"]", rest)?;
+    Ok((IpAddr::V6(ip), rest))
+}
+
+#[tactic(auto, unfolding(crate::specs::Reading::ip_at))]
+fn ip_here(bytes: &[u8]) -> Result<(IpAddr, &[u8]), LineFault>
+    ensures { Gives (λ x. (x.0, x.1.now)) result (ip_at bytes.now) }
+{
+    match bytes {
+        [b'[', ..] => ip_in_brackets(bytes),
+        _ => {
+            let (ip, rest) = dotted_here(bytes)?;
+            Ok((IpAddr::V4(ip), rest))
+        }
+    }
+}
+
 /// A number of 64 bits.
 pub fn number(bytes: &[u8]) -> Result<(u64, &[u8]), LineFault>
     ensures { Gives (λ x. (x.0, x.1.now)) result (number_field bytes.now) }
@@ -228,6 +251,27 @@ pub fn address(bytes: &[u8]) -> Result<(SocketAddr, &[u8]), LineFault>
     ensures { Gives (λ x. (x.0, x.1.now)) result (address_field bytes.now) }
 {
     address_here(after(b' ', bytes)?)
+}
+
+/// An address without a port.
+pub fn ip(bytes: &[u8]) -> Result<(IpAddr, &[u8]), LineFault>
+    ensures { Gives (λ x. (x.0, x.1.now)) result (ip_field bytes.now) }
+{
+    ip_here(after(b' ', bytes)?)
+}
+
+/// An address without a port that may be missing.
+#[tactic(auto, unfolding(crate::specs::Reading::optional_field))]
+pub fn optional_ip(bytes: &[u8]) -> Result<(Option<IpAddr>, &[u8]), LineFault>
+    ensures { Gives (λ x. (x.0, x.1.now)) result (optional_field ip_at bytes.now) }
+{
+    match after(b' ', bytes)? {
+        [b'-', rest @ ..] => Ok((None, rest)),
+        rest => {
+            let (ip, rest) = ip_here(rest)?;
+            Ok((Some(ip), rest))
+        }
+    }
 }
 
 /// A number of 64 bits that may be missing.
@@ -320,6 +364,14 @@ fn word_len(bytes: &[u8]) -> usize
         }
     }
     bytes.len()
+}
+
+/// The bytes before the first space, and those from it on.
+pub fn first_word(bytes: &[u8]) -> (&[u8], &[u8])
+    ensures word { result.0.now ≡ take (position_or_len is_space bytes.now) bytes.now }
+    ensures rest { result.1.now ≡ drop (position_or_len is_space bytes.now) bytes.now }
+{
+    bytes.split_at(word_len(bytes))
 }
 
 /// A word, up to the next space or the end.

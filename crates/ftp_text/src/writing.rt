@@ -107,6 +107,24 @@ fn put_ip(out: &mut Vec<u8>, ip: IpAddr) -> Result<(), AllocError>
     }
 }
 
+/// Writes a space and an address without a port.
+pub fn put_ip_field(out: &mut Vec<u8>, ip: IpAddr) -> Result<(), AllocError>
+    ensures { OnOk result (out.new.items ≡ out.old.items ++ field (ip_text ip)) }
+{
+    put_byte(out, b' ')?;
+    put_ip(out, ip)
+}
+
+/// Writes a space and an address without a port, or a hyphen for none.
+pub fn put_optional_ip(out: &mut Vec<u8>, ip: Option<IpAddr>) -> Result<(), AllocError>
+    ensures { OnOk result (out.new.items ≡ out.old.items ++ optional ip_text ip) }
+{
+    match ip {
+        None => put(out, b" -"),
+        Some(ip) => put_ip_field(out, ip),
+    }
+}
+
 /// Writes a space, an address and its port.
 pub fn put_address(out: &mut Vec<u8>, address: SocketAddr) -> Result<(), AllocError>
     ensures { OnOk result (out.new.items ≡ out.old.items ++ field (address_text address)) }
