@@ -1,0 +1,14 @@
+pub mod Pieces
+pub mod Checked
+pub mod CellLemmas
+pub mod RowLemmas
+pub mod LineLemmas
+pub mod FeedLemmas
+pub mod TextLemmas
+pub mod GrammarLemmas
+pub mod WalkLemmas
+pub mod WritingLemmas
+pub mod ListLemmas
+pub mod Within
+pub mod HaveLines
+pub mod Examples
