@@ -11,4 +11,5 @@ pub mod WritingLemmas
 pub mod ListLemmas
 pub mod Within
 pub mod HaveLines
+pub mod RootLemmas
 pub mod Examples

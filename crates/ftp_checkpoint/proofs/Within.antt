@@ -19,14 +19,14 @@ above-either n t k true y more e above behind h = omega (arith, above, eqb-true 
 above-either n t k false y more e above behind h = behind h
 
 -- a line of the number is one above n
-line-above : {B : Type 0} (g : B → ℕ) (n : ℕ) (ys : List B) (t : ℕ) → AllByRecursion (λ (m : ℕ). n < m) (map g ys) → is_some (line_of g ys t) ≡ true → n < t
+pub line-above : {B : Type 0} (g : B → ℕ) (n : ℕ) (ys : List B) (t : ℕ) → AllByRecursion (λ (m : ℕ). n < m) (map g ys) → is_some (line_of g ys t) ≡ true → n < t
 line-above g n [] t above some = absurd cc
 line-above g n (y ∷ ys) t above some = above-either n t (g y) (eqb (g y) t) y (line_of g ys t) refl above.0 (λ h. line-above g n ys t above.1 h) some
 
 pub eqb-same : (a : ℕ) → eqb a a ≡ true
 eqb-same a = grind (arith, nat_tests)
 
-eqb-less : (a b : ℕ) → a < b → eqb a b ≡ false
+pub eqb-less : (a b : ℕ) → a < b → eqb a b ≡ false
 eqb-less a b lt = grind (arith, nat_tests)
 
 -- a line of another number is one of those behind it

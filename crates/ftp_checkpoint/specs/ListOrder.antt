@@ -16,6 +16,7 @@ use Rattle.ftp_hub.specs.declared.state.RecordLine.{RecordLine}
 use Rattle.ftp_hub.specs.declared.state.SessionLine.{SessionLine}
 use Rattle.ftp_hub.specs.declared.state.SlotLine.{SlotLine}
 use Rattle.ftp_hub.specs.State.{record_key, session_line, slot_line, queued_line}
+use Rattle.ftp_checkpoint.specs.Spelling.{is_from_root}
 
 -- what a policy counts failed logins by: an address and a name, or one of them alone
 abbrev pub IsOfPolicy : FailedLoginsBlock → Option IpAddr → Option (List ℕ) → Type 0
@@ -38,3 +39,9 @@ pub record AreListsInOrder (x : HubState) : Type 0 where
   pub live : (s : ℕ) → is_some (slot_line x.slots s) ≡ true → is_some (session_line x.sessions s) ≡ true
   pub placed : (s : ℕ) → is_some (queued_line x.queued s) ≡ true → is_some (slot_line x.slots s) ≡ true
   pub jobs : IsAscending (each (λ (j : JobLine). j.job.ticket.session) x.jobs)
+
+-- each directory and each path begins with a slash
+pub record AreFromRoot (x : HubState) : Type 0 where
+  pub sessions : AllByRecursion (λ (l : SessionLine). is_from_root l.cwd ≡ true) x.sessions
+  pub queued : AllByRecursion (λ (q : QueuedLine). is_from_root q.path ≡ true) x.queued
+  pub jobs : AllByRecursion (λ (j : JobLine). is_from_root j.job.path ≡ true) x.jobs

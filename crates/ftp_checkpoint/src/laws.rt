@@ -2,10 +2,14 @@
 
 ghost use Rattle.std.specs.Prelude.{◌≡◌, List};
 ghost use Rattle.std.specs.List.{AllByRecursion};
+ghost use Rattle.ftp_options.specs.declared.options.Options.{Options};
+ghost use Rattle.ftp_events.specs.declared.entry.Entry.{Entry};
+ghost use Rattle.ftp_events.specs.Right.{IsRight};
 ghost use Rattle.ftp_hub.specs.declared.state.HubState.{HubState};
+ghost use Rattle.ftp_hub.specs.State.{IsState};
 ghost use Rattle.ftp_checkpoint.specs.declared.line.StateLine.{StateLine};
 ghost use Rattle.ftp_checkpoint.specs.Grammar.{AreStateLines};
-ghost use Rattle.ftp_checkpoint.specs.ListOrder.{AreListsInOrder};
+ghost use Rattle.ftp_checkpoint.specs.ListOrder.{AreFromRoot, AreListsInOrder};
 ghost use Rattle.ftp_checkpoint.specs.Spelling.{IsStateLine};
 ghost use Rattle.ftp_checkpoint.specs.Walk.{walk};
 
@@ -36,4 +40,14 @@ pub fn lines_give_lists_in_order()
 ///   slash.
 pub fn lists_in_order_have_lines()
     ensures { (x : HubState) → AreListsInOrder x → AllByRecursion IsStateLine (walk x) → AreStateLines x (walk x) }
+{}
+
+/// The paths of a state that some right log has begin with a slash.
+///
+/// # Proved
+///
+/// - Each directory of a session and each path of a transfer begins with a slash in a state that some right log has, if its
+///   lists are in order.
+pub fn states_of_logs_begin_at_the_root()
+    ensures { (o : Options) (log : List Entry) (x : HubState) → IsRight o log → IsState o log x → AreListsInOrder x → AreFromRoot x }
 {}

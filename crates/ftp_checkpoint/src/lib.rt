@@ -16,6 +16,9 @@ mod writing;
 
 pub use decoding::decode_state;
 pub use encoding::encode_state;
-pub use laws::{a_state_has_one_text, lines_give_lists_in_order, lists_in_order_have_lines};
+pub use laws::{
+    a_state_has_one_text, lines_give_lists_in_order, lists_in_order_have_lines,
+    states_of_logs_begin_at_the_root,
+};
 pub use line::{StateLine, read_state_line};
 pub use word::{CommandWord, LineWord, SlotWord};
