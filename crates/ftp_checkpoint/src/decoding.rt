@@ -46,7 +46,7 @@ fn read_lines(alloc: Global, text: &[u8]) -> Result<Vec<StateLine>, StateError>
     ensures others { IfErr result IsOfText }
 {
     let mut lines = Vec::new(alloc);
-    let mut count = 0;
+    let mut count: u64 = 0;
     let mut rest = text;
     while !rest.is_empty() {
         count += 1;

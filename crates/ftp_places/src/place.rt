@@ -160,7 +160,7 @@ impl Place {
     ///
     /// # Proved
     ///
-    /// - It is the root or leads below it, by names that files may have, whatever the client sent (`below`; `text`).
+    /// - It is the root or leads below it, by names that files may have, whatever the client sent (`below`, `text`).
     pub fn text(&self) -> &str
         ensures text { result.now ≡ system_path self.now }
         ensures below { IsBelow self.now.root result.now }

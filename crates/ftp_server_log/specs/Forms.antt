@@ -61,16 +61,16 @@ command_text command.Nlst = codes "NLST"
 command_text command.Mlsd = codes "MLSD"
 
 -- the words of lines
-abbrev pub line_word_text : LineWord → List ℕ
-line_word_text word.Connect = codes "connect"
-line_word_text word.Login = codes "login"
-line_word_text word.End = codes "end"
-line_word_text (word.Transfer None) = codes "-"
-line_word_text (word.Transfer (Some w)) = command_text w
-line_word_text word.Dele = codes "DELE"
-line_word_text word.Rmd = codes "RMD"
-line_word_text word.Mkd = codes "MKD"
-line_word_text word.Rnto = codes "RNTO"
+abbrev pub log_word_text : LineWord → List ℕ
+log_word_text word.Connect = codes "connect"
+log_word_text word.Login = codes "login"
+log_word_text word.End = codes "end"
+log_word_text (word.Transfer None) = codes "-"
+log_word_text (word.Transfer (Some w)) = command_text w
+log_word_text word.Dele = codes "DELE"
+log_word_text word.Rmd = codes "RMD"
+log_word_text word.Mkd = codes "MKD"
+log_word_text word.Rnto = codes "RNTO"
 
 -- the words of results
 abbrev pub line_result_text : LineResult → List ℕ
@@ -90,7 +90,7 @@ line_result_text result.OutOfMemory = codes "memory"
 -- when, where and who
 unfoldable pub own_front : ℕ → LogLine → List ℕ
 own_front moment l =
-    iso_text moment ++ number l.session ++ field (maybe_client l.client) ++ field (blankless l.user) ++ field (line_word_text l.word)
+    iso_text moment ++ number l.session ++ field (maybe_client l.client) ++ field (blankless l.user) ++ field (log_word_text l.word)
 
 -- how it came out
 unfoldable pub own_back : LogLine → List ℕ

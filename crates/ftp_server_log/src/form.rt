@@ -4,7 +4,7 @@ ghost use Rattle.std.specs.Prelude.{◌≡◌, ◌++◌, map, OnOk};
 ghost use Rattle.std.specs.List.{flat_map};
 ghost use Rattle.std.specs.Option.{option_to_list};
 ghost use Rattle.ftp_text.specs.Fields.{field};
-ghost use Rattle.ftp_server_log.specs.Forms.{maybe_client, bare_byte, blankless, bare_path, other_path, command_text, line_word_text, line_result_text, own_front, own_back, own_line, xferlog_byte, command_direction, direction_of, completion_byte, xferlog_front, xferlog_back, xferlog_with, log_line_text, v6_digits};
+ghost use Rattle.ftp_server_log.specs.Forms.{maybe_client, bare_byte, blankless, bare_path, other_path, command_text, log_word_text, line_result_text, own_front, own_back, own_line, xferlog_byte, command_direction, direction_of, completion_byte, xferlog_front, xferlog_back, xferlog_with, log_line_text, v6_digits};
 
 use crate::calendar::{put_ctime, put_iso};
 use crate::line::{LineResult, LineWord, LogForm, LogLine};
@@ -94,7 +94,7 @@ pub(crate) fn command_text(word: CommandWord) -> &'static [u8]
 }
 
 fn word_text(word: LineWord) -> &'static [u8]
-    ensures { result.now ≡ line_word_text word }
+    ensures { result.now ≡ log_word_text word }
 {
     match word {
         LineWord::Connect => b"connect",
