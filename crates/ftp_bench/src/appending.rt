@@ -42,6 +42,15 @@ impl From<AllocError> for AppendError {
     }
 }
 
+impl From<ftp_shared::AppendError> for AppendError {
+    ghost from_gives = { λ _ e. e ≡ OutOfMemory };
+
+    // A hub that keeps its whole journal answers nothing else.
+    fn from(_: ftp_shared::AppendError) -> AppendError {
+        AppendError::OutOfMemory
+    }
+}
+
 impl From<AllocFailed<Entry>> for AppendError {
     ghost from_gives = { λ _ e. e ≡ OutOfMemory };
 

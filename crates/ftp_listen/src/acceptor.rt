@@ -5,7 +5,7 @@ ghost use Rattle.std.specs.Prelude.{◌≡◌, ◌≤◌};
 use crate::listening::{AcceptPoll, Door, ListeningSockets};
 use crate::spawning::spawn_wanted;
 use ftp_base::{Authenticator, Gate, Spawner};
-use ftp_shared::Serving;
+use ftp_shared::JournalHub;
 use ftp_system::{Depot, ServerRuntime};
 use ftp_workers::{EventSinks, ServerDesk, ServerState};
 use mio::Token;
@@ -36,15 +36,15 @@ const SCAVENGE: u64 = 60_000;
 #[derive(Drop)]
 pub(crate) struct Acceptor<
     R: ServerRuntime,
-    L: Serving,
+    H: JournalHub + Drop,
     A: Authenticator + Drop,
     N: EventSinks + Drop,
     D: Depot + Drop,
     G: Gate + Drop,
 > {
     rt: R,
-    state: Arc<ServerState<L, A, N, D, G>, Global>,
-    desk: ServerDesk<R, L, A, N, D, G>,
+    state: Arc<ServerState<H, A, N, D, G>, Global>,
+    desk: ServerDesk<R, H, A, N, D, G>,
     // All connections to the control port come from a proxy.
     is_behind_proxy: bool,
     // Sockets whose accept failed, by their tokens, and from when on they are looked at again.
@@ -59,24 +59,25 @@ pub(crate) struct Acceptor<
 
 impl<
     R: ServerRuntime,
-    L: Serving + Send + Sync + 'static,
+    H: JournalHub + Send + Sync + Drop + 'static,
     A: Authenticator + Send + Sync + Drop + 'static,
     N: EventSinks + Send + Drop + 'static,
     D: Depot + Send + Sync + Drop + 'static,
     G: Gate + Send + Sync + Drop + 'static,
-> Acceptor<R, L, A, N, D, G>
+> Acceptor<R, H, A, N, D, G>
 where
+    H::Pass: Send + 'static,
     D::Store: Send + 'static,
 {
     /// No connection has come yet, at this moment in milliseconds.
     pub(crate) fn new(
         rt: R,
         alloc: Global,
-        state: Arc<ServerState<L, A, N, D, G>, Global>,
-        desk: ServerDesk<R, L, A, N, D, G>,
+        state: Arc<ServerState<H, A, N, D, G>, Global>,
+        desk: ServerDesk<R, H, A, N, D, G>,
         is_behind_proxy: bool,
         at: u64,
-    ) -> Acceptor<R, L, A, N, D, G> {
+    ) -> Acceptor<R, H, A, N, D, G> {
         Acceptor {
             rt,
             state,
@@ -180,7 +181,7 @@ where
         }
     }
 
-    /// Ends all sessions, and says whether there was memory for it.
+    /// Ends all sessions, and says whether that was taken.
     pub(crate) fn stop(&mut self, at: u64) -> bool {
         self.desk.stop(at)
     }

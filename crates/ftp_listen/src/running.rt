@@ -1,6 +1,6 @@
 //! The life of a server: it accepts connections until a shutdown is asked for, and is then drained.
 
-ghost use Rattle.std.specs.Prelude.{◌≡◌, ◌≤◌, ◌<◌, ◌+◌, ◌⊎◌, None, Some, IfErr, IsErrOf, IsSome, OnOk};
+ghost use Rattle.std.specs.Prelude.{◌≡◌, ◌≤◌, ◌<◌, ◌+◌, ◌⊎◌, None, Some, IfErr, IfSome, IsErrOf, IsSome, OnOk};
 ghost use Rattle.ftp_base.specs.Outside.{HasRisen};
 ghost use Rattle.ftp_listen.specs.Causes.{IsPastGrace};
 
@@ -10,7 +10,7 @@ use crate::parts::ServerParts;
 use crate::spawning::spawn_worker;
 use ftp_base::{Authenticator, Gate, Spawner};
 use ftp_options::{Indicator, Options, ServerError, Shutdown};
-use ftp_shared::Serving;
+use ftp_shared::{CutHub, JournalHub, Serving, SharedHub};
 use ftp_system::{Depot, Doors, Front, ServerRuntime, SessionLimits};
 use ftp_workers::{AcceptorHandle, EventSinks, ServerDesk, ServerState};
 use std::alloc::{AllocError, Global};
@@ -28,7 +28,7 @@ const DRAINING_TURN: u64 = 10;
 
 /// A server to which nothing has happened.
 pub(crate) fn new_state<
-    L: Serving,
+    H: JournalHub + Drop,
     A: Authenticator + Drop,
     N: EventSinks + Drop,
     D: Depot + Drop,
@@ -37,15 +37,12 @@ pub(crate) fn new_state<
     alloc: Global,
     options: Options,
     limits: SessionLimits,
-    blank: Blank,
+    hub: H,
     server_parts: ServerParts<A, N, D>,
     gate: Arc<G, Global>,
     acceptor: AcceptorHandle,
-) -> Result<Arc<ServerState<L, A, N, D, G>, Global>, AllocError>
-    requires name { blank.name ≡ L.name }
-    requires parts { blank.parts ≡ L.parts }
-    requires all { blank.parts ≡ PARTS }
-    requires options { options ≡ L.options }
+) -> Result<Arc<ServerState<H, A, N, D, G>, Global>, AllocError>
+    requires options { options ≡ H.options }
 {
     let ServerParts {
         authenticator,
@@ -53,18 +50,17 @@ pub(crate) fn new_state<
         depot,
         feed,
     } = server_parts;
-    let (steps, parts) = blank.open::<L>();
     let mut state = ServerState::new(
         alloc,
         options,
         limits,
-        (steps, parts, PARTS),
+        hub,
         authenticator,
         sinks,
         depot,
         gate,
         acceptor,
-    )?;
+    );
     if let Some(feed) = feed {
         state.feed_to(feed);
     }
@@ -77,7 +73,7 @@ pub(crate) fn new_state<
 // Accepts connections until a shutdown is asked for. It gives the moment of asking, which is the front's latest.
 fn accept_until_shutdown<
     R: ServerRuntime,
-    L: Serving + Send + Sync + 'static,
+    H: JournalHub + Send + Sync + Drop + 'static,
     A: Authenticator + Send + Sync + Drop + 'static,
     N: EventSinks + Send + Drop + 'static,
     D: Depot + Send + Sync + Drop + 'static,
@@ -87,7 +83,7 @@ fn accept_until_shutdown<
     I: Indicator,
 >(
     rt: &R,
-    acceptor: &mut Acceptor<R, L, A, N, D, G>,
+    acceptor: &mut Acceptor<R, H, A, N, D, G>,
     poll: &mut AcceptPoll,
     sockets: &ListeningSockets,
     spawner: &mut P,
@@ -95,6 +91,7 @@ fn accept_until_shutdown<
     indicator: &mut I,
 ) -> (u64, Shutdown)
 where
+    H::Pass: Send + 'static,
     D::Store: Send + 'static,
     ensures asked { I.asked indicator.old ≡ None → I.asked indicator.new ≡ Some (result.0, result.1.grace_ms) }
     ensures has_asked { IsSome (I.asked indicator.new) }
@@ -118,7 +115,7 @@ where
 // this moment.
 fn drain<
     R: ServerRuntime,
-    L: Serving + Send + Sync + 'static,
+    H: JournalHub + Send + Sync + Drop + 'static,
     A: Authenticator + Send + Sync + Drop + 'static,
     N: EventSinks + Send + Drop + 'static,
     D: Depot + Send + Sync + Drop + 'static,
@@ -127,13 +124,14 @@ fn drain<
     F: Front,
 >(
     rt: &R,
-    acceptor: &mut Acceptor<R, L, A, N, D, G>,
+    acceptor: &mut Acceptor<R, H, A, N, D, G>,
     poll: &mut AcceptPoll,
     spawner: &mut P,
     front: &mut F,
     asked: (u64, Shutdown),
 ) -> Result<(), ServerError>
 where
+    H::Pass: Send + 'static,
     D::Store: Send + 'static,
     ensures shutdown { IsErrOf result ServerError.Shutdown → asked.0 + asked.1.grace_ms < F.latest front.new }
     ensures only { IfErr result (λ e. e ≡ ServerError.Shutdown) }
@@ -157,7 +155,8 @@ where
     unreachable!()
 }
 
-/// Serves at these sockets until a shutdown was asked for and is over.
+/// Serves at these sockets until a shutdown was asked for and is over: over a hub that keeps its whole journal, or where it is
+/// told of how many entries at most over one with a checkpoint and a tail.
 pub(crate) fn run_server<
     L: Serving + Send + Sync + 'static,
     R: ServerRuntime,
@@ -173,6 +172,7 @@ pub(crate) fn run_server<
     alloc: Global,
     options: Options,
     limits: SessionLimits,
+    every: Option<u64>,
     blank: Blank,
     server_parts: ServerParts<A, N, D>,
     gate: Arc<G, Global>,
@@ -187,6 +187,78 @@ where
     requires parts { blank.parts ≡ L.parts }
     requires all { blank.parts ≡ PARTS }
     requires options { options ≡ L.options }
+    requires some { IfSome every (λ n. 1 ≤ n) }
+    ensures ok { OnOk result (IsSome (I.asked indicator.new)) }
+    ensures listener { IsErrOf result ServerError.Listener → HasRisen (P.faults spawner.old) (P.faults spawner.new) }
+    ensures shutdown { IsErrOf result ServerError.Shutdown → I.asked indicator.old ≡ None → IsPastGrace (I.asked indicator.new) (F.latest front.new) }
+    ensures has_asked { IsErrOf result ServerError.Shutdown → IsSome (I.asked indicator.new) }
+    ensures only { IfErr result (λ e. (e ≡ ServerError.Listener) ⊎ ((e ≡ ServerError.Shutdown) ⊎ (e ≡ ServerError.OutOfMemory))) }
+    ensures front { F.faults front.old ≤ F.faults front.new }
+{
+    let Ok(told) = options.copy(alloc) else {
+        return Err(ServerError::OutOfMemory);
+    };
+    match every {
+        Some(every) => run_over(
+            rt,
+            alloc,
+            told,
+            limits,
+            CutHub::<L>::new(alloc, options, every),
+            server_parts,
+            gate,
+            doors,
+            spawner,
+            front,
+            indicator,
+        ),
+        None => {
+            let (steps, parts) = blank.open::<L>();
+            run_over(
+                rt,
+                alloc,
+                told,
+                limits,
+                SharedHub::new(alloc, options, steps, parts, PARTS),
+                server_parts,
+                gate,
+                doors,
+                spawner,
+                front,
+                indicator,
+            )
+        }
+    }
+}
+
+// Serves at these sockets over a hub.
+fn run_over<
+    R: ServerRuntime,
+    H: JournalHub + Send + Sync + Drop + 'static,
+    A: Authenticator + Send + Sync + Drop + 'static,
+    N: EventSinks + Send + Drop + 'static,
+    D: Depot + Send + Sync + Drop + 'static,
+    G: Gate + Send + Sync + Drop + 'static,
+    P: Spawner,
+    F: Front,
+    I: Indicator,
+>(
+    rt: &R,
+    alloc: Global,
+    options: Options,
+    limits: SessionLimits,
+    hub: H,
+    server_parts: ServerParts<A, N, D>,
+    gate: Arc<G, Global>,
+    doors: Doors,
+    spawner: &mut P,
+    front: &mut F,
+    indicator: &mut I,
+) -> Result<(), ServerError>
+where
+    H::Pass: Send + 'static,
+    D::Store: Send + 'static,
+    requires options { options ≡ H.options }
     ensures ok { OnOk result (IsSome (I.asked indicator.new)) }
     ensures listener { IsErrOf result ServerError.Listener → HasRisen (P.faults spawner.old) (P.faults spawner.new) }
     ensures shutdown { IsErrOf result ServerError.Shutdown → I.asked indicator.old ≡ None → IsPastGrace (I.asked indicator.new) (F.latest front.new) }
@@ -198,24 +270,24 @@ where
     let Ok((poll, sockets, acceptor)) = AcceptPoll::over(rt, alloc, doors) else {
         return Err(ServerError::OutOfMemory);
     };
-    let Ok(state) = new_state::<L, A, N, D, G>(
+    let Ok(state) = new_state::<H, A, N, D, G>(
         alloc,
         options,
         limits,
-        blank,
+        hub,
         server_parts,
         gate,
         acceptor,
     ) else {
         return Err(ServerError::OutOfMemory);
     };
-    let (Some(share), Ok(theirs)) = (state.share(rt), Arc::try_clone(&state)) else {
+    let (Some(pass), Ok(theirs)) = (state.share(rt), Arc::try_clone(&state)) else {
         return Err(ServerError::OutOfMemory);
     };
     if !spawn_worker(rt, &state, spawner) {
         return Err(ServerError::Listener);
     }
-    let desk = ServerDesk::new(*rt, theirs, share);
+    let desk = ServerDesk::new(*rt, theirs, pass);
     let mut poll = poll;
     let mut acceptor = Acceptor::new(*rt, alloc, state, desk, is_behind_proxy, front.now());
     let asked = accept_until_shutdown(

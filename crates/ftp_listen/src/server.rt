@@ -1,6 +1,6 @@
 //! A server, from its options to its end.
 
-ghost use Rattle.std.specs.Prelude.{◌≡◌, ◌↔◌, ◌⊎◌, None, true, false, IfErr, IfOk, IsErrOf, IsSome, OnOk};
+ghost use Rattle.std.specs.Prelude.{◌≡◌, ◌≤◌, ◌↔◌, ◌⊎◌, None, Some, true, false, IfErr, IfOk, IfSome, IsErrOf, IsSome, OnOk};
 ghost use Rattle.ftp_base.specs.Outside.{HasRisen};
 ghost use Rattle.ftp_options.specs.Modes.{is_legacy};
 ghost use Rattle.ftp_listen.specs.Causes.{WritesNone, WritesV6, IsPastGrace, is_of_listening, is_of_running};
@@ -41,8 +41,11 @@ pub struct Server<S: Drop> {
     alloc: Global,
     options: Options,
     limits: SessionLimits,
+    // Of how many entries at most its journal's tail is, where it has a checkpoint.
+    every: Option<u64>,
     parts: Parts<S>,
     feed: Option<Arc<JournalFeed, Global>>,
+    ghost some: { IfSome every (λ n. 1 ≤ n) },
 }
 
 impl<S: Storage + Send + Drop + 'static> Server<S> {
@@ -63,6 +66,7 @@ impl<S: Storage + Send + Drop + 'static> Server<S> {
             alloc,
             options,
             limits: usual_limits(),
+            every: None,
             parts,
             feed: None,
         }
@@ -76,6 +80,7 @@ impl<S: Storage + Send + Drop + 'static> Server<S> {
             alloc,
             options,
             limits: usual_limits(),
+            every: None,
             parts,
             feed: None,
         }
@@ -152,6 +157,7 @@ impl<S: Storage + Send + Drop + 'static> Server<S> {
             alloc,
             options,
             limits,
+            every,
             parts,
             feed,
         } = server;
@@ -162,6 +168,7 @@ impl<S: Storage + Send + Drop + 'static> Server<S> {
             alloc,
             options,
             limits,
+            every,
             server_parts,
             at,
             gate,
@@ -184,23 +191,26 @@ impl<S: Storage + Send + Drop + 'static> Server<S> {
             alloc,
             options,
             limits,
+            every,
             parts,
             feed,
         } = server;
         let (own, server_parts) = parts.open(feed);
         drop(own);
-        serve_one(rt, alloc, options, limits, server_parts, stream)
+        serve_one(rt, alloc, options, limits, every, server_parts, stream)
     }
 
     // The same server, over a depot of its storage.
     fn shared<R: ServerRuntime>(self, rt: R) -> Result<Server<SharedDepot<R, S>>, AllocError>
         ensures options { IfOk result (λ server. server.options ≡ self.options) }
         ensures limits { IfOk result (λ server. server.limits ≡ self.limits) }
+        ensures every { IfOk result (λ server. server.every ≡ self.every) }
     {
         let Server {
             alloc,
             options,
             limits,
+            every,
             parts,
             feed,
         } = self;
@@ -209,6 +219,7 @@ impl<S: Storage + Send + Drop + 'static> Server<S> {
             alloc,
             options,
             limits,
+            every,
             parts,
             feed,
         })
@@ -230,6 +241,21 @@ impl<S: Drop> Server<S> {
         ensures options { self.new.options ≡ self.old.options }
     {
         self.limits.of_one = of_one;
+    }
+
+    /// Keeps of the journal a checkpoint, and so many entries behind it at most. What the server needs is bounded then by what
+    /// is live, and does not grow with what has happened.
+    ///
+    /// # Proved
+    ///
+    /// - A server that is told so keeps so many entries at most (`every`, `limits`, `options`; also `Cut::tail`: `bounded`).
+    pub fn checkpoint_every(&mut self, every: u64)
+        requires some { 1 ≤ every }
+        ensures every { self.new.every ≡ Some every }
+        ensures limits { self.new.limits ≡ self.old.limits }
+        ensures options { self.new.options ≡ self.old.options }
+    {
+        self.every = Some(every);
     }
 
     /// Hands each entry of the journal to a feed, in order, once it is decided. A thread of the caller's takes them out; where it
@@ -255,6 +281,7 @@ where
             alloc,
             options,
             limits: usual_limits(),
+            every: None,
             parts,
             feed: None,
         }
@@ -285,6 +312,7 @@ where
             alloc,
             options,
             limits,
+            every,
             parts,
             feed,
         } = self;
@@ -298,6 +326,7 @@ where
             alloc,
             options,
             limits,
+            every,
             server_parts,
             at,
             gate,
@@ -321,6 +350,7 @@ fn listen_boxed<
     alloc: Global,
     options: Options,
     limits: SessionLimits,
+    every: Option<u64>,
     server_parts: Boxed<SharedDepot<R, S>>,
     at: SocketAddr,
     gate: Arc<G, Global>,
@@ -328,6 +358,7 @@ fn listen_boxed<
     front: &mut F,
     indicator: &mut I,
 ) -> Result<(), ServerError>
+    requires some { IfSome every (λ n. 1 ≤ n) }
     ensures ok { OnOk result (IsSome (I.asked indicator.new)) }
     ensures io { IsErrOf result ServerError.Io → HasRisen (F.faults front.old) (F.faults front.new) }
     ensures listener { IsErrOf result ServerError.Listener → HasRisen (P.faults spawner.old) (P.faults spawner.new) }
@@ -340,6 +371,7 @@ fn listen_boxed<
         alloc,
         options,
         limits,
+        every,
         server_parts,
         at,
         gate,
@@ -364,6 +396,7 @@ fn listen_at<
     alloc: Global,
     options: Options,
     limits: SessionLimits,
+    every: Option<u64>,
     server_parts: ServerParts<A, N, D>,
     at: SocketAddr,
     gate: Arc<G, Global>,
@@ -373,6 +406,7 @@ fn listen_at<
 ) -> Result<(), ServerError>
 where
     D::Store: Send + 'static,
+    requires some { IfSome every (λ n. 1 ≤ n) }
     ensures ok { OnOk result (IsSome (I.asked indicator.new)) }
     ensures io { IsErrOf result ServerError.Io → HasRisen (F.faults front.old) (F.faults front.new) }
     ensures listener { IsErrOf result ServerError.Listener → HasRisen (P.faults spawner.old) (P.faults spawner.new) }
@@ -389,6 +423,7 @@ where
         alloc,
         options,
         limits,
+        every,
         Blank::new(PARTS),
         server_parts,
         gate,

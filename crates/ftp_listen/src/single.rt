@@ -1,6 +1,6 @@
 //! One control connection by itself.
 
-ghost use Rattle.std.specs.Prelude.{◌≡◌, ◌⊎◌, true, IfErr};
+ghost use Rattle.std.specs.Prelude.{◌≡◌, ◌≤◌, ◌⊎◌, true, IfErr, IfSome};
 ghost use Rattle.ftp_options.specs.Builder.{settings_of};
 ghost use Rattle.ftp_options.specs.Modes.{is_legacy};
 
@@ -10,7 +10,7 @@ use crate::running::{PARTS, new_state};
 use crate::spawning::spawn_wanted;
 use ftp_base::{Authenticator, Gate};
 use ftp_options::{ListenerMode, Options, ServerError};
-use ftp_shared::{Serving, StepShare};
+use ftp_shared::{CutHub, JournalHub, Serving, SharedHub};
 use ftp_system::{
     Depot, Front, OpenGate, ServerRuntime, SessionLimits, SystemFront, SystemThreads,
 };
@@ -52,21 +52,21 @@ fn in_legacy_mode(options: Options) -> Options
 // Serves a connection that came from there to its end.
 fn served<
     R: ServerRuntime,
-    L: Serving,
+    H: JournalHub + Drop,
     A: Authenticator + Drop,
     N: EventSinks + Drop,
     D: Depot + Drop,
     G: Gate + Drop,
 >(
     rt: &R,
-    state: Arc<ServerState<L, A, N, D, G>, Global>,
-    share: StepShare<L>,
+    state: Arc<ServerState<H, A, N, D, G>, Global>,
+    pass: H::Pass,
     stream: TcpStream,
     raw: SocketAddr,
 ) -> Result<(), ServerError>
     ensures only { IfErr result (λ e. (e ≡ ServerError.Io) ⊎ (e ≡ ServerError.OutOfMemory)) }
 {
-    let Ok(worker) = Worker::new(*rt, state, share) else {
+    let Ok(worker) = Worker::new(*rt, state, pass) else {
         return Err(ServerError::OutOfMemory);
     };
     let mut worker = worker;
@@ -75,14 +75,14 @@ fn served<
     match end {
         Some(ServeEnd::Ended | ServeEnd::Refused(_)) => Ok(()),
         Some(ServeEnd::ReadFault | ServeEnd::WriteFault) => Err(ServerError::Io),
-        Some(ServeEnd::OutOfMemory) | None => Err(ServerError::OutOfMemory),
+        Some(ServeEnd::OutOfMemory | ServeEnd::Exhausted) | None => Err(ServerError::OutOfMemory),
     }
 }
 
 // Starts the threads that are wanted and takes data connections in, until the connection is over and all transfers are.
 fn spawn_on<
     R: ServerRuntime,
-    L: Serving + Send + Sync + 'static,
+    H: JournalHub + Send + Sync + Drop + 'static,
     A: Authenticator + Send + Sync + Drop + 'static,
     N: EventSinks + Send + Drop + 'static,
     D: Depot + Send + Sync + Drop + 'static,
@@ -90,12 +90,13 @@ fn spawn_on<
 >(
     rt: &R,
     alloc: Global,
-    state: &Arc<ServerState<L, A, N, D, G>, Global>,
-    desk: ServerDesk<R, L, A, N, D, G>,
+    state: &Arc<ServerState<H, A, N, D, G>, Global>,
+    desk: ServerDesk<R, H, A, N, D, G>,
     poll: &mut AcceptPoll,
     is_over: &AtomicBool,
 )
 where
+    H::Pass: Send + 'static,
     D::Store: Send + 'static,
 {
     let mut desk = desk;
@@ -120,7 +121,7 @@ where
     }
 }
 
-// Serves a connection with a hub of its own.
+// Serves a connection with a hub of its own, which keeps its whole journal or a checkpoint and a tail.
 fn serve_inside<
     L: Serving + Send + Sync + 'static,
     R: ServerRuntime,
@@ -132,6 +133,7 @@ fn serve_inside<
     alloc: Global,
     options: Options,
     limits: SessionLimits,
+    every: Option<u64>,
     blank: Blank,
     server_parts: ServerParts<A, N, D>,
     stream: TcpStream,
@@ -143,6 +145,46 @@ where
     requires parts { blank.parts ≡ L.parts }
     requires all { blank.parts ≡ PARTS }
     requires options { options ≡ L.options }
+    requires some { IfSome every (λ n. 1 ≤ n) }
+    ensures only { IfErr result (λ e. (e ≡ ServerError.Io) ⊎ (e ≡ ServerError.OutOfMemory)) }
+{
+    let Ok(told) = options.copy(alloc) else {
+        return Err(ServerError::OutOfMemory);
+    };
+    match every {
+        Some(every) => {
+            let hub = CutHub::<L>::new(alloc, options, every);
+            serve_over(rt, alloc, told, limits, hub, server_parts, stream, raw)
+        }
+        None => {
+            let (steps, parts) = blank.open::<L>();
+            let hub = SharedHub::new(alloc, options, steps, parts, PARTS);
+            serve_over(rt, alloc, told, limits, hub, server_parts, stream, raw)
+        }
+    }
+}
+
+// Serves a connection over a hub of its own.
+fn serve_over<
+    R: ServerRuntime,
+    H: JournalHub + Send + Sync + Drop + 'static,
+    A: Authenticator + Send + Sync + Drop + 'static,
+    N: EventSinks + Send + Drop + 'static,
+    D: Depot + Send + Sync + Drop + 'static,
+>(
+    rt: &R,
+    alloc: Global,
+    options: Options,
+    limits: SessionLimits,
+    hub: H,
+    server_parts: ServerParts<A, N, D>,
+    stream: TcpStream,
+    raw: SocketAddr,
+) -> Result<(), ServerError>
+where
+    H::Pass: Send + 'static,
+    D::Store: Send + 'static,
+    requires options { options ≡ H.options }
     ensures only { IfErr result (λ e. (e ≡ ServerError.Io) ⊎ (e ≡ ServerError.OutOfMemory)) }
 {
     let (Ok((poll, acceptor)), Ok(gate)) = (
@@ -154,18 +196,18 @@ where
     let Ok(waker) = Arc::try_clone(&acceptor.waker) else {
         return Err(ServerError::OutOfMemory);
     };
-    let Ok(state) = new_state::<L, A, N, D, OpenGate>(
+    let Ok(state) = new_state::<H, A, N, D, OpenGate>(
         alloc,
         options,
         limits,
-        blank,
+        hub,
         server_parts,
         gate,
         acceptor,
     ) else {
         return Err(ServerError::OutOfMemory);
     };
-    let (Some(share), Ok(theirs)) = (state.share(rt), Arc::try_clone(&state)) else {
+    let (Some(pass), Ok(theirs)) = (state.share(rt), Arc::try_clone(&state)) else {
         return Err(ServerError::OutOfMemory);
     };
     let (Some(own), Ok(ours)) = (state.share(rt), Arc::try_clone(&state)) else {
@@ -179,7 +221,7 @@ where
     let (end, ()) = thread::join(
         rt,
         move || {
-            let end = served(rt, theirs, share, stream, raw);
+            let end = served(rt, theirs, pass, stream, raw);
             is_over.store(true, Ordering::SeqCst);
             let _ = bell.wake();
             end
@@ -196,11 +238,13 @@ pub(crate) fn serve_one<R: ServerRuntime, D: Depot + Send + Sync + Drop + 'stati
     alloc: Global,
     options: Options,
     limits: SessionLimits,
+    every: Option<u64>,
     server_parts: Boxed<D>,
     stream: TcpStream,
 ) -> Result<(), ServerError>
 where
     D::Store: Send + 'static,
+    requires some { IfSome every (λ n. 1 ≤ n) }
     ensures only { IfErr result (λ e. (e ≡ ServerError.Io) ⊎ (e ≡ ServerError.OutOfMemory)) }
 {
     // If the peer has gone, nothing is served.
@@ -213,6 +257,7 @@ where
         alloc,
         options,
         limits,
+        every,
         Blank::new(PARTS),
         server_parts,
         stream,

@@ -4,7 +4,7 @@ ghost use Rattle.std.specs.Prelude.{◌≡◌, ◌≤◌, false};
 ghost use Rattle.ftp_base.specs.Outside.{HasRisen};
 
 use ftp_base::{Authenticator, Gate, Spawner};
-use ftp_shared::Serving;
+use ftp_shared::JournalHub;
 use ftp_system::{Depot, ServerRuntime, start};
 use ftp_workers::{EventSinks, ServerState, work};
 use std::alloc::Global;
@@ -14,40 +14,42 @@ use std::sync::Arc;
 /// counted by, none is started either.
 pub(crate) fn spawn_worker<
     R: ServerRuntime,
-    L: Serving + Send + Sync + 'static,
+    H: JournalHub + Send + Sync + Drop + 'static,
     A: Authenticator + Send + Sync + Drop + 'static,
     N: EventSinks + Send + Drop + 'static,
     D: Depot + Send + Sync + Drop + 'static,
     G: Gate + Send + Sync + Drop + 'static,
     P: Spawner,
->(rt: &R, state: &Arc<ServerState<L, A, N, D, G>, Global>, spawner: &mut P) -> bool
+>(rt: &R, state: &Arc<ServerState<H, A, N, D, G>, Global>, spawner: &mut P) -> bool
 where
+    H::Pass: Send + 'static,
     D::Store: Send + 'static,
     ensures fault_rose { result ≡ false → HasRisen (P.faults spawner.old) (P.faults spawner.new) }
     ensures count { P.faults spawner.old ≤ P.faults spawner.new }
 {
-    let Some(share) = state.share(rt) else {
+    let Some(pass) = state.share(rt) else {
         return true;
     };
     let Ok(theirs) = Arc::try_clone(state) else {
-        state.take_back(rt, share);
+        state.take_back(rt, pass);
         return true;
     };
     let rt = *rt;
-    start(&rt, spawner, move || work(rt, theirs, share)).is_none()
+    start(&rt, spawner, move || work(rt, theirs, pass)).is_none()
 }
 
 /// Starts the threads that are wanted and those still missing from before, and says how many are missing then.
 pub(crate) fn spawn_wanted<
     R: ServerRuntime,
-    L: Serving + Send + Sync + 'static,
+    H: JournalHub + Send + Sync + Drop + 'static,
     A: Authenticator + Send + Sync + Drop + 'static,
     N: EventSinks + Send + Drop + 'static,
     D: Depot + Send + Sync + Drop + 'static,
     G: Gate + Send + Sync + Drop + 'static,
     P: Spawner,
->(rt: &R, state: &Arc<ServerState<L, A, N, D, G>, Global>, spawner: &mut P, owed: u64) -> u64
+>(rt: &R, state: &Arc<ServerState<H, A, N, D, G>, Global>, spawner: &mut P, owed: u64) -> u64
 where
+    H::Pass: Send + 'static,
     D::Store: Send + 'static,
     ensures count { P.faults spawner.old ≤ P.faults spawner.new }
 {

@@ -137,7 +137,7 @@ pub fn listen<R: ServerRuntime>(
     Ok(server.listen(rt, text.as_bytes()))
 }
 
-/// Listens at the text in this mode, with at most so many sessions of one client.
+/// Listens at the text in this mode, with at most so many sessions of one client, and a checkpoint after each third entry.
 pub fn listen_to_few<R: ServerRuntime>(
     rt: &R,
     alloc: Global,
@@ -148,10 +148,11 @@ pub fn listen_to_few<R: ServerRuntime>(
 ) -> Ended {
     let mut server = Server::with_options(alloc, options(alloc, mode)?, parts!(alloc, board));
     server.most_sessions_of_one(most);
+    server.checkpoint_every(3);
     Ok(server.listen(rt, text.as_bytes()))
 }
 
-/// Listens at the text in this mode, over a depot that counts the storages that it gives.
+/// Listens at the text in this mode, over a depot that counts the storages that it gives, and with a checkpoint after each entry.
 pub fn listen_over<R: ServerRuntime>(
     rt: &R,
     alloc: Global,
@@ -163,7 +164,8 @@ pub fn listen_over<R: ServerRuntime>(
         files: SharedDepot::new(*rt, alloc, storage(alloc)?)?,
         board: Arc::try_clone(board)?,
     };
-    let server = Server::over(alloc, options(alloc, mode)?, parts!(alloc, board, depot));
+    let mut server = Server::over(alloc, options(alloc, mode)?, parts!(alloc, board, depot));
+    server.checkpoint_every(1);
     Ok(server.listen_over(rt, text.as_bytes()))
 }
 

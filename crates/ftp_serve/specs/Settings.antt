@@ -3,7 +3,7 @@ use Rattle.std.specs.Prelude.{◌≡◌, false}
 use Rattle.ftp_options.specs.Builder.{defaults}
 use Rattle.ftp_options.specs.Modes.{is_legacy}
 use Rattle.ftp_options.specs.Settings.{Settings}
-use Rattle.ftp_serve.specs.declared.command.Service.{Service}
+use Rattle.ftp_serve.specs.declared.service.Service.{Service}
 
 -- a service sets its mode and its passive ports, and nothing else
 abbrev pub settings_for : Service → Settings

@@ -1,13 +1,13 @@
 -- The words of the program.
 --   IsMode word mode       the word names the mode
 --   Asks words command     the words behind the program's name ask for the command
-use Rattle.std.specs.Prelude.{◌≡◌, ℕ, List, [], ◌∷◌, ◌++◌, Option, Some, None, codes, if◌then◌else◌}
+use Rattle.std.specs.Prelude.{◌≡◌, ℕ, ◌^◌, ◌≤◌, IsSomeAnd, List, [], ◌∷◌, ◌++◌, Option, Some, None, codes, if◌then◌else◌}
 use Rattle.std.specs.Str.{bytes_eq}
 use Rattle.ftp_options.specs.declared.options.ListenerMode.{ListenerMode}
 use Rattle.ftp_options.specs.declared.options.ListenerMode.TheVariants.{Legacy, Pooled, Proxy}
 use Rattle.ftp_proxy.specs.Header.{number_of}
 use Rattle.ftp_serve.specs.declared.command.Command.{Command}
-use Rattle.ftp_serve.specs.declared.command.Service.{Service}
+use Rattle.ftp_serve.specs.declared.service.Service.{Service}
 use Rattle.ftp_serve.specs.declared.command.Command.TheVariants.{Help, Version, Serve}
 
 -- what a word by itself asks for
@@ -25,12 +25,26 @@ IsMode word Legacy = word ≡ codes "legacy"
 IsMode word Pooled = word ≡ codes "pooled"
 IsMode word (Proxy port) = (digits : List ℕ) × (word ≡ codes "proxy:" ++ digits) × IsPort digits port
 
--- three words name a mode, the first passive port and the last
-abbrev pub AsksService : List ℕ → List ℕ → List ℕ → Service → Type 0
-AsksService mode lo hi service = IsMode mode service.mode × IsPort lo service.lo × IsPort hi service.hi
+-- a word is a number from 1 on, in decimal digits, of which a zero leads no other
+abbrev pub IsCount : List ℕ → ℕ → Type 0
+IsCount word n = (number_of (2 ^ 64) word ≡ Some n) × (1 ≤ n)
+
+-- a word is so many, where there is one
+abbrev pub IsEvery : Option (List ℕ) → Option ℕ → Type 0
+IsEvery None every = every ≡ None
+IsEvery (Some word) every = IsSomeAnd every (λ n. IsCount word n)
+
+-- three words name a mode, the first passive port and the last, and a fourth, where there is one, of how many entries the
+-- tail behind a checkpoint is at most
+pub record AsksService (mode lo hi : List ℕ) (every : Option (List ℕ)) (service : Service) : Type 0 where
+  pub mode : IsMode mode service.mode
+  pub lo : IsPort lo service.lo
+  pub hi : IsPort hi service.hi
+  pub every : IsEvery every service.every
 
 -- the words behind the program's name ask for the command; where it serves, the first of them is looked at later
 abbrev pub Asks : List (List ℕ) → Command → Type 0
 Asks (word ∷ []) command = command_of word ≡ Some command
-Asks (address ∷ mode ∷ lo ∷ hi ∷ []) (Serve service) = AsksService mode lo hi service
+Asks (address ∷ mode ∷ lo ∷ hi ∷ []) (Serve service) = AsksService mode lo hi None service
+Asks (address ∷ mode ∷ lo ∷ hi ∷ every ∷ []) (Serve service) = AsksService mode lo hi (Some every) service
 Asks _ _ = ⊥

@@ -1,23 +1,15 @@
 //! What the words of the program ask for.
 
-ghost use Rattle.std.specs.Prelude.{◌≡◌, ◌++◌, ℕ, List, map, string_bytes, codes, IfSome, IsNone};
+ghost use Rattle.std.specs.Prelude.{◌≡◌, ◌≤◌, ◌++◌, ℕ, List, map, string_bytes, codes, Some, None, IfSome, IsNone};
 ghost use Rattle.ftp_options.specs.declared.options.ListenerMode.{ListenerMode};
 ghost use Rattle.ftp_serve.specs.declared.command.Command.{Command};
-ghost use Rattle.ftp_serve.specs.declared.command.Service.{Service};
-ghost use Rattle.ftp_serve.specs.Words.{Asks, AsksService, IsMode, command_of};
+ghost use Rattle.ftp_serve.specs.declared.service.Service.{Service};
+ghost use Rattle.ftp_serve.specs.Words.{Asks, AsksService, IsCount, IsMode, command_of};
 
+use crate::number::number_of;
+use crate::service::Service;
 use ftp_options::ListenerMode;
 use ftp_system::port_of;
-
-/// How it is served.
-#[derive(Clone, Copy, Debug, PartialEq, Eq)]
-pub struct Service {
-    pub mode: ListenerMode,
-    /// The first passive port.
-    pub lo: u16,
-    /// The last passive port.
-    pub hi: u16,
-}
 
 #[derive(Clone, Copy, Debug, PartialEq, Eq)]
 pub enum Command {
@@ -32,16 +24,31 @@ impl Service {
     //
     // # Proved
     //
-    // - Of three words the first is the mode, the second the first passive port and the third the last (`found`,
+    // - Of the words the first is the mode, the second the first passive port and the third the last (`found`, `none`);
+    //   a fourth is the most entries behind a checkpoint, and is a number from 1 on (also `Service::with_every`: `found`,
     //   `none`).
     fn of(mode: &[u8], lo: &[u8], hi: &[u8]) -> Option<Service>
-        ensures found { IfSome result (AsksService mode.now lo.now hi.now) }
-        ensures none { IsNone result → (service : Service) → AsksService mode.now lo.now hi.now service → ⊥ }
+        ensures found { IfSome result (AsksService mode.now lo.now hi.now None) }
+        ensures none { IsNone result → (service : Service) → AsksService mode.now lo.now hi.now None service → ⊥ }
     {
         Some(Service {
             mode: mode_of(mode)?,
             lo: port_of(lo)?,
             hi: port_of(hi)?,
+            every: None,
+        })
+    }
+
+    // What four words ask for, where they are a mode, two ports and how many entries.
+    fn with_every(mode: &[u8], lo: &[u8], hi: &[u8], every: &[u8]) -> Option<Service>
+        ensures found { IfSome result (AsksService mode.now lo.now hi.now (Some every.now)) }
+        ensures none { IsNone result → (service : Service) → AsksService mode.now lo.now hi.now (Some every.now) service → ⊥ }
+    {
+        Some(Service {
+            mode: mode_of(mode)?,
+            lo: port_of(lo)?,
+            hi: port_of(hi)?,
+            every: Some(count_of(every)?),
         })
     }
 }
@@ -53,7 +60,8 @@ impl Command {
     ///
     /// - Which words ask for which command: where one is given they ask for it, and where none is given they ask for
     ///   none; a mode is its whole word, behind a proxy with the control port; a port is decimal digits without a sign
-    ///   or a leading zero, below 65,536 (`Asks`, `IsMode` in `ftp_serve/specs/Words.antt`) (`found`, `none`).
+    ///   or a leading zero, below 65,536, and how many entries are kept is such a number from 1 on below 2 ^ 64 (`Asks`,
+    ///   `IsMode` in `ftp_serve/specs/Words.antt`) (`found`, `none`).
     pub fn of(words: &[String]) -> Option<Command>
         ensures found { IfSome result (Asks (map string_bytes words.now)) }
         ensures none { IsNone result → (command : Command) → Asks (map string_bytes words.now) command → ⊥ }
@@ -62,6 +70,15 @@ impl Command {
             [word] => Command::of_word(word.as_bytes()),
             [_, mode, lo, hi] => {
                 let service = Service::of(mode.as_bytes(), lo.as_bytes(), hi.as_bytes())?;
+                Some(Command::Serve(service))
+            }
+            [_, mode, lo, hi, every] => {
+                let service = Service::with_every(
+                    mode.as_bytes(),
+                    lo.as_bytes(),
+                    hi.as_bytes(),
+                    every.as_bytes(),
+                )?;
                 Some(Command::Serve(service))
             }
             _ => None,
@@ -79,6 +96,18 @@ impl Command {
         } else {
             None
         }
+    }
+}
+
+// How many entries a word names: one at least.
+fn count_of(word: &[u8]) -> Option<u64>
+    ensures found { IfSome result (IsCount word.now) }
+    ensures none { IsNone result → (n : ℕ) → IsCount word.now n → ⊥ }
+    ensures some { IfSome result (λ n. 1 ≤ n) }
+{
+    match number_of(word) {
+        Some(n) if 1 <= n => Some(n),
+        _ => None,
     }
 }
 

@@ -1,7 +1,8 @@
 //! A server of files in memory, at first of none, which everybody may log in to.
 //!
 //! `ftp_serve ADDRESS MODE LO HI` listens at an address such as `127.0.0.1:2121`, with the passive ports LO to HI. MODE is
-//! `legacy`, `pooled` or `proxy:PORT`. With `record` before these words it also writes the printed log of what is decided, as
+//! `legacy`, `pooled` or `proxy:PORT`. With EVERY behind these words its journal is a checkpoint and so many entries at most,
+//! and its memory is bounded by what is live. With `record` before these words it also writes the printed log of what is decided, as
 //! it grows. `ftp_serve --help` and `ftp_serve --version` write a text. It ends with 0 where it was shut down, with 1 where it
 //! could not serve, and writes why, and with 64 where the words are no command.
 #![tactic(auto)]
@@ -9,7 +10,9 @@
 ghost use Rattle.std.specs.Prelude.{◌≡◌, ◌∷◌, ℕ, List, map, string_bytes, codes, IfSome, IsNone};
 
 mod command;
+mod number;
 mod recording;
+mod service;
 mod serving;
 
 use command::Command;
@@ -19,12 +22,14 @@ use std::net::{TcpListener, TcpStream};
 use std::process::ExitCode;
 
 const HELP: &str = "\
-Usage: ftp_serve [record] ADDRESS MODE LO HI
+Usage: ftp_serve [record] ADDRESS MODE LO HI [EVERY]
 Serves files in memory, at first none, to every name and password.
 ADDRESS is where it listens, as 127.0.0.1:2121 or [::1]:2121.
 MODE is legacy where each session has a passive port of its own, pooled where
 sessions share the passive ports, and proxy:PORT behind a proxy whose own
 control port is PORT. The passive ports are LO to HI.
+With EVERY it keeps so many entries at most behind a checkpoint, and its memory
+does not grow with what has happened.
 With record the printed log of what is decided is written as it grows.
 ";
 

@@ -7,7 +7,7 @@ ghost use Rattle.ftp_event_text.specs.declared.setup.Item.TheVariants as item;
 ghost use Rattle.ftp_event_text.specs.Options.{mode_text};
 ghost use Rattle.ftp_event_text.specs.Setup.{item_line};
 
-use crate::command::Service;
+use crate::service::Service;
 use ftp_event_text::put_entry;
 use ftp_feed::{EntriesLost, JournalFeed};
 use ftp_options::ListenerMode;

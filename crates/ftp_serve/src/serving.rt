@@ -4,8 +4,8 @@ ghost use Rattle.std.specs.Prelude.{◌≡◌, ◌≤◌, ◌<◌, ◌↔◌, �
 ghost use Rattle.ftp_options.specs.Builder.{settings_of};
 ghost use Rattle.ftp_serve.specs.Settings.{settings_for, IsAtZero};
 
-use crate::command::Service;
 use crate::recording::record;
+use crate::service::Service;
 use ftp_base::{AuthAnswer, MemoryStorage, NopListener, SameAnswer};
 use ftp_feed::JournalFeed;
 use ftp_listen::{Parts, Server};
@@ -77,6 +77,9 @@ pub fn serve<R: ServerRuntime>(
         storage: MemoryStorage::new(alloc, MAX_FILE, Vec::new(alloc)),
     };
     let mut server = Server::with_options(alloc, options, parts);
+    if let Some(every) = service.every {
+        server.checkpoint_every(every);
+    }
     if let Some(feed) = feed {
         server.feed_journal(feed);
     }

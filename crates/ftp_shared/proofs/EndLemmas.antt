@@ -2,7 +2,7 @@
 use Rattle.std.proofs.Common.{◌≡◌, inl, inr, refl, sym, ap, subst, ℕ, false}
 use Rattle.std.proofs.Math.Logic.{∥∥₁_elim}
 use Rattle.std.specs.Coded.{Coded-set}
-use Rattle.std.specs.Prelude.{IfOk, IfSome, IsSome, OnErr, OnOk, Result, Ok, Err}
+use Rattle.std.specs.Prelude.{IfSome, IsSome, OnErr, Result, Ok, Err}
 use Rattle.ftp_events.specs.contracts.event.Answer.{the_row as answer_row}
 use Rattle.ftp_events.specs.contracts.event.HubEvent.{the_row as event_row}
 use Rattle.ftp_events.specs.declared.entry.Entry.{Entry}
@@ -79,11 +79,6 @@ bytes-told P given bytes same holds = subst (λ (given : Answer). IfSome (moved_
 -- there is no outcome in it
 pub bytes-alone : (P : Outcome → Type 0) (given : Answer) (bytes : ℕ) → given ≡ Moved bytes → IfSome (outcome_in given) P
 bytes-alone P given bytes same = subst (λ (given : Answer). IfSome (outcome_in given) P) (sym same) tt
-
--- what follows from a success and what came with it
-pub with-ok : {T X : Type 0} {Q : Type 0} (r : Result T X) (P R : T → Type 0) → OnOk r Q → IfOk r P → ((x : T) → Q → P x → R x) → IfOk r R
-with-ok (Ok x) P R also holds next = next x also holds
-with-ok (Err e) P R also holds next = tt
 
 -- what follows from an error
 pub with-err : {T X : Type 0} {Q R : Type 0} (r : Result T X) → OnErr r Q → (Q → R) → OnErr r R

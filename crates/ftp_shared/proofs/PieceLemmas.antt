@@ -1,5 +1,5 @@
 -- The entry of a piece, and the job that comes with it.
-use Rattle.std.proofs.Common.{◌≡◌, ◌∙◌, ap, sym, ℕ, ◌+◌, ◌-◌, ◌<◌, ◌^◌, Bool, true, false, ◌&&◌, cond, not, List, length, Option, Some, arith}
+use Rattle.std.proofs.Common.{◌≡◌, ◌∙◌, ap, sym, ℕ, ◌+◌, ◌-◌, ◌<◌, ◌^◌, Bool, true, false, ◌&&◌, cond, not, List, length, Some, arith}
 use Rattle.std.specs.Prelude.{nat_le}
 use Rattle.std.proofs.lemmas.Bool.Decides.{nat_tests}
 use Rattle.ftp_options.specs.declared.options.Options.{Options}
@@ -11,16 +11,12 @@ use Rattle.ftp_events.specs.declared.event.Answer.TheVariants.{Moved}
 use Rattle.ftp_events.specs.declared.event.EventKind.TheVariants.{Piece}
 use Rattle.ftp_events.specs.EndRows.{can_move}
 use Rattle.ftp_events.specs.Log.{past_of}
-use Rattle.ftp_events.specs.Right.{next_entry}
-use Rattle.ftp_hub.specs.declared.hub.Hub.{Hub}
+use Rattle.ftp_events.specs.Right.{IsActed, IsRight, next_entry}
 use Rattle.ftp_hub.specs.Twin.{started_job}
-use Rattle.ftp_shared.specs.declared.outbox.Outbox.{Outbox}
 use Rattle.ftp_shared.specs.declared.receipt.Receipt.{Receipt}
 use Rattle.ftp_shared.specs.declared.receipt.Submitted.{Submitted}
 use Rattle.ftp_shared.specs.Jobs.{behind}
-use Rattle.ftp_shared.specs.Keeps.{Keeps}
 use Rattle.ftp_shared.specs.Next.{NextPiece, is_moved}
-use Rattle.ftp_shared.proofs.KeepsLemmas.{keeps-acted, keeps-right}
 
 -- the bytes of a piece that a job can move are counted
 pub can_move-within : (job : Job) (bytes : ℕ) → can_move job bytes ≡ true → job.done + bytes < 2 ^ 64
@@ -33,20 +29,20 @@ can_move-within job bytes can = by (not (is_listing job.command)) (nat_le 1 byte
 
 -- what was submitted, with the job where its piece was counted, is the next piece
 pub piece-next :
-    (o : Options) (hub : Hub) (log : List Entry) (box : Outbox) (submitted given : Submitted) (job : Job) (ticket : Ticket) (at bytes : ℕ) →
-    Keeps o hub log box → ticket ≡ job.ticket →
+    (o : Options) (log : List Entry) (submitted given : Submitted) (job : Job) (ticket : Ticket) (at bytes : ℕ) →
+    IsRight o log → IsActed o log → ticket ≡ job.ticket →
     submitted.receipt.place ≡ length log →
     submitted.receipt.entry ≡ next_entry o log (record { at = at; kind = Piece ticket }) (Moved bytes) →
     submitted.job ≡ started_job o (past_of log) submitted.receipt.entry →
     given.receipt ≡ submitted.receipt →
     given.job ≡ cond (is_moved submitted.receipt.entry.decision) (Some (behind job bytes)) submitted.job →
     NextPiece o given job at bytes
-piece-next o hub log box submitted given job ticket at bytes k same place due started receipt jobs =
+piece-next o log submitted given job ticket at bytes right acted same place due started receipt jobs =
     record {
       next = record {
         journal = log;
-        right = keeps-right o hub log box k;
-        acted = keeps-acted o hub log box k;
+        right = right;
+        acted = acted;
         place = ap (λ (r : Receipt). r.place) receipt ∙ place;
         entry =
             ap (λ (r : Receipt). r.entry) receipt ∙ due

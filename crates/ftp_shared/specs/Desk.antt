@@ -17,7 +17,7 @@ use Rattle.ftp_events.specs.Right.{IsRight, IsActed, next_entry, replies}
 use Rattle.ftp_shared.specs.Outbox.{IsRest, own_session, outbox_after}
 
 -- a desk as callers see it: the options of its logs, the map of its storage, how often that failed, how many events were not
--- taken for want of memory, the journal with the newest entry first, the replies to each session that were not handed out,
+-- taken, the journal with the newest entry first, the replies to each session that were not handed out,
 -- and how many steps were made with its share; map, journal and share where it tells them
 pub record DeskView : Type 0 where
   pub options : Options

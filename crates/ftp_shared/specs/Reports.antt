@@ -1,5 +1,5 @@
 -- What is told of a job on its way.
-use Rattle.std.specs.Prelude.{◌≡◌, ℕ, ◌+◌, ◌≤◌, false, IfSome}
+use Rattle.std.specs.Prelude.{◌≡◌, ℕ, ◌+◌, ◌≤◌, Bool, true, false, IfSome}
 use Rattle.ftp_base.specs.Edge.{EdgeView, Takes, behind_moment, next_number}
 use Rattle.ftp_events.specs.declared.event.Answer.TheVariants.{Moved}
 use Rattle.ftp_shared.specs.declared.report.Reported.{Reported}
@@ -21,7 +21,7 @@ pub record StillRuns (job next : Job) (done : ℕ) (edge edge_after : EdgeView) 
   pub enough : count_after ≤ count + moments
 
 -- the job is over, by the entry of a piece that it moved, at a moment that was taken for it
-pub record IsOver (o : Options) (job : Job) (done : ℕ) (edge edge_after : EdgeView) (count count_after : ℕ) (s : Submitted) : Type 0 where
+pub record IsOver (o : Options) (counts : Bool) (job : Job) (done : ℕ) (edge edge_after : EdgeView) (count count_after : ℕ) (s : Submitted) : Type 0 where
   pub bytes : ℕ
   pub at : ℕ
   pub within : job.done + bytes ≤ done
@@ -29,9 +29,12 @@ pub record IsOver (o : Options) (job : Job) (done : ℕ) (edge edge_after : Edge
   pub over : is_moved s.receipt.entry.decision ≡ false
   pub moment : IfSome edge.feed (λ f. at ≡ next_number f.moments)
   pub taken : Takes behind_moment edge edge_after
-  pub one : count_after ≡ count + 1
+  pub once : count_after ≤ count + 1
+  pub kept : count ≤ count_after
+  -- a share counts it
+  pub counted : counts ≡ true → count_after ≡ count + 1
 
 -- what became of a job of which so many bytes moved and a piece may have been told
-abbrev pub HasTold : Options → Job → ℕ → EdgeView → EdgeView → ℕ → ℕ → Reported → Type 0
-HasTold o job done edge edge_after count count_after (GoesOn next) = StillRuns job next done edge edge_after count count_after
-HasTold o job done edge edge_after count count_after (Over s) = IsOver o job done edge edge_after count count_after s
+abbrev pub HasTold : Options → Bool → Job → ℕ → EdgeView → EdgeView → ℕ → ℕ → Reported → Type 0
+HasTold o counts job done edge edge_after count count_after (GoesOn next) = StillRuns job next done edge edge_after count count_after
+HasTold o counts job done edge edge_after count count_after (Over s) = IsOver o counts job done edge edge_after count count_after s

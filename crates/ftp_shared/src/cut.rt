@@ -5,13 +5,14 @@ ghost use Rattle.std.specs.Prelude.{◌≡◌, ◌≤◌, length};
 ghost use Rattle.ftp_options.specs.declared.options.Options.{Options};
 ghost use Rattle.ftp_shared.specs.Cut.{KeepsCut};
 
+use crate::append_error::AppendError;
 use crate::locked::Serving;
 use crate::marks::Marks;
 use crate::outbox::Outbox;
 use crate::ready::{own_session, ready_cut, share_of};
 use crate::receipt::{Receipt, Replies, Submitted, Turn};
 use ftp_events::{Answer, HubEvent, Log};
-use ftp_hub::{Hub, PrepareError, Twin, keep};
+use ftp_hub::{Hub, Twin, keep};
 use ftp_options::Options;
 use std::alloc::Global;
 use std::marker::PhantomData;
@@ -35,11 +36,15 @@ pub struct Cut<L: Serving> {
 }
 
 impl<L: Serving> Cut<L> {
-    ghost use Rattle.std.specs.Prelude.{◌≡◌, ℕ, ◌-◌, ◌^◌, ◌≤◌, ◌↔◌, [], ◌∷◌, length, nat_lt, List, IfOk, OnErr, IsErrOf, None, if◌then◌else◌};
+    ghost use Rattle.std.specs.Prelude.{◌≡◌, ◌==◌, ◌&&◌, ℕ, ◌-◌, ◌^◌, ◌≤◌, ◌↔◌, [], ◌∷◌, length, nat_lt, List, IfOk, OnErr, IsErrOf, None, if◌then◌else◌};
     ghost use Rattle.std.specs.Option.{option_map_or};
     ghost use Rattle.ftp_events.specs.declared.entry.Entry.{Entry};
+    ghost use Rattle.ftp_events.specs.Log.{past_of};
     ghost use Rattle.ftp_events.specs.Right.{next_entry};
+    ghost use Rattle.ftp_events.specs.Running.{running_count};
+    ghost use Rattle.ftp_events.specs.Session.{live_count};
     ghost use Rattle.ftp_hub.specs.Stands.{Stands, count_of};
+    ghost use Rattle.ftp_hub.specs.Twin.{started_job};
     ghost use Rattle.ftp_shared.specs.Outbox.{outbox_of, own_session, outbox_after};
     ghost use Rattle.ftp_shared.specs.Next.{IsNextAt, IsTurnAt, IsTurnOf};
 
@@ -79,21 +84,41 @@ impl<L: Serving> Cut<L> {
         self.tail.len()
     }
 
+    /// How many events were counted, those before the checkpoint too.
+    pub fn events(&self) -> u64
+        ensures { result ≡ count_of self.now.hub }
+    {
+        self.hub.events()
+    }
+
+    /// Says whether no job runs and no session is live.
+    ///
+    /// # Proved
+    ///
+    /// - It is drained where by a log for which the hub stands no job runs and no session is live.
+    pub fn drained(&self) -> bool
+        ensures { (log : List Entry) → Stands self.now.hub log → result ≡ ((running_count (past_of log) == 0) && (live_count (past_of log) == 0)) }
+    {
+        self.hub.drained()
+    }
+
     // Adds the entry, where a full tail gives way to a new checkpoint, and hands a session what it was sent.
     fn take_step(
         &mut self,
         event: HubEvent,
         answer: Answer,
         own: Option<u64>,
-    ) -> Result<Turn, PrepareError>
+    ) -> Result<Turn, AppendError>
         ensures next { IfOk result (λ t. IsNextAt L.options t.submitted.receipt event answer) }
         ensures rest { IfOk result (λ t. IsTurnOf L.options t own event answer) }
         ensures due { IfOk result (λ t. (log : List Entry) → Stands self.old.hub log → t.submitted.receipt.entry ≡ next_entry L.options log event answer) }
         ensures stands { IfOk result (λ t. (log : List Entry) → Stands self.old.hub log → Stands self.new.hub (t.submitted.receipt.entry ∷ log)) }
+        ensures place { IfOk result (λ t. t.submitted.receipt.place ≡ count_of self.old.hub) }
+        ensures job { IfOk result (λ t. (log : List Entry) → Stands self.old.hub log → t.submitted.job ≡ started_job L.options (past_of log) t.submitted.receipt.entry) }
         ensures tail { IfOk result (λ t. self.new.tail.entries ≡ t.submitted.receipt.entry ∷ (if nat_lt (length self.old.tail.entries) self.old.every then self.old.tail.entries else [])) }
         ensures earlier { IfOk result (λ t. t.earlier ≡ option_map_or (outbox_of self.old.outbox self.old.tail.entries) own []) }
         ensures same_tail { OnErr result (self.new.tail.entries ≡ self.old.tail.entries) }
-        ensures exhausted { IsErrOf result PrepareError.Exhausted ↔ (count_of self.old.hub ≡ 2 ^ 64 - 1) }
+        ensures exhausted { IsErrOf result AppendError.Exhausted ↔ (count_of self.old.hub ≡ 2 ^ 64 - 1) }
         ensures every { self.new.every ≡ self.old.every }
     {
         let room = ready_cut(
@@ -128,18 +153,22 @@ impl<L: Serving> Cut<L> {
     ///
     /// - The receipt holds the next entry of a right and acted journal, for the event and the answer handed in, with its
     ///   place there (`next`); it is due after every log for which the hub stood, and the hub then stands for that log
-    ///   with the entry (`due`, `stands`; also `Cut::append_for`: `due`, `stands`).
+    ///   with the entry (`due`, `stands`; also `Cut::append_for`: `due`, `stands`). Its place is the count of events
+    ///   (`place`; also `Cut::append_for`: `place`).
+    /// - A job comes exactly where the entry has a start, and is the one that starts (`job`; also `Cut::append_for`: `job`).
     /// - The tail has the entry more, or where it was full that entry alone (`tail`, `every`; also `Cut::append_for`:
     ///   `tail`, `every`); an error leaves it as it was (`same_tail`; also `Cut::append_for`: `same_tail`).
     /// - The end of the count is told exactly where the hub has counted so many events, whether or not memory is left
     ///   (`exhausted`; also `Cut::append_for`: `exhausted`).
-    pub fn append(&mut self, event: HubEvent, answer: Answer) -> Result<Submitted, PrepareError>
+    pub fn append(&mut self, event: HubEvent, answer: Answer) -> Result<Submitted, AppendError>
         ensures next { IfOk result (λ s. IsNextAt L.options s.receipt event answer) }
         ensures due { IfOk result (λ s. (log : List Entry) → Stands self.old.hub log → s.receipt.entry ≡ next_entry L.options log event answer) }
         ensures stands { IfOk result (λ s. (log : List Entry) → Stands self.old.hub log → Stands self.new.hub (s.receipt.entry ∷ log)) }
+        ensures place { IfOk result (λ s. s.receipt.place ≡ count_of self.old.hub) }
+        ensures job { IfOk result (λ s. (log : List Entry) → Stands self.old.hub log → s.job ≡ started_job L.options (past_of log) s.receipt.entry) }
         ensures tail { IfOk result (λ s. self.new.tail.entries ≡ s.receipt.entry ∷ (if nat_lt (length self.old.tail.entries) self.old.every then self.old.tail.entries else [])) }
         ensures same_tail { OnErr result (self.new.tail.entries ≡ self.old.tail.entries) }
-        ensures exhausted { IsErrOf result PrepareError.Exhausted ↔ (count_of self.old.hub ≡ 2 ^ 64 - 1) }
+        ensures exhausted { IsErrOf result AppendError.Exhausted ↔ (count_of self.old.hub ≡ 2 ^ 64 - 1) }
         ensures every { self.new.every ≡ self.old.every }
     {
         let turn = self.take_step(event, answer, None)?;
@@ -157,14 +186,16 @@ impl<L: Serving> Cut<L> {
     ///
     /// - The session that the event names is handed its whole outbox (`earlier`), which is the last of the replies to it of
     ///   a right and acted journal whose next entry the event has (`next`).
-    pub fn append_for(&mut self, event: HubEvent, answer: Answer) -> Result<Turn, PrepareError>
+    pub fn append_for(&mut self, event: HubEvent, answer: Answer) -> Result<Turn, AppendError>
         ensures next { IfOk result (λ t. IsTurnAt L.options t event answer) }
         ensures due { IfOk result (λ t. (log : List Entry) → Stands self.old.hub log → t.submitted.receipt.entry ≡ next_entry L.options log event answer) }
         ensures stands { IfOk result (λ t. (log : List Entry) → Stands self.old.hub log → Stands self.new.hub (t.submitted.receipt.entry ∷ log)) }
+        ensures place { IfOk result (λ t. t.submitted.receipt.place ≡ count_of self.old.hub) }
+        ensures job { IfOk result (λ t. (log : List Entry) → Stands self.old.hub log → t.submitted.job ≡ started_job L.options (past_of log) t.submitted.receipt.entry) }
         ensures tail { IfOk result (λ t. self.new.tail.entries ≡ t.submitted.receipt.entry ∷ (if nat_lt (length self.old.tail.entries) self.old.every then self.old.tail.entries else [])) }
         ensures earlier { IfOk result (λ t. t.earlier ≡ option_map_or (outbox_of self.old.outbox self.old.tail.entries) (own_session event.kind) []) }
         ensures same_tail { OnErr result (self.new.tail.entries ≡ self.old.tail.entries) }
-        ensures exhausted { IsErrOf result PrepareError.Exhausted ↔ (count_of self.old.hub ≡ 2 ^ 64 - 1) }
+        ensures exhausted { IsErrOf result AppendError.Exhausted ↔ (count_of self.old.hub ≡ 2 ^ 64 - 1) }
         ensures every { self.new.every ≡ self.old.every }
     {
         let own = own_session(&event.kind);

@@ -1,12 +1,12 @@
 //! The desk, and what it tells.
 
-ghost use Rattle.std.specs.Prelude.{◌≡◌, ◌≤◌, ℕ, Bool, true, false, Some, None, IfOk, IfSome, OnOk, OnErr};
+ghost use Rattle.std.specs.Prelude.{◌≡◌, ◌≤◌, ℕ, Bool, true, false, Some, None, IfOk, IfSome, OnOk, OnErr, IsErrOf};
 ghost use Rattle.ftp_base.specs.declared.error_kind.ErrorKind.TheVariants.{LocalError};
 ghost use Rattle.ftp_base.specs.Outside.{HasRisen};
 ghost use Rattle.ftp_shared.specs.Desk.{DeskView, SameDesk, IsVouched, Appends, MaySay, RisesBy, drawn_after};
 ghost use Rattle.ftp_shared.specs.Outbox.{has_ticket};
 
-use crate::Replies;
+use crate::{AppendError, Replies};
 use ftp_base::{Bytes, ErrorKind};
 use ftp_events::{Answer, Entry, HubEvent};
 use ftp_options::Options;
@@ -32,6 +32,9 @@ pub trait Desk {
     // Whether a number that is drawn is the one behind the greatest of the journal.
     ghost draws_next: { Bool } = { false };
 
+    // Whether its count of events can come to its end.
+    ghost exhausts: { Bool } = { true };
+
     /// The options under which its logs are right.
     fn options(&self) -> &Options
         ensures told { result.now ≡ (view self.now).options };
@@ -46,10 +49,10 @@ pub trait Desk {
     ///   (`fresh` of `Appends`), if the event names no ticket (`appended`).
     /// - Each entry is the next one of some right and acted log, and the replies before it are the last that this log
     ///   sends to its session (`vouched`).
-    /// - Want of memory changes nothing that is told but the counts of the storage's faults and of the events that were
-    ///   not taken; the latter rises then and at no other call (`refused`, `refused_rose`, `unrefused`; also `Desk::draw`:
+    /// - An error changes nothing that is told but the counts of the storage's faults and of the events that were not
+    ///   taken; the latter rises then and at no other call (`refused`, `refused_rose`, `unrefused`; also `Desk::draw`:
     ///   `unrefused`; `Desk::directory`: `unrefused`).
-    fn submit(&mut self, event: HubEvent, answer: Answer) -> Result<Told, AllocError>
+    fn submit(&mut self, event: HubEvent, answer: Answer) -> Result<Told, AppendError>
         requires unticketed { has_ticket event.kind ≡ false }
         ensures event { IfOk result (λ told. told.entry.event ≡ event) }
         ensures answer { IfOk result (λ told. told.entry.answer ≡ answer) }
@@ -61,7 +64,8 @@ pub trait Desk {
         ensures count { (view self.old).faults ≤ (view self.new).faults }
         ensures unrefused { OnOk result ((view self.new).refused ≡ (view self.old).refused) }
         ensures refused_rose { OnErr result (HasRisen (view self.old).refused (view self.new).refused) }
-        ensures refused { OnErr result (SameDesk (view self.old) (view self.new)) };
+        ensures refused { OnErr result (SameDesk (view self.old) (view self.new)) }
+        ensures exhausted { IsErrOf result AppendError.Exhausted → exhausts ≡ true };
 
     /// A number for a new session or connection; it may come again.
     ///

@@ -5,8 +5,11 @@
 //! Begin with `Locked::append`, `Desk` and `serve_job`.
 #![tactic(auto)]
 
+mod append_error;
 mod cut;
+mod cut_hub;
 mod desk;
+mod journal_hub;
 mod locked;
 mod marks;
 mod notifier;
@@ -23,8 +26,11 @@ mod shared_hub;
 mod shown;
 mod solo_desk;
 
+pub use append_error::AppendError;
 pub use cut::Cut;
+pub use cut_hub::CutHub;
 pub use desk::{Desk, Told};
+pub use journal_hub::JournalHub;
 pub use locked::{Locked, Serving};
 pub use notifier::{Listener, Notifier};
 pub use receipt::{FinishError, JobShare, Others, Receipt, Replies, Submitted, Turn};

@@ -4,6 +4,7 @@ ghost use Rattle.std.specs.Prelude.{◌≡◌, length};
 ghost use Rattle.ftp_options.specs.declared.options.Options.{Options};
 ghost use Rattle.ftp_shared.specs.Keeps.{Keeps};
 
+use crate::append_error::AppendError;
 use crate::marks::Marks;
 use crate::outbox::Outbox;
 use crate::ready::{make_ready, own_session, share_of};
@@ -101,14 +102,15 @@ impl<L: Serving> Locked<L> {
     ///   `job`).
     /// - The share counts one step more (`share`; also `SharedHub::submit`: `share`; `SharedHub::finish`: `share`;
     ///   `SharedHub::piece`: `share`).
-    /// - Want of memory changes nothing (`same_journal`, `same_outbox`, `same_share`; also `Locked::append_for`:
-    ///   `same_journal`, `same_outbox`, `same_share`).
+    /// - An error is want of memory alone, and changes nothing (`only`, `same_journal`, `same_outbox`, `same_share`; also
+    ///   `Locked::append_for`: `only`, `same_journal`, `same_outbox`, `same_share`; `Locked::append_piece`: `only`;
+    ///   `SharedHub::submit`, `SharedHub::submit_for`, `SharedHub::piece` and `SharedHub::finish`: `only`).
     pub fn append(
         &mut self,
         share: &mut StepShare<L>,
         event: HubEvent,
         answer: Answer,
-    ) -> Result<Submitted, AllocError>
+    ) -> Result<Submitted, AppendError>
         ensures next { IfOk result (λ s. IsNextAt L.options s.receipt event answer) }
         ensures due { IfOk result (λ s. s.receipt.entry ≡ next_entry L.options self.old.journal.entries event answer) }
         ensures journal { IfOk result (λ s. self.new.journal.entries ≡ s.receipt.entry ∷ self.old.journal.entries) }
@@ -117,7 +119,8 @@ impl<L: Serving> Locked<L> {
         ensures outbox { IfOk result (λ o. (s : ℕ) → outbox_of self.new.outbox self.new.journal.entries s ≡ outbox_after None o.receipt.entry (outbox_of self.old.outbox self.old.journal.entries) s) }
         ensures share { OnOk result (share.new.count ≡ share.old.count + 1) }
 
-        // An error changes nothing.
+        // An error is want of memory, and changes nothing.
+        ensures only { IfErr result (λ e. e ≡ AppendError.OutOfMemory) }
         ensures same_journal { OnErr result (self.new.journal.entries ≡ self.old.journal.entries) }
         ensures same_outbox { OnErr result ((s : ℕ) → outbox_of self.new.outbox self.new.journal.entries s ≡ outbox_of self.old.outbox self.old.journal.entries s) }
         ensures same_share { OnErr result (share.new.count ≡ share.old.count) }
@@ -145,7 +148,7 @@ impl<L: Serving> Locked<L> {
         share: &mut StepShare<L>,
         event: HubEvent,
         answer: Answer,
-    ) -> Result<Turn, AllocError>
+    ) -> Result<Turn, AppendError>
         ensures next { IfOk result (λ t. IsTurnAt L.options t event answer) }
         ensures due { IfOk result (λ t. t.submitted.receipt.entry ≡ next_entry L.options self.old.journal.entries event answer) }
         ensures journal { IfOk result (λ t. self.new.journal.entries ≡ t.submitted.receipt.entry ∷ self.old.journal.entries) }
@@ -155,14 +158,15 @@ impl<L: Serving> Locked<L> {
         ensures outbox { IfOk result (λ t. (s : ℕ) → outbox_of self.new.outbox self.new.journal.entries s ≡ outbox_after (own_session event.kind) t.submitted.receipt.entry (outbox_of self.old.outbox self.old.journal.entries) s) }
         ensures share { OnOk result (share.new.count ≡ share.old.count + 1) }
 
-        // An error changes nothing.
+        // An error is want of memory, and changes nothing.
+        ensures only { IfErr result (λ e. e ≡ AppendError.OutOfMemory) }
         ensures same_journal { OnErr result (self.new.journal.entries ≡ self.old.journal.entries) }
         ensures same_outbox { OnErr result ((s : ℕ) → outbox_of self.new.outbox self.new.journal.entries s ≡ outbox_of self.old.outbox self.old.journal.entries s) }
         ensures same_share { OnErr result (share.new.count ≡ share.old.count) }
         ensures same_parts { (self.new.parts.parts ≡ self.old.parts.parts) × (self.new.parts.count ≡ self.old.parts.count) }
     {
         let own = own_session(&event.kind);
-        self.take_step(share, event, answer, own)
+        Ok(self.take_step(share, event, answer, own)?)
     }
 
     // Adds the entry, and hands a session what it was sent.

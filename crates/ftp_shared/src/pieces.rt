@@ -6,6 +6,8 @@ ghost use Rattle.ftp_events.specs.EndRows.{can_move};
 ghost use Rattle.ftp_shared.specs.Jobs.{behind};
 ghost use Rattle.ftp_shared.specs.Next.{IsNextAt, IsPieceAt, is_moved, piece_of};
 
+use crate::append_error::AppendError;
+use crate::cut::Cut;
 use crate::locked::{Locked, Serving};
 use crate::receipt::{FinishError, JobShare, Submitted};
 use crate::share::StepShare;
@@ -35,8 +37,9 @@ impl<L: Serving> Locked<L> {
         ensures back { IfOk result (λ s. is_moved s.receipt.entry.decision ≡ true → s.job ≡ Some (behind job bytes)) }
         ensures share { OnOk result (share.new.count ≡ share.old.count + 1) }
 
-        // An error gives the job back, and changes nothing.
-        ensures given_back { IfErr result (λ e. e.0 ≡ job) }
+        // An error is want of memory, gives the job back, and changes nothing.
+        ensures only { IfErr result (λ e. e.cause ≡ AppendError.OutOfMemory) }
+        ensures given_back { IfErr result (λ e. e.job ≡ job) }
         ensures same_journal { OnErr result (self.new.journal.entries ≡ self.old.journal.entries) }
         ensures same_outbox { OnErr result ((s : ℕ) → outbox_of self.new.outbox self.new.journal.entries s ≡ outbox_of self.old.outbox self.old.journal.entries s) }
         ensures same_share { OnErr result (share.new.count ≡ share.old.count) }
@@ -49,7 +52,46 @@ impl<L: Serving> Locked<L> {
         };
         match self.append(share, event, Answer::Moved { bytes }) {
             Ok(submitted) => Ok(handed_back(submitted, job, bytes)),
-            Err(_) => Err(FinishError(job)),
+            Err(cause) => Err(FinishError { job, cause }),
+        }
+    }
+}
+
+impl<L: Serving> Cut<L> {
+    ghost use Rattle.std.specs.Prelude.{◌-◌, ◌^◌, ◌↔◌, ◌≢◌};
+    ghost use Rattle.ftp_hub.specs.Stands.{count_of};
+
+    /// Adds the entry of a piece of a job, as `Locked::append_piece` does.
+    ///
+    /// # Proved
+    ///
+    /// - A job of which nothing can be told comes back, and the tail stays (`given_back`, `same_tail`); the end of the
+    ///   count is told exactly where the hub has counted so many events (`exhausted`, `counted`).
+    pub fn append_piece(
+        &mut self,
+        job: JobShare,
+        at: u64,
+        bytes: u64,
+    ) -> Result<Submitted, FinishError>
+        requires { can_move job bytes ≡ true }
+        ensures next { IfOk result (λ s. IsNextAt L.options s.receipt (piece_of job at) (answer.Moved bytes)) }
+        ensures job { IfOk result (λ s. IsPieceAt L.options s job at bytes) }
+        ensures back { IfOk result (λ s. is_moved s.receipt.entry.decision ≡ true → s.job ≡ Some (behind job bytes)) }
+        ensures counted { OnOk result (count_of self.old.hub ≢ 2 ^ 64 - 1) }
+        ensures exhausted { IfErr result (λ e. (e.cause ≡ AppendError.Exhausted) ↔ (count_of self.old.hub ≡ 2 ^ 64 - 1)) }
+        ensures given_back { IfErr result (λ e. e.job ≡ job) }
+        ensures same_tail { OnErr result (self.new.tail.entries ≡ self.old.tail.entries) }
+        ensures every { self.new.every ≡ self.old.every }
+    {
+        let event = HubEvent {
+            at,
+            kind: EventKind::Piece {
+                ticket: job.ticket(),
+            },
+        };
+        match self.append(event, Answer::Moved { bytes }) {
+            Ok(submitted) => Ok(handed_back(submitted, job, bytes)),
+            Err(cause) => Err(FinishError { job, cause }),
         }
     }
 }

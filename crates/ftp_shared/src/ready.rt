@@ -9,11 +9,12 @@ ghost use Rattle.ftp_shared.specs.Cut.{KeepsCut};
 ghost use Rattle.ftp_shared.specs.Keeps.{Keeps};
 ghost use Rattle.ftp_shared.specs.Outbox.{newest, outbox_in, own_session};
 
+use crate::append_error::AppendError;
 use crate::marks::Marks;
 use crate::outbox::Outbox;
 use crate::receipt::JobShare;
 use ftp_events::{Action, Answer, Entry, EventKind, HubEvent, Log};
-use ftp_hub::{Hub, PrepareError, TwinRoom};
+use ftp_hub::{Hub, TwinRoom};
 use ftp_transfer::Job;
 use std::alloc::{AllocError, Global};
 
@@ -53,7 +54,7 @@ pub(crate) fn ready_cut(
     marks: &mut Marks,
     event: &HubEvent,
     answer: &Answer,
-) -> Result<TwinRoom, PrepareError>
+) -> Result<TwinRoom, AppendError>
     ensures fits { IfOk result (λ room. FitsTwin room hub.new event.now answer.now) }
     ensures room { OnOk result (0 < tail.new.room) }
     ensures sorted { OnOk result (length (newest tail.old.entries) ≤ outbox.new.next) }
@@ -63,15 +64,19 @@ pub(crate) fn ready_cut(
     ensures outbox { (s : ℕ) → outbox_in outbox.new (newest tail.old.entries) s ≡ outbox_in outbox.old (newest tail.old.entries) s }
     ensures stands { (log : List Entry) → Stands hub.old log → Stands hub.new log }
     ensures options { options_of hub.new ≡ options_of hub.old }
-    ensures exhausted { IsErrOf result PrepareError.Exhausted ↔ (count_of hub.old ≡ 2 ^ 64 - 1) }
+    ensures exhausted { IsErrOf result AppendError.Exhausted ↔ (count_of hub.old ≡ 2 ^ 64 - 1) }
+    ensures count { count_of hub.new ≡ count_of hub.old }
 {
     if hub.events() == u64::MAX {
-        return Err(PrepareError::Exhausted);
+        return Err(AppendError::Exhausted);
     }
     marks.reserve()?;
     outbox.catch_up(newest(tail))?;
     let fresh = place_for(alloc, tail, every)?;
-    let room = hub.prepare_twin(event, answer)?;
+    // The count is not at its end, so this is want of memory.
+    let Ok(room) = hub.prepare_twin(event, answer) else {
+        return Err(AppendError::OutOfMemory);
+    };
     cut_at(tail, fresh);
     Ok(room)
 }

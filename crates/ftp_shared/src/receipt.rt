@@ -5,6 +5,7 @@ ghost use Rattle.ftp_events.specs.EndRows.{can_end, can_move};
 ghost use Rattle.ftp_shared.specs.Jobs.{behind};
 ghost use Rattle.ftp_shared.specs.Outbox.{others_in, own_session, waits};
 
+use crate::append_error::AppendError;
 use crate::marks::Mark;
 use crate::ready::own_session;
 use ftp_base::{DataChanCmd, Reply};
@@ -105,9 +106,12 @@ impl JobShare {
     }
 }
 
-/// No memory was left, and nothing was told of the job.
+/// Nothing was told of the job, and why.
 #[derive(Drop)]
-pub struct FinishError(pub JobShare);
+pub struct FinishError {
+    pub job: JobShare,
+    pub cause: AppendError,
+}
 
 /// A receipt, and the share of the job that starts with the entry, or of one that goes on.
 #[derive(Drop)]

@@ -6,7 +6,7 @@ ghost use Rattle.ftp_shared.specs.Reports.{HasTold};
 ghost use Rattle.ftp_shared.specs.Next.{is_moved};
 ghost use Rattle.ftp_transfer.specs.Transfer.{is_listing};
 
-use crate::{FinishError, JobShare, Serving, SharedHub, StepShare, Submitted};
+use crate::{FinishError, JobShare, JournalHub, Submitted};
 use ftp_base::Edge;
 use ftp_events::Decision;
 use std::sync::Wait;
@@ -24,11 +24,11 @@ pub(crate) enum Reported {
 
 /// Tells a piece of a job, where it is to stop or enough pieces have moved since one was told.
 ///
-/// The piece has the bytes that were not told yet, but for those above 8,192. Where memory runs out nothing is told.
-pub(crate) fn report<R: Wait, H: Serving, E: Edge>(
+/// The piece has the bytes that were not told yet, but for those above 8,192. Where its entry is not added nothing is told.
+pub(crate) fn report<R: Wait, H: JournalHub, E: Edge>(
     rt: &R,
-    hub: &SharedHub<H>,
-    share: &mut StepShare<H>,
+    hub: &H,
+    pass: &mut H::Pass,
     job: JobShare,
     done: u64,
     count: u64,
@@ -36,15 +36,15 @@ pub(crate) fn report<R: Wait, H: Serving, E: Edge>(
 ) -> Reported
     requires file { is_listing job.command ≡ false }
     requires more { job.done < done }
-    ensures { HasTold H.options job done (E.view edge.old) (E.view edge.new) share.old.count share.new.count result }
+    ensures { HasTold H.options H.counts job done (E.view edge.old) (E.view edge.new) (H.made pass.old) (H.made pass.new) result }
 {
     if !is_due(count) && !job.is_marked() {
         return Reported::GoesOn(job);
     }
     let bytes = (done - job.done()).min(MOST_BYTES);
     let at = edge.now();
-    match hub.piece(rt, share, job, at, bytes) {
-        Err(FinishError(job)) => Reported::GoesOn(job),
+    match hub.piece(rt, pass, job, at, bytes) {
+        Err(FinishError { job, cause: _ }) => Reported::GoesOn(job),
         Ok(submitted) => {
             if !is_moved(submitted.receipt.entry.decision) {
                 return Reported::Over(submitted);

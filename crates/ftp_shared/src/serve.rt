@@ -8,7 +8,7 @@ ghost use Rattle.ftp_shared.specs.Moments.{TakesMoments};
 ghost use Rattle.ftp_shared.specs.Runs.{IsLastOf, RunsOn, StopsOn, IsUntouched, IsUntold, site};
 
 use crate::report::{Reported, report};
-use crate::{FinishError, JobShare, Serving, SharedHub, StepShare, Submitted};
+use crate::{AppendError, FinishError, JobShare, JournalHub, Submitted};
 use ftp_base::{Edge, Gate, Link, Storage};
 use ftp_transfer::{PieceResult, execute_piece};
 use std::alloc::Global;
@@ -17,8 +17,8 @@ use std::sync::Wait;
 /// Passes the gate with the number of this call, moves the bytes of the job piece by piece, on this storage and this link,
 /// and adds its end. A job that was to stop, of which a piece is told, is over with that entry.
 ///
-/// Some pieces on the way are told too, so that long transfers are seen to go on. An error is want of memory for the last
-/// entry, and gives the job back.
+/// Some pieces on the way are told too, so that long transfers are seen to go on. An error is that of the last entry, which
+/// was not added, and gives the job back.
 ///
 /// # Proved
 ///
@@ -32,15 +32,15 @@ use std::sync::Wait;
 ///   closed (`StopsOn`) (`stops`).
 /// - Its moment is the last that was taken of the edge; at least one was taken for each entry, and nothing else
 ///   (`TakesMoments` in `ftp_shared/specs/Moments.antt`) (`moments`).
-/// - The share counts one step more, or several (`share`, `kept_share`).
-/// - Want of memory gives the job back, with what was told. Either storage, link and edge are as they were; or the job
-///   was run, all holds of it that `execute` says of some outcome, and a moment was taken for its end (`given_back`,
-///   `untold`).
-pub fn serve_job<R: Wait, H: Serving, S: Storage, L: Link, G: Gate, E: Edge>(
+/// - A share counts one step more, or several (`share`, `kept_share`).
+/// - An error gives the job back, with what was told. Either storage, link and edge are as they were; or the job was run,
+///   all holds of it that `execute` says of some outcome, and a moment was taken for its end (`given_back`, `untold`).
+///   The count is at its end only over a hub whose count can come there (`exhausted`).
+pub fn serve_job<R: Wait, H: JournalHub, S: Storage, L: Link, G: Gate, E: Edge>(
     rt: &R,
     alloc: Global,
-    hub: &SharedHub<H>,
-    share: &mut StepShare<H>,
+    hub: &H,
+    pass: &mut H::Pass,
     job: JobShare,
     gate: &G,
     call: u64,
@@ -61,18 +61,22 @@ pub fn serve_job<R: Wait, H: Serving, S: Storage, L: Link, G: Gate, E: Edge>(
         job told storage.old storage.new link.old link.new)) }
     ensures settled { IfOk result (λ s. IfSome (outcome_in s.receipt.entry.answer) (λ outcome.
         outcome.result ≡ Written → S.is_settled storage.new ≡ true)) }
-    ensures moments { IfOk result (λ s. TakesMoments (E.view edge.old) (E.view edge.new) (share.new.count - share.old.count) s.receipt.entry.event.at) }
-    ensures share { OnOk result (share.old.count < share.new.count) }
+    ensures moments { IfOk result (λ s. TakesMoments (E.view edge.old) (E.view edge.new) (H.made pass.new - H.made pass.old) s.receipt.entry.event.at) }
+    ensures share { H.counts ≡ true → OnOk result (H.made pass.old < H.made pass.new) }
 
     // An error gives the job back. Nothing was begun, or the job was run and no entry tells what became of it.
-    ensures given_back { IfErr result (λ e. (e.0 ≡ record job { done = e.0.done }) × (job.done ≤ e.0.done)) }
-    ensures kept_share { share.old.count ≤ share.new.count }
+    ensures given_back { IfErr result (λ e. (e.job ≡ record job { done = e.job.done }) × (job.done ≤ e.job.done)) }
+    ensures exhausted { IfErr result (λ e. e.cause ≡ AppendError.Exhausted → H.exhausts ≡ true) }
+    ensures kept_share { H.made pass.old ≤ H.made pass.new }
     ensures untold { OnErr result (IsUntouched storage.old storage.new link.old link.new edge.old edge.new
         ⊎ IsUntold (site (views S.files S.rule S.faults S.fault_limit S.calls L.left L.sending L.faults L.fault_limit L.calls) S.reads_take_memory L.takes_memory)
-        job storage.old storage.new link.old link.new (E.view edge.old) (E.view edge.new) (share.new.count - share.old.count)) }
+        job storage.old storage.new link.old link.new (E.view edge.old) (E.view edge.new) (H.made pass.new - H.made pass.old)) }
 {
     let Ok(copy) = job.job(alloc) else {
-        return Err(FinishError(job));
+        return Err(FinishError {
+            job,
+            cause: AppendError::OutOfMemory,
+        });
     };
     gate.pass(call);
     let mut next = copy;
@@ -82,11 +86,11 @@ pub fn serve_job<R: Wait, H: Serving, S: Storage, L: Link, G: Gate, E: Edge>(
         match execute_piece(alloc, &mut next, storage, link) {
             PieceResult::Ended(outcome) => {
                 let at = edge.now();
-                return hub.finish(rt, share, job, at, outcome);
+                return hub.finish(rt, pass, job, at, outcome);
             }
             PieceResult::More { bytes: _ } => {
                 count += 1;
-                match report(rt, hub, share, job, next.done, count, edge) {
+                match report(rt, hub, pass, job, next.done, count, edge) {
                     Reported::GoesOn(told) => job = told,
                     Reported::Over(submitted) => {
                         let _ = link.close();

@@ -10,6 +10,7 @@ ghost use Rattle.ftp_events.specs.EndRows.{can_end, can_move};
 ghost use Rattle.ftp_shared.specs.Jobs.{behind};
 ghost use Rattle.ftp_shared.specs.Next.{IsNextAt, IsPieceAt, IsTurnAt, end_of, is_moved, piece_of};
 
+use crate::append_error::AppendError;
 use crate::locked::{Locked, Serving};
 use crate::receipt::{FinishError, JobShare, Receipt, Submitted, Turn};
 use crate::settle::SettleError;
@@ -18,7 +19,7 @@ use ftp_events::{Answer, EventKind, HubEvent, Log};
 use ftp_feed::JournalFeed;
 use ftp_options::Options;
 use ftp_transfer::Outcome;
-use std::alloc::{AllocError, Global};
+use std::alloc::Global;
 use std::sync::atomic::{AtomicU64, Ordering};
 use std::sync::ledger::{Book, Share};
 use std::sync::{Arc, Mutex, Wait};
@@ -86,11 +87,12 @@ impl<L: Serving> SharedHub<L> {
         share: &mut StepShare<L>,
         event: HubEvent,
         answer: Answer,
-    ) -> Result<Submitted, AllocError>
+    ) -> Result<Submitted, AppendError>
         requires { has_ticket event.kind ≡ false }
         ensures next { IfOk result (λ s. IsNextAt L.options s.receipt event answer) }
         ensures share { OnOk result (share.new.count ≡ share.old.count + 1) }
         ensures same_share { OnErr result (share.new.count ≡ share.old.count) }
+        ensures only { IfErr result (λ e. e ≡ AppendError.OutOfMemory) }
     {
         let submitted = self.lock.lock(rt).append(share, event, answer)?;
         self.tell(rt, &submitted.receipt);
@@ -104,11 +106,12 @@ impl<L: Serving> SharedHub<L> {
         share: &mut StepShare<L>,
         event: HubEvent,
         answer: Answer,
-    ) -> Result<Turn, AllocError>
+    ) -> Result<Turn, AppendError>
         requires { has_ticket event.kind ≡ false }
         ensures next { IfOk result (λ t. IsTurnAt L.options t event answer) }
         ensures share { OnOk result (share.new.count ≡ share.old.count + 1) }
         ensures same_share { OnErr result (share.new.count ≡ share.old.count) }
+        ensures only { IfErr result (λ e. e ≡ AppendError.OutOfMemory) }
     {
         let turn = self.lock.lock(rt).append_for(share, event, answer)?;
         self.tell(rt, &turn.submitted.receipt);
@@ -131,7 +134,8 @@ impl<L: Serving> SharedHub<L> {
         ensures back { IfOk result (λ s. is_moved s.receipt.entry.decision ≡ true → s.job ≡ Some (behind job bytes)) }
         ensures share { OnOk result (share.new.count ≡ share.old.count + 1) }
         ensures same_share { OnErr result (share.new.count ≡ share.old.count) }
-        ensures given_back { IfErr result (λ e. e.0 ≡ job) }
+        ensures given_back { IfErr result (λ e. e.job ≡ job) }
+        ensures only { IfErr result (λ e. e.cause ≡ AppendError.OutOfMemory) }
     {
         let submitted = self.lock.lock(rt).append_piece(share, job, at, bytes)?;
         self.tell(rt, &submitted.receipt);
@@ -157,7 +161,8 @@ impl<L: Serving> SharedHub<L> {
         ensures next { IfOk result (λ s. IsNextAt L.options s.receipt (end_of job at) (answer.Done outcome)) }
         ensures share { OnOk result (share.new.count ≡ share.old.count + 1) }
         ensures same_share { OnErr result (share.new.count ≡ share.old.count) }
-        ensures given_back { IfErr result (λ e. e.0 ≡ job) }
+        ensures given_back { IfErr result (λ e. e.job ≡ job) }
+        ensures only { IfErr result (λ e. e.cause ≡ AppendError.OutOfMemory) }
     {
         let event = HubEvent {
             at,
@@ -174,7 +179,7 @@ impl<L: Serving> SharedHub<L> {
                 self.tell(rt, &submitted.receipt);
                 Ok(submitted)
             }
-            Err(_) => Err(FinishError(job)),
+            Err(cause) => Err(FinishError { job, cause }),
         }
     }
 

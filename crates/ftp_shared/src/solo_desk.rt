@@ -7,7 +7,9 @@ ghost use Rattle.ftp_shared.specs.Desk.{greatest};
 
 use crate::number::{counted_number, larger};
 use crate::shown::ShowsDirectories;
-use crate::{Desk, JobShare, Locked, Receipt, Serving, StepShare, Submitted, Told, Turn};
+use crate::{
+    AppendError, Desk, JobShare, Locked, Receipt, Serving, StepShare, Submitted, Told, Turn,
+};
 use ftp_base::{Bytes, ErrorKind, Storage, StoreError};
 use ftp_events::{Answer, HubEvent};
 use ftp_options::Options;
@@ -103,7 +105,7 @@ fn keep(jobs: &mut VecDeque<JobShare>, job: Option<JobShare>)
 }
 
 impl<L: Serving, S: ShowsDirectories + Drop> Desk for SoloDesk<L, S> {
-    ghost use Rattle.std.specs.Prelude.{Some, true};
+    ghost use Rattle.std.specs.Prelude.{Some, false, true};
     ghost use Rattle.ftp_shared.specs.Outbox.{outbox_of};
 
     ghost view = { λ d. record {
@@ -120,18 +122,20 @@ impl<L: Serving, S: ShowsDirectories + Drop> Desk for SoloDesk<L, S> {
 
     ghost draws_next = { true };
 
+    ghost exhausts = { false };
+
     fn options(&self) -> &Options {
         self.locked.options()
     }
 
-    fn submit(&mut self, event: HubEvent, answer: Answer) -> Result<Told, AllocError> {
+    fn submit(&mut self, event: HubEvent, answer: Answer) -> Result<Told, AppendError> {
         let Ok(()) = self.jobs.reserve(1) else {
             self.refused = self.refused.saturating_add(1);
-            return Err(AllocError);
+            return Err(AppendError::OutOfMemory);
         };
         let Ok(turn) = self.locked.append_for(&mut self.share, event, answer) else {
             self.refused = self.refused.saturating_add(1);
-            return Err(AllocError);
+            return Err(AppendError::OutOfMemory);
         };
         let Turn { earlier, submitted } = turn;
         let Submitted { receipt, job } = submitted;

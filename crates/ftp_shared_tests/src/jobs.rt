@@ -7,9 +7,9 @@ use crate::values::{Stopped, connect};
 use ftp_base::{AuthAnswer, Bytes, DataChanCmd, IpAddr, SocketAddr};
 use ftp_events::{Answer, Decision, EventKind, HubEvent};
 use ftp_options::Options;
-use ftp_shared::{JobShare, Replies, Serving, SharedHub, StepShare, Submitted, Turn};
+use ftp_shared::{AppendError, JobShare, Replies, Serving, SharedHub, StepShare, Submitted, Turn};
 use ftp_transfer::{Completion, Outcome};
-use std::alloc::{AllocError, Global};
+use std::alloc::Global;
 use std::marker::Brand;
 use std::sync::Wait;
 use std::sync::ledger::Blank;
@@ -35,7 +35,7 @@ pub fn act<L: Serving, R: Wait>(
     hub: &SharedHub<L>,
     share: &mut StepShare<L>,
     kind: EventKind,
-) -> Result<Turn, AllocError>
+) -> Result<Turn, AppendError>
     requires { has_ticket kind ≡ false }
 {
     hub.submit_for(rt, share, HubEvent { at: 0, kind }, Answer::None)
@@ -48,7 +48,7 @@ fn log_in<L: Serving, R: Wait>(
     hub: &SharedHub<L>,
     share: &mut StepShare<L>,
     session: u64,
-) -> Result<(), AllocError> {
+) -> Result<(), AppendError> {
     let name = Bytes::from_slice(alloc, b"ann")?;
     let answer = AuthAnswer::Good;
     act(rt, hub, share, connect(session))?;
@@ -65,7 +65,7 @@ pub fn start<L: Serving, R: Wait>(
     hub: &SharedHub<L>,
     share: &mut StepShare<L>,
     session: u64,
-) -> Result<Option<JobShare>, AllocError> {
+) -> Result<Option<JobShare>, AppendError> {
     let path = Bytes::from_slice(alloc, b"a")?;
     let raw = SocketAddr {
         ip: IpAddr::V4(0x0a00_0001),

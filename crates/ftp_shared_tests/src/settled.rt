@@ -7,7 +7,7 @@ use crate::values::{Stopped, connect};
 use ftp_base::Bytes;
 use ftp_events::{Answer, EventKind, HubEvent, Log};
 use ftp_options::Options;
-use ftp_shared::{Receipt, Serving, SettleError, SharedHub, StepShare, Submitted};
+use ftp_shared::{AppendError, Receipt, Serving, SettleError, SharedHub, StepShare, Submitted};
 use std::alloc::{AllocError, Global};
 use std::marker::Brand;
 use std::sync::Wait;
@@ -30,7 +30,7 @@ fn submit<L: Serving, R: Wait>(
     hub: &SharedHub<L>,
     share: &mut StepShare<L>,
     kind: EventKind,
-) -> Result<Receipt, AllocError>
+) -> Result<Receipt, AppendError>
     requires { has_ticket kind ≡ false }
 {
     let event = HubEvent { at: 0, kind };
@@ -45,7 +45,7 @@ fn submit_two<L: Serving, R: Wait>(
     hub: &SharedHub<L>,
     first: &mut StepShare<L>,
     second: &mut StepShare<L>,
-) -> Result<(Receipt, Receipt), AllocError> {
+) -> Result<(Receipt, Receipt), AppendError> {
     let session = 1;
     let name = Bytes::from_slice(alloc, b"ann")?;
     let one = submit(rt, hub, first, connect(session))?;

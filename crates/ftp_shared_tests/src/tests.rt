@@ -1,5 +1,6 @@
 //! The locked hub, used by one thread and by two.
 
+use crate::cutting::{TailSeen, handed_late, tail_over};
 use crate::feeding::gives_the_journal;
 use crate::jobs::{Course, transfer};
 use crate::pieces::{move_two, settled_by};
@@ -45,6 +46,34 @@ fn a_feed_gives_what_two_threads_append(rt: HostRuntime) -> Result<(), Fail> {
         let given = gives_the_journal(&rt, rt.alloc(), options, 100, most);
         assert_eq!(rt; given, Ok(is_whole));
     }
+    Ok(())
+}
+
+#[test]
+fn a_tail_is_no_longer_than_was_asked_for(rt: HostRuntime) -> Result<(), Fail> {
+    // 10,000 entries with at most 100, and with at most 1, fill the tail to its end; 7 with at most 5 begin it anew once.
+    for (every, events, longest, last) in [(100, 10_000, 100, 100), (1, 20, 1, 1), (5, 7, 5, 2)] {
+        let options = pooled(rt.alloc())?;
+        let seen = tail_over(&rt, rt.alloc(), options, every, events)?;
+        let due = TailSeen {
+            longest,
+            last,
+            is_counted: true,
+        };
+        assert_eq!(rt; seen, due);
+    }
+    Ok(())
+}
+
+#[test]
+fn replies_outlive_the_tail(rt: HostRuntime) -> Result<(), Fail> {
+    let alloc = rt.alloc();
+    let earlier = handed_late(&rt, alloc, pooled(alloc)?)?;
+    // A name is answered with 331 (RFC 959, section 5.4).
+    let [(0, Reply::CodeAndMsg { code, msg: _ })] = earlier.as_slice() else {
+        return Err(Fail::from("no reply, or several"));
+    };
+    assert_eq!(rt; *code, ReplyCode::NeedPassword);
     Ok(())
 }
 

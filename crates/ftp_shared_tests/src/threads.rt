@@ -6,8 +6,8 @@ ghost use Rattle.ftp_events.specs.Right.{IsRight, IsActed};
 use crate::values::{Stopped, connect};
 use ftp_events::{Answer, HubEvent, Log};
 use ftp_options::Options;
-use ftp_shared::{Serving, SettleError, SharedHub, StepShare};
-use std::alloc::{AllocError, Global};
+use ftp_shared::{AppendError, Serving, SettleError, SharedHub, StepShare};
+use std::alloc::Global;
 use std::marker::Brand;
 use std::sync::Wait;
 use std::sync::ledger::Blank;
@@ -20,7 +20,7 @@ pub fn connect_all<L: Serving, R: Wait>(
     hub: &SharedHub<L>,
     share: StepShare<L>,
     sessions: u32,
-) -> Result<StepShare<L>, AllocError>
+) -> Result<StepShare<L>, AppendError>
     ensures { IfOk result (λ s. s.count ≡ share.count + sessions) }
 {
     let mut share = share;
@@ -57,11 +57,11 @@ fn connect_both<L: Serving + Send + Sync, R: Threads + Wait + Sync>(
     };
     let (first, second) = thread::join(
         rt,
-        move || -> Result<StepShare<L>, AllocError>
+        move || -> Result<StepShare<L>, AppendError>
             requires { first.count ≡ 0 }
             ensures { IfOk result (λ s. s.count ≡ each) }
         { connect_all(rt, shared, first, each) },
-        move || -> Result<StepShare<L>, AllocError>
+        move || -> Result<StepShare<L>, AppendError>
             requires { second.count ≡ 0 }
             ensures { IfOk result (λ s. s.count ≡ each) }
         { connect_all(rt, shared, second, each) },

@@ -5,12 +5,15 @@ ghost use Rattle.ftp_shared.specs.Outbox.{has_ticket};
 
 use ftp_base::{IpAddr, SocketAddr};
 use ftp_events::EventKind;
+use ftp_shared::AppendError;
 use std::alloc::AllocError;
 
 /// Why a run came to no end.
 #[derive(Clone, Copy, Debug, PartialEq, Eq)]
 pub enum Stopped {
     OutOfMemory,
+    /// The count of events was at its end.
+    Exhausted,
     /// No part of the book of steps was left.
     NoShare,
     /// No job started, or it did not end.
@@ -20,6 +23,15 @@ pub enum Stopped {
 impl From<AllocError> for Stopped {
     fn from(_error: AllocError) -> Stopped {
         Stopped::OutOfMemory
+    }
+}
+
+impl From<AppendError> for Stopped {
+    fn from(error: AppendError) -> Stopped {
+        match error {
+            AppendError::OutOfMemory => Stopped::OutOfMemory,
+            AppendError::Exhausted => Stopped::Exhausted,
+        }
     }
 }
 

@@ -159,3 +159,4 @@ serves-of (end.Refused d) opening a start edge desk sent h = absurd h.outcome
 serves-of end.ReadFault opening a start edge desk sent h = h
 serves-of end.WriteFault opening a start edge desk sent h = h
 serves-of end.OutOfMemory opening a start edge desk sent h = inr h
+serves-of end.Exhausted opening a start edge desk sent h = inr h

@@ -5,8 +5,8 @@ use Rattle.std.specs.Option.{option_map_or}
 use Rattle.std.specs.Coded.{Coded-set, coded_bool}
 use Rattle.std.proofs.Math.Logic.{∥∥₁_elim}
 use Rattle.std.proofs.lemmas.List.{append-nil}
-use Rattle.ftp_base.specs.declared.fault.Failed.{Failed}
-use Rattle.ftp_base.specs.declared.fault.Failed.TheVariants.{Fault, Memory}
+use Rattle.ftp_talk.specs.declared.halt.Halt.{Halt}
+use Rattle.ftp_talk.specs.declared.halt.Halt.TheVariants.{Fault, Memory, Exhausted}
 use Rattle.ftp_base.specs.declared.reply.Reply.{Reply}
 use Rattle.ftp_base.specs.Edge.{Feed, EdgeView}
 use Rattle.ftp_base.specs.Outside.{HasRisen}
@@ -314,9 +314,10 @@ left-closed g vouches state edge edge1 desk desk1 sent earlier e s c live named 
     }
 
 -- a fault of a write, or want of memory
-pub ends-front : (f : Failed) (g : Ground) (edge : EdgeView) (desk : DeskView) (sent : Option (List ℕ)) → TalkFront g edge desk sent → Outcome (end_by f) g edge desk sent
+pub ends-front : (f : Halt) (g : Ground) (edge : EdgeView) (desk : DeskView) (sent : Option (List ℕ)) → TalkFront g edge desk sent → Outcome (end_by f) g edge desk sent
 ends-front Fault g edge desk sent h = h
 ends-front Memory g edge desk sent h = h
+ends-front Exhausted g edge desk sent h = h
 
 -- ---- the input
 

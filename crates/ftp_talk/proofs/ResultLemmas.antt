@@ -29,3 +29,8 @@ risen-either a b c d f (inr h) ab bc cd = λ lt.
       | inl less ↦ omega (arith, h less)
       | inr ge ↦ omega arith
     ]
+
+-- the first of two calls said so, or the second
+pub said-either : {P Q : Type 0} → (P → Q) → P ⊎ Q → Q
+said-either f (inl p) = f p
+said-either f (inr q) = q

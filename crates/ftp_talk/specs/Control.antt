@@ -79,6 +79,7 @@ pub record IsIdle (start : Start) (desk : DeskView) (sent : Option (List ℕ)) :
 abbrev pub Serves : ServeEnd → HubEvent → Answer → Start → EdgeView → DeskView → Option (List ℕ) → Type 0
 Serves (end.Refused d) opening a start edge desk sent = IsRefused d opening a start desk sent
 Serves end.OutOfMemory opening a start edge desk sent = IsIdle start desk sent ⊎ IsServedTo end.OutOfMemory opening a start edge desk sent
+Serves end.Exhausted opening a start edge desk sent = IsIdle start desk sent ⊎ IsServedTo end.Exhausted opening a start edge desk sent
 Serves e opening a start edge desk sent = IsServedTo e opening a start edge desk sent
 
 -- a fault of the control ended it

@@ -1,5 +1,6 @@
 pub mod Ground
 pub mod Commands
+pub mod Halts
 pub mod Turns
 pub mod Seen
 pub mod Talk

@@ -2,8 +2,6 @@
 use Rattle.std.specs.Prelude.{◌≡◌, ℕ, ◌+◌, ◌%◌, ◌^◌, ◌≤◌, ◌⊎◌, Bool, true, false, List, [], ◌∷◌, ◌++◌, Option, Some, None, IfSome, MatchOption, is_some}
 use Rattle.std.specs.Bool.{then_some}
 use Rattle.std.specs.List.{AllByRecursion}
-use Rattle.ftp_base.specs.declared.fault.Failed.{Failed}
-use Rattle.ftp_base.specs.declared.fault.Failed.TheVariants.{Fault, Memory}
 use Rattle.ftp_base.specs.declared.login.AuthAnswer.{AuthAnswer}
 use Rattle.ftp_base.specs.declared.net.IpAddr.{IpAddr}
 use Rattle.ftp_base.specs.declared.net.SocketAddr.{SocketAddr}
@@ -27,6 +25,8 @@ use Rattle.ftp_shared.specs.Desk.{DeskView, IsVouched, Appends, RisesBy}
 use Rattle.ftp_lines.specs.ControlLine.{IsLong}
 use Rattle.ftp_talk.specs.declared.control_session.Peer.{Peer}
 use Rattle.ftp_talk.specs.declared.control_session.ControlSession.{ControlSession}
+use Rattle.ftp_talk.specs.declared.halt.Halt.{Halt}
+use Rattle.ftp_talk.specs.declared.halt.Halt.TheVariants as halt
 use Rattle.ftp_talk.specs.declared.serving.Next.{Next}
 use Rattle.ftp_talk.specs.declared.serving.Next.TheVariants as next
 use Rattle.ftp_talk.specs.declared.serving.ServeEnd.{ServeEnd}
@@ -193,7 +193,7 @@ pub record Heard (g : Ground) (state : ControlSession) (edge : EdgeView) (desk :
   pub answer : entry.answer ≡ answer.None
   pub front : Front g state edge desk sent (turn_of step earlier entry ∷ ts)
 
--- the event found no memory, or it was submitted and not all was said
+-- the event was not taken, or it was submitted and not all was said
 abbrev pub Halted : Ground → ControlSession → EdgeView → DeskView → Option (List ℕ) → List Turn → Step → EventKind → Type 0
 Halted g state edge desk sent ts step k = (Front g state edge desk sent ts × HasRisen g.start.desk.refused desk.refused) ⊎ Heard g state edge desk sent ts step k
 
@@ -233,10 +233,11 @@ Outcome end.Ended g edge desk sent = Talk g edge desk sent
 Outcome (end.Refused d) g edge desk sent = ⊥
 Outcome _ g edge desk sent = TalkFront g edge desk sent
 
--- how a talk ends where a reply was not sent
-abbrev pub end_by : Failed → ServeEnd
-end_by Fault = end.WriteFault
-end_by Memory = end.OutOfMemory
+-- how a talk ends where it goes no further
+abbrev pub end_by : Halt → ServeEnd
+end_by halt.Fault = end.WriteFault
+end_by halt.Memory = end.OutOfMemory
+end_by halt.Exhausted = end.Exhausted
 
 -- the desk vouches for its entries as the talk has it, and draws its numbers so
 abbrev pub IsAbout : Ground → Bool → Bool → Type 0

@@ -82,8 +82,7 @@ abbrev pub IsEnded : Ground → Option Turn → List Turn → List ℕ → Type 
 IsEnded g None ts rest = is_over ts ≡ true
 IsEnded g (Some close) ts rest = IsClosing g close × (is_over ts ≡ false) × MayClose (due ts) rest
 
--- how a talk is left that was cut short: the connection is closed, unless the session has ended or memory ran out where an
--- event was submitted
+-- how a talk is left that was cut short: the connection is closed, unless the session has ended or an event was not taken
 abbrev pub IsLeft : Ground → DeskView → Option Turn → List Turn → Type 0
 IsLeft g desk None ts = (is_over ts ≡ true) ⊎ HasRisen g.start.desk.refused desk.refused
 IsLeft g desk (Some close) ts = IsClosing g close × (is_over ts ≡ false)
@@ -113,7 +112,7 @@ pub record Talk (g : Ground) (edge : EdgeView) (desk : DeskView) (sent : Option 
   pub paused : ArePaused g edge (closed_by close turns)
 
 -- a talk that was cut short: turns from its front, then one that closes the connection, where the session had not ended and
--- its event found memory; a front of what was due was sent, each reply behind its delay
+-- its event was taken; a front of what was due was sent, each reply behind its delay
 pub record TalkFront (g : Ground) (edge : EdgeView) (desk : DeskView) (sent : Option (List ℕ)) : Type 0 where
   pub turns : List Turn
   pub close : Option Turn

@@ -12,12 +12,13 @@ ghost use Rattle.ftp_talk.specs.Control.{client_of, peer_of, is_opening, is_open
 
 use crate::control_session::{ControlSession, Peer};
 use crate::ending::end_by;
+use crate::halt::Halt;
 use crate::saying::{put_greeting, write_all};
 use crate::serve::serve_lines;
 use crate::serving::ServeEnd;
 use ftp_base::{Authenticator, Bytes, Control, Edge, Failed, IpAddr, Link};
 use ftp_events::{Answer, Decision, EventKind, HubEvent};
-use ftp_shared::Desk;
+use ftp_shared::{AppendError, Desk};
 use std::alloc::Global;
 
 // A buffer in which any line fits, and one byte more.
@@ -102,10 +103,11 @@ impl ControlSession {
 ///   behind the lines; the greeting, each reply that came earlier and each reply of an entry was sent, whole and in
 ///   order, and the edge paused as long as all their delays (`served`).
 /// - Any other end: the turns so far, then one that closes the connection; none does only where the session had ended,
-///   or where the desk took an event no more for want of memory. A part from the front of what was due was sent, and
+///   or where the desk took an event no more. A part from the front of what was due was sent, and
 ///   no byte of a reply before its delay and those of all replies before it were paused (`served`).
 /// - An end by a fault only where the control's count rose; so where none of its calls failed the talk ended, was not
-///   opened, or memory ran out (`read_fault`, `write_fault`, `complete`).
+///   opened, memory ran out, or the count of events was at its end (`read_fault`, `write_fault`, `complete`). The latter
+///   only over a desk whose count can come to its end (`exhausted`; also `Desk::submit`: `exhausted`).
 /// - A password is in no event: the event of PASS names the session alone, and no other event stands for its line
 ///   (`served`).
 pub fn serve_control<D: Desk, C: Control, E: Edge, A: Authenticator>(
@@ -135,7 +137,10 @@ pub fn serve_control<D: Desk, C: Control, E: Edge, A: Authenticator>(
     ensures read_fault { result ≡ ServeEnd.ReadFault → HasRisen (C.faults control.old) (C.faults control.new) }
     ensures write_fault { result ≡ ServeEnd.WriteFault → HasRisen (C.faults control.old) (C.faults control.new) }
 
-    // Where no call of the control failed, the talk came to its end, or none was opened, or memory ran out.
+    // Only a desk whose count of events can come to its end tells that it has.
+    ensures exhausted { result ≡ ServeEnd.Exhausted → D.exhausts ≡ true }
+
+    // Where no call of the control failed, the talk came to its end, or none was opened, or no more events were taken.
     ensures complete { C.faults control.new ≡ C.faults control.old → C.faults control.old < 2 ^ 64 - 1 → is_fault result ≡ false }
     ensures count { C.faults control.old ≤ C.faults control.new }
 {
@@ -146,15 +151,17 @@ pub fn serve_control<D: Desk, C: Control, E: Edge, A: Authenticator>(
         return ServeEnd::OutOfMemory;
     };
     let mut state = state;
-    let Ok(told) = desk.submit(opening, answer) else {
-        return ServeEnd::OutOfMemory;
+    let told = match desk.submit(opening, answer) {
+        Ok(told) => told,
+        Err(AppendError::OutOfMemory) => return ServeEnd::OutOfMemory,
+        Err(AppendError::Exhausted) => return ServeEnd::Exhausted,
     };
     if !is_opened(told.entry.decision) {
         return ServeEnd::Refused(told.entry.decision);
     }
     if let Err(failed) = state.greet(control, &desk.options().greeting) {
         state.leave(desk, edge);
-        return end_by(failed);
+        return end_by(Halt::from(failed));
     }
     let mut buffer = [0u8; BUFFER_SIZE];
     serve_lines(&mut state, desk, control, edge, auth, &mut buffer)

@@ -1,28 +1,30 @@
 //! What comes to pass besides lines: looks at times, lines that are too long, and the end.
 
 ghost use Rattle.std.specs.Prelude.{◌≡◌, ◌≤◌, ◌++◌, [], ℕ, List, Option, Some, true, false, IfSome, IfNone, IfOk, OnErr, IsErrOf, ◌⊎◌};
-ghost use Rattle.ftp_base.specs.declared.fault.Failed.TheVariants.{Fault};
 ghost use Rattle.ftp_base.specs.Outside.{HasRisen};
 ghost use Rattle.ftp_lines.specs.ControlLine.{IsLong};
+ghost use Rattle.ftp_talk.specs.declared.halt.Halt.TheVariants.{Exhausted, Fault};
 ghost use Rattle.ftp_talk.specs.Ground.{Ground};
 ghost use Rattle.ftp_talk.specs.Turns.{Due, LineDue, SlotTickDue};
 ghost use Rattle.ftp_talk.specs.Talk.{TalkFront, MayClose};
 ghost use Rattle.ftp_talk.specs.Speaking.{IsCut, Standing, Outcome, due_at, end_by, IsAbout};
 
 use crate::control_session::{ControlSession, is_end};
+use crate::halt::Halt;
 use crate::serving::{Next, ServeEnd, next_of};
 use crate::submitting::submit;
-use ftp_base::{Control, Edge, Failed};
+use ftp_base::{Control, Edge};
 use ftp_events::EventKind;
 use ftp_shared::Desk;
 
-// How a talk ends where a reply was not sent.
-pub(crate) fn end_by(failed: Failed) -> ServeEnd
-    ensures { result ≡ end_by failed }
+// How a talk ends where it goes no further.
+pub(crate) fn end_by(halt: Halt) -> ServeEnd
+    ensures { result ≡ end_by halt }
 {
-    match failed {
-        Failed::Fault => ServeEnd::WriteFault,
-        Failed::Memory => ServeEnd::OutOfMemory,
+    match halt {
+        Halt::Fault => ServeEnd::WriteFault,
+        Halt::Memory => ServeEnd::OutOfMemory,
+        Halt::Exhausted => ServeEnd::Exhausted,
     }
 }
 
@@ -39,12 +41,13 @@ impl ControlSession {
             Outcome result g (E.view edge.new) (D.view desk.new) (C.sending control.new).sent }
         ensures no_read_fault { result ≡ ServeEnd.ReadFault → HasRisen (C.faults control.old) (C.faults control.new) }
         ensures write_fault { result ≡ ServeEnd.WriteFault → HasRisen (C.faults control.old) (C.faults control.new) }
+        ensures exhausted { result ≡ ServeEnd.Exhausted → D.exhausts ≡ true }
         ensures count { C.faults control.old ≤ C.faults control.new }
     {
         let session = self.session;
         match self.submit_and_reply(desk, control, edge, EventKind::Closed { session }) {
             Ok(_) => ServeEnd::Ended,
-            Err(failed) => end_by(failed),
+            Err(halt) => end_by(halt),
         }
     }
 
@@ -70,7 +73,7 @@ impl ControlSession {
         desk: &mut D,
         control: &mut C,
         edge: &mut E,
-        next: Result<Next, Failed>,
+        next: Result<Next, Halt>,
     ) -> Option<ServeEnd>
         ensures goes_on { IfNone result ((C.left control.new ≡ C.left control.old) × ((g : Ground) (rest : List ℕ) →
             IfOk next (λ n. Standing (due_at n) g self.old (E.view edge.old) (D.view desk.old) (C.sending control.old).sent rest) →
@@ -81,15 +84,16 @@ impl ControlSession {
             Outcome end g (E.view edge.new) (D.view desk.new) (C.sending control.new).sent) }
         ensures no_read_fault { result ≡ Some ServeEnd.ReadFault → HasRisen (C.faults control.old) (C.faults control.new) }
         ensures write_fault { result ≡ Some ServeEnd.WriteFault → IsErrOf next Fault ⊎ HasRisen (C.faults control.old) (C.faults control.new) }
+        ensures exhausted { result ≡ Some ServeEnd.Exhausted → IsErrOf next Exhausted ⊎ (D.exhausts ≡ true) }
         ensures count { C.faults control.old ≤ C.faults control.new }
     {
         match next {
             Ok(Next::GoOn) => None,
             Ok(Next::Over) => Some(ServeEnd::Ended),
             Ok(Next::Close) => Some(self.close(desk, control, edge)),
-            Err(failed) => {
+            Err(halt) => {
                 self.leave(desk, edge);
-                Some(end_by(failed))
+                Some(end_by(halt))
             }
         }
     }
@@ -100,7 +104,7 @@ impl ControlSession {
         desk: &mut D,
         control: &mut C,
         edge: &mut E,
-    ) -> Result<Next, Failed>
+    ) -> Result<Next, Halt>
         ensures served { IfOk result (λ next. (g : Ground) (rest : List ℕ) → IsAbout g D.vouches D.draws_next → g.start.ready ≡ false →
             Standing LineDue g self.old (E.view edge.old) (D.view desk.old) (C.sending control.old).sent rest →
             Standing (due_at next) g self.new (E.view edge.new) (D.view desk.new) (C.sending control.new).sent rest) }
@@ -109,6 +113,7 @@ impl ControlSession {
             IsCut g self.new (E.view edge.new) (D.view desk.new) (C.sending control.new).sent) }
         ensures left { C.left control.new ≡ C.left control.old }
         ensures fault_rose { IsErrOf result Fault → HasRisen (C.faults control.old) (C.faults control.new) }
+        ensures exhausted { IsErrOf result Exhausted → D.exhausts ≡ true }
         ensures count { C.faults control.old ≤ C.faults control.new }
     {
         let session = self.session;
@@ -120,7 +125,7 @@ impl ControlSession {
                     self.look(desk, control, edge)
                 }
             }
-            Err(failed) => Err(failed),
+            Err(halt) => Err(halt),
         }
     }
 
@@ -130,7 +135,7 @@ impl ControlSession {
         desk: &mut D,
         control: &mut C,
         edge: &mut E,
-    ) -> Result<Next, Failed>
+    ) -> Result<Next, Halt>
         ensures served { IfOk result (λ next. (g : Ground) (rest : List ℕ) → IsAbout g D.vouches D.draws_next →
             Standing SlotTickDue g self.old (E.view edge.old) (D.view desk.old) (C.sending control.old).sent rest →
             Standing (due_at next) g self.new (E.view edge.new) (D.view desk.new) (C.sending control.new).sent rest) }
@@ -139,12 +144,13 @@ impl ControlSession {
             IsCut g self.new (E.view edge.new) (D.view desk.new) (C.sending control.new).sent) }
         ensures left { C.left control.new ≡ C.left control.old }
         ensures fault_rose { IsErrOf result Fault → HasRisen (C.faults control.old) (C.faults control.new) }
+        ensures exhausted { IsErrOf result Exhausted → D.exhausts ≡ true }
         ensures count { C.faults control.old ≤ C.faults control.new }
     {
         let session = self.session;
         match self.submit_and_reply(desk, control, edge, EventKind::SlotTick { session }) {
             Ok(decision) => Ok(next_of(decision, Next::GoOn)),
-            Err(failed) => Err(failed),
+            Err(halt) => Err(halt),
         }
     }
 
@@ -154,7 +160,7 @@ impl ControlSession {
         desk: &mut D,
         control: &mut C,
         edge: &mut E,
-    ) -> Result<Next, Failed>
+    ) -> Result<Next, Halt>
         ensures served { IfOk result (λ next. (g : Ground) (rest : List ℕ) → IsAbout g D.vouches D.draws_next → IsLong rest →
             Standing LineDue g self.old (E.view edge.old) (D.view desk.old) (C.sending control.old).sent rest →
             Standing (due_at next) g self.new (E.view edge.new) (D.view desk.new) (C.sending control.new).sent rest) }
@@ -163,14 +169,15 @@ impl ControlSession {
             IsCut g self.new (E.view edge.new) (D.view desk.new) (C.sending control.new).sent) }
         ensures left { C.left control.new ≡ C.left control.old }
         ensures fault_rose { IsErrOf result Fault → HasRisen (C.faults control.old) (C.faults control.new) }
+        ensures exhausted { IsErrOf result Exhausted → D.exhausts ≡ true }
         ensures count { C.faults control.old ≤ C.faults control.new }
     {
         let Ok(kind) = self.too_long() else {
-            return Err(Failed::Memory);
+            return Err(Halt::Memory);
         };
         match self.submit_and_reply(desk, control, edge, kind) {
             Ok(decision) => Ok(next_of(decision, Next::Close)),
-            Err(failed) => Err(failed),
+            Err(halt) => Err(halt),
         }
     }
 }

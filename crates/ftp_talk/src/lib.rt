@@ -8,6 +8,7 @@ mod asking;
 mod control;
 mod control_session;
 mod ending;
+mod halt;
 mod saying;
 mod serve;
 mod serving;

@@ -1,6 +1,6 @@
 //! The lines of a control connection, one after the other, to their end.
 
-ghost use Rattle.std.specs.Prelude.{◌≡◌, ◌≤◌, [], Option, Some, length, IfSome, IfNone};
+ghost use Rattle.std.specs.Prelude.{◌≡◌, ◌≤◌, [], true, Option, Some, length, IfSome, IfNone};
 ghost use Rattle.ftp_base.specs.Outside.{HasRisen};
 ghost use Rattle.ftp_lines.specs.ControlLine.{IsHeld, held_in};
 ghost use Rattle.ftp_talk.specs.Ground.{Ground};
@@ -33,6 +33,7 @@ impl ControlSession {
             Outcome end g (E.view edge.new) (D.view desk.new) (C.sending control.new).sent) }
         ensures read_fault { result ≡ Some ServeEnd.ReadFault → HasRisen (C.faults control.old) (C.faults control.new) }
         ensures write_fault { result ≡ Some ServeEnd.WriteFault → HasRisen (C.faults control.old) (C.faults control.new) }
+        ensures exhausted { result ≡ Some ServeEnd.Exhausted → D.exhausts ≡ true }
         ensures count { C.faults control.old ≤ C.faults control.new }
         ensures held { IsHeld buffer.new held.new }
         ensures len { length buffer.new ≡ length buffer.old }
@@ -75,6 +76,7 @@ pub(crate) fn serve_lines<D: Desk, C: Control, E: Edge, A: Authenticator>(
         Outcome result g (E.view edge.new) (D.view desk.new) (C.sending control.new).sent }
     ensures read_fault { result ≡ ServeEnd.ReadFault → HasRisen (C.faults control.old) (C.faults control.new) }
     ensures write_fault { result ≡ ServeEnd.WriteFault → HasRisen (C.faults control.old) (C.faults control.new) }
+    ensures exhausted { result ≡ ServeEnd.Exhausted → D.exhausts ≡ true }
     ensures count { C.faults control.old ≤ C.faults control.new }
 {
     let mut held = Held {

@@ -1,18 +1,19 @@
 //! A talk, line by line.
 
 ghost use Rattle.std.specs.Prelude.{◌≡◌, ◌≤◌, ◌++◌, [], ℕ, List, Option, true, false, IfOk, Ok, Err, unwrap_or, OnErr, IsErrOf};
-ghost use Rattle.ftp_base.specs.declared.fault.Failed.TheVariants.{Fault};
 ghost use Rattle.ftp_base.specs.Outside.{HasRisen};
 ghost use Rattle.ftp_control.specs.declared.command.Command.TheVariants as command;
 ghost use Rattle.ftp_control.specs.Line.{parsed};
 ghost use Rattle.ftp_lines.specs.ControlLine.{IsLine};
+ghost use Rattle.ftp_talk.specs.declared.halt.Halt.TheVariants.{Exhausted, Fault};
 ghost use Rattle.ftp_talk.specs.Ground.{Ground, ALine};
 ghost use Rattle.ftp_talk.specs.Turns.{LineDue, AnswerDue};
 ghost use Rattle.ftp_talk.specs.Speaking.{IsCut, Standing, due_at, IsAbout};
 ghost use Rattle.ftp_talk.specs.Serving.{is_pass, is_out, next_of, behind_refusal};
 
 use crate::control_session::{ControlSession, is_end};
-use ftp_base::{AuthAnswer, Authenticator, Bytes, Control, Edge, Failed};
+use crate::halt::Halt;
+use ftp_base::{AuthAnswer, Authenticator, Bytes, Control, Edge};
 use ftp_control::{Command, LineError, Password, parse_line};
 use ftp_events::{Decision, EventKind};
 use ftp_shared::Desk;
@@ -29,6 +30,8 @@ pub enum ServeEnd {
     /// The connection failed where it was written to.
     WriteFault,
     OutOfMemory,
+    /// The desk takes no more events: the count of events is at its end.
+    Exhausted,
 }
 
 // What comes behind a line.
@@ -73,7 +76,7 @@ impl ControlSession {
         control: &mut C,
         edge: &mut E,
         command: Command,
-    ) -> Result<Next, Failed>
+    ) -> Result<Next, Halt>
         requires { is_pass command ≡ false }
         ensures served { IfOk result (λ next. (g : Ground) (line rest : List ℕ) → IsAbout g D.vouches D.draws_next →
             Standing LineDue g self.old (E.view edge.old) (D.view desk.old) (C.sending control.old).sent (line ++ rest) →
@@ -85,14 +88,15 @@ impl ControlSession {
             IsCut g self.new (E.view edge.new) (D.view desk.new) (C.sending control.new).sent) }
         ensures left { C.left control.new ≡ C.left control.old }
         ensures fault_rose { IsErrOf result Fault → HasRisen (C.faults control.old) (C.faults control.new) }
+        ensures exhausted { IsErrOf result Exhausted → D.exhausts ≡ true }
         ensures count { C.faults control.old ≤ C.faults control.new }
     {
         match self.ask(desk, edge, command) {
             Ok(kind) => match self.submit_and_reply(desk, control, edge, kind) {
                 Ok(decision) => Ok(next_of(decision, Next::GoOn)),
-                Err(failed) => Err(failed),
+                Err(halt) => Err(halt),
             },
-            Err(_) => Err(Failed::Memory),
+            Err(_) => Err(Halt::Memory),
         }
     }
 
@@ -103,7 +107,7 @@ impl ControlSession {
         control: &mut C,
         edge: &mut E,
         error: LineError,
-    ) -> Result<Next, Failed>
+    ) -> Result<Next, Halt>
         ensures served { IfOk result (λ next. (g : Ground) (line rest : List ℕ) → IsAbout g D.vouches D.draws_next →
             Standing LineDue g self.old (E.view edge.old) (D.view desk.old) (C.sending control.old).sent (line ++ rest) →
             IsLine line → parsed line ≡ Err error →
@@ -114,14 +118,15 @@ impl ControlSession {
             IsCut g self.new (E.view edge.new) (D.view desk.new) (C.sending control.new).sent) }
         ensures left { C.left control.new ≡ C.left control.old }
         ensures fault_rose { IsErrOf result Fault → HasRisen (C.faults control.old) (C.faults control.new) }
+        ensures exhausted { IsErrOf result Exhausted → D.exhausts ≡ true }
         ensures count { C.faults control.old ≤ C.faults control.new }
     {
         let Ok(kind) = self.refused_as(error) else {
-            return Err(Failed::Memory);
+            return Err(Halt::Memory);
         };
         match self.submit_and_reply(desk, control, edge, kind) {
             Ok(decision) => Ok(next_of(decision, behind_refusal(error))),
-            Err(failed) => Err(failed),
+            Err(halt) => Err(halt),
         }
     }
 
@@ -133,7 +138,7 @@ impl ControlSession {
         edge: &mut E,
         auth: &A,
         password: Password,
-    ) -> Result<Next, Failed>
+    ) -> Result<Next, Halt>
         ensures served { IfOk result (λ next. (g : Ground) (line rest : List ℕ) → IsAbout g D.vouches D.draws_next → g.start.answers ≡ A.may_answer auth.now →
             Standing LineDue g self.old (E.view edge.old) (D.view desk.old) (C.sending control.old).sent (line ++ rest) →
             IsLine line → parsed line ≡ Ok (command.Pass password) →
@@ -144,6 +149,7 @@ impl ControlSession {
             IsCut g self.new (E.view edge.new) (D.view desk.new) (C.sending control.new).sent) }
         ensures left { C.left control.new ≡ C.left control.old }
         ensures fault_rose { IsErrOf result Fault → HasRisen (C.faults control.old) (C.faults control.new) }
+        ensures exhausted { IsErrOf result Exhausted → D.exhausts ≡ true }
         ensures count { C.faults control.old ≤ C.faults control.new }
     {
         let session = self.session;
@@ -155,7 +161,7 @@ impl ControlSession {
                     Ok(next_of(decision, Next::GoOn))
                 }
             }
-            Err(failed) => Err(failed),
+            Err(halt) => Err(halt),
         }
     }
 
@@ -167,7 +173,7 @@ impl ControlSession {
         edge: &mut E,
         auth: &A,
         password: Password,
-    ) -> Result<Next, Failed>
+    ) -> Result<Next, Halt>
         ensures served { IfOk result (λ next. (g : Ground) (rest : List ℕ) → IsAbout g D.vouches D.draws_next → g.start.answers ≡ A.may_answer auth.now →
             Standing (AnswerDue password.0) g self.old (E.view edge.old) (D.view desk.old) (C.sending control.old).sent rest →
             Standing (due_at next) g self.new (E.view edge.new) (D.view desk.new) (C.sending control.new).sent rest) }
@@ -176,13 +182,14 @@ impl ControlSession {
             IsCut g self.new (E.view edge.new) (D.view desk.new) (C.sending control.new).sent) }
         ensures left { C.left control.new ≡ C.left control.old }
         ensures fault_rose { IsErrOf result Fault → HasRisen (C.faults control.old) (C.faults control.new) }
+        ensures exhausted { IsErrOf result Exhausted → D.exhausts ≡ true }
         ensures count { C.faults control.old ≤ C.faults control.new }
     {
         let session = self.session;
         let answer = self.ask_authenticator(auth, &password);
         match self.submit_and_reply(desk, control, edge, EventKind::AuthDone { session, answer }) {
             Ok(decision) => Ok(next_of(decision, Next::GoOn)),
-            Err(failed) => Err(failed),
+            Err(halt) => Err(halt),
         }
     }
 
@@ -207,7 +214,7 @@ impl ControlSession {
         edge: &mut E,
         auth: &A,
         line: &[u8],
-    ) -> Result<Next, Failed>
+    ) -> Result<Next, Halt>
         ensures served { IfOk result (λ next. (g : Ground) (rest : List ℕ) → IsAbout g D.vouches D.draws_next → g.start.answers ≡ A.may_answer auth.now →
             Standing LineDue g self.old (E.view edge.old) (D.view desk.old) (C.sending control.old).sent (line.now ++ rest) → IsLine line.now →
             Standing (due_at next) g self.new (E.view edge.new) (D.view desk.new) (C.sending control.new).sent rest) }
@@ -216,6 +223,7 @@ impl ControlSession {
             IsCut g self.new (E.view edge.new) (D.view desk.new) (C.sending control.new).sent) }
         ensures left { C.left control.new ≡ C.left control.old }
         ensures fault_rose { IsErrOf result Fault → HasRisen (C.faults control.old) (C.faults control.new) }
+        ensures exhausted { IsErrOf result Exhausted → D.exhausts ≡ true }
         ensures count { C.faults control.old ≤ C.faults control.new }
     {
         match parse_line(self.alloc, line) {
@@ -225,7 +233,7 @@ impl ControlSession {
                 }
                 command => self.serve_command(desk, control, edge, command),
             },
-            Err(LineError::OutOfMemory) => Err(Failed::Memory),
+            Err(LineError::OutOfMemory) => Err(Halt::Memory),
             Err(LineError::Utf8) => self.serve_refusal(desk, control, edge, LineError::Utf8),
             Err(LineError::InvalidEol) => {
                 self.serve_refusal(desk, control, edge, LineError::InvalidEol)

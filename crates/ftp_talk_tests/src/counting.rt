@@ -3,7 +3,7 @@
 use ftp_base::{Bytes, ErrorKind};
 use ftp_events::{Answer, EventKind, HubEvent};
 use ftp_options::Options;
-use ftp_shared::{Desk, Told};
+use ftp_shared::{AppendError, Desk, Told};
 use std::alloc::AllocError;
 
 /// How many events of each kind were submitted.
@@ -66,11 +66,13 @@ impl<D: Desk + Drop> Desk for CountingDesk<D> {
 
     ghost draws_next = { D.draws_next };
 
+    ghost exhausts = { D.exhausts };
+
     fn options(&self) -> &Options {
         self.desk.options()
     }
 
-    fn submit(&mut self, event: HubEvent, answer: Answer) -> Result<Told, AllocError> {
+    fn submit(&mut self, event: HubEvent, answer: Answer) -> Result<Told, AppendError> {
         self.counts.count(&event.kind);
         self.desk.submit(event, answer)
     }

@@ -1,1 +1,2 @@
 mod CarriedLemmas
+mod ResultLemmas

@@ -1,9 +1,8 @@
 -- How long the port of a session waits for its connection.
-use Rattle.std.specs.Prelude.{Bool, true, false, ◌||◌}
+use Rattle.std.specs.Prelude.{Bool, true, false}
 use Rattle.ftp_events.specs.declared.decision.Decision.{Decision}
-use Rattle.ftp_events.specs.declared.decision.Decision.TheVariants.{Granted}
 use Rattle.ftp_events.specs.declared.decision.SlotMove.{SlotMove}
-use Rattle.ftp_events.specs.declared.decision.SlotMove.TheVariants.{Awaits, Connects, Empties, Expires}
+use Rattle.ftp_events.specs.declared.decision.SlotMove.TheVariants.{Connects, Empties, Expires}
 use Rattle.ftp_events.specs.declared.event.EventKind.{EventKind}
 use Rattle.ftp_events.specs.declared.event.EventKind.TheVariants.{Abor, Closed, IdleTick, Pasv, Port, Quit, SlotTick}
 use Rattle.ftp_events.specs.Classes.{slot_move}

@@ -3,7 +3,7 @@
 use crate::event_sinks::EventSinks;
 use crate::server_state::ServerState;
 use ftp_base::{Authenticator, Gate};
-use ftp_shared::Serving;
+use ftp_shared::JournalHub;
 use ftp_system::Depot;
 use std::io::Write;
 use std::net::IpAddr;
@@ -21,12 +21,12 @@ fn number_of(ip: IpAddr) -> u128 {
 }
 
 impl<
-    L: Serving,
+    H: JournalHub + Drop,
     A: Authenticator + Drop,
     N: EventSinks + Drop,
     D: Depot + Drop,
     G: Gate + Drop,
-> ServerState<L, A, N, D, G> {
+> ServerState<H, A, N, D, G> {
     /// Counts one more session of the client, and says whether it is admitted. If not, the connection is told so.
     pub(crate) fn enter<R: Wait, W: Write>(&self, rt: &R, client: IpAddr, stream: &mut W) -> bool {
         let admitted = self.counts.lock(rt).admit(number_of(client), self.limits);

@@ -10,17 +10,17 @@ use crate::server_state::ServerState;
 use crate::task::Task;
 use ftp_base::{Authenticator, Gate};
 use ftp_events::{Action, Decision, Entry};
-use ftp_shared::{JobShare, Serving};
+use ftp_shared::{JobShare, JournalHub};
 use ftp_system::Depot;
 use std::sync::Wait;
 
 impl<
-    L: Serving,
+    H: JournalHub + Drop,
     A: Authenticator + Drop,
     N: EventSinks + Drop,
     D: Depot + Drop,
     G: Gate + Drop,
-> ServerState<L, A, N, D, G> {
+> ServerState<H, A, N, D, G> {
     /// Hands the job to a worker, shuts down the link of a job that is to stop, closes the links that the entry closes, and
     /// tells the listeners.
     pub(crate) fn carry_out<R: Wait>(&self, rt: &R, entry: &Entry, job: Option<JobShare>) {

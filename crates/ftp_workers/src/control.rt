@@ -9,7 +9,7 @@ use crate::session_edge::SessionEdge;
 use crate::worker::Worker;
 use ftp_base::{Authenticator, Control, Edge, Gate, Link};
 use ftp_events::{Answer, EventKind, HubEvent};
-use ftp_shared::Serving;
+use ftp_shared::JournalHub;
 use ftp_system::{ControlHandle, Depot, LIMIT, SocketControl, SystemEdge, told_address};
 use ftp_talk::{ServeEnd, serve_control};
 use std::net::{IpAddr, SocketAddr, TcpStream};
@@ -27,12 +27,12 @@ fn patience(idle_ms: u64, is_legacy: bool) -> u64
 
 impl<
     R: WorkerRuntime,
-    L: Serving,
+    H: JournalHub + Drop,
     A: Authenticator + Drop,
     N: EventSinks + Drop,
     D: Depot + Drop,
     G: Gate + Drop,
-> Worker<R, L, A, N, D, G> {
+> Worker<R, H, A, N, D, G> {
     /// Serves a control connection to its end. None where its socket could not be set up.
     #[inline(never)]
     pub fn serve(&mut self, stream: TcpStream, raw: SocketAddr) -> Option<ServeEnd> {

@@ -1,9 +1,11 @@
 //! Where the threads of a server submit their events.
 
-ghost use Rattle.std.specs.Prelude.{◌≡◌, ◌+◌, ◌≤◌, Some, None, [], true, false, IfOk, OnOk, OnErr};
+ghost use Rattle.std.specs.Prelude.{◌≡◌, ◌+◌, ◌≤◌, Some, None, [], true, false, IfOk, IsErrOf, OnOk, OnErr};
+ghost use Rattle.std.specs.Bool.{then_some};
+ghost use Rattle.ftp_base.specs.declared.error_kind.ErrorKind.TheVariants.{LocalError};
 ghost use Rattle.ftp_base.specs.Outside.{HasRisen};
 ghost use Rattle.ftp_shared.specs.Outbox.{has_ticket};
-ghost use Rattle.ftp_shared.specs.Desk.{IsVouched};
+ghost use Rattle.ftp_shared.specs.Desk.{IsVouched, MaySay, RisesBy};
 ghost use Rattle.ftp_shared.specs.Next.{IsTurnAt};
 ghost use Rattle.ftp_workers.specs.Listening.{may_end_wait};
 
@@ -12,104 +14,113 @@ use crate::server_state::ServerState;
 use ftp_base::{Authenticator, Bytes, ErrorKind, Gate, Storage, StoreError};
 use ftp_events::{Answer, HubEvent};
 use ftp_options::Options;
-use ftp_shared::{Desk, Receipt, Serving, StepShare, Submitted, Told, Turn};
+use ftp_shared::{AppendError, Desk, JournalHub, Receipt, Submitted, Told, Turn};
 use ftp_system::Depot;
 use std::alloc::{AllocError, Global};
 use std::sync::{Arc, Wait};
 
-/// A desk over the hub that all threads share, with the share of one thread.
+/// A desk over the hub that all threads share, with the pass of one thread.
 ///
 /// What an entry asks for is carried out before the entry is told.
 #[derive(Drop)]
 pub struct ServerDesk<
     R: Wait + Drop,
-    L: Serving,
+    H: JournalHub + Drop,
     A: Authenticator + Drop,
     N: EventSinks + Drop,
     D: Depot + Drop,
     G: Gate + Drop,
 > {
     pub(crate) rt: R,
-    pub(crate) state: Arc<ServerState<L, A, N, D, G>, Global>,
-    pub(crate) share: StepShare<L>,
+    pub(crate) state: Arc<ServerState<H, A, N, D, G>, Global>,
+    pub(crate) pass: H::Pass,
     pub(crate) faults: u64,
     pub(crate) refused: u64,
 }
 
 impl<
     R: Wait + Drop,
-    L: Serving,
+    H: JournalHub + Drop,
     A: Authenticator + Drop,
     N: EventSinks + Drop,
     D: Depot + Drop,
     G: Gate + Drop,
-> ServerDesk<R, L, A, N, D, G> {
+> ServerDesk<R, H, A, N, D, G> {
     /// # Proved
     ///
-    /// - A desk has the share that it was made with, and gives it back (`share`; also `ServerDesk::into_share`).
+    /// - A desk has the pass that it was made with, and gives it back (`pass`; also `ServerDesk::into_pass`).
     pub fn new(
         rt: R,
-        state: Arc<ServerState<L, A, N, D, G>, Global>,
-        share: StepShare<L>,
-    ) -> ServerDesk<R, L, A, N, D, G>
-        ensures share { result.share ≡ share }
+        state: Arc<ServerState<H, A, N, D, G>, Global>,
+        pass: H::Pass,
+    ) -> ServerDesk<R, H, A, N, D, G>
+        ensures pass { result.pass ≡ pass }
     {
         ServerDesk {
             rt,
             state,
-            share,
+            pass,
             faults: 0,
             refused: 0,
         }
     }
 
-    /// The share, for another desk over the same server.
-    pub fn into_share(self) -> StepShare<L>
-        ensures { result ≡ self.share }
+    /// The pass, for another desk over the same server.
+    pub fn into_pass(self) -> H::Pass
+        ensures { result ≡ self.pass }
     {
         let ServerDesk {
             rt: _,
             state: _,
-            share,
+            pass,
             faults: _,
             refused: _,
         } = self;
-        share
+        pass
     }
 
     /// Has an event decided that no control loop has a part in, and does what its entry asks for.
-    pub(crate) fn submit_event(&mut self, event: HubEvent, answer: Answer) -> Result<(), AllocError>
+    pub(crate) fn submit_event(
+        &mut self,
+        event: HubEvent,
+        answer: Answer,
+    ) -> Result<(), AppendError>
         requires unticketed { has_ticket event.kind ≡ false }
-        ensures share { OnOk result (self.new.share.count ≡ self.old.share.count + 1) }
-        ensures same_share { OnErr result (self.new.share.count ≡ self.old.share.count) }
+        ensures share { H.counts ≡ true → OnOk result (H.made self.new.pass ≡ H.made self.old.pass + 1) }
+        ensures same_share { OnErr result (H.made self.new.pass ≡ H.made self.old.pass) }
+        ensures kept_share { H.made self.old.pass ≤ H.made self.new.pass }
+        ensures once { H.made self.new.pass ≤ H.made self.old.pass + 1 }
         ensures faults { self.new.faults ≡ self.old.faults }
         ensures refused { self.new.refused ≡ self.old.refused }
     {
         let submitted = self
             .state
             .hub
-            .submit(&self.rt, &mut self.share, event, answer)?;
+            .submit(&self.rt, &mut self.pass, event, answer)?;
         self.carry_out(submitted);
         Ok(())
     }
 
     // Has an event of this thread's session decided. Where memory runs out, that is counted, and the connection that came with
     // the event is closed.
-    fn submit_turn(&mut self, event: HubEvent, answer: Answer) -> Result<Turn, AllocError>
+    fn submit_turn(&mut self, event: HubEvent, answer: Answer) -> Result<Turn, AppendError>
         requires unticketed { has_ticket event.kind ≡ false }
-        ensures next { IfOk result (λ t. IsTurnAt L.options t event answer) }
-        ensures share { OnOk result (self.new.share.count ≡ self.old.share.count + 1) }
-        ensures same_share { OnErr result (self.new.share.count ≡ self.old.share.count) }
+        ensures next { IfOk result (λ t. IsTurnAt H.options t event answer) }
+        ensures share { H.counts ≡ true → OnOk result (H.made self.new.pass ≡ H.made self.old.pass + 1) }
+        ensures same_share { OnErr result (H.made self.new.pass ≡ H.made self.old.pass) }
+        ensures kept_share { H.made self.old.pass ≤ H.made self.new.pass }
+        ensures once { H.made self.new.pass ≤ H.made self.old.pass + 1 }
         ensures faults { self.new.faults ≡ self.old.faults }
         ensures unrefused { OnOk result (self.new.refused ≡ self.old.refused) }
         ensures refused_rose { OnErr result (HasRisen self.old.refused self.new.refused) }
         ensures refusals { self.old.refused ≤ self.new.refused }
+        ensures exhausted { IsErrOf result AppendError.Exhausted → H.exhausts ≡ true }
     {
         let link = event.kind.link_number();
         let turn = self
             .state
             .hub
-            .submit_for(&self.rt, &mut self.share, event, answer);
+            .submit_for(&self.rt, &mut self.pass, event, answer);
         match turn {
             Ok(turn) => Ok(turn),
             Err(error) => {
@@ -117,6 +128,33 @@ impl<
                 self.refused = self.refused.saturating_add(1);
                 Err(error)
             }
+        }
+    }
+
+    // Asks a storage for a directory.
+    fn look_for(&mut self, user: &Bytes, path: &Bytes) -> Result<Option<ErrorKind>, AllocError>
+        ensures may { IfOk result (λ refusal. MaySay None path.now refusal) }
+        ensures fault_rose { IfOk result (λ refusal. refusal ≡ Some LocalError → HasRisen self.old.faults self.new.faults) }
+        ensures count { self.old.faults ≤ self.new.faults }
+        ensures refused { self.new.refused ≡ self.old.refused }
+        ensures pass { self.new.pass ≡ self.old.pass }
+    {
+        let mut storage = self.state.depot.store()?;
+        let found = storage.metadata(user, path);
+        match found {
+            Ok(meta) => {
+                if meta.is_dir {
+                    Ok(None)
+                } else {
+                    Ok(Some(ErrorKind::PermanentDirectoryNotAvailable))
+                }
+            }
+            Err(StoreError::Kind(_)) => Ok(Some(ErrorKind::PermanentDirectoryNotAvailable)),
+            Err(StoreError::Failed) => {
+                self.faults = self.faults.saturating_add(1);
+                Ok(Some(ErrorKind::LocalError))
+            }
+            Err(StoreError::OutOfMemory) => Err(AllocError),
         }
     }
 
@@ -130,42 +168,45 @@ impl<
 
 impl<
     R: Wait + Drop,
-    L: Serving,
+    H: JournalHub + Drop,
     A: Authenticator + Drop,
     N: EventSinks + Drop,
     D: Depot + Drop,
     G: Gate + Drop,
-> Desk for ServerDesk<R, L, A, N, D, G> {
+> Desk for ServerDesk<R, H, A, N, D, G> {
     ghost view = { λ d. record {
-      options = L.options;
+      options = H.options;
       files = None;
       faults = d.faults;
       refused = d.refused;
       journal = None;
       outbox = λ _. [];
-      share = Some d.share.count;
+      share = then_some H.counts (H.made d.pass);
     } };
 
     ghost vouches = { true };
+
+    ghost exhausts = { H.exhausts };
 
     fn options(&self) -> &Options {
         &self.state.options
     }
 
-    fn submit(&mut self, event: HubEvent, answer: Answer) -> Result<Told, AllocError>
+    fn submit(&mut self, event: HubEvent, answer: Answer) -> Result<Told, AppendError>
         requires unticketed { has_ticket event.kind ≡ false }
         ensures event { IfOk result (λ told. told.entry.event ≡ event) }
         ensures answer { IfOk result (λ told. told.entry.answer ≡ answer) }
-        ensures vouched { IfOk result (λ told. IsVouched L.options told.earlier told.entry) }
-        ensures share { OnOk result (self.old.share.count + 1 ≤ self.new.share.count) }
+        ensures vouched { IfOk result (λ told. IsVouched H.options told.earlier told.entry) }
+        ensures share { OnOk result (RisesBy 1 (then_some H.counts (H.made self.old.pass)) (then_some H.counts (H.made self.new.pass))) }
         // Only an event that may end its session's wait has another before it.
-        ensures alone { may_end_wait event.kind ≡ false → OnOk result (self.new.share.count ≡ self.old.share.count + 1) }
-        ensures second { OnOk result (self.new.share.count ≤ self.old.share.count + 2) }
-        ensures same_share { OnErr result (self.old.share.count ≤ self.new.share.count) }
+        ensures alone { H.counts ≡ true → may_end_wait event.kind ≡ false → OnOk result (H.made self.new.pass ≡ H.made self.old.pass + 1) }
+        ensures second { OnOk result (H.made self.new.pass ≤ H.made self.old.pass + 2) }
+        ensures same_share { OnErr result (RisesBy 0 (then_some H.counts (H.made self.old.pass)) (then_some H.counts (H.made self.new.pass))) }
         ensures faults { self.new.faults ≡ self.old.faults }
         ensures unrefused { OnOk result (self.new.refused ≡ self.old.refused) }
         ensures refused_rose { OnErr result (HasRisen self.old.refused self.new.refused) }
         ensures refusals { self.old.refused ≤ self.new.refused }
+        ensures exhausted { IsErrOf result AppendError.Exhausted → H.exhausts ≡ true }
     {
         self.accept_before(&event);
         let turn = self.submit_turn(event, answer)?;
@@ -185,22 +226,6 @@ impl<
     }
 
     fn directory(&mut self, user: &Bytes, path: &Bytes) -> Result<Option<ErrorKind>, AllocError> {
-        let mut storage = self.state.depot.store()?;
-        let found = storage.metadata(user, path);
-        match found {
-            Ok(meta) => {
-                if meta.is_dir {
-                    Ok(None)
-                } else {
-                    Ok(Some(ErrorKind::PermanentDirectoryNotAvailable))
-                }
-            }
-            Err(StoreError::Kind(_)) => Ok(Some(ErrorKind::PermanentDirectoryNotAvailable)),
-            Err(StoreError::Failed) => {
-                self.faults = self.faults.saturating_add(1);
-                Ok(Some(ErrorKind::LocalError))
-            }
-            Err(StoreError::OutOfMemory) => Err(AllocError),
-        }
+        self.look_for(user, path)
     }
 }

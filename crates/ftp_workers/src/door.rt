@@ -10,18 +10,18 @@ use crate::server_state::ServerState;
 use crate::task::Task;
 use ftp_base::{Authenticator, Gate};
 use ftp_events::{Answer, EventKind, HubEvent};
-use ftp_shared::{Serving, StepShare};
+use ftp_shared::JournalHub;
 use ftp_system::{Depot, told_address};
 use std::net::{SocketAddr, TcpStream};
 use std::sync::Wait;
 
 impl<
-    L: Serving,
+    H: JournalHub + Drop,
     A: Authenticator + Drop,
     N: EventSinks + Drop,
     D: Depot + Drop,
     G: Gate + Drop,
-> ServerState<L, A, N, D, G> {
+> ServerState<H, A, N, D, G> {
     /// Has a control connection served by a thread. Where there is no room for it, it is closed, and told so where it is one
     /// too many.
     pub fn queue_control<R: Wait>(&self, rt: &R, stream: TcpStream, raw: SocketAddr) {
@@ -43,20 +43,20 @@ impl<
         self.handoff.wanted()
     }
 
-    /// A share for one more thread, with no step counted, unless a single part is left.
+    /// A pass for one more thread, with which no entry was made, unless none is left.
     ///
     /// # Proved
     ///
-    /// - A share for one more thread counts no step.
-    pub fn share<R: Wait>(&self, rt: &R) -> Option<StepShare<L>>
-        ensures { IfSome result (λ share. share.count ≡ 0) }
+    /// - With a pass for one more thread no entry was made.
+    pub fn share<R: Wait>(&self, rt: &R) -> Option<H::Pass>
+        ensures { IfSome result (λ pass. H.made pass ≡ 0) }
     {
         self.hub.share(rt)
     }
 
-    /// Takes a share back.
-    pub fn take_back<R: Wait>(&self, rt: &R, share: StepShare<L>) {
-        self.hub.take_back(rt, share);
+    /// Takes a pass back.
+    pub fn take_back<R: Wait>(&self, rt: &R, pass: H::Pass) {
+        self.hub.take_back(rt, pass);
     }
 
     /// Says whether no job runs and no session is live.
@@ -74,16 +74,16 @@ impl<
 
 impl<
     R: Wait + Drop,
-    L: Serving,
+    H: JournalHub + Drop,
     A: Authenticator + Drop,
     N: EventSinks + Drop,
     D: Depot + Drop,
     G: Gate + Drop,
-> ServerDesk<R, L, A, N, D, G> {
+> ServerDesk<R, H, A, N, D, G> {
     /// Takes in a data connection that came to a passive port, at this moment in milliseconds. It is closed where no
     /// session takes it.
     pub fn receive(&mut self, at: u64, stream: mio::net::TcpStream, raw: SocketAddr, port: u16)
-        ensures share { self.old.share.count ≤ self.new.share.count }
+        ensures share { H.made self.old.pass ≤ H.made self.new.pass }
     {
         let number = self.state.hub.draw();
         let event = HubEvent {
@@ -112,8 +112,8 @@ impl<
         answer: Answer,
     )
         requires unticketed { has_ticket event.kind ≡ false }
-        ensures share { self.old.share.count ≤ self.new.share.count }
-        ensures once { self.new.share.count ≤ self.old.share.count + 1 }
+        ensures share { H.made self.old.pass ≤ H.made self.new.pass }
+        ensures once { H.made self.new.pass ≤ H.made self.old.pass + 1 }
         ensures faults { self.new.faults ≡ self.old.faults }
         ensures refused { self.new.refused ≡ self.old.refused }
     {
@@ -127,28 +127,28 @@ impl<
 
     /// Has failed logins forgotten that are too old.
     pub fn sweep(&mut self, at: u64)
-        ensures share { self.old.share.count ≤ self.new.share.count }
+        ensures share { H.made self.old.pass ≤ H.made self.new.pass }
     {
         let _ = self.submit_timer(at, EventKind::Sweep);
     }
 
     /// Has ports freed that are held for sessions which have ended.
     pub fn scavenge(&mut self, at: u64)
-        ensures share { self.old.share.count ≤ self.new.share.count }
+        ensures share { H.made self.old.pass ≤ H.made self.new.pass }
     {
         let _ = self.submit_timer(at, EventKind::Scavenge);
     }
 
-    /// Ends all sessions and their control connections, and says whether there was memory for it. No other is opened.
+    /// Ends all sessions and their control connections, and says whether that was taken. No other is opened.
     ///
     /// # Proved
     ///
-    /// - A shutdown makes exactly one entry, or says that there was no memory for it; what else the thread at the doors
-    ///   submits lowers no count (`told`, `same_share`; also `ServerDesk::receive`, `ServerDesk::sweep` and
+    /// - A shutdown makes exactly one entry, or says that it was not taken; what else the thread at the doors submits
+    ///   lowers no count (`told`, `same_share`; also `ServerDesk::receive`, `ServerDesk::sweep` and
     ///   `ServerDesk::scavenge`: `share`).
     pub fn stop(&mut self, at: u64) -> bool
-        ensures told { result ≡ true → self.new.share.count ≡ self.old.share.count + 1 }
-        ensures same_share { result ≡ false → self.new.share.count ≡ self.old.share.count }
+        ensures told { result ≡ true → H.counts ≡ true → H.made self.new.pass ≡ H.made self.old.pass + 1 }
+        ensures same_share { result ≡ false → H.made self.new.pass ≡ H.made self.old.pass }
     {
         let is_told = self.submit_timer(at, EventKind::Shutdown);
         self.state.handoff.shut_down(&self.rt);
@@ -158,8 +158,9 @@ impl<
     // Has an event decided that nobody waits for.
     fn submit_timer(&mut self, at: u64, kind: EventKind) -> bool
         requires unticketed { has_ticket kind ≡ false }
-        ensures told { result ≡ true → self.new.share.count ≡ self.old.share.count + 1 }
-        ensures same_share { result ≡ false → self.new.share.count ≡ self.old.share.count }
+        ensures told { result ≡ true → H.counts ≡ true → H.made self.new.pass ≡ H.made self.old.pass + 1 }
+        ensures same_share { result ≡ false → H.made self.new.pass ≡ H.made self.old.pass }
+        ensures kept_share { H.made self.old.pass ≤ H.made self.new.pass }
     {
         self.submit_event(HubEvent { at, kind }, Answer::None)
             .is_ok()

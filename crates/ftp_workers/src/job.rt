@@ -11,17 +11,17 @@ use crate::handoff::PendingConnection;
 use crate::runtime::WorkerRuntime;
 use crate::worker::Worker;
 use ftp_base::{Authenticator, Gate, Link};
-use ftp_shared::{JobShare, Serving, Submitted, serve_job};
+use ftp_shared::{JobShare, JournalHub, Submitted, serve_job};
 use ftp_system::{Ahead, Depot, Gathered, LIMIT, SocketLink, gathering_buffer};
 
 impl<
     R: WorkerRuntime,
-    L: Serving,
+    H: JournalHub + Drop,
     A: Authenticator + Drop,
     N: EventSinks + Drop,
     D: Depot + Drop,
     G: Gate + Drop,
-> Worker<R, L, A, N, D, G> {
+> Worker<R, H, A, N, D, G> {
     // The buffer for the next link, which is empty where there is no memory for it.
     fn take_buffer(&mut self) -> Vec<u8> {
         let none = Vec::new(self.alloc);
@@ -56,7 +56,7 @@ impl<
         let served = self.run_on_own_storage(job, &mut link);
         self.buffer = link.into_buffer();
         self.state.handoff.end_job(&self.rt, session, number);
-        // Where memory ran out the job never ends.
+        // Where its end was not taken the job never ends.
         if let Some(submitted) = served {
             self.desk.carry_out(submitted);
         }
@@ -70,7 +70,7 @@ impl<
     // - A job of a server is run on a storage of the server's depot that had counted no fault before, and all holds of it that
     //   `serve_job` says of its last entry (`next`, `runs`, `stops`).
     fn run_on_own_storage<K: Link>(&mut self, job: JobShare, link: &mut K) -> Option<Submitted>
-        ensures next { IfSome result (λ s. IsLastOf L.options job s.receipt) }
+        ensures next { IfSome result (λ s. IsLastOf H.options job s.receipt) }
         ensures runs { IfSome result (λ s. IfSome (outcome_in s.receipt.entry.answer) (λ outcome.
             RunsOnItsOwn (site (views D.Store.files D.Store.rule D.Store.faults D.Store.fault_limit D.Store.calls K.left K.sending K.faults K.fault_limit K.calls) D.Store.reads_take_memory K.takes_memory)
             job outcome link.old link.new)) }
@@ -84,7 +84,7 @@ impl<
             &self.rt,
             self.alloc,
             &self.state.hub,
-            &mut self.desk.share,
+            &mut self.desk.pass,
             job,
             &*self.state.gate,
             call,

@@ -9,7 +9,7 @@ use crate::event_sinks::EventSinks;
 use crate::handoff::{Handoff, PendingConnection};
 use ftp_base::{Authenticator, Gate};
 use ftp_events::{Answer, Decision, Entry, EventKind, HubEvent, SlotMove};
-use ftp_shared::Serving;
+use ftp_shared::JournalHub;
 use ftp_system::{Depot, told_address};
 use mio::net::{TcpListener, TcpStream};
 use mio::{Interest, Registry, Token, Waker};
@@ -168,16 +168,16 @@ impl Handoff {
 
 impl<
     R: Wait + Drop,
-    L: Serving,
+    H: JournalHub + Drop,
     A: Authenticator + Drop,
     N: EventSinks + Drop,
     D: Depot + Drop,
     G: Gate + Drop,
-> ServerDesk<R, L, A, N, D, G> {
+> ServerDesk<R, H, A, N, D, G> {
     /// Takes in the connection that came to the port of a session, at this moment in milliseconds. The port is closed then.
     pub fn accept_for(&mut self, at: u64, session: u64)
-        ensures share { self.old.share.count ≤ self.new.share.count }
-        ensures once { self.new.share.count ≤ self.old.share.count + 1 }
+        ensures share { H.made self.old.pass ≤ H.made self.new.pass }
+        ensures once { H.made self.new.pass ≤ H.made self.old.pass + 1 }
         ensures faults { self.new.faults ≡ self.old.faults }
         ensures refused { self.new.refused ≡ self.old.refused }
     {
@@ -205,9 +205,9 @@ impl<
     /// Takes in the connection that has come to the port of a session, where the event may close the port: who has
     /// connected is not to be reset.
     pub(crate) fn accept_before(&mut self, event: &HubEvent)
-        ensures share { self.old.share.count ≤ self.new.share.count }
-        ensures once { self.new.share.count ≤ self.old.share.count + 1 }
-        ensures none { may_end_wait event.now.kind ≡ false → self.new.share.count ≡ self.old.share.count }
+        ensures share { H.made self.old.pass ≤ H.made self.new.pass }
+        ensures once { H.made self.new.pass ≤ H.made self.old.pass + 1 }
+        ensures none { may_end_wait event.now.kind ≡ false → H.made self.new.pass ≡ H.made self.old.pass }
         ensures faults { self.new.faults ≡ self.old.faults }
         ensures refused { self.new.refused ≡ self.old.refused }
     {

@@ -13,7 +13,7 @@ use crate::worker::Worker;
 use ftp_base::{Authenticator, Edge, Gate};
 use ftp_events::{Answer, HubEvent};
 use ftp_options::ListenerMode;
-use ftp_shared::Serving;
+use ftp_shared::JournalHub;
 use ftp_system::{Ahead, Depot, Gathered, LIMIT, SocketLink, std_address, told_address};
 use mio::net::TcpStream;
 use std::net;
@@ -42,12 +42,12 @@ fn source_of(answer: &Answer) -> Option<IpAddr> {
 
 impl<
     R: WorkerRuntime,
-    L: Serving,
+    H: JournalHub + Drop,
     A: Authenticator + Drop,
     N: EventSinks + Drop,
     D: Depot + Drop,
     G: Gate + Drop,
-> Worker<R, L, A, N, D, G> {
+> Worker<R, H, A, N, D, G> {
     // Reads the header of a connection, and serves its session or keeps it for a job.
     #[inline(never)]
     pub(crate) fn pass_on(&mut self, stream: net::TcpStream, raw: SocketAddr) {

@@ -9,16 +9,15 @@ use crate::listening::AcceptorHandle;
 use ftp_base::{Authenticator, Gate};
 use ftp_feed::JournalFeed;
 use ftp_options::Options;
-use ftp_shared::{Serving, SharedHub};
+use ftp_shared::JournalHub;
 use ftp_system::{Depot, SessionCounts, SessionLimits};
-use std::alloc::{AllocError, Global};
-use std::sync::ledger::{Book, Share};
+use std::alloc::Global;
 use std::sync::{Arc, Mutex};
 
 /// The hub of a server, and all that its threads use beside it.
 #[derive(Drop)]
 pub struct ServerState<
-    L: Serving,
+    H: JournalHub + Drop,
     A: Authenticator + Drop,
     N: EventSinks + Drop,
     D: Depot + Drop,
@@ -26,7 +25,7 @@ pub struct ServerState<
 > {
     pub(crate) alloc: Global,
     pub(crate) options: Options,
-    pub(crate) hub: SharedHub<L>,
+    pub(crate) hub: H,
     pub(crate) handoff: Handoff,
     pub(crate) authenticator: A,
     pub(crate) sinks: Mutex<N>,
@@ -34,22 +33,19 @@ pub struct ServerState<
     pub(crate) limits: SessionLimits,
     pub(crate) counts: Mutex<SessionCounts>,
     pub(crate) gate: Arc<G, Global>,
-    ghost told: { options ≡ L.options },
+    ghost told: { options ≡ H.options },
 }
 
 impl<
-    L: Serving,
+    H: JournalHub + Drop,
     A: Authenticator + Drop,
     N: EventSinks + Drop,
     D: Depot + Drop,
     G: Gate + Drop,
-> ServerState<L, A, N, D, G> {
-    ghost use Rattle.std.specs.Prelude.{◌<◌};
-
+> ServerState<H, A, N, D, G> {
     /// A fresh hub, and what its threads will share; no thread serves it yet.
     ///
-    /// The book has counted no step, and the share has every part, of which there are so many. The thread that accepts
-    /// connections also starts threads: it is told where one more is wanted.
+    /// The thread that accepts connections also starts threads: it is told where one more is wanted.
     ///
     /// # Proved
     ///
@@ -59,25 +55,19 @@ impl<
         alloc: Global,
         options: Options,
         limits: SessionLimits,
-        ledger: (Book<L>, Share<L>, u64),
+        hub: H,
         authenticator: A,
         sinks: N,
         depot: D,
         gate: Arc<G, Global>,
         acceptor: AcceptorHandle,
-    ) -> Result<ServerState<L, A, N, D, G>, AllocError>
-        requires options { options ≡ L.options }
-        requires none { ledger.0.total ≡ 0 }
-        requires some { 0 < ledger.2 }
-        requires all { ledger.1.parts ≡ ledger.2 }
-        requires fresh { ledger.1.amount ≡ 0 }
+    ) -> ServerState<H, A, N, D, G>
+        requires options { options ≡ H.options }
     {
-        let (steps, share, parts) = ledger;
-        let told = options.copy(alloc)?;
-        Ok(ServerState {
+        ServerState {
             alloc,
-            options: told,
-            hub: SharedHub::new(alloc, options, steps, share, parts),
+            options,
+            hub,
             handoff: Handoff::new(alloc, acceptor),
             authenticator,
             sinks: Mutex::new(sinks),
@@ -85,7 +75,7 @@ impl<
             limits,
             counts: Mutex::new(SessionCounts::new(alloc)),
             gate,
-        })
+        }
     }
 
     /// Has each entry told to a feed too, once the hub is free. It is called before any thread serves.

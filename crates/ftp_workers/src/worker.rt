@@ -6,7 +6,7 @@ use crate::runtime::WorkerRuntime;
 use crate::server_state::ServerState;
 use crate::task::Task;
 use ftp_base::{Authenticator, Gate};
-use ftp_shared::{Serving, StepShare};
+use ftp_shared::JournalHub;
 use ftp_system::{Depot, LIMIT, SystemEdge};
 use std::alloc::{AllocError, Global};
 use std::net::{IpAddr, Ipv4Addr};
@@ -16,7 +16,7 @@ use std::sync::Arc;
 #[derive(Drop)]
 pub struct Worker<
     R: WorkerRuntime,
-    L: Serving,
+    H: JournalHub + Drop,
     A: Authenticator + Drop,
     N: EventSinks + Drop,
     D: Depot + Drop,
@@ -24,8 +24,8 @@ pub struct Worker<
 > {
     pub(crate) rt: R,
     pub(crate) alloc: Global,
-    pub(crate) state: Arc<ServerState<L, A, N, D, G>, Global>,
-    pub(crate) desk: ServerDesk<R, L, A, N, D, G>,
+    pub(crate) state: Arc<ServerState<H, A, N, D, G>, Global>,
+    pub(crate) desk: ServerDesk<R, H, A, N, D, G>,
     pub(crate) edge: SystemEdge<R>,
     // Where the pieces of transfers are gathered; empty before the first transfer, and after a control connection.
     pub(crate) buffer: Vec<u8>,
@@ -33,24 +33,24 @@ pub struct Worker<
 
 impl<
     R: WorkerRuntime,
-    L: Serving,
+    H: JournalHub + Drop,
     A: Authenticator + Drop,
     N: EventSinks + Drop,
     D: Depot + Drop,
     G: Gate + Drop,
-> Worker<R, L, A, N, D, G> {
+> Worker<R, H, A, N, D, G> {
     /// A thread that has done nothing yet.
     pub fn new(
         rt: R,
-        state: Arc<ServerState<L, A, N, D, G>, Global>,
-        share: StepShare<L>,
-    ) -> Result<Worker<R, L, A, N, D, G>, AllocError> {
+        state: Arc<ServerState<H, A, N, D, G>, Global>,
+        pass: H::Pass,
+    ) -> Result<Worker<R, H, A, N, D, G>, AllocError> {
         let theirs = Arc::try_clone(&state)?;
         let alloc = state.alloc;
         Ok(Worker {
             rt,
             alloc,
-            desk: ServerDesk::new(rt, theirs, share),
+            desk: ServerDesk::new(rt, theirs, pass),
             edge: SystemEdge::new(rt, alloc, IpAddr::V4(Ipv4Addr::from_bits(0)), LIMIT),
             buffer: Vec::new(alloc),
             state,
@@ -79,7 +79,7 @@ impl<
         }
     }
 
-    /// Ends this worker; the server takes its share back.
+    /// Ends this worker; the server takes its pass back.
     #[inline(never)]
     pub fn leave(self) {
         let Worker {
@@ -90,20 +90,20 @@ impl<
             edge: _,
             buffer: _,
         } = self;
-        state.take_back(&rt, desk.into_share());
+        state.take_back(&rt, desk.into_pass());
     }
 }
 
-/// What a thread of a server does, with its share, until no more tasks come or it has rested for long.
+/// What a thread of a server does, with its pass, until no more tasks come or it has rested for long.
 pub fn work<
     R: WorkerRuntime,
-    L: Serving,
+    H: JournalHub + Drop,
     A: Authenticator + Drop,
     N: EventSinks + Drop,
     D: Depot + Drop,
     G: Gate + Drop,
->(rt: R, state: Arc<ServerState<L, A, N, D, G>, Global>, share: StepShare<L>) {
-    if let Some(worker) = new_worker(rt, state, share) {
+>(rt: R, state: Arc<ServerState<H, A, N, D, G>, Global>, pass: H::Pass) {
+    if let Some(worker) = new_worker(rt, state, pass) {
         let mut worker = worker;
         worker.work();
         Box::into_inner(worker).leave();
@@ -114,17 +114,17 @@ pub fn work<
 #[inline(never)]
 fn new_worker<
     R: WorkerRuntime,
-    L: Serving,
+    H: JournalHub + Drop,
     A: Authenticator + Drop,
     N: EventSinks + Drop,
     D: Depot + Drop,
     G: Gate + Drop,
 >(
     rt: R,
-    state: Arc<ServerState<L, A, N, D, G>, Global>,
-    share: StepShare<L>,
-) -> Option<Box<Worker<R, L, A, N, D, G>>> {
+    state: Arc<ServerState<H, A, N, D, G>, Global>,
+    pass: H::Pass,
+) -> Option<Box<Worker<R, H, A, N, D, G>>> {
     let alloc = state.alloc;
-    let worker = Worker::new(rt, state, share).ok()?;
+    let worker = Worker::new(rt, state, pass).ok()?;
     Box::new(alloc, worker).ok()
 }

@@ -1,4 +1,4 @@
-use Rattle.std.proofs.Common.{◌≡◌, refl, sym, ap, ◌∙◌, subst, ℕ, ◌≤◌, cond, List, [], length}
+use Rattle.std.proofs.Common.{◌≡◌, refl, sym, ap, ◌∙◌, subst, ◌≤◌, cond, List, [], length}
 use Rattle.std.specs.Prelude.{nat_lt}
 use Rattle.ftp_events.specs.declared.action.Action.{Action}
 use Rattle.ftp_events.specs.declared.entry.Entry.{Entry}
@@ -21,8 +21,8 @@ returns-in_err-fresh-clause-keeps c o k =
     (λ s. subst (λ (xs : List Action). outbox_in c.catch_up.new.self xs s ≡ outbox_in c.args.outbox.now xs s) c.newest.ensures (c.catch_up.ensures.same s)))
 
 -- nor has what the hub stands for
-pub returns-in_err-room-clause-keeps : goal.returns-in_err-room-clause-keeps
-returns-in_err-room-clause-keeps c o k =
+pub returns-in_default-clause-keeps : goal.returns-in_default-clause-keeps
+returns-in_default-clause-keeps c o k =
     subst (λ (l : List Entry). KeepsCut o c.prepare_twin.new.self l c.catch_up.new.self) (sym c.place_for.ensures.same)
     (cut-ready o c.args.hub.now c.prepare_twin.new.self c.args.tail.now.entries c.args.outbox.now c.catch_up.new.self k
     c.prepare_twin.ensures.stands c.prepare_twin.ensures.same.head.options c.prepare_twin.ensures.same.head.count

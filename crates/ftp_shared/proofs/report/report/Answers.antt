@@ -29,6 +29,21 @@ returns-in-Some g c =
       within = omega (arith, total, c.min-bytes.ensures, c.done.ensures, c.requires.more);
       moments = 1;
       taken = c.now-at.ensures.taken;
-      kept = omega (arith, c.in-Ok.ensures.share);
-      enough = omega (arith, c.in-Ok.ensures.share);
+      kept = c.in-Ok.ensures.kept_share;
+      enough = c.in-Ok.ensures.once;
+    }
+
+-- nothing was told, and the job is given back
+pub returns-in-Err : goal.returns-in-Err
+returns-in-Err g c =
+    let given = c.in-Err.ensures.given_back in
+    let total : c.in-Err.field-0.job.done ≡ c.args.job.done = ap (λ (j : Job). j.done) given in
+    record {
+      same = given ∙ ap (λ (n : ℕ). record c.args.job { done = n }) (sym total);
+      more = omega (arith, total);
+      within = omega (arith, total, c.requires.more);
+      moments = 1;
+      taken = c.now-at.ensures.taken;
+      kept = c.in-Err.ensures.kept_share;
+      enough = c.in-Err.ensures.once;
     }

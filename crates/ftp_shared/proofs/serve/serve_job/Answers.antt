@@ -6,7 +6,7 @@ use Rattle.ftp_events.specs.Leads.{views}
 use Rattle.ftp_transfer.specs.declared.job.Job.{Job}
 use Rattle.ftp_shared.specs.Next.{end_of, piece_of}
 use Rattle.ftp_shared.specs.Moments.{TakesMoments}
-use Rattle.ftp_shared.proofs.EndLemmas.{answer-told, bytes-alone, bytes-told, last-end, last-piece, moment-told, outcome-alone, outcome-told, with-err, with-ok}
+use Rattle.ftp_shared.proofs.EndLemmas.{answer-told, bytes-alone, bytes-told, last-end, last-piece, moment-told, outcome-alone, outcome-told, with-err}
 use Rattle.ftp_shared.proofs.MomentLemmas.{takes-last, takes-more}
 use Rattle.ftp_shared.proofs.ProgressLemmas.{progress-more, progress-start, runs-ended, runs-stopped}
 use Rattle.ftp_shared.proofs.serve.serve_job.Goals as goal
@@ -16,7 +16,7 @@ pub pieces-init : goal.pieces-init
 pieces-init g c =
     progress-start (views g.S.Storage.files g.S.Storage.rule g.S.Storage.faults g.S.Storage.fault_limit g.S.Storage.calls
     g.L.Source.left g.L.Source.sending g.L.Source.faults g.L.Source.fault_limit g.L.Source.calls)
-    c.args.job c.in-Ok.copy c.args.storage.now c.args.link.now (g.E.Edge.view c.args.edge.now) c.args.share.now.count c.in-Ok.ensures
+    c.args.job c.in-Ok.copy c.args.storage.now c.args.link.now (g.E.Edge.view c.args.edge.now) (g.H.JournalHub.made c.args.pass.now) c.in-Ok.ensures
 
 -- a piece more has moved, and more may have been told
 pub pieces-preserved : goal.pieces-preserved
@@ -24,9 +24,9 @@ pieces-preserved g c =
     progress-more (views g.S.Storage.files g.S.Storage.rule g.S.Storage.faults g.S.Storage.fault_limit g.S.Storage.calls
     g.L.Source.left g.L.Source.sending g.L.Source.faults g.L.Source.fault_limit g.L.Source.calls)
     c.args.job c.pieces.next c.pieces.job c.args.storage.now c.pieces.storage c.execute_piece.new.storage c.args.link.now c.pieces.link c.execute_piece.new.link
-    (g.E.Edge.view c.args.edge.now) (g.E.Edge.view c.pieces.edge) c.pieces.count c.args.share.now.count c.pieces.share.count c.in-More.bytes
+    (g.E.Edge.view c.args.edge.now) (g.E.Edge.view c.pieces.edge) c.pieces.count (g.H.JournalHub.made c.args.pass.now) (g.H.JournalHub.made c.pieces.pass) c.in-More.bytes
     c.pieces.invariant c.in-More.ensures.storage_counts c.in-More.ensures.link_counts
-    c.execute_piece.new.job c.in-GoesOn.told (g.E.Edge.view c.report.new.edge) c.report.new.share.count
+    c.execute_piece.new.job c.in-GoesOn.told (g.E.Edge.view c.report.new.edge) (g.H.JournalHub.made c.report.new.pass)
     c.in-More.ensures.ran.1 c.in-More.ensures.raised c.in-GoesOn.ensures
 
 -- ---- the end
@@ -35,7 +35,7 @@ pieces-preserved g c =
 pub returns-in-Ended-clause-next : goal.returns-in-Ended-clause-next
 returns-in-Ended-clause-next g c =
     IfOk-weaker c.finish.result _ _
-    (λ s next. last-end g.H.Serving.options s.receipt c.args.job c.pieces.job c.now-at.result c.in-Ended.outcome c.pieces.invariant.same_share next)
+    (λ s next. last-end g.H.JournalHub.options s.receipt c.args.job c.pieces.job c.now-at.result c.in-Ended.outcome c.pieces.invariant.same_share next)
     c.finish.ensures.next
 
 -- its outcome is that of the run
@@ -44,11 +44,11 @@ returns-in-Ended-clause-runs g c =
     IfOk-weaker c.finish.result _ _
     (λ s next.
     outcome-told _ s.receipt.entry.answer c.in-Ended.outcome
-    (answer-told g.H.Serving.options s.receipt (end_of c.pieces.job c.now-at.result) (Done c.in-Ended.outcome) next)
+    (answer-told g.H.JournalHub.options s.receipt (end_of c.pieces.job c.now-at.result) (Done c.in-Ended.outcome) next)
     (runs-ended (views g.S.Storage.files g.S.Storage.rule g.S.Storage.faults g.S.Storage.fault_limit g.S.Storage.calls
     g.L.Source.left g.L.Source.sending g.L.Source.faults g.L.Source.fault_limit g.L.Source.calls)
     c.args.job c.pieces.next c.pieces.job c.args.storage.now c.pieces.storage c.execute_piece.new.storage c.args.link.now c.pieces.link c.execute_piece.new.link
-    (g.E.Edge.view c.args.edge.now) (g.E.Edge.view c.pieces.edge) c.pieces.count c.args.share.now.count c.pieces.share.count 0
+    (g.E.Edge.view c.args.edge.now) (g.E.Edge.view c.pieces.edge) c.pieces.count (g.H.JournalHub.made c.args.pass.now) (g.H.JournalHub.made c.pieces.pass) 0
     c.pieces.invariant c.in-Ended.ensures.storage_counts c.in-Ended.ensures.link_counts g.S.Storage.reads_take_memory g.L.Link.takes_memory c.in-Ended.outcome
     c.in-Ended.ensures.ran c.in-Ended.ensures.suits c.in-Ended.ensures.no_memory))
     c.finish.ensures.next
@@ -68,18 +68,20 @@ returns-in-Ended-clause-stops g c =
     IfOk-weaker c.finish.result _ _
     (λ s next.
     outcome-alone _ s.receipt.entry.answer c.in-Ended.outcome
-    (answer-told g.H.Serving.options s.receipt (end_of c.pieces.job c.now-at.result) (Done c.in-Ended.outcome) next))
+    (answer-told g.H.JournalHub.options s.receipt (end_of c.pieces.job c.now-at.result) (Done c.in-Ended.outcome) next))
     c.finish.ensures.next
 
 -- its moment is the one that was taken last
 pub returns-in-Ended-clause-moments : goal.returns-in-Ended-clause-moments
 returns-in-Ended-clause-moments g c =
-    with-ok c.finish.result _ _ c.finish.ensures.share c.finish.ensures.next
-    (λ s one next.
-    subst (λ (at : ℕ). TakesMoments (g.E.Edge.view c.args.edge.now) (g.E.Edge.view c.now-at.new.self) (c.finish.new.share.count - c.args.share.now.count) at)
-    (moment-told g.H.Serving.options s.receipt (End c.pieces.job.ticket) c.now-at.result (Done c.in-Ended.outcome) next)
-    (takes-last c.pieces.invariant.moments (c.finish.new.share.count - c.args.share.now.count) c.now-at.result _ (g.E.Edge.view c.pieces.edge) _
-    c.pieces.invariant.taken c.now-at.ensures.next c.now-at.ensures.taken (omega (arith, one, c.pieces.invariant.enough, c.pieces.invariant.kept))))
+    let once = c.finish.ensures.once in
+    IfOk-weaker c.finish.result _ _
+    (λ s next.
+    subst (λ (at : ℕ). TakesMoments (g.E.Edge.view c.args.edge.now) (g.E.Edge.view c.now-at.new.self) ((g.H.JournalHub.made c.finish.new.pass) - (g.H.JournalHub.made c.args.pass.now)) at)
+    (moment-told g.H.JournalHub.options s.receipt (End c.pieces.job.ticket) c.now-at.result (Done c.in-Ended.outcome) next)
+    (takes-last c.pieces.invariant.moments ((g.H.JournalHub.made c.finish.new.pass) - (g.H.JournalHub.made c.args.pass.now)) c.now-at.result _ (g.E.Edge.view c.pieces.edge) _
+    c.pieces.invariant.taken c.now-at.ensures.next c.now-at.ensures.taken (omega (arith, once, c.pieces.invariant.enough, c.pieces.invariant.kept))))
+    c.finish.ensures.next
 
 -- or no entry tells of the run
 pub returns-in-Ended-clause-untold : goal.returns-in-Ended-clause-untold
@@ -91,7 +93,7 @@ returns-in-Ended-clause-untold g c =
           runs-ended (views g.S.Storage.files g.S.Storage.rule g.S.Storage.faults g.S.Storage.fault_limit g.S.Storage.calls
           g.L.Source.left g.L.Source.sending g.L.Source.faults g.L.Source.fault_limit g.L.Source.calls)
           c.args.job c.pieces.next c.pieces.job c.args.storage.now c.pieces.storage c.execute_piece.new.storage c.args.link.now c.pieces.link c.execute_piece.new.link
-          (g.E.Edge.view c.args.edge.now) (g.E.Edge.view c.pieces.edge) c.pieces.count c.args.share.now.count c.pieces.share.count 0
+          (g.E.Edge.view c.args.edge.now) (g.E.Edge.view c.pieces.edge) c.pieces.count (g.H.JournalHub.made c.args.pass.now) (g.H.JournalHub.made c.pieces.pass) 0
           c.pieces.invariant c.in-Ended.ensures.storage_counts c.in-Ended.ensures.link_counts g.S.Storage.reads_take_memory g.L.Link.takes_memory c.in-Ended.outcome
           c.in-Ended.ensures.ran c.in-Ended.ensures.suits c.in-Ended.ensures.no_memory;
       before = c.pieces.invariant.moments;
@@ -105,13 +107,13 @@ returns-in-Ended-clause-untold g c =
 pub returns-in-Over-clause-next : goal.returns-in-Over-clause-next
 returns-in-Over-clause-next g c =
     let over = c.in-Over.ensures in
-    last-piece g.H.Serving.options c.in-Over.submitted.receipt c.args.job c.pieces.job over.at over.bytes c.pieces.invariant.same_share over.over over.next
+    last-piece g.H.JournalHub.options c.in-Over.submitted.receipt c.args.job c.pieces.job over.at over.bytes c.pieces.invariant.same_share over.over over.next
 
 pub returns-in-Over-clause-runs : goal.returns-in-Over-clause-runs
 returns-in-Over-clause-runs g c =
     let over = c.in-Over.ensures in
     bytes-alone _ c.in-Over.submitted.receipt.entry.answer over.bytes
-    (answer-told g.H.Serving.options c.in-Over.submitted.receipt (piece_of c.pieces.job over.at) (Moved over.bytes) over.next)
+    (answer-told g.H.JournalHub.options c.in-Over.submitted.receipt (piece_of c.pieces.job over.at) (Moved over.bytes) over.next)
 
 pub returns-in-Over-clause-settled : goal.returns-in-Over-clause-settled
 returns-in-Over-clause-settled g c =
@@ -125,11 +127,11 @@ returns-in-Over-clause-stops g c =
     let over = c.in-Over.ensures in
     let total : c.execute_piece.new.job.done ≡ c.pieces.next.done + c.in-More.bytes = ap (λ (j : Job). j.done) c.in-More.ensures.raised in
     bytes-told _ c.in-Over.submitted.receipt.entry.answer over.bytes
-    (answer-told g.H.Serving.options c.in-Over.submitted.receipt (piece_of c.pieces.job over.at) (Moved over.bytes) over.next)
+    (answer-told g.H.JournalHub.options c.in-Over.submitted.receipt (piece_of c.pieces.job over.at) (Moved over.bytes) over.next)
     (runs-stopped (views g.S.Storage.files g.S.Storage.rule g.S.Storage.faults g.S.Storage.fault_limit g.S.Storage.calls
     g.L.Source.left g.L.Source.sending g.L.Source.faults g.L.Source.fault_limit g.L.Source.calls)
     c.args.job c.pieces.next c.pieces.job c.args.storage.now c.pieces.storage c.execute_piece.new.storage c.args.link.now c.pieces.link c.execute_piece.new.link
-    (g.E.Edge.view c.args.edge.now) (g.E.Edge.view c.pieces.edge) c.pieces.count c.args.share.now.count c.pieces.share.count c.in-More.bytes
+    (g.E.Edge.view c.args.edge.now) (g.E.Edge.view c.pieces.edge) c.pieces.count (g.H.JournalHub.made c.args.pass.now) (g.H.JournalHub.made c.pieces.pass) c.in-More.bytes
     c.pieces.invariant c.in-More.ensures.storage_counts c.in-More.ensures.link_counts
     c.close.new.self over.bytes c.close.result c.in-More.ensures.ran.1 (omega (arith, over.within, total)) c.close.ensures.only_closes
     c.close.ensures.closed c.close.ensures.unlisted c.close.ensures.unchanged c.close.ensures.fault_rose c.close.ensures.as_listed
@@ -139,7 +141,7 @@ returns-in-Over-clause-stops g c =
 pub returns-in-Over-clause-moments : goal.returns-in-Over-clause-moments
 returns-in-Over-clause-moments g c =
     let over = c.in-Over.ensures in
-    subst (λ (at : ℕ). TakesMoments (g.E.Edge.view c.args.edge.now) (g.E.Edge.view c.report.new.edge) (c.report.new.share.count - c.args.share.now.count) at)
-    (moment-told g.H.Serving.options c.in-Over.submitted.receipt (Piece c.pieces.job.ticket) over.at (Moved over.bytes) over.next)
-    (takes-last c.pieces.invariant.moments (c.report.new.share.count - c.args.share.now.count) over.at _ (g.E.Edge.view c.pieces.edge) _
-    c.pieces.invariant.taken over.moment over.taken (omega (arith, over.one, c.pieces.invariant.enough, c.pieces.invariant.kept)))
+    subst (λ (at : ℕ). TakesMoments (g.E.Edge.view c.args.edge.now) (g.E.Edge.view c.report.new.edge) ((g.H.JournalHub.made c.report.new.pass) - (g.H.JournalHub.made c.args.pass.now)) at)
+    (moment-told g.H.JournalHub.options c.in-Over.submitted.receipt (Piece c.pieces.job.ticket) over.at (Moved over.bytes) over.next)
+    (takes-last c.pieces.invariant.moments ((g.H.JournalHub.made c.report.new.pass) - (g.H.JournalHub.made c.args.pass.now)) over.at _ (g.E.Edge.view c.pieces.edge) _
+    c.pieces.invariant.taken over.moment over.taken (omega (arith, over.once, c.pieces.invariant.enough, c.pieces.invariant.kept)))

@@ -9,7 +9,7 @@ invariant-pieces g l =
     Progress (views g.S.Storage.files g.S.Storage.rule g.S.Storage.faults g.S.Storage.fault_limit g.S.Storage.calls
     g.L.Source.left g.L.Source.sending g.L.Source.faults g.L.Source.fault_limit g.L.Source.calls)
     l.fn.job l.next l.job l.fn.storage l.storage l.fn.link l.link (g.E.Edge.view l.fn.edge) (g.E.Edge.view l.edge)
-    l.count l.fn.share.count l.share.count
+    l.count (g.H.JournalHub.made l.fn.pass) (g.H.JournalHub.made l.pass)
 
 abbrev pub decreases-pieces : goal.decreases-pieces
 decreases-pieces g l = 2 ^ 64 - l.next.done

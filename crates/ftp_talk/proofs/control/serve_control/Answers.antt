@@ -72,7 +72,7 @@ returns-in-Err-clause-served g c =
       submitted = submitted;
       decision = opened;
       named = named;
-      outcome = rw c.end_by.ensures (ends-front c.in-Err.failed ground (g.E.Edge.view c.leave.new.edge) (g.D.Desk.view c.leave.new.desk) sent1
+      outcome = rw c.end_by.ensures (ends-front c.from.result ground (g.E.Edge.view c.leave.new.edge) (g.D.Desk.view c.leave.new.desk) sent1
           (c.leave.ensures ground sent1 (refl, refl) cut));
     })
 

@@ -1,4 +1,4 @@
-use Rattle.std.proofs.Common.{◌≡◌, sym, ap, ◌∙◌, ◌≤◌, length, arith}
+use Rattle.std.proofs.Common.{ap, ◌∙◌, length, arith}
 use Rattle.ftp_shared.proofs.CutLemmas.{cut-new}
 use Rattle.ftp_shared.proofs.cut.Cut.new.Goals as goal
 

@@ -1,13 +1,16 @@
-use Rattle.std.proofs.Common.{◌≡◌, sym, ap, ◌∙◌, subst, ◌+◌, ◌≤◌, cond, List, [], ◌∷◌, ◌++◌, length, arith}
+use Rattle.std.proofs.Common.{sym, ap, ◌∙◌, subst, ◌≤◌, cond, List, [], ◌∷◌, ◌++◌, length, arith}
 use Rattle.std.proofs.Math.Logic.{∥∥₁_elim, ∥∥₁_map}
 use Rattle.std.specs.Prelude.{nat_lt}
 use Rattle.ftp_events.specs.declared.entry.Entry.{Entry}
+use Rattle.ftp_events.specs.Log.{past_of}
 use Rattle.ftp_events.specs.Right.{next_entry}
 use Rattle.ftp_hub.specs.Stands.{Stands}
+use Rattle.ftp_hub.specs.Twin.{started_job}
+use Rattle.ftp_options.specs.declared.options.Options.{Options}
 use Rattle.ftp_shared.specs.Cut.{KeepsCut}
 use Rattle.ftp_shared.specs.Outbox.{newest}
 use Rattle.ftp_shared.proofs.CutLemmas.{cut-acted, cut-bounded, cut-right, cut-stands, cut-step, newest-at, told-cut, turn-cut}
-use Rattle.ftp_shared.proofs.KeepsLemmas.{entry-set, turn-whole}
+use Rattle.ftp_shared.proofs.KeepsLemmas.{entry-set, job-set, turn-whole}
 use Rattle.ftp_shared.proofs.cut.Cut.take_step.Goals as goal
 
 -- memory that was taken changes nothing
@@ -97,6 +100,19 @@ returns-clause-due g c log st =
 pub returns-clause-stands : goal.returns-clause-stands
 returns-clause-stands g c log st =
     subst (λ (e : Entry). Stands c.step_twin-kept.new.self (e ∷ log)) (sym c.step_twin-kept.ensures.told) (c.step_twin-kept.ensures.stands log (c.ready_cut.ensures.stands log st))
+
+-- its place is the count
+pub returns-clause-place : goal.returns-clause-place
+returns-clause-place g c = c.events-place.ensures ∙ c.ready_cut.ensures.count
+
+-- the job is the one that starts with it
+pub returns-clause-job : goal.returns-clause-job
+returns-clause-job g c log st =
+    let o = g.L.Serving.options in
+    ∥∥₁_elim c.args.self.now.kept (job-set c.share_of.result (started_job o (past_of log) c.step_twin-kept.result.told)) (λ was.
+    c.share_of.ensures ∙ c.step_twin-kept.ensures.job log (c.ready_cut.ensures.stands log st)
+    ∙ ap (λ (o : Options). started_job o (past_of log) c.step_twin-kept.result.kept) (c.ready_cut.ensures.keeps o was).options
+    ∙ ap (started_job o (past_of log)) (sym c.step_twin-kept.ensures.told))
 
 -- the tail has the entry that is told
 pub returns-clause-tail : goal.returns-clause-tail

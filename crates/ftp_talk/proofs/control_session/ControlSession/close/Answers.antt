@@ -18,4 +18,4 @@ returns-in-Err-clause-ended g c = λ q d rest about s may.
     let asking = asking-plain q c.args.self.now _ _ _ s.turns (kind.Closed c.args.self.now.session) s.speaking (ap Some s.speaking.known.session) (λ f. tt) (λ f. refl) refl refl in
     let halted = c.in-Err.ensures.halted q s.turns AClose about.0 asking in
     let named = subst (λ (n : ℕ). Halted q c.submit_and_reply.new.self (g.E.Edge.view c.submit_and_reply.new.edge) (g.D.Desk.view c.submit_and_reply.new.desk) (g.C.Source.sending c.submit_and_reply.new.control).sent s.turns AClose (kind.Closed n)) s.speaking.known.session halted in
-    rw c.end_by.ensures (ends-front c.in-Err.failed q _ _ _ (front-halted q _ _ _ _ _ _ _ _ d rest s named may))
+    rw c.end_by.ensures (ends-front c.in-Err.halt q _ _ _ (front-halted q _ _ _ _ _ _ _ _ d rest s named may))

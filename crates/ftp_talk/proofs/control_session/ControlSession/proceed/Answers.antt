@@ -1,7 +1,7 @@
 use Rattle.std.proofs.Common.{◌≡◌, ℕ, List, Option, ap, subst, ◌∙◌}
 use Rattle.std.specs.Prelude.{Result, Ok, IfOk, OnErr}
-use Rattle.ftp_base.specs.declared.fault.Failed.{Failed}
-use Rattle.ftp_base.specs.declared.fault.Failed.TheVariants.{Fault, Memory}
+use Rattle.ftp_talk.specs.declared.halt.Halt.{Halt}
+use Rattle.ftp_talk.specs.declared.halt.Halt.TheVariants.{Fault, Memory, Exhausted}
 use Rattle.ftp_base.specs.Edge.{EdgeView}
 use Rattle.ftp_shared.specs.Desk.{DeskView}
 use Rattle.ftp_talk.specs.declared.serving.Next.{Next}
@@ -16,18 +16,19 @@ pub returns-in-Ok-Over-clause-ended : goal.returns-in-Ok-Over-clause-ended
 returns-in-Ok-Over-clause-ended g c = λ q rest about served cut.
     let over = rw c.in-Ok-Over.is at c.in-Ok-Over.field-0-is in
     talk-over q c.args.self.now _ _ _ rest
-    (subst (λ (r : Result Next Failed). IfOk r (λ n. Standing (due_at n) q c.args.self.now (g.E.Edge.view c.args.edge.now) (g.D.Desk.view c.args.desk.now) (g.C.Source.sending c.args.control.now).sent rest))
+    (subst (λ (r : Result Next Halt). IfOk r (λ n. Standing (due_at n) q c.args.self.now (g.E.Edge.view c.args.edge.now) (g.D.Desk.view c.args.desk.now) (g.C.Source.sending c.args.control.now).sent rest))
     (c.in-Ok-Over.is ∙ ap Ok over) served)
 
 -- a talk that was cut short ends as one of which a front was said
-cut-short : (failed : Failed) (end : ServeEnd) (q : Ground) (edge : EdgeView) (desk : DeskView) (sent : Option (List ℕ)) →
-    end ≡ end_by failed → TalkFront q edge desk sent → Outcome end q edge desk sent
+cut-short : (halt : Halt) (end : ServeEnd) (q : Ground) (edge : EdgeView) (desk : DeskView) (sent : Option (List ℕ)) →
+    end ≡ end_by halt → TalkFront q edge desk sent → Outcome end q edge desk sent
 cut-short Fault end q edge desk sent is front = rw is front
 cut-short Memory end q edge desk sent is front = rw is front
+cut-short Exhausted end q edge desk sent is front = rw is front
 
 pub returns-in-Err-clause-ended : goal.returns-in-Err-clause-ended
 returns-in-Err-clause-ended g c = λ q rest about served cut.
     let sent = (g.C.Source.sending c.args.control.now).sent in
-    let short = subst (λ (r : Result Next Failed). OnErr r (IsCut q c.args.self.now (g.E.Edge.view c.args.edge.now) (g.D.Desk.view c.args.desk.now) sent))
+    let short = subst (λ (r : Result Next Halt). OnErr r (IsCut q c.args.self.now (g.E.Edge.view c.args.edge.now) (g.D.Desk.view c.args.desk.now) sent))
     c.in-Err.is cut in
-    cut-short c.in-Err.failed c.end_by.result q _ _ sent c.end_by.ensures (c.leave.ensures q sent about short)
+    cut-short c.in-Err.halt c.end_by.result q _ _ sent c.end_by.ensures (c.leave.ensures q sent about short)

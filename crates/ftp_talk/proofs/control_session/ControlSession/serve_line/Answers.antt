@@ -19,6 +19,7 @@ returns-in_default g c =
       cut = on_err-then c.serve_command.result (λ f q rest about answers s is_line. f q c.args.line.now rest about s is_line same) c.serve_command.ensures.cut;
       left = c.serve_command.ensures.left;
       fault_rose = c.serve_command.ensures.fault_rose;
+      exhausted = c.serve_command.ensures.exhausted;
       count = c.serve_command.ensures.count;
     }
 
@@ -30,6 +31,7 @@ returns-in-Err-Utf8 g c =
       cut = on_err-then c.serve_refusal.result (λ f q rest about answers s is_line. f q c.args.line.now rest about s is_line same) c.serve_refusal.ensures.cut;
       left = c.serve_refusal.ensures.left;
       fault_rose = c.serve_refusal.ensures.fault_rose;
+      exhausted = c.serve_refusal.ensures.exhausted;
       count = c.serve_refusal.ensures.count;
     }
 
@@ -41,6 +43,7 @@ returns-in-Err-InvalidEol g c =
       cut = on_err-then c.serve_refusal-in-Err-InvalidEol.result (λ f q rest about answers s is_line. f q c.args.line.now rest about s is_line same) c.serve_refusal-in-Err-InvalidEol.ensures.cut;
       left = c.serve_refusal-in-Err-InvalidEol.ensures.left;
       fault_rose = c.serve_refusal-in-Err-InvalidEol.ensures.fault_rose;
+      exhausted = c.serve_refusal-in-Err-InvalidEol.ensures.exhausted;
       count = c.serve_refusal-in-Err-InvalidEol.ensures.count;
     }
 
@@ -52,5 +55,6 @@ returns-in-Err-InvalidCommand g c =
       cut = on_err-then c.serve_refusal-in-Err-InvalidCommand.result (λ f q rest about answers s is_line. f q c.args.line.now rest about s is_line same) c.serve_refusal-in-Err-InvalidCommand.ensures.cut;
       left = c.serve_refusal-in-Err-InvalidCommand.ensures.left;
       fault_rose = c.serve_refusal-in-Err-InvalidCommand.ensures.fault_rose;
+      exhausted = c.serve_refusal-in-Err-InvalidCommand.ensures.exhausted;
       count = c.serve_refusal-in-Err-InvalidCommand.ensures.count;
     }

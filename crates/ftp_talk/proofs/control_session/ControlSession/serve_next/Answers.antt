@@ -5,7 +5,7 @@ use Rattle.ftp_lines.specs.ControlLine.{held_in}
 use Rattle.ftp_talk.specs.Turns.{LineDue}
 use Rattle.ftp_talk.proofs.ServeLemmas.{cut-standing, same_edge, same_desk, if_ok-then, on_err-then}
 use Rattle.ftp_talk.proofs.EndLemmas.{standing-line, standing-long, standing-out, talking-sent, talking-on}
-use Rattle.ftp_talk.proofs.ResultLemmas.{waits_so, if_none-then, if_some-then, risen-either}
+use Rattle.ftp_talk.proofs.ResultLemmas.{waits_so, if_none-then, if_some-then, risen-either, said-either}
 use Rattle.ftp_talk.proofs.control_session.ControlSession.serve_next.Goals as goal
 
 pub returns-in-Ok-Line-clause-goes_on : goal.returns-in-Ok-Line-clause-goes_on
@@ -40,6 +40,9 @@ pub returns-in-Ok-Line-clause-write_fault : goal.returns-in-Ok-Line-clause-write
 returns-in-Ok-Line-clause-write_fault g c = λ e.
     risen-either _ _ _ _ c.serve_line-next.ensures.fault_rose (c.proceed.ensures.write_fault e) c.next_control_line.ensures.count c.serve_line-next.ensures.count c.proceed.ensures.count
 
+pub returns-in-Ok-Line-clause-exhausted : goal.returns-in-Ok-Line-clause-exhausted
+returns-in-Ok-Line-clause-exhausted g c = λ e. said-either c.serve_line-next.ensures.exhausted (c.proceed.ensures.exhausted e)
+
 pub returns-in-Ok-Wait-clause-goes_on : goal.returns-in-Ok-Wait-clause-goes_on
 returns-in-Ok-Wait-clause-goes_on g c =
     if_none-then c.proceed-in-Ok-Wait.result (λ h q is t0.
@@ -72,6 +75,9 @@ pub returns-in-Ok-Wait-clause-write_fault : goal.returns-in-Ok-Wait-clause-write
 returns-in-Ok-Wait-clause-write_fault g c = λ e.
     risen-either _ _ _ _ c.tick-next.ensures.fault_rose (c.proceed-in-Ok-Wait.ensures.write_fault e) c.next_control_line.ensures.count c.tick-next.ensures.count c.proceed-in-Ok-Wait.ensures.count
 
+pub returns-in-Ok-Wait-clause-exhausted : goal.returns-in-Ok-Wait-clause-exhausted
+returns-in-Ok-Wait-clause-exhausted g c = λ e. said-either c.tick-next.ensures.exhausted (c.proceed-in-Ok-Wait.ensures.exhausted e)
+
 pub returns-in-Ok-Long-clause-goes_on : goal.returns-in-Ok-Long-clause-goes_on
 returns-in-Ok-Long-clause-goes_on g c =
     if_none-then c.proceed-in-Ok-Long.result (λ h q is t0.
@@ -101,6 +107,9 @@ returns-in-Ok-Long-clause-ended g c =
 pub returns-in-Ok-Long-clause-write_fault : goal.returns-in-Ok-Long-clause-write_fault
 returns-in-Ok-Long-clause-write_fault g c = λ e.
     risen-either _ _ _ _ c.serve_long-next.ensures.fault_rose (c.proceed-in-Ok-Long.ensures.write_fault e) c.next_control_line.ensures.count c.serve_long-next.ensures.count c.proceed-in-Ok-Long.ensures.count
+
+pub returns-in-Ok-Long-clause-exhausted : goal.returns-in-Ok-Long-clause-exhausted
+returns-in-Ok-Long-clause-exhausted g c = λ e. said-either c.serve_long-next.ensures.exhausted (c.proceed-in-Ok-Long.ensures.exhausted e)
 
 pub returns-in-Ok-End-clause-ended : goal.returns-in-Ok-End-clause-ended
 returns-in-Ok-End-clause-ended g c = λ q is t0.

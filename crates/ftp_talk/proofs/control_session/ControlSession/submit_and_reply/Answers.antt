@@ -7,17 +7,17 @@ use Rattle.ftp_talk.specs.Ground.{history}
 use Rattle.ftp_talk.proofs.TalkLemmas.{spoken-is, front-after, front-before, risen-on}
 use Rattle.ftp_talk.proofs.control_session.ControlSession.submit_and_reply.Goals as goal
 
-pub returns-in_default-clause-halted : goal.returns-in_default-clause-halted
-returns-in_default-clause-halted g c = λ q ts step same a.
+pub returns-in-Err-clause-halted : goal.returns-in-Err-clause-halted
+returns-in-Err-clause-halted g c = λ q ts step same a.
     inl (
       front-before q c.args.self.now (g.E.Edge.view c.args.edge.now) (g.E.Edge.view c.submit.new.edge)
           (g.D.Desk.view c.args.desk.now) (g.D.Desk.view c.submit.new.desk) (g.C.Source.sending c.args.control.now).sent ts c.args.kind
-          a c.submit.ensures.taken.count c.submit.ensures.unpaused c.in_default.ensures.refused,
-      risen-on _ _ _ a.refused c.in_default.ensures.refused_rose c.in_default.ensures.refused.refused,
+          a c.submit.ensures.taken.count c.submit.ensures.unpaused c.in-Err.ensures.refused,
+      risen-on _ _ _ a.refused c.in-Err.ensures.refused_rose c.in-Err.ensures.refused.refused,
     )
 
-pub returns-in_default-learn-clause-halted : goal.returns-in_default-learn-clause-halted
-returns-in_default-learn-clause-halted g c = λ q ts step same a.
+pub returns-in_default-clause-halted : goal.returns-in_default-clause-halted
+returns-in_default-clause-halted g c = λ q ts step same a.
     let e = c.in-Ok.told.entry in
     let n = c.in-Ok.ensures.entered in
     inr (record {
@@ -66,5 +66,5 @@ returns-clause-halted g c = λ q ts step same a.
       front = front-after q g.D.Desk.vouches c.args.self.now _ (g.E.Edge.view c.args.edge.now) (g.E.Edge.view c.submit.new.edge) (g.E.Edge.view c.say.new.edge)
           (g.D.Desk.view c.args.desk.now) (g.D.Desk.view c.submit.new.desk) (g.C.Source.sending c.args.control.now).sent (g.C.Source.sending c.say.new.link).sent
           ts step c.in-Ok.told.earlier e c.args.kind a same n c.say.ensures.edge.count c.learn.ensures.session c.learn.ensures.over
-          (subst (λ (s : ℕ). SaysFront (g.C.Source.sending c.args.control.now).sent (g.C.Source.sending c.say.new.link).sent (g.E.Edge.view c.submit.new.edge).paused (g.E.Edge.view c.say.new.edge).paused [] (said s c.in-Ok.told.earlier e.actions)) session (rw (c.as_slice.ensures, c.as_slice-2.ensures) at c.in-Err.ensures.front));
+          (subst (λ (s : ℕ). SaysFront (g.C.Source.sending c.args.control.now).sent (g.C.Source.sending c.say.new.link).sent (g.E.Edge.view c.submit.new.edge).paused (g.E.Edge.view c.say.new.edge).paused [] (said s c.in-Ok.told.earlier e.actions)) session (rw (c.as_slice.ensures, c.as_slice-2.ensures) at c.in-Err-say.ensures.front));
     })

@@ -1,9 +1,9 @@
 use denote.Param.Send.{param_send}
-use Rattle.ftp_listen.proofs.single.fn.serve_inside.join+arg3.Goals as goal
+use Rattle.ftp_listen.proofs.single.fn.serve_over.join+arg3.Goals as goal
 
 -- what the closure requires of the types of its server is what the call does
-pub spawn_on-requires-send-L : goal.spawn_on-requires-send-L
-spawn_on-requires-send-L g c κs within = param_send 1 _ c.requires.1.1.1.1.1.1.1.1.1.1.1.1.0
+pub spawn_on-requires-send-H : goal.spawn_on-requires-send-H
+spawn_on-requires-send-H g c κs within = param_send 1 _ c.requires.1.1.1.1.1.1.1.1.1.1.1.1.1.0
 
 pub spawn_on-requires-send-A : goal.spawn_on-requires-send-A
 spawn_on-requires-send-A g c κs within = param_send 2 _ c.requires.1.1.1.1.1.1.1.1.1.1.1.1.2

@@ -1,0 +1,170 @@
+//! The hub that threads share, where its journal is a checkpoint and a tail.
+
+ghost use Rattle.std.specs.Prelude.{◌≡◌, ◌≤◌, IfOk, IfErr, Some, false, true};
+ghost use Rattle.ftp_events.specs.declared.event.Answer.TheVariants as answer;
+ghost use Rattle.ftp_events.specs.EndRows.{can_end, can_move};
+ghost use Rattle.ftp_shared.specs.Jobs.{behind};
+ghost use Rattle.ftp_shared.specs.Next.{IsNextAt, IsPieceAt, IsTurnAt, end_of, is_moved, piece_of};
+ghost use Rattle.ftp_shared.specs.Outbox.{has_ticket};
+
+use crate::append_error::AppendError;
+use crate::cut::Cut;
+use crate::locked::Serving;
+use crate::receipt::{FinishError, JobShare, Receipt, Submitted, Turn};
+use ftp_events::{Answer, EventKind, HubEvent};
+use ftp_feed::JournalFeed;
+use ftp_options::Options;
+use ftp_transfer::Outcome;
+use std::alloc::Global;
+use std::sync::atomic::{AtomicU64, Ordering};
+use std::sync::{Arc, Mutex, Wait};
+
+/// A hub behind a lock, with the entries since its checkpoint, the numbers that were drawn for it, and who is told its
+/// entries. Nobody holds a share of it, and its journal is not given out.
+#[derive(Drop)]
+pub struct CutHub<L: Serving> {
+    lock: Mutex<Cut<L>>,
+    drawn: AtomicU64,
+    feed: Option<Arc<JournalFeed, Global>>,
+}
+
+impl<L: Serving> CutHub<L> {
+    /// A hub to which nothing has happened, whose tail has so many entries at most. It takes no memory.
+    pub fn new(alloc: Global, options: Options, every: u64) -> CutHub<L>
+        requires options { options ≡ L.options }
+        requires some { 1 ≤ every }
+    {
+        CutHub {
+            lock: Mutex::new(Cut::new(alloc, options, every)),
+            drawn: AtomicU64::new(0),
+            feed: None,
+        }
+    }
+
+    /// Has each entry told to a feed too, once the lock is free. It is called before the first event.
+    pub fn feed_to(&mut self, feed: Arc<JournalFeed, Global>) {
+        self.feed = Some(feed);
+    }
+
+    /// Tells the feed how many entries there are: no later one is given there.
+    pub fn end_feed<R: Wait>(&self, rt: &R) {
+        if let Some(feed) = &self.feed {
+            let count = self.lock.lock(rt).events();
+            feed.end_at(rt, count);
+        }
+    }
+
+    // Tells the feed an entry.
+    fn tell<R: Wait>(&self, rt: &R, receipt: &Receipt) {
+        if let Some(feed) = &self.feed {
+            feed.put(rt, receipt.place, &receipt.entry);
+        }
+    }
+
+    /// How many entries the tail has: so many at most as the hub was made with (`bounded` of `Cut::tail`).
+    pub fn tail<R: Wait>(&self, rt: &R) -> u64 {
+        self.lock.lock(rt).tail()
+    }
+
+    /// Adds the entry of this event.
+    ///
+    /// # Proved
+    ///
+    /// - Above the lock the entry is the next one of a right and acted journal, at its place; the replies before it are
+    ///   the last that this journal sends (`next`; also `CutHub::finish`: `next`; `CutHub::piece`: `next`;
+    ///   `CutHub::submit_for`: `next`).
+    pub fn submit<R: Wait>(
+        &self,
+        rt: &R,
+        _pass: &mut (),
+        event: HubEvent,
+        answer: Answer,
+    ) -> Result<Submitted, AppendError>
+        requires { has_ticket event.kind ≡ false }
+        ensures next { IfOk result (λ s. IsNextAt L.options s.receipt event answer) }
+    {
+        let submitted = self.lock.lock(rt).append(event, answer)?;
+        self.tell(rt, &submitted.receipt);
+        Ok(submitted)
+    }
+
+    /// Adds the entry of this event, and hands the session that it names what it was sent before, also where that has left
+    /// the tail.
+    pub fn submit_for<R: Wait>(
+        &self,
+        rt: &R,
+        _pass: &mut (),
+        event: HubEvent,
+        answer: Answer,
+    ) -> Result<Turn, AppendError>
+        requires { has_ticket event.kind ≡ false }
+        ensures next { IfOk result (λ t. IsTurnAt L.options t event answer) }
+    {
+        let turn = self.lock.lock(rt).append_for(event, answer)?;
+        self.tell(rt, &turn.submitted.receipt);
+        Ok(turn)
+    }
+
+    /// Adds a piece of a job, of so many bytes, which moved before, as `SharedHub::piece` does.
+    pub fn piece<R: Wait>(
+        &self,
+        rt: &R,
+        _pass: &mut (),
+        job: JobShare,
+        at: u64,
+        bytes: u64,
+    ) -> Result<Submitted, FinishError>
+        requires { can_move job bytes ≡ true }
+        ensures next { IfOk result (λ s. IsNextAt L.options s.receipt (piece_of job at) (answer.Moved bytes)) }
+        ensures job { IfOk result (λ s. IsPieceAt L.options s job at bytes) }
+        ensures back { IfOk result (λ s. is_moved s.receipt.entry.decision ≡ true → s.job ≡ Some (behind job bytes)) }
+        ensures given_back { IfErr result (λ e. e.job ≡ job) }
+    {
+        let submitted = self.lock.lock(rt).append_piece(job, at, bytes)?;
+        self.tell(rt, &submitted.receipt);
+        Ok(submitted)
+    }
+
+    /// Adds the end of a job, and takes its share; an error gives that back.
+    ///
+    /// # Proved
+    ///
+    /// - A job of which nothing can be told comes back (`given_back`; also `CutHub::piece`: `given_back`).
+    pub fn finish<R: Wait>(
+        &self,
+        rt: &R,
+        _pass: &mut (),
+        job: JobShare,
+        at: u64,
+        outcome: Outcome,
+    ) -> Result<Submitted, FinishError>
+        requires { can_end job outcome ≡ true }
+        ensures next { IfOk result (λ s. IsNextAt L.options s.receipt (end_of job at) (answer.Done outcome)) }
+        ensures given_back { IfErr result (λ e. e.job ≡ job) }
+    {
+        let event = HubEvent {
+            at,
+            kind: EventKind::End {
+                ticket: job.ticket(),
+            },
+        };
+        let appended = self.lock.lock(rt).append(event, Answer::Done(outcome));
+        match appended {
+            Ok(submitted) => {
+                self.tell(rt, &submitted.receipt);
+                Ok(submitted)
+            }
+            Err(cause) => Err(FinishError { job, cause }),
+        }
+    }
+
+    /// Says whether no job runs and no session is live.
+    pub fn drained<R: Wait>(&self, rt: &R) -> bool {
+        self.lock.lock(rt).drained()
+    }
+
+    /// The number after the last that was drawn, from 1; 0 comes after the last number of all.
+    pub fn draw(&self) -> u64 {
+        self.drawn.fetch_add(1, Ordering::SeqCst).wrapping_add(1)
+    }
+}
