@@ -5,7 +5,7 @@ use Rattle.std.proofs.lemmas.Bool.{lt-ltb, ltb-true}
 use Rattle.ftp_base.specs.Outside.{Writes}
 use Rattle.ftp_base.specs.declared.fault.Failed.{Failed}
 use Rattle.ftp_base.specs.declared.fault.Failed.TheVariants.{Fault, Memory}
-use Rattle.ftp_lines.specs.Writing.{WritesFront}
+use Rattle.ftp_control.specs.Writing.{WritesFront}
 use Rattle.ftp_text.proofs.Exact.{some_is}
 use Rattle.ftp_check_log.specs.declared.explanation.Explanation.{Explanation}
 use Rattle.ftp_check_log.specs.declared.explanation.Explanation.TheVariants as explanation

@@ -9,7 +9,7 @@ use Rattle.ftp_options.specs.declared.options.Options.{Options}
 use Rattle.ftp_events.specs.declared.action.Action.{Action}
 use Rattle.ftp_events.specs.declared.decision.Decision.{Decision}
 use Rattle.ftp_events.specs.declared.entry.Entry.{Entry}
-use Rattle.ftp_lines.specs.Lines.{is_line_feed, first_line}
+use Rattle.ftp_control.specs.Lines.{is_line_feed, first_line}
 use Rattle.ftp_text.proofs.Exact.{run_length}
 use Rattle.ftp_event_text.specs.declared.setup.Item.{Item}
 use Rattle.ftp_event_text.specs.Printing.{line}

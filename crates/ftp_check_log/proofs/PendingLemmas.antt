@@ -5,9 +5,9 @@ use Rattle.std.specs.Prelude.{IfSome}
 use Rattle.std.proofs.lemmas.Bool.{cases_lt}
 use Rattle.std.proofs.lemmas.List.{length-append, take-append-drop}
 use Rattle.ftp_base.specs.Outside.{ReadsFront}
-use Rattle.ftp_lines.specs.Lines.{is_line_feed, Rest}
-use Rattle.ftp_lines.proofs.ControlLineLemmas.{position_or_len-le}
-use Rattle.ftp_lines.proofs.LineLemmas.{pos_found, pos_none}
+use Rattle.ftp_control.specs.Lines.{is_line_feed, Rest}
+use Rattle.ftp_control.proofs.ControlLineLemmas.{position_or_len-le}
+use Rattle.ftp_control.proofs.LineLemmas.{pos_found, pos_none}
 use Rattle.ftp_check_log.specs.Pending.{HasFeed, ShowsLine}
 
 -- a line feed among the last bytes is one among all

@@ -5,9 +5,9 @@ use Rattle.std.specs.Prelude.{IfNone, IfSome, IfOk, Result, Ok, Err}
 use Rattle.std.proofs.lemmas.Bool.{cases_lt}
 use Rattle.std.proofs.lemmas.Grind.{flat_map-append}
 use Rattle.std.proofs.lemmas.List.{append-nil, append_cancel_left, drop_at, length-append, length-take, take-append-le}
-use Rattle.ftp_lines.specs.Lines.{is_line_feed, first_line, Rest}
-use Rattle.ftp_lines.proofs.ControlLineLemmas.{position_or_len-le}
-use Rattle.ftp_lines.proofs.LineLemmas.{pos_found, pos_none}
+use Rattle.ftp_control.specs.Lines.{is_line_feed, first_line, Rest}
+use Rattle.ftp_control.proofs.ControlLineLemmas.{position_or_len-le}
+use Rattle.ftp_control.proofs.LineLemmas.{pos_found, pos_none}
 use Rattle.ftp_text.proofs.Exact.{some_is}
 use Rattle.ftp_event_text.specs.Printing.{line}
 use Rattle.ftp_log_text.specs.declared.line.LogLine.{LogLine}

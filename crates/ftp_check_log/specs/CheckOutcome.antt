@@ -1,7 +1,7 @@
 -- What a log is and what was written, by the status of a check.
 use Rattle.std.specs.Prelude.{◌≡◌, ℕ, ◌⊎◌, List, [], Option, codes}
 use Rattle.ftp_base.specs.Outside.{Writes}
-use Rattle.ftp_lines.specs.Writing.{WritesFront}
+use Rattle.ftp_control.specs.Writing.{WritesFront}
 use Rattle.ftp_event_text.specs.Printing.{line}
 use Rattle.ftp_check_log.specs.declared.evidence.Evidence.{Evidence}
 use Rattle.ftp_check_log.specs.declared.explanation.Explanation.{Explanation}

@@ -1,7 +1,7 @@
 -- What was read of a source and is not taken yet.
 use Rattle.std.specs.Prelude.{◌≡◌, ℕ, ◌<◌, ◌≤◌, ◌⊎◌, List, [], length, drop, Option, Some}
 use Rattle.std.specs.List.{position_or_len}
-use Rattle.ftp_lines.specs.Lines.{is_line_feed}
+use Rattle.ftp_control.specs.Lines.{is_line_feed}
 use Rattle.ftp_check_log.specs.declared.pending.Pending.{Pending}
 
 -- no more was taken than was read

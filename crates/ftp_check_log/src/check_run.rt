@@ -15,7 +15,7 @@ use crate::status::CheckStatus;
 use crate::telling::{CHECK_HELP, CHECK_VERSION, tell, tell_explanation};
 use crate::{check, explain};
 use ftp_base::{Failed, Sink, Source};
-use ftp_lines::write_all;
+use ftp_control::write_all;
 use std::alloc::Global;
 
 /// Does what the words ask for: checks the printed log that the source gives, entry by entry, and writes what that comes

@@ -3,7 +3,7 @@
 ghost use Rattle.std.specs.Prelude.{◌≡◌, ◌-◌, ◌≤◌, ◌++◌, ◌↔◌, [], length, drop, IsTrue, OnOk, IfSome, IsErrOf};
 ghost use Rattle.ftp_base.specs.declared.fault.Failed.TheVariants.{Fault};
 ghost use Rattle.ftp_base.specs.Outside.{HasRisen};
-ghost use Rattle.ftp_lines.specs.Lines.{Rest};
+ghost use Rattle.ftp_control.specs.Lines.{Rest};
 ghost use Rattle.ftp_check_log.specs.Pending.{unread, IsInBounds, HasFeed, ShowsLine};
 
 use ftp_base::{Failed, Source};

@@ -3,14 +3,14 @@
 ghost use Rattle.std.specs.Prelude.{◌≡◌, ◌≤◌, ◌++◌, OnOk, OnErr, IsErrOf};
 ghost use Rattle.ftp_base.specs.declared.fault.Failed.TheVariants.{Fault};
 ghost use Rattle.ftp_base.specs.Outside.{HasRisen, Writes};
-ghost use Rattle.ftp_lines.specs.Writing.{WritesFront};
+ghost use Rattle.ftp_control.specs.Writing.{WritesFront};
 ghost use Rattle.ftp_check_log.specs.VerdictLines.{number_line, due_line, verdict_text, explanation_text};
 
 use crate::{Explanation, Verdict, put_evidence};
 use ftp_base::{Failed, Sink};
+use ftp_control::write_all;
 use ftp_event_text::decision_text;
 use ftp_events::Decision;
-use ftp_lines::write_all;
 use ftp_text::writing::{put, put_byte, put_field, put_number};
 use std::alloc::{AllocError, Global};
 

@@ -10,8 +10,8 @@ use Rattle.std.proofs.lemmas.List.{append-nil}
 use Rattle.ftp_base.specs.declared.net.IpAddr.{IpAddr}
 use Rattle.ftp_options.specs.declared.lockout.FailedLoginsBlock.{FailedLoginsBlock}
 use Rattle.ftp_options.specs.declared.lockout.FailedLoginsBlock.TheVariants.{UserAndIP, IP, User}
-use Rattle.ftp_numbers.specs.declared.numbers.Interval.{Interval}
-use Rattle.ftp_numbers.specs.Used.{IsApart}
+use Rattle.ftp_switchboard.specs.declared.numbers.Interval.{Interval}
+use Rattle.ftp_switchboard.specs.Used.{IsApart}
 use Rattle.ftp_lockout.specs.Keys.{key_cmp}
 use Rattle.ftp_laws.specs.Census.{IsAscending}
 use Rattle.ftp_hub.specs.declared.state.HubState.{HubState}

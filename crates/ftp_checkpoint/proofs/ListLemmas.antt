@@ -14,8 +14,8 @@ use Rattle.ftp_options.specs.declared.lockout.FailedLoginsBlock.TheVariants.{Use
 use Rattle.ftp_lockout.specs.declared.key.LoginKey.{LoginKey}
 use Rattle.ftp_lockout.specs.Keys.{key_cmp}
 use Rattle.ftp_lockout.proofs.Records.{keys_total}
-use Rattle.ftp_numbers.specs.declared.numbers.Interval.{Interval}
-use Rattle.ftp_numbers.specs.Used.{no_interval, lo_at, hi_at, IsApart}
+use Rattle.ftp_switchboard.specs.declared.numbers.Interval.{Interval}
+use Rattle.ftp_switchboard.specs.Used.{no_interval, lo_at, hi_at, IsApart}
 use Rattle.ftp_laws.specs.Census.{IsAscending}
 use Rattle.ftp_hub.specs.declared.state.JobLine.{JobLine}
 use Rattle.ftp_hub.specs.declared.state.QueuedLine.{QueuedLine}

@@ -6,7 +6,7 @@ use Rattle.std.proofs.lemmas.List.Folds.{flat_map-map}
 use Rattle.std.proofs.lemmas.Bool.{eqb-true, ltb-true}
 use Rattle.std.proofs.lemmas.Bool.Decides.{nat_tests}
 use Rattle.std.proofs.lemmas.List.{append-nil}
-use Rattle.ftp_numbers.specs.declared.numbers.Interval.{Interval}
+use Rattle.ftp_switchboard.specs.declared.numbers.Interval.{Interval}
 use Rattle.ftp_hub.specs.declared.state.HubState.{HubState}
 use Rattle.ftp_hub.specs.declared.state.JobLine.{JobLine}
 use Rattle.ftp_hub.specs.declared.state.QueuedLine.{QueuedLine}

@@ -7,7 +7,7 @@ use Rattle.std.specs.Prelude.{◌≡◌, ℕ, ◌+◌, nat_lt, ◌==◌, ◌&&�
 use Rattle.std.specs.List.{AllByRecursion}
 use Rattle.std.specs.declared.cmp.Ordering.{Ordering}
 use Rattle.std.specs.declared.cmp.Ordering.TheVariants as order
-use Rattle.ftp_numbers.specs.declared.numbers.Interval.{Interval}
+use Rattle.ftp_switchboard.specs.declared.numbers.Interval.{Interval}
 use Rattle.ftp_lockout.specs.Keys.{key_cmp}
 use Rattle.ftp_hub.specs.declared.state.HubState.{HubState}
 use Rattle.ftp_hub.specs.declared.state.RecordLine.{RecordLine}

@@ -12,7 +12,7 @@ ghost use Rattle.ftp_checkpoint.specs.StateText.{IsFirstBadStateLine, IsOfText, 
 
 use crate::line::{StateLine, read_state_line};
 use ftp_hub::{HubState, JobLine, QueuedLine, RecordLine, Rows, SessionLine, SlotLine, StateError};
-use ftp_numbers::Interval;
+use ftp_switchboard::Interval;
 use ftp_text::LineFault;
 use memchr::memchr;
 use std::alloc::{AllocError, Global};

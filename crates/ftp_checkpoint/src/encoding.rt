@@ -14,7 +14,7 @@ use crate::writing::{
 };
 use ftp_base::Bytes;
 use ftp_hub::{HubState, JobLine, QueuedLine, RecordLine, SessionLine, SlotLine};
-use ftp_numbers::Interval;
+use ftp_switchboard::Interval;
 use std::alloc::{AllocError, Global};
 
 /// The text of a state.

@@ -11,7 +11,7 @@ ghost use Rattle.ftp_checkpoint.specs.Grammar.{is_first_line, used_follows, prec
 use crate::line::StateLine;
 use ftp_base::{Bytes, IpAddr};
 use ftp_hub::RecordLine;
-use ftp_numbers::Interval;
+use ftp_switchboard::Interval;
 use std::cmp::Ordering;
 
 impl StateLine {

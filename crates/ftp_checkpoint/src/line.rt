@@ -11,7 +11,7 @@ use crate::piece::{bit, cut_at, cut_off, is_from_root};
 use crate::word::{CommandWord, LineWord, SlotWord, find_line_word, login_state};
 use ftp_base::{Bytes, IpAddr, SocketAddr};
 use ftp_hub::{JobLine, LoginState, QueuedLine, RecordLine, SessionLine, SlotKind, SlotLine};
-use ftp_numbers::Interval;
+use ftp_switchboard::Interval;
 use ftp_text::LineFault;
 use ftp_text::field::{
     address, first_word, ip, literal, number, optional_ip, optional_number, port, small,

@@ -10,7 +10,7 @@ use crate::piece::{put_bit, put_length};
 use crate::word::{CommandWord, SlotWord, login_state_text};
 use ftp_base::{Bytes, DataChanCmd};
 use ftp_hub::{JobLine, QueuedLine, RecordLine, SessionLine, SlotKind, SlotLine};
-use ftp_numbers::Interval;
+use ftp_switchboard::Interval;
 use ftp_text::Word;
 use ftp_text::writing::{
     put, put_address, put_byte, put_field, put_ip_field, put_number, put_optional_ip, put_text,

@@ -4,8 +4,8 @@ use Rattle.std.specs.Fs.{metadata_mode}
 use Rattle.std.specs.Int.{bit_at}
 use Rattle.std.specs.List.{zip}
 use Rattle.ftp_base.specs.declared.storage.Looks.{Looks}
-use Rattle.ftp_dates.specs.declared.date.Date.{Date}
-use Rattle.ftp_dates.specs.Moment.{IsDateAt, moment_of, list_date, time_val}
+use Rattle.ftp_places.specs.declared.date.Date.{Date}
+use Rattle.ftp_places.specs.Moment.{IsDateAt, moment_of, list_date, time_val}
 use Rattle.ftp_disk.specs.FileSystem.{Answer}
 
 -- who may do what by a mode: the letter of each right whose bit is set

@@ -2,11 +2,11 @@
 
 ghost use Rattle.std.specs.Prelude.{◌≡◌, ◌<◌, ◌==◌, if◌then◌else◌};
 ghost use Rattle.std.specs.Int.{bit_at};
-ghost use Rattle.ftp_dates.specs.Moment.{moment_of};
+ghost use Rattle.ftp_places.specs.Moment.{moment_of};
 ghost use Rattle.ftp_disk.specs.Looks.{AreLooks, ShowsLooks, rights_text};
 
 use ftp_base::Looks;
-use ftp_dates::{date_at, list_date, moment_of, time_val};
+use ftp_places::{date_at, list_date, moment_of, time_val};
 use std::fs::Metadata;
 use std::io;
 use std::os::unix::fs::MetadataExt;

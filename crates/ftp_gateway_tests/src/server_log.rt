@@ -1,7 +1,8 @@
 //! A visit and its lines: a login that fails, one that is let in, an upload, and the end of the session.
 
 use ftp_base::{
-    AuthAnswer, Bytes, DataChanCmd, DataEvent, EventMeta, IpAddr, Notice, PresenceEvent, SocketAddr, TraceId,
+    AuthAnswer, Bytes, DataChanCmd, DataEvent, EventMeta, IpAddr, Notice, PresenceEvent,
+    SocketAddr, TraceId,
 };
 use ftp_events::{Action, Actions, Answer, Decision, Entry, EventKind, HubEvent, Log};
 use ftp_server_log::{LogForm, log_text};
@@ -85,14 +86,35 @@ fn visit(alloc: Global) -> Result<Log, Fail> {
         local: raw,
         trace: 1,
     };
-    add(&mut log, 0, connect, Answer::None, Decision::Opened, none(alloc))?;
+    add(
+        &mut log,
+        0,
+        connect,
+        Answer::None,
+        Decision::Opened,
+        none(alloc),
+    )?;
     let failed = Decision::LoginFailed {
         lock: None,
         delay: 0,
     };
-    login(alloc, &mut log, 10, AuthAnswer::Refused, failed, none(alloc))?;
+    login(
+        alloc,
+        &mut log,
+        10,
+        AuthAnswer::Refused,
+        failed,
+        none(alloc),
+    )?;
     let came = told(alloc, Notice::Presence(PresenceEvent::LoggedIn))?;
-    login(alloc, &mut log, 30, AuthAnswer::Good, Decision::LoggedIn, came)?;
+    login(
+        alloc,
+        &mut log,
+        30,
+        AuthAnswer::Good,
+        Decision::LoggedIn,
+        came,
+    )?;
     let path = text(alloc, b"a b")?;
     let stor = EventKind::Transfer {
         session: 7,
@@ -132,8 +154,7 @@ fn a_visit_has_its_lines_in_both_forms(rt: HostRuntime) -> Result<(), Fail> {
         2026-11-28T13:57:01.040Z 7 192.0.2.5 ann login 0 0 ok -\n\
         2026-11-28T13:57:02.250Z 7 192.0.2.5 ann STOR 5 250 ok /a\\x20b\n\
         2026-11-28T13:57:03.000Z 7 192.0.2.5 ann end 0 0 closed -\n";
-    let xferlog: &[u8] =
-        b"Sat Nov 28 13:57:02 2026 0 192.0.2.5 5 /a_b b _ i r ann ftp 0 * c\n";
+    let xferlog: &[u8] = b"Sat Nov 28 13:57:02 2026 0 192.0.2.5 5 /a_b b _ i r ann ftp 0 * c\n";
     for (form, lines) in [(LogForm::Own, own), (LogForm::Xferlog, xferlog)] {
         let found = log_text(rt.alloc(), form, START, &log)?;
         assert_eq!(rt; found.as_slice(), lines);

@@ -28,7 +28,7 @@ pub use Rattle.ftp_hub.specs.Stands.{Serves, Stands, Tables, entry, options_of}
 pub use Rattle.ftp_hub.specs.declared.hub.Hub.{Hub}
 pub use Rattle.ftp_laws.proofs.TableLemmas.{same-both}
 pub use Rattle.ftp_lockout.specs.declared.key.LoginKey.{LoginKey}
-pub use Rattle.ftp_numbers.specs.Used.{has}
+pub use Rattle.ftp_switchboard.specs.Used.{has}
 pub use Rattle.ftp_options.specs.Modes.{is_legacy}
 pub use Rattle.ftp_options.specs.declared.options.Options.{Options}
 pub use Rattle.ftp_switchboard.specs.Board.{holder_at}

@@ -15,7 +15,7 @@ use Rattle.ftp_lockout.specs.declared.cache.Failures.{Failures}
 use Rattle.ftp_lockout.specs.declared.key.LoginKey.{LoginKey}
 use Rattle.ftp_lockout.specs.Keys.{key_at}
 use Rattle.ftp_lockout.proofs.KeyLemmas.{here-recorded, there-recorded}
-use Rattle.ftp_numbers.specs.Used.{is_used as is_in_lines}
+use Rattle.ftp_switchboard.specs.Used.{is_used as is_in_lines}
 use Rattle.ftp_events.specs.declared.action.Action.{Action}
 use Rattle.ftp_events.specs.declared.action.Action.TheVariants as action
 use Rattle.ftp_events.specs.declared.session.Login.{Login}

@@ -7,7 +7,7 @@ use Rattle.ftp_laws.proofs.BalanceLemmas.{is_finished}
 use Rattle.ftp_hub.proofs.Decisions.{at-key, jobs-idle, jobs-started, lane-idle, put-back, running-started}
 use Rattle.ftp_events.specs.Words.{is_number}
 use Rattle.ftp_lockout.specs.Failures.{Table}
-use Rattle.ftp_numbers.specs.Used.{Used}
+use Rattle.ftp_switchboard.specs.Used.{Used}
 use Rattle.ftp_switchboard.specs.Board.{Board}
 use Rattle.ftp_hub.proofs.Failures.{FailuresMoved}
 use Rattle.ftp_hub.proofs.Refusals.{tables-same}

@@ -6,7 +6,7 @@ use Rattle.std.specs.Option.{option_and_then}
 use Rattle.ftp_hub.proofs.Common.{Action, Answer, Entry, EventKind, Hub, HubEvent, Jobs, Options, Running, Serves, Stands, V4, acts, decide, entry, failures, failures_in, has, holder, holder_at, is_used, named_session, new_number, past_of, running_after, running_job, same-both, session, session_acts}
 use Rattle.ftp_base.specs.declared.net.IpAddr.{IpAddr}
 use Rattle.ftp_lockout.specs.Failures.{Table}
-use Rattle.ftp_numbers.specs.Used.{Used}
+use Rattle.ftp_switchboard.specs.Used.{Used}
 use Rattle.ftp_events.specs.declared.action.Action.TheVariants as action
 use Rattle.ftp_events.specs.declared.decision.Decision.TheVariants as decision
 use Rattle.ftp_events.specs.declared.event.EventKind.TheVariants as kind

@@ -5,7 +5,7 @@ use Rattle.std.specs.HashMap as map
 use Rattle.ftp_hub.proofs.Common.{Action, Answer, Entry, EventKind, Hub, HubEvent, LoginKey, Options, Serves, Stands, V4, decide, entry, failures, failures_in, has, holder_at, past_of}
 use Rattle.std.proofs.lemmas.Option.{same_Some}
 use Rattle.ftp_lockout.specs.Failures.{Table, failures_of, swept}
-use Rattle.ftp_numbers.specs.Used.{Used}
+use Rattle.ftp_switchboard.specs.Used.{Used}
 use Rattle.ftp_options.specs.declared.lockout.FailedLoginsPolicy.{FailedLoginsPolicy}
 use Rattle.ftp_switchboard.specs.Board.{Board}
 use Rattle.ftp_events.specs.declared.decision.Decision.TheVariants as decision

@@ -4,8 +4,8 @@ use Rattle.std.specs.Prelude.{◌↔◌, nat_eq}
 use Rattle.std.specs.HashMap as table
 use Rattle.ftp_lockout.specs.declared.key.LoginKey.{LoginKey}
 use Rattle.ftp_lockout.specs.Failures.{Table}
-use Rattle.ftp_numbers.specs.declared.numbers.Interval.{Interval}
-use Rattle.ftp_numbers.specs.Used.{IsApart, Used, has, is_used as is_in_lines}
+use Rattle.ftp_switchboard.specs.declared.numbers.Interval.{Interval}
+use Rattle.ftp_switchboard.specs.Used.{IsApart, Used, has, is_used as is_in_lines}
 use Rattle.ftp_hub.proofs.Common.{Entry, Hub, Jobs, Options, Session, Stands, failures_in, holder_at, is_legacy}
 use Rattle.ftp_hub.proofs.Tidy.{jobs-own, live-tidy}
 use Rattle.ftp_hub.specs.declared.state.HubState.{HubState}

@@ -7,7 +7,7 @@ use Rattle.ftp_base.specs.declared.net.IpAddr.TheVariants.{V4, V6}
 use Rattle.ftp_base.specs.Net.{is_v6, same_ip}
 use Rattle.ftp_options.specs.declared.options.Options.{Options}
 use Rattle.ftp_options.specs.Modes.{is_legacy, is_proxy}
-use Rattle.ftp_numbers.specs.Used.{has, is_used as is_in_lines}
+use Rattle.ftp_switchboard.specs.Used.{has, is_used as is_in_lines}
 use Rattle.ftp_switchboard.specs.Board.{Board, holder_at}
 use Rattle.ftp_events.specs.declared.entry.Entry.{Entry}
 use Rattle.ftp_events.specs.declared.session.Login.{Login}

@@ -9,7 +9,7 @@ use Rattle.ftp_options.specs.Modes.{is_legacy, is_proxy}
 use Rattle.ftp_lockout.specs.declared.key.LoginKey.{LoginKey}
 use Rattle.ftp_transfer.specs.declared.job.Job.{Job}
 use Rattle.ftp_switchboard.specs.Board.{holder_at, HasRoom}
-use Rattle.ftp_numbers.specs.Used.{has, HasSpare}
+use Rattle.ftp_switchboard.specs.Used.{has, HasSpare}
 use Rattle.ftp_events.specs.declared.action.Action.{Action}
 use Rattle.ftp_events.specs.declared.decision.Decision.{Decision}
 use Rattle.ftp_events.specs.declared.counters.Counters.{Counters}

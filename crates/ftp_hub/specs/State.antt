@@ -16,7 +16,7 @@ use Rattle.ftp_lockout.specs.declared.key.LoginKey.{LoginKey}
 use Rattle.ftp_lockout.specs.Failures.{recorded}
 use Rattle.ftp_lockout.specs.Keys.{key_at}
 use Rattle.ftp_lockout.specs.Places.{AreInKeyOrder}
-use Rattle.ftp_numbers.specs.Used.{IsApart, has, is_used as is_in_lines}
+use Rattle.ftp_switchboard.specs.Used.{IsApart, has, is_used as is_in_lines}
 use Rattle.ftp_transfer.specs.Path.{is_slash}
 use Rattle.ftp_switchboard.specs.Board.{holder_at}
 use Rattle.ftp_events.specs.declared.entry.Entry.{Entry}

@@ -5,7 +5,7 @@ ghost use Rattle.std.specs.Prelude.{◌≡◌, ◌<◌, List, ◌||◌, ◌&&◌
 ghost use Rattle.std.specs.HashMap as map;
 ghost use Rattle.ftp_base.specs.Net.{is_v6};
 ghost use Rattle.ftp_base.specs.Storage.{root};
-ghost use Rattle.ftp_numbers.specs.Used.{HasSpare, has};
+ghost use Rattle.ftp_switchboard.specs.Used.{HasSpare, has};
 ghost use Rattle.ftp_options.specs.Modes.{is_pooled, is_proxy};
 ghost use Rattle.ftp_events.specs.declared.entry.Entry.{Entry};
 ghost use Rattle.ftp_events.specs.declared.event.Answer.TheVariants.{Header};

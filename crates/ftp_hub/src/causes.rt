@@ -4,15 +4,15 @@ ghost use Rattle.std.specs.Prelude.{◌≡◌, ◌⊎◌, ℕ, ◌||◌, false, 
 ghost use Rattle.std.specs.HashMap as map;
 ghost use Rattle.std.specs.List.{list_any};
 ghost use Rattle.ftp_events.specs.declared.session.Running.{Running};
-ghost use Rattle.ftp_numbers.specs.Used.{has};
+ghost use Rattle.ftp_switchboard.specs.Used.{has};
 ghost use Rattle.ftp_hub.specs.declared.state.StateError.TheVariants.{OutOfMemory};
 ghost use Rattle.ftp_hub.specs.Refused.{OneLacks, has_login, has_numbers, has_place, has_port, has_tickets, is_of_v6, job_lacks, job_lacks_at, known_by, session_lacks, session_lacks_at, ticket_fits};
 
 use crate::hub::Hub;
 use crate::state::{RecordLine, StateError};
 use ftp_events::{Login, Running, Session, Slot};
-use ftp_numbers::Numbers;
 use ftp_options::Options;
+use ftp_switchboard::Numbers;
 
 // Says whether the number of a session was used, and that of the link in its slot.
 fn has_numbers(numbers: &Numbers, number: u64, session: &Session) -> bool

@@ -4,7 +4,7 @@ ghost use Rattle.std.specs.Prelude.{◌≡◌, ◌<◌, ◌&&◌, ℕ, List, IsT
 ghost use Rattle.std.specs.HashMap as map;
 ghost use Rattle.ftp_base.specs.declared.net.SocketAddr.{SocketAddr};
 ghost use Rattle.ftp_base.specs.Net.{same_ip};
-ghost use Rattle.ftp_numbers.specs.Used.{HasSpare, has};
+ghost use Rattle.ftp_switchboard.specs.Used.{HasSpare, has};
 ghost use Rattle.ftp_options.specs.declared.options.Options.{Options};
 ghost use Rattle.ftp_events.specs.declared.entry.Entry.{Entry};
 ghost use Rattle.ftp_events.specs.declared.event.Answer.{Answer};

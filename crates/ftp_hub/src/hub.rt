@@ -7,9 +7,8 @@ ghost use Rattle.ftp_handlers.specs.Handlers.{failures_in, policy_in};
 
 use ftp_events::{Counters, Running, Session};
 use ftp_lockout::FailedLoginsCache;
-use ftp_numbers::Numbers;
 use ftp_options::{FailedLoginsPolicy, Options};
-use ftp_switchboard::Switchboard;
+use ftp_switchboard::{Numbers, Switchboard};
 use std::alloc::Global;
 use std::collections::HashMap;
 

@@ -22,9 +22,8 @@ use crate::state::{
 use crate::tables::{put, take};
 use ftp_base::Bytes;
 use ftp_events::{Counters, Login, Opening, Pending, Running, Session, Slot};
-use ftp_numbers::Numbers;
 use ftp_options::Options;
-use ftp_switchboard::Switchboard;
+use ftp_switchboard::{Numbers, Switchboard};
 use ftp_transfer::Ticket;
 use std::alloc::{AllocError, Global};
 use std::collections::HashMap;

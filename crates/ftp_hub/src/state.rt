@@ -11,7 +11,7 @@ ghost use Rattle.ftp_hub.specs.State.{AreMadeBy, AreOwn, AreTidy, IsForm, IsStat
 use crate::hub::Hub;
 use ftp_base::{Bytes, DataChanCmd, IpAddr, SocketAddr};
 use ftp_events::{Login, Session, Slot};
-use ftp_numbers::Interval;
+use ftp_switchboard::Interval;
 use ftp_transfer::Job;
 use std::alloc::{AllocError, Global};
 use std::marker::Model;

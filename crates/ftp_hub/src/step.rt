@@ -5,7 +5,7 @@ ghost use Rattle.ftp_events.specs.declared.event.Answer.TheVariants.{Done, Moved
 ghost use Rattle.ftp_events.specs.declared.event.EventKind.TheVariants.{Piece, Sweep};
 ghost use Rattle.std.specs.HashMap as map;
 ghost use Rattle.ftp_switchboard.specs.Board.{HasRoom};
-ghost use Rattle.ftp_numbers.specs.Used.{HasSpare, has};
+ghost use Rattle.ftp_switchboard.specs.Used.{HasSpare, has};
 ghost use Rattle.ftp_events.specs.declared.entry.Entry.{Entry};
 ghost use Rattle.ftp_events.specs.EndRows.{can_end, can_move};
 ghost use Rattle.ftp_events.specs.Log.{is_refusal, job_ticket, named_session, new_number, past_of};
@@ -22,7 +22,7 @@ use crate::jobs::{can_end, can_move, cut, finish, is_piece, mark, queue};
 use crate::tables::take;
 use ftp_events::{Answer, Decision, Ended, Entry, EventKind, HubEvent};
 use ftp_handlers::{Room, command, ending, idle_tick};
-use ftp_numbers::Numbers;
+use ftp_switchboard::Numbers;
 use ftp_transfer::{Outcome, Ticket};
 
 impl Hub {

@@ -1,8 +1,8 @@
 //! What a server is made with, beside its options.
 
 use ftp_base::{Authenticator, DataListener, PresenceListener, Storage};
-use ftp_feed::JournalFeed;
 use ftp_options::Indicator;
+use ftp_shared::JournalFeed;
 use ftp_system::SharedDepot;
 use ftp_workers::Listeners;
 use std::alloc::{AllocError, Global};

@@ -7,8 +7,8 @@ ghost use Rattle.ftp_listen.specs.Causes.{WritesNone, WritesV6, is_of_listening}
 use crate::parts::Parts;
 use crate::server::Server;
 use ftp_base::Storage;
-use ftp_feed::JournalFeed;
 use ftp_options::{Built, Options, ServerError};
+use ftp_shared::JournalFeed;
 use ftp_system::ServerRuntime;
 use std::alloc::Global;
 use std::sync::Arc;

@@ -10,8 +10,8 @@ use crate::place::{doors_at, place_of};
 use crate::running::{PARTS, run_server};
 use crate::single::serve_one;
 use ftp_base::{Authenticator, Gate, SocketAddr, Spawner, Storage};
-use ftp_feed::JournalFeed;
 use ftp_options::{Built, Indicator, Options, ServerError};
+use ftp_shared::JournalFeed;
 use ftp_system::{
     Depot, Front, OpenGate, ServerRuntime, SessionLimits, SharedDepot, SystemFront, SystemThreads,
 };

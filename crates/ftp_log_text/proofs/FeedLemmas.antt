@@ -55,7 +55,7 @@ use Rattle.ftp_events.specs.declared.event.Answer.TheVariants as answer
 use Rattle.ftp_events.specs.declared.event.EventKind.{EventKind}
 use Rattle.ftp_events.specs.declared.event.EventKind.TheVariants as event_kind
 use Rattle.ftp_events.specs.declared.event.HubEvent.{HubEvent}
-use Rattle.ftp_lines.specs.Lines.{is_line_feed}
+use Rattle.ftp_control.specs.Lines.{is_line_feed}
 use Rattle.ftp_text.specs.Fields.{field, number, hex_byte, hex_digits, dotted, ip_text, address_text, is_plain, escape_byte, escape, optional, optional_text, ticket, answer_text as said_text, kind_text, refusal_text, fault_text, proxy_error_text, IsText, IsIp, IsAddress, IsNumber, Each}
 use Rattle.ftp_text.specs.Forms.{Shape, Number, Port, Address, Ticket, Answer as Said, Refusal, HexWord, MaybeIp, MaybePort, MaybeNumber, Form, Nothing, Last, Text, MaybeText, Message, ◌▸◌, Value, spelled, Fits, Values, all_spelled, AllFit}
 use Rattle.ftp_text.specs.Message.{message_fields, IsMessage}

@@ -12,7 +12,7 @@ use Rattle.ftp_events.specs.declared.entry.Entry.{Entry}
 use Rattle.ftp_events.specs.declared.event.Answer.{Answer}
 use Rattle.ftp_events.specs.declared.event.Answer.TheVariants as answer
 use Rattle.ftp_events.specs.declared.event.HubEvent.{HubEvent}
-use Rattle.ftp_lines.specs.Lines.{is_line_feed, first_line, behind_line}
+use Rattle.ftp_control.specs.Lines.{is_line_feed, first_line, behind_line}
 use Rattle.ftp_text.specs.Reading.{◌>>=◌}
 use Rattle.ftp_text.proofs.Exact.{some_is}
 use Rattle.ftp_event_text.specs.declared.setup.Item.{Item}

@@ -5,7 +5,7 @@ use Rattle.std.proofs.lemmas.Bool.Decides.{nat_tests}
 use Rattle.std.proofs.lemmas.Grind.{flat_map-append}
 use Rattle.std.proofs.lemmas.List.{append-nil, length-append, take_at}
 use Rattle.ftp_events.specs.declared.entry.Entry.{Entry}
-use Rattle.ftp_lines.specs.Lines.{is_line_feed, first_line}
+use Rattle.ftp_control.specs.Lines.{is_line_feed, first_line}
 use Rattle.ftp_text.proofs.Exact.{Pass, Stops, run_length}
 use Rattle.ftp_event_text.specs.declared.setup.Item.{Item}
 use Rattle.ftp_event_text.specs.Printing.{line, print}

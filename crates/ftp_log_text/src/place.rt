@@ -2,7 +2,7 @@
 
 ghost use Rattle.std.specs.Prelude.{◌≡◌, ℕ, ◌<◌, ◌++◌, ◌∷◌, [], List, true, false, length, IfOk, OnOk, IfNone, IfSome, IsErrOf, MatchOption};
 ghost use Rattle.std.specs.List.{position_or_len};
-ghost use Rattle.ftp_lines.specs.Lines.{is_line_feed, first_line, behind_line};
+ghost use Rattle.ftp_control.specs.Lines.{is_line_feed, first_line, behind_line};
 ghost use Rattle.ftp_text.specs.declared.fault.LineFault.TheVariants as fault;
 ghost use Rattle.ftp_log_text.specs.declared.line.LogLine.{LogLine};
 ghost use Rattle.ftp_log_text.specs.LogText.{text_of, IsLog, ComesNext, IsFirstBad, HasFirstBad, IsPrinted};

@@ -11,7 +11,7 @@ use Rattle.std.proofs.lemmas.Bool.Decides.{nat_tests}
 use Rattle.ftp_base.specs.Outside.{Writes}
 use Rattle.ftp_base.specs.declared.fault.Failed.{Failed}
 use Rattle.ftp_base.specs.declared.fault.Failed.TheVariants.{Fault, Memory}
-use Rattle.ftp_lines.specs.Writing.{WritesFront}
+use Rattle.ftp_control.specs.Writing.{WritesFront}
 use Rattle.ftp_text.proofs.Numerals.{own}
 use Rattle.ftp_script_run.specs.declared.command.Command.{Command}
 use Rattle.ftp_script_run.specs.declared.command.Command.TheVariants.{Script, Audit, Tell}

@@ -4,7 +4,7 @@ use Rattle.std.specs.Prelude.{nat_le, if◌then◌else◌}
 use Rattle.std.specs.List.{position_or_len}
 use Rattle.std.proofs.lemmas.Bool.{le-leb, leb-true, and_parts}
 use Rattle.std.proofs.lemmas.List.{length-drop, append-nil, append_assoc}
-use Rattle.ftp_lines.specs.Lines.{is_line_feed, first_line, behind_line}
+use Rattle.ftp_control.specs.Lines.{is_line_feed, first_line, behind_line}
 use Rattle.ftp_text.specs.Reading.{◌>>=◌}
 use Rattle.ftp_event_text.specs.declared.setup.Item.{Item}
 use Rattle.ftp_event_text.specs.SetupReading.{item_of}

@@ -5,9 +5,9 @@ use Rattle.std.specs.List.{position_or_len}
 use Rattle.std.proofs.lemmas.List.{length-drop, length-take, length-take-le, length-append, append-nil, take-append-drop, take-append-le, take-take, take_more, take_all, drop_all, drop_at, get_or-take}
 use Rattle.std.proofs.lemmas.List.Sums.{fails_before_first, passes_at_first, position_or_len_is}
 use Rattle.std.proofs.lemmas.Bool.{cases_lt}
-use Rattle.ftp_lines.specs.Lines.{Rest, TakesAtMost, is_line_feed, first_line, behind_line, bytes_in, IsWithin, HasNoFeed, IsNext}
-use Rattle.ftp_lines.proofs.LineLemmas.{pos_found, length-bytes_in}
-use Rattle.ftp_lines.specs.declared.lines.Span.{Span}
+use Rattle.ftp_control.specs.Lines.{Rest, TakesAtMost, is_line_feed, first_line, behind_line, bytes_in, IsWithin, HasNoFeed, IsNext}
+use Rattle.ftp_control.proofs.LineLemmas.{pos_found, length-bytes_in}
+use Rattle.ftp_control.specs.declared.lines.Span.{Span}
 use Rattle.ftp_event_text.specs.declared.setup.Item.{Item}
 use Rattle.ftp_script_run.specs.declared.text_script.ScriptReader.{ScriptReader}
 use Rattle.ftp_script_run.specs.Script.{ComesNext, line_size, Continues, IsScriptOf}

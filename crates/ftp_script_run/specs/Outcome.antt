@@ -4,7 +4,7 @@ use Rattle.ftp_base.specs.LinkTable.{Numbered}
 use Rattle.ftp_base.specs.Memory.{LinkState}
 use Rattle.ftp_base.specs.Outside.{Writes}
 use Rattle.ftp_events.specs.declared.entry.Entry.{Entry}
-use Rattle.ftp_lines.specs.Writing.{WritesFront}
+use Rattle.ftp_control.specs.Writing.{WritesFront}
 use Rattle.ftp_text.specs.Fields.{number}
 use Rattle.ftp_event_text.specs.declared.setup.Item.{Item}
 use Rattle.ftp_event_text.specs.Printing.{print}

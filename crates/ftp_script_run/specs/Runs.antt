@@ -6,7 +6,7 @@ use Rattle.ftp_options.specs.Builder.{settings_of}
 use Rattle.ftp_events.specs.declared.entry.Entry.{Entry}
 use Rattle.ftp_events.specs.Leads.{Outside, HasLinks, Leads}
 use Rattle.ftp_events.specs.Log.{past_of}
-use Rattle.ftp_lines.specs.Writing.{WritesFront}
+use Rattle.ftp_control.specs.Writing.{WritesFront}
 use Rattle.ftp_hub.specs.declared.hub.Hub.{Hub}
 use Rattle.ftp_hub.specs.Stands.{Stands, options_of}
 use Rattle.ftp_event_text.specs.declared.setup.Item.{Item}

@@ -1,8 +1,8 @@
 -- How far a script is read.
 use Rattle.std.specs.Prelude.{◌≡◌, ℕ, ◌≤◌, ◌⊎◌, true, List, [], ◌∷◌, ◌++◌, length, Option, Some, None, Result, Ok, Err}
-use Rattle.ftp_lines.specs.Lines.{bytes_in, IsWithin, Rest, HasNoFeed, IsNext}
-use Rattle.ftp_lines.specs.declared.lines.Span.{Span}
-use Rattle.ftp_lines.specs.declared.lines.LineError.TheVariants as line_error
+use Rattle.ftp_control.specs.Lines.{bytes_in, IsWithin, Rest, HasNoFeed, IsNext}
+use Rattle.ftp_control.specs.declared.lines.Span.{Span}
+use Rattle.ftp_control.specs.declared.lines.NextLineError.TheVariants as line_error
 use Rattle.ftp_event_text.specs.declared.setup.Item.{Item}
 use Rattle.ftp_script_run.specs.declared.text_script.TheConstants.{BUFFER_SIZE}
 use Rattle.ftp_script_run.specs.declared.text_script.ScriptReader.{ScriptReader}

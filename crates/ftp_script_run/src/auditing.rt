@@ -18,8 +18,8 @@ use crate::status::Status;
 use crate::{ScriptError, ScriptReader};
 use ftp_audit::Audit;
 use ftp_base::{Failed, Sink, Source};
+use ftp_control::write_all;
 use ftp_event_text::Item;
-use ftp_lines::write_all;
 use std::alloc::Global;
 
 /// Runs the script line by line, by way of a buffer in which any line fits, and writes a line for each user.

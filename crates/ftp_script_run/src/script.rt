@@ -13,7 +13,7 @@ ghost use Rattle.ftp_script_run.specs.declared.command.Command.TheVariants.{Scri
 ghost use Rattle.ftp_script_run.specs.declared.command.Told.{Told};
 ghost use Rattle.ftp_script_run.specs.declared.command.Told.TheVariants.{Stress};
 ghost use Rattle.ftp_script_run.specs.Commands.{Asks, text_of};
-ghost use Rattle.ftp_lines.specs.Writing.{WritesFront};
+ghost use Rattle.ftp_control.specs.Writing.{WritesFront};
 ghost use Rattle.ftp_script_run.specs.Stress.{stress_lines};
 ghost use Rattle.ftp_script_run.specs.Outcome.{IsDone, HasBadLine, WritesWhole, WritesPart, Outcome};
 ghost use Rattle.ftp_script_run.specs.Audited.{IsAudited, IsAuditedTo, AuditsWhole, AuditsPart};

@@ -3,7 +3,7 @@
 ghost use Rattle.std.specs.Prelude.{◌≡◌, ◌*◌, ◌≤◌, ◌∷◌, [], List, map, flat_map, None, OnOk, OnErr, IfOk, IsErrOf};
 ghost use Rattle.ftp_base.specs.declared.fault.Failed.TheVariants.{Fault};
 ghost use Rattle.ftp_base.specs.Outside.{HasRisen, Writes};
-ghost use Rattle.ftp_lines.specs.Writing.{WritesFront};
+ghost use Rattle.ftp_control.specs.Writing.{WritesFront};
 ghost use Rattle.std.specs.List.{range_with_len};
 ghost use Rattle.ftp_options.specs.Builder.{settings_of};
 ghost use Rattle.ftp_script_run.specs.Events.{login_of, drawn};
@@ -14,9 +14,9 @@ use crate::counts::Counts;
 use crate::draws::Draws;
 use crate::events::{chosen, connect};
 use ftp_base::{AuthAnswer, Bytes, Failed, Sink};
+use ftp_control::write_all;
 use ftp_events::{Answer, EventKind, HubEvent};
 use ftp_hub::{Hub, PrepareError};
-use ftp_lines::write_all;
 use ftp_options::{Options, ServerBuilder};
 use std::alloc::{AllocError, Global};
 

@@ -3,14 +3,14 @@
 ghost use Rattle.std.specs.Prelude.{◌≡◌, ◌≤◌, OnOk, OnErr, IsErrOf};
 ghost use Rattle.ftp_base.specs.declared.fault.Failed.TheVariants.{Fault};
 ghost use Rattle.ftp_base.specs.Outside.{HasRisen, Writes};
-ghost use Rattle.ftp_lines.specs.Writing.{WritesFront};
+ghost use Rattle.ftp_control.specs.Writing.{WritesFront};
 ghost use Rattle.ftp_script_run.specs.declared.command.Command.TheVariants.{Tell};
 ghost use Rattle.ftp_script_run.specs.Commands.{IsLawful, text_of};
 
 use crate::command::Told;
 use crate::stress;
 use ftp_base::{Failed, Sink};
-use ftp_lines::write_all;
+use ftp_control::write_all;
 use std::alloc::Global;
 
 /// The commands, in plain words.

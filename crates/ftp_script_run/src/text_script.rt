@@ -2,7 +2,7 @@
 
 ghost use Rattle.std.specs.Prelude.{◌≡◌, ℕ, ◌<◌, ◌≤◌, ◌+◌, ◌-◌, ◌++◌, List, [], length, Option, Some, None, IfOk, IfSome, OnOk, IsErrOf};
 ghost use Rattle.ftp_base.specs.Outside.{HasRisen};
-ghost use Rattle.ftp_lines.specs.Lines.{bytes_in, behind_line, IsWithin, TakesAtMost};
+ghost use Rattle.ftp_control.specs.Lines.{bytes_in, behind_line, IsWithin, TakesAtMost};
 ghost use Rattle.ftp_event_text.specs.declared.setup.Item.{Item};
 ghost use Rattle.ftp_event_text.specs.Setup.{IsItem};
 ghost use Rattle.ftp_script_run.specs.SetUp.{IsSetUp};
@@ -10,8 +10,8 @@ ghost use Rattle.ftp_script_run.specs.ScriptReader.{IsLawful, Follows, HasRead, 
 
 use crate::admission::{Admission, LONGEST_LINE};
 use ftp_base::{MemoryStorage, Source};
+use ftp_control::{NextLineError, Span, next_line};
 use ftp_event_text::Item;
-use ftp_lines::{LineError, Span, next_line};
 use ftp_quota::Quota;
 use ftp_text::LineFault;
 use std::alloc::Global;
@@ -129,8 +129,8 @@ fn advance<S: Source>(buffer: &mut [u8], held: &mut Span, source: &mut S) -> Nex
 {
     match next_line(buffer, held, source) {
         Ok(found) => next_of(found),
-        Err(LineError::Long) => Next::Long,
-        Err(LineError::Fault) => Next::Fault,
+        Err(NextLineError::Long) => Next::Long,
+        Err(NextLineError::Fault) => Next::Fault,
     }
 }
 

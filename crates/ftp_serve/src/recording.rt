@@ -9,8 +9,8 @@ ghost use Rattle.ftp_event_text.specs.Setup.{item_line};
 
 use crate::service::Service;
 use ftp_event_text::put_entry;
-use ftp_feed::{EntriesLost, JournalFeed};
 use ftp_options::ListenerMode;
+use ftp_shared::{EntriesLost, JournalFeed};
 use ftp_text::writing::{put, put_decimal, put_number};
 use std::alloc::{AllocError, Global};
 use std::io::Write;

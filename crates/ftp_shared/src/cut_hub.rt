@@ -7,12 +7,12 @@ ghost use Rattle.ftp_shared.specs.Jobs.{behind};
 ghost use Rattle.ftp_shared.specs.Next.{IsNextAt, IsPieceAt, IsTurnAt, end_of, is_moved, piece_of};
 ghost use Rattle.ftp_shared.specs.Outbox.{has_ticket};
 
+use crate::JournalFeed;
 use crate::append_error::AppendError;
 use crate::cut::Cut;
 use crate::locked::Serving;
 use crate::receipt::{FinishError, JobShare, Receipt, Submitted, Turn};
 use ftp_events::{Answer, EventKind, HubEvent};
-use ftp_feed::JournalFeed;
 use ftp_options::Options;
 use ftp_transfer::Outcome;
 use std::alloc::Global;

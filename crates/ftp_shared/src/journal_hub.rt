@@ -8,6 +8,7 @@ ghost use Rattle.ftp_shared.specs.Jobs.{behind};
 ghost use Rattle.ftp_shared.specs.Next.{IsNextAt, IsPieceAt, IsTurnAt, end_of, is_moved, piece_of};
 ghost use Rattle.ftp_shared.specs.Outbox.{has_ticket};
 
+use crate::JournalFeed;
 use crate::append_error::AppendError;
 use crate::cut_hub::CutHub;
 use crate::locked::Serving;
@@ -15,7 +16,6 @@ use crate::receipt::{FinishError, JobShare, Submitted, Turn};
 use crate::share::StepShare;
 use crate::shared_hub::SharedHub;
 use ftp_events::{Answer, HubEvent};
-use ftp_feed::JournalFeed;
 use ftp_transfer::Outcome;
 use std::alloc::Global;
 use std::sync::{Arc, Wait};

@@ -2,13 +2,16 @@
 //!
 //! Whenever the lock is free the journal is the right one, and the hub stands for it. The last entry of a job tells what its
 //! transfer did to the storage and the link of its worker.
-//! Begin with `Locked::append`, `Desk` and `serve_job`.
+//! The entries on their way to a writer are given once each, in the order of their places, and the writer is told of one that was lost.
+//! Begin with `Locked::append`, `Desk`, `serve_job` and `JournalFeed`.
 #![tactic(auto)]
 
 mod append_error;
 mod cut;
 mod cut_hub;
 mod desk;
+mod entry_queue;
+mod journal_feed;
 mod journal_hub;
 mod locked;
 mod marks;
@@ -30,6 +33,8 @@ pub use append_error::AppendError;
 pub use cut::Cut;
 pub use cut_hub::CutHub;
 pub use desk::{Desk, Told};
+pub use entry_queue::{EntryQueue, Taken};
+pub use journal_feed::{EntriesLost, JournalFeed};
 pub use journal_hub::JournalHub;
 pub use locked::{Locked, Serving};
 pub use notifier::{Listener, Notifier};

@@ -10,13 +10,13 @@ ghost use Rattle.ftp_events.specs.EndRows.{can_end, can_move};
 ghost use Rattle.ftp_shared.specs.Jobs.{behind};
 ghost use Rattle.ftp_shared.specs.Next.{IsNextAt, IsPieceAt, IsTurnAt, end_of, is_moved, piece_of};
 
+use crate::JournalFeed;
 use crate::append_error::AppendError;
 use crate::locked::{Locked, Serving};
 use crate::receipt::{FinishError, JobShare, Receipt, Submitted, Turn};
 use crate::settle::SettleError;
 use crate::share::StepShare;
 use ftp_events::{Answer, EventKind, HubEvent, Log};
-use ftp_feed::JournalFeed;
 use ftp_options::Options;
 use ftp_transfer::Outcome;
 use std::alloc::Global;

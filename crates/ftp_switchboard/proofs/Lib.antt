@@ -1,3 +1,4 @@
+mod SettledLemmas
 pub mod BoardLemmas
 pub mod InsideLemmas
 pub mod KeptLemmas

@@ -1,3 +1,5 @@
+pub mod Used
+pub mod Settled
 pub mod Bits
 pub mod Board
 pub mod Inside

@@ -13,8 +13,8 @@ use Rattle.ftp_events.specs.declared.event.EventKind.{EventKind}
 use Rattle.ftp_events.specs.declared.event.EventKind.TheVariants as kind
 use Rattle.ftp_events.specs.declared.event.HubEvent.{HubEvent}
 use Rattle.ftp_events.specs.Log.{new_number}
-use Rattle.ftp_lines.specs.Writing.{WritesFront}
-use Rattle.ftp_lines.specs.Lines.{Rest}
+use Rattle.ftp_control.specs.Writing.{WritesFront}
+use Rattle.ftp_control.specs.Lines.{Rest}
 use Rattle.ftp_shared.specs.Desk.{DeskView, Appends, RisesBy}
 use Rattle.ftp_talk.specs.Saying.{greeting_line}
 use Rattle.ftp_talk.specs.declared.control_session.Peer.{Peer}

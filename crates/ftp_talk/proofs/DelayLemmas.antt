@@ -14,7 +14,7 @@ use Rattle.ftp_base.specs.Reply.{encoding}
 use Rattle.ftp_events.specs.declared.action.Action.{Action}
 use Rattle.ftp_events.specs.declared.action.Action.TheVariants as action
 use Rattle.ftp_events.specs.Right.{reply_to}
-use Rattle.ftp_lines.specs.Writing.{WritesFront}
+use Rattle.ftp_control.specs.Writing.{WritesFront}
 use Rattle.ftp_shared.specs.Outbox.{replies_in}
 use Rattle.ftp_talk.specs.Saying.{encodings, said_in, delay_in, delays, WritesBut, IsPaused, IsPausedWithin, SaysFront}
 use Rattle.ftp_talk.proofs.Written.{but-more, but-front, but-front-end, front-all, writes-more}

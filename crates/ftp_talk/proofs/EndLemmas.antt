@@ -28,11 +28,11 @@ use Rattle.ftp_control.specs.declared.command.Command.TheVariants as command
 use Rattle.ftp_control.specs.declared.line.LineError.{LineError}
 use Rattle.ftp_control.specs.declared.line.LineError.TheVariants as error
 use Rattle.ftp_control.specs.Line.{parsed}
-use Rattle.ftp_lines.specs.Lines.{Rest}
+use Rattle.ftp_control.specs.Lines.{Rest}
 use Rattle.ftp_shared.specs.Desk.{DeskView, SameDesk, IsVouched}
-use Rattle.ftp_lines.specs.ControlLine.{RanOut, IsLong}
+use Rattle.ftp_control.specs.ControlLine.{RanOut, IsLong}
 use Rattle.ftp_talk.specs.Saying.{said}
-use Rattle.ftp_lines.proofs.ControlLineLemmas.{long-append}
+use Rattle.ftp_control.proofs.ControlLineLemmas.{long-append}
 use Rattle.ftp_talk.proofs.DelayLemmas.{says-longer, says-still}
 use Rattle.ftp_talk.specs.declared.control_session.ControlSession.{ControlSession}
 use Rattle.ftp_talk.specs.Ground.{Step, ALine, AnAnswer, AnIdleTick, ASlotTick, ALongLine, AClose, Turn, Ground, history, lines_in}

@@ -16,7 +16,7 @@ use Rattle.ftp_control.specs.declared.line.LineError.{LineError}
 use Rattle.ftp_control.specs.declared.line.LineError.TheVariants as error
 use Rattle.ftp_control.specs.Line.{parsed}
 use Rattle.ftp_shared.specs.Desk.{DeskView, SameDesk, RisesBy}
-use Rattle.ftp_lines.specs.ControlLine.{IsLong}
+use Rattle.ftp_control.specs.ControlLine.{IsLong}
 use Rattle.ftp_talk.specs.declared.control_session.ControlSession.{ControlSession}
 use Rattle.ftp_talk.specs.declared.serving.Next.{Next}
 use Rattle.ftp_talk.specs.declared.serving.Next.TheVariants as next

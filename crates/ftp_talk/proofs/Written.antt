@@ -8,7 +8,7 @@ use Rattle.std.proofs.lemmas.List.Concat.{flat_map-append}
 use Rattle.std.proofs.Math.Seq.{take-append-add}
 use Rattle.ftp_base.specs.Edge.{Feed, EdgeView, Takes}
 use Rattle.ftp_base.specs.Outside.{Writes}
-use Rattle.ftp_lines.specs.Writing.{WritesFront}
+use Rattle.ftp_control.specs.Writing.{WritesFront}
 use Rattle.ftp_talk.specs.Saying.{WritesBut}
 
 -- nothing was written

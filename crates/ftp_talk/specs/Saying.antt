@@ -6,7 +6,7 @@ use Rattle.ftp_base.specs.Outside.{Writes}
 use Rattle.ftp_base.specs.Reply.{encoding}
 use Rattle.ftp_events.specs.declared.action.Action.{Action}
 use Rattle.ftp_events.specs.declared.action.Action.TheVariants as action
-use Rattle.ftp_lines.specs.Writing.{WritesFront}
+use Rattle.ftp_control.specs.Writing.{WritesFront}
 use Rattle.ftp_shared.specs.Outbox.{replies_in}
 
 -- the line of the greeting

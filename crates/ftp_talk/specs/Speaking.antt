@@ -20,9 +20,9 @@ use Rattle.ftp_options.specs.Modes.{is_active_off}
 use Rattle.ftp_events.specs.declared.session.Login.TheVariants as login
 use Rattle.ftp_shared.specs.Outbox.{own_session}
 use Rattle.ftp_control.specs.declared.command.Command.{Command}
-use Rattle.ftp_lines.specs.Lines.{Rest}
+use Rattle.ftp_control.specs.Lines.{Rest}
 use Rattle.ftp_shared.specs.Desk.{DeskView, IsVouched, Appends, RisesBy}
-use Rattle.ftp_lines.specs.ControlLine.{IsLong}
+use Rattle.ftp_control.specs.ControlLine.{IsLong}
 use Rattle.ftp_talk.specs.declared.control_session.Peer.{Peer}
 use Rattle.ftp_talk.specs.declared.control_session.ControlSession.{ControlSession}
 use Rattle.ftp_talk.specs.declared.halt.Halt.{Halt}

@@ -7,7 +7,7 @@ use Rattle.ftp_base.specs.declared.reply.Reply.{Reply}
 use Rattle.ftp_events.specs.declared.event.Answer.TheVariants as answer
 use Rattle.ftp_events.specs.declared.event.EventKind.TheVariants as kind
 use Rattle.ftp_shared.specs.Desk.{DeskView, IsVouched, RisesBy}
-use Rattle.ftp_lines.specs.ControlLine.{RanOut, IsLong}
+use Rattle.ftp_control.specs.ControlLine.{RanOut, IsLong}
 use Rattle.ftp_talk.specs.Saying.{greeting_line, encodings, delays, said, IsPaused, SaysFront}
 use Rattle.ftp_talk.specs.Ground.{Step, ALongLine, AClose, Turn, Ground, history, lines_in}
 use Rattle.ftp_talk.specs.Turns.{Due, LineDue, CloseDue, is_end, due, Turns}

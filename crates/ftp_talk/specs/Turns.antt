@@ -13,7 +13,7 @@ use Rattle.ftp_control.specs.declared.command.Command.TheVariants as command
 use Rattle.ftp_control.specs.declared.line.LineError.{LineError}
 use Rattle.ftp_control.specs.declared.line.LineError.TheVariants as error
 use Rattle.ftp_control.specs.Line.{parsed}
-use Rattle.ftp_lines.specs.ControlLine.{IsLine}
+use Rattle.ftp_control.specs.ControlLine.{IsLine}
 use Rattle.ftp_talk.specs.Ground.{Step, ALine, AnAnswer, AnIdleTick, ASlotTick, ALongLine, AClose, Turn, Ground, history}
 use Rattle.ftp_talk.specs.Commands.{GivenBy, too_long}
 

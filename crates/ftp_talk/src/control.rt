@@ -4,7 +4,7 @@ ghost use Rattle.std.specs.Prelude.{◌≡◌, ◌-◌, ◌^◌, ◌<◌, ◌≤
 ghost use Rattle.ftp_base.specs.declared.fault.Failed.TheVariants.{Fault};
 ghost use Rattle.ftp_base.specs.Outside.{HasRisen, Writes};
 ghost use Rattle.ftp_events.specs.declared.entry.Entry.{Entry};
-ghost use Rattle.ftp_lines.specs.Writing.{WritesFront};
+ghost use Rattle.ftp_control.specs.Writing.{WritesFront};
 ghost use Rattle.ftp_talk.specs.Saying.{greeting_line};
 ghost use Rattle.ftp_talk.specs.Ground.{Ground};
 ghost use Rattle.ftp_talk.specs.Speaking.{Knows};

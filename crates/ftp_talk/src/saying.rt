@@ -5,7 +5,7 @@ ghost use Rattle.ftp_base.specs.declared.fault.Failed.TheVariants.{Fault};
 ghost use Rattle.ftp_base.specs.Edge.{Takes};
 ghost use Rattle.ftp_base.specs.Outside.{HasRisen, Writes};
 ghost use Rattle.ftp_base.specs.Reply.{encoding};
-ghost use Rattle.ftp_lines.specs.Writing.{WritesFront};
+ghost use Rattle.ftp_control.specs.Writing.{WritesFront};
 ghost use Rattle.ftp_shared.specs.Outbox.{replies_in};
 ghost use Rattle.ftp_talk.specs.Saying.{encodings, greeting_line, said_in, delay_in, delays, said, WritesBut, IsPaused, IsPausedWithin, SaysFront};
 

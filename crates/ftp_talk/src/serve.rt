@@ -2,14 +2,14 @@
 
 ghost use Rattle.std.specs.Prelude.{◌≡◌, ◌≤◌, [], true, Option, Some, length, IfSome, IfNone};
 ghost use Rattle.ftp_base.specs.Outside.{HasRisen};
-ghost use Rattle.ftp_lines.specs.ControlLine.{IsHeld, held_in};
+ghost use Rattle.ftp_control.specs.ControlLine.{IsHeld, held_in};
 ghost use Rattle.ftp_talk.specs.Ground.{Ground};
 ghost use Rattle.ftp_talk.specs.Speaking.{Talking, Outcome, IsOf};
 
 use crate::control_session::ControlSession;
 use crate::serving::ServeEnd;
 use ftp_base::{Authenticator, Control, Edge};
-use ftp_lines::{Got, Held, Span, next_control_line};
+use ftp_control::{Got, Held, Span, next_control_line};
 use ftp_shared::Desk;
 
 impl ControlSession {

@@ -4,7 +4,7 @@ ghost use Rattle.std.specs.Prelude.{◌≡◌, ◌≤◌, ◌++◌, [], ℕ, Lis
 ghost use Rattle.ftp_base.specs.Outside.{HasRisen};
 ghost use Rattle.ftp_control.specs.declared.command.Command.TheVariants as command;
 ghost use Rattle.ftp_control.specs.Line.{parsed};
-ghost use Rattle.ftp_lines.specs.ControlLine.{IsLine};
+ghost use Rattle.ftp_control.specs.ControlLine.{IsLine};
 ghost use Rattle.ftp_talk.specs.declared.halt.Halt.TheVariants.{Exhausted, Fault};
 ghost use Rattle.ftp_talk.specs.Ground.{Ground, ALine};
 ghost use Rattle.ftp_talk.specs.Turns.{LineDue, AnswerDue};

@@ -1,6 +1,6 @@
 //! Numbers that were used, as intervals.
 
-use ftp_numbers::{Interval, Numbers};
+use ftp_switchboard::{Interval, Numbers};
 use std::test::Fail;
 
 #[test]

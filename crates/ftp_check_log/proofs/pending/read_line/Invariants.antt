@@ -1,6 +1,6 @@
 use Rattle.std.proofs.Common.{◌≤◌, ◌-◌, ◌++◌, length}
 use Rattle.std.specs.Prelude.{IfSome}
-use Rattle.ftp_lines.specs.Lines.{Rest}
+use Rattle.ftp_control.specs.Lines.{Rest}
 use Rattle.ftp_check_log.proofs.pending.read_line.Given as goal
 
 abbrev pub invariant-loop-piece : goal.invariant-loop-piece

@@ -1,7 +1,7 @@
 use Rattle.std.proofs.Common.{◌≡◌, ◌∙◌, List, ℕ, subst}
 use Rattle.std.specs.List.{flat_map}
 use Rattle.std.specs.FinMap as map
-use Rattle.ftp_lines.specs.Writing.{WritesFront}
+use Rattle.ftp_control.specs.Writing.{WritesFront}
 use Rattle.ftp_script_run.specs.Left.{sent_on}
 use Rattle.ftp_script_run.proofs.Written.{on_err, front-part}
 use Rattle.ftp_script_run.proofs.printing.print_links.Goals as goal

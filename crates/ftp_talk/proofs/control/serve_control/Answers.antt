@@ -2,7 +2,7 @@ use Rattle.std.proofs.Common.{[], ◌∷◌, ap, subst, sym, ◌∙◌, refl}
 use Rattle.ftp_base.specs.Outside.{Writes}
 use Rattle.ftp_options.specs.declared.options.Options.{Options}
 use Rattle.ftp_events.specs.declared.event.HubEvent.{HubEvent}
-use Rattle.ftp_lines.specs.Writing.{WritesFront}
+use Rattle.ftp_control.specs.Writing.{WritesFront}
 use Rattle.ftp_talk.specs.Saying.{greeting_line}
 use Rattle.ftp_talk.specs.Ground.{Start}
 use Rattle.ftp_talk.specs.Control.{peer_of, ground_of, IsSubmitted}

@@ -1,4 +1,4 @@
-use Rattle.ftp_lines.proofs.WritingLemmas.{so_far_front, on_err}
+use Rattle.ftp_control.proofs.WritingLemmas.{so_far_front, on_err}
 use Rattle.ftp_talk.proofs.saying.write_all.Goals as goal
 
 pub returns-in_err-n-clause-front : goal.returns-in_err-n-clause-front

@@ -1,5 +1,5 @@
 use Rattle.std.proofs.Common.{◌≡◌, ◌≤◌, length}
-use Rattle.ftp_lines.proofs.WritingLemmas.{SoFar}
+use Rattle.ftp_control.proofs.WritingLemmas.{SoFar}
 use Rattle.ftp_talk.proofs.saying.write_all.Given as goal
 
 abbrev pub invariant-loop-rest : goal.invariant-loop-rest

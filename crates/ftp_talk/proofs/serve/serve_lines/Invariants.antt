@@ -1,5 +1,5 @@
 use Rattle.std.proofs.Common.{◌≡◌, ◌≤◌, [], length}
-use Rattle.ftp_lines.specs.ControlLine.{IsHeld, held_in}
+use Rattle.ftp_control.specs.ControlLine.{IsHeld, held_in}
 use Rattle.ftp_talk.specs.Ground.{Ground}
 use Rattle.ftp_talk.specs.Speaking.{Talking, IsOf}
 use Rattle.ftp_talk.proofs.serve.serve_lines.Given as goal

@@ -1,7 +1,7 @@
 use Rattle.std.proofs.Common.{refl, ap, ◌∙◌, List, length}
 use Rattle.std.specs.Option.{option_map}
-use Rattle.ftp_numbers.specs.declared.numbers.Interval.{Interval}
-use Rattle.ftp_numbers.specs.Used.{is_used as is_in_lines}
+use Rattle.ftp_switchboard.specs.declared.numbers.Interval.{Interval}
+use Rattle.ftp_switchboard.specs.Used.{is_used as is_in_lines}
 use Rattle.ftp_hub.specs.declared.state.JobLine.{JobLine}
 use Rattle.ftp_hub.specs.declared.state.RecordLine.{RecordLine}
 use Rattle.ftp_hub.specs.State.{failures_told, job_line, session_by_lines, told_running}

@@ -1,5 +1,5 @@
 use Rattle.std.proofs.Common.{refl, List}
-use Rattle.ftp_numbers.specs.declared.numbers.Interval.{Interval}
+use Rattle.ftp_switchboard.specs.declared.numbers.Interval.{Interval}
 use Rattle.ftp_hub.proofs.Common.{Hub}
 use Rattle.ftp_hub.proofs.States.{state-told}
 use Rattle.ftp_hub.proofs.Telling.{AreLines, HasLists, hub-formed, hub-told}

@@ -1,6 +1,6 @@
 use Rattle.std.proofs.Common.{◌+◌, ◌-◌, refl, arith}
-use Rattle.ftp_lines.specs.Lines.{bytes_in}
-use Rattle.ftp_lines.proofs.LineLemmas.{length-bytes_in}
+use Rattle.ftp_control.specs.Lines.{bytes_in}
+use Rattle.ftp_control.proofs.LineLemmas.{length-bytes_in}
 use Rattle.ftp_script_run.proofs.ScriptLemmas.{end_told, fault_told, long_told, bad_told, more_told, ahead_told}
 use Rattle.ftp_script_run.proofs.text_script.ScriptReader.next_item.Goals as goal
 

@@ -1,7 +1,7 @@
 use Rattle.std.proofs.Common.{[], ap, ◌∙◌}
 use Rattle.std.specs.Prelude.{Ok}
-use Rattle.ftp_lines.specs.Lines.{bytes_in}
-use Rattle.ftp_lines.specs.ControlLine.{held_in}
+use Rattle.ftp_control.specs.Lines.{bytes_in}
+use Rattle.ftp_control.specs.ControlLine.{held_in}
 use Rattle.ftp_talk.specs.Turns.{LineDue}
 use Rattle.ftp_talk.proofs.ServeLemmas.{cut-standing, same_edge, same_desk, if_ok-then, on_err-then}
 use Rattle.ftp_talk.proofs.EndLemmas.{standing-line, standing-long, standing-out, talking-sent, talking-on}

@@ -1,3 +1,0 @@
-mod DateLemmas
-mod DigitLemmas
-mod Examples

@@ -1,2 +1,0 @@
-pub mod Date
-pub mod Moment

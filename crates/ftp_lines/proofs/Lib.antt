@@ -1,3 +1,0 @@
-pub mod WritingLemmas
-pub mod LineLemmas
-pub mod ControlLineLemmas
