@@ -181,6 +181,16 @@ where
         }
     }
 
+    /// From now on each session ends once none of its transfers runs, and is told so.
+    pub(crate) fn begin_stop(&self) {
+        self.state.begin_stop(&self.rt);
+    }
+
+    /// Says whether no job runs, no session is live, and each was told all that it is told.
+    pub(crate) fn is_left(&self) -> bool {
+        self.is_drained() && self.state.is_left(&self.rt)
+    }
+
     /// Ends all sessions, and says whether that was taken.
     pub(crate) fn stop(&mut self, at: u64) -> bool {
         self.desk.stop(at)

@@ -111,8 +111,8 @@ where
     unreachable!()
 }
 
-// Ends all sessions, and waits for the jobs that run, but not beyond the grace period of a shutdown that was asked for at
-// this moment.
+// Has each session end once none of its transfers runs, and waits for that, but not beyond the grace period of a shutdown that was
+// asked for at this moment; then ends what is left.
 fn drain<
     R: ServerRuntime,
     H: JournalHub + Send + Sync + Drop + 'static,
@@ -140,13 +140,17 @@ where
 {
     let (asked_at, shutdown) = asked;
     let mut is_stopped = false;
+    acceptor.begin_stop();
     for _ in rt.forever() {
         let now = front.now();
-        is_stopped = is_stopped || acceptor.stop(now);
+        let is_late = now.saturating_sub(asked_at) > shutdown.grace_ms;
+        if !is_stopped && (is_late || acceptor.is_left()) {
+            is_stopped = acceptor.stop(now);
+        }
         if is_stopped && acceptor.is_drained() {
             return Ok(());
         }
-        if now.saturating_sub(asked_at) > shutdown.grace_ms {
+        if is_late {
             return Err(ServerError::Shutdown);
         }
         acceptor.wait(poll, DRAINING_TURN);

@@ -1,9 +1,9 @@
 //! Why a server ends.
 
-use crate::client::{Client, Met, data_connection};
+use crate::client::{Client, Met, data_connection, fetch};
 use crate::doubles::{Board, Held, SharedBoard, Shut, new_board};
 use crate::place::Place;
-use crate::setting::{Ended, Stopped, listen_watched};
+use crate::setting::{Ended, FILE, Stopped, agreed, listen_watched};
 use ftp_options::{ListenerMode, ServerError, Shutdown};
 use ftp_system::{OpenGate, ServerRuntime, SystemFront};
 use std::alloc::Global;
@@ -15,6 +15,9 @@ use std::thread;
 use std::time::{Clock, Duration};
 
 const POOLED: ListenerMode = ListenerMode::Pooled;
+
+/// What a client is told whose session ends with the server (RFC 959, section 4.2).
+const STOPPING: &str = "421 Server is stopping, closing control connection\r\n";
 
 /// Listens with doors that stay shut.
 fn shut_out<R: ServerRuntime>(rt: &R, alloc: Global, board: &SharedBoard) -> Ended {
@@ -54,14 +57,14 @@ fn shut_down_at_once<R: ServerRuntime>(rt: &R, alloc: Global, board: &SharedBoar
     )
 }
 
-/// Asks for the file, and has the server shut down once its transfer waits at the gate.
+/// Asks for the file, and waits until its transfer waits at the gate.
 fn ask_and_wait<R: Net<Stream = TcpStream> + Clock>(
     rt: &R,
     alloc: Global,
     place: Place,
     entering: &str,
     board: &Board,
-) -> Result<(), Met> {
+) -> Result<(Client, TcpStream), Met> {
     let mut client = Client::greeted(rt, alloc, place.door(), "")?;
     client.log_in()?;
     client.ask("PASV\r\n", entering)?;
@@ -73,8 +76,77 @@ fn ask_and_wait<R: Net<Stream = TcpStream> + Clock>(
         }
         thread::sleep(rt, Duration::from_millis(1));
     }
+    Ok((client, data))
+}
+
+/// Asks for the file, and leaves once its transfer waits at the gate.
+fn ask_and_leave<R: Net<Stream = TcpStream> + Clock>(
+    rt: &R,
+    alloc: Global,
+    place: Place,
+    entering: &str,
+    board: &Board,
+) -> Result<(), Met> {
+    let (client, data) = ask_and_wait(rt, alloc, place, entering, board)?;
     drop(data);
+    drop(client);
     Ok(())
+}
+
+/// Two clients of a server that is to shut down: one does nothing, and is sent away at once; the transfer of the other waits at the
+/// gate, goes on to its end, and is told so before that client is sent away too.
+fn stay<R: Net<Stream = TcpStream> + Clock>(
+    rt: &R,
+    alloc: Global,
+    place: Place,
+    entering: &str,
+    board: &Board,
+) -> Result<(), Met> {
+    let mut idle = Client::greeted(rt, alloc, place.door(), "")?;
+    let (mut client, data) = ask_and_wait(rt, alloc, place, entering, board)?;
+    board.asks.store(true, Ordering::SeqCst);
+    idle.hear(STOPPING)?;
+    idle.hear_end()?;
+    board.is_open.store(true, Ordering::SeqCst);
+    fetch(alloc, data, FILE)?;
+    client.hear("226 Successfully sent\r\n")?;
+    client.hear(STOPPING)?;
+    client.hear_end()
+}
+
+/// Serves both, over a gate that holds the transfer back.
+fn shut_down_behind<R: ServerRuntime>(
+    rt: &R,
+    alloc: Global,
+    board: &SharedBoard,
+) -> Result<(), Stopped> {
+    let place = Place::drawn(rt).ok().ok_or(Stopped::NoPlace)?;
+    let (text, entering) = (place.text(alloc)?, place.entering(alloc)?);
+    let front = SystemFront::new(*rt, alloc);
+    let gate = Held {
+        clock: *rt,
+        board: Arc::try_clone(board)?,
+    };
+    let (met, ended) = thread::join(
+        rt,
+        || {
+            let met = stay(rt, alloc, place, entering.as_str(), board);
+            board.asks.store(true, Ordering::SeqCst);
+            board.is_open.store(true, Ordering::SeqCst);
+            met
+        },
+        move || listen_watched(
+            rt,
+            alloc,
+            board,
+            POOLED,
+            text.as_str(),
+            front,
+            gate,
+            Shutdown::new(),
+        ),
+    );
+    agreed(met, ended?)
 }
 
 /// Listens with a gate that holds a transfer back, and with an indicator that asks then, without a grace period.
@@ -90,7 +162,7 @@ fn shut_down_early<R: ServerRuntime>(rt: &R, alloc: Global, board: &SharedBoard)
     let (met, ended) = thread::join(
         rt,
         || {
-            let met = ask_and_wait(rt, alloc, place, entering.as_str(), board);
+            let met = ask_and_leave(rt, alloc, place, entering.as_str(), board);
             board.asks.store(true, Ordering::SeqCst);
             met
         },
@@ -148,5 +220,15 @@ fn a_transfer_that_waits_outlasts_no_grace_period(rt: HostRuntime) -> Result<(),
     assert_eq!(rt; ended, Err(ServerError::Shutdown));
     assert!(rt; polls_agree(&board));
     assert!(rt; board.polls.load(Ordering::SeqCst) > 0);
+    Ok(())
+}
+
+#[test]
+fn a_shutdown_lets_a_transfer_end_and_tells_its_clients(rt: HostRuntime) -> Result<(), Fail> {
+    let types: Option<(TcpListener, TcpStream)> = None;
+    drop(types);
+    let board = new_board(rt.alloc())?;
+    shut_down_behind(&rt, rt.alloc(), &board)?;
+    assert!(rt; polls_agree(&board));
     Ok(())
 }

@@ -41,7 +41,9 @@ impl Handoff {
     // Gives a worker the job that starts with the entry. Where there is no room for it, it never ends.
     fn start<R: Wait>(&self, rt: &R, entry: &Entry, job: JobShare) {
         if let Some(number) = first_link(entry.actions.as_slice()) {
-            self.put(rt, Task::Job(number, job));
+            if self.start_job(rt, job.ticket().session, number) {
+                let _ = self.put(rt, Task::Job(number, job));
+            }
         }
     }
 }

@@ -6,6 +6,7 @@ ghost use Rattle.ftp_talk.specs.Control.{is_opening};
 use crate::event_sinks::EventSinks;
 use crate::runtime::WorkerRuntime;
 use crate::session_edge::SessionEdge;
+use crate::stopping::{STOPPING, Stoppable};
 use crate::worker::Worker;
 use ftp_base::{Authenticator, Control, Edge, Gate, Link};
 use ftp_events::{Answer, EventKind, HubEvent};
@@ -65,7 +66,8 @@ impl<
         SocketControl::new(&self.rt, self.alloc, stream, patience, LIMIT).ok()
     }
 
-    // Serves a control connection while others can wake its loop, and closes it then.
+    // Serves a control connection while others can wake its loop, and closes it then. Where it ends by the stop of the server, the
+    // client is told so; one that comes behind a stop is not served.
     #[inline(never)]
     pub(crate) fn talk<C: Control + Drop>(
         &mut self,
@@ -81,22 +83,29 @@ impl<
         if !self.state.handoff.enter(&self.rt, session, handle) {
             return None;
         }
-        let mut control = control;
+        let mut control = Stoppable::new(self.rt, session, &self.state.handoff, control);
         // A connection may last, and moves no files.
         self.buffer = Vec::new(self.alloc);
         let system = SystemEdge::new(self.rt, self.alloc, at, LIMIT);
         let mut edge = SessionEdge::new(self.rt, self.alloc, session, &self.state.handoff, system);
-        let end = serve_control(
-            self.alloc,
-            &mut self.desk,
-            &mut control,
-            &mut edge,
-            &self.state.authenticator,
-            opening,
-            answer,
-        );
+        let end = if control.look() {
+            None
+        } else {
+            Some(serve_control(
+                self.alloc,
+                &mut self.desk,
+                &mut control,
+                &mut edge,
+                &self.state.authenticator,
+                opening,
+                answer,
+            ))
+        };
+        if control.is_stopped() {
+            let _ = control.write(STOPPING);
+        }
         self.state.handoff.leave(&self.rt, session);
         let _ = control.close();
-        Some(end)
+        end
     }
 }

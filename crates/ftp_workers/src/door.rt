@@ -64,6 +64,16 @@ impl<
         self.hub.drained(rt)
     }
 
+    /// Says whether the loops of all sessions have ended.
+    pub fn is_left<R: Wait>(&self, rt: &R) -> bool {
+        self.handoff.is_left(rt)
+    }
+
+    /// From now on each session ends once none of its transfers runs, and is told 421; who comes later is told so at once.
+    pub fn begin_stop<R: Wait>(&self, rt: &R) {
+        self.handoff.begin_stop(rt);
+    }
+
     /// From now on no task comes, and threads end once none is left. The feed of the journal ends with the entries that are
     /// there.
     pub fn close<R: Wait>(&self, rt: &R) {

@@ -3,6 +3,7 @@
 use crate::closing::{close_all, closes_any, not_taken};
 use crate::link_handle::LinkHandle;
 use crate::listening::{AcceptorHandle, Listening};
+use crate::running_job::{RunningJob, end_job, is_idle, start_job};
 use crate::task::Task;
 use ftp_events::Entry;
 use ftp_shared::Others;
@@ -10,7 +11,7 @@ use ftp_system::{ControlHandle, Queue};
 use indexmap::IndexMap;
 use mio::net::{TcpListener, TcpStream};
 use std::alloc::Global;
-use std::sync::atomic::{AtomicU64, Ordering};
+use std::sync::atomic::{AtomicBool, AtomicU64, Ordering};
 use std::sync::{Mutex, Wait};
 use std::time::Clock;
 
@@ -26,21 +27,23 @@ const REST: u64 = 60_000;
 
 const FEW: u64 = 4;
 
-/// Links that wait for a job, those of jobs that run, ports that were bound for sessions, those that wait for their connections, the handles of
+/// Links that wait for a job, jobs that run, ports that were bound for sessions, those that wait for their connections, the handles of
 /// control connections, and tasks.
 ///
 /// Each stands behind a lock of its own, and no two of them are held together.
 #[derive(Drop)]
 pub(crate) struct Handoff {
     links: Mutex<IndexMap<u64, PendingConnection>>,
-    // By session, with their numbers.
-    running: Mutex<IndexMap<u64, (u64, LinkHandle)>>,
+    // By session.
+    running: Mutex<IndexMap<u64, RunningJob>>,
     bound: Mutex<IndexMap<u64, (u16, TcpListener)>>,
     pub(crate) listeners: Mutex<IndexMap<u64, Listening>>,
     controls: Mutex<IndexMap<u64, ControlHandle>>,
     tasks: Queue<Task>,
     wanted: AtomicU64,
     calls: AtomicU64,
+    // The server is to stop: sessions end once none of their jobs runs.
+    is_stopping: AtomicBool,
     pub(crate) acceptor: AcceptorHandle,
 }
 
@@ -56,6 +59,7 @@ impl Handoff {
             tasks: Queue::new(alloc),
             wanted: AtomicU64::new(0),
             calls: AtomicU64::new(0),
+            is_stopping: AtomicBool::new(false),
             acceptor,
         }
     }
@@ -89,36 +93,33 @@ impl Handoff {
         }
     }
 
-    /// From now on others can shut down the link of the session's job, unless there is no handle or no room for one.
+    /// From now on the job of the session on the link of this number runs. Says whether there was room.
+    pub(crate) fn start_job<R: Wait>(&self, rt: &R, session: u64, number: u64) -> bool {
+        start_job(&mut self.running.lock(rt), session, number, None)
+    }
+
+    /// From now on others can shut down the link of the session's job, unless there is no handle.
     pub(crate) fn begin_job<R: Wait>(&self, rt: &R, session: u64, number: u64, stream: &TcpStream) {
         if let Ok(handle) = LinkHandle::new(stream) {
-            let _ = self.running.lock(rt).insert(session, (number, handle));
+            let _ = start_job(&mut self.running.lock(rt), session, number, Some(handle));
         }
     }
 
-    /// The job on the link of this number has ended.
+    /// The job of the session on the link of this number has ended. So has the session where the server is to stop, unless another
+    /// job of it runs by now.
     pub(crate) fn end_job<R: Wait>(&self, rt: &R, session: u64, number: u64) {
-        drop(self.take_running(rt, session, number));
-    }
-
-    // The handle of this link, unless the session has a job on another link by now.
-    fn take_running<R: Wait>(
-        &self,
-        rt: &R,
-        session: u64,
-        number: u64,
-    ) -> Option<(u64, LinkHandle)> {
-        let mut running = self.running.lock(rt);
-        match running.get(&session) {
-            Some((link, _)) if *link == number => running.swap_remove(&session),
-            _ => None,
+        drop(end_job(&mut self.running.lock(rt), session, number));
+        if self.is_stopping.load(Ordering::SeqCst) {
+            self.wake(rt, session);
         }
     }
 
     /// Shuts down the link of the session's job.
     pub(crate) fn stop_job<R: Wait>(&self, rt: &R, session: u64) {
-        if let Some((_, handle)) = self.running.lock(rt).get(&session) {
-            handle.shut_down();
+        if let Some(job) = self.running.lock(rt).get(&session) {
+            if let Some(handle) = &job.handle {
+                handle.shut_down();
+            }
         }
     }
 
@@ -167,6 +168,24 @@ impl Handoff {
         if let Some(handle) = self.controls.lock(rt).get(&session) {
             handle.wake();
         }
+    }
+
+    /// From now on each session ends once none of its jobs runs, and no other begins.
+    pub(crate) fn begin_stop<R: Wait>(&self, rt: &R) {
+        self.is_stopping.store(true, Ordering::SeqCst);
+        for handle in self.controls.lock(rt).values() {
+            handle.wake();
+        }
+    }
+
+    /// Says whether the session is to end, as the server is to stop and no job of it runs.
+    pub(crate) fn is_to_end<R: Wait>(&self, rt: &R, session: u64) -> bool {
+        self.is_stopping.load(Ordering::SeqCst) && is_idle(&self.running.lock(rt), session)
+    }
+
+    /// Says whether the loops of all sessions have ended.
+    pub(crate) fn is_left<R: Wait>(&self, rt: &R) -> bool {
+        self.controls.lock(rt).is_empty()
     }
 
     /// Ends the control connections of all sessions, and closes their ports.

@@ -55,11 +55,12 @@ impl<
         let mut link = Gathered::new(Ahead::new(link, ahead), buffer);
         let served = self.run_on_own_storage(job, &mut link);
         self.buffer = link.into_buffer();
-        self.state.handoff.end_job(&self.rt, session, number);
         // Where its end was not taken the job never ends.
         if let Some(submitted) = served {
             self.desk.carry_out(submitted);
         }
+        // A job that starts with the end of this one is known before: the session is never without.
+        self.state.handoff.end_job(&self.rt, session, number);
     }
 
     // Runs a job on its link, and on a storage of its own, which is gone before the job's session is woken. None where memory ran

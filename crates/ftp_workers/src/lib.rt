@@ -17,9 +17,11 @@ mod link_handle;
 mod listening;
 mod proxied;
 mod proxy_header;
+mod running_job;
 mod runtime;
 mod server_state;
 mod session_edge;
+mod stopping;
 mod task;
 mod worker;
 

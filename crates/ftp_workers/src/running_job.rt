@@ -1,0 +1,54 @@
+//! The jobs that run, as other threads see them.
+
+ghost use Rattle.std.specs.Prelude.{◌≡◌, ◌≢◌, ℕ, Some, None, true, false, not, is_some, nat_eq};
+ghost use Rattle.std.specs.Option.{option_map};
+ghost use Rattle.indexmap.specs.IndexMap.{get};
+
+use crate::link_handle::LinkHandle;
+use indexmap::IndexMap;
+
+/// A job of a session, from its start to its end.
+#[derive(Drop)]
+pub(crate) struct RunningJob {
+    /// The number of its link.
+    pub(crate) number: u64,
+    /// What its link is shut down by, once a worker has it.
+    pub(crate) handle: Option<LinkHandle>,
+}
+
+/// Says whether no job of the session runs.
+pub(crate) fn is_idle(jobs: &IndexMap<u64, RunningJob>, session: u64) -> bool
+    ensures { result ≡ not (is_some (get nat_eq jobs.now session)) }
+{
+    !jobs.contains_key(&session)
+}
+
+/// From now on the session's job on this link runs, and no other of that session. Says whether there was room.
+pub(crate) fn start_job(
+    jobs: &mut IndexMap<u64, RunningJob>,
+    session: u64,
+    number: u64,
+    handle: Option<LinkHandle>,
+) -> bool
+    ensures started { result ≡ true → option_map (λ job. job.number) (get nat_eq jobs.new session) ≡ Some number }
+    ensures others { (other : ℕ) → other ≢ session → get nat_eq jobs.new other ≡ get nat_eq jobs.old other }
+    ensures unchanged { result ≡ false → (s : ℕ) → get nat_eq jobs.new s ≡ get nat_eq jobs.old s }
+{
+    jobs.insert(session, RunningJob { number, handle }).is_ok()
+}
+
+/// The session's job on this link is over, and given back. One on another link runs on.
+pub(crate) fn end_job(
+    jobs: &mut IndexMap<u64, RunningJob>,
+    session: u64,
+    number: u64,
+) -> Option<RunningJob>
+    ensures over { option_map (λ job. job.number) (get nat_eq jobs.old session) ≡ Some number → get nat_eq jobs.new session ≡ None }
+    ensures another { option_map (λ job. job.number) (get nat_eq jobs.old session) ≢ Some number → (s : ℕ) → get nat_eq jobs.new s ≡ get nat_eq jobs.old s }
+    ensures others { (other : ℕ) → other ≢ session → get nat_eq jobs.new other ≡ get nat_eq jobs.old other }
+{
+    match jobs.get(&session) {
+        Some(job) if job.number == number => jobs.swap_remove(&session),
+        _ => None,
+    }
+}
