@@ -1,6 +1,6 @@
 //! The life of a server: it accepts connections until a shutdown is asked for, and is then drained.
 
-ghost use Rattle.std.specs.Prelude.{◌≡◌, ◌≤◌, ◌<◌, ◌+◌, ◌⊎◌, None, Some, IfErr, IfSome, IsErrOf, IsSome, OnOk};
+ghost use Rattle.std.specs.Prelude.{◌≡◌, ◌≢◌, ◌≤◌, ◌<◌, ◌+◌, ◌⊎◌, None, Some, IfErr, IsErrOf, IsSome, OnOk};
 ghost use Rattle.ftp_base.specs.Outside.{HasRisen};
 ghost use Rattle.ftp_listen.specs.Causes.{IsPastGrace};
 
@@ -191,7 +191,7 @@ where
     requires parts { blank.parts ≡ L.parts }
     requires all { blank.parts ≡ PARTS }
     requires options { options ≡ L.options }
-    requires some { IfSome every (λ n. 1 ≤ n) }
+    requires some { every ≢ Some 0 }
     ensures ok { OnOk result (IsSome (I.asked indicator.new)) }
     ensures listener { IsErrOf result ServerError.Listener → HasRisen (P.faults spawner.old) (P.faults spawner.new) }
     ensures shutdown { IsErrOf result ServerError.Shutdown → I.asked indicator.old ≡ None → IsPastGrace (I.asked indicator.new) (F.latest front.new) }

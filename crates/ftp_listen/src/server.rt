@@ -1,6 +1,6 @@
 //! A server, from its options to its end.
 
-ghost use Rattle.std.specs.Prelude.{◌≡◌, ◌≤◌, ◌↔◌, ◌⊎◌, None, Some, true, false, IfErr, IfOk, IfSome, IsErrOf, IsSome, OnOk};
+ghost use Rattle.std.specs.Prelude.{◌≡◌, ◌≢◌, ◌≤◌, ◌↔◌, ◌⊎◌, None, Some, true, false, IfErr, IfOk, IsErrOf, IsSome, OnOk};
 ghost use Rattle.ftp_base.specs.Outside.{HasRisen};
 ghost use Rattle.ftp_options.specs.Modes.{is_legacy};
 ghost use Rattle.ftp_listen.specs.Causes.{WritesNone, WritesV6, IsPastGrace, is_of_listening, is_of_running};
@@ -45,7 +45,7 @@ pub struct Server<S: Drop> {
     every: Option<u64>,
     parts: Parts<S>,
     feed: Option<Arc<JournalFeed, Global>>,
-    ghost some: { IfSome every (λ n. 1 ≤ n) },
+    ghost some: { every ≢ Some 0 },
 }
 
 impl<S: Storage + Send + Drop + 'static> Server<S> {
@@ -358,7 +358,7 @@ fn listen_boxed<
     front: &mut F,
     indicator: &mut I,
 ) -> Result<(), ServerError>
-    requires some { IfSome every (λ n. 1 ≤ n) }
+    requires some { every ≢ Some 0 }
     ensures ok { OnOk result (IsSome (I.asked indicator.new)) }
     ensures io { IsErrOf result ServerError.Io → HasRisen (F.faults front.old) (F.faults front.new) }
     ensures listener { IsErrOf result ServerError.Listener → HasRisen (P.faults spawner.old) (P.faults spawner.new) }
@@ -406,7 +406,7 @@ fn listen_at<
 ) -> Result<(), ServerError>
 where
     D::Store: Send + 'static,
-    requires some { IfSome every (λ n. 1 ≤ n) }
+    requires some { every ≢ Some 0 }
     ensures ok { OnOk result (IsSome (I.asked indicator.new)) }
     ensures io { IsErrOf result ServerError.Io → HasRisen (F.faults front.old) (F.faults front.new) }
     ensures listener { IsErrOf result ServerError.Listener → HasRisen (P.faults spawner.old) (P.faults spawner.new) }

@@ -1,6 +1,6 @@
 //! One control connection by itself.
 
-ghost use Rattle.std.specs.Prelude.{◌≡◌, ◌≤◌, ◌⊎◌, true, IfErr, IfSome};
+ghost use Rattle.std.specs.Prelude.{◌≡◌, ◌≢◌, ◌⊎◌, true, Some, IfErr};
 ghost use Rattle.ftp_options.specs.Builder.{settings_of};
 ghost use Rattle.ftp_options.specs.Modes.{is_legacy};
 
@@ -145,7 +145,7 @@ where
     requires parts { blank.parts ≡ L.parts }
     requires all { blank.parts ≡ PARTS }
     requires options { options ≡ L.options }
-    requires some { IfSome every (λ n. 1 ≤ n) }
+    requires some { every ≢ Some 0 }
     ensures only { IfErr result (λ e. (e ≡ ServerError.Io) ⊎ (e ≡ ServerError.OutOfMemory)) }
 {
     let Ok(told) = options.copy(alloc) else {
@@ -244,7 +244,7 @@ pub(crate) fn serve_one<R: ServerRuntime, D: Depot + Send + Sync + Drop + 'stati
 ) -> Result<(), ServerError>
 where
     D::Store: Send + 'static,
-    requires some { IfSome every (λ n. 1 ≤ n) }
+    requires some { every ≢ Some 0 }
     ensures only { IfErr result (λ e. (e ≡ ServerError.Io) ⊎ (e ≡ ServerError.OutOfMemory)) }
 {
     // If the peer has gone, nothing is served.

@@ -36,11 +36,11 @@ IsEvery (Some word) every = IsSomeAnd every (λ n. IsCount word n)
 
 -- three words name a mode, the first passive port and the last, and a fourth, where there is one, of how many entries the
 -- tail behind a checkpoint is at most
-pub record AsksService (mode lo hi : List ℕ) (every : Option (List ℕ)) (service : Service) : Type 0 where
-  pub mode : IsMode mode service.mode
-  pub lo : IsPort lo service.lo
-  pub hi : IsPort hi service.hi
-  pub every : IsEvery every service.every
+pub record AsksService (word first last : List ℕ) (fourth : Option (List ℕ)) (service : Service) : Type 0 where
+  pub mode : IsMode word service.mode
+  pub lo : IsPort first service.lo
+  pub hi : IsPort last service.hi
+  pub every : IsEvery fourth service.every
 
 -- the words behind the program's name ask for the command; where it serves, the first of them is looked at later
 abbrev pub Asks : List (List ℕ) → Command → Type 0

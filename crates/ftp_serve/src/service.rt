@@ -1,6 +1,6 @@
 //! How it is served.
 
-ghost use Rattle.std.specs.Prelude.{◌≤◌, IfSome};
+ghost use Rattle.std.specs.Prelude.{◌≢◌, Some};
 
 use ftp_options::ListenerMode;
 
@@ -14,5 +14,5 @@ pub struct Service {
     pub hi: u16,
     /// How many entries the journal has behind its checkpoint at most; without it, all.
     pub every: Option<u64>,
-    ghost some: { IfSome every (λ n. 1 ≤ n) },
+    ghost some: { every ≢ Some 0 },
 }

@@ -103,14 +103,14 @@ returns-in_ok-service-in-len4-clause-found c =
 pub returns-in_err-service-in-len5-clause-none : goal.returns-in_err-service-in-len5-clause-none
 returns-in_err-service-in-len5-clause-none c = λ none command asks.
     let five : length c.args.words.now ≡ 5 = omega (arith, c.in-len5.len_at_least, c.in-len5.len_below) in
-    let some = asked-five _ c.args.words.now c.mode-item-in-len5.result c.lo-item-in-len5.result c.hi-item-in-len5.result c.every-item.result five c.mode-item-in-len5.is c.lo-item-in-len5.is c.hi-item-in-len5.is c.every-item.is command asks in
+    let some = asked-five _ c.args.words.now c.mode-item-then-words-lt6.result c.lo-item-then-words-lt6.result c.hi-item-then-words-lt6.result c.every-item.result five c.mode-item-then-words-lt6.is c.lo-item-then-words-lt6.is c.hi-item-then-words-lt6.is c.every-item.is command asks in
     c.in_err-service-in-len5.ensures.none refl some.0
     (rw (c.as_bytes-in-len5.ensures.value, c.as_bytes-in-len5-2.ensures.value, c.as_bytes-in-len5-3.ensures.value, c.as_bytes-in-len5-4.ensures.value) some.1)
 
 pub returns-in_ok-service-in-len5-clause-found : goal.returns-in_ok-service-in-len5-clause-found
 returns-in_ok-service-in-len5-clause-found c =
     let five : length c.args.words.now ≡ 5 = omega (arith, c.in-len5.len_at_least, c.in-len5.len_below) in
-    asks-five _ c.args.words.now c.mode-item-in-len5.result c.lo-item-in-len5.result c.hi-item-in-len5.result c.every-item.result five c.mode-item-in-len5.is c.lo-item-in-len5.is c.hi-item-in-len5.is c.every-item.is c.in_ok-service-in-len5.service
+    asks-five _ c.args.words.now c.mode-item-then-words-lt6.result c.lo-item-then-words-lt6.result c.hi-item-then-words-lt6.result c.every-item.result five c.mode-item-then-words-lt6.is c.lo-item-then-words-lt6.is c.hi-item-then-words-lt6.is c.every-item.is c.in_ok-service-in-len5.service
     (rw (c.as_bytes-in-len5.ensures.value, c.as_bytes-in-len5-2.ensures.value, c.as_bytes-in-len5-3.ensures.value, c.as_bytes-in-len5-4.ensures.value) at c.in_ok-service-in-len5.ensures.found)
 
 pub returns-in_default-2-clause-none : goal.returns-in_default-2-clause-none
