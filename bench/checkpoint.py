@@ -37,17 +37,6 @@ MOST_SESSIONS = 10_000
 WITH, WITHOUT = f"EVERY {EVERY}", "without"
 
 
-class Keeping(Server):
-    """The server in pooled mode, with a checkpoint or without."""
-
-    def __init__(self, words, every):
-        self.every = every
-        super().__init__(words, "pooled")
-
-    def words(self, command, at):
-        return [*super().words(command, at), *([str(self.every)] if self.every else [])]
-
-
 class Amounts:
     """How many commands and sessions there are, and how many NOOPs are waited for."""
 
@@ -89,7 +78,7 @@ def run_commands(sessions, count):
 
 def resident(words, every, count, few, many, settles):
     """KiB that are resident after few commands and after many of so many sessions."""
-    with Keeping(words, every) as server:
+    with Server(words, "pooled", every=every) as server:
         sessions = opened(server, count)
         run_commands(sessions, few)
         time.sleep(settles)
@@ -148,7 +137,7 @@ def print_pauses(words, amounts):
     print("| sessions | | ms in the middle | a thousandth takes longer than | the longest |")
     print("|---|---|---|---|---|")
     for every in EVERY, 1, None:
-        with Keeping(words, every) as server:
+        with Server(words, "pooled", every=every) as server:
             sessions = opened(server, live(amounts))
             child = without_a_pause(server)
             gc.disable()
@@ -193,7 +182,7 @@ SPEEDS = {
 def run_rounds(words, rounds, amounts):
     """Of each figure the values of the rounds, with a checkpoint and without; which goes first turns."""
     found = {name: {EVERY: [], None: []} for name in SPEEDS}
-    with Keeping(words, EVERY) as keeping, Keeping(words, None) as whole:
+    with Server(words, "pooled", every=EVERY) as keeping, Server(words, "pooled") as whole:
         for server in keeping, whole:
             with session_of(server) as session:
                 session.store("STOR small", measures.SMALL)

@@ -113,11 +113,12 @@ class Program:
 class Server(Program):
     """The server in one of its modes, with a number of passive ports, where it is asked for by loopback.
 
-    In the mode `proxy` its clients call a proxy, at the `control` port there and at the same passive ports.
+    In the mode `proxy` its clients call a proxy, at the `control` port there and at the same passive ports. Where `every` is
+    given, so many entries are kept behind a checkpoint.
     """
 
-    def __init__(self, words, mode, ports=100, descriptors=None, called=None, at=HOST, port=None):
-        self.mode = mode
+    def __init__(self, words, mode, ports=100, descriptors=None, called=None, at=HOST, port=None, every=None):
+        self.mode, self.every = mode, every
         self.at, self.port = at.strip("[]"), port or free_ports(1)
         self.control, self.first, self.last = called or self.range(ports)
         super().__init__(self.words(words, at), descriptors)
@@ -126,7 +127,8 @@ class Server(Program):
     def words(self, command, at):
         """The command line of the program."""
         word = f"proxy:{self.control}" if self.mode == "proxy" else self.mode
-        return [*command, f"{at}:{self.port}", word, str(self.first), str(self.last)]
+        kept = [] if self.every is None else [str(self.every)]
+        return [*command, f"{at}:{self.port}", word, str(self.first), str(self.last), *kept]
 
     def range(self, ports):
         first = free_ports(ports + 1)

@@ -99,6 +99,26 @@ def shows_no_port_at_ipv6(command, kind=Server):
             session.quit()
 
 
+def keeps_a_checkpoint(command, mode):
+    """Sessions go on over many checkpoints: what one stores the other finds, and replies, ports and transfers are as ever."""
+    for every in 1, 7, 2**64 - 1:
+        with Server(command, mode, every=every) as server:
+            one, two = (wire.Session(server.door(), f"127.0.0.{10 + i}").login(f"user-{i}") for i in range(2))
+            for turn in range(10):
+                stored = body(1000 * turn + 1, turn)
+                one.store(f"STOR {turn}", stored)
+                link = one.link()
+                one.tell("NOOP", 200)
+                same(two.fetch(f"RETR {turn}"), stored, f"what the other fetches in turn {turn} with {every}")
+                one.tell(f"RETR {turn}", 150)
+                same(wire.drained(link), stored, f"what is fetched in turn {turn} with {every}")
+                one.expect(226)
+                two.tell("RETR none", 425)
+            same(str(len(two.fetch("NLST").splitlines())), "10", f"the files with {every}")
+            one.quit()
+            two.quit()
+
+
 def descriptors(server, due=None):
     """How many the server has; waits until there are as many as are due, where that is said."""
     end = time.monotonic() + 20
@@ -149,3 +169,4 @@ def run(tally, command):
     for mode in "legacy", "pooled", "proxy":
         name = f"{mode} the program takes three descriptors a session"
         tally.case(name, takes_three_descriptors_a_session, command, mode)
+        tally.case(f"{mode} the program keeps a checkpoint", keeps_a_checkpoint, command, mode)
