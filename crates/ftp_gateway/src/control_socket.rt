@@ -13,6 +13,7 @@ use std::os::unix::fs::FileTypeExt;
 use std::os::unix::net::{UnixListener, UnixStream};
 use std::rt::Files;
 use std::sync::Wait;
+use std::time::Clock;
 use std::{io, mem};
 
 /// How many callers there may be at a time.
@@ -76,7 +77,7 @@ fn listener_at<R: Files + Net>(rt: &R, path: &str) -> io::Result<UnixListener> {
     Ok(listener)
 }
 
-impl<R: Wait + Files<File = File> + AllocGlobal + Copy + Drop> ControlSocket<R> {
+impl<R: Wait + Files<File = File> + Clock + AllocGlobal + Copy + Drop> ControlSocket<R> {
     /// Listens at a path, or nowhere, where a shutdown is never asked for.
     pub fn bind<N: Files + Net>(
         net: &N,
@@ -176,7 +177,9 @@ impl<R: Wait + Files<File = File> + AllocGlobal + Copy + Drop> ControlSocket<R> 
     }
 }
 
-impl<R: Wait + Files<File = File> + AllocGlobal + Copy + Drop> Indicator for ControlSocket<R> {
+impl<R: Wait + Files<File = File> + Clock + AllocGlobal + Copy + Drop> Indicator
+    for ControlSocket<R>
+{
     ghost asked = { λ s. s.asked };
 
     fn poll(&mut self, at: u64) -> Option<Shutdown> {

@@ -11,6 +11,7 @@ use std::alloc::{AllocError, Global};
 use std::fs::File;
 use std::rt::Files;
 use std::sync::Wait;
+use std::time::Clock;
 
 /// What stands before an answer to what was done.
 pub const DONE: &str = "ok\n";
@@ -28,7 +29,7 @@ pub struct Duties<R: Wait + Copy + Drop> {
     pub activity: Activity,
 }
 
-impl<R: Wait + Files<File = File> + AllocGlobal + Copy + Drop> Duties<R> {
+impl<R: Wait + Files<File = File> + Clock + AllocGlobal + Copy + Drop> Duties<R> {
     /// Has the users of the file count from now on. Where it has a fault, those count that did.
     fn read_users_anew(&self) -> Result<(), Refusal> {
         let users = read_users(&self.rt, &self.users_file)?;
