@@ -1,6 +1,5 @@
 """The cases on how the gateway starts, is told things, and ends, which trials/gateway.py runs."""
 
-import calendar
 import hashlib
 import os
 import signal
@@ -32,6 +31,13 @@ WRONG_KEYS = [
     ('lockout = "all"', "lockout"),
     ("idle_session_timeout = -1", "idle_session_timeout"),
     ("banner", "line 2"),
+]
+# Values that keys take, and of which no server can be made.
+UNSERVED = [
+    ("pasv_min_port = 20099\npasv_max_port = 20000", "empty passive port range"),
+    ('listen = "nowhere"', "could not parse address"),
+    ('listen = "localhost:2121"', "could not parse address"),
+    ('listen = "[::1]:2121"', "IPv6 outside legacy mode"),
 ]
 WRONG_LINES = [
     "ann",
@@ -73,7 +79,8 @@ def checked(command, folder, keys, users):
 
 
 def says_what_is_wrong_with_its_files(command, mode):
-    """`check` is quiet where both files are right, and else tells the key, or the line of the users."""
+    """`check` is quiet where both files are right, and else tells the key, the line of the users or the user, or why it could not
+    serve."""
     with Gateway(command, mode) as gateway:
         good = user_line(WRITER, gateway.home) + "\n"
         holds(checked(command, gateway.folder, "", good) == (0, ""), "files that are right are refused")
@@ -83,6 +90,13 @@ def says_what_is_wrong_with_its_files(command, mode):
         for line in WRONG_LINES:
             status, text = checked(command, gateway.folder, "", good.replace("ann", "eve") + f"# a comment\n{line}\n{good}")
             holds(status == 1 and "line 3" in text, f"{line} is answered {status} {text}")
+        for keys, why in UNSERVED:
+            status, text = checked(command, gateway.folder, keys, good)
+            holds(status == 1 and why in text, f"{keys} is answered {status} {text}")
+        (gateway.folder / "file").write_bytes(DATA)
+        for home in gateway.folder / "none", gateway.folder / "file":
+            status, text = checked(command, gateway.folder, "", good + user_line("eve", home) + "\n")
+            holds(status == 1 and "eve" in text, f"a home that is no directory is answered {status} {text}")
         status, text = checked(command, gateway.folder, "", good + good)
         holds(status == 1 and "line 2" in text, f"a name that comes twice is answered {status} {text}")
         status, text = run_words(command, "check", str(gateway.folder / "none.toml"))
@@ -376,33 +390,6 @@ def two_at_once(gateway, home, budget):
     (home / "three").unlink(missing_ok=True)
 
 
-def logs_each_transfer(command, mode):
-    """A line of wu-ftpd's form for each file that was sent or received, whole or not, in their order, with the moment of its end."""
-    with Gateway(command, mode) as other:
-        log = other.folder / "transfers.log"
-        began = time.time()
-        with Gateway(command, mode, keys={"xferlog_file": log}) as gateway:
-            with let_in(gateway, source="127.0.0.7") as session:
-                session.store("STOR a name", DATA)
-                session.fetch("RETR a name")
-                session.fetch("RETR a name", 1000)
-                outcome(session, "RETR none")
-                session.fetch("NLST")
-                session.quit()
-            holds(gateway.tells("stop")[0] == 0, "stop fails")
-        lines = [line.split() for line in log.read_text().splitlines()]
-        due = [(len(DATA), "/a_name", "i", "c"), (len(DATA), "/a_name", "o", "c"), (len(DATA) - 1000, "/a_name", "o", "c"), (0, "/none", "o", "i")]
-        holds(len(lines) == len(due), f"{len(lines)} lines of {len(due)}: {lines}")
-        for line, (length, path, way, end) in zip(lines, due):
-            holds(began - 1 <= moment(line) <= time.time() + 1, f"another moment: {line}")
-            fields = ["127.0.0.7", str(length), path, "b", "_", way, "r", WRITER, "ftp", "0", "*", end]
-            holds(line[6:] == fields, f"{line[6:]}, and {fields} is due")
-
-
-def moment(line):
-    return calendar.timegm(time.strptime(" ".join(line[:5]), "%a %b %d %H:%M:%S %Y"))
-
-
 STARTS = [refuses_what_is_no_command, tells_of_itself, says_what_is_wrong_with_its_files, leaves_a_file_at_its_socket_alone]
 STARTS += [does_not_take_the_socket_of_another, says_why_it_does_not_serve, shows_no_port_at_ipv6, makes_hashes]
 ENDS = [
@@ -415,7 +402,6 @@ ENDS = [
     tells_how_it_goes,
     starts_again_where_it_was_killed,
     keeps_a_budget,
-    logs_each_transfer,
 ]
 
 

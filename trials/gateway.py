@@ -24,6 +24,7 @@ import endings  # noqa: E402
 import health  # noqa: E402
 import homes  # noqa: E402
 import interrupts  # noqa: E402
+import logged  # noqa: E402
 import operations  # noqa: E402
 import packaged  # noqa: E402
 import places  # noqa: E402
@@ -100,7 +101,7 @@ def main():
         tally.group(mode, run_direct, words, mode)
         if mode != "legacy":
             tally.group(f"{mode} with one port", sessions.run_addresses, words, mode, Gateway)
-        for cases in homes, places, disks, endings:
+        for cases in homes, places, disks, endings, logged:
             tally.group(f"{mode} {cases.__name__}", cases.run, words, mode)
     run_behind_haproxy(tally, words)
     abuse.run(tally, words, Gateway)

@@ -116,6 +116,8 @@ pub record IsConfigOf (document : Members) (config : GatewayConfig) : Type 0 whe
   pub failures : number_or 1 4294967295 5 (value_at key.LockoutFailures document) ≡ Some config.lockout_failures
   pub forget : number_or 1 4294967295 600 (value_at key.LockoutForget document) ≡ Some config.lockout_forget
   pub xferlog : maybe_text (value_at key.XferlogFile document) ≡ Some config.xferlog_file
+  pub log : maybe_text (value_at key.LogFile document) ≡ Some config.log_file
+  pub metrics : maybe_text (value_at key.MetricsFile document) ≡ Some config.metrics_file
   pub control : maybe_text (value_at key.ControlSocket document) ≡ Some config.control_socket
 
 -- a fault tells what is wrong with the document

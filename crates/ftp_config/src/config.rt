@@ -38,7 +38,12 @@ pub struct GatewayConfig {
     pub lockout: Option<FailedLoginsBlock>,
     pub lockout_failures: u32,
     pub lockout_forget: u32,
+    /// Where transfers are told in xferlog's form.
     pub xferlog_file: Option<Bytes>,
+    /// Where all that is told of sessions stands.
+    pub log_file: Option<Bytes>,
+    /// Where the counters stand, as Prometheus reads them.
+    pub metrics_file: Option<Bytes>,
     pub control_socket: Option<Bytes>,
 }
 
@@ -66,6 +71,8 @@ fn config_in(alloc: Global, table: &Table) -> Result<GatewayConfig, ConfigError>
         lockout_failures: number(table, Key::LockoutFailures, 1, MOST, 5)?,
         lockout_forget: number(table, Key::LockoutForget, 1, MOST, 600)?,
         xferlog_file: maybe_text_at(alloc, table, Key::XferlogFile)?,
+        log_file: maybe_text_at(alloc, table, Key::LogFile)?,
+        metrics_file: maybe_text_at(alloc, table, Key::MetricsFile)?,
         control_socket: maybe_text_at(alloc, table, Key::ControlSocket)?,
     })
 }

@@ -33,12 +33,17 @@ pub enum Key {
     LockoutFailures,
     /// For how many seconds a failed login counts.
     LockoutForget,
+    /// The log of transfers in xferlog's form.
     XferlogFile,
+    /// The log of sessions, logins and transfers.
+    LogFile,
+    /// The file of the counters, as Prometheus reads them.
+    MetricsFile,
     /// The socket by which a running gateway is told to stop or to reload.
     ControlSocket,
 }
 
-const KEYS: [Key; 18] = [
+const KEYS: [Key; 20] = [
     Key::UsersFile,
     Key::Listen,
     Key::Mode,
@@ -56,6 +61,8 @@ const KEYS: [Key; 18] = [
     Key::LockoutFailures,
     Key::LockoutForget,
     Key::XferlogFile,
+    Key::LogFile,
+    Key::MetricsFile,
     Key::ControlSocket,
 ];
 
@@ -81,6 +88,8 @@ pub fn key_name(key: Key) -> &'static str
         Key::LockoutFailures => "lockout_failures",
         Key::LockoutForget => "lockout_forget",
         Key::XferlogFile => "xferlog_file",
+        Key::LogFile => "log_file",
+        Key::MetricsFile => "metrics_file",
         Key::ControlSocket => "control_socket",
     }
 }

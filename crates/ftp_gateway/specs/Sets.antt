@@ -1,5 +1,5 @@
 -- What a configuration sets of the options.
-use Rattle.std.specs.Prelude.{◌≡◌, ℕ, ◌*◌, List, Option, Some, None, option_map, Bool, true, false, if◌then◌else◌}
+use Rattle.std.specs.Prelude.{◌≡◌, ℕ, ◌*◌, List, Option, Some, None, option_map, is_some, Bool, true, false, if◌then◌else◌}
 use Rattle.ftp_options.specs.Builder.{defaults}
 use Rattle.ftp_options.specs.Host.{IsHostOf}
 use Rattle.ftp_options.specs.Settings.{Settings}
@@ -36,4 +36,5 @@ pub record AreSettingsOf (config : GatewayConfig) (settings : Settings) : Type 0
     idle_ms = config.idle_session_timeout * 1000;
     lockout = lockout_of config;
     greeting = Some config.banner;
+    collect_metrics = is_some config.metrics_file;
   }

@@ -1,4 +1,4 @@
-//! The socket by which a running gateway is asked for something.
+//! The socket by which a running gateway is asked for something, and its turns.
 
 ghost use Rattle.std.specs.Prelude.{◌≡◌};
 
@@ -21,6 +21,9 @@ const CALLERS: usize = 16;
 
 /// How long a caller may say nothing, in milliseconds.
 const PATIENCE: u64 = 5000;
+
+/// How often the counts are written, in milliseconds.
+const COUNTS_EVERY: u64 = 10_000;
 
 /// One who has called, and when.
 #[derive(Drop)]
@@ -50,6 +53,8 @@ pub struct ControlSocket<R: Wait + Copy + Drop> {
     // When the first turn was.
     started: Option<u64>,
     asked: Option<(u64, u64)>,
+    // When the counts are written next.
+    counts_at: u64,
 }
 
 // What a caller says, where it has said something.
@@ -97,7 +102,19 @@ impl<R: Wait + Files<File = File> + Clock + AllocGlobal + Copy + Drop> ControlSo
             grace_ms,
             started: None,
             asked: None,
+            counts_at: 0,
         })
+    }
+
+    // Has the counts written from time to time.
+    fn count(&mut self, at: u64)
+        ensures asked { self.new.asked ≡ self.old.asked }
+        ensures grace { self.new.grace_ms ≡ self.old.grace_ms }
+    {
+        if at >= self.counts_at {
+            self.duties.count();
+            self.counts_at = at.saturating_add(COUNTS_EVERY);
+        }
     }
 
     // Takes in who calls, unless there are too many.
@@ -183,6 +200,7 @@ impl<R: Wait + Files<File = File> + Clock + AllocGlobal + Copy + Drop> Indicator
     ghost asked = { λ s. s.asked };
 
     fn poll(&mut self, at: u64) -> Option<Shutdown> {
+        self.count(at);
         if self.asked.is_none() {
             if self.started.is_none() {
                 self.started = Some(at);

@@ -2,6 +2,7 @@
 
 use crate::activity::Activity;
 use crate::current_users::{CurrentUsers, UserSource};
+use crate::records::Records;
 use crate::refusal::{Refusal, reason};
 use crate::setup::read_users;
 use crate::user_table::UserTable;
@@ -10,7 +11,7 @@ use ftp_disk::Below;
 use std::alloc::{AllocError, Global};
 use std::fs::File;
 use std::rt::Files;
-use std::sync::Wait;
+use std::sync::{Arc, Wait};
 use std::time::Clock;
 
 /// What stands before an answer to what was done.
@@ -27,6 +28,7 @@ pub struct Duties<R: Wait + Copy + Drop> {
     pub users_file: Bytes,
     pub users: CurrentUsers<R>,
     pub activity: Activity,
+    pub records: Arc<Records<R>, Global>,
 }
 
 impl<R: Wait + Files<File = File> + Clock + AllocGlobal + Copy + Drop> Duties<R> {
@@ -40,12 +42,18 @@ impl<R: Wait + Files<File = File> + Clock + AllocGlobal + Copy + Drop> Duties<R>
         Ok(())
     }
 
-    /// Reads the file of users anew, and says whether that was done, or why not.
+    /// Opens the logs and reads the file of users anew, and says whether both was done, or why not.
     pub fn reload(&self) -> Result<String, AllocError> {
-        match self.read_users_anew() {
+        let reopened = self.records.reopen();
+        match self.read_users_anew().and(reopened) {
             Ok(()) => String::from_str(self.alloc, DONE),
             Err(refusal) => self.refused(reason(self.alloc, &refusal)?.as_str()),
         }
+    }
+
+    /// Writes the counts anew.
+    pub fn count(&self) {
+        let _ = self.records.write_metrics();
     }
 
     /// Tells for how many milliseconds the gateway serves, how many users there are, and what was done.

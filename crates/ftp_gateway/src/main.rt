@@ -14,8 +14,13 @@ mod control_socket;
 mod current_users;
 mod duties;
 mod homes;
+mod log_file;
+mod metrics_file;
 mod password_check;
 mod passwords;
+mod place;
+mod recording;
+mod records;
 mod refusal;
 mod request;
 mod serving;
@@ -25,13 +30,23 @@ mod user_table;
 
 use command::Command;
 use ftp_listen::{Parts, Server};
+use ftp_shared::JournalFeed;
+use recording::{MOST_WAITING, record};
+use records::Records;
 use refusal::{Refusal, tell};
 use serving::Gateway;
+use setup::read_setup;
+use std::alloc::Global;
 use std::env;
 use std::net::{Net, TcpListener, TcpStream};
 use std::process::ExitCode;
 use std::random::RandomSource;
 use std::rt::{Env, Files};
+use std::sync::Arc;
+use std::thread;
+
+/// How many entries of the journal are kept behind its checkpoint at most.
+const CHECKPOINT_EVERY: u64 = 1_000;
 
 const HELP: &str = "\
 Usage: ftp_gateway serve FILE | check FILE | stop SOCKET | reload SOCKET | status SOCKET | mkpasswd
@@ -65,7 +80,7 @@ fn run<R: Files + Input + Net + Print + RandomSource + AllocGlobal>(
 ) -> ExitCode {
     let done = match command {
         Command::Serve | Command::Check => {
-            let read = setup::read_setup(rt, file).map(drop);
+            let read = read_setup(rt, file).map(drop);
             return ended(rt, read);
         }
         Command::Ask(request) => asking::ask(rt, file, request),
@@ -102,6 +117,67 @@ fn asked<R: Env + AllocGlobal>(rt: &R) -> Result<(Command, String), u8> {
     }
 }
 
+// Serves as its two files say, until it is told to stop, and writes what they name of its journal.
+fn serve(rt: &HostRuntime, file: &str) -> Result<(), Refusal> {
+    let alloc = rt.alloc();
+    let setup = read_setup(rt, file)?;
+    let records = Arc::new(alloc, Records::open(*rt, &setup.config, &setup.options)?)?;
+    let feed = Arc::new(alloc, JournalFeed::new(alloc, MOST_WAITING))?;
+    let fed = if records.is_empty() {
+        None
+    } else {
+        Some(Arc::try_clone(&feed)?)
+    };
+    let gateway = serving::prepare(rt, setup, Arc::try_clone(&records)?)?;
+    let (journal, written) = (&*feed, &*records);
+    let ((), done) = thread::join(
+        rt,
+        move || record(rt, journal, written),
+        move || {
+            let done = listen(rt, gateway, fed);
+            journal.close(rt);
+            done
+        },
+    );
+    records.write_metrics()?;
+    done
+}
+
+// Serves a gateway, whose journal's entries go to a feed, where there is one.
+fn listen(
+    rt: &HostRuntime,
+    gateway: Gateway<HostRuntime>,
+    feed: Option<Arc<JournalFeed, Global>>,
+) -> Result<(), Refusal> {
+    let alloc = rt.alloc();
+    let Gateway {
+        plan,
+        check,
+        depot,
+        control,
+        transfers,
+        logins,
+    } = gateway;
+    let parts = Parts {
+        authenticator: Box::new(alloc, check)?,
+        data_listener: Box::new(alloc, transfers)?,
+        presence_listener: Box::new(alloc, logins)?,
+        indicator: Box::new(alloc, control)?,
+        storage: depot,
+    };
+    let mut server = Server::over(alloc, plan.options, parts);
+    server.most_sessions(plan.most_sessions);
+    server.most_sessions_of_one(plan.most_of_one);
+    server.checkpoint_every(CHECKPOINT_EVERY);
+    if let Some(feed) = feed {
+        server.feed_journal(feed);
+    }
+    match server.listen_over(rt, plan.address.as_slice()) {
+        Ok(()) => Ok(()),
+        Err(error) => Err(Refusal::Server(error)),
+    }
+}
+
 fn main(rt: HostRuntime) -> ExitCode {
     // The check looks for the types of a bound among those of the function.
     let types: Option<(TcpListener, TcpStream)> = None;
@@ -113,37 +189,5 @@ fn main(rt: HostRuntime) -> ExitCode {
     if command != Command::Serve {
         return run(&rt, command, file.as_str());
     }
-    let Gateway {
-        plan,
-        check,
-        depot,
-        control,
-        transfers,
-        logins,
-    } = match serving::prepare(&rt, file.as_str()) {
-        Ok(gateway) => gateway,
-        Err(refusal) => return ended(&rt, Err(refusal)),
-    };
-    let (Ok(authenticator), Ok(data_listener), Ok(presence_listener), Ok(indicator)) = (
-        Box::new(rt.alloc(), check),
-        Box::new(rt.alloc(), transfers),
-        Box::new(rt.alloc(), logins),
-        Box::new(rt.alloc(), control),
-    ) else {
-        return ended(&rt, Err(Refusal::OutOfMemory));
-    };
-    let parts = Parts {
-        authenticator,
-        data_listener,
-        presence_listener,
-        indicator,
-        storage: depot,
-    };
-    let mut server = Server::over(rt.alloc(), plan.options, parts);
-    server.most_sessions(plan.most_sessions);
-    server.most_sessions_of_one(plan.most_of_one);
-    match server.listen_over(&rt, plan.address.as_slice()) {
-        Ok(()) => ExitCode::SUCCESS,
-        Err(error) => ended(&rt, Err(Refusal::Server(error))),
-    }
+    ended(&rt, serve(&rt, file.as_str()))
 }

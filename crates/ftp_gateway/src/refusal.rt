@@ -12,8 +12,12 @@ use std::io;
 pub enum Refusal {
     /// The file of users, or the configuration file, cannot be read.
     Unreadable(Bytes),
+    /// A log, or the file of the counts, cannot be written.
+    Unwritable(Bytes),
     Config(ConfigError),
     Users(UsersError),
+    /// The home of this user is no directory.
+    Home(Bytes),
     /// The control socket cannot be made.
     ControlSocket,
     Server(ServerError),
@@ -43,6 +47,10 @@ pub fn reason(alloc: Global, refusal: &Refusal) -> Result<String, AllocError> {
             let path = shown(path);
             format!(in alloc; "{path}: cannot be read")
         }
+        Refusal::Unwritable(path) => {
+            let path = shown(path);
+            format!(in alloc; "{path}: cannot be written")
+        }
         Refusal::Config(ConfigError::Syntax(error)) => format!(in alloc; "{error}"),
         Refusal::Config(ConfigError::UnknownKey(name)) => {
             let name = shown(name);
@@ -54,6 +62,10 @@ pub fn reason(alloc: Global, refusal: &Refusal) -> Result<String, AllocError> {
         }
         Refusal::Users(UsersError::Line(number)) => {
             format!(in alloc; "line {number} of the users is no user's")
+        }
+        Refusal::Home(name) => {
+            let name = shown(name);
+            format!(in alloc; "the home of {name} is no directory")
         }
         Refusal::ControlSocket => format!(in alloc; "the control socket cannot be made"),
         Refusal::Server(error) => format!(in alloc; "{error}"),

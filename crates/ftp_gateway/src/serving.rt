@@ -6,9 +6,9 @@ use crate::control_socket::ControlSocket;
 use crate::current_users::{CurrentUsers, UserSource};
 use crate::duties::Duties;
 use crate::password_check::PasswordCheck;
+use crate::records::Records;
 use crate::refusal::Refusal;
-use crate::settings::options;
-use crate::setup::{Setup, read_setup};
+use crate::setup::Setup;
 use crate::user_table::UserTable;
 use ftp_base::Bytes;
 use ftp_config::GatewayConfig;
@@ -71,6 +71,7 @@ fn control_of<R: GatewayRuntime>(
     config: &GatewayConfig,
     users: CurrentUsers<R>,
     activity: Activity,
+    records: Arc<Records<R>, Global>,
 ) -> Result<ControlSocket<R>, Refusal> {
     let alloc = rt.alloc();
     let duties = Duties {
@@ -79,6 +80,7 @@ fn control_of<R: GatewayRuntime>(
         users_file: config.users_file.copy(alloc)?,
         users,
         activity,
+        records,
     };
     let path = match &config.control_socket {
         Some(path) => match std::str::from_utf8(path.as_slice()) {
@@ -94,14 +96,18 @@ fn control_of<R: GatewayRuntime>(
     }
 }
 
-/// The gateway that the configuration file at a path describes.
-pub fn prepare<R: GatewayRuntime>(rt: &R, path: &str) -> Result<Gateway<R>, Refusal> {
+/// The gateway that its two files describe, which writes these records of its journal.
+pub fn prepare<R: GatewayRuntime>(
+    rt: &R,
+    setup: Setup,
+    records: Arc<Records<R>, Global>,
+) -> Result<Gateway<R>, Refusal> {
     let alloc = rt.alloc();
-    let Setup { config, users } = read_setup(rt, path)?;
-    let options = match options(alloc, &config) {
-        Ok(options) => options,
-        Err(error) => return Err(Refusal::Server(error)),
-    };
+    let Setup {
+        config,
+        options,
+        users,
+    } = setup;
     let system = Below::new(*rt);
     let table = UserTable::new(rt, &system, alloc, users, &Budgets::none(alloc))?;
     let users = CurrentUsers::new(*rt, alloc, table)?;
@@ -114,7 +120,7 @@ pub fn prepare<R: GatewayRuntime>(rt: &R, path: &str) -> Result<Gateway<R>, Refu
         users: users.share()?,
     };
     let check = PasswordCheck::new(*rt, users.share()?);
-    let control = control_of(rt, &config, users, activity)?;
+    let control = control_of(rt, &config, users, activity, records)?;
     let plan = Plan {
         options,
         address: config.listen.copy(alloc)?,

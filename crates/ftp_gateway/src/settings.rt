@@ -1,6 +1,6 @@
 //! The options of a gateway.
 
-ghost use Rattle.std.specs.Prelude.{◌≡◌, IfOk};
+ghost use Rattle.std.specs.Prelude.{◌≡◌, ◌≤◌, ◌<◌, IfOk, IsErrOf, OnOk};
 ghost use Rattle.ftp_options.specs.Builder.{settings_of};
 ghost use Rattle.ftp_gateway.specs.Sets.{AreSettingsOf, commands_of, lockout_of, HasHost};
 
@@ -47,8 +47,11 @@ fn host(alloc: Global, address: &Option<Bytes>) -> Result<PassiveHost, AllocErro
 /// # Proved
 ///
 /// - They are what the configuration says, and else the defaults (`built`; `AreSettingsOf` in `ftp_gateway/specs/Sets.antt`).
+/// - A range of passive ports is refused where it is empty, and only then (`empty_range`, `range`).
 pub fn options(alloc: Global, config: &GatewayConfig) -> Result<Options, ServerError>
     ensures built { IfOk result (λ options. AreSettingsOf config.now (settings_of options)) }
+    ensures empty_range { IsErrOf result ServerError.EmptyRange → config.now.pasv_max_port < config.now.pasv_min_port }
+    ensures range { OnOk result (config.now.pasv_min_port ≤ config.now.pasv_max_port) }
 {
     let (Ok(host), Ok(banner)) = (host(alloc, &config.pasv_address), config.banner.copy(alloc))
     else {
@@ -67,6 +70,9 @@ pub fn options(alloc: Global, config: &GatewayConfig) -> Result<Options, ServerE
     builder.idle_session_timeout(u64::from(config.idle_session_timeout));
     if let Some(policy) = lockout(config) {
         builder.failed_logins_policy(policy);
+    }
+    if config.metrics_file.is_some() {
+        builder.metrics();
     }
     match builder.build() {
         Ok(built) => Ok(built.options),

@@ -6,3 +6,4 @@ pub mod Lines
 pub mod Forms
 pub mod Written
 pub mod Metrics
+pub mod Tally

@@ -152,8 +152,8 @@ impl ServerLog {
     }
 }
 
-// One more, where a login was locked out.
-fn more_locked(locked: u64, decision: Decision) -> u64
+/// One more, where a login was locked out.
+pub(crate) fn more_locked(locked: u64, decision: Decision) -> u64
     ensures { result ≡ saturated (locked + one_if (is_lockout decision)) }
 {
     if is_lockout(decision) {

@@ -20,5 +20,7 @@ returns-clause-said c =
       failures = c.in_ok-number-5.ensures.written;
       forget = c.in_ok-number-6.ensures.written;
       xferlog = c.in_ok-maybe_text_at-2.ensures.written;
-      control = c.in_ok-maybe_text_at-3.ensures.written;
+      log = c.in_ok-maybe_text_at-3.ensures.written;
+      metrics = c.in_ok-maybe_text_at-4.ensures.written;
+      control = c.in_ok-maybe_text_at-5.ensures.written;
     }

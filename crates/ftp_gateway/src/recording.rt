@@ -1,0 +1,42 @@
+//! The journal of a gateway, written as it grows.
+
+use crate::records::Records;
+use crate::refusal::tell;
+use ftp_shared::{EntriesLost, JournalFeed};
+use std::fs::File;
+use std::rt::Files;
+use std::sync::Wait;
+use std::time::Clock;
+
+/// How many entries may wait to be written: some hundred MB of them.
+pub const MOST_WAITING: u64 = 200_000;
+
+const LOST: &str = "entries of the journal are lost: nothing more is logged or counted";
+
+/// Writes what each entry of a feed tells, until the server has ended. Where that fails it says so, once until it goes on.
+pub fn record<R: Wait + Files<File = File> + Clock + Print + AllocGlobal + Copy + Drop>(
+    rt: &R,
+    feed: &JournalFeed,
+    records: &Records<R>,
+) {
+    let mut has_failed = false;
+    for _ in rt.forever() {
+        let entry = match feed.next(rt) {
+            Ok(Some(entry)) => entry,
+            Ok(None) => return,
+            Err(EntriesLost) => {
+                let _ = println!(rt; "{LOST}");
+                return;
+            }
+        };
+        match records.take(&entry) {
+            Ok(()) => has_failed = false,
+            Err(refusal) => {
+                if !has_failed {
+                    let _ = tell(rt, &refusal);
+                }
+                has_failed = true;
+            }
+        }
+    }
+}

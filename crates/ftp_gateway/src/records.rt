@@ -1,0 +1,141 @@
+//! What a gateway writes of its journal.
+
+use crate::log_file::LogFile;
+use crate::metrics_file::MetricsFile;
+use crate::refusal::Refusal;
+use ftp_base::Bytes;
+use ftp_config::GatewayConfig;
+use ftp_events::Entry;
+use ftp_options::Options;
+use ftp_server_log::LogForm;
+use std::alloc::{AllocError, Global};
+use std::fs::File;
+use std::rt::Files;
+use std::sync::Wait;
+use std::time::{Clock, Duration};
+
+/// The logs and the counts of a journal, each in a file.
+#[derive(Drop)]
+pub struct Records<R: Wait + Drop> {
+    alloc: Global,
+    logs: Vec<LogFile<R>>,
+    metrics: Option<MetricsFile<R>>,
+}
+
+// A time in milliseconds.
+fn millis(time: Duration) -> u64 {
+    u64::try_from(time.as_millis()).unwrap_or(u64::MAX)
+}
+
+// The moment from which those of a journal are counted, in milliseconds since the first day of 1970.
+fn start<R: Clock>(rt: &R) -> u64 {
+    let (Ok(now), Ok(since_start)) = (rt.since_1970(), rt.monotonic()) else {
+        return 0;
+    };
+    millis(now).saturating_sub(millis(since_start))
+}
+
+// A path that a configuration names.
+fn path_text(path: &Bytes) -> Option<&str> {
+    std::str::from_utf8(path.as_slice()).ok()
+}
+
+// Why a file cannot be written.
+fn unwritable(alloc: Global, path: &[u8]) -> Refusal {
+    match Bytes::from_slice(alloc, path) {
+        Ok(path) => Refusal::Unwritable(path),
+        Err(AllocError) => Refusal::OutOfMemory,
+    }
+}
+
+impl<R: Wait + Files<File = File> + Clock + AllocGlobal + Copy + Drop> Records<R> {
+    /// Opens the files that a configuration names, for the journal of a server with these options.
+    pub fn open(
+        rt: R,
+        config: &GatewayConfig,
+        options: &Options,
+    ) -> Result<Records<R>, Refusal> {
+        let alloc = rt.alloc();
+        let mut records = Records {
+            alloc,
+            logs: Vec::new(alloc),
+            metrics: None,
+        };
+        records.add_log(rt, &config.log_file, LogForm::Own)?;
+        records.add_log(rt, &config.xferlog_file, LogForm::Xferlog)?;
+        if let Some(path) = &config.metrics_file {
+            records.count_in(rt, path, options.copy(alloc)?)?;
+        }
+        Ok(records)
+    }
+
+    // Has a log written too, where a path is named.
+    fn add_log(&mut self, rt: R, path: &Option<Bytes>, form: LogForm) -> Result<(), Refusal> {
+        let Some(path) = path else {
+            return Ok(());
+        };
+        let opened = match path_text(path) {
+            Some(text) => LogFile::open(rt, text, form, start(&rt)).ok(),
+            None => None,
+        };
+        match opened {
+            Some(log) => Ok(self.logs.push(log)?),
+            None => Err(unwritable(self.alloc, path.as_slice())),
+        }
+    }
+
+    // Has counts written too, and writes the first.
+    fn count_in(&mut self, rt: R, path: &Bytes, options: Options) -> Result<(), Refusal> {
+        let made = match path_text(path) {
+            Some(text) => MetricsFile::new(rt, text, options).ok(),
+            None => None,
+        };
+        match made {
+            Some(metrics) => self.metrics = Some(metrics),
+            None => return Err(unwritable(self.alloc, path.as_slice())),
+        }
+        self.write_metrics()
+    }
+
+    /// Whether nothing is written.
+    pub fn is_empty(&self) -> bool {
+        self.logs.is_empty() && self.metrics.is_none()
+    }
+
+    /// Writes what the next entry tells, wherever it can be written, and says where it cannot.
+    pub fn take(&self, entry: &Entry) -> Result<(), Refusal> {
+        let mut told = Ok(());
+        for log in &self.logs {
+            if log.take(entry).is_err() {
+                told = Err(unwritable(self.alloc, log.path().as_bytes()));
+            }
+        }
+        if let Some(metrics) = &self.metrics {
+            if metrics.take(entry).is_err() {
+                told = Err(unwritable(self.alloc, metrics.path().as_bytes()));
+            }
+        }
+        told
+    }
+
+    /// Has each log go on in the file that stands at its path then.
+    pub fn reopen(&self) -> Result<(), Refusal> {
+        for log in &self.logs {
+            if log.reopen().is_err() {
+                return Err(unwritable(self.alloc, log.path().as_bytes()));
+            }
+        }
+        Ok(())
+    }
+
+    /// Writes the counts anew.
+    pub fn write_metrics(&self) -> Result<(), Refusal> {
+        let Some(metrics) = &self.metrics else {
+            return Ok(());
+        };
+        match metrics.write() {
+            Ok(()) => Ok(()),
+            Err(_) => Err(unwritable(self.alloc, metrics.path().as_bytes())),
+        }
+    }
+}
