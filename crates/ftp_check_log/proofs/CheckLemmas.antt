@@ -16,14 +16,14 @@ use Rattle.ftp_hub.specs.declared.hub.Hub.{Hub}
 use Rattle.ftp_hub.specs.Stands.{Stands, SameAnswers, options_of, count_of}
 use Rattle.ftp_hub.proofs.Refusals.{stands-same}
 use Rattle.ftp_text.proofs.Exact.{some_is}
-use Rattle.ftp_event_text.specs.declared.setup.Item.{Item}
-use Rattle.ftp_log_text.specs.declared.line.LogLine.{LogLine}
-use Rattle.ftp_log_text.specs.declared.line.LogLine.TheVariants as says
-use Rattle.ftp_log_text.specs.declared.place.Stage.{Stage}
-use Rattle.ftp_log_text.specs.declared.place.Stage.TheVariants as stage
-use Rattle.ftp_log_text.specs.LogLines.{IsAnswer, IsLogLine}
-use Rattle.ftp_log_text.specs.LogText.{answers, says_of, opening, lines_of}
-use Rattle.ftp_log_text.specs.Place.{stage_after, is_whole}
+use Rattle.ftp_text.specs.declared.setup.Item.{Item}
+use Rattle.ftp_text.specs.declared.line.LogLine.{LogLine}
+use Rattle.ftp_text.specs.declared.line.LogLine.TheVariants as says
+use Rattle.ftp_text.specs.declared.place.Stage.{Stage}
+use Rattle.ftp_text.specs.declared.place.Stage.TheVariants as stage
+use Rattle.ftp_text.specs.LogLines.{IsAnswer, IsLogLine}
+use Rattle.ftp_text.specs.LogText.{answers, says_of, opening, lines_of}
+use Rattle.ftp_text.specs.Place.{stage_after, is_whole}
 use Rattle.ftp_check_log.specs.declared.checker.Checker.{Checker}
 use Rattle.ftp_check_log.specs.declared.verdict.Verdict.{Verdict}
 use Rattle.ftp_check_log.specs.declared.verdict.Verdict.TheVariants as verdict

@@ -10,15 +10,15 @@ use Rattle.ftp_events.specs.declared.event.Answer.TheVariants as answer
 use Rattle.ftp_events.specs.Right.{IsRight}
 use Rattle.ftp_hub.specs.Stands.{Stands, options_of, count_of}
 use Rattle.ftp_text.proofs.Exact.{some_is}
-use Rattle.ftp_log_text.specs.declared.line.LogLine.{LogLine}
-use Rattle.ftp_log_text.specs.declared.line.LogLine.TheVariants as says
-use Rattle.ftp_log_text.specs.declared.place.Place.{Place}
-use Rattle.ftp_log_text.specs.declared.place.Stage.{Stage}
-use Rattle.ftp_log_text.specs.declared.place.Stage.TheVariants as stage
-use Rattle.ftp_log_text.specs.LogLines.{IsLogLine}
-use Rattle.ftp_log_text.specs.LogText.{lines_of, text_of, IsLog, ComesNext, IsFirstBad}
-use Rattle.ftp_log_text.specs.Place.{is_whole, HasRead}
-use Rattle.ftp_log_text.proofs.PlaceLemmas.{lines-text, comes-fits, stage-between, unfinished, reached-front}
+use Rattle.ftp_text.specs.declared.line.LogLine.{LogLine}
+use Rattle.ftp_text.specs.declared.line.LogLine.TheVariants as says
+use Rattle.ftp_text.specs.declared.place.Place.{Place}
+use Rattle.ftp_text.specs.declared.place.Stage.{Stage}
+use Rattle.ftp_text.specs.declared.place.Stage.TheVariants as stage
+use Rattle.ftp_text.specs.LogLines.{IsLogLine}
+use Rattle.ftp_text.specs.LogText.{lines_of, text_of, IsLog, ComesNext, IsFirstBad}
+use Rattle.ftp_text.specs.Place.{is_whole, HasRead}
+use Rattle.ftp_text.proofs.PlaceLemmas.{lines-text, comes-fits, stage-between, unfinished, reached-front}
 use Rattle.ftp_check_log.specs.declared.checker.Checker.{Checker}
 use Rattle.ftp_check_log.specs.declared.verdict.Verdict.{Verdict}
 use Rattle.ftp_check_log.specs.declared.verdict.Verdict.TheVariants as verdict

@@ -11,14 +11,14 @@ use Rattle.ftp_events.specs.declared.decision.Decision.{Decision}
 use Rattle.ftp_events.specs.declared.entry.Entry.{Entry}
 use Rattle.ftp_control.specs.Lines.{is_line_feed, first_line}
 use Rattle.ftp_text.proofs.Exact.{run_length}
-use Rattle.ftp_event_text.specs.declared.setup.Item.{Item}
-use Rattle.ftp_event_text.specs.Printing.{line}
-use Rattle.ftp_log_text.specs.declared.line.LogLine.{LogLine}
-use Rattle.ftp_log_text.specs.declared.line.LogLine.TheVariants as says
-use Rattle.ftp_log_text.specs.LogLines.{log_line, IsLogLine}
-use Rattle.ftp_log_text.specs.LogText.{says_of, opening, lines_of, text_of, IsLog, IsFront, ComesNext, IsFirstBad}
-use Rattle.ftp_log_text.proofs.FeedLemmas.{is_line_byte, line_none}
-use Rattle.ftp_log_text.proofs.PrintedLemmas.{one_bad, text-cons}
+use Rattle.ftp_text.specs.declared.setup.Item.{Item}
+use Rattle.ftp_text.specs.Printing.{line}
+use Rattle.ftp_text.specs.declared.line.LogLine.{LogLine}
+use Rattle.ftp_text.specs.declared.line.LogLine.TheVariants as says
+use Rattle.ftp_text.specs.LogLines.{log_line, IsLogLine}
+use Rattle.ftp_text.specs.LogText.{says_of, opening, lines_of, text_of, IsLog, IsFront, ComesNext, IsFirstBad}
+use Rattle.ftp_text.proofs.FeedLemmas.{is_line_byte, line_none}
+use Rattle.ftp_text.proofs.PrintedLemmas.{one_bad, text-cons}
 use Rattle.ftp_check_log.specs.declared.verdict.Verdict.{Verdict}
 use Rattle.ftp_check_log.specs.declared.verdict.Verdict.TheVariants as verdict
 use Rattle.ftp_check_log.specs.Verdicts.{settings_in, IsDueLog, AreLinesOf, head_of, HasOtherDecision, Strays, GoesAstray, HasOtherActions, HasBadText, TellsOfText, IsOnlyVerdict}

@@ -7,12 +7,12 @@ use Rattle.ftp_events.specs.declared.decision.Decision.{Decision}
 use Rattle.ftp_events.specs.declared.entry.Entry.{Entry}
 use Rattle.ftp_events.specs.declared.event.Answer.{Answer}
 use Rattle.ftp_events.specs.declared.event.HubEvent.{HubEvent}
-use Rattle.ftp_event_text.specs.declared.setup.Item.{Item}
-use Rattle.ftp_log_text.specs.declared.line.LogLine.{LogLine}
-use Rattle.ftp_log_text.specs.declared.line.LogLine.TheVariants as says
-use Rattle.ftp_log_text.specs.LogLines.{log_line}
-use Rattle.ftp_log_text.specs.LogText.{answers, says_of, opening, text_of}
-use Rattle.ftp_log_text.proofs.PrintedLemmas.{goes-on, text-cons}
+use Rattle.ftp_text.specs.declared.setup.Item.{Item}
+use Rattle.ftp_text.specs.declared.line.LogLine.{LogLine}
+use Rattle.ftp_text.specs.declared.line.LogLine.TheVariants as says
+use Rattle.ftp_text.specs.LogLines.{log_line}
+use Rattle.ftp_text.specs.LogText.{answers, says_of, opening, text_of}
+use Rattle.ftp_text.proofs.PrintedLemmas.{goes-on, text-cons}
 use Rattle.ftp_check_log.specs.Verdicts.{AreLinesOf, head_of}
 use Rattle.ftp_check_log.proofs.OnlyLemmas.{IsNext, AreNext, same-head, same-entry, entry-lines, some-front, SameOpening, decided, decided-append, decided-answers}
 

@@ -9,13 +9,13 @@ use Rattle.ftp_control.specs.Lines.{is_line_feed, first_line, Rest}
 use Rattle.ftp_control.proofs.ControlLineLemmas.{position_or_len-le}
 use Rattle.ftp_control.proofs.LineLemmas.{pos_found, pos_none}
 use Rattle.ftp_text.proofs.Exact.{some_is}
-use Rattle.ftp_event_text.specs.Printing.{line}
-use Rattle.ftp_log_text.specs.declared.line.LogLine.{LogLine}
-use Rattle.ftp_log_text.specs.declared.place.Place.{Place}
-use Rattle.ftp_log_text.specs.LogLines.{log_line, IsLogLine}
-use Rattle.ftp_log_text.specs.LogText.{text_of, ComesNext, IsFirstBad}
-use Rattle.ftp_log_text.specs.Place.{HasRead}
-use Rattle.ftp_log_text.proofs.PlaceLemmas.{comes-fits, stage-between}
+use Rattle.ftp_text.specs.Printing.{line}
+use Rattle.ftp_text.specs.declared.line.LogLine.{LogLine}
+use Rattle.ftp_text.specs.declared.place.Place.{Place}
+use Rattle.ftp_text.specs.LogLines.{log_line, IsLogLine}
+use Rattle.ftp_text.specs.LogText.{text_of, ComesNext, IsFirstBad}
+use Rattle.ftp_text.specs.Place.{HasRead}
+use Rattle.ftp_text.proofs.PlaceLemmas.{comes-fits, stage-between}
 use Rattle.ftp_check_log.specs.declared.checker.Checker.{Checker}
 use Rattle.ftp_check_log.specs.declared.verdict.Verdict.{Verdict}
 use Rattle.ftp_check_log.specs.declared.verdict.Verdict.TheVariants as verdict

@@ -2,7 +2,7 @@
 use Rattle.std.specs.Prelude.{◌≡◌, ℕ, ◌⊎◌, List, [], Option, codes}
 use Rattle.ftp_base.specs.Outside.{Writes}
 use Rattle.ftp_control.specs.Writing.{WritesFront}
-use Rattle.ftp_event_text.specs.Printing.{line}
+use Rattle.ftp_text.specs.Printing.{line}
 use Rattle.ftp_check_log.specs.declared.evidence.Evidence.{Evidence}
 use Rattle.ftp_check_log.specs.declared.explanation.Explanation.{Explanation}
 use Rattle.ftp_check_log.specs.declared.verdict.Verdict.{Verdict}

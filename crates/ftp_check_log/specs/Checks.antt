@@ -8,14 +8,14 @@ use Rattle.ftp_events.specs.declared.event.Answer.TheVariants as answer
 use Rattle.ftp_events.specs.declared.event.HubEvent.{HubEvent}
 use Rattle.ftp_events.specs.Right.{IsRight, IsActed}
 use Rattle.ftp_hub.specs.Stands.{Stands, options_of, count_of}
-use Rattle.ftp_event_text.specs.declared.setup.Item.{Item}
-use Rattle.ftp_log_text.specs.declared.line.LogLine.{LogLine}
-use Rattle.ftp_log_text.specs.declared.line.LogLine.TheVariants as says
-use Rattle.ftp_log_text.specs.declared.place.Stage.{Stage}
-use Rattle.ftp_log_text.specs.declared.place.Stage.TheVariants as stage
-use Rattle.ftp_log_text.specs.LogLines.{IsAnswer, IsLogLine}
-use Rattle.ftp_log_text.specs.LogText.{lines_of, IsPrintOf}
-use Rattle.ftp_log_text.specs.Place.{stage_after, HasRead}
+use Rattle.ftp_text.specs.declared.setup.Item.{Item}
+use Rattle.ftp_text.specs.declared.line.LogLine.{LogLine}
+use Rattle.ftp_text.specs.declared.line.LogLine.TheVariants as says
+use Rattle.ftp_text.specs.declared.place.Stage.{Stage}
+use Rattle.ftp_text.specs.declared.place.Stage.TheVariants as stage
+use Rattle.ftp_text.specs.LogLines.{IsAnswer, IsLogLine}
+use Rattle.ftp_text.specs.LogText.{lines_of, IsPrintOf}
+use Rattle.ftp_text.specs.Place.{stage_after, HasRead}
 use Rattle.ftp_check_log.specs.declared.checker.Checker.{Checker}
 use Rattle.ftp_check_log.specs.declared.verdict.Verdict.{Verdict}
 use Rattle.ftp_check_log.specs.declared.verdict.Verdict.TheVariants as verdict

@@ -3,8 +3,8 @@ use Rattle.std.specs.Prelude.{◌≡◌, ℕ, ◌<◌, ◌≤◌, List, length, 
 use Rattle.ftp_options.specs.declared.options.Options.{Options}
 use Rattle.ftp_events.specs.declared.entry.Entry.{Entry}
 use Rattle.ftp_events.specs.Right.{IsRight}
-use Rattle.ftp_event_text.specs.declared.setup.Item.{Item}
-use Rattle.ftp_log_text.specs.LogText.{IsPrintOf}
+use Rattle.ftp_text.specs.declared.setup.Item.{Item}
+use Rattle.ftp_text.specs.LogText.{IsPrintOf}
 use Rattle.ftp_check_log.specs.declared.evidence.Evidence.{Evidence}
 use Rattle.ftp_check_log.specs.declared.explanation.Explanation.{Explanation}
 use Rattle.ftp_check_log.specs.declared.explanation.Explanation.TheVariants as explanation

@@ -1,8 +1,8 @@
 -- How far what a source gives is checked.
 use Rattle.std.specs.Prelude.{ℕ, List, ◌++◌, Option, IfSome}
 use Rattle.ftp_control.specs.Lines.{Rest}
-use Rattle.ftp_log_text.specs.declared.line.LogLine.{LogLine}
-use Rattle.ftp_log_text.specs.LogText.{text_of}
+use Rattle.ftp_text.specs.declared.line.LogLine.{LogLine}
+use Rattle.ftp_text.specs.LogText.{text_of}
 use Rattle.ftp_check_log.specs.declared.checker.Checker.{Checker}
 use Rattle.ftp_check_log.specs.Checks.{Checks}
 

@@ -2,7 +2,7 @@
 use Rattle.std.specs.Prelude.{ℕ, List, [], ◌++◌, codes}
 use Rattle.ftp_events.specs.declared.decision.Decision.{Decision}
 use Rattle.ftp_text.specs.Fields.{field, number}
-use Rattle.ftp_event_text.specs.Printing.{line, decision_text}
+use Rattle.ftp_text.specs.Printing.{line, decision_text}
 use Rattle.ftp_check_log.specs.declared.explanation.Explanation.{Explanation}
 use Rattle.ftp_check_log.specs.declared.explanation.Explanation.TheVariants as explanation
 use Rattle.ftp_check_log.specs.declared.verdict.Verdict.{Verdict}

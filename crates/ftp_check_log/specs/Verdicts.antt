@@ -10,12 +10,12 @@ use Rattle.ftp_events.specs.declared.entry.Entry.{Entry}
 use Rattle.ftp_events.specs.declared.event.Answer.{Answer}
 use Rattle.ftp_events.specs.declared.event.HubEvent.{HubEvent}
 use Rattle.ftp_events.specs.Right.{IsRight, IsActed}
-use Rattle.ftp_event_text.specs.declared.setup.Item.{Item}
-use Rattle.ftp_event_text.specs.declared.setup.Item.TheVariants as item
-use Rattle.ftp_log_text.specs.declared.line.LogLine.{LogLine}
-use Rattle.ftp_log_text.specs.declared.line.LogLine.TheVariants as says
-use Rattle.ftp_log_text.specs.LogLines.{IsLogLine}
-use Rattle.ftp_log_text.specs.LogText.{answers, lines_of, text_of, IsFront, IsPrintOf, IsFirstBad}
+use Rattle.ftp_text.specs.declared.setup.Item.{Item}
+use Rattle.ftp_text.specs.declared.setup.Item.TheVariants as item
+use Rattle.ftp_text.specs.declared.line.LogLine.{LogLine}
+use Rattle.ftp_text.specs.declared.line.LogLine.TheVariants as says
+use Rattle.ftp_text.specs.LogLines.{IsLogLine}
+use Rattle.ftp_text.specs.LogText.{answers, lines_of, text_of, IsFront, IsPrintOf, IsFirstBad}
 use Rattle.ftp_check_log.specs.declared.verdict.Verdict.{Verdict}
 use Rattle.ftp_check_log.specs.declared.verdict.Verdict.TheVariants as verdict
 

@@ -3,18 +3,17 @@
 ghost use Rattle.std.specs.Prelude.{◌≡◌, ◌↔◌, ◌+◌, ◌-◌, ◌∷◌, ℕ, List, [], Some, None, true, IsTrue, slice_get, IfOk, OnOk, MatchOption};
 ghost use Rattle.std.specs.Option.{option_copied};
 ghost use Rattle.ftp_hub.specs.Stands.{Fits, count_of};
-ghost use Rattle.ftp_log_text.specs.declared.line.LogLine.{LogLine};
-ghost use Rattle.ftp_log_text.specs.declared.line.LogLine.TheVariants as says;
-ghost use Rattle.ftp_log_text.specs.LogLines.{IsLogLine};
-ghost use Rattle.ftp_log_text.specs.Place.{IsLawful};
+ghost use Rattle.ftp_text.specs.declared.line.LogLine.{LogLine};
+ghost use Rattle.ftp_text.specs.declared.line.LogLine.TheVariants as says;
+ghost use Rattle.ftp_text.specs.LogLines.{IsLogLine};
+ghost use Rattle.ftp_text.specs.Place.{IsLawful};
 ghost use Rattle.ftp_check_log.specs.Checks.{Checks, Takes, TellsBy};
 
 use crate::options::{default_options, options_in};
 use crate::verdict::Verdict;
-use ftp_event_text::Item;
 use ftp_events::{Action, Actions, Answer, Decision, Entry, HubEvent, Log};
 use ftp_hub::{Hub, Room};
-use ftp_log_text::{LogLine, Place};
+use ftp_text::{Item, LogLine, Place};
 use std::alloc::{AllocError, Global};
 
 /// How far a log is checked. Where entries are not kept, the actions of the last one are all that is.

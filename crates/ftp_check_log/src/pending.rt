@@ -7,7 +7,7 @@ ghost use Rattle.ftp_control.specs.Lines.{Rest};
 ghost use Rattle.ftp_check_log.specs.Pending.{unread, IsInBounds, HasFeed, ShowsLine};
 
 use ftp_base::{Failed, Source};
-use ftp_log_text::LONGEST_LOG;
+use ftp_text::LONGEST_LOG;
 use ftp_text::writing::put;
 use memchr::memchr;
 use std::alloc::Global;

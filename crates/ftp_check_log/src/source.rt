@@ -3,7 +3,7 @@
 ghost use Rattle.std.specs.Prelude.{◌≡◌, ℕ, ◌<◌, ◌≤◌, List, [], Option, IfOk, IfSome, IfNone, IsErrOf};
 ghost use Rattle.ftp_base.specs.declared.fault.Failed.TheVariants.{Fault};
 ghost use Rattle.ftp_base.specs.Outside.{HasRisen};
-ghost use Rattle.ftp_log_text.specs.Place.{IsLawful};
+ghost use Rattle.ftp_text.specs.Place.{IsLawful};
 ghost use Rattle.ftp_check_log.specs.Checks.{Checks, TellsBy, KeepsRight};
 ghost use Rattle.ftp_check_log.specs.Pending.{unread, IsInBounds, ShowsLine};
 ghost use Rattle.ftp_check_log.specs.ReadsOn.{ReadsOn};

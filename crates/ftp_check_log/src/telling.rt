@@ -9,8 +9,8 @@ ghost use Rattle.ftp_check_log.specs.VerdictLines.{number_line, due_line, verdic
 use crate::{Explanation, Verdict, put_evidence};
 use ftp_base::{Failed, Sink};
 use ftp_control::write_all;
-use ftp_event_text::decision_text;
 use ftp_events::Decision;
+use ftp_text::decision_text;
 use ftp_text::writing::{put, put_byte, put_field, put_number};
 use std::alloc::{AllocError, Global};
 

@@ -3,8 +3,8 @@ use Rattle.std.proofs.Common.{◌≡◌, ℕ, ◌≤◌, List, length, sym, ap, 
 use Rattle.std.specs.Prelude.{Result, Ok, Err, IfOk}
 use Rattle.ftp_text.specs.declared.fault.LineFault.{LineFault}
 use Rattle.ftp_text.specs.declared.fault.LineFault.TheVariants as fault
-use Rattle.ftp_event_text.specs.declared.setup.Item.{Item}
-use Rattle.ftp_event_text.specs.Setup.{IsItemOf}
+use Rattle.ftp_text.specs.declared.setup.Item.{Item}
+use Rattle.ftp_text.specs.Setup.{IsItemOf}
 use Rattle.ftp_script_run.specs.declared.admission.Admission.{Admission}
 use Rattle.ftp_script_run.specs.Script.{may_stand}
 use Rattle.ftp_script_run.specs.Admission.{LetsIn, GivesItem}

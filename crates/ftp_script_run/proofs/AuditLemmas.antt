@@ -10,7 +10,7 @@ use Rattle.ftp_options.specs.declared.options.Options.{Options}
 use Rattle.ftp_events.specs.declared.entry.Entry.{Entry}
 use Rattle.ftp_control.specs.Writing.{WritesFront}
 use Rattle.ftp_hub.specs.Stands.{options_of}
-use Rattle.ftp_event_text.specs.declared.setup.Item.{Item}
+use Rattle.ftp_text.specs.declared.setup.Item.{Item}
 use Rattle.ftp_script_run.specs.declared.text_script.ScriptReader.{ScriptReader}
 use Rattle.ftp_script_run.specs.Script.{IsScriptOf}
 use Rattle.ftp_script_run.specs.ScriptReader.{HasRead, ReadsAhead, StopsBehind, IsLetIn}

@@ -7,7 +7,7 @@ use Rattle.std.proofs.lemmas.List.{append-nil, take_all}
 use Rattle.std.proofs.Math.Numerals.{add-one}
 use Rattle.std.proofs.lemmas.List.Sums.{sum_by-cons, count_by-le-length}
 use Rattle.ftp_events.specs.declared.entry.Entry.{Entry}
-use Rattle.ftp_event_text.specs.Printing.{decision_text}
+use Rattle.ftp_text.specs.Printing.{decision_text}
 use Rattle.ftp_script_run.specs.Counts.{names, named_count, count_line, count_lines, AreCounts}
 
 -- numbers of which the first i are already those of f, and the others those of g

@@ -5,7 +5,7 @@ use Rattle.ftp_base.specs.declared.login.AuthAnswer.TheVariants.{Good}
 use Rattle.ftp_events.specs.declared.decision.Decision.{Decision}
 use Rattle.ftp_events.specs.declared.decision.Decision.TheVariants as decision
 use Rattle.ftp_events.specs.declared.event.EventKind.TheVariants.{Connect, User, Pass, AuthDone, Pasv, Abor}
-use Rattle.ftp_event_text.specs.Printing.{decision_text}
+use Rattle.ftp_text.specs.Printing.{decision_text}
 use Rattle.ftp_script_run.specs.Draws.{draw}
 use Rattle.ftp_script_run.specs.Events.{client, called, kinds}
 use Rattle.ftp_script_run.specs.Counts.{names}

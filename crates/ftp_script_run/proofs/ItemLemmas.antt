@@ -18,8 +18,8 @@ use Rattle.ftp_options.specs.declared.options.ActivePassiveMode.{ActivePassiveMo
 use Rattle.ftp_options.specs.declared.options.ListenerMode.{ListenerMode}
 use Rattle.ftp_options.specs.Builder.{defaults}
 use Rattle.ftp_options.specs.Settings.{Settings}
-use Rattle.ftp_event_text.specs.declared.setup.Item.{Item}
-use Rattle.ftp_event_text.specs.declared.setup.Item.TheVariants as item
+use Rattle.ftp_text.specs.declared.setup.Item.{Item}
+use Rattle.ftp_text.specs.declared.setup.Item.TheVariants as item
 use Rattle.ftp_quota.specs.Book.{Book}
 use Rattle.ftp_quota.specs.Quota.{with_budget, IsUnused}
 use Rattle.ftp_script_run.specs.Script.{says, has_link}

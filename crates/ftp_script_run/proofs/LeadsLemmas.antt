@@ -25,7 +25,7 @@ use Rattle.ftp_events.specs.declared.event.Answer.TheVariants.{Done}
 use Rattle.ftp_events.specs.declared.event.EventKind.TheVariants.{End, Piece}
 use Rattle.ftp_events.specs.Leads.{Views, Outside, told_by, header_to_read, job_to_move, job_to_run, MovesPiece, ReadsHeader, RunsJob, LeavesAll, LeadsOne, Leads}
 use Rattle.ftp_events.specs.Log.{past_of}
-use Rattle.ftp_event_text.specs.declared.setup.Item.{Item}
+use Rattle.ftp_text.specs.declared.setup.Item.{Item}
 use Rattle.ftp_script_run.specs.SetUp.{StorageState}
 use Rattle.ftp_hub.specs.Runs.{is_linked, job_due}
 use Rattle.ftp_script_run.specs.Legal.{memory_views, start_of}

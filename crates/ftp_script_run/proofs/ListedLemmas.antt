@@ -15,7 +15,7 @@ use Rattle.ftp_events.specs.declared.event.Answer.{Answer}
 use Rattle.ftp_events.specs.declared.event.Answer.TheVariants as answer
 use Rattle.ftp_events.specs.Leads.{Outside, told_by, ReadsHeader, RunsJob}
 use Rattle.ftp_events.specs.Log.{past_of}
-use Rattle.ftp_event_text.specs.declared.setup.Item.{Item}
+use Rattle.ftp_text.specs.declared.setup.Item.{Item}
 use Rattle.ftp_script_run.specs.SetUp.{StorageState}
 use Rattle.ftp_script_run.specs.Legal.{memory_views, start_of}
 use Rattle.ftp_script_run.specs.Listed.{IsListed, ToldFaultsAreListed, ToldHeaderFaultsAreListed}

@@ -6,9 +6,9 @@ use Rattle.std.proofs.lemmas.Bool.{le-leb, leb-true, and_parts}
 use Rattle.std.proofs.lemmas.List.{length-drop, append-nil, append_assoc}
 use Rattle.ftp_control.specs.Lines.{is_line_feed, first_line, behind_line}
 use Rattle.ftp_text.specs.Reading.{◌>>=◌}
-use Rattle.ftp_event_text.specs.declared.setup.Item.{Item}
-use Rattle.ftp_event_text.specs.SetupReading.{item_of}
-use Rattle.ftp_event_text.proofs.SetupLemmas.{item_takes, item_again}
+use Rattle.ftp_text.specs.declared.setup.Item.{Item}
+use Rattle.ftp_text.specs.SetupReading.{item_of}
+use Rattle.ftp_text.proofs.SetupLemmas.{item_takes, item_again}
 use Rattle.ftp_script_run.specs.Laws.{LineHasOneItem, BytesAreOneScript}
 use Rattle.ftp_script_run.specs.Script.{may_stand, ComesNext, line_size, Continues, IsScriptOf}
 

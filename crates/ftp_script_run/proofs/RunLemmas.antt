@@ -19,8 +19,8 @@ use Rattle.ftp_hub.specs.declared.hub.Hub.{Hub}
 use Rattle.ftp_hub.specs.Runs.{has_link_of, is_linked, job_due}
 use Rattle.ftp_hub.specs.Stands.{Stands, options_of}
 use Rattle.ftp_hub.proofs.Links.{has_link_of-due, has_links-under, links-more, insert-linked}
-use Rattle.ftp_event_text.specs.declared.setup.Item.{Item}
-use Rattle.ftp_event_text.specs.declared.setup.Item.TheVariants as item
+use Rattle.ftp_text.specs.declared.setup.Item.{Item}
+use Rattle.ftp_text.specs.declared.setup.Item.TheVariants as item
 use Rattle.ftp_script_run.specs.Script.{says, has_link, may_stand}
 use Rattle.ftp_script_run.specs.SetUp.{StorageState, has_event, set_up, storage_in}
 use Rattle.ftp_script_run.specs.declared.run.Run.{Run}

@@ -8,7 +8,7 @@ use Rattle.std.proofs.lemmas.Bool.{cases_lt}
 use Rattle.ftp_control.specs.Lines.{Rest, TakesAtMost, is_line_feed, first_line, behind_line, bytes_in, IsWithin, HasNoFeed, IsNext}
 use Rattle.ftp_control.proofs.LineLemmas.{pos_found, length-bytes_in}
 use Rattle.ftp_control.specs.declared.lines.Span.{Span}
-use Rattle.ftp_event_text.specs.declared.setup.Item.{Item}
+use Rattle.ftp_text.specs.declared.setup.Item.{Item}
 use Rattle.ftp_script_run.specs.declared.text_script.ScriptReader.{ScriptReader}
 use Rattle.ftp_script_run.specs.Script.{ComesNext, line_size, Continues, IsScriptOf}
 use Rattle.ftp_script_run.specs.Admission.{Remembers}

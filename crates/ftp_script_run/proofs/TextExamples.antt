@@ -17,11 +17,11 @@ use Rattle.ftp_events.specs.declared.event.EventKind.{EventKind}
 use Rattle.ftp_events.specs.declared.event.EventKind.TheVariants as kind
 use Rattle.ftp_text.specs.Message.{message_at, two_paths_at}
 use Rattle.ftp_text.specs.Reading.{number_at, small_at, dotted_at, address_at, ipv4_at, hex_of, hex_from, hex_field, optional_field, word_value, word_at, text_field, text_from, calls_field, call_of, list_of, each_of}
-use Rattle.ftp_event_text.specs.declared.setup.Item.{Item}
-use Rattle.ftp_event_text.specs.declared.setup.Item.TheVariants as item
-use Rattle.ftp_event_text.specs.EventReading.{event_of, read_as}
-use Rattle.ftp_event_text.specs.OptionsReading.{mode_of, mode_at, listening_at, host_of, host_at, active_at, lockout_of, lockout_at, restart_at, rules_at}
-use Rattle.ftp_event_text.specs.SetupReading.{options_at, storage_at, dir_at, file_at, quota_at, budget_at, link_at, item_of}
+use Rattle.ftp_text.specs.declared.setup.Item.{Item}
+use Rattle.ftp_text.specs.declared.setup.Item.TheVariants as item
+use Rattle.ftp_text.specs.EventReading.{event_of, read_as}
+use Rattle.ftp_text.specs.OptionsReading.{mode_of, mode_at, listening_at, host_of, host_at, active_at, lockout_of, lockout_at, restart_at, rules_at}
+use Rattle.ftp_text.specs.SetupReading.{options_at, storage_at, dir_at, file_at, quota_at, budget_at, link_at, item_of}
 use Rattle.ftp_quota.specs.Names.{ByName}
 use Rattle.ftp_script_run.specs.Script.{IsScriptOf}
 use Rattle.ftp_script_run.proofs.Reading.{script_from, script_read}

@@ -12,7 +12,7 @@ use Rattle.std.proofs.Math.Seq.{take-append-add}
 use Rattle.ftp_base.specs.Outside.{Writes}
 use Rattle.ftp_control.specs.Writing.{WritesFront}
 use Rattle.ftp_events.specs.declared.entry.Entry.{Entry}
-use Rattle.ftp_event_text.specs.Printing.{entry_lines, print}
+use Rattle.ftp_text.specs.Printing.{entry_lines, print}
 use Rattle.ftp_script_run.specs.Outcome.{log_lines}
 
 -- nothing was written

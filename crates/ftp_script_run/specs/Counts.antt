@@ -5,7 +5,7 @@ use Rattle.std.specs.Str.{bytes_eq}
 use Rattle.std.specs.Cmp.Lexicographic.{slice_cmp}
 use Rattle.std.specs.Ordering.{is_lt, nat_cmp}
 use Rattle.ftp_events.specs.declared.entry.Entry.{Entry}
-use Rattle.ftp_event_text.specs.Printing.{decision_text}
+use Rattle.ftp_text.specs.Printing.{decision_text}
 
 -- the names of all decisions, in byte order
 unfoldable pub names : List (List ℕ)

@@ -7,8 +7,8 @@ use Rattle.ftp_base.specs.Memory.{LinkState}
 use Rattle.ftp_options.specs.Builder.{defaults}
 use Rattle.ftp_options.specs.Settings.{Settings}
 use Rattle.ftp_events.specs.declared.event.HubEvent.{HubEvent}
-use Rattle.ftp_event_text.specs.declared.setup.Item.{Item}
-use Rattle.ftp_event_text.specs.declared.setup.Item.TheVariants as item
+use Rattle.ftp_text.specs.declared.setup.Item.{Item}
+use Rattle.ftp_text.specs.declared.setup.Item.TheVariants as item
 
 -- the event of an item
 abbrev pub event_in : Item → Option HubEvent

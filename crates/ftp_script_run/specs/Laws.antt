@@ -1,7 +1,7 @@
 -- What holds of lines and of scripts.
 use Rattle.std.specs.Prelude.{◌≡◌, ℕ, List, Option}
-use Rattle.ftp_event_text.specs.declared.setup.Item.{Item}
-use Rattle.ftp_event_text.specs.Setup.{IsItemOf}
+use Rattle.ftp_text.specs.declared.setup.Item.{Item}
+use Rattle.ftp_text.specs.Setup.{IsItemOf}
 use Rattle.ftp_script_run.specs.Script.{IsScriptOf}
 
 -- a line is that of at most one item

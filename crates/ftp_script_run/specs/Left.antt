@@ -7,7 +7,7 @@ use Rattle.ftp_base.specs.LinkTable.{Numbered}
 use Rattle.ftp_base.specs.Memory.{LinkState}
 use Rattle.ftp_base.specs.MemoryStorage.{MemoryState}
 use Rattle.ftp_base.specs.Storage.{files_in_order}
-use Rattle.ftp_event_text.specs.Setup.{sent_line, file_line}
+use Rattle.ftp_text.specs.Setup.{sent_line, file_line}
 use Rattle.ftp_script_run.specs.SetUp.{StorageState}
 
 -- the line on what was sent on the link of this number; on no link nothing was sent

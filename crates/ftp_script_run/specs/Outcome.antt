@@ -6,8 +6,8 @@ use Rattle.ftp_base.specs.Outside.{Writes}
 use Rattle.ftp_events.specs.declared.entry.Entry.{Entry}
 use Rattle.ftp_control.specs.Writing.{WritesFront}
 use Rattle.ftp_text.specs.Fields.{number}
-use Rattle.ftp_event_text.specs.declared.setup.Item.{Item}
-use Rattle.ftp_event_text.specs.Printing.{print}
+use Rattle.ftp_text.specs.declared.setup.Item.{Item}
+use Rattle.ftp_text.specs.Printing.{print}
 use Rattle.ftp_script_run.specs.Script.{IsScriptOf}
 use Rattle.ftp_script_run.specs.ScriptReader.{AreWhole, ReadsAhead, StopsBehind}
 use Rattle.ftp_script_run.specs.SetUp.{StorageState}

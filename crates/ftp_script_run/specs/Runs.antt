@@ -9,8 +9,8 @@ use Rattle.ftp_events.specs.Log.{past_of}
 use Rattle.ftp_control.specs.Writing.{WritesFront}
 use Rattle.ftp_hub.specs.declared.hub.Hub.{Hub}
 use Rattle.ftp_hub.specs.Stands.{Stands, options_of}
-use Rattle.ftp_event_text.specs.declared.setup.Item.{Item}
-use Rattle.ftp_event_text.specs.Setup.{IsItem}
+use Rattle.ftp_text.specs.declared.setup.Item.{Item}
+use Rattle.ftp_text.specs.Setup.{IsItem}
 use Rattle.ftp_script_run.specs.declared.text_script.ScriptReader.{ScriptReader}
 use Rattle.ftp_script_run.specs.Script.{may_stand}
 use Rattle.ftp_script_run.specs.ScriptReader.{Follows, HasRead}

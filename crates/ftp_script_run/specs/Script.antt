@@ -5,9 +5,9 @@ use Rattle.ftp_base.specs.MemoryStorage.{directory_refusal}
 use Rattle.ftp_events.specs.Covers.{is_covered}
 use Rattle.ftp_control.specs.Lines.{first_line, behind_line}
 use Rattle.ftp_quota.specs.Quota.{own_budget_of}
-use Rattle.ftp_event_text.specs.declared.setup.Item.{Item}
-use Rattle.ftp_event_text.specs.declared.setup.Item.TheVariants as item
-use Rattle.ftp_event_text.specs.Setup.{IsItemOf}
+use Rattle.ftp_text.specs.declared.setup.Item.{Item}
+use Rattle.ftp_text.specs.declared.setup.Item.TheVariants as item
+use Rattle.ftp_text.specs.Setup.{IsItemOf}
 use Rattle.ftp_script_run.specs.SetUp.{storage_in, has_event}
 
 -- whether the item is the link of this number

@@ -3,7 +3,7 @@ use Rattle.std.specs.Prelude.{◌≡◌, ℕ, ◌≤◌, ◌⊎◌, true, List, 
 use Rattle.ftp_control.specs.Lines.{bytes_in, IsWithin, Rest, HasNoFeed, IsNext}
 use Rattle.ftp_control.specs.declared.lines.Span.{Span}
 use Rattle.ftp_control.specs.declared.lines.NextLineError.TheVariants as line_error
-use Rattle.ftp_event_text.specs.declared.setup.Item.{Item}
+use Rattle.ftp_text.specs.declared.setup.Item.{Item}
 use Rattle.ftp_script_run.specs.declared.text_script.TheConstants.{BUFFER_SIZE}
 use Rattle.ftp_script_run.specs.declared.text_script.ScriptReader.{ScriptReader}
 use Rattle.ftp_script_run.specs.declared.text_script.ScriptError.{ScriptError}

@@ -6,8 +6,8 @@ use Rattle.ftp_base.specs.Storage.{Directory, with_file}
 use Rattle.ftp_base.specs.MemoryStorage.{MemoryState}
 use Rattle.ftp_quota.specs.Book.{new_book}
 use Rattle.ftp_quota.specs.Quota.{QuotaState, with_budget}
-use Rattle.ftp_event_text.specs.declared.setup.Item.{Item}
-use Rattle.ftp_event_text.specs.declared.setup.Item.TheVariants as item
+use Rattle.ftp_text.specs.declared.setup.Item.{Item}
+use Rattle.ftp_text.specs.declared.setup.Item.TheVariants as item
 
 -- an empty storage on which no call was made
 abbrev pub new_storage : ℕ → List ℕ → MemoryState

@@ -8,19 +8,18 @@ ghost use Rattle.ftp_options.specs.declared.host.PassiveHost.{PassiveHost};
 ghost use Rattle.ftp_options.specs.declared.lockout.FailedLoginsPolicy.{FailedLoginsPolicy};
 ghost use Rattle.ftp_options.specs.declared.options.ActivePassiveMode.{ActivePassiveMode};
 ghost use Rattle.ftp_options.specs.declared.options.ListenerMode.{ListenerMode};
-ghost use Rattle.ftp_event_text.specs.declared.setup.Item.{Item};
-ghost use Rattle.ftp_event_text.specs.declared.setup.Item.TheVariants as item;
-ghost use Rattle.ftp_event_text.specs.Setup.{IsItem};
+ghost use Rattle.ftp_text.specs.declared.setup.Item.{Item};
+ghost use Rattle.ftp_text.specs.declared.setup.Item.TheVariants as item;
+ghost use Rattle.ftp_text.specs.Setup.{IsItem};
 ghost use Rattle.ftp_events.specs.Covers.{is_covered};
 ghost use Rattle.ftp_script_run.specs.Admission.{Remembers, LetsIn, GivesItem};
 ghost use Rattle.ftp_script_run.specs.SetUp.{has_event, IsSetUp};
 ghost use Rattle.ftp_script_run.specs.Script.{is_free, has_quota, has_no_budget};
 
 use ftp_base::{Bytes, MemoryStorage};
-use ftp_event_text::{Item, read_item};
 use ftp_events::{EventKind, HubEvent};
 use ftp_quota::Quota;
-use ftp_text::LineFault;
+use ftp_text::{Item, LineFault, read_item};
 use std::alloc::Global;
 use std::collections::BTreeSet;
 

@@ -5,7 +5,7 @@ ghost use Rattle.ftp_base.specs.Outside.{HasRisen};
 ghost use Rattle.ftp_base.specs.declared.fault.Failed.TheVariants.{Fault};
 ghost use Rattle.ftp_options.specs.declared.options.Options.{Options};
 ghost use Rattle.ftp_events.specs.declared.entry.Entry.{Entry};
-ghost use Rattle.ftp_event_text.specs.declared.setup.Item.{Item};
+ghost use Rattle.ftp_text.specs.declared.setup.Item.{Item};
 ghost use Rattle.ftp_script_run.specs.Script.{may_stand};
 ghost use Rattle.ftp_script_run.specs.ScriptReader.{IsLawful};
 ghost use Rattle.ftp_audit.specs.Heard.{HasHeard, Stands};
@@ -19,7 +19,7 @@ use crate::{ScriptError, ScriptReader};
 use ftp_audit::Audit;
 use ftp_base::{Failed, Sink, Source};
 use ftp_control::write_all;
-use ftp_event_text::Item;
+use ftp_text::Item;
 use std::alloc::Global;
 
 /// Runs the script line by line, by way of a buffer in which any line fits, and writes a line for each user.

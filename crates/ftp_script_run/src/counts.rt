@@ -4,8 +4,8 @@ ghost use Rattle.std.specs.Prelude.{◌≡◌, ◌-◌, ◌^◌, ◌<◌, ◌++�
 ghost use Rattle.ftp_events.specs.declared.entry.Entry.{Entry};
 ghost use Rattle.ftp_script_run.specs.Counts.{names, count_line, count_lines, AreCounts};
 
-use ftp_event_text::decision_text;
 use ftp_events::Entry;
+use ftp_text::decision_text;
 use ftp_text::writing::{put_byte, put_decimal, put_field};
 use std::alloc::{AllocError, Global};
 

@@ -4,16 +4,16 @@ ghost use Rattle.std.specs.Prelude.{◌≡◌, ◌≤◌, ◌++◌, OnOk, OnErr,
 ghost use Rattle.ftp_base.specs.declared.fault.Failed.TheVariants.{Fault};
 ghost use Rattle.ftp_base.specs.Outside.{HasRisen, Writes};
 ghost use Rattle.ftp_control.specs.Writing.{WritesFront};
-ghost use Rattle.ftp_event_text.specs.Printing.{entry_lines};
-ghost use Rattle.ftp_event_text.specs.Setup.{file_line};
+ghost use Rattle.ftp_text.specs.Printing.{entry_lines};
+ghost use Rattle.ftp_text.specs.Setup.{file_line};
 ghost use Rattle.ftp_script_run.specs.Outcome.{bad_line};
 ghost use Rattle.ftp_script_run.specs.Left.{sent_on, link_lines, file_lines};
 
 use ftp_base::{Failed, LinkTable, MemoryLink, MemoryStorage, Sink};
 use ftp_control::write_all;
-use ftp_event_text::{put_entry, put_file, put_sent};
 use ftp_events::Entry;
 use ftp_text::writing::{put, put_byte, put_number};
+use ftp_text::{put_entry, put_file, put_sent};
 use std::alloc::{AllocError, Global};
 
 /// Writes the lines of the entry.

@@ -6,8 +6,8 @@ ghost use Rattle.ftp_base.specs.declared.fault.Failed.TheVariants.{Fault, Memory
 ghost use Rattle.ftp_base.specs.Outside.{HasRisen, Writes};
 ghost use Rattle.ftp_events.specs.declared.entry.Entry.{Entry};
 ghost use Rattle.ftp_control.specs.Writing.{WritesFront};
-ghost use Rattle.ftp_event_text.specs.declared.setup.Item.{Item};
-ghost use Rattle.ftp_event_text.specs.declared.setup.Item.TheVariants as item;
+ghost use Rattle.ftp_text.specs.declared.setup.Item.{Item};
+ghost use Rattle.ftp_text.specs.declared.setup.Item.TheVariants as item;
 ghost use Rattle.ftp_script_run.specs.Items.{event_in, features_of};
 ghost use Rattle.ftp_script_run.specs.Left.{end_lines};
 ghost use Rattle.ftp_script_run.specs.Outcome.{log_lines, bad_line};
@@ -25,14 +25,13 @@ use ftp_base::{
     Bytes, FEATURE_RESTART, Failed, InsertError, LinkFault, LinkTable, MemoryLink, MemoryStorage,
     Sink, StoreError,
 };
-use ftp_event_text::Item;
 use ftp_events::{Entry, HubEvent};
 use ftp_hub::{Hub, run_event};
 use ftp_options::{
     ActivePassiveMode, FailedLoginsPolicy, ListenerMode, Options, PassiveHost, ServerBuilder,
 };
 use ftp_quota::Quota;
-use ftp_text::FailingCalls;
+use ftp_text::{FailingCalls, Item};
 use std::alloc::Global;
 
 /// The hub, the storage with its budgets, and the links. Of events and entries nothing is kept here.

@@ -4,7 +4,7 @@ ghost use Rattle.std.specs.Prelude.{◌≡◌, ◌≢◌, ℕ, ◌≤◌, ◌<�
 ghost use Rattle.std.specs.Option.{OnSome};
 ghost use Rattle.ftp_base.specs.Outside.{HasRisen, Writes};
 ghost use Rattle.ftp_events.specs.declared.entry.Entry.{Entry};
-ghost use Rattle.ftp_event_text.specs.declared.setup.Item.{Item};
+ghost use Rattle.ftp_text.specs.declared.setup.Item.{Item};
 ghost use Rattle.ftp_script_run.specs.Script.{may_stand, IsScriptOf};
 ghost use Rattle.ftp_script_run.specs.ScriptReader.{IsLawful};
 ghost use Rattle.ftp_script_run.specs.Statuses.{IsCutShort, HasNotRisen};
@@ -26,7 +26,7 @@ use crate::status::Status;
 use crate::telling::tell;
 use crate::{BUFFER_SIZE, ScriptError, ScriptReader};
 use ftp_base::{Sink, Source};
-use ftp_event_text::Item;
+use ftp_text::Item;
 use std::alloc::Global;
 
 /// Does what the words ask for: runs the script that the source gives, event by event, and writes its printed log, or in

@@ -3,14 +3,14 @@
 ghost use Rattle.std.specs.Prelude.{◌≡◌, ◌++◌, ◌∷◌, [], true, None, OnOk};
 ghost use Rattle.ftp_options.specs.declared.host.PassiveHost.TheVariants.{FromConnection};
 ghost use Rattle.ftp_options.specs.declared.options.ActivePassiveMode.TheVariants.{PassiveOnly};
-ghost use Rattle.ftp_event_text.specs.declared.setup.Item.TheVariants as item;
-ghost use Rattle.ftp_event_text.specs.Options.{mode_text};
-ghost use Rattle.ftp_event_text.specs.Setup.{item_line};
+ghost use Rattle.ftp_text.specs.declared.setup.Item.TheVariants as item;
+ghost use Rattle.ftp_text.specs.Options.{mode_text};
+ghost use Rattle.ftp_text.specs.Setup.{item_line};
 
 use crate::service::Service;
-use ftp_event_text::put_entry;
 use ftp_options::ListenerMode;
 use ftp_shared::{EntriesLost, JournalFeed};
+use ftp_text::put_entry;
 use ftp_text::writing::{put, put_decimal, put_number};
 use std::alloc::{AllocError, Global};
 use std::io::Write;

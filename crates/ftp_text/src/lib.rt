@@ -1,19 +1,40 @@
-//! The fields of the lines of scripts and logs.
+//! The lines of scripts and logs: their fields, and events, the set-up of a script and the entries of a log in them.
 //!
-//! Each value has one spelling, so a field is read exactly where something is spelled so.
-//! Begin with `field`, `writing` and specs/Fields.antt.
+//! Each value has one spelling, so a field or a line is read exactly where something is spelled so.
+//! Begin with `field`, `read_item`, `put_entry`, `read_log_line` and specs/Fields.antt.
 #![tactic(auto)]
 
+mod action;
+mod answer;
 mod calls;
+mod decision;
+mod event;
+mod event_word;
+mod event_writing;
 mod fault;
 pub mod field;
+mod laws;
+mod line;
 mod message;
+mod notice;
+mod options;
+mod place;
+mod printing;
+mod setup;
 mod text;
+mod trace;
 mod word;
 pub mod writing;
 
 pub use calls::{CallText, FailingCalls, failing_calls};
+pub use event::read_event;
+pub use event_writing::put_event;
 pub use fault::LineFault;
+pub use laws::{one_line_is_the_first_bad, printed_logs_have_no_bad_line};
+pub use line::{LogLine, read_log_line};
 pub use message::{message_to_end, put_message};
+pub use place::{LONGEST_LOG, Place, Stage, first_bad_line};
+pub use printing::{decision_text, put_entry};
+pub use setup::{Item, put_file, put_sent, read_item};
 pub use text::whole_text;
 pub use word::Word;

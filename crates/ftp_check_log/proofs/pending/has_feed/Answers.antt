@@ -1,5 +1,5 @@
 use Rattle.std.proofs.Common.{refl, arith}
-use Rattle.ftp_log_text.proofs.PlaceLemmas.{cut_told, feed_none}
+use Rattle.ftp_text.proofs.PlaceLemmas.{cut_told, feed_none}
 use Rattle.ftp_check_log.proofs.pending.has_feed.Goals as goal
 
 pub returns-in-Some : goal.returns-in-Some

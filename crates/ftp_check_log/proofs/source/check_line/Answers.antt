@@ -4,9 +4,9 @@ use Rattle.std.proofs.lemmas.Bool.{eqb-true}
 use Rattle.std.proofs.lemmas.Bool.Decides.{nat_tests}
 use Rattle.std.proofs.lemmas.List.{nil_from_length}
 use Rattle.ftp_text.specs.declared.fault.LineFault.{LineFault}
-use Rattle.ftp_log_text.specs.declared.line.LogLine.{LogLine}
-use Rattle.ftp_log_text.specs.Place.{HasRead}
-use Rattle.ftp_log_text.specs.LogText.{IsFirstBad}
+use Rattle.ftp_text.specs.declared.line.LogLine.{LogLine}
+use Rattle.ftp_text.specs.Place.{HasRead}
+use Rattle.ftp_text.specs.LogText.{IsFirstBad}
 use Rattle.ftp_check_log.specs.Pending.{unread}
 use Rattle.ftp_check_log.proofs.SourceLemmas.{taken-as, taken-fits, goes-on, comes-to, further, end-reads, bad-reads}
 use Rattle.ftp_check_log.proofs.source.check_line.Goals as goal

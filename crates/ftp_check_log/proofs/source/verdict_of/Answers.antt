@@ -1,6 +1,6 @@
 use Rattle.std.proofs.Common.{◌≡◌, ℕ, ◌<◌, List, Option, Some, None, refl, ap, sym, subst, ◌∙◌, arith}
 use Rattle.std.specs.Prelude.{Ok, IfSome}
-use Rattle.ftp_log_text.specs.Place.{IsLawful}
+use Rattle.ftp_text.specs.Place.{IsLawful}
 use Rattle.ftp_check_log.specs.Checks.{TellsBy}
 use Rattle.ftp_check_log.specs.Pending.{unread}
 use Rattle.ftp_check_log.specs.ReadsOn.{ReadsOn}

@@ -1,5 +1,5 @@
 use Rattle.std.proofs.Common.{◌≡◌, ◌≤◌, ◌-◌}
-use Rattle.ftp_log_text.specs.Place.{IsLawful}
+use Rattle.ftp_text.specs.Place.{IsLawful}
 use Rattle.ftp_check_log.specs.Pending.{unread, IsInBounds}
 use Rattle.ftp_check_log.specs.ReadsOn.{ReadsOn}
 use Rattle.ftp_check_log.proofs.source.verdict_of.Given as goal

@@ -1,7 +1,7 @@
 use Rattle.std.proofs.Common.{◌≤◌}
 use Rattle.ftp_base.specs.Storage.{files_in_order}
 use Rattle.ftp_script_run.proofs.Written.{IsBetween}
-use Rattle.ftp_event_text.specs.Setup.{file_line}
+use Rattle.ftp_text.specs.Setup.{file_line}
 use Rattle.ftp_script_run.proofs.printing.print_files.Given as goal
 
 -- the lines of the files so far were written

@@ -1,7 +1,7 @@
 use Rattle.std.proofs.Common.{◌≡◌, ◌∙◌, Option, Some, None, ap, subst, sym}
 use Rattle.std.specs.Prelude.{Result, Ok, Err, IfOk, OnOk, IfSome}
-use Rattle.ftp_event_text.specs.declared.setup.Item.{Item}
-use Rattle.ftp_event_text.specs.Setup.{IsItem}
+use Rattle.ftp_text.specs.declared.setup.Item.{Item}
+use Rattle.ftp_text.specs.Setup.{IsItem}
 use Rattle.ftp_script_run.specs.declared.text_script.ScriptError.{ScriptError}
 use Rattle.ftp_script_run.specs.declared.text_script.ScriptError.TheVariants as error
 use Rattle.ftp_script_run.specs.ScriptReader.{IsLawful, Answers, IsLetIn}

@@ -1,5 +1,5 @@
 use Rattle.std.proofs.Common.{Some, refl, sym, subst}
-use Rattle.ftp_log_text.specs.declared.line.LogLine.TheVariants as says
+use Rattle.ftp_text.specs.declared.line.LogLine.TheVariants as says
 use Rattle.ftp_check_log.specs.declared.verdict.Verdict.{Verdict}
 use Rattle.ftp_check_log.specs.Checks.{Takes}
 use Rattle.ftp_check_log.proofs.CheckLemmas.{tells-action, takes-action}

@@ -1,6 +1,6 @@
 use Rattle.std.proofs.Common.{Some, refl, sym, ◌∙◌}
 use Rattle.std.proofs.lemmas.Bool.{false≢true}
-use Rattle.ftp_log_text.specs.declared.line.LogLine.TheVariants as says
+use Rattle.ftp_text.specs.declared.line.LogLine.TheVariants as says
 use Rattle.ftp_check_log.proofs.CheckLemmas.{told-count, takes-decision, tells-decision}
 use Rattle.ftp_check_log.proofs.checker.Checker.compare.Goals as goal
 

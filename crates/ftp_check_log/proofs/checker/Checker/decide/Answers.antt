@@ -1,5 +1,5 @@
 use Rattle.std.proofs.Common.{sym, ◌∙◌}
-use Rattle.ftp_log_text.specs.declared.line.LogLine.TheVariants as says
+use Rattle.ftp_text.specs.declared.line.LogLine.TheVariants as says
 use Rattle.ftp_check_log.proofs.CheckLemmas.{takes-again, takes-nothing}
 use Rattle.ftp_check_log.proofs.checker.Checker.decide.Goals as goal
 

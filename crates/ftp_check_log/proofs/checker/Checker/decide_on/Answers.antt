@@ -1,4 +1,4 @@
-use Rattle.ftp_log_text.specs.declared.line.LogLine.TheVariants as says
+use Rattle.ftp_text.specs.declared.line.LogLine.TheVariants as says
 use Rattle.ftp_check_log.proofs.CheckLemmas.{takes-made_ready}
 use Rattle.ftp_check_log.proofs.checker.Checker.decide_on.Goals as goal
 

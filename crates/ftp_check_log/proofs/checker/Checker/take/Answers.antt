@@ -1,6 +1,6 @@
 use Rattle.std.specs.Prelude.{IfOk}
 use Rattle.std.proofs.Common.{None, refl, sym, subst}
-use Rattle.ftp_log_text.specs.declared.line.LogLine.{LogLine}
+use Rattle.ftp_text.specs.declared.line.LogLine.{LogLine}
 use Rattle.ftp_check_log.specs.Checks.{Takes}
 use Rattle.ftp_check_log.proofs.CheckLemmas.{takes-answer}
 use Rattle.ftp_check_log.proofs.checker.Checker.take.Goals as goal

@@ -1,6 +1,6 @@
 use Rattle.std.proofs.Common.{refl}
 use Rattle.ftp_base.specs.MemoryStorage.{directory_refusal}
-use Rattle.ftp_event_text.specs.declared.setup.Item.TheVariants as item
+use Rattle.ftp_text.specs.declared.setup.Item.TheVariants as item
 use Rattle.ftp_script_run.proofs.RunLemmas.{keeps-stored}
 use Rattle.ftp_script_run.proofs.SetUpLemmas.{dir_first, dir_taken, dir_unused, not_refused}
 use Rattle.ftp_script_run.proofs.run.Run.make_dir.Goals as goal

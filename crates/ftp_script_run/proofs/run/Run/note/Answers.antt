@@ -1,6 +1,6 @@
 use Rattle.std.proofs.Common.{◌≡◌, true, List, [], ◌∷◌, ◌++◌, sym, subst}
 use Rattle.ftp_events.specs.declared.entry.Entry.{Entry}
-use Rattle.ftp_event_text.specs.declared.setup.Item.{Item}
+use Rattle.ftp_text.specs.declared.setup.Item.{Item}
 use Rattle.ftp_script_run.specs.Script.{may_stand}
 use Rattle.ftp_audit.specs.Heard.{HasHeard}
 use Rattle.ftp_script_run.specs.Runs.{Keeps}

@@ -1,7 +1,7 @@
 use Rattle.std.proofs.Common.{refl, ap, length, List, ℕ, ◌≡◌, ◌∙◌, None}
 use Rattle.ftp_base.specs.MemoryStorage.{file_refusal}
 use Rattle.ftp_base.specs.Storage.{with_file}
-use Rattle.ftp_event_text.specs.declared.setup.Item.TheVariants as item
+use Rattle.ftp_text.specs.declared.setup.Item.TheVariants as item
 use Rattle.ftp_script_run.proofs.RunLemmas.{keeps-stored}
 use Rattle.ftp_script_run.proofs.SetUpLemmas.{file_taken, file_unused, not_refused, file_first}
 use Rattle.ftp_script_run.proofs.run.Run.put_file.Goals as goal

@@ -1,5 +1,5 @@
 use Rattle.std.proofs.Common.{refl}
-use Rattle.ftp_event_text.specs.declared.setup.Item.TheVariants as item
+use Rattle.ftp_text.specs.declared.setup.Item.TheVariants as item
 use Rattle.ftp_script_run.proofs.RunLemmas.{keeps-stored}
 use Rattle.ftp_script_run.proofs.SetUpLemmas.{budget_first}
 use Rattle.ftp_script_run.proofs.run.Run.set_budget.Goals as goal

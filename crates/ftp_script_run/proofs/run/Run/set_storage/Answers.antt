@@ -1,5 +1,5 @@
 use Rattle.std.proofs.Common.{refl, ap, ◌∙◌}
-use Rattle.ftp_event_text.specs.declared.setup.Item.TheVariants as item
+use Rattle.ftp_text.specs.declared.setup.Item.TheVariants as item
 use Rattle.ftp_base.specs.Calls.{rises_above}
 use Rattle.ftp_base.specs.MemoryStorage.{MemoryState}
 use Rattle.ftp_script_run.proofs.RunLemmas.{keeps-stored}

@@ -1,7 +1,7 @@
 use Rattle.std.proofs.Common.{◌≡◌, ◌∙◌, [], ap, refl, sym, subst}
 use Rattle.std.proofs.lemmas.Bool.{not-true}
 use Rattle.ftp_options.specs.Settings.{Draft}
-use Rattle.ftp_event_text.specs.declared.setup.Item.{Item}
+use Rattle.ftp_text.specs.declared.setup.Item.{Item}
 use Rattle.ftp_script_run.specs.Runs.{Takes, outside}
 use Rattle.ftp_script_run.proofs.Written.{on_ok-then}
 use Rattle.ftp_script_run.proofs.ItemLemmas.{options_in-line}

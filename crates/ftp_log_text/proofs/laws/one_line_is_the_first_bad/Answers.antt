@@ -1,5 +1,0 @@
-use Rattle.ftp_log_text.proofs.PrintedLemmas.{one_bad}
-use Rattle.ftp_log_text.proofs.laws.one_line_is_the_first_bad.Goals as goal
-
-pub returns : goal.returns
-returns c = one_bad

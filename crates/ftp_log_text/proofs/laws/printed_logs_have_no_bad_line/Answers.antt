@@ -1,5 +1,0 @@
-use Rattle.ftp_log_text.proofs.PrintedLemmas.{printed_good}
-use Rattle.ftp_log_text.proofs.laws.printed_logs_have_no_bad_line.Goals as goal
-
-pub returns : goal.returns
-returns c = printed_good

@@ -1,0 +1,205 @@
+//! Reading the answer of an entry.
+
+ghost use Rattle.std.specs.Prelude.{◌≡◌};
+ghost use Rattle.ftp_text.specs.Reading.{Gives, find_word, word_value};
+ghost use Rattle.ftp_text.specs.Printing.{result_text};
+ghost use Rattle.ftp_text.specs.LogLines.{answer_word_text, maybe_fault_text};
+ghost use Rattle.ftp_text.specs.AnswerReading.{answer_words, results, maybe_faults, has_letter, header_at, outcome_at, answer_behind, answer_at};
+
+use crate::fault::LineFault;
+use crate::field::{address, literal, number, word, word_value};
+use crate::word::Word;
+use ftp_base::{ErrorKind, LinkFault};
+use ftp_events::Answer;
+use ftp_proxy::{ProxyError, ProxyHeader};
+use ftp_transfer::{Completion, Outcome};
+
+/// The word of an answer.
+#[derive(Clone, Copy, Debug, PartialEq, Eq)]
+pub enum AnswerWord {
+    Header,
+    Done,
+    Moved,
+}
+
+const ANSWER_WORDS: [AnswerWord; 3] = [AnswerWord::Header, AnswerWord::Done, AnswerWord::Moved];
+
+impl Word for AnswerWord {
+    ghost text = { answer_word_text };
+
+    ghost table = { answer_words };
+
+    fn text(self) -> &'static [u8] {
+        match self {
+            AnswerWord::Header => b"header",
+            AnswerWord::Done => b"done",
+            AnswerWord::Moved => b"moved",
+        }
+    }
+
+    fn table() -> &'static [AnswerWord] {
+        &ANSWER_WORDS
+    }
+}
+
+const RESULTS: [Completion; 17] = [
+    Completion::Sent,
+    Completion::Written,
+    Completion::Listed,
+    Completion::WriteFailed,
+    Completion::OutOfMemory,
+    Completion::Refused(ErrorKind::TransientFileNotAvailable),
+    Completion::Refused(ErrorKind::PermanentFileNotAvailable),
+    Completion::Refused(ErrorKind::PermanentDirectoryNotAvailable),
+    Completion::Refused(ErrorKind::PermanentDirectoryNotEmpty),
+    Completion::Refused(ErrorKind::PermissionDenied),
+    Completion::Refused(ErrorKind::ConnectionClosed),
+    Completion::Refused(ErrorKind::LocalError),
+    Completion::Refused(ErrorKind::PageTypeUnknown),
+    Completion::Refused(ErrorKind::InsufficientStorageSpaceError),
+    Completion::Refused(ErrorKind::ExceededStorageAllocationError),
+    Completion::Refused(ErrorKind::FileNameNotAllowedError),
+    Completion::Refused(ErrorKind::CommandNotImplemented),
+];
+
+const MAYBE_FAULTS: [Option<LinkFault>; 5] = [
+    None,
+    Some(LinkFault::Reset),
+    Some(LinkFault::BrokenPipe),
+    Some(LinkFault::Aborted),
+    Some(LinkFault::Other),
+];
+
+/// An answer, with the mark before it.
+#[tactic(auto, unfolding(crate::specs::AnswerReading::answer_at))]
+pub fn answer(bytes: &[u8]) -> Result<(Answer, &[u8]), LineFault>
+    ensures { Gives (λ x. (x.0, x.1.now)) result (answer_at bytes.now) }
+{
+    let rest = literal(b"?", bytes)?;
+    let (word, rest) = word_value(rest)?;
+    behind(word, rest)
+}
+
+// The answer behind its word.
+fn behind(word: AnswerWord, bytes: &[u8]) -> Result<(Answer, &[u8]), LineFault>
+    ensures { Gives (λ x. (x.0, x.1.now)) result (answer_behind word bytes.now) }
+{
+    match word {
+        AnswerWord::Header => {
+            let (header, rest) = header(bytes)?;
+            Ok((Answer::Header(header), rest))
+        }
+        AnswerWord::Done => {
+            let (outcome, rest) = outcome(bytes)?;
+            Ok((Answer::Done(outcome), rest))
+        }
+        AnswerWord::Moved => {
+            let (bytes, rest) = number(bytes)?;
+            Ok((Answer::Moved { bytes }, rest))
+        }
+    }
+}
+
+// What the header of a proxy says, or why it is none.
+#[tactic(auto, unfolding(crate::specs::AnswerReading::header_at))]
+fn header(bytes: &[u8]) -> Result<(Result<ProxyHeader, ProxyError>, &[u8]), LineFault>
+    ensures { Gives (λ x. (x.0, x.1.now)) result (header_at bytes.now) }
+{
+    if has_letter(bytes) {
+        let (error, rest) = word_value(bytes)?;
+        return Ok((Err(error), rest));
+    }
+    let (source, rest) = address(bytes)?;
+    let (destination, rest) = address(rest)?;
+    let header = ProxyHeader {
+        source,
+        destination,
+    };
+    Ok((Ok(header), rest))
+}
+
+// Whether the field begins with a letter.
+fn has_letter(bytes: &[u8]) -> bool
+    ensures { result ≡ has_letter bytes.now }
+{
+    match bytes {
+        [_, c, ..] => *c >= b'a',
+        _ => false,
+    }
+}
+
+#[tactic(auto, unfolding(crate::specs::AnswerReading::outcome_at))]
+fn outcome(bytes: &[u8]) -> Result<(Outcome, &[u8]), LineFault>
+    ensures { Gives (λ x. (x.0, x.1.now)) result (outcome_at bytes.now) }
+{
+    let (result, rest) = completion(bytes)?;
+    let (bytes, rest) = number(rest)?;
+    let (fault, rest) = maybe_fault(rest)?;
+    let outcome = Outcome {
+        result,
+        bytes,
+        fault,
+    };
+    Ok((outcome, rest))
+}
+
+#[tactic(auto, unfolding(crate::specs::Reading::word_value))]
+fn completion(bytes: &[u8]) -> Result<(Completion, &[u8]), LineFault>
+    ensures { Gives (λ x. (x.0, x.1.now)) result (word_value result_text results bytes.now) }
+{
+    let (text, rest) = word(bytes)?;
+    match completion_of(text) {
+        Some(completion) => Ok((completion, rest)),
+        None => Err(LineFault::Bad),
+    }
+}
+
+// The completion that the word spells.
+fn completion_of(word: &[u8]) -> Option<Completion>
+    ensures { result ≡ find_word result_text results word.now }
+{
+    RESULTS.iter().copied().find(|r| result_text(*r) == word)
+}
+
+fn result_text(completion: Completion) -> &'static [u8]
+    ensures { result.now ≡ result_text completion }
+{
+    match completion {
+        Completion::Sent => b"sent",
+        Completion::Written => b"written",
+        Completion::Listed => b"listed",
+        Completion::WriteFailed => b"writefailed",
+        Completion::Refused(kind) => kind.text(),
+        Completion::OutOfMemory => b"memory",
+    }
+}
+
+#[tactic(auto, unfolding(crate::specs::Reading::word_value))]
+fn maybe_fault(bytes: &[u8]) -> Result<(Option<LinkFault>, &[u8]), LineFault>
+    ensures { Gives (λ x. (x.0, x.1.now)) result (word_value maybe_fault_text maybe_faults bytes.now) }
+{
+    let (text, rest) = word(bytes)?;
+    match fault_of(text) {
+        Some(fault) => Ok((fault, rest)),
+        None => Err(LineFault::Bad),
+    }
+}
+
+// The fault, or none, that the word spells.
+fn fault_of(word: &[u8]) -> Option<Option<LinkFault>>
+    ensures { result ≡ find_word maybe_fault_text maybe_faults word.now }
+{
+    MAYBE_FAULTS
+        .iter()
+        .copied()
+        .find(|f| maybe_fault_text(*f) == word)
+}
+
+fn maybe_fault_text(fault: Option<LinkFault>) -> &'static [u8]
+    ensures { result.now ≡ maybe_fault_text fault }
+{
+    match fault {
+        None => b"-",
+        Some(fault) => fault.text(),
+    }
+}

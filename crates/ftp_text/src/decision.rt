@@ -1,0 +1,173 @@
+//! Reading the decision of an entry.
+
+ghost use Rattle.std.specs.Prelude.{◌≡◌};
+ghost use Rattle.ftp_text.specs.Reading.{Gives, find_word, word_value};
+ghost use Rattle.ftp_text.specs.Printing.{decision_text, lock_text};
+ghost use Rattle.ftp_text.specs.DecisionReading.{heads, locks, lock_and_delay_at, decision_behind, decision_at};
+
+use crate::fault::LineFault;
+use crate::field::{literal, number, port, small, ticket, word, word_value};
+use crate::printing::decision_text;
+use ftp_base::{ErrorKind, LockState};
+use ftp_events::Decision;
+use ftp_proxy::ProxyError;
+use ftp_transfer::Ticket;
+
+// A decision of each name. The fields of these say nothing.
+const HEADS: [Decision; 46] = [
+    Decision::UnknownNumber,
+    Decision::UsedNumber,
+    Decision::Misplaced,
+    Decision::NotExpected,
+    Decision::Opened,
+    Decision::Turned,
+    Decision::HeaderFault(ProxyError::HeaderSize),
+    Decision::Attached { session: 0 },
+    Decision::BadSequence,
+    Decision::NeedPass,
+    Decision::PassOut,
+    Decision::Reauth,
+    Decision::LoggedIn,
+    Decision::LoginFailed {
+        lock: None,
+        delay: 0,
+    },
+    Decision::NotLoggedIn,
+    Decision::ModeOff,
+    Decision::Full,
+    Decision::NoLookup,
+    Decision::Granted { port: 0 },
+    Decision::NoSocket,
+    Decision::BadAddress,
+    Decision::OtherAddress,
+    Decision::NoConnection,
+    Decision::PortOk,
+    Decision::NoSlot,
+    Decision::Queued {
+        ticket: Ticket { session: 0, nr: 0 },
+    },
+    Decision::Finished,
+    Decision::Moved,
+    Decision::Cut,
+    Decision::NoRestart,
+    Decision::RestOk,
+    Decision::CwdRefused(ErrorKind::TransientFileNotAvailable),
+    Decision::CwdOk,
+    Decision::Aborted,
+    Decision::Aborting,
+    Decision::NothingToAbort,
+    Decision::Told,
+    Decision::Early,
+    Decision::Waited,
+    Decision::SlotDropped,
+    Decision::Swept,
+    Decision::Scavenged,
+    Decision::Quit,
+    Decision::Closed,
+    Decision::TimedOut,
+    Decision::Stopped,
+];
+
+const LOCKS: [Option<LockState>; 3] = [
+    None,
+    Some(LockState::MaxFailuresReached),
+    Some(LockState::AlreadyLocked),
+];
+
+/// A decision, with the mark before it.
+#[tactic(auto, unfolding(crate::specs::DecisionReading::decision_at))]
+pub fn decision(bytes: &[u8]) -> Result<(Decision, &[u8]), LineFault>
+    ensures { Gives (λ x. (x.0, x.1.now)) result (decision_at bytes.now) }
+{
+    let rest = literal(b"=", bytes)?;
+    let (head, rest) = head(rest)?;
+    behind(head, rest)
+}
+
+// A decision of the name that is spelled.
+#[tactic(auto, unfolding(crate::specs::Reading::word_value))]
+fn head(bytes: &[u8]) -> Result<(Decision, &[u8]), LineFault>
+    ensures { Gives (λ x. (x.0, x.1.now)) result (word_value decision_text heads bytes.now) }
+{
+    let (text, rest) = word(bytes)?;
+    match head_of(text) {
+        Some(head) => Ok((head, rest)),
+        None => Err(LineFault::Bad),
+    }
+}
+
+fn head_of(word: &[u8]) -> Option<Decision>
+    ensures { result ≡ find_word decision_text heads word.now }
+{
+    HEADS.iter().copied().find(|d| decision_text(*d) == word)
+}
+
+// The decision of this name with the fields that are spelled behind it.
+fn behind(head: Decision, bytes: &[u8]) -> Result<(Decision, &[u8]), LineFault>
+    ensures { Gives (λ x. (x.0, x.1.now)) result (decision_behind head bytes.now) }
+{
+    match head {
+        Decision::HeaderFault(_) => {
+            let (error, rest) = word_value(bytes)?;
+            Ok((Decision::HeaderFault(error), rest))
+        }
+        Decision::Attached { .. } => {
+            let (session, rest) = number(bytes)?;
+            Ok((Decision::Attached { session }, rest))
+        }
+        Decision::LoginFailed { .. } => {
+            let ((lock, delay), rest) = lock_and_delay(bytes)?;
+            Ok((Decision::LoginFailed { lock, delay }, rest))
+        }
+        Decision::Granted { .. } => {
+            let (port, rest) = port(bytes)?;
+            Ok((Decision::Granted { port }, rest))
+        }
+        Decision::Queued { .. } => {
+            let (session, nr, rest) = ticket(bytes)?;
+            let ticket = Ticket { session, nr };
+            Ok((Decision::Queued { ticket }, rest))
+        }
+        Decision::CwdRefused(_) => {
+            let (kind, rest) = word_value(bytes)?;
+            Ok((Decision::CwdRefused(kind), rest))
+        }
+        _ => Ok((head, bytes)),
+    }
+}
+
+// How a failed login stands with the lock, and after how long it is answered.
+fn lock_and_delay(bytes: &[u8]) -> Result<((Option<LockState>, u32), &[u8]), LineFault>
+    ensures { Gives (λ x. (x.0, x.1.now)) result (lock_and_delay_at bytes.now) }
+{
+    let (lock, rest) = lock(bytes)?;
+    let (delay, rest) = small(4_294_967_296, rest)?;
+    Ok(((lock, delay as u32), rest))
+}
+
+#[tactic(auto, unfolding(crate::specs::Reading::word_value))]
+fn lock(bytes: &[u8]) -> Result<(Option<LockState>, &[u8]), LineFault>
+    ensures { Gives (λ x. (x.0, x.1.now)) result (word_value lock_text locks bytes.now) }
+{
+    let (text, rest) = word(bytes)?;
+    match lock_of(text) {
+        Some(lock) => Ok((lock, rest)),
+        None => Err(LineFault::Bad),
+    }
+}
+
+fn lock_of(word: &[u8]) -> Option<Option<LockState>>
+    ensures { result ≡ find_word lock_text locks word.now }
+{
+    LOCKS.iter().copied().find(|l| lock_text(*l) == word)
+}
+
+fn lock_text(lock: Option<LockState>) -> &'static [u8]
+    ensures { result.now ≡ lock_text lock }
+{
+    match lock {
+        None => b"none",
+        Some(LockState::MaxFailuresReached) => b"reached",
+        Some(LockState::AlreadyLocked) => b"locked",
+    }
+}

@@ -1,0 +1,204 @@
+//! Reading the options.
+
+ghost use Rattle.std.specs.Prelude.{◌≡◌};
+ghost use Rattle.ftp_text.specs.Reading.{Gives, find_word};
+ghost use Rattle.ftp_text.specs.Options.{active_text, block_text, restart_text};
+ghost use Rattle.ftp_text.specs.OptionsReading.{mode_of, mode_at, listening_at, host_of, host_at, actives, active_at, blocks, part_at, policy_of, lockout_of, lockout_at, restarts, restart_at, rules_at};
+
+use crate::fault::LineFault;
+use crate::field::{self, literal};
+use crate::text::whole_text;
+use ftp_options::{
+    ActivePassiveMode, FailedLoginsBlock, FailedLoginsPolicy, ListenerMode, PassiveHost,
+};
+use std::alloc::Global;
+
+/// Who listens, and the first and the last passive port.
+type Listening = (ListenerMode, (u16, u16));
+
+/// The host, the commands, the idle time in seconds, the lockout, and whether transfers can begin at an offset.
+type Rules = (
+    PassiveHost,
+    (ActivePassiveMode, (u32, (Option<FailedLoginsPolicy>, bool))),
+);
+
+/// Who listens, and on which ports.
+#[tactic(auto, unfolding(crate::specs::OptionsReading::listening_at))]
+pub fn listening(bytes: &[u8]) -> Result<(Listening, &[u8]), LineFault>
+    ensures { Gives (λ x. (x.0, x.1.now)) result (listening_at bytes.now) }
+{
+    let (mode, rest) = mode(bytes)?;
+    let (lo, rest) = field::port(rest)?;
+    let (hi, rest) = field::port(rest)?;
+    if !mode.is_legacy() && lo < 1 || hi < lo {
+        return Err(LineFault::Bad);
+    }
+    Ok(((mode, (lo, hi)), rest))
+}
+
+#[tactic(auto, unfolding(crate::specs::OptionsReading::mode_at))]
+fn mode(bytes: &[u8]) -> Result<(ListenerMode, &[u8]), LineFault>
+    ensures { Gives (λ x. (x.0, x.1.now)) result (mode_at bytes.now) }
+{
+    let (word, rest) = field::word(bytes)?;
+    let found = mode_of(word)?;
+    Ok((found, rest))
+}
+
+#[tactic(auto, unfolding(crate::specs::OptionsReading::mode_of))]
+fn mode_of(word: &[u8]) -> Result<ListenerMode, LineFault>
+    ensures { Gives (λ x. x) result (mode_of word.now) }
+{
+    if word == b"legacy".as_slice() {
+        return Ok(ListenerMode::Legacy);
+    }
+    if word == b"pooled".as_slice() {
+        return Ok(ListenerMode::Pooled);
+    }
+    let (control_port, rest) = field::port_here(literal(b"proxy:", word)?)?;
+    if rest.is_empty() {
+        Ok(ListenerMode::Proxy { control_port })
+    } else {
+        Err(LineFault::Bad)
+    }
+}
+
+/// What else the sessions go by.
+#[tactic(auto, unfolding(crate::specs::OptionsReading::rules_at))]
+pub fn rules(alloc: Global, bytes: &[u8]) -> Result<(Rules, &[u8]), LineFault>
+    ensures { Gives (λ x. (x.0, x.1.now)) result (rules_at bytes.now) }
+{
+    let (host, rest) = host(alloc, bytes)?;
+    let (active, rest) = active(rest)?;
+    let (idle, rest) = field::small(4294967296, rest)?;
+    let (lockout, rest) = lockout(rest)?;
+    let (restart, rest) = restart(rest)?;
+    Ok(((host, (active, (idle as u32, (lockout, restart)))), rest))
+}
+
+#[tactic(auto, unfolding(crate::specs::OptionsReading::host_at))]
+fn host(alloc: Global, bytes: &[u8]) -> Result<(PassiveHost, &[u8]), LineFault>
+    ensures { Gives (λ x. (x.0, x.1.now)) result (host_at bytes.now) }
+{
+    let (word, rest) = field::word(bytes)?;
+    let found = host_of(alloc, word)?;
+    Ok((found, rest))
+}
+
+#[tactic(auto, unfolding(crate::specs::OptionsReading::host_of))]
+fn host_of(alloc: Global, word: &[u8]) -> Result<PassiveHost, LineFault>
+    ensures { Gives (λ x. x) result (host_of word.now) }
+{
+    if word == b"connection".as_slice() {
+        return Ok(PassiveHost::FromConnection);
+    }
+    match word {
+        [b'i', ..] => {
+            let (ip, rest) = field::dotted_here(literal(b"ip:", word)?)?;
+            if rest.is_empty() {
+                Ok(PassiveHost::Ip(ip))
+            } else {
+                Err(LineFault::Bad)
+            }
+        }
+        _ => {
+            let name = whole_text(alloc, literal(b"dns:", word)?)?;
+            Ok(PassiveHost::Dns(name))
+        }
+    }
+}
+
+#[tactic(auto, unfolding(crate::specs::OptionsReading::active_at))]
+fn active(bytes: &[u8]) -> Result<(ActivePassiveMode, &[u8]), LineFault>
+    ensures { Gives (λ x. (x.0, x.1.now)) result (active_at bytes.now) }
+{
+    let (word, rest) = field::word(bytes)?;
+    match active_of(word) {
+        Some(active) => Ok((active, rest)),
+        None => Err(LineFault::Bad),
+    }
+}
+
+fn active_of(word: &[u8]) -> Option<ActivePassiveMode>
+    ensures { result ≡ find_word active_text actives word.now }
+{
+    match word {
+        b"passive" => Some(ActivePassiveMode::PassiveOnly),
+        b"active" => Some(ActivePassiveMode::ActiveOnly),
+        b"both" => Some(ActivePassiveMode::ActiveAndPassive),
+        _ => None,
+    }
+}
+
+#[tactic(auto, unfolding(crate::specs::OptionsReading::lockout_at))]
+fn lockout(bytes: &[u8]) -> Result<(Option<FailedLoginsPolicy>, &[u8]), LineFault>
+    ensures { Gives (λ x. (x.0, x.1.now)) result (lockout_at bytes.now) }
+{
+    let (word, rest) = field::word(bytes)?;
+    let found = lockout_of(word)?;
+    Ok((found, rest))
+}
+
+#[tactic(auto, unfolding(crate::specs::OptionsReading::lockout_of))]
+fn lockout_of(word: &[u8]) -> Result<Option<FailedLoginsPolicy>, LineFault>
+    ensures { Gives (λ x. x) result (lockout_of word.now) }
+{
+    if word == b"off".as_slice() {
+        return Ok(None);
+    }
+    let policy = policy_of(word)?;
+    Ok(Some(policy))
+}
+
+#[tactic(auto, unfolding(crate::specs::OptionsReading::policy_of))]
+fn policy_of(word: &[u8]) -> Result<FailedLoginsPolicy, LineFault>
+    ensures { Gives (λ x. x) result (policy_of word.now) }
+{
+    let (attempts, rest) = part(word)?;
+    let (seconds, rest) = part(rest)?;
+    match block_of(rest) {
+        Some(block) => Ok(FailedLoginsPolicy::new(attempts, 1000 * u64::from(seconds), block)),
+        None => Err(LineFault::Bad),
+    }
+}
+
+// A number of 32 bits, before a colon.
+fn part(bytes: &[u8]) -> Result<(u32, &[u8]), LineFault>
+    ensures { Gives (λ x. (x.0, x.1.now)) result (part_at bytes.now) }
+{
+    let (n, rest) = field::small_here(4294967296, bytes)?;
+    let rest = literal(b":", rest)?;
+    Ok((n as u32, rest))
+}
+
+fn block_of(word: &[u8]) -> Option<FailedLoginsBlock>
+    ensures { result ≡ find_word block_text blocks word.now }
+{
+    match word {
+        b"both" => Some(FailedLoginsBlock::UserAndIP),
+        b"ip" => Some(FailedLoginsBlock::IP),
+        b"user" => Some(FailedLoginsBlock::User),
+        _ => None,
+    }
+}
+
+#[tactic(auto, unfolding(crate::specs::OptionsReading::restart_at))]
+fn restart(bytes: &[u8]) -> Result<(bool, &[u8]), LineFault>
+    ensures { Gives (λ x. (x.0, x.1.now)) result (restart_at bytes.now) }
+{
+    let (word, rest) = field::word(bytes)?;
+    match restart_of(word) {
+        Some(restart) => Ok((restart, rest)),
+        None => Err(LineFault::Bad),
+    }
+}
+
+fn restart_of(word: &[u8]) -> Option<bool>
+    ensures { result ≡ find_word restart_text restarts word.now }
+{
+    match word {
+        b"restart" => Some(true),
+        b"norestart" => Some(false),
+        _ => None,
+    }
+}
