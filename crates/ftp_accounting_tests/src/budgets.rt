@@ -1,10 +1,10 @@
 //! Callers of budgets.
 
 ghost use Rattle.std.specs.Prelude.{◌≤◌, IfOk};
-ghost use Rattle.ftp_quota.specs.Quota.{AllWithin};
+ghost use Rattle.ftp_audit.specs.Quota.{AllWithin};
 
+use ftp_audit::{Quota, QuotaCall, replay};
 use ftp_base::{Bytes, Storage};
-use ftp_quota::{Quota, QuotaCall, replay};
 use std::alloc::{AllocError, Global};
 
 /// Files of which each user may store ten million bytes, and bob a hundred million.

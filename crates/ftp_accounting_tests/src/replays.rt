@@ -1,8 +1,8 @@
 //! Calls of users that are replayed.
 
 use crate::budgets::usage_after;
+use ftp_audit::{Quota, QuotaCall, Verdict, replay};
 use ftp_base::{Bytes, ErrorKind, MemoryStorage};
-use ftp_quota::{Quota, QuotaCall, Verdict, replay};
 use std::alloc::{AllocError, Global};
 use std::test::Fail;
 

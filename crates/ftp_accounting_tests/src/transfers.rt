@@ -1,7 +1,7 @@
 //! Transfers to and from a storage with budgets.
 
+use ftp_audit::Quota;
 use ftp_base::{Bytes, DataChanCmd, ErrorKind, MemoryLink, MemoryStorage, Storage};
-use ftp_quota::Quota;
 use ftp_transfer::{Completion, Job, Outcome, Ticket, execute};
 use std::alloc::{AllocError, Global};
 use std::test::Fail;

@@ -1,3 +1,14 @@
+pub mod ByName
+pub mod Maps
+pub mod UsageLemmas
+pub mod Shares
+pub mod Balance
+pub mod Begun
+pub mod QuotaExamples
+pub mod Alone
+pub mod Replayed
+pub mod Rules
+pub mod Sized
 pub mod MarkLemmas
 pub mod UserLemmas
 pub mod ListingLemmas

@@ -1,3 +1,9 @@
+pub mod Names
+pub mod Usage
+pub mod Book
+pub mod Quota
+pub mod Replay
+pub mod Alone
 pub mod Totals
 pub mod Marks
 pub mod Bounds

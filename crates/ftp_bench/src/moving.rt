@@ -7,8 +7,8 @@ ghost use Rattle.ftp_bench.specs.declared.moving.MoveError.TheVariants.{Storage,
 ghost use Rattle.ftp_bench.specs.Moving.{total};
 
 use crate::command::{Kind, Load};
+use ftp_audit::Quota;
 use ftp_base::{Bytes, DataChanCmd, MemoryLink, MemoryStorage, Storage, StoreError};
-use ftp_quota::Quota;
 use ftp_transfer::{Completion, Job, Outcome, Ticket, execute};
 use std::alloc::{AllocError, Global};
 

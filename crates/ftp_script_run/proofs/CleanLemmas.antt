@@ -18,7 +18,7 @@ use Rattle.ftp_events.specs.declared.event.Answer.{Answer}
 use Rattle.ftp_events.specs.declared.event.Answer.TheVariants as answer
 use Rattle.ftp_events.specs.Leads.{Views, Outside, told_by, RunsJob, LeadsOne, Leads}
 use Rattle.ftp_events.specs.Log.{past_of}
-use Rattle.ftp_quota.specs.Replay.{once_all}
+use Rattle.ftp_audit.specs.Replay.{once_all}
 use Rattle.ftp_script_run.specs.SetUp.{StorageState}
 use Rattle.ftp_script_run.specs.Clean.{TakenTransfersAreDone}
 use Rattle.ftp_script_run.specs.Legal.{memory_views, start_of}

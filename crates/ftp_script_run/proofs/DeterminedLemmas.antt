@@ -21,9 +21,9 @@ use Rattle.ftp_transfer.specs.Ran.{StorageFailed, StoresAs, Refuses, first_refus
 use Rattle.ftp_transfer.specs.Run.{RefusedBy, IfRefused, RefusedFirst, RefusesStore, IsStopped, Stores, append_place, read_place}
 use Rattle.ftp_transfer.specs.Transfer.{suits, is_store}
 use Rattle.ftp_transfer.proofs.RunLemmas.{HasRisen-more}
-use Rattle.ftp_quota.specs.Book.{Book}
-use Rattle.ftp_quota.specs.Quota.{quota_rule}
-use Rattle.ftp_quota.proofs.Sized.{appends-sized}
+use Rattle.ftp_audit.specs.Book.{Book}
+use Rattle.ftp_audit.specs.Quota.{quota_rule}
+use Rattle.ftp_audit.proofs.Sized.{appends-sized}
 use Rattle.ftp_script_run.specs.SetUp.{StorageState}
 use Rattle.ftp_script_run.specs.Legal.{memory_views}
 use Rattle.ftp_script_run.specs.Determined.{told_in_memory, RunsTo, SettledRunsAreDetermined}

@@ -20,8 +20,8 @@ use Rattle.ftp_options.specs.Builder.{defaults}
 use Rattle.ftp_options.specs.Settings.{Settings}
 use Rattle.ftp_text.specs.declared.setup.Item.{Item}
 use Rattle.ftp_text.specs.declared.setup.Item.TheVariants as item
-use Rattle.ftp_quota.specs.Book.{Book}
-use Rattle.ftp_quota.specs.Quota.{with_budget, IsUnused}
+use Rattle.ftp_audit.specs.Book.{Book}
+use Rattle.ftp_audit.specs.Quota.{with_budget, IsUnused}
 use Rattle.ftp_script_run.specs.Script.{says, has_link}
 use Rattle.ftp_script_run.specs.Items.{event_in, events_in, features_of, options_in, new_link, link_in, links_in}
 use Rattle.ftp_script_run.specs.SetUp.{StorageState, has_event, new_storage, unlimited, set_up, storage_in}

@@ -19,7 +19,7 @@ use Rattle.ftp_base.specs.Memory.{LinkState}
 use Rattle.ftp_events.specs.declared.entry.Entry.{Entry}
 use Rattle.ftp_text.specs.declared.setup.Item.{Item}
 use Rattle.ftp_text.specs.declared.setup.Item.TheVariants as item
-use Rattle.ftp_quota.specs.Quota.{IsUnused}
+use Rattle.ftp_audit.specs.Quota.{IsUnused}
 use Rattle.ftp_script_run.specs.Script.{has_link, has_stored, has_quota, has_no_budget, is_free, may_stand}
 use Rattle.ftp_script_run.specs.SetUp.{StorageState, has_event, new_storage, storage_in}
 use Rattle.ftp_script_run.specs.declared.run.Run.{Run}

@@ -22,7 +22,7 @@ use Rattle.ftp_text.specs.declared.setup.Item.TheVariants as item
 use Rattle.ftp_text.specs.EventReading.{event_of, read_as}
 use Rattle.ftp_text.specs.OptionsReading.{mode_of, mode_at, listening_at, host_of, host_at, active_at, lockout_of, lockout_at, restart_at, rules_at}
 use Rattle.ftp_text.specs.SetupReading.{options_at, storage_at, dir_at, file_at, quota_at, budget_at, link_at, item_of}
-use Rattle.ftp_quota.specs.Names.{ByName}
+use Rattle.ftp_audit.specs.Names.{ByName}
 use Rattle.ftp_script_run.specs.Script.{IsScriptOf}
 use Rattle.ftp_script_run.proofs.Reading.{script_from, script_read}
 

@@ -15,7 +15,7 @@ use Rattle.ftp_events.specs.Leads.{Outside, header_to_read, LeadsOne, Leads}
 use Rattle.ftp_events.specs.Log.{past_of}
 use Rattle.ftp_hub.specs.Runs.{job_due}
 use Rattle.ftp_text.specs.declared.setup.Item.{Item}
-use Rattle.ftp_quota.specs.Replay.{once_all}
+use Rattle.ftp_audit.specs.Replay.{once_all}
 use Rattle.ftp_script_run.specs.SetUp.{StorageState, storage_in}
 use Rattle.ftp_script_run.specs.Items.{links_in}
 use Rattle.ftp_script_run.specs.Legal.{memory_views, start_of}

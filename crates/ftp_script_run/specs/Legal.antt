@@ -11,7 +11,7 @@ use Rattle.ftp_events.specs.declared.entry.Entry.{Entry}
 use Rattle.ftp_events.specs.Leads.{Views, Outside, Leads}
 use Rattle.ftp_events.specs.Right.{IsRight, IsActed}
 use Rattle.ftp_text.specs.declared.setup.Item.{Item}
-use Rattle.ftp_quota.specs.Quota.{quota_rule}
+use Rattle.ftp_audit.specs.Quota.{quota_rule}
 use Rattle.ftp_script_run.specs.SetUp.{StorageState, storage_in}
 use Rattle.ftp_script_run.specs.Items.{events_in, options_in, links_in}
 

@@ -4,7 +4,7 @@ use Rattle.std.specs.List.{list_any}
 use Rattle.ftp_base.specs.MemoryStorage.{directory_refusal}
 use Rattle.ftp_events.specs.Covers.{is_covered}
 use Rattle.ftp_control.specs.Lines.{first_line, behind_line}
-use Rattle.ftp_quota.specs.Quota.{own_budget_of}
+use Rattle.ftp_audit.specs.Quota.{own_budget_of}
 use Rattle.ftp_text.specs.declared.setup.Item.{Item}
 use Rattle.ftp_text.specs.declared.setup.Item.TheVariants as item
 use Rattle.ftp_text.specs.Setup.{IsItemOf}

@@ -4,8 +4,8 @@ use Rattle.std.specs.List.{list_any}
 use Rattle.std.specs.FinMap as map
 use Rattle.ftp_base.specs.Storage.{Directory, with_file}
 use Rattle.ftp_base.specs.MemoryStorage.{MemoryState}
-use Rattle.ftp_quota.specs.Book.{new_book}
-use Rattle.ftp_quota.specs.Quota.{QuotaState, with_budget}
+use Rattle.ftp_audit.specs.Book.{new_book}
+use Rattle.ftp_audit.specs.Quota.{QuotaState, with_budget}
 use Rattle.ftp_text.specs.declared.setup.Item.{Item}
 use Rattle.ftp_text.specs.declared.setup.Item.TheVariants as item
 

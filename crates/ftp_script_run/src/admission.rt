@@ -16,9 +16,9 @@ ghost use Rattle.ftp_script_run.specs.Admission.{Remembers, LetsIn, GivesItem};
 ghost use Rattle.ftp_script_run.specs.SetUp.{has_event, IsSetUp};
 ghost use Rattle.ftp_script_run.specs.Script.{is_free, has_quota, has_no_budget};
 
+use ftp_audit::Quota;
 use ftp_base::{Bytes, MemoryStorage};
 use ftp_events::{EventKind, HubEvent};
-use ftp_quota::Quota;
 use ftp_text::{Item, LineFault, read_item};
 use std::alloc::Global;
 use std::collections::BTreeSet;

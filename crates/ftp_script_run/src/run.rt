@@ -20,7 +20,7 @@ ghost use Rattle.ftp_script_run.specs.Script.{may_stand};
 
 use crate::MAX_FILE;
 use crate::printing::{print_bad_line, print_entry, print_files, print_links};
-use ftp_audit::Audit;
+use ftp_audit::{Audit, Quota};
 use ftp_base::{
     Bytes, FEATURE_RESTART, Failed, InsertError, LinkFault, LinkTable, MemoryLink, MemoryStorage,
     Sink, StoreError,
@@ -30,7 +30,6 @@ use ftp_hub::{Hub, run_event};
 use ftp_options::{
     ActivePassiveMode, FailedLoginsPolicy, ListenerMode, Options, PassiveHost, ServerBuilder,
 };
-use ftp_quota::Quota;
 use ftp_text::{FailingCalls, Item};
 use std::alloc::Global;
 

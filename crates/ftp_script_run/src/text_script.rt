@@ -9,9 +9,9 @@ ghost use Rattle.ftp_script_run.specs.SetUp.{IsSetUp};
 ghost use Rattle.ftp_script_run.specs.ScriptReader.{IsLawful, Follows, HasRead, ReadsAhead, Answers, IsLetIn, IfLine, IsFault, NextIs, next_of};
 
 use crate::admission::{Admission, LONGEST_LINE};
+use ftp_audit::Quota;
 use ftp_base::{MemoryStorage, Source};
 use ftp_control::{NextLineError, Span, next_line};
-use ftp_quota::Quota;
 use ftp_text::{Item, LineFault};
 use std::alloc::Global;
 

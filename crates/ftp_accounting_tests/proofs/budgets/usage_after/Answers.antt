@@ -3,8 +3,8 @@ use Rattle.std.specs.Prelude.{IfSome, unwrap_or}
 use Rattle.std.specs.FinMap as map
 use Rattle.std.specs.Ordering.{nat_cmp}
 use Rattle.std.specs.Cmp.Lexicographic.{slice_cmp}
-use Rattle.ftp_quota.specs.Book.{Book}
-use Rattle.ftp_quota.specs.Quota.{budget_or}
+use Rattle.ftp_audit.specs.Book.{Book}
+use Rattle.ftp_audit.specs.Quota.{budget_or}
 use Rattle.ftp_accounting_tests.proofs.budgets.usage_after.Goals as goal
 
 pub returns : goal.returns

@@ -1,7 +1,0 @@
-use Rattle.ftp_quota.proofs.Begun.{usage_told}
-use Rattle.ftp_quota.proofs.quota.Quota.usage.Goals as goal
-
-pub returns-in-Some-clause-usage : goal.returns-in-Some-clause-usage
-returns-in-Some-clause-usage g c =
-    rw (← c.self.view_is, c.in-Some.is)
-    (usage_told c.in-Some.accounts (g.S.Storage.files c.self.inside.inner) c.args.user.now c.used.result c.used.ensures)
