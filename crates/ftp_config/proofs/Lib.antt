@@ -1,2 +1,12 @@
+pub mod BitLemmas
+pub mod CodeLemmas
+pub mod Digits
+pub mod PartLemmas
+pub mod UsersNameLemmas
+pub mod LineLemmas
+pub mod VerdictLemmas
+pub mod HashTextLemmas
+pub mod ResultLemmas
+pub mod GrammarLemmas
 pub mod ValueLemmas
 pub mod NameLemmas

@@ -5,8 +5,8 @@ use Rattle.std.specs.Str.{bytes_eq}
 use Rattle.std.proofs.lemmas.List.{map-append}
 use Rattle.ftp_disk.specs.Home.{home_of, home_if}
 use Rattle.ftp_disk.specs.declared.home.Home.{Home}
-use Rattle.ftp_users.specs.Users.{named, user_named}
-use Rattle.ftp_users.specs.declared.user.User.{User}
+use Rattle.ftp_config.specs.Users.{named, user_named}
+use Rattle.ftp_config.specs.declared.user.User.{User}
 use Rattle.ftp_gateway.specs.Owned.{AreHomesOf, IsHome, IsHomeOf}
 
 abbrev pub Entries : Type 0

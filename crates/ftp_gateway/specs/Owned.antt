@@ -2,10 +2,10 @@
 use Rattle.std.specs.Prelude.{◌≡◌, ℕ, Bool, true, false, List, Option, Some, None, string_bytes, ⊤}
 use Rattle.ftp_disk.specs.Home.{home_of}
 use Rattle.ftp_disk.specs.declared.home.Home.{Home}
-use Rattle.ftp_users.specs.Users.{user_named}
-use Rattle.ftp_users.specs.declared.user.Rights.{Rights}
-use Rattle.ftp_users.specs.declared.user.Rights.TheVariants.{ReadOnly, ReadWrite}
-use Rattle.ftp_users.specs.declared.user.User.{User}
+use Rattle.ftp_config.specs.Users.{user_named}
+use Rattle.ftp_config.specs.declared.user.Rights.{Rights}
+use Rattle.ftp_config.specs.declared.user.Rights.TheVariants.{ReadOnly, ReadWrite}
+use Rattle.ftp_config.specs.declared.user.User.{User}
 
 -- who may write
 abbrev pub is_writer : Rights → Bool

@@ -1,7 +1,7 @@
 //! The budgets of the users' homes.
 
+use ftp_config::Users;
 use ftp_disk::{Budget, FileSystem, usage};
-use ftp_users::Users;
 use std::alloc::{AllocError, Global};
 use std::collections::BTreeMap;
 use std::sync::Wait;

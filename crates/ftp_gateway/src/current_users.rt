@@ -3,8 +3,8 @@
 ghost use Rattle.std.specs.Prelude.{◌≡◌, ℕ, List, Bool, true, IfOk};
 ghost use Rattle.std.specs.Arc.{arc_value};
 ghost use Rattle.ftp_base.specs.declared.login.AuthAnswer.{AuthAnswer};
-ghost use Rattle.ftp_users.specs.Users.{user_named};
-ghost use Rattle.ftp_users.specs.Verdict.{answer_for};
+ghost use Rattle.ftp_config.specs.Users.{user_named};
+ghost use Rattle.ftp_config.specs.Verdict.{answer_for};
 
 use crate::user_table::UserTable;
 use std::alloc::{AllocError, Global};

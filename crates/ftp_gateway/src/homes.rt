@@ -4,8 +4,8 @@ ghost use Rattle.std.specs.Prelude.{◌≡◌, ◌++◌, ◌∷◌, [], IfOk};
 ghost use Rattle.ftp_gateway.specs.Owned.{AreHomesOf, IsHome, is_writer};
 
 use crate::budgets::Budgets;
+use ftp_config::{Rights, User, Users};
 use ftp_disk::{Home, Homes};
-use ftp_users::{Rights, User, Users};
 use std::alloc::{AllocError, Global};
 
 // Whether a user may write.

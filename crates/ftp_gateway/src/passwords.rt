@@ -1,6 +1,6 @@
 //! Hashes of passwords, as a file of users has them.
 
-use ftp_users::hash_line;
+use ftp_config::hash_line;
 use std::io;
 use std::random::RandomSource;
 

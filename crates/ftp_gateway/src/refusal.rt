@@ -1,9 +1,8 @@
 //! Why a gateway does not serve.
 
 use ftp_base::Bytes;
-use ftp_config::{ConfigError, key_name};
+use ftp_config::{ConfigError, UsersError, key_name};
 use ftp_options::ServerError;
-use ftp_users::UsersError;
 use std::alloc::{AllocError, Global};
 use std::io;
 

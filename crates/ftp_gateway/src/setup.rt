@@ -7,6 +7,7 @@ use ftp_base::Bytes;
 use ftp_config::{GatewayConfig, read_config};
 use ftp_options::Options;
 use ftp_users::Users;
+use ftp_config::{GatewayConfig, Users, read_config};
 use std::alloc::Global;
 use std::fs;
 use std::rt::Files;

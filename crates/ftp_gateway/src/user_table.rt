@@ -2,8 +2,8 @@
 
 use crate::budgets::Budgets;
 use crate::homes::homes_of;
+use ftp_config::Users;
 use ftp_disk::{FileSystem, Homes};
-use ftp_users::Users;
 use std::alloc::{AllocError, Global};
 use std::sync::{Arc, Wait};
 

@@ -1,6 +1,6 @@
 //! Keys that passwords derive.
 
-use ftp_users::{derived_key, hash_line};
+use ftp_config::{derived_key, hash_line};
 use std::test::Fail;
 
 // The first is of RFC 7914, section 11, cut to 32 bytes; the others are OpenSSL's.

@@ -1,7 +1,7 @@
 //! Users of a file.
 
 use ftp_base::{AuthAnswer, Authenticator, Bytes, IpAddr};
-use ftp_users::{Rights, Users, UsersError};
+use ftp_config::{Rights, Users, UsersError};
 use std::alloc::Global;
 use std::test::Fail;
 

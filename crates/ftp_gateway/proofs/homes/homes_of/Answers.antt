@@ -2,8 +2,8 @@ use Rattle.std.proofs.Common.{◌≡◌, ◌++◌, ◌∷◌, [], ℕ, List, Vec
 use Rattle.std.specs.Option.{option_or}
 use Rattle.ftp_disk.specs.Home.{home_of, home_if}
 use Rattle.ftp_disk.specs.declared.home.Home.{Home}
-use Rattle.ftp_users.specs.Users.{named, user_named}
-use Rattle.ftp_users.specs.declared.user.User.{User}
+use Rattle.ftp_config.specs.Users.{named, user_named}
+use Rattle.ftp_config.specs.declared.user.User.{User}
 use Rattle.ftp_gateway.specs.Owned.{IsHomeOf}
 use Rattle.ftp_gateway.proofs.HomeLemmas.{step}
 use Rattle.ftp_gateway.proofs.homes.homes_of.Goals as goal

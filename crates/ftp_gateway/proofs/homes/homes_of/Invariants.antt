@@ -1,6 +1,6 @@
 use Rattle.std.proofs.Common.{◌≡◌, ◌++◌, ℕ, List, Vec, Global}
-use Rattle.ftp_users.specs.Users.{named}
-use Rattle.ftp_users.specs.declared.user.User.{User}
+use Rattle.ftp_config.specs.Users.{named}
+use Rattle.ftp_config.specs.declared.user.User.{User}
 use Rattle.ftp_gateway.specs.Owned.{AreHomesOf}
 use Rattle.ftp_gateway.proofs.homes.homes_of.Given as goal
 

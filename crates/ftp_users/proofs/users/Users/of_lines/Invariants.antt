@@ -1,7 +1,0 @@
-use Rattle.std.proofs.Common.{◌≡◌, ℕ, ◌<◌, true, take}
-use Rattle.ftp_users.specs.Users.{HasUsersOf, is_good_at}
-use Rattle.ftp_users.proofs.PartLemmas.{texts}
-use Rattle.ftp_users.proofs.users.Users.of_lines.Given as goal
-
-abbrev pub invariant-loop-i : goal.invariant-loop-i
-invariant-loop-i l = HasUsersOf l.by_name.entries (take l.i (texts l.lines)) × ((k : ℕ) → k < l.i → is_good_at (texts l.lines) k ≡ true)
