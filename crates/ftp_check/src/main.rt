@@ -7,7 +7,7 @@
 #![tactic(auto)]
 
 use ftp_check_log::{CheckStatus, run_check};
-use ftp_streams::{Input, Output};
+use ftp_text::{Input, Output};
 use std::process::ExitCode;
 use std::{env, io};
 

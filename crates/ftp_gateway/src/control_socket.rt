@@ -195,8 +195,7 @@ impl<R: Wait + Files<File = File> + Clock + AllocGlobal + Copy + Drop> ControlSo
 }
 
 impl<R: Wait + Files<File = File> + Clock + AllocGlobal + Copy + Drop> Indicator
-    for ControlSocket<R>
-{
+    for ControlSocket<R> {
     ghost asked = { λ s. s.asked };
 
     fn poll(&mut self, at: u64) -> Option<Shutdown> {

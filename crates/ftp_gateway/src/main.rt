@@ -37,13 +37,12 @@ use refusal::{Refusal, tell};
 use serving::Gateway;
 use setup::read_setup;
 use std::alloc::Global;
-use std::env;
 use std::net::{Net, TcpListener, TcpStream};
 use std::process::ExitCode;
 use std::random::RandomSource;
 use std::rt::{Env, Files};
 use std::sync::Arc;
-use std::thread;
+use std::{env, thread};
 
 /// How many entries of the journal are kept behind its checkpoint at most.
 const CHECKPOINT_EVERY: u64 = 1_000;

@@ -50,11 +50,7 @@ fn unwritable(alloc: Global, path: &[u8]) -> Refusal {
 
 impl<R: Wait + Files<File = File> + Clock + AllocGlobal + Copy + Drop> Records<R> {
     /// Opens the files that a configuration names, for the journal of a server with these options.
-    pub fn open(
-        rt: R,
-        config: &GatewayConfig,
-        options: &Options,
-    ) -> Result<Records<R>, Refusal> {
+    pub fn open(rt: R, config: &GatewayConfig, options: &Options) -> Result<Records<R>, Refusal> {
         let alloc = rt.alloc();
         let mut records = Records {
             alloc,

@@ -8,7 +8,7 @@
 #![tactic(auto)]
 
 use ftp_script_run::{Status, run_script};
-use ftp_streams::{Input, Output};
+use ftp_text::{Input, Output};
 use std::process::ExitCode;
 use std::{env, io};
 

@@ -36,8 +36,8 @@ pub counted-more :
     ((l : List Entry) → Stands old.hub l → made ≡ next_entry (options_of old.hub) l e.event e.answer) →
     ((l : List Entry) → Stands old.hub l → Stands new.hub (made ∷ l)) →
     ((l : List Entry) → Stands old.hub l →
-        Counted (options_of old.hub) (past_of l) (counters_of old.hub) →
-        Counted (options_of old.hub) (past_of (made ∷ l)) (counters_of new.hub)) →
+    Counted (options_of old.hub) (past_of l) (counters_of old.hub) →
+    Counted (options_of old.hub) (past_of (made ∷ l)) (counters_of new.hub)) →
     new.locked ≡ saturated (old.locked + one_if (is_lockout e.decision)) →
     HasCounted o old log → IsRight o (e ∷ log) → IsActed o (e ∷ log) → HasCounted o new (e ∷ log)
 counted-more o old new log e made options due stands counters locked h r a =

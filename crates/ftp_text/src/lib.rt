@@ -1,7 +1,8 @@
-//! The lines of scripts and logs: their fields, and events, the set-up of a script and the entries of a log in them.
+//! The lines of scripts and logs: their fields, and events, the set-up of a script and the entries of a log in them; and readers
+//! and writers as sources and sinks of them.
 //!
-//! Each value has one spelling, so a field or a line is read exactly where something is spelled so.
-//! Begin with `field`, `read_item`, `put_entry`, `read_log_line` and specs/Fields.antt.
+//! Each value has one spelling, so a field or a line is read exactly where something is spelled so; a fault of a reader or a
+//! writer is counted once. Begin with `field`, `read_item`, `put_entry`, `read_log_line`, `Input` and specs/Fields.antt.
 #![tactic(auto)]
 
 mod action;
@@ -21,6 +22,7 @@ mod options;
 mod place;
 mod printing;
 mod setup;
+mod streams;
 mod text;
 mod trace;
 mod word;
@@ -36,5 +38,6 @@ pub use message::{message_to_end, put_message};
 pub use place::{LONGEST_LOG, Place, Stage, first_bad_line};
 pub use printing::{decision_text, put_entry};
 pub use setup::{Item, put_file, put_sent, read_item};
+pub use streams::{Input, Output};
 pub use text::whole_text;
 pub use word::Word;
