@@ -1,6 +1,6 @@
 //! A server whose sessions share the ports.
 
-ghost use Rattle.std.specs.Prelude.{◌≡◌, ◌↔◌, true, IfErr, IsErrOf};
+ghost use Rattle.std.specs.Prelude.{◌≡◌, ◌≤◌, ◌↔◌, true, Some, IfErr, IsErrOf};
 ghost use Rattle.ftp_options.specs.Modes.{is_pooled, is_proxy};
 ghost use Rattle.ftp_listen.specs.Causes.{WritesNone, WritesV6, is_of_listening};
 
@@ -49,6 +49,15 @@ impl<S: Storage + Send + Drop + 'static> PreboundListener<S> {
         ensures options { self.new.server.options ≡ self.old.server.options }
     {
         self.server.most_sessions_of_one(of_one);
+    }
+
+    /// Keeps of the journal a checkpoint and so many entries at most, as `Server::checkpoint_every` says it.
+    pub fn checkpoint_every(&mut self, every: u64)
+        requires some { 1 ≤ every }
+        ensures every { self.new.server.every ≡ Some every }
+        ensures options { self.new.server.options ≡ self.old.server.options }
+    {
+        self.server.checkpoint_every(every);
     }
 
     /// Hands each entry of the journal to a feed, as `Server::feed_journal` says it.

@@ -230,6 +230,7 @@ impl<S: Drop> Server<S> {
     /// There are at most so many sessions at a time. A connection that is one too many is told 421 and closed.
     pub fn most_sessions(&mut self, all: u64)
         ensures limit { self.new.limits ≡ record self.old.limits { all = all } }
+        ensures every { self.new.every ≡ self.old.every }
         ensures options { self.new.options ≡ self.old.options }
     {
         self.limits.all = all;
@@ -238,6 +239,7 @@ impl<S: Drop> Server<S> {
     /// There are at most so many sessions of one client address at a time; else as `most_sessions`.
     pub fn most_sessions_of_one(&mut self, of_one: u64)
         ensures limit { self.new.limits ≡ record self.old.limits { of_one = of_one } }
+        ensures every { self.new.every ≡ self.old.every }
         ensures options { self.new.options ≡ self.old.options }
     {
         self.limits.of_one = of_one;
@@ -248,7 +250,8 @@ impl<S: Drop> Server<S> {
     ///
     /// # Proved
     ///
-    /// - A server that is told so keeps so many entries at most (`every`, `limits`, `options`; also `Cut::tail`: `bounded`).
+    /// - A server that is told so keeps so many entries at most (`every`, `limits`, `options`; also
+    ///   `PreboundListener::checkpoint_every`: `every`, `options`; `Cut::tail`: `bounded`).
     pub fn checkpoint_every(&mut self, every: u64)
         requires some { 1 ≤ every }
         ensures every { self.new.every ≡ Some every }
@@ -262,6 +265,7 @@ impl<S: Drop> Server<S> {
     /// does not keep up, it is told that entries are lost. The caller closes the feed once the server has ended.
     pub fn feed_journal(&mut self, feed: Arc<JournalFeed, Global>)
         ensures limits { self.new.limits ≡ self.old.limits }
+        ensures every { self.new.every ≡ self.old.every }
         ensures options { self.new.options ≡ self.old.options }
     {
         self.feed = Some(feed);
