@@ -24,7 +24,7 @@ mod text_laws;
 mod text_script;
 
 pub use admission::{LONGEST_LINE, LONGEST_SCRIPT, MAX_FILE};
-pub use command::{Command, Told, command_of};
+pub use command::{Command, Ending, Told, command_of};
 pub use laws::{settled_runs_are_determined, taken_transfers_are_done, told_faults_are_listed};
 pub use script::run_script;
 pub use status::Status;

@@ -10,7 +10,8 @@ ghost use Rattle.ftp_text.specs.declared.setup.Item.{Item};
 ghost use Rattle.ftp_text.specs.declared.setup.Item.TheVariants as item;
 ghost use Rattle.ftp_script_run.specs.Items.{event_in, features_of};
 ghost use Rattle.ftp_script_run.specs.Left.{end_lines};
-ghost use Rattle.ftp_script_run.specs.Outcome.{log_lines, bad_line};
+ghost use Rattle.ftp_script_run.specs.declared.command.Ending.TheVariants as ending;
+ghost use Rattle.ftp_script_run.specs.Outcome.{log_lines, bad_line, Ends, EndsPart};
 ghost use Rattle.ftp_audit.specs.Heard.{HasHeard};
 ghost use Rattle.ftp_script_run.specs.Runs.{Keeps, MayTake, Takes, IsTaken, IsPartlyTaken};
 ghost use Rattle.ftp_script_run.specs.Audited.{IsNoted};
@@ -19,12 +20,16 @@ ghost use Rattle.ftp_hub.specs.Stands.{Stands, options_of};
 ghost use Rattle.ftp_script_run.specs.Script.{may_stand};
 
 use crate::MAX_FILE;
+use crate::command::Ending;
 use crate::printing::{print_bad_line, print_entry, print_files, print_links};
 use ftp_audit::{Audit, Quota};
 use ftp_base::{
     Bytes, FEATURE_RESTART, Failed, InsertError, LinkFault, LinkTable, MemoryLink, MemoryStorage,
     Sink, StoreError,
 };
+use ftp_checkpoint::encode_state;
+use ftp_control::write_all;
+use ftp_event_text::Item;
 use ftp_events::{Entry, HubEvent};
 use ftp_hub::{Hub, run_event};
 use ftp_options::{
@@ -259,7 +264,42 @@ impl Run {
         }
     }
 
-    /// Writes the lines behind the log.
+    /// Writes what stands behind the log.
+    pub fn close<K: Sink>(&mut self, ending: Ending, sink: &mut K) -> Result<(), Failed>
+        ensures wrote { OnOk result ((log : List Entry) → Stands self.old.hub log →
+            Ends ending (options_of self.old.hub) log self.old.links self.old.storage (K.written sink.old) (K.written sink.new)) }
+        ensures fault_rose { IsErrOf result Fault → HasRisen (K.faults sink.old) (K.faults sink.new) }
+        ensures count { K.faults sink.old ≤ K.faults sink.new }
+
+        // After an error nothing was written, or a part from the front.
+        ensures front { OnErr result ((log : List Entry) → Stands self.old.hub log →
+            EndsPart ending (options_of self.old.hub) log self.old.links self.old.storage (K.written sink.old) (K.written sink.new)) }
+    {
+        match ending {
+            Ending::LinksAndFiles => self.end(sink),
+            Ending::State => self.save(sink),
+        }
+    }
+
+    // Writes the text of the hub's state.
+    fn save<K: Sink>(&self, sink: &mut K) -> Result<(), Failed>
+        ensures wrote { OnOk result ((log : List Entry) → Stands self.now.hub log →
+            Ends ending.State (options_of self.now.hub) log self.now.links self.now.storage (K.written sink.old) (K.written sink.new)) }
+        ensures fault_rose { IsErrOf result Fault → HasRisen (K.faults sink.old) (K.faults sink.new) }
+        ensures count { K.faults sink.old ≤ K.faults sink.new }
+        ensures front { OnErr result ((log : List Entry) → Stands self.now.hub log →
+            EndsPart ending.State (options_of self.now.hub) log self.now.links self.now.storage (K.written sink.old) (K.written sink.new)) }
+    {
+        let Ok(state) = self.hub.state() else {
+            return Err(Failed::Memory);
+        };
+        match encode_state(self.alloc, &state) {
+            Ok(text) => write_all(sink, text.as_slice()),
+            Err(_) => Err(Failed::Memory),
+        }
+    }
+
+    /// Writes the lines on links and files.
     pub fn end<K: Sink>(&mut self, sink: &mut K) -> Result<(), Failed>
         ensures wrote { OnOk result (Writes (K.written sink.old) (K.written sink.new) (end_lines self.old.links self.old.storage)) }
         ensures fault_rose { IsErrOf result Fault → HasRisen (K.faults sink.old) (K.faults sink.new) }

@@ -9,7 +9,8 @@ ghost use Rattle.ftp_script_run.specs.Script.{may_stand, IsScriptOf};
 ghost use Rattle.ftp_script_run.specs.ScriptReader.{IsLawful};
 ghost use Rattle.ftp_script_run.specs.Statuses.{IsCutShort, HasNotRisen};
 ghost use Rattle.ftp_script_run.specs.declared.command.Command.{Command};
-ghost use Rattle.ftp_script_run.specs.declared.command.Command.TheVariants.{Script, Audit, Tell};
+ghost use Rattle.ftp_script_run.specs.declared.command.Command.TheVariants.{Run, Audit, Tell};
+ghost use Rattle.ftp_script_run.specs.declared.command.Ending.{Ending};
 ghost use Rattle.ftp_script_run.specs.declared.command.Told.{Told};
 ghost use Rattle.ftp_script_run.specs.declared.command.Told.TheVariants.{Stress};
 ghost use Rattle.ftp_script_run.specs.Commands.{Asks, text_of};
@@ -20,7 +21,7 @@ ghost use Rattle.ftp_script_run.specs.Audited.{IsAudited, IsAuditedTo, AuditsWho
 ghost use Rattle.ftp_script_run.specs.Runs.{Keeps, MayTake, IsTaken, IsPartlyTaken, Running};
 
 use crate::auditing::audit_lines;
-use crate::command::{Command, command_of};
+use crate::command::{Command, Ending, command_of};
 use crate::run::Run;
 use crate::status::Status;
 use crate::telling::tell;
@@ -29,9 +30,9 @@ use ftp_base::{Sink, Source};
 use ftp_text::Item;
 use std::alloc::Global;
 
-/// Does what the words ask for: runs the script that the source gives, event by event, and writes its printed log, or in
-/// place of it a line for each user on what it moved and how often it came and went; or writes how often each decision
-/// came in a run of drawn events, the commands, or the version.
+/// Does what the words ask for: runs the script that the source gives, event by event, and writes its printed log, with
+/// links and files or the state of the hub behind it, or in place of it a line for each user on what it moved and how
+/// often it came and went; or writes how often each decision came in a run of drawn events, the commands, or the version.
 ///
 /// A line has at most 65,536 bytes, its line feed not counted, and a script 16,777,216. An entry is let go as soon as it
 /// is written or heard.
@@ -41,7 +42,8 @@ use std::alloc::Global;
 /// - Done: all bytes were read and are a script; what was written is the printed log of its events, each decided and
 ///   done as is due under the options of its line, or the builder's defaults where it has none, then a line for each
 ///   link in order of number and for each file in byte order of paths, of the links and the storage that its events
-///   leave (`done`).
+///   leave; or, where the state is asked for, the text of a state that answers each question as this log does, and whose
+///   lists have the order and the form of a state's lines (`IsEnd` in `ftp_script_run/specs/Outcome.antt`) (`done`).
 /// - A script's storage and links are at first as its lines set them up; each transfer is run at its end, on that
 ///   storage and on the link that it started on, each header is read from the link of its connection, and nothing else
 ///   changes them; of the storage and of each link no more calls fail than their lines list (`done`, `bad_line`,
@@ -51,9 +53,9 @@ use std::alloc::Global;
 /// - A read fault only where the source's count rose; what was written is exactly the printed log of the whole lines
 ///   that were read, and of what stands behind them at most one buffer was taken (`read_fault`, `read_whole`).
 /// - A write fault only where the sink's count rose (`write_fault`).
-/// - After a write fault or want of memory what was written is a front of the whole output, as the whole lines that
-///   were read give it: the lines on links and files come only where all was read, and that of a bad line where it was
-///   read; behind the lines of the items at most one buffer was taken (`front`).
+/// - After a write fault or want of memory what was written is a front of the log, as the whole lines that were read give
+///   it, or the log and a front of what stands behind it: links and files, or the state, only where all was read, and the
+///   line of a bad line where it was read; behind the lines of the items at most one buffer was taken (`front`).
 /// - Usage exactly where the words are no command; nothing is read or written (`usage`, `usage_idle`).
 /// - A stress run: what was written is how often each decision came in the right log of its drawn events, a line each;
 ///   after a write fault or want of memory a front of that (`stress`, `stress_front`).
@@ -78,25 +80,25 @@ pub fn run_script<S: Source, K: Sink>(
     ensures usage { (result ≡ Status.Usage) ↔ ((c : Command) → Asks (map (λ w. w.items) words.now) c → ⊥) }
     ensures usage_idle { result ≡ Status.Usage → (source.new ≡ source.old) × (sink.new ≡ sink.old) }
 
-    // All was read and is a script, and its log was written.
-    ensures done { Asks (map (λ w. w.items) words.now) Script → result ≡ Status.Done →
-        IfSome (S.left source.old) (λ bytes. IsDone bytes (S.left source.new) (K.written sink.old) (K.written sink.new)) }
-    ensures bad_line { Asks (map (λ w. w.items) words.now) Script → (k : ℕ) → result ≡ Status.BadLine k → IfSome (S.left source.old) (λ bytes. HasBadLine k bytes (S.left source.new) (K.written sink.old) (K.written sink.new)) }
+    // All was read and is a script, and its log was written, with links and files or the state behind it.
+    ensures done { (e : Ending) → Asks (map (λ w. w.items) words.now) (Run e) → result ≡ Status.Done →
+        IfSome (S.left source.old) (λ bytes. IsDone e bytes (S.left source.new) (K.written sink.old) (K.written sink.new)) }
+    ensures bad_line { (e : Ending) → Asks (map (λ w. w.items) words.now) (Run e) → (k : ℕ) → result ≡ Status.BadLine k → IfSome (S.left source.old) (λ bytes. HasBadLine k bytes (S.left source.new) (K.written sink.old) (K.written sink.new)) }
 
     // After a fault of the source the log of the whole lines that were read was written.
     ensures read_fault { result ≡ Status.ReadFault → HasRisen (S.faults source.old) (S.faults source.new) }
-    ensures read_whole { Asks (map (λ w. w.items) words.now) Script → result ≡ Status.ReadFault → IfSome (S.left source.old) (λ bytes. WritesWhole bytes (S.left source.new) (K.written sink.old) (K.written sink.new)) }
+    ensures read_whole { (e : Ending) → Asks (map (λ w. w.items) words.now) (Run e) → result ≡ Status.ReadFault → IfSome (S.left source.old) (λ bytes. WritesWhole bytes (S.left source.new) (K.written sink.old) (K.written sink.new)) }
 
     // After a fault of the sink, or where memory ran out, a part from the front was written.
     ensures write_fault { result ≡ Status.WriteFault → HasRisen (K.faults sink.old) (K.faults sink.new) }
-    ensures front { Asks (map (λ w. w.items) words.now) Script → IsCutShort result →
-        IfSome (S.left source.old) (λ bytes. WritesPart bytes (S.left source.new) (K.written sink.old) (K.written sink.new)) }
+    ensures front { (e : Ending) → Asks (map (λ w. w.items) words.now) (Run e) → IsCutShort result →
+        IfSome (S.left source.old) (λ bytes. WritesPart e bytes (S.left source.new) (K.written sink.old) (K.written sink.new)) }
 
     // Where nothing fails, a script is run to its end, and the first bad line is named.
-    ensures complete { Asks (map (λ w. w.items) words.now) Script → IfSome (S.left source.old) (λ bytes. (items : List Item) → IsScriptOf bytes items None →
+    ensures complete { (e : Ending) → Asks (map (λ w. w.items) words.now) (Run e) → IfSome (S.left source.old) (λ bytes. (items : List Item) → IsScriptOf bytes items None →
         HasNotRisen (S.faults source.old) (S.faults source.new) → HasNotRisen (K.faults sink.old) (K.faults sink.new) →
         (result ≡ Status.Done) ⊎ (result ≡ Status.OutOfMemory)) }
-    ensures first_bad { Asks (map (λ w. w.items) words.now) Script → (k : ℕ) → IfSome (S.left source.old) (λ bytes. (items : List Item) → IsScriptOf bytes items (Some k) →
+    ensures first_bad { (e : Ending) → Asks (map (λ w. w.items) words.now) (Run e) → (k : ℕ) → IfSome (S.left source.old) (λ bytes. (items : List Item) → IsScriptOf bytes items (Some k) →
         HasNotRisen (S.faults source.old) (S.faults source.new) → HasNotRisen (K.faults sink.old) (K.faults sink.new) →
         (result ≡ Status.BadLine k) ⊎ (result ≡ Status.OutOfMemory)) }
 
@@ -136,9 +138,9 @@ pub fn run_script<S: Source, K: Sink>(
     ensures sink_count { K.faults sink.old ≤ K.faults sink.new }
 {
     match command_of(words) {
-        Some(Command::Script) => {
+        Some(Command::Run(ending)) => {
             let mut buffer = [0u8; BUFFER_SIZE];
-            run_lines(alloc, &mut buffer, source, sink)
+            run_lines(alloc, ending, &mut buffer, source, sink)
         }
         Some(Command::Audit) => {
             let mut buffer = [0u8; BUFFER_SIZE];
@@ -152,12 +154,13 @@ pub fn run_script<S: Source, K: Sink>(
 // Runs the script line by line, by way of a buffer in which any line fits.
 fn run_lines<S: Source, K: Sink>(
     alloc: Global,
+    ending: Ending,
     buffer: &mut [u8],
     source: &mut S,
     sink: &mut K,
 ) -> Status
     requires { length buffer.old ≡ 65537 }
-    ensures outcome { IfSome (S.left source.old) (λ bytes. Outcome result bytes (S.left source.new) (K.written sink.old) (K.written sink.new)) }
+    ensures outcome { IfSome (S.left source.old) (λ bytes. Outcome ending result bytes (S.left source.new) (K.written sink.old) (K.written sink.new)) }
     ensures no_usage { result ≢ Status.Usage }
     ensures read_fault { result ≡ Status.ReadFault → HasRisen (S.faults source.old) (S.faults source.new) }
     ensures write_fault { result ≡ Status.WriteFault → HasRisen (K.faults sink.old) (K.faults sink.new) }
@@ -167,7 +170,7 @@ fn run_lines<S: Source, K: Sink>(
     let mut reader = ScriptReader::new(alloc);
     let mut run = Run::new(alloc);
     loop {
-        if let Some(status) = advance(alloc, &mut reader, &mut run, buffer, source, sink) {
+        if let Some(status) = advance(alloc, ending, &mut reader, &mut run, buffer, source, sink) {
             return status;
         }
     }
@@ -176,6 +179,7 @@ fn run_lines<S: Source, K: Sink>(
 // Reads a line and does what it asks for. It gives the status where the run is at its end.
 fn advance<S: Source, K: Sink>(
     alloc: Global,
+    ending: Ending,
     reader: &mut ScriptReader,
     run: &mut Run,
     buffer: &mut [u8],
@@ -187,7 +191,7 @@ fn advance<S: Source, K: Sink>(
     ensures goes_on { IfNone result ((all before : Option (List ℕ)) → Running all reader.old run.old buffer.old (S.left source.old) before (K.written sink.old) →
         Running all reader.new run.new buffer.new (S.left source.new) before (K.written sink.new)) }
     ensures ended { IfSome result (λ status. (all before : Option (List ℕ)) → Running all reader.old run.old buffer.old (S.left source.old) before (K.written sink.old) →
-        IfSome all (λ bytes. Outcome status bytes (S.left source.new) before (K.written sink.new))) }
+        IfSome all (λ bytes. Outcome ending status bytes (S.left source.new) before (K.written sink.new))) }
     ensures no_usage { result ≢ Some Status.Usage }
     ensures read_fault { result ≡ Some Status.ReadFault → HasRisen (S.faults source.old) (S.faults source.new) }
     ensures write_fault { result ≡ Some Status.WriteFault → HasRisen (K.faults sink.old) (K.faults sink.new) }
@@ -198,7 +202,7 @@ fn advance<S: Source, K: Sink>(
 {
     match reader.next_item(alloc, buffer, source, run.storage()) {
         Ok(Some(item)) => taken(run, item, sink),
-        Ok(None) => Some(Status::Done.after(run.end(sink))),
+        Ok(None) => Some(Status::Done.after(run.close(ending, sink))),
         Err(ScriptError::BadLine(k)) => Some(Status::BadLine(k).after(run.bad_line(k, sink))),
         Err(ScriptError::Fault) => Some(Status::ReadFault),
         Err(ScriptError::Memory) => Some(Status::OutOfMemory),
