@@ -9,6 +9,7 @@ pub mod GrammarLemmas
 pub mod WalkLemmas
 pub mod WritingLemmas
 pub mod ListLemmas
+pub mod FormLemmas
 pub mod Within
 pub mod HaveLines
 pub mod RootLemmas

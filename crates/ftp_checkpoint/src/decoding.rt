@@ -3,6 +3,7 @@
 ghost use Rattle.std.specs.Prelude.{◌≡◌, ◌<◌, ◌∷◌, ℕ, List, false, length, IfOk, IfErr, OnOk, IsErrOf, map as each};
 ghost use Rattle.std.specs.List.{AllByRecursion};
 ghost use Rattle.ftp_text.specs.declared.fault.LineFault.TheVariants as fault;
+ghost use Rattle.ftp_hub.specs.State.{IsForm};
 ghost use Rattle.ftp_hub.specs.declared.state.HubState.{HubState};
 ghost use Rattle.ftp_hub.specs.declared.state.StateError.TheVariants as state_error;
 ghost use Rattle.ftp_checkpoint.specs.declared.line.StateLine.{StateLine};
@@ -22,12 +23,13 @@ use std::marker::Model;
 ///
 /// # Proved
 ///
-/// - What is read is the state whose lines the text has (`found`), and the text of a state is read, unless memory runs out
-///   (`only`).
+/// - What is read is the state whose lines the text has (`found`), with lists in the order and the form of a state's lines
+///   (`form`), and the text of a state is read, unless memory runs out (`only`).
 /// - The line that is named is the first up to which the lines are those of no state, and no other answer than this and
 ///   want of memory is given (`bad`, `others`).
 pub fn decode_state(alloc: Global, text: &[u8]) -> Result<HubState, StateError>
     ensures found { IfOk result (λ x. IsSpelledBy (lines_in text.now) x) }
+    ensures form { IfOk result IsForm }
     ensures only { (x : HubState) (lines : List StateLine) → AreStateLines x lines → text.now ≡ state_text lines → IsStateRead x result }
     ensures bad { (k : ℕ) → IsErrOf result (state_error.BadLine k) → IsFirstBadStateLine k (lines_in text.now) }
     ensures others { IfErr result IsOfText }
@@ -112,6 +114,7 @@ struct Draft {
 }
 
 impl Model for Draft {
+    ghost use Rattle.ftp_hub.specs.State.{IsForm};
     ghost use Rattle.ftp_hub.specs.declared.state.HubState.{HubState};
 
     ghost Value = { HubState };

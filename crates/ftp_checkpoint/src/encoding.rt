@@ -21,9 +21,10 @@ use std::alloc::{AllocError, Global};
 ///
 /// # Proved
 ///
-/// - A state whose lists have the order and the form of lines gives the text of these lines, each with its line feed
-///   (`text`).
+/// - What is written are the lines of the state's lists, one after the other, each with its line feed (`lists`); of a state
+///   whose lists have the order and the form of lines it is the text of these lines (`text`).
 pub fn encode_state(alloc: Global, state: &HubState) -> Result<Bytes, AllocError>
+    ensures lists { IfOk result (λ text. text ≡ state_text (walk state.now)) }
     ensures text { IfOk result (λ text. (lines : List StateLine) → AreStateLines state.now lines → text ≡ state_text lines) }
 {
     let mut out = Vec::new(alloc);

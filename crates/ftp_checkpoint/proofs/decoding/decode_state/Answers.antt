@@ -1,8 +1,10 @@
-use Rattle.std.proofs.Common.{ap}
+use Rattle.std.proofs.Common.{ap, subst, sym}
 use Rattle.std.specs.Prelude.{Err}
 use Rattle.std.proofs.lemmas.Result.{err_from_is_err_and}
 use Rattle.ftp_hub.specs.declared.state.StateError.{StateError}
-use Rattle.ftp_checkpoint.proofs.GrammarLemmas.{refused-for-memory, said-again}
+use Rattle.ftp_hub.specs.State.{IsForm}
+use Rattle.ftp_checkpoint.proofs.FormLemmas.{lines-form}
+use Rattle.ftp_checkpoint.proofs.GrammarLemmas.{lines-said, refused-for-memory, said-again}
 use Rattle.ftp_checkpoint.proofs.decoding.decode_state.Goals as goal
 
 pub returns-in_err-lines-clause-only : goal.returns-in_err-lines-clause-only
@@ -15,3 +17,9 @@ returns-in_err-lines-clause-only c = λ x lines is same.
 pub returns-clause-only : goal.returns-clause-only
 returns-clause-only c = λ x lines is same.
     said-again c.args.text.now x c.in_ok-state.state c.in_ok-lines.lines.items lines is same c.in_ok-lines.ensures.fit c.in_ok-lines.ensures.spelled c.in_ok-state.ensures
+
+pub returns-clause-form : goal.returns-clause-form
+returns-clause-form c =
+    let lines = c.in_ok-lines.lines.items in
+    let said = lines-said lines c.in_ok-lines.ensures.order c.in_ok-lines.ensures.fit in
+    subst IsForm (sym c.in_ok-state.ensures) (lines-form _ lines said)

@@ -6,6 +6,10 @@ use Rattle.ftp_checkpoint.proofs.encoding.encode_state.Goals as goal
 
 pub returns : goal.returns
 returns c = record {
+  lists =
+      c.from_vec.ensures
+      ∙ c.in_ok-put_state.ensures
+      ∙ ap (λ (o : List ℕ). o ++ state_text (walk c.args.state.now)) c.new-out.ensures.items;
   text = λ lines is.
       c.from_vec.ensures
       ∙ c.in_ok-put_state.ensures
