@@ -3,7 +3,7 @@
 
 Usage: bench/talk.py [PROGRAM]
 
-PROGRAM is crates/ftp_talk_bench/out/ftp_talk_bench, which `rt ci` builds. It serves few packets of 100 commands and many,
+PROGRAM is crates/ftp_bench/out/ftp_bench, which `rt ci` builds. It serves few packets of 100 commands and many,
 so that the set-up of a run and the greeting fall out of the difference. What counts is the processor time of the program,
 its own and that of the system for it; of several such differences the best counts. It prints the line of
 bench/RESULTS.md, and ends with status 1 below 500,000 commands a second.
@@ -21,7 +21,7 @@ GOAL = 500_000
 
 def run(program, packets):
     """The processor time in seconds, and the peak memory in MB, of serving so many packets."""
-    child = subprocess.Popen([program, str(packets)], stdout=subprocess.PIPE)
+    child = subprocess.Popen([program, "talk", str(packets)], stdout=subprocess.PIPE)
     written = child.stdout.read()
     _, status, used = os.wait4(child.pid, 0)
     child.returncode = os.waitstatus_to_exitcode(status)
@@ -32,7 +32,7 @@ def run(program, packets):
 
 def main():
     here = Path(__file__).resolve().parent.parent
-    built = here / "crates/ftp_talk_bench/out/ftp_talk_bench"
+    built = here / "crates/ftp_bench/out/ftp_bench"
     program = sys.argv[1] if len(sys.argv) > 1 else str(built)
     many = [run(program, MANY) for _ in range(TRIES)]
     few = [run(program, FEW) for _ in range(TRIES)]

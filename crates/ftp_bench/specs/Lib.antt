@@ -1,3 +1,4 @@
 pub mod Words
 pub mod Moving
 pub mod Appending
+pub mod Client

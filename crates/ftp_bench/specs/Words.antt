@@ -9,7 +9,7 @@ use Rattle.ftp_bench.specs.declared.command.Appends.{Appends}
 use Rattle.ftp_bench.specs.declared.command.Crew.TheVariants.{One, Two, Four}
 use Rattle.ftp_bench.specs.declared.command.Way.{Way}
 use Rattle.ftp_bench.specs.declared.command.Way.TheVariants.{Run, Log, Shared}
-use Rattle.ftp_bench.specs.declared.command.Command.TheVariants.{Help, Version, Move, Reserve, Append}
+use Rattle.ftp_bench.specs.declared.command.Command.TheVariants.{Help, Version, Talk, Move, Reserve, Append}
 
 -- what a word says is moved
 abbrev pub kind_of : List ℕ → Option Kind
@@ -52,6 +52,7 @@ AsksAppends way sessions rounds appends =
 -- the words behind the program's name ask for the command
 abbrev pub Asks : List (List ℕ) → Command → Type 0
 Asks (word ∷ []) command = command_of word ≡ Some command
+Asks (name ∷ packets ∷ []) (Talk n) = IsTrue (bytes_eq name (codes "talk")) × IsNumber (2 ^ 16) packets n
 Asks (kind ∷ mebibytes ∷ rounds ∷ []) (Move load) =
     (kind_of kind ≡ Some load.kind) × IsNumber (2 ^ 8) mebibytes load.mebibytes × IsNumber (2 ^ 16) rounds load.rounds
 Asks (name ∷ way ∷ sessions ∷ rounds ∷ []) (Append appends) = IsTrue (bytes_eq name (codes "append")) × AsksAppends way sessions rounds appends

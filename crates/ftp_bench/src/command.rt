@@ -66,6 +66,8 @@ pub struct Appends {
 pub enum Command {
     Help,
     Version,
+    /// So many packets of 100 commands.
+    Talk(u16),
     Move(Load),
     Reserve(Search),
     Append(Appends),
@@ -164,6 +166,12 @@ impl Command {
     {
         match words {
             [word] => Command::of_word(word.as_bytes()),
+            [name, packets] => {
+                if name.as_bytes() != b"talk".as_slice() {
+                    return None;
+                }
+                Some(Command::Talk(number(packets.as_str(), 1 << 16)? as u16))
+            }
             [kind, mebibytes, rounds] => Some(Command::Move(Load {
                 kind: Kind::named(kind.as_bytes())?,
                 mebibytes: number(mebibytes.as_str(), 1 << 8)? as u8,

@@ -1,6 +1,6 @@
 use Rattle.std.proofs.Common.{◌≡◌, ℕ, map, List, [], ◌∷◌, length, get_or, refl, arith}
 use Rattle.ftp_bench.specs.declared.command.Command.{Command}
-use Rattle.ftp_bench.specs.declared.command.Command.TheVariants.{Help, Version, Move, Reserve, Append}
+use Rattle.ftp_bench.specs.declared.command.Command.TheVariants.{Help, Version, Talk, Move, Reserve, Append}
 use Rattle.ftp_bench.specs.declared.command.Search.{Search}
 use Rattle.ftp_bench.specs.declared.command.Appends.{Appends}
 use Rattle.ftp_bench.specs.Words.{Asks, AsksAppends, AsksSearch}
@@ -24,6 +24,7 @@ asked f (a ∷ b ∷ c ∷ d ∷ []) first end word rounds five p q r s command 
 asked f (a ∷ b ∷ c ∷ d ∷ e ∷ g ∷ rest) first end word rounds five p q r s command asks = absurd (omega arith)
 asked f (a ∷ b ∷ c ∷ d ∷ e ∷ []) first end word rounds five p q r s Help asks = absurd asks
 asked f (a ∷ b ∷ c ∷ d ∷ e ∷ []) first end word rounds five p q r s Version asks = absurd asks
+asked f (a ∷ b ∷ c ∷ d ∷ e ∷ []) first end word rounds five p q r s (Talk packets) asks = absurd asks
 asked f (a ∷ b ∷ c ∷ d ∷ e ∷ []) first end word rounds five p q r s (Move load) asks = absurd asks
 asked f (a ∷ b ∷ c ∷ d ∷ e ∷ []) first end word rounds five p q r s (Append appends) asks = absurd asks
 asked f (a ∷ b ∷ c ∷ d ∷ e ∷ []) first end word rounds five p q r s (Reserve search) asks = (search, rw (p, q, r, s) asks.1)
@@ -44,6 +45,7 @@ asked_four f (a ∷ b ∷ c ∷ []) way sessions rounds four p q r command asks 
 asked_four f (a ∷ b ∷ c ∷ d ∷ e ∷ rest) way sessions rounds four p q r command asks = absurd (omega arith)
 asked_four f (a ∷ b ∷ c ∷ d ∷ []) way sessions rounds four p q r Help asks = absurd asks
 asked_four f (a ∷ b ∷ c ∷ d ∷ []) way sessions rounds four p q r Version asks = absurd asks
+asked_four f (a ∷ b ∷ c ∷ d ∷ []) way sessions rounds four p q r (Talk packets) asks = absurd asks
 asked_four f (a ∷ b ∷ c ∷ d ∷ []) way sessions rounds four p q r (Move load) asks = absurd asks
 asked_four f (a ∷ b ∷ c ∷ d ∷ []) way sessions rounds four p q r (Reserve search) asks = absurd asks
 asked_four f (a ∷ b ∷ c ∷ d ∷ []) way sessions rounds four p q r (Append appends) asks = (appends, rw (p, q, r) asks.1)

@@ -1,4 +1,4 @@
-use Rattle.ftp_talk_bench.proofs.serving.count_replies.Given as goal
+use Rattle.ftp_bench.proofs.serving.count_replies.Given as goal
 
 -- the server's options are those handed in
 abbrev pub ghosts-serve-L-Serving : goal.ghosts-serve-L-Serving

@@ -2,7 +2,7 @@
 
 ghost use Rattle.std.specs.Prelude.{◌≡◌, ◌==◌, ◌<◌, [], true, min, length, take, Some, refl, count_by};
 ghost use Rattle.std.specs.List.{repeat};
-ghost use Rattle.ftp_talk_bench.specs.Client.{input, after};
+ghost use Rattle.ftp_bench.specs.Client.{input, after};
 
 use ftp_base::{Control, Failed, Link, LinkFault, Source};
 use std::marker::Model;
@@ -21,7 +21,7 @@ pub struct Client {
 
 impl Model for Client {
     ghost use Rattle.std.specs.Prelude.{◌<◌, ◌≤◌, length, drop};
-    ghost use Rattle.ftp_talk_bench.specs.Client.{ClientState};
+    ghost use Rattle.ftp_bench.specs.Client.{ClientState};
 
     ghost Value = { ClientState };
 
@@ -101,7 +101,7 @@ fn copy_front(left: &[u8], out: &mut [u8]) -> usize
 }
 
 impl Source for Client {
-    ghost use Rattle.ftp_talk_bench.specs.Client.{sending};
+    ghost use Rattle.ftp_bench.specs.Client.{sending};
 
     ghost left = { λ c. Some (input c) };
 

@@ -1,5 +1,5 @@
 use Rattle.std.proofs.Common.{◌<◌, length}
-use Rattle.ftp_talk_bench.proofs.serving.packet.Given as goal
+use Rattle.ftp_bench.proofs.serving.packet.Given as goal
 
 -- there are commands
 abbrev pub invariant-loop-i : goal.invariant-loop-i

@@ -1,8 +1,8 @@
 use Rattle.std.proofs.Common.{◌≡◌, [], ℕ, length, ap, arith}
 use Rattle.std.proofs.lemmas.List.{length-drop}
-use Rattle.ftp_talk_bench.specs.Client.{ClientState}
-use Rattle.ftp_talk_bench.proofs.client.Client.go_round.Goals as goal
-use Rattle.ftp_talk_bench.proofs.client.Client.go_round.Goals.{else-self-len-via-then-self-len+else-self-gt0, else-self-len-via-else-self-len}
+use Rattle.ftp_bench.specs.Client.{ClientState}
+use Rattle.ftp_bench.proofs.client.Client.go_round.Goals as goal
+use Rattle.ftp_bench.proofs.client.Client.go_round.Goals.{else-self-len-via-then-self-len+else-self-gt0, else-self-len-via-else-self-len}
 
 -- where nothing is left of the packet, it does not come again
 pub returns-else-self-len-clause-some : goal.returns-else-self-len-clause-some
