@@ -1,10 +1,16 @@
-//! Tests of the hub, its log and its laws by their public calls: worked values, with ample memory, and what no clause says.
+//! Tests of the hub, its log and its laws, and of what users moved and may store, by their public calls: worked values, with ample
+//! memory, and what no clause says.
 //!
-//! This crate has no code but tests. Begin with `hub`.
+//! This crate has no code but tests and a few callers, whose clauses are proved. Begin with `hub`, `audit` and `transfers`.
 #![tactic(auto)]
 
 #[cfg(test)]
+mod audit;
+#[cfg(test)]
+mod auditing;
+#[cfg(test)]
 mod behind_proxy;
+mod budgets;
 #[cfg(test)]
 mod counts;
 #[cfg(test)]
@@ -20,6 +26,12 @@ mod laws;
 #[cfg(test)]
 mod logs;
 #[cfg(test)]
+mod replays;
+#[cfg(test)]
 mod texts;
 #[cfg(test)]
+mod transfers;
+#[cfg(test)]
 mod values;
+
+pub use budgets::{usage_after, within_budgets};

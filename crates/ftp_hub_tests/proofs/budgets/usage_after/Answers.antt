@@ -5,7 +5,7 @@ use Rattle.std.specs.Ordering.{nat_cmp}
 use Rattle.std.specs.Cmp.Lexicographic.{slice_cmp}
 use Rattle.ftp_audit.specs.Book.{Book}
 use Rattle.ftp_audit.specs.Quota.{budget_or}
-use Rattle.ftp_accounting_tests.proofs.budgets.usage_after.Goals as goal
+use Rattle.ftp_hub_tests.proofs.budgets.usage_after.Goals as goal
 
 pub returns : goal.returns
 returns g c =
