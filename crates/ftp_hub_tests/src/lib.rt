@@ -1,7 +1,8 @@
-//! Tests of the hub, its log and its laws, and of what users moved and may store, by their public calls: worked values, with ample
-//! memory, and what no clause says.
+//! Tests of the hub, its log, its laws and the text of its state, and of what users moved and may store, by their public calls:
+//! worked values, with ample memory, and what no clause says.
 //!
-//! This crate has no code but tests and a few callers, whose clauses are proved. Begin with `hub`, `audit` and `transfers`.
+//! This crate has no code but tests and a few callers, whose clauses are proved. Begin with `hub`, `states`, `audit` and
+//! `transfers`.
 #![tactic(auto)]
 
 #[cfg(test)]
@@ -27,6 +28,8 @@ mod laws;
 mod logs;
 #[cfg(test)]
 mod replays;
+#[cfg(test)]
+mod states;
 #[cfg(test)]
 mod texts;
 #[cfg(test)]

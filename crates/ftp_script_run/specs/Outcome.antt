@@ -11,8 +11,6 @@ use Rattle.ftp_control.specs.Writing.{WritesFront}
 use Rattle.ftp_text.specs.Fields.{number}
 use Rattle.ftp_text.specs.declared.setup.Item.{Item}
 use Rattle.ftp_text.specs.Printing.{print}
-use Rattle.ftp_event_text.specs.declared.setup.Item.{Item}
-use Rattle.ftp_event_text.specs.Printing.{print}
 use Rattle.ftp_checkpoint.specs.StateText.{state_text}
 use Rattle.ftp_checkpoint.specs.Walk.{walk}
 use Rattle.ftp_script_run.specs.Script.{IsScriptOf}

@@ -29,7 +29,6 @@ use ftp_base::{
 };
 use ftp_checkpoint::encode_state;
 use ftp_control::write_all;
-use ftp_event_text::Item;
 use ftp_events::{Entry, HubEvent};
 use ftp_hub::{Hub, run_event};
 use ftp_options::{
