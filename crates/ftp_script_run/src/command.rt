@@ -13,6 +13,8 @@ pub enum Command {
     Run(Ending),
     /// It runs the script too, and tells what its users moved in place of its log.
     Audit,
+    /// It goes on from the state of a hub, and runs the script behind that.
+    Resume,
     /// It tells something, and reads nothing.
     Tell(Told),
 }
@@ -57,6 +59,8 @@ fn lone(word: &[u8]) -> Option<Command>
         Some(Command::Audit)
     } else if word == b"save".as_slice() {
         Some(Command::Run(Ending::State))
+    } else if word == b"resume".as_slice() {
+        Some(Command::Resume)
     } else if word == b"--help".as_slice() {
         Some(Command::Tell(Told::Help))
     } else if word == b"--version".as_slice() {

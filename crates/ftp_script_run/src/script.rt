@@ -6,10 +6,12 @@ ghost use Rattle.ftp_base.specs.Outside.{HasRisen, Writes};
 ghost use Rattle.ftp_events.specs.declared.entry.Entry.{Entry};
 ghost use Rattle.ftp_text.specs.declared.setup.Item.{Item};
 ghost use Rattle.ftp_script_run.specs.Script.{may_stand, IsScriptOf};
+ghost use Rattle.ftp_event_text.specs.declared.setup.Item.{Item};
+ghost use Rattle.ftp_script_run.specs.Script.{IsScriptOf};
 ghost use Rattle.ftp_script_run.specs.ScriptReader.{IsLawful};
 ghost use Rattle.ftp_script_run.specs.Statuses.{IsCutShort, HasNotRisen};
 ghost use Rattle.ftp_script_run.specs.declared.command.Command.{Command};
-ghost use Rattle.ftp_script_run.specs.declared.command.Command.TheVariants.{Run, Audit, Tell};
+ghost use Rattle.ftp_script_run.specs.declared.command.Command.TheVariants.{Run, Audit, Resume, Tell};
 ghost use Rattle.ftp_script_run.specs.declared.command.Ending.{Ending};
 ghost use Rattle.ftp_script_run.specs.declared.command.Told.{Told};
 ghost use Rattle.ftp_script_run.specs.declared.command.Told.TheVariants.{Stress};
@@ -17,11 +19,14 @@ ghost use Rattle.ftp_script_run.specs.Commands.{Asks, text_of};
 ghost use Rattle.ftp_control.specs.Writing.{WritesFront};
 ghost use Rattle.ftp_script_run.specs.Stress.{stress_lines};
 ghost use Rattle.ftp_script_run.specs.Outcome.{IsDone, HasBadLine, WritesWhole, WritesPart, Outcome};
+ghost use Rattle.ftp_script_run.specs.Resumed.{HasBadResumedLine, IsResumed};
+ghost use Rattle.ftp_script_run.specs.Resuming.{IsResumeCut};
 ghost use Rattle.ftp_script_run.specs.Audited.{IsAudited, IsAuditedTo, AuditsWhole, AuditsPart};
-ghost use Rattle.ftp_script_run.specs.Runs.{Keeps, MayTake, IsTaken, IsPartlyTaken, Running};
+ghost use Rattle.ftp_script_run.specs.Runs.{Before, Keeps, MayCome, MayTake, IsTaken, IsPartlyTaken, Running};
 
 use crate::auditing::audit_lines;
 use crate::command::{Command, Ending, command_of};
+use crate::resuming::resume_lines;
 use crate::run::Run;
 use crate::status::Status;
 use crate::telling::tell;
@@ -30,8 +35,8 @@ use ftp_base::{Sink, Source};
 use ftp_text::Item;
 use std::alloc::Global;
 
-/// Does what the words ask for: runs the script that the source gives, event by event, and writes its printed log, with
-/// links and files or the state of the hub behind it, or in place of it a line for each user on what it moved and how
+/// Does what the words ask for: runs the script that the source gives, anew or from a state on, event by event, and
+/// writes its printed log, with links and files or the state of the hub behind it, or in place of it a line for each user on what it moved and how
 /// often it came and went; or writes how often each decision came in a run of drawn events, the commands, or the version.
 ///
 /// A line has at most 65,536 bytes, its line feed not counted, and a script 16,777,216. An entry is let go as soon as it
@@ -64,6 +69,13 @@ use std::alloc::Global;
 ///   decided); with a bad line the report on the lines before it and then that line's; after a read fault that on the
 ///   whole lines; after a write fault or want of memory nothing, or a front of it (`audit_done`, `audit_bad_line`,
 ///   `audit_whole`, `audit_front`).
+/// - A script that goes on from a state: what is read is an options line or none, the text of a state that the options do
+///   not refuse, a line of two hyphens and a script without options; what was written is the printed log of its events,
+///   each decided and done as is due behind every right and acted log that has the state, and then the lines on the
+///   links and files that they leave (`resume_done`; `IsLegalBehind` in `ftp_script_run/specs/Resumed.antt`). A bad line
+///   is the first: none of the state's, the line of two hyphens behind a state that is refused, the one that is missing,
+///   or one of the script; among these are an event before the links that the state names and one at the end of the
+///   count (`resume_bad_line`). After a fault or want of memory a part from the front was written (`resume_cut`).
 /// - Where nothing fails an audit of a script is done, and of other bytes the first bad line is named, unless memory
 ///   runs out (`audit_complete`, `audit_first_bad`).
 /// - The same of the commands and the version; in none of the three is the source touched, and each ends with done, or
@@ -118,6 +130,14 @@ pub fn run_script<S: Source, K: Sink>(
         HasNotRisen (S.faults source.old) (S.faults source.new) → HasNotRisen (K.faults sink.old) (K.faults sink.new) →
         (result ≡ Status.BadLine k) ⊎ (result ≡ Status.OutOfMemory)) }
 
+    // The same of a script that goes on from a state: its log stands behind each that has the state.
+    ensures resume_done { Asks (map (λ w. w.items) words.now) Resume → result ≡ Status.Done →
+        IfSome (S.left source.old) (λ bytes. IsResumed bytes (S.left source.new) (K.written sink.old) (K.written sink.new)) }
+    ensures resume_bad_line { Asks (map (λ w. w.items) words.now) Resume → (k : ℕ) → result ≡ Status.BadLine k →
+        IfSome (S.left source.old) (λ bytes. HasBadResumedLine k bytes (K.written sink.old) (K.written sink.new)) }
+    ensures resume_cut { Asks (map (λ w. w.items) words.now) Resume → (result ≡ Status.ReadFault) ⊎ IsCutShort result →
+        IfSome (S.left source.old) (λ bytes. IsResumeCut bytes (K.written sink.old) (K.written sink.new)) }
+
     // The counts of exactly the drawn events were written, or a part from the front.
     ensures stress { (seed sessions : ℕ) → Asks (map (λ w. w.items) words.now) (Tell (Stress seed sessions)) → result ≡ Status.Done →
         Writes (K.written sink.old) (K.written sink.new) (stress_lines seed sessions) }
@@ -141,6 +161,10 @@ pub fn run_script<S: Source, K: Sink>(
         Some(Command::Run(ending)) => {
             let mut buffer = [0u8; BUFFER_SIZE];
             run_lines(alloc, ending, &mut buffer, source, sink)
+        }
+        Some(Command::Resume) => {
+            let mut buffer = [0u8; BUFFER_SIZE];
+            resume_lines(alloc, &mut buffer, source, sink)
         }
         Some(Command::Audit) => {
             let mut buffer = [0u8; BUFFER_SIZE];
@@ -187,10 +211,10 @@ fn advance<S: Source, K: Sink>(
     sink: &mut K,
 ) -> Option<Status>
     requires lawful { IsLawful reader.old buffer.old }
-    requires running { (all : Option (List ℕ)) × (before : Option (List ℕ)) × Running all reader.old run.old buffer.old (S.left source.old) before (K.written sink.old) }
-    ensures goes_on { IfNone result ((all before : Option (List ℕ)) → Running all reader.old run.old buffer.old (S.left source.old) before (K.written sink.old) →
-        Running all reader.new run.new buffer.new (S.left source.new) before (K.written sink.new)) }
-    ensures ended { IfSome result (λ status. (all before : Option (List ℕ)) → Running all reader.old run.old buffer.old (S.left source.old) before (K.written sink.old) →
+    requires running { (all : Option (List ℕ)) × (before : Option (List ℕ)) × Running None all reader.old run.old buffer.old (S.left source.old) before (K.written sink.old) }
+    ensures goes_on { IfNone result ((all before : Option (List ℕ)) → Running None all reader.old run.old buffer.old (S.left source.old) before (K.written sink.old) →
+        Running None all reader.new run.new buffer.new (S.left source.new) before (K.written sink.new)) }
+    ensures ended { IfSome result (λ status. (all before : Option (List ℕ)) → Running None all reader.old run.old buffer.old (S.left source.old) before (K.written sink.old) →
         IfSome all (λ bytes. Outcome ending status bytes (S.left source.new) before (K.written sink.new))) }
     ensures no_usage { result ≢ Some Status.Usage }
     ensures read_fault { result ≡ Some Status.ReadFault → HasRisen (S.faults source.old) (S.faults source.new) }
@@ -209,13 +233,13 @@ fn advance<S: Source, K: Sink>(
     }
 }
 
-// Takes the item. It gives the status where that fails.
-fn taken<K: Sink>(run: &mut Run, item: Item, sink: &mut K) -> Option<Status>
+/// Takes the item. It gives the status where that fails.
+pub(crate) fn taken<K: Sink>(run: &mut Run, item: Item, sink: &mut K) -> Option<Status>
     requires { MayTake run.old item }
-    ensures took { IfNone result ((items : List Item) (log : List Entry) → Keeps run.old items log → may_stand items item ≡ true →
-        IsTaken run.new (items ++ item ∷ []) log (K.written sink.old) (K.written sink.new)) }
-    ensures front { OnSome result ((items : List Item) (log : List Entry) → Keeps run.old items log → may_stand items item ≡ true →
-        IsPartlyTaken run.new (items ++ item ∷ []) log (K.written sink.old) (K.written sink.new)) }
+    ensures took { IfNone result ((before : Before) (items : List Item) (log : List Entry) → Keeps before run.old items log → MayCome before run.old items item →
+        IsTaken before run.new (items ++ item ∷ []) log (K.written sink.old) (K.written sink.new)) }
+    ensures front { OnSome result ((before : Before) (items : List Item) (log : List Entry) → Keeps before run.old items log → MayCome before run.old items item →
+        IsPartlyTaken before run.new (items ++ item ∷ []) log (K.written sink.old) (K.written sink.new)) }
     ensures cut_short { IfSome result IsCutShort }
     ensures write_fault { result ≡ Some Status.WriteFault → HasRisen (K.faults sink.old) (K.faults sink.new) }
     ensures sink_count { K.faults sink.old ≤ K.faults sink.new }

@@ -1,0 +1,226 @@
+-- What a script prints that goes on from the state of a hub.
+--
+-- What is read is an options line or none, the text of a state, a line of two hyphens, and a script. Nothing is skipped before
+-- the line of two hyphens, and the lines of a state may be of any length. The log of the script stands behind every log that has
+-- the state: it is the rest of a whole log, without its first part.
+use Rattle.std.specs.Prelude.{◌≡◌, ◌⊎◌, ℕ, ◌+◌, ◌-◌, ◌^◌, ◌<◌, ◌&&◌, nat_lt, Bool, true, false, List, [], ◌∷◌, ◌++◌, length, codes, map as each, reverse, filter_map, Option, Some, None, option_to_list}
+use Rattle.std.specs.List.{AllByRecursion, list_all}
+use Rattle.ftp_base.specs.LinkTable.{Numbered}
+use Rattle.ftp_base.specs.Memory.{LinkState}
+use Rattle.ftp_base.specs.Outside.{Writes}
+use Rattle.ftp_options.specs.declared.options.Options.{Options}
+use Rattle.ftp_options.specs.Builder.{settings_of}
+use Rattle.ftp_events.specs.declared.entry.Entry.{Entry}
+use Rattle.ftp_events.specs.Leads.{Outside, Leads}
+use Rattle.ftp_events.specs.Right.{IsActed, IsRight}
+use Rattle.ftp_control.specs.Lines.{Rest, behind_line, first_line}
+use Rattle.ftp_control.specs.Writing.{WritesFront}
+use Rattle.ftp_hub.specs.declared.state.HubState.{HubState}
+use Rattle.ftp_hub.specs.declared.state.JobLine.{JobLine}
+use Rattle.ftp_hub.specs.declared.state.SlotKind.{SlotKind}
+use Rattle.ftp_hub.specs.declared.state.SlotKind.TheVariants as kept
+use Rattle.ftp_hub.specs.declared.state.SlotLine.{SlotLine}
+use Rattle.ftp_hub.specs.declared.state.StateError.{StateError}
+use Rattle.ftp_hub.specs.Refused.{HasCause}
+use Rattle.ftp_hub.specs.State.{IsState}
+use Rattle.ftp_checkpoint.specs.StateText.{IsFirstBadStateLine, IsSpelledBy, lines_in}
+use Rattle.ftp_event_text.specs.declared.setup.Item.{Item}
+use Rattle.ftp_event_text.specs.declared.setup.Item.TheVariants as item
+use Rattle.ftp_event_text.specs.Setup.{IsItemOf}
+use Rattle.ftp_script_run.specs.declared.head.Head.{Head}
+use Rattle.ftp_script_run.specs.Script.{IsScriptOf, has_link}
+use Rattle.ftp_script_run.specs.ScriptReader.{AreWhole, EndsLine}
+use Rattle.ftp_script_run.specs.SetUp.{StorageState}
+use Rattle.ftp_script_run.specs.Items.{events_in, options_in}
+use Rattle.ftp_script_run.specs.Left.{end_lines}
+use Rattle.ftp_script_run.specs.Legal.{FailsAsListed, memory_views, start_of}
+use Rattle.ftp_script_run.specs.Outcome.{bad_line, log_lines}
+
+-- ---- what stands before the script
+
+-- the item is that of an options line
+abbrev pub sets_options : Item → Bool
+sets_options (item.Options mode lo hi host active idle lockout restart) = true
+sets_options _ = false
+
+-- the bytes are an options line or none, where the rest does not begin with one
+pub record IsOptionsPart (bytes : List ℕ) (front : List Item) (rest : List ℕ) : Type 0 where
+  pub lines : IsScriptOf bytes front None
+  pub only : AllByRecursion (λ (i : Item). sets_options i ≡ true) front
+  pub whole : AreWhole bytes rest
+  pub all : front ≡ [] → (i : Item) → IsItemOf (first_line rest) i → sets_options i ≡ false
+
+-- the line of two hyphens, with its line feed, which it may lack at the end
+abbrev pub IsBar : List ℕ → List ℕ → Type 0
+IsBar line rest = (line ≡ codes "--" ++ 10 ∷ []) ⊎ ((line ≡ codes "--") × (rest ≡ []))
+
+-- none of the lines is one of two hyphens
+abbrev pub HasNoBar : List ℕ → Type 0
+HasNoBar bytes = AllByRecursion (λ (line : List ℕ). line ≡ codes "--" → ⊥) (lines_in bytes)
+
+-- the bytes are an options line or none, whole lines, a line of two hyphens, and the rest; there are k lines before the rest
+pub record IsHead (bytes : List ℕ) (front : List Item) (text rest : List ℕ) (k : ℕ) : Type 0 where
+  pub options : List ℕ
+  pub bar : List ℕ
+  pub all_is : options ++ (text ++ (bar ++ rest)) ≡ bytes
+  pub first : IsOptionsPart options front (text ++ (bar ++ rest))
+  pub whole : EndsLine text
+  pub before : HasNoBar text
+  pub bar_is : IsBar bar rest
+  pub count : k ≡ length front + length (lines_in text) + 1
+
+-- the bytes are an options line or none, and lines of which none is one of two hyphens; there are k - 1 lines
+pub record IsOpenHead (bytes : List ℕ) (front : List Item) (text : List ℕ) (k : ℕ) : Type 0 where
+  pub options : List ℕ
+  pub all_is : options ++ text ≡ bytes
+  pub first : IsOptionsPart options front text
+  pub before : HasNoBar text
+  pub count : k ≡ length front + length (lines_in text) + 1
+
+-- the text is that of lines before the line of two hyphens, or before the end, behind so many items
+abbrev pub IsStatePart : List ℕ → List Item → List ℕ → Type 0
+IsStatePart bytes front text =
+    ((rest : List ℕ) × (k : ℕ) × IsHead bytes front text rest k) ⊎ ((k : ℕ) × IsOpenHead bytes front text k)
+
+-- line k is the first bad one, before the script: the first that is none of a state, the line of two hyphens behind a state that is
+-- refused under the options, or the one that is missing
+abbrev pub IsBadHead : ℕ → List ℕ → Type 0
+IsBadHead k bytes =
+    ((front : List Item) × (text : List ℕ) × (j : ℕ) × IsStatePart bytes front text × IsFirstBadStateLine j (lines_in text) × (k ≡ length front + j))
+    ⊎ (((front : List Item) × (text rest : List ℕ) × (x : HubState) × (o : Options) × (e : StateError)
+    × IsHead bytes front text rest k × IsSpelledBy (lines_in text) x × (settings_of o ≡ options_in front) × HasCause o x e)
+    ⊎ ((front : List Item) × (text : List ℕ) × (x : HubState) × IsOpenHead bytes front text k × IsSpelledBy (lines_in text) x))
+
+-- ---- reading it
+
+-- the number of the line of two hyphens, or of the one that is missing
+abbrev pub place_of : Head → ℕ
+place_of head = length (option_to_list head.options) + head.lines + 1
+
+-- what was found of the head: with the line of two hyphens all that is held and left is the rest; without it nothing is left
+abbrev pub FindsHead : Head → List ℕ → List ℕ → Option (List ℕ) → Type 0
+FindsHead head bytes held left =
+    (head.is_closed ≡ true → (rest : List ℕ) × IsHead bytes (option_to_list head.options) head.text.items rest (place_of head) × Rest held left rest)
+    × (head.is_closed ≡ false → (text : List ℕ) × IsOpenHead bytes (option_to_list head.options) text (place_of head) × (lines_in head.text.items ≡ lines_in text) × (left ≡ Some []))
+
+-- a line was read: it is the first, and the rest is behind it; or there is none
+abbrev pub ReadsLine : Bool → List ℕ → List ℕ → List ℕ → Option (List ℕ) → Type 0
+ReadsLine true bytes line held left = (0 < length bytes) × (line ≡ first_line bytes) × Rest held left (behind_line bytes)
+ReadsLine false bytes line held left = (bytes ≡ []) × (held ≡ []) × (left ≡ Some [])
+
+-- ---- the script
+
+-- the link that a slot has
+abbrev pub link_kept : SlotKind → Option ℕ
+link_kept (kept.Waits port) = None
+link_kept (kept.HasLink number) = Some number
+
+-- the links that slots and jobs of a state name
+abbrev pub links_named : HubState → List ℕ
+links_named x = filter_map (λ (l : SlotLine). link_kept l.what) x.slots ++ each (λ (j : JobLine). j.job.number) x.jobs
+
+-- whether an item may come behind these where a script goes on from the state: no options, and an event behind the links that the
+-- state names, and before the count of events is at its end
+abbrev pub may_go_on : HubState → List Item → Item → Bool
+may_go_on x before (item.Options mode lo hi host active idle lockout restart) = false
+may_go_on x before (item.Event e) =
+    list_all (λ n. has_link n before) (links_named x) && nat_lt (x.events + length (events_in before)) (2 ^ 64 - 1)
+may_go_on x before _ = true
+
+-- each of these items may come behind the others
+abbrev pub AllGoOn : HubState → List Item → List Item → Type 0
+AllGoOn x before [] = Unit {0}
+AllGoOn x before (i ∷ items) = (may_go_on x before i ≡ true) × AllGoOn x (before ++ i ∷ []) items
+
+-- behind the lines of these items stands one that a script may have, but none that goes on from the state
+pub record IsNoMore (x : HubState) (bytes : List ℕ) (items : List Item) (k : ℕ) : Type 0 where
+  pub next : Item
+  pub read : List ℕ
+  pub rest : List ℕ
+  pub all_is : read ++ rest ≡ bytes
+  pub whole : AreWhole read rest
+  pub script : IsScriptOf read (items ++ next ∷ []) None
+  pub stops : may_go_on x items next ≡ false
+  pub place : k ≡ length items + 1
+
+-- the items are those of the lines of a script that goes on from the state, up to the first bad line, where there is one
+abbrev pub IsResumedScript : HubState → List ℕ → List Item → Option ℕ → Type 0
+IsResumedScript x bytes items None = AllGoOn x [] items × IsScriptOf bytes items None
+IsResumedScript x bytes items (Some k) = AllGoOn x [] items × (IsScriptOf bytes items (Some k) ⊎ IsNoMore x bytes items k)
+
+-- ---- its log
+
+-- the log is right and acted, and has the state
+pub record HasState (o : Options) (front : List Entry) (x : HubState) : Type 0 where
+  pub right : IsRight o front
+  pub acted : IsActed o front
+  pub state : IsState o front x
+
+-- behind the front each decision and each action is due, and each header was read and each job was run, at its end, from old to new, of
+-- which no more calls failed than were listed to come
+pub record IsDueBehind (o : Options) (front log : List Entry) (old new : Outside StorageState LinkState) : Type 0 where
+  pub right : IsRight o (log ++ front)
+  pub acted : IsActed o (log ++ front)
+  pub led : Leads memory_views o front log old new
+  pub listed : FailsAsListed old new
+
+-- the entries are those of the script's events, in their order; behind every log that has the state all that they say is due, and
+-- leaves these links and this storage
+pub record IsLegalBehind (o : Options) (x : HubState) (items : List Item) (log : List Entry) (links : Numbered LinkState) (storage : StorageState) : Type 0 where
+  pub events : each (λ (e : Entry). e.event) (reverse log) ≡ events_in items
+  pub due : (front : List Entry) → HasState o front x → IsDueBehind o front log (start_of items) (record { storage = storage; links = links })
+
+-- ---- how it ends
+
+-- a state was read, which its options do not refuse, and a script behind it
+pub record Resumes (bytes : List ℕ) (bad : Option ℕ) : Type 0 where
+  pub front : List Item
+  pub text : List ℕ
+  pub rest : List ℕ
+  pub before : ℕ
+  pub head : IsHead bytes front text rest before
+  pub state : HubState
+  pub spelled : IsSpelledBy (lines_in text) state
+  pub options : Options
+  pub set : settings_of options ≡ options_in front
+  pub passed : (e : StateError) → HasCause options state e → ⊥
+  pub items : List Item
+  pub log : List Entry
+  pub script : IsResumedScript state rest items bad
+  pub links : Numbered LinkState
+  pub storage : StorageState
+  pub legal : IsLegalBehind options state items log links storage
+
+-- all bytes are read; the log of the script was written, and the lines on the links and files that it leaves
+pub record IsResumed (bytes : List ℕ) (left old new : Option (List ℕ)) : Type 0 where
+  pub resumes : Resumes bytes None
+  pub end : left ≡ Some []
+  pub written : Writes old new (log_lines resumes.log ++ end_lines resumes.links resumes.storage)
+
+-- line k is the first bad one, behind the state; the log of the lines before it was written, and the line that names it
+pub record IsResumedTo (k : ℕ) (bytes : List ℕ) (old new : Option (List ℕ)) : Type 0 where
+  pub place : ℕ
+  pub resumes : Resumes bytes (Some place)
+  pub counted : k ≡ resumes.before + place
+  pub written : Writes old new (log_lines resumes.log ++ bad_line k)
+
+-- line k is the first bad one, before the script or in it
+abbrev pub HasBadResumedLine : ℕ → List ℕ → Option (List ℕ) → Option (List ℕ) → Type 0
+HasBadResumedLine k bytes old new = (IsBadHead k bytes × Writes old new (bad_line k)) ⊎ IsResumedTo k bytes old new
+
+-- what is written behind the log of the lines that were read, with more bytes behind them: the line that names the bad line, or with
+-- no more the lines on the links and files that they leave
+abbrev pub behind_resumed : Option ℕ → ℕ → Numbered LinkState → StorageState → List ℕ → List ℕ
+behind_resumed (Some k) before links storage more = bad_line (before + k)
+behind_resumed None before links storage [] = end_lines links storage
+behind_resumed None before links storage (c ∷ more) = []
+
+-- a part from the front of the whole output was written, as lines from the front tell it
+pub record ResumesPart (bytes : List ℕ) (old new : Option (List ℕ)) : Type 0 where
+  pub read : List ℕ
+  pub more : List ℕ
+  pub all_is : read ++ more ≡ bytes
+  pub whole : AreWhole read more
+  pub bad : Option ℕ
+  pub resumes : Resumes read bad
+  pub written : WritesFront old new (log_lines resumes.log ++ behind_resumed bad resumes.before resumes.links resumes.storage more)

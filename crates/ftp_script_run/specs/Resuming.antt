@@ -1,0 +1,83 @@
+-- What a run keeps that goes on from the state of a hub, and what it wrote, by its status.
+use Rattle.std.specs.Prelude.{◌≡◌, ◌⊎◌, ℕ, ◌+◌, false, true, List, [], ◌∷◌, ◌++◌, length, Contains, Option, Some, None, IfSome, Result, Ok, Err}
+use Rattle.ftp_base.specs.Outside.{Writes}
+use Rattle.ftp_options.specs.declared.options.Options.{Options}
+use Rattle.ftp_options.specs.Builder.{settings_of}
+use Rattle.ftp_control.specs.Lines.{Rest}
+use Rattle.ftp_control.specs.Writing.{WritesFront}
+use Rattle.ftp_hub.specs.declared.state.HubState.{HubState}
+use Rattle.ftp_hub.specs.declared.state.StateError.{StateError}
+use Rattle.ftp_hub.specs.Refused.{HasCause}
+use Rattle.ftp_hub.specs.Stands.{count_of}
+use Rattle.ftp_checkpoint.specs.StateText.{IsSpelledBy, lines_in}
+use Rattle.ftp_event_text.specs.declared.setup.Item.{Item}
+use Rattle.ftp_script_run.specs.declared.resuming.Resumed.{Resumed}
+use Rattle.ftp_script_run.specs.declared.run.Run.{Run}
+use Rattle.ftp_script_run.specs.declared.status.Status.{Status}
+use Rattle.ftp_script_run.specs.declared.status.Status.TheVariants as status
+use Rattle.ftp_script_run.specs.declared.text_script.ScriptError.{ScriptError}
+use Rattle.ftp_script_run.specs.declared.text_script.ScriptError.TheVariants as error
+use Rattle.ftp_script_run.specs.declared.text_script.ScriptReader.{ScriptReader}
+use Rattle.ftp_script_run.specs.Items.{events_in, options_in}
+use Rattle.ftp_script_run.specs.Outcome.{bad_line}
+use Rattle.ftp_script_run.specs.Resumed.{AllGoOn, HasBadResumedLine, IsBadHead, IsHead, IsResumed, ResumesPart, links_named}
+use Rattle.ftp_script_run.specs.Runs.{Keeps, Running}
+use Rattle.ftp_script_run.specs.Script.{has_link}
+use Rattle.ftp_script_run.specs.Statuses.{IsCutShort}
+
+-- ---- while it goes on
+
+-- the bytes begin with a state that the options do not refuse, and this rest stands behind so many lines
+pub record IsBegunAt (bytes rest : List ℕ) (before : ℕ) (o : Options) (x : HubState) : Type 0 where
+  pub front : List Item
+  pub text : List ℕ
+  pub head : IsHead bytes front text rest before
+  pub spelled : IsSpelledBy (lines_in text) x
+  pub set : settings_of o ≡ options_in front
+  pub passed : (e : StateError) → HasCause o x e → ⊥
+
+-- each link that the state names has its line, or is waited for; and events are counted on from the state
+pub record Awaits (resumed : Resumed) (run : Run) (x : HubState) (items : List Item) : Type 0 where
+  pub named : (n : ℕ) → Contains (links_named x) n → Contains resumed.links.items n ⊎ (has_link n items ≡ true)
+  pub awaited : (n : ℕ) → Contains resumed.links.items n → Contains (links_named x) n
+  pub events : count_of run.hub ≡ x.events + length (events_in items)
+
+-- what was begun, or the first bad line
+abbrev pub IsBegun : List ℕ → Result Resumed ScriptError → Run → List ℕ → Option (List ℕ) → Type 0
+IsBegun bytes (Ok resumed) run held left =
+    (rest : List ℕ) × (o : Options) × (x : HubState) × IsBegunAt bytes rest resumed.before o x × Rest held left rest
+    × Keeps (Some (o, x)) run [] [] × Awaits resumed run x []
+IsBegun bytes (Err (error.BadLine k)) run held left = IsBadHead k bytes
+IsBegun bytes (Err e) run held left = Unit {0}
+
+-- items were read behind a state and their log was written, on the way through these bytes, where they are told
+pub record Resuming (all : Option (List ℕ)) (resumed : Resumed) (reader : ScriptReader) (run : Run) (buffer : List ℕ) (left old new : Option (List ℕ)) : Type 0 where
+  pub options : Options
+  pub state : HubState
+  pub behind : Option (List ℕ)
+  pub running : Running (Some (options, state)) behind reader run buffer left old new
+  pub begun : IfSome all (λ bytes. (rest : List ℕ) × (behind ≡ Some rest) × IsBegunAt bytes rest resumed.before options state)
+  pub goes_on : AllGoOn state [] running.items
+  pub awaits : Awaits resumed run state running.items
+
+-- ---- how it ends
+
+-- a bad line was named, or a part of its line was written; else nothing was
+abbrev pub IsRefusedSo : ScriptError → Status → Option (List ℕ) → Option (List ℕ) → Type 0
+IsRefusedSo (error.BadLine k) s old new =
+    ((s ≡ status.BadLine k) × Writes old new (bad_line k)) ⊎ (IsCutShort s × WritesFront old new (bad_line k))
+IsRefusedSo error.Fault s old new = (s ≡ status.ReadFault) × (new ≡ old)
+IsRefusedSo error.Memory s old new = (s ≡ status.OutOfMemory) × (new ≡ old)
+
+-- nothing was written, or a part of the line that names a bad line before the script, or a part of the log and of what stands
+-- behind it
+abbrev pub IsResumeCut : List ℕ → Option (List ℕ) → Option (List ℕ) → Type 0
+IsResumeCut bytes old new =
+    (new ≡ old) ⊎ (((k : ℕ) × IsBadHead k bytes × WritesFront old new (bad_line k)) ⊎ ResumesPart bytes old new)
+
+-- what was read of these bytes and what was written, by the status
+abbrev pub ResumeOutcome : Status → List ℕ → Option (List ℕ) → Option (List ℕ) → Option (List ℕ) → Type 0
+ResumeOutcome status.Done bytes left old new = IsResumed bytes left old new
+ResumeOutcome (status.BadLine k) bytes left old new = HasBadResumedLine k bytes old new
+ResumeOutcome status.Usage bytes left old new = ⊥
+ResumeOutcome _ bytes left old new = IsResumeCut bytes old new

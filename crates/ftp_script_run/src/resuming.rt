@@ -1,0 +1,211 @@
+//! A script that goes on from the state of a hub.
+
+ghost use Rattle.std.specs.Prelude.{◌≡◌, ◌≢◌, ◌⊎◌, ℕ, ◌≤◌, ◌<◌, ◌++◌, ◌∷◌, [], List, Bool, true, Option, Some, IfOk, IfErr, IfSome, IfNone, IsErrOf, length};
+ghost use Rattle.ftp_base.specs.Outside.{HasRisen};
+ghost use Rattle.ftp_control.specs.Lines.{bytes_in, IsWithin};
+ghost use Rattle.ftp_event_text.specs.declared.setup.Item.{Item};
+ghost use Rattle.ftp_script_run.specs.declared.text_script.ScriptError.{ScriptError};
+ghost use Rattle.ftp_script_run.specs.Resuming.{Awaits, IsBegun, IsRefusedSo, Resuming, ResumeOutcome};
+ghost use Rattle.ftp_script_run.specs.Resumed.{links_named, may_go_on};
+ghost use Rattle.ftp_script_run.specs.Runs.{Keeps};
+ghost use Rattle.ftp_script_run.specs.ScriptReader.{IsLawful};
+
+use crate::head::Head;
+use crate::run::Run;
+use crate::script::taken;
+use crate::status::Status;
+use crate::{ScriptError, ScriptReader};
+use ftp_base::{Sink, Source};
+use ftp_checkpoint::decode_state;
+use ftp_control::Span;
+use ftp_event_text::Item;
+use ftp_hub::{HubState, SlotKind, StateError};
+use std::alloc::{AllocError, Global};
+
+/// Reads a state, goes on from it by the script behind it, line by line, and writes the log of the script.
+pub fn resume_lines<S: Source, K: Sink>(
+    alloc: Global,
+    buffer: &mut [u8],
+    source: &mut S,
+    sink: &mut K,
+) -> Status
+    requires { length buffer.old ≡ 65537 }
+    ensures outcome { IfSome (S.left source.old) (λ bytes. ResumeOutcome result bytes (S.left source.new) (K.written sink.old) (K.written sink.new)) }
+    ensures no_usage { result ≢ Status.Usage }
+    ensures read_fault { result ≡ Status.ReadFault → HasRisen (S.faults source.old) (S.faults source.new) }
+    ensures write_fault { result ≡ Status.WriteFault → HasRisen (K.faults sink.old) (K.faults sink.new) }
+    ensures source_count { S.faults source.old ≤ S.faults source.new }
+    ensures sink_count { K.faults sink.old ≤ K.faults sink.new }
+{
+    let mut held = Span { start: 0, end: 0 };
+    let mut run = Run::new(alloc);
+    let mut resumed = match begin(alloc, &mut run, buffer, &mut held, source) {
+        Ok(resumed) => resumed,
+        Err(error) => return ended(&mut run, error, sink),
+    };
+    let mut reader = ScriptReader::behind(alloc, held);
+    loop {
+        if let Some(status) = go_on(
+            alloc,
+            &mut resumed,
+            &mut reader,
+            &mut run,
+            buffer,
+            source,
+            sink,
+        ) {
+            return status;
+        }
+    }
+}
+
+// The status where nothing more is run, and the line that names a bad line.
+fn ended<K: Sink>(run: &mut Run, error: ScriptError, sink: &mut K) -> Status
+    ensures named { IsRefusedSo error result (K.written sink.old) (K.written sink.new) }
+    ensures write_fault { result ≡ Status.WriteFault → HasRisen (K.faults sink.old) (K.faults sink.new) }
+    ensures sink_count { K.faults sink.old ≤ K.faults sink.new }
+{
+    match error {
+        ScriptError::BadLine(k) => Status::BadLine(k).after(run.bad_line(k, sink)),
+        ScriptError::Fault => Status::ReadFault,
+        ScriptError::Memory => Status::OutOfMemory,
+    }
+}
+
+/// What a script goes on from: how many lines stand before it, and the links that the state names of which no line was seen.
+pub struct Resumed {
+    before: u64,
+    links: Vec<u64>,
+}
+
+// Reads what stands before the script, and has the run go on from there.
+fn begin<S: Source>(
+    alloc: Global,
+    run: &mut Run,
+    buffer: &mut [u8],
+    held: &mut Span,
+    source: &mut S,
+) -> Result<Resumed, ScriptError>
+    requires new { Keeps None run.old [] [] }
+    requires within { IsWithin buffer.old held.old }
+    requires len { length buffer.old ≡ 65537 }
+    ensures told { IfSome (S.left source.old) (λ left. IsBegun (bytes_in buffer.old held.old ++ left) result run.new (bytes_in buffer.new held.new) (S.left source.new)) }
+    ensures fault_rose { IsErrOf result ScriptError.Fault → HasRisen (S.faults source.old) (S.faults source.new) }
+    ensures count { S.faults source.old ≤ S.faults source.new }
+    ensures within { IsWithin buffer.new held.new }
+    ensures len { length buffer.new ≡ length buffer.old }
+{
+    let head = Head::read(alloc, buffer, held, source)?;
+    let state = state_of(alloc, &head)?;
+    let before = head.last();
+    let links = links_of(alloc, &state)?;
+    if let Some(options) = head.options {
+        if run.set_up(options).is_err() {
+            return Err(ScriptError::Memory);
+        }
+    }
+    match run.go_on_from(state) {
+        Ok(()) => Ok(Resumed { before, links }),
+        Err(StateError::OutOfMemory) => Err(ScriptError::Memory),
+        Err(_) => Err(ScriptError::BadLine(before)),
+    }
+}
+
+// The state of the lines, where the line of two hyphens stands behind them.
+fn state_of(alloc: Global, head: &Head) -> Result<HubState, ScriptError> {
+    match decode_state(alloc, head.text.as_slice()) {
+        Ok(state) => {
+            if head.is_closed {
+                Ok(state)
+            } else {
+                Err(ScriptError::BadLine(head.last()))
+            }
+        }
+        Err(StateError::BadLine(k)) => Err(ScriptError::BadLine(head.first() + k)),
+        Err(_) => Err(ScriptError::Memory),
+    }
+}
+
+// The links that slots and jobs of a state name.
+fn links_of(alloc: Global, state: &HubState) -> Result<Vec<u64>, AllocError>
+    ensures { IfOk result (λ links. links.items ≡ links_named state.now) }
+{
+    let mut links = Vec::new(alloc);
+    for line in state.slots.as_slice() {
+        if let SlotKind::HasLink { number } = line.what {
+            links.push(number)?;
+        }
+    }
+    for line in state.jobs.as_slice() {
+        links.push(line.job.number)?;
+    }
+    Ok(links)
+}
+
+impl Resumed {
+    // Says whether an item may come where it comes: a script that goes on has no options, and an event comes behind the links that
+    // the state names, and before the end of the count.
+    fn admits(&mut self, item: &Item, run: &Run) -> bool
+        ensures { (state : HubState) (items : List Item) → Awaits self.old run.now state items → (result ≡ may_go_on state items item.now) × Awaits self.new run.now state items }
+    {
+        match item {
+            Item::Options { .. } => false,
+            Item::Event(_) => self.has_links(run) && run.events() < u64::MAX,
+            _ => true,
+        }
+    }
+
+    // Says whether each link that the state names has its line.
+    fn has_links(&mut self, run: &Run) -> bool {
+        while let Some(number) = self.links.last() {
+            if !run.has_link(*number) {
+                return false;
+            }
+            let _ = self.links.pop();
+        }
+        true
+    }
+}
+
+// Reads a line and does what it asks for. It gives the status where the run is at its end.
+fn go_on<S: Source, K: Sink>(
+    alloc: Global,
+    resumed: &mut Resumed,
+    reader: &mut ScriptReader,
+    run: &mut Run,
+    buffer: &mut [u8],
+    source: &mut S,
+    sink: &mut K,
+) -> Option<Status>
+    requires lawful { IsLawful reader.old buffer.old }
+    requires resuming { (all : Option (List ℕ)) × (old : Option (List ℕ)) × Resuming all resumed.old reader.old run.old buffer.old (S.left source.old) old (K.written sink.old) }
+    ensures goes_on { IfNone result ((all old : Option (List ℕ)) → Resuming all resumed.old reader.old run.old buffer.old (S.left source.old) old (K.written sink.old) →
+        Resuming all resumed.new reader.new run.new buffer.new (S.left source.new) old (K.written sink.new)) }
+    ensures ended { IfSome result (λ status. (all old : Option (List ℕ)) → Resuming all resumed.old reader.old run.old buffer.old (S.left source.old) old (K.written sink.old) →
+        IfSome all (λ bytes. ResumeOutcome status bytes (S.left source.new) old (K.written sink.new))) }
+    ensures no_usage { result ≢ Some Status.Usage }
+    ensures read_fault { result ≡ Some Status.ReadFault → HasRisen (S.faults source.old) (S.faults source.new) }
+    ensures write_fault { result ≡ Some Status.WriteFault → HasRisen (K.faults sink.old) (K.faults sink.new) }
+    ensures source_count { S.faults source.old ≤ S.faults source.new }
+    ensures sink_count { K.faults sink.old ≤ K.faults sink.new }
+    ensures lawful { IfNone result (IsLawful reader.new buffer.new) }
+    ensures moved { IfNone result (reader.old.taken < reader.new.taken) }
+{
+    match reader.next_item(alloc, buffer, source, run.storage()) {
+        Ok(Some(item)) => {
+            if resumed.admits(&item, run) {
+                taken(run, item, sink)
+            } else {
+                let bad = ScriptError::BadLine(resumed.before + reader.lines());
+                Some(ended(run, bad, sink))
+            }
+        }
+        Ok(None) => Some(Status::Done.after(run.end(sink))),
+        Err(ScriptError::BadLine(k)) => Some(ended(
+            run,
+            ScriptError::BadLine(resumed.before + k),
+            sink,
+        )),
+        Err(error) => Some(ended(run, error, sink)),
+    }
+}
