@@ -29,23 +29,20 @@ mod setup;
 mod user_table;
 
 use command::Command;
-use ftp_listen::{Parts, Server};
-use ftp_shared::JournalFeed;
-use recording::{MOST_WAITING, record};
-use records::Records;
+use ftp_listen::Parts;
+use recording::record;
 use refusal::{Refusal, tell};
-use serving::Gateway;
+use serving::{Gateway, GatewayRuntime, server_of};
 use setup::read_setup;
 use std::alloc::Global;
+use std::env;
 use std::net::{Net, TcpListener, TcpStream};
 use std::process::ExitCode;
 use std::random::RandomSource;
 use std::rt::{Env, Files};
 use std::sync::Arc;
 use std::{env, thread};
-
-/// How many entries of the journal are kept behind its checkpoint at most.
-const CHECKPOINT_EVERY: u64 = 1_000;
+use std::thread;
 
 const HELP: &str = "\
 Usage: ftp_gateway serve FILE | check FILE | stop SOCKET | reload SOCKET | status SOCKET | mkpasswd
@@ -116,64 +113,18 @@ fn asked<R: Env + AllocGlobal>(rt: &R) -> Result<(Command, String), u8> {
     }
 }
 
-// Serves as its two files say, until it is told to stop, and writes what they name of its journal.
-fn serve(rt: &HostRuntime, file: &str) -> Result<(), Refusal> {
-    let alloc = rt.alloc();
-    let setup = read_setup(rt, file)?;
-    let records = Arc::new(alloc, Records::open(*rt, &setup.config, &setup.options)?)?;
-    let feed = Arc::new(alloc, JournalFeed::new(alloc, MOST_WAITING))?;
-    let fed = if records.is_empty() {
-        None
-    } else {
-        Some(Arc::try_clone(&feed)?)
+// The gateway that the words behind the program's name ask to serve. Any other command is done, and has the status with which it ends.
+fn gateway<R: GatewayRuntime + Env + Input + Print>(rt: &R) -> Result<Gateway<R>, ExitCode> {
+    let (command, file) = match asked(rt) {
+        Ok(asked) => asked,
+        Err(status) => return Err(ExitCode::from(status)),
     };
-    let gateway = serving::prepare(rt, setup, Arc::try_clone(&records)?)?;
-    let (journal, written) = (&*feed, &*records);
-    let ((), done) = thread::join(
-        rt,
-        move || record(rt, journal, written),
-        move || {
-            let done = listen(rt, gateway, fed);
-            journal.close(rt);
-            done
-        },
-    );
-    records.write_metrics()?;
-    done
-}
-
-// Serves a gateway, whose journal's entries go to a feed, where there is one.
-fn listen(
-    rt: &HostRuntime,
-    gateway: Gateway<HostRuntime>,
-    feed: Option<Arc<JournalFeed, Global>>,
-) -> Result<(), Refusal> {
-    let alloc = rt.alloc();
-    let Gateway {
-        plan,
-        check,
-        depot,
-        control,
-        transfers,
-        logins,
-    } = gateway;
-    let parts = Parts {
-        authenticator: Box::new(alloc, check)?,
-        data_listener: Box::new(alloc, transfers)?,
-        presence_listener: Box::new(alloc, logins)?,
-        indicator: Box::new(alloc, control)?,
-        storage: depot,
-    };
-    let mut server = Server::over(alloc, plan.options, parts);
-    server.most_sessions(plan.most_sessions);
-    server.most_sessions_of_one(plan.most_of_one);
-    server.checkpoint_every(CHECKPOINT_EVERY);
-    if let Some(feed) = feed {
-        server.feed_journal(feed);
+    if command != Command::Serve {
+        return Err(run(rt, command, file.as_str()));
     }
-    match server.listen_over(rt, plan.address.as_slice()) {
-        Ok(()) => Ok(()),
-        Err(error) => Err(Refusal::Server(error)),
+    match serving::prepare(rt, file.as_str()) {
+        Ok(gateway) => Ok(gateway),
+        Err(refusal) => Err(ended(rt, Err(refusal))),
     }
 }
 
@@ -181,12 +132,38 @@ fn main(rt: HostRuntime) -> ExitCode {
     // The check looks for the types of a bound among those of the function.
     let types: Option<(TcpListener, TcpStream)> = None;
     drop(types);
-    let (command, file) = match asked(&rt) {
-        Ok(asked) => asked,
-        Err(status) => return ExitCode::from(status),
+    let gateway = match gateway(&rt) {
+        Ok(gateway) => gateway,
+        Err(status) => return status,
     };
-    if command != Command::Serve {
-        return run(&rt, command, file.as_str());
-    }
-    ended(&rt, serve(&rt, file.as_str()))
+    let (Ok(authenticator), Ok(data_listener), Ok(presence_listener), Ok(indicator)) = (
+        Box::new(rt.alloc(), gateway.check),
+        Box::new(rt.alloc(), gateway.transfers),
+        Box::new(rt.alloc(), gateway.logins),
+        Box::new(rt.alloc(), gateway.control),
+    ) else {
+        return ended(&rt, Err(Refusal::OutOfMemory));
+    };
+    let parts = Parts {
+        authenticator,
+        data_listener,
+        presence_listener,
+        indicator,
+        storage: gateway.depot,
+    };
+    let (records, feed) = (&*gateway.records, &gateway.feed);
+    let (server, address) = match server_of(rt.alloc(), gateway.plan, parts, records, feed) {
+        Ok(made) => made,
+        Err(refusal) => return ended(&rt, Err(refusal)),
+    };
+    let ((), served) = thread::join(
+        &rt,
+        || record(&rt, feed, records),
+        || {
+            let served = server.listen_over(&rt, address.as_slice());
+            feed.close(&rt);
+            served
+        },
+    );
+    ended(&rt, records.end(served))
 }

@@ -8,9 +8,6 @@ use std::rt::Files;
 use std::sync::Wait;
 use std::time::Clock;
 
-/// How many entries may wait to be written: some hundred MB of them.
-pub const MOST_WAITING: u64 = 200_000;
-
 const LOST: &str = "entries of the journal are lost: nothing more is logged or counted";
 
 /// Writes what each entry of a feed tells, until the server has ended. Where that fails it says so, once until it goes on.

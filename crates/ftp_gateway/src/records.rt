@@ -6,7 +6,7 @@ use crate::refusal::Refusal;
 use ftp_base::Bytes;
 use ftp_config::GatewayConfig;
 use ftp_events::Entry;
-use ftp_options::Options;
+use ftp_options::{Options, ServerError};
 use ftp_server_log::LogForm;
 use std::alloc::{AllocError, Global};
 use std::fs::File;
@@ -74,9 +74,12 @@ impl<R: Wait + Files<File = File> + Clock + AllocGlobal + Copy + Drop> Records<R
             Some(text) => LogFile::open(rt, text, form, start(&rt)).ok(),
             None => None,
         };
-        match opened {
-            Some(log) => Ok(self.logs.push(log)?),
-            None => Err(unwritable(self.alloc, path.as_slice())),
+        let Some(log) = opened else {
+            return Err(unwritable(self.alloc, path.as_slice()));
+        };
+        match self.logs.push(log) {
+            Ok(()) => Ok(()),
+            Err(_) => Err(Refusal::OutOfMemory),
         }
     }
 
@@ -132,6 +135,15 @@ impl<R: Wait + Files<File = File> + Clock + AllocGlobal + Copy + Drop> Records<R
         match metrics.write() {
             Ok(()) => Ok(()),
             Err(_) => Err(unwritable(self.alloc, metrics.path().as_bytes())),
+        }
+    }
+
+    /// The server has ended so: the last counts are written, and it is said where one of both failed.
+    pub fn end(&self, served: Result<(), ServerError>) -> Result<(), Refusal> {
+        let counted = self.write_metrics();
+        match served {
+            Ok(()) => counted,
+            Err(error) => Err(Refusal::Server(error)),
         }
     }
 }

@@ -8,18 +8,26 @@ use crate::duties::Duties;
 use crate::password_check::PasswordCheck;
 use crate::records::Records;
 use crate::refusal::Refusal;
-use crate::setup::Setup;
+use crate::setup::{Setup, read_setup};
 use crate::user_table::UserTable;
 use ftp_base::Bytes;
 use ftp_config::GatewayConfig;
 use ftp_disk::{Below, DiskStorage};
+use ftp_listen::{Parts, Server};
 use ftp_options::Options;
+use ftp_shared::JournalFeed;
 use ftp_system::{Depot, ServerRuntime};
 use std::alloc::{AllocError, Global};
 use std::fs::File;
 use std::rt::Files;
 use std::sync::{Arc, Wait};
 use std::time::Clock;
+
+/// How many entries may wait to be written: some hundred MB of them.
+const MOST_WAITING: u64 = 200_000;
+
+/// How many entries of the journal are kept behind its checkpoint at most.
+const CHECKPOINT_EVERY: u64 = 1_000;
 
 /// What a gateway uses of the runtime.
 pub trait GatewayRuntime: ServerRuntime + Files<File = File> + AllocGlobal {}
@@ -44,17 +52,23 @@ impl<R: Wait + Files<File = File> + Clock + Copy + Drop> Depot for HomeDepot<R> 
     }
 }
 
-/// Where a gateway serves, how, and how many sessions at a time, of all clients and of one address.
+/// How many sessions there may be at a time, of all clients and of one address.
+#[derive(Clone, Copy, Debug, PartialEq, Eq)]
+pub struct Limits {
+    pub all: u64,
+    pub of_one: u64,
+}
+
+/// Where a gateway serves, and how.
 #[derive(Drop)]
 pub struct Plan {
     pub options: Options,
     pub address: Bytes,
-    pub most_sessions: u64,
-    pub most_of_one: u64,
+    pub limits: Limits,
 }
 
-/// What a gateway is made of: how it serves, who may log in, whose homes are served, who asks it for something, and who counts
-/// what it does.
+/// What a gateway is made of: how it serves, who may log in, whose homes are served, who asks it for something, who counts what it
+/// does, and where its journal's entries are written.
 #[derive(Drop)]
 pub struct Gateway<R: Wait + Copy + Drop> {
     pub plan: Plan,
@@ -63,6 +77,16 @@ pub struct Gateway<R: Wait + Copy + Drop> {
     pub control: ControlSocket<R>,
     pub transfers: Activity,
     pub logins: Activity,
+    pub records: Arc<Records<R>, Global>,
+    pub feed: Arc<JournalFeed, Global>,
+}
+
+// Something for several to hold.
+fn shared<T: Drop>(alloc: Global, value: T) -> Result<Arc<T, Global>, Refusal> {
+    match Arc::new(alloc, value) {
+        Ok(shared) => Ok(shared),
+        Err(_) => Err(Refusal::OutOfMemory),
+    }
 }
 
 // The control socket of a configuration, which reads its users' file anew.
@@ -96,18 +120,15 @@ fn control_of<R: GatewayRuntime>(
     }
 }
 
-/// The gateway that its two files describe, which writes these records of its journal.
-pub fn prepare<R: GatewayRuntime>(
-    rt: &R,
-    setup: Setup,
-    records: Arc<Records<R>, Global>,
-) -> Result<Gateway<R>, Refusal> {
+/// The gateway that the configuration file at a path describes.
+pub fn prepare<R: GatewayRuntime>(rt: &R, path: &str) -> Result<Gateway<R>, Refusal> {
     let alloc = rt.alloc();
     let Setup {
         config,
         options,
         users,
-    } = setup;
+    } = read_setup(rt, path)?;
+    let records = shared(alloc, Records::open(*rt, &config, &options)?)?;
     let system = Below::new(*rt);
     let table = UserTable::new(rt, &system, alloc, users, &Budgets::none(alloc))?;
     let users = CurrentUsers::new(*rt, alloc, table)?;
@@ -120,12 +141,14 @@ pub fn prepare<R: GatewayRuntime>(
         users: users.share()?,
     };
     let check = PasswordCheck::new(*rt, users.share()?);
-    let control = control_of(rt, &config, users, activity, records)?;
+    let control = control_of(rt, &config, users, activity, Arc::try_clone(&records)?)?;
     let plan = Plan {
         options,
         address: config.listen.copy(alloc)?,
-        most_sessions: u64::from(config.max_clients),
-        most_of_one: u64::from(config.max_per_ip),
+        limits: Limits {
+            all: u64::from(config.max_clients),
+            of_one: u64::from(config.max_per_ip),
+        },
     };
     Ok(Gateway {
         plan,
@@ -134,5 +157,34 @@ pub fn prepare<R: GatewayRuntime>(
         control,
         transfers,
         logins,
+        records,
+        feed: shared(alloc, JournalFeed::new(alloc, MOST_WAITING))?,
     })
+}
+
+/// A server as planned over these parts, with the address where it is to listen. Its journal has a checkpoint and so many entries at
+/// most; where they are written somewhere, each goes to the feed.
+pub fn server_of<R: GatewayRuntime, D: Depot + Send + Sync + Drop + 'static>(
+    alloc: Global,
+    plan: Plan,
+    parts: Parts<D>,
+    records: &Records<R>,
+    feed: &Arc<JournalFeed, Global>,
+) -> Result<(Server<D>, Bytes), Refusal>
+where
+    D::Store: Send + 'static,
+{
+    let Plan {
+        options,
+        address,
+        limits,
+    } = plan;
+    let mut server = Server::over(alloc, options, parts);
+    server.most_sessions(limits.all);
+    server.most_sessions_of_one(limits.of_one);
+    server.checkpoint_every(CHECKPOINT_EVERY);
+    if !records.is_empty() {
+        server.feed_journal(Arc::try_clone(feed)?);
+    }
+    Ok((server, address))
 }
