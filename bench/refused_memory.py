@@ -26,7 +26,7 @@ TESTS = (
     ("ftp_shared_tests", "tests::a_hub_is_settled_with_all_shares_and_receipts"),
     ("ftp_shared_tests", "tests::steps_are_missed"),
     ("ftp_shared_tests", "tests::the_receipt_of_another_hub_differs"),
-    ("ftp_talk_tests", "lines::a_client_logs_in_asks_for_a_port_and_quits"),
+    ("ftp_hub_tests", "lines::a_client_logs_in_asks_for_a_port_and_quits"),
 )
 OUT_OF_MEMORY = 5
 # How a test ends that gave an error, and one in which a comparison failed.

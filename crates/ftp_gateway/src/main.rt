@@ -34,15 +34,11 @@ use recording::record;
 use refusal::{Refusal, tell};
 use serving::{Gateway, GatewayRuntime, server_of};
 use setup::read_setup;
-use std::alloc::Global;
-use std::env;
 use std::net::{Net, TcpListener, TcpStream};
 use std::process::ExitCode;
 use std::random::RandomSource;
 use std::rt::{Env, Files};
-use std::sync::Arc;
 use std::{env, thread};
-use std::thread;
 
 const HELP: &str = "\
 Usage: ftp_gateway serve FILE | check FILE | stop SOCKET | reload SOCKET | status SOCKET | mkpasswd

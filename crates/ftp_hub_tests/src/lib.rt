@@ -1,8 +1,8 @@
-//! Tests of the hub, its log, its laws and the text of its state, and of what users moved and may store, by their public calls:
-//! worked values, with ample memory, and what no clause says.
+//! Tests of the hub, its log, its laws and the text of its state, of the talk of a control connection over a desk by itself, and of
+//! what users moved and may store, by their public calls: worked values, with ample memory, and what no clause says.
 //!
-//! This crate has no code but tests and a few callers, whose clauses are proved. Begin with `hub`, `states`, `audit` and
-//! `transfers`.
+//! They stand here and not beside the code, since a crate with tests is proved twice. This one has no code but tests and a few
+//! callers, whose clauses are proved. Begin with `hub`, `lines`, `states`, `audit` and `transfers`.
 #![tactic(auto)]
 
 #[cfg(test)]
@@ -13,7 +13,11 @@ mod auditing;
 mod behind_proxy;
 mod budgets;
 #[cfg(test)]
+mod counting;
+#[cfg(test)]
 mod counts;
+#[cfg(test)]
+mod directories;
 #[cfg(test)]
 mod evidence;
 #[cfg(test)]
@@ -23,7 +27,11 @@ mod hub;
 #[cfg(test)]
 mod isolation;
 #[cfg(test)]
+mod late;
+#[cfg(test)]
 mod laws;
+#[cfg(test)]
+mod lines;
 #[cfg(test)]
 mod logs;
 #[cfg(test)]
@@ -31,7 +39,13 @@ mod replays;
 #[cfg(test)]
 mod states;
 #[cfg(test)]
+mod talk;
+#[cfg(test)]
+mod talk_values;
+#[cfg(test)]
 mod texts;
+#[cfg(test)]
+mod ticks;
 #[cfg(test)]
 mod transfers;
 #[cfg(test)]

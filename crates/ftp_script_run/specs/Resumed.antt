@@ -24,9 +24,9 @@ use Rattle.ftp_hub.specs.declared.state.StateError.{StateError}
 use Rattle.ftp_hub.specs.Refused.{HasCause}
 use Rattle.ftp_hub.specs.State.{IsState}
 use Rattle.ftp_checkpoint.specs.StateText.{IsFirstBadStateLine, IsSpelledBy, lines_in}
-use Rattle.ftp_event_text.specs.declared.setup.Item.{Item}
-use Rattle.ftp_event_text.specs.declared.setup.Item.TheVariants as item
-use Rattle.ftp_event_text.specs.Setup.{IsItemOf}
+use Rattle.ftp_text.specs.declared.setup.Item.{Item}
+use Rattle.ftp_text.specs.declared.setup.Item.TheVariants as item
+use Rattle.ftp_text.specs.Setup.{IsItemOf}
 use Rattle.ftp_script_run.specs.declared.head.Head.{Head}
 use Rattle.ftp_script_run.specs.Script.{IsScriptOf, has_link}
 use Rattle.ftp_script_run.specs.ScriptReader.{AreWhole, EndsLine}

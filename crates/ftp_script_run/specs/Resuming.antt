@@ -10,7 +10,7 @@ use Rattle.ftp_hub.specs.declared.state.StateError.{StateError}
 use Rattle.ftp_hub.specs.Refused.{HasCause}
 use Rattle.ftp_hub.specs.Stands.{count_of}
 use Rattle.ftp_checkpoint.specs.StateText.{IsSpelledBy, lines_in}
-use Rattle.ftp_event_text.specs.declared.setup.Item.{Item}
+use Rattle.ftp_text.specs.declared.setup.Item.{Item}
 use Rattle.ftp_script_run.specs.declared.resuming.Resumed.{Resumed}
 use Rattle.ftp_script_run.specs.declared.run.Run.{Run}
 use Rattle.ftp_script_run.specs.declared.status.Status.{Status}

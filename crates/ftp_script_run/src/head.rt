@@ -3,8 +3,8 @@
 ghost use Rattle.std.specs.Prelude.{◌≡◌, ◌⊎◌, ℕ, ◌+◌, ◌≤◌, ◌<◌, ◌++◌, ◌∷◌, List, Option, Some, None, [], true, length, option_to_list, IfOk, IfErr, IfSome, OnOk, IsErrOf};
 ghost use Rattle.ftp_base.specs.Outside.{HasRisen};
 ghost use Rattle.ftp_control.specs.Lines.{bytes_in, IsWithin};
-ghost use Rattle.ftp_event_text.specs.declared.setup.Item.{Item};
-ghost use Rattle.ftp_event_text.specs.Setup.{IsItemOf};
+ghost use Rattle.ftp_text.specs.declared.setup.Item.{Item};
+ghost use Rattle.ftp_text.specs.Setup.{IsItemOf};
 ghost use Rattle.ftp_script_run.specs.declared.text_script.ScriptError.{ScriptError};
 ghost use Rattle.ftp_script_run.specs.Resumed.{FindsHead, ReadsLine, place_of, sets_options};
 
@@ -12,8 +12,7 @@ use crate::admission::LONGEST_LINE;
 use crate::text_script::ScriptError;
 use ftp_base::{Failed, Source};
 use ftp_control::Span;
-use ftp_event_text::{Item, read_item};
-use ftp_text::LineFault;
+use ftp_text::{Item, LineFault, read_item};
 use memchr::memchr;
 use std::alloc::Global;
 

@@ -3,7 +3,7 @@
 ghost use Rattle.std.specs.Prelude.{◌≡◌, ◌≢◌, ◌⊎◌, ℕ, ◌≤◌, ◌<◌, ◌++◌, ◌∷◌, [], List, Bool, true, Option, Some, IfOk, IfErr, IfSome, IfNone, IsErrOf, length};
 ghost use Rattle.ftp_base.specs.Outside.{HasRisen};
 ghost use Rattle.ftp_control.specs.Lines.{bytes_in, IsWithin};
-ghost use Rattle.ftp_event_text.specs.declared.setup.Item.{Item};
+ghost use Rattle.ftp_text.specs.declared.setup.Item.{Item};
 ghost use Rattle.ftp_script_run.specs.declared.text_script.ScriptError.{ScriptError};
 ghost use Rattle.ftp_script_run.specs.Resuming.{Awaits, IsBegun, IsRefusedSo, Resuming, ResumeOutcome};
 ghost use Rattle.ftp_script_run.specs.Resumed.{links_named, may_go_on};
@@ -18,8 +18,8 @@ use crate::{ScriptError, ScriptReader};
 use ftp_base::{Sink, Source};
 use ftp_checkpoint::decode_state;
 use ftp_control::Span;
-use ftp_event_text::Item;
 use ftp_hub::{HubState, SlotKind, StateError};
+use ftp_text::Item;
 use std::alloc::{AllocError, Global};
 
 /// Reads a state, goes on from it by the script behind it, line by line, and writes the log of the script.

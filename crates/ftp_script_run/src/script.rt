@@ -5,8 +5,6 @@ ghost use Rattle.std.specs.Option.{OnSome};
 ghost use Rattle.ftp_base.specs.Outside.{HasRisen, Writes};
 ghost use Rattle.ftp_events.specs.declared.entry.Entry.{Entry};
 ghost use Rattle.ftp_text.specs.declared.setup.Item.{Item};
-ghost use Rattle.ftp_script_run.specs.Script.{may_stand, IsScriptOf};
-ghost use Rattle.ftp_event_text.specs.declared.setup.Item.{Item};
 ghost use Rattle.ftp_script_run.specs.Script.{IsScriptOf};
 ghost use Rattle.ftp_script_run.specs.ScriptReader.{IsLawful};
 ghost use Rattle.ftp_script_run.specs.Statuses.{IsCutShort, HasNotRisen};

@@ -2,12 +2,9 @@
 
 ghost use Rattle.std.specs.Prelude.{◌≡◌, ℕ, ◌<◌, ◌≤◌, ◌+◌, ◌-◌, ◌++◌, List, [], length, Option, Some, None, IfOk, IfSome, OnOk, IsErrOf};
 ghost use Rattle.ftp_base.specs.Outside.{HasRisen};
-ghost use Rattle.ftp_control.specs.Lines.{bytes_in, behind_line, IsWithin, TakesAtMost};
+ghost use Rattle.ftp_control.specs.Lines.{bytes_in, behind_line, IsWithin, Rest, TakesAtMost};
 ghost use Rattle.ftp_text.specs.declared.setup.Item.{Item};
 ghost use Rattle.ftp_text.specs.Setup.{IsItem};
-ghost use Rattle.ftp_control.specs.Lines.{bytes_in, behind_line, IsWithin, Rest, TakesAtMost};
-ghost use Rattle.ftp_event_text.specs.declared.setup.Item.{Item};
-ghost use Rattle.ftp_event_text.specs.Setup.{IsItem};
 ghost use Rattle.ftp_script_run.specs.SetUp.{IsSetUp};
 ghost use Rattle.ftp_script_run.specs.ScriptReader.{IsLawful, Follows, HasRead, ReadsAhead, Answers, IsLetIn, IfLine, IsFault, NextIs, next_of};
 
@@ -16,10 +13,6 @@ use ftp_audit::Quota;
 use ftp_base::{MemoryStorage, Source};
 use ftp_control::{NextLineError, Span, next_line};
 use ftp_text::{Item, LineFault};
-use std::alloc::Global;
-use ftp_event_text::Item;
-use ftp_quota::Quota;
-use ftp_text::LineFault;
 use std::alloc::{AllocError, Global};
 
 /// How many bytes the buffer of a reader has: any line fits with its line feed.

@@ -2,7 +2,7 @@
 
 ghost use Rattle.std.specs.Prelude.{◌≡◌, ◌≤◌};
 
-use crate::values::{OnlyAnn, edge, opening, pooled, storage};
+use crate::talk_values::{OnlyAnn, edge, opening, pooled, storage};
 use ftp_base::{Bytes, MemoryEdge, MemoryLink, MemoryStorage};
 use ftp_events::Answer;
 use ftp_options::Options;

@@ -1,4 +1,4 @@
-use Rattle.ftp_talk_tests.proofs.directories.refusal.Given as goal
+use Rattle.ftp_hub_tests.proofs.directories.refusal.Given as goal
 
 -- the server's options are those handed in
 abbrev pub ghosts-refusal_shared-L-Serving : goal.ghosts-refusal_shared-L-Serving

@@ -4,7 +4,7 @@ ghost use Rattle.std.specs.Prelude.{◌≡◌};
 
 use crate::counting::{CountingDesk, Counts};
 use crate::late::LateControl;
-use crate::values::{OnlyAnn, edge, opening, pooled, storage};
+use crate::talk_values::{OnlyAnn, edge, opening, pooled, storage};
 use ftp_base::{MemoryEdge, MemoryStorage};
 use ftp_events::Answer;
 use ftp_options::Options;

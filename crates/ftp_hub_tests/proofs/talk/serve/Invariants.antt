@@ -1,4 +1,4 @@
-use Rattle.ftp_talk_tests.proofs.talk.serve.Given as goal
+use Rattle.ftp_hub_tests.proofs.talk.serve.Given as goal
 
 -- the server's options are those handed in
 abbrev pub ghosts-serve_shared-L-Serving : goal.ghosts-serve_shared-L-Serving

@@ -1,4 +1,4 @@
-use Rattle.ftp_talk_tests.proofs.ticks.a_wait_is_a_look_at_the_idle_time_and_one_at_the_slot.Given as goal
+use Rattle.ftp_hub_tests.proofs.ticks.a_wait_is_a_look_at_the_idle_time_and_one_at_the_slot.Given as goal
 
 -- the server's options are those handed in
 abbrev pub ghosts-serve-L-Serving : goal.ghosts-serve-L-Serving

@@ -2,7 +2,7 @@
 
 ghost use Rattle.std.specs.Prelude.{◌≡◌};
 
-use crate::values::pooled;
+use crate::talk_values::pooled;
 use ftp_base::{Bytes, ErrorKind, MemoryStorage};
 use ftp_options::Options;
 use ftp_shared::{Desk, Serving, SoloDesk};
