@@ -1,4 +1,5 @@
 pub mod Refusal
+pub mod Visible
 pub mod FileSystem
 pub mod Standing
 pub mod Home

@@ -1,14 +1,16 @@
 //! Where users have their files, and which of them may change theirs.
 
-ghost use Rattle.std.specs.Prelude.{◌≡◌, false, IfOk, IfErr, OnOk, OnErr, IsErrOf, IsTrue};
+ghost use Rattle.std.specs.Prelude.{◌≡◌, ◌&&◌, true, false, IfOk, IfErr, OnOk, OnErr, IsErrOf, IsTrue};
 ghost use Rattle.std.specs.List.{list_all};
 ghost use Rattle.ftp_base.specs.declared.error_kind.ErrorKind.TheVariants.{PermissionDenied, FileNameNotAllowedError};
 ghost use Rattle.ftp_places.specs.Names.{names_of, is_taken_name};
 ghost use Rattle.std.specs.Option.{option_copied};
 ghost use Rattle.ftp_places.specs.Place.{below_by};
 ghost use Rattle.ftp_disk.specs.Home.{homes_by_user, home_of};
+ghost use Rattle.ftp_disk.specs.Visible.{is_visible_name};
 
 use crate::budget::Budget;
+use crate::visible::are_visible;
 use ftp_base::{Bytes, ErrorKind, StoreError};
 use ftp_places::{Place, PlaceError};
 use std::alloc::{AllocError, Global};
@@ -51,10 +53,19 @@ impl Home {
     ghost use Rattle.std.specs.Prelude.{string_bytes};
 
     /// Where a client's path leads in the home.
+    ///
+    /// # Proved
+    ///
+    /// - A client comes to no place by a name that listings leave out, and is refused for a name only where it is such a one or
+    ///   no file may have it (`visible`, `named`).
     pub fn place(&self, alloc: Global, path: &[u8]) -> Result<Place, StoreError>
         ensures place { IfOk result (λ place. place ≡ below_by (string_bytes self.now.root) (names_of path.now)) }
-        ensures named { IsErrOf result (StoreError.Kind FileNameNotAllowedError) → list_all is_taken_name (names_of path.now) ≡ false }
+        ensures visible { OnOk result (list_all is_visible_name (names_of path.now) ≡ true) }
+        ensures named { IsErrOf result (StoreError.Kind FileNameNotAllowedError) → list_all is_taken_name (names_of path.now) && list_all is_visible_name (names_of path.now) ≡ false }
     {
+        if !are_visible(alloc, path)? {
+            return Err(StoreError::Kind(ErrorKind::FileNameNotAllowedError));
+        }
         match Place::of(alloc, self.root.as_str(), path) {
             Ok(place) => Ok(place),
             Err(PlaceError::Name) => Err(StoreError::Kind(ErrorKind::FileNameNotAllowedError)),
@@ -82,6 +93,7 @@ impl Home {
     ///   `read_only`, `place`).
     pub fn writable(&self, alloc: Global, path: &[u8]) -> Result<Writable, StoreError>
         ensures place { IfOk result (λ place. place ≡ below_by (string_bytes self.now.root) (names_of path.now)) }
+        ensures visible { OnOk result (list_all is_visible_name (names_of path.now) ≡ true) }
         ensures may_write { OnOk result (IsTrue self.now.may_write) }
         ensures read_only { self.now.may_write ≡ false → IsErrOf result (StoreError.Kind PermissionDenied) }
     {

@@ -17,6 +17,7 @@ mod opening;
 mod purse;
 mod refusals;
 mod standing;
+mod visible;
 mod writing;
 
 pub use below::Below;

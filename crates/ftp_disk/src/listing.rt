@@ -4,13 +4,14 @@ ghost use Rattle.std.specs.Prelude.{◌≡◌, All, IfOk, IfSome, IsSortedByKey,
 ghost use Rattle.std.specs.Cmp.Lexicographic.{slice_cmp};
 ghost use Rattle.std.specs.Ordering.{nat_cmp};
 ghost use Rattle.ftp_disk.specs.FileSystem.{IsUnlinked};
-ghost use Rattle.ftp_disk.specs.Listing.{WasShown, shown_meta};
+ghost use Rattle.ftp_disk.specs.Listing.{IsShownBy, WasShown, shown_meta};
 
 use crate::file_system::FileSystem;
 use crate::looks::looks_told;
 use crate::opening::in_directory;
 use crate::refusals::refusal;
 use crate::standing::{Standing, resolve, standing_of};
+use crate::visible::is_visible;
 use ftp_base::{Bytes, ErrorKind, FileInfo, Meta, StoreError};
 use ftp_places::{Place, PlaceError};
 use std::alloc::{AllocError, Global};
@@ -30,7 +31,7 @@ pub(crate) fn meta_of(found: Standing) -> Option<Meta>
     }
 }
 
-// What is shown of a name in a directory, where a file may have it and a directory or a file stands there.
+// What is shown of a name in a directory, where a file may have it, clients may use it, and a directory or a file stands there.
 fn shown<S: FileSystem>(
     system: &S,
     alloc: Global,
@@ -39,7 +40,11 @@ fn shown<S: FileSystem>(
     now: i64,
 ) -> Result<Option<FileInfo>, AllocError>
     ensures shown { IfOk result (λ shown. IfSome shown (WasShown (S.told system.now) place.now)) }
+    ensures exactly { IfOk result (IsShownBy (S.told system.now) place.now name.now) }
 {
+    if !is_visible(name) {
+        return Ok(None);
+    }
     let child = match place.child(alloc, name) {
         Ok(child) => child,
         Err(PlaceError::Name) => return Ok(None),
@@ -74,8 +79,8 @@ fn show<S: FileSystem>(
     Ok(())
 }
 
-// The names that have a NUL behind each of them, and what is left.
-fn parts(alloc: Global, names: &[u8]) -> Result<Vec<&[u8]>, AllocError> {
+/// The names that have a NUL behind each of them, and what is left.
+pub(crate) fn parts(alloc: Global, names: &[u8]) -> Result<Vec<&[u8]>, AllocError> {
     names.split(|b| *b == 0).collect(alloc)
 }
 
@@ -104,6 +109,23 @@ fn compare(a: &FileInfo, b: &FileInfo) -> Ordering
     a.name.as_slice().cmp(b.name.as_slice())
 }
 
+/// The names in a directory, each with a NUL behind it.
+pub(crate) fn names_in<S: FileSystem>(
+    system: &S,
+    alloc: Global,
+    place: &Place,
+) -> Result<Vec<u8>, StoreError>
+    ensures unlinked { OnOk result (IsUnlinked (S.told system.now) place.now) }
+{
+    let Standing::Directory = resolve(system, alloc, place)? else {
+        return Err(StoreError::Kind(ErrorKind::PermanentDirectoryNotAvailable));
+    };
+    match system.names(alloc, place) {
+        Ok(names) => Ok(names),
+        Err(error) => Err(in_directory(refusal(error.kind()))),
+    }
+}
+
 /// What a listing of a directory shows.
 pub(crate) fn list<S: FileSystem>(
     system: &S,
@@ -114,13 +136,7 @@ pub(crate) fn list<S: FileSystem>(
     ensures shown { IfOk result (λ shown. All (WasShown (S.told system.now) place.now) shown.items) }
     ensures in_order { IfOk result (λ shown. IsSortedByKey (λ info. info.name) (slice_cmp nat_cmp) shown.items) }
 {
-    let Standing::Directory = resolve(system, alloc, place)? else {
-        return Err(StoreError::Kind(ErrorKind::PermanentDirectoryNotAvailable));
-    };
-    let names = match system.names(alloc, place) {
-        Ok(names) => names,
-        Err(error) => return Err(in_directory(refusal(error.kind()))),
-    };
+    let names = names_in(system, alloc, place)?;
     let mut infos = children(system, alloc, place, names.as_slice())?;
     infos.sort_unstable_by(|a, b| compare(a, b));
     Ok(infos)

@@ -285,3 +285,26 @@ fn a_listing_shows_the_mode_and_the_date(rt: HostRuntime) -> Result<(), Fail> {
     fs::remove_dir_all(&rt, base.as_str())?;
     Ok(())
 }
+
+#[test]
+fn a_name_of_two_lines_is_in_no_listing(rt: HostRuntime) -> Result<(), Fail> {
+    let alloc = rt.alloc();
+    let base = make_base(&rt, "lines")?;
+    for name in ["/home/d/e/a\nb", "/home/d/e/a\rb", "/home/d/e/ab"] {
+        fs::write(&rt, below(alloc, base.as_str(), name)?.as_str(), b"1")?;
+    }
+    let mut storage = DiskStorage::new(rt, alloc, Below::new(rt), homes(alloc, base.as_str())?);
+    let only_ab =
+        "Ok([FileInfo { name: Bytes { items: [97, 98] }, meta: Meta { is_dir: false, len: 1 }, looks: None }])";
+    let refused = "Err(Kind(FileNameNotAllowedError))";
+    for (kind, path, due) in [
+        (1, "/d/e", only_ab),
+        (0, "/d/e/a\nb", refused),
+        (3, "/d/e/a\rb", refused),
+    ] {
+        let given = answer(&mut storage, alloc, "ann", call_of(kind, path))?;
+        assert_eq!(rt; given.as_str(), due, "{kind} {path}");
+    }
+    fs::remove_dir_all(&rt, base.as_str())?;
+    Ok(())
+}
