@@ -127,6 +127,7 @@ fn shut_down_behind<R: ServerRuntime>(
         clock: *rt,
         board: Arc::try_clone(board)?,
     };
+    let shutdown = Shutdown::new().grace_period(30_000);
     let (met, ended) = thread::join(
         rt,
         || {
@@ -143,7 +144,7 @@ fn shut_down_behind<R: ServerRuntime>(
             text.as_str(),
             front,
             gate,
-            Shutdown::new(),
+            shutdown,
         ),
     );
     agreed(met, ended?)
