@@ -1,7 +1,8 @@
-//! Tests of the adapters of a server over the loopback address, one file for each.
+//! Tests of the adapters of a server over the loopback address, and of what only the gateway is to use, by its public calls: values
+//! that were published, and a real directory, with ample memory.
 //!
 //! They stand here and not beside the code, since a crate with tests is proved twice. This one has no code but tests.
-//! Begin with `link`.
+//! Begin with `link`, `users`, `disk` and `server_log`.
 #![tactic(auto)]
 
 #[cfg(test)]
@@ -9,11 +10,15 @@ mod ahead;
 #[cfg(test)]
 mod control;
 #[cfg(test)]
+mod disk;
+#[cfg(test)]
 mod edge;
 #[cfg(test)]
 mod front;
 #[cfg(test)]
 mod gathered;
+#[cfg(test)]
+mod keys;
 #[cfg(test)]
 mod link;
 #[cfg(test)]
@@ -25,6 +30,10 @@ mod open;
 #[cfg(test)]
 mod queue;
 #[cfg(test)]
+mod server_log;
+#[cfg(test)]
 mod shared;
 #[cfg(test)]
 mod threads;
+#[cfg(test)]
+mod users;
