@@ -24,10 +24,11 @@ use Rattle.ftp_text.specs.declared.place.Stage.TheVariants as stage
 use Rattle.ftp_text.specs.LogLines.{IsAnswer, IsLogLine}
 use Rattle.ftp_text.specs.LogText.{answers, says_of, opening, lines_of}
 use Rattle.ftp_text.specs.Place.{stage_after, is_whole}
+use Rattle.ftp_text.specs.Settings.{settings_in}
 use Rattle.ftp_check_log.specs.declared.checker.Checker.{Checker}
 use Rattle.ftp_check_log.specs.declared.verdict.Verdict.{Verdict}
 use Rattle.ftp_check_log.specs.declared.verdict.Verdict.TheVariants as verdict
-use Rattle.ftp_check_log.specs.Verdicts.{settings_in, IsDueLog, head_of, GoesAstray, HasOtherActions, TellsOfLines}
+use Rattle.ftp_check_log.specs.Verdicts.{IsDueLog, head_of, GoesAstray, HasOtherActions, TellsOfLines}
 use Rattle.ftp_check_log.specs.Checks.{LinesAt, Holds, Takes}
 
 -- ---- lines

@@ -18,11 +18,12 @@ use Rattle.ftp_text.specs.declared.place.Stage.TheVariants as stage
 use Rattle.ftp_text.specs.LogLines.{IsLogLine}
 use Rattle.ftp_text.specs.LogText.{lines_of, text_of, IsLog, ComesNext, IsFirstBad}
 use Rattle.ftp_text.specs.Place.{is_whole, HasRead}
+use Rattle.ftp_text.specs.Settings.{settings_in}
 use Rattle.ftp_text.proofs.PlaceLemmas.{lines-text, comes-fits, stage-between, unfinished, reached-front}
 use Rattle.ftp_check_log.specs.declared.checker.Checker.{Checker}
 use Rattle.ftp_check_log.specs.declared.verdict.Verdict.{Verdict}
 use Rattle.ftp_check_log.specs.declared.verdict.Verdict.TheVariants as verdict
-use Rattle.ftp_check_log.specs.Verdicts.{settings_in, AreLinesOf, HasOtherActions, AreDue, TellsOfLines, TellsOfText}
+use Rattle.ftp_check_log.specs.Verdicts.{AreLinesOf, HasOtherActions, AreDue, TellsOfLines, TellsOfText}
 use Rattle.ftp_check_log.specs.Checks.{Holds, Checks, Takes, TellsBy, KeepsRight}
 use Rattle.ftp_check_log.proofs.CheckLemmas.{so_far, so_far-all, so_far-more, answers-some, due-of, whole-lines, astray, some-missing}
 

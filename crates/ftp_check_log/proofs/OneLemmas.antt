@@ -17,11 +17,12 @@ use Rattle.ftp_text.specs.declared.line.LogLine.{LogLine}
 use Rattle.ftp_text.specs.declared.line.LogLine.TheVariants as says
 use Rattle.ftp_text.specs.LogLines.{log_line, IsLogLine}
 use Rattle.ftp_text.specs.LogText.{says_of, opening, lines_of, text_of, IsLog, IsFront, ComesNext, IsFirstBad}
+use Rattle.ftp_text.specs.Settings.{settings_in}
 use Rattle.ftp_text.proofs.FeedLemmas.{is_line_byte, line_none}
 use Rattle.ftp_text.proofs.PrintedLemmas.{one_bad, text-cons}
 use Rattle.ftp_check_log.specs.declared.verdict.Verdict.{Verdict}
 use Rattle.ftp_check_log.specs.declared.verdict.Verdict.TheVariants as verdict
-use Rattle.ftp_check_log.specs.Verdicts.{settings_in, IsDueLog, AreLinesOf, head_of, HasOtherDecision, Strays, GoesAstray, HasOtherActions, HasBadText, TellsOfText, IsOnlyVerdict}
+use Rattle.ftp_check_log.specs.Verdicts.{IsDueLog, AreLinesOf, head_of, HasOtherDecision, Strays, GoesAstray, HasOtherActions, HasBadText, TellsOfText, IsOnlyVerdict}
 use Rattle.ftp_check_log.proofs.CheckLemmas.{lines_of-newest}
 use Rattle.ftp_check_log.proofs.OnlyLemmas.{same-options, AreNext, are-next, SameOpening, right-only}
 use Rattle.ftp_check_log.proofs.PartLemmas.{GoesOnAs, goes-on-as, no-text, NoAction, IsWhole, Part, together, first_on, second_on, part, whole-part, same-start-half, same-start}

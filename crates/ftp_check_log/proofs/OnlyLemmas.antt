@@ -21,11 +21,12 @@ use Rattle.ftp_text.specs.declared.line.LogLine.{LogLine}
 use Rattle.ftp_text.specs.declared.line.LogLine.TheVariants as says
 use Rattle.ftp_text.specs.LogLines.{log_line}
 use Rattle.ftp_text.specs.LogText.{answers, says_of, opening, lines_of, text_of, IsPrintOf}
+use Rattle.ftp_text.specs.Settings.{settings_in}
 use Rattle.ftp_text.proofs.PlaceLemmas.{lines-text}
 use Rattle.ftp_text.proofs.PrintedLemmas.{printed_good, goes-on, text-cons}
 use Rattle.ftp_check_log.specs.declared.verdict.Verdict.{Verdict}
 use Rattle.ftp_check_log.specs.declared.verdict.Verdict.TheVariants as verdict
-use Rattle.ftp_check_log.specs.Verdicts.{settings_in, IsDueLog, IsRightText, AreLinesOf, head_of, GoesAstray, TellsOfText}
+use Rattle.ftp_check_log.specs.Verdicts.{IsDueLog, IsRightText, AreLinesOf, head_of, GoesAstray, TellsOfText}
 
 -- ---- options
 

@@ -16,10 +16,11 @@ use Rattle.ftp_text.specs.declared.place.Stage.TheVariants as stage
 use Rattle.ftp_text.specs.LogLines.{IsAnswer, IsLogLine}
 use Rattle.ftp_text.specs.LogText.{lines_of, IsPrintOf}
 use Rattle.ftp_text.specs.Place.{stage_after, HasRead}
+use Rattle.ftp_text.specs.Settings.{settings_in}
 use Rattle.ftp_check_log.specs.declared.checker.Checker.{Checker}
 use Rattle.ftp_check_log.specs.declared.verdict.Verdict.{Verdict}
 use Rattle.ftp_check_log.specs.declared.verdict.Verdict.TheVariants as verdict
-use Rattle.ftp_check_log.specs.Verdicts.{settings_in, head_of, TellsOfLines, TellsOfText}
+use Rattle.ftp_check_log.specs.Verdicts.{head_of, TellsOfLines, TellsOfText}
 
 -- what the lines are at a stage: those of the decided entries, and of an event that is not decided yet; of the actions of the
 -- last entry so many came

@@ -1,9 +1,8 @@
 -- What a check of a printed log comes to.
-use Rattle.std.specs.Prelude.{◌≡◌, ◌≢◌, ◌≤◌, ℕ, ◌*◌, ◌⊎◌, Bool, true, false, List, [], ◌∷◌, ◌++◌, length, map, reverse, Option, Some}
+use Rattle.std.specs.Prelude.{◌≡◌, ◌≢◌, ◌≤◌, ℕ, ◌⊎◌, List, [], ◌∷◌, ◌++◌, length, map, reverse, Option}
 use Rattle.std.specs.List.{AllByRecursion}
 use Rattle.ftp_options.specs.declared.options.Options.{Options}
-use Rattle.ftp_options.specs.Builder.{defaults, settings_of}
-use Rattle.ftp_options.specs.Settings.{Settings}
+use Rattle.ftp_options.specs.Builder.{settings_of}
 use Rattle.ftp_events.specs.declared.action.Action.{Action}
 use Rattle.ftp_events.specs.declared.decision.Decision.{Decision}
 use Rattle.ftp_events.specs.declared.entry.Entry.{Entry}
@@ -11,33 +10,13 @@ use Rattle.ftp_events.specs.declared.event.Answer.{Answer}
 use Rattle.ftp_events.specs.declared.event.HubEvent.{HubEvent}
 use Rattle.ftp_events.specs.Right.{IsRight, IsActed}
 use Rattle.ftp_text.specs.declared.setup.Item.{Item}
-use Rattle.ftp_text.specs.declared.setup.Item.TheVariants as item
 use Rattle.ftp_text.specs.declared.line.LogLine.{LogLine}
 use Rattle.ftp_text.specs.declared.line.LogLine.TheVariants as says
 use Rattle.ftp_text.specs.LogLines.{IsLogLine}
+use Rattle.ftp_text.specs.Settings.{settings_in}
 use Rattle.ftp_text.specs.LogText.{answers, lines_of, text_of, IsFront, IsPrintOf, IsFirstBad}
 use Rattle.ftp_check_log.specs.declared.verdict.Verdict.{Verdict}
 use Rattle.ftp_check_log.specs.declared.verdict.Verdict.TheVariants as verdict
-
--- what the storage can do: transfers can begin at a restart offset, or nothing more
-abbrev pub restart_features : Bool → ℕ
-restart_features true = 1
-restart_features false = 0
-
--- the settings that an options line asks for, whose idle time is in seconds; else those of a builder on which nothing was set
-abbrev pub settings_in : Option Item → Settings
-settings_in (Some (item.Options mode lo hi host active idle lockout restart)) =
-    record defaults {
-      mode = mode;
-      lo = lo;
-      hi = hi;
-      host = host;
-      active_passive = active;
-      idle_ms = idle * 1000;
-      lockout = lockout;
-      features = restart_features restart;
-    }
-settings_in _ = defaults
 
 -- by options with the settings of the options line each decision and each action of the log is due, the newest entry first
 pub record IsDueLog (line : Option Item) (log : List Entry) : Type 0 where

@@ -9,11 +9,10 @@ ghost use Rattle.ftp_text.specs.LogLines.{IsLogLine};
 ghost use Rattle.ftp_text.specs.Place.{IsLawful};
 ghost use Rattle.ftp_check_log.specs.Checks.{Checks, Takes, TellsBy};
 
-use crate::options::{default_options, options_in};
 use crate::verdict::Verdict;
 use ftp_events::{Action, Actions, Answer, Decision, Entry, HubEvent, Log};
 use ftp_hub::{Hub, Room};
-use ftp_text::{Item, LogLine, Place};
+use ftp_text::{Item, LogLine, Place, default_options, options_in};
 use std::alloc::{AllocError, Global};
 
 /// How far a log is checked. Where entries are not kept, the actions of the last one are all that is.

@@ -11,7 +11,6 @@ mod command;
 mod evidence;
 mod explanation;
 mod grants;
-mod options;
 mod pending;
 mod reading;
 mod source;

@@ -9,6 +9,7 @@ pub mod Laws
 pub mod Events
 pub mod Options
 pub mod Setup
+pub mod Settings
 pub mod Printing
 pub mod EventReading
 pub mod OptionsReading

@@ -4,13 +4,13 @@ ghost use Rattle.std.specs.Prelude.{◌≡◌, ◌*◌, None, Some};
 ghost use Rattle.std.specs.Option.{option_or};
 ghost use Rattle.ftp_options.specs.Builder.{refusal, settings_of};
 ghost use Rattle.ftp_text.specs.Setup.{IsItem};
-ghost use Rattle.ftp_check_log.specs.Verdicts.{settings_in, restart_features};
+ghost use Rattle.ftp_text.specs.Settings.{settings_in, restart_features};
 
+use crate::setup::Item;
 use ftp_base::FEATURE_RESTART;
 use ftp_options::{
     ActivePassiveMode, FailedLoginsPolicy, ListenerMode, Options, PassiveHost, ServerBuilder,
 };
-use ftp_text::Item;
 use std::alloc::Global;
 
 /// The options that are in force where no line says otherwise.
