@@ -22,8 +22,9 @@ use Rattle.ftp_options.specs.declared.options.Options.{Options}
 use Rattle.ftp_hub.specs.Stands.{Stands, options_of}
 use Rattle.ftp_script_run.specs.declared.command.Ending.{Ending}
 use Rattle.ftp_script_run.specs.Outcome.{log_lines, bad_line, WritesWhole, WritesPart, IsEnd, IsBehindFront, Ends, EndsPart, Outcome}
-use Rattle.ftp_script_run.specs.Runs.{Keeps, IsTaken, IsPartlyTaken, Running}
-use Rattle.ftp_script_run.proofs.RunLemmas.{kept-legal, kept-storage}
+use Rattle.ftp_script_run.specs.Resuming.{IsResumeCut, ResumeOutcome}
+use Rattle.ftp_script_run.specs.Runs.{Before, Keeps, IsTaken, IsPartlyTaken, Running}
+use Rattle.ftp_script_run.proofs.RunLemmas.{kept-legal, kept-storage, stands-anew}
 use Rattle.ftp_script_run.proofs.Written.{writes-more, front-all, front-more, front-longer, log_lines-append}
 
 -- what was told where there is something to tell
@@ -36,27 +37,27 @@ told-start (Some bytes) reader buffer h = h bytes
 -- ---- the steps
 
 -- one more item was read and taken
-pub running-more : (all left later before now new : Option (List ℕ)) (reader next : ScriptReader) (run after : Run) (buffer out : List ℕ) (i : Item) (r : Running all reader run buffer left before now) →
+pub running-more : (before : Before) (all left later first now new : Option (List ℕ)) (reader next : ScriptReader) (run after : Run) (buffer out : List ℕ) (i : Item) (r : Running before all reader run buffer left first now) →
     IsLetIn r.items i next →
     ((bytes : List ℕ) → HasRead r.items bytes reader buffer left → HasRead (r.items ++ i ∷ []) bytes next out later) →
-    IsTaken after (r.items ++ i ∷ []) r.log now new →
-    Running all next after out later before new
-running-more all left later before now new reader next run after buffer out i r in_place told took = record {
+    IsTaken before after (r.items ++ i ∷ []) r.log now new →
+    Running before all next after out later first new
+running-more before all left later first now new reader next run after buffer out i r in_place told took = record {
   items = r.items ++ i ∷ [];
   log = took.0 ++ r.log;
   known = in_place.1;
   kept = took.1;
   read = IfSome_then all r.read told;
   written =
-      subst (Writes before new) (sym (log_lines-append took.0 r.log))
-      (writes-more before now new (log_lines r.log) (log_lines took.0) r.written took.2);
+      subst (Writes first new) (sym (log_lines-append took.0 r.log))
+      (writes-more first now new (log_lines r.log) (log_lines took.0) r.written took.2);
 }
 
 -- of the whole output, all that came so far was written
 part-whole : (e : Ending) (bytes : List ℕ) (left later before now : Option (List ℕ)) (reader : ScriptReader) (buffer : List ℕ) (run : Run) (items : List Item) (log : List Entry) →
     HasRead items bytes reader buffer left →
     ReadsAhead items bytes later →
-    Keeps run items log →
+    Keeps None run items log →
     Writes before now (log_lines log) →
     WritesPart e bytes later before now
 part-whole e bytes left later before now reader buffer run items log h ahead kept written = record {
@@ -75,18 +76,18 @@ part-whole e bytes left later before now reader buffer run items log h ahead kep
   written = inl (front-all before now (log_lines log) written);
 }
 
-pub out-memory : (e : Ending) (all left later before now : Option (List ℕ)) (reader : ScriptReader) (run : Run) (buffer : List ℕ) (r : Running all reader run buffer left before now) →
+pub out-memory : (e : Ending) (all left later before now : Option (List ℕ)) (reader : ScriptReader) (run : Run) (buffer : List ℕ) (r : Running None all reader run buffer left before now) →
     ((bytes : List ℕ) → HasRead r.items bytes reader buffer left → ReadsAhead r.items bytes later) →
     IfSome all (λ bytes. WritesPart e bytes later before now)
 out-memory e all left later before now reader run buffer r ahead =
     IfSome_then all r.read (λ bytes h. part-whole e bytes left later before now reader buffer run r.items r.log h (ahead bytes h) r.kept r.written)
 
 -- of an item that was read, at most a part of its lines was written
-pub out-cut : (e : Ending) (all left later before now new : Option (List ℕ)) (reader next : ScriptReader) (run after : Run) (buffer out : List ℕ) (i : Item) (s : Status) (r : Running all reader run buffer left before now) →
+pub out-cut : (e : Ending) (all left later before now new : Option (List ℕ)) (reader next : ScriptReader) (run after : Run) (buffer out : List ℕ) (i : Item) (s : Status) (r : Running None all reader run buffer left before now) →
     IsLawful next out →
     ((bytes : List ℕ) → HasRead r.items bytes reader buffer left → ReadsAhead r.items bytes later) →
     ((bytes : List ℕ) → HasRead r.items bytes reader buffer left → HasRead (r.items ++ i ∷ []) bytes next out later) →
-    IsPartlyTaken after (r.items ++ i ∷ []) r.log now new →
+    IsPartlyTaken None after (r.items ++ i ∷ []) r.log now new →
     IsCutShort s →
     IfSome all (λ bytes. Outcome e s bytes later before new)
 out-cut e all left later before now new reader next run after buffer out i s r lawful ahead told part short =
@@ -95,7 +96,7 @@ out-cut e all left later before now new reader next run after buffer out i s r l
       cut_short bytes s (inl is) p = subst (λ (t : Status). Outcome e t bytes later before new) (sym is) p
       cut_short bytes s (inr is) p = subst (λ (t : Status). Outcome e t bytes later before new) (sym is) p
 
-      of_part : (bytes : List ℕ) → HasRead r.items bytes reader buffer left → HasRead (r.items ++ i ∷ []) bytes next out later → IsPartlyTaken after (r.items ++ i ∷ []) r.log now new → WritesPart e bytes later before new
+      of_part : (bytes : List ℕ) → HasRead r.items bytes reader buffer left → HasRead (r.items ++ i ∷ []) bytes next out later → IsPartlyTaken None after (r.items ++ i ∷ []) r.log now new → WritesPart e bytes later before new
       of_part bytes h more (inl same) = part-whole e bytes left later before new reader buffer run r.items r.log h (ahead bytes h) r.kept (subst (λ (w : Option (List ℕ)). Writes before w (log_lines r.log)) (sym same) r.written)
       of_part bytes h more (inr taken) = record {
         read = more.read;
@@ -119,7 +120,7 @@ out-cut e all left later before now new reader next run after buffer out i s r l
 part-closing : (e : Ending) (bytes : List ℕ) (later before now new : Option (List ℕ)) (run : Run) (items : List Item) (log : List Entry) (bad : Option ℕ) (behind : List ℕ) →
     IsScriptOf bytes items bad →
     ReadsAhead items bytes later →
-    Keeps run items log →
+    Keeps None run items log →
     Writes before now (log_lines log) →
     IsBehindFront e (options_of run.hub) log run.links run.storage bad [] behind →
     WritesFront now new behind →
@@ -145,7 +146,7 @@ part-end : (e : Ending) (bytes : List ℕ) (left later before now new : Option (
     HasRead items bytes reader buffer left →
     IsScriptOf bytes items None →
     ReadsAhead items bytes later →
-    Keeps run items log →
+    Keeps None run items log →
     Writes before now (log_lines log) →
     EndsPart e (options_of run.hub) log run.links run.storage now new →
     WritesPart e bytes later before new
@@ -154,14 +155,14 @@ part-end e bytes left later before now new reader buffer run items log h script 
 part-end e bytes left later before now new reader buffer run items log h script ahead kept written (inr ends) =
     part-closing e bytes later before now new run items log None ends.0 script ahead kept written ends.1 ends.2
 
-pub out-end : (e : Ending) (all left later before now new : Option (List ℕ)) (reader : ScriptReader) (run : Run) (buffer : List ℕ) (last : Result Unit Failed) (r : Running all reader run buffer left before now) →
+pub out-end : (e : Ending) (all left later before now new : Option (List ℕ)) (reader : ScriptReader) (run : Run) (buffer : List ℕ) (last : Result Unit Failed) (r : Running None all reader run buffer left before now) →
     ((bytes : List ℕ) → HasRead r.items bytes reader buffer left → IsScriptOf bytes r.items None × (later ≡ Some [])) →
     ((bytes : List ℕ) → HasRead r.items bytes reader buffer left → ReadsAhead r.items bytes later) →
     OnOk last ((log : List Entry) → Stands run.hub log → Ends e (options_of run.hub) log run.links run.storage now new) →
     OnErr last ((log : List Entry) → Stands run.hub log → EndsPart e (options_of run.hub) log run.links run.storage now new) →
     IfSome all (λ bytes. Outcome e (ended_by last status.Done) bytes later before new)
 out-end e all left later before now new reader run buffer (Ok x) r told ahead wrote front =
-    let ends = wrote r.log r.kept.hub.stands in
+    let ends = wrote r.log (stands-anew run r.items r.log r.kept) in
     IfSome_then all r.read
     (λ bytes h. record {
       items = r.items;
@@ -177,12 +178,12 @@ out-end e all left later before now new reader run buffer (Ok x) r told ahead wr
     })
 out-end e all left later before now new reader run buffer (Err Fault) r told ahead wrote front =
     IfSome_then all r.read
-    (λ bytes h. part-end e bytes left later before now new reader buffer run r.items r.log h (told bytes h).0 (ahead bytes h) r.kept r.written (front r.log r.kept.hub.stands))
+    (λ bytes h. part-end e bytes left later before now new reader buffer run r.items r.log h (told bytes h).0 (ahead bytes h) r.kept r.written (front r.log (stands-anew run r.items r.log r.kept)))
 out-end e all left later before now new reader run buffer (Err Memory) r told ahead wrote front =
     IfSome_then all r.read
-    (λ bytes h. part-end e bytes left later before now new reader buffer run r.items r.log h (told bytes h).0 (ahead bytes h) r.kept r.written (front r.log r.kept.hub.stands))
+    (λ bytes h. part-end e bytes left later before now new reader buffer run r.items r.log h (told bytes h).0 (ahead bytes h) r.kept r.written (front r.log (stands-anew run r.items r.log r.kept)))
 
-pub out-bad : (e : Ending) (all left later before now new : Option (List ℕ)) (reader : ScriptReader) (run : Run) (buffer : List ℕ) (k : ℕ) (last : Result Unit Failed) (r : Running all reader run buffer left before now) →
+pub out-bad : (e : Ending) (all left later before now new : Option (List ℕ)) (reader : ScriptReader) (run : Run) (buffer : List ℕ) (k : ℕ) (last : Result Unit Failed) (r : Running None all reader run buffer left before now) →
     ((bytes : List ℕ) → HasRead r.items bytes reader buffer left → IsScriptOf bytes r.items (Some k)) →
     ((bytes : List ℕ) → HasRead r.items bytes reader buffer left → ReadsAhead r.items bytes later) →
     OnOk last (Writes now new (bad_line k)) →
@@ -207,7 +208,7 @@ out-bad e all left later before now new reader run buffer k (Err Memory) r told 
     IfSome_then all r.read
     (λ bytes h. part-closing e bytes later before now new run r.items r.log (Some k) (bad_line k) (told bytes h) (ahead bytes h) r.kept r.written refl front)
 
-pub out-fault : (all left later before now : Option (List ℕ)) (reader : ScriptReader) (run : Run) (buffer : List ℕ) (r : Running all reader run buffer left before now) →
+pub out-fault : (all left later before now : Option (List ℕ)) (reader : ScriptReader) (run : Run) (buffer : List ℕ) (r : Running None all reader run buffer left before now) →
     ((bytes : List ℕ) → HasRead r.items bytes reader buffer left → StopsBehind r.items bytes later) →
     IfSome all (λ bytes. WritesWhole bytes later before now)
 out-fault all left later before now reader run buffer r told =
@@ -223,8 +224,8 @@ out-fault all left later before now reader run buffer r told =
     })
 
 -- until an event comes, the storage of a run is the one that its items set up
-pub kept-set_up : (run : Run) (items : List Item) (log : List Entry) (storage : StorageState) → Keeps run items log → storage ≡ run.storage → IsSetUp storage items
-kept-set_up run items log storage kept same = λ no_event. same ∙ kept-storage run items log kept no_event
+pub kept-set_up : (before : Before) (run : Run) (items : List Item) (log : List Entry) (storage : StorageState) → Keeps before run items log → storage ≡ run.storage → IsSetUp storage items
+kept-set_up before run items log storage kept same = λ no_event. same ∙ kept-storage before run items log kept no_event
 
 -- ---- what a status says
 
@@ -235,6 +236,12 @@ outcome-of e all left old new s t same h = subst (λ (u : Status). IfSome all (�
 pub cut-part : (e : Ending) (s : Status) (all left old new : Option (List ℕ)) → IsCutShort s → IfSome all (λ bytes. Outcome e s bytes left old new) → IfSome all (λ bytes. WritesPart e bytes left old new)
 cut-part e s all left old new (inl is) h = subst (λ (t : Status). IfSome all (λ bytes. Outcome e t bytes left old new)) is h
 cut-part e s all left old new (inr is) h = subst (λ (t : Status). IfSome all (λ bytes. Outcome e t bytes left old new)) is h
+
+-- so did one that goes on from a state, or nothing
+pub resume-cut : (s : Status) (all left old new : Option (List ℕ)) → (s ≡ status.ReadFault) ⊎ IsCutShort s → IfSome all (λ bytes. ResumeOutcome s bytes left old new) → IfSome all (λ bytes. IsResumeCut bytes old new)
+resume-cut s all left old new (inl is) h = subst (λ (t : Status). IfSome all (λ bytes. ResumeOutcome t bytes left old new)) is h
+resume-cut s all left old new (inr (inl is)) h = subst (λ (t : Status). IfSome all (λ bytes. ResumeOutcome t bytes left old new)) is h
+resume-cut s all left old new (inr (inr is)) h = subst (λ (t : Status). IfSome all (λ bytes. ResumeOutcome t bytes left old new)) is h
 
 -- of a script that was run while nothing failed, all was run
 pub runs_whole : (e : Ending) (s : Status) (bytes : List ℕ) (left old new : Option (List ℕ)) (items : List Item) →

@@ -3,8 +3,8 @@
 -- What is read is an options line or none, the text of a state, a line of two hyphens, and a script. Nothing is skipped before
 -- the line of two hyphens, and the lines of a state may be of any length. The log of the script stands behind every log that has
 -- the state: it is the rest of a whole log, without its first part.
-use Rattle.std.specs.Prelude.{◌≡◌, ◌⊎◌, ℕ, ◌+◌, ◌-◌, ◌^◌, ◌<◌, ◌&&◌, nat_lt, Bool, true, false, List, [], ◌∷◌, ◌++◌, length, codes, map as each, reverse, filter_map, Option, Some, None, option_to_list}
-use Rattle.std.specs.List.{AllByRecursion, list_all}
+use Rattle.std.specs.Prelude.{◌≡◌, ◌⊎◌, ℕ, ◌+◌, ◌-◌, ◌^◌, ◌<◌, ◌≤◌, ◌&&◌, nat_lt, Bool, true, false, List, [], ◌∷◌, ◌++◌, length, codes, map as each, reverse, Option, Some, None, option_to_list}
+use Rattle.std.specs.List.{AllByRecursion, flat_map, list_all}
 use Rattle.ftp_base.specs.LinkTable.{Numbered}
 use Rattle.ftp_base.specs.Memory.{LinkState}
 use Rattle.ftp_base.specs.Outside.{Writes}
@@ -29,7 +29,7 @@ use Rattle.ftp_text.specs.declared.setup.Item.TheVariants as item
 use Rattle.ftp_text.specs.Setup.{IsItemOf}
 use Rattle.ftp_script_run.specs.declared.head.Head.{Head}
 use Rattle.ftp_script_run.specs.Script.{IsScriptOf, has_link}
-use Rattle.ftp_script_run.specs.ScriptReader.{AreWhole, EndsLine}
+use Rattle.ftp_script_run.specs.ScriptReader.{AreWhole}
 use Rattle.ftp_script_run.specs.SetUp.{StorageState}
 use Rattle.ftp_script_run.specs.Items.{events_in, options_in}
 use Rattle.ftp_script_run.specs.Left.{end_lines}
@@ -38,70 +38,90 @@ use Rattle.ftp_script_run.specs.Outcome.{bad_line, log_lines}
 
 -- ---- what stands before the script
 
+-- these are the lines at the front of the bytes, and the rest stands behind them; the last line of all may lack its line feed
+abbrev pub HasLines : List (List ℕ) → List ℕ → List ℕ → Type 0
+HasLines [] rest bytes = bytes ≡ rest
+HasLines (line ∷ lines) rest bytes = (0 < length bytes) × (first_line bytes ≡ line) × HasLines lines rest (behind_line bytes)
+
 -- the item is that of an options line
 abbrev pub sets_options : Item → Bool
 sets_options (item.Options mode lo hi host active idle lockout restart) = true
 sets_options _ = false
 
--- the bytes are an options line or none, where the rest does not begin with one
-pub record IsOptionsPart (bytes : List ℕ) (front : List Item) (rest : List ℕ) : Type 0 where
-  pub lines : IsScriptOf bytes front None
-  pub only : AllByRecursion (λ (i : Item). sets_options i ≡ true) front
-  pub whole : AreWhole bytes rest
-  pub all : front ≡ [] → (i : Item) → IsItemOf (first_line rest) i → sets_options i ≡ false
+-- the line is that of these options
+pub record IsOptionsLine (line : List ℕ) (i : Item) : Type 0 where
+  pub spelled : IsItemOf line i
+  pub sets : sets_options i ≡ true
+  pub short : length line ≤ 65536
 
--- the line of two hyphens, with its line feed, which it may lack at the end
-abbrev pub IsBar : List ℕ → List ℕ → Type 0
-IsBar line rest = (line ≡ codes "--" ++ 10 ∷ []) ⊎ ((line ≡ codes "--") × (rest ≡ []))
+-- an options line, or none where the line behind it is none
+abbrev pub AreOptionsLines : List (List ℕ) → Option Item → List (List ℕ) → Type 0
+AreOptionsLines [] None [] = Unit {0}
+AreOptionsLines [] None (line ∷ lines) = (i : Item) → IsOptionsLine line i → ⊥
+AreOptionsLines (line ∷ []) (Some i) lines = IsOptionsLine line i
+AreOptionsLines _ _ lines = ⊥
+
+-- the line between a state and a script
+abbrev pub bar : List ℕ
+bar = codes "--"
 
 -- none of the lines is one of two hyphens
-abbrev pub HasNoBar : List ℕ → Type 0
-HasNoBar bytes = AllByRecursion (λ (line : List ℕ). line ≡ codes "--" → ⊥) (lines_in bytes)
+abbrev pub HaveNoBar : List (List ℕ) → Type 0
+HaveNoBar lines = AllByRecursion (λ (line : List ℕ). line ≡ bar → ⊥) lines
 
--- the bytes are an options line or none, whole lines, a line of two hyphens, and the rest; there are k lines before the rest
-pub record IsHead (bytes : List ℕ) (front : List Item) (text rest : List ℕ) (k : ℕ) : Type 0 where
-  pub options : List ℕ
-  pub bar : List ℕ
-  pub all_is : options ++ (text ++ (bar ++ rest)) ≡ bytes
-  pub first : IsOptionsPart options front (text ++ (bar ++ rest))
-  pub whole : EndsLine text
-  pub before : HasNoBar text
-  pub bar_is : IsBar bar rest
-  pub count : k ≡ length front + length (lines_in text) + 1
+-- the bytes are an options line or none, these lines, a line of two hyphens, and the rest, behind so many lines
+pub record IsHead (bytes : List ℕ) (options : Option Item) (texts : List (List ℕ)) (rest : List ℕ) (before : ℕ) : Type 0 where
+  pub first : List (List ℕ)
+  pub lines : HasLines (first ++ (texts ++ bar ∷ [])) rest bytes
+  pub options_are : AreOptionsLines first options (texts ++ bar ∷ [])
+  pub none : HaveNoBar texts
+  pub count : before ≡ length first + length texts + 1
 
--- the bytes are an options line or none, and lines of which none is one of two hyphens; there are k - 1 lines
-pub record IsOpenHead (bytes : List ℕ) (front : List Item) (text : List ℕ) (k : ℕ) : Type 0 where
-  pub options : List ℕ
-  pub all_is : options ++ text ≡ bytes
-  pub first : IsOptionsPart options front text
-  pub before : HasNoBar text
-  pub count : k ≡ length front + length (lines_in text) + 1
+-- the bytes are an options line or none, and these lines, of which none is one of two hyphens; the line behind them would be line k
+pub record IsOpenHead (bytes : List ℕ) (options : Option Item) (texts : List (List ℕ)) (k : ℕ) : Type 0 where
+  pub first : List (List ℕ)
+  pub lines : HasLines (first ++ texts) [] bytes
+  pub options_are : AreOptionsLines first options texts
+  pub none : HaveNoBar texts
+  pub count : k ≡ length first + length texts + 1
 
--- the text is that of lines before the line of two hyphens, or before the end, behind so many items
-abbrev pub IsStatePart : List ℕ → List Item → List ℕ → Type 0
-IsStatePart bytes front text =
-    ((rest : List ℕ) × (k : ℕ) × IsHead bytes front text rest k) ⊎ ((k : ℕ) × IsOpenHead bytes front text k)
+-- these are the lines behind an options line or none, up to the line of two hyphens, or to the end; that is line k, or would be
+abbrev pub HasStateLines : List ℕ → Option Item → List (List ℕ) → ℕ → Type 0
+HasStateLines bytes options texts k = ((rest : List ℕ) × IsHead bytes options texts rest k) ⊎ IsOpenHead bytes options texts k
+
+-- options with the settings of the line, or the builder's
+abbrev pub AreSet : Option Item → Options → Type 0
+AreSet options o = settings_of o ≡ options_in (option_to_list options)
 
 -- line k is the first bad one, before the script: the first that is none of a state, the line of two hyphens behind a state that is
 -- refused under the options, or the one that is missing
 abbrev pub IsBadHead : ℕ → List ℕ → Type 0
 IsBadHead k bytes =
-    ((front : List Item) × (text : List ℕ) × (j : ℕ) × IsStatePart bytes front text × IsFirstBadStateLine j (lines_in text) × (k ≡ length front + j))
-    ⊎ (((front : List Item) × (text rest : List ℕ) × (x : HubState) × (o : Options) × (e : StateError)
-    × IsHead bytes front text rest k × IsSpelledBy (lines_in text) x × (settings_of o ≡ options_in front) × HasCause o x e)
-    ⊎ ((front : List Item) × (text : List ℕ) × (x : HubState) × IsOpenHead bytes front text k × IsSpelledBy (lines_in text) x))
+    ((options : Option Item) × (texts : List (List ℕ)) × (end j : ℕ) × HasStateLines bytes options texts end × IsFirstBadStateLine j texts × (k ≡ length (option_to_list options) + j))
+    ⊎ (((options : Option Item) × (texts : List (List ℕ)) × (rest : List ℕ) × (x : HubState) × (o : Options) × (e : StateError)
+    × IsHead bytes options texts rest k × IsSpelledBy texts x × AreSet options o × HasCause o x e)
+    ⊎ ((options : Option Item) × (texts : List (List ℕ)) × (x : HubState) × IsOpenHead bytes options texts k × IsSpelledBy texts x))
 
 -- ---- reading it
+
+-- the lines, each with its line feed
+abbrev pub with_feeds : List (List ℕ) → List ℕ
+with_feeds texts = flat_map (λ (line : List ℕ). line ++ 10 ∷ []) texts
 
 -- the number of the line of two hyphens, or of the one that is missing
 abbrev pub place_of : Head → ℕ
 place_of head = length (option_to_list head.options) + head.lines + 1
 
--- what was found of the head: with the line of two hyphens all that is held and left is the rest; without it nothing is left
-abbrev pub FindsHead : Head → List ℕ → List ℕ → Option (List ℕ) → Type 0
-FindsHead head bytes held left =
-    (head.is_closed ≡ true → (rest : List ℕ) × IsHead bytes (option_to_list head.options) head.text.items rest (place_of head) × Rest held left rest)
-    × (head.is_closed ≡ false → (text : List ℕ) × IsOpenHead bytes (option_to_list head.options) text (place_of head) × (lines_in head.text.items ≡ lines_in text) × (left ≡ Some []))
+-- what was found: with the line of two hyphens all that is held and left is the rest; without it nothing is left
+abbrev pub FindsHead : Bool → Head → List (List ℕ) → List ℕ → List ℕ → Option (List ℕ) → Type 0
+FindsHead true head texts bytes held left = (rest : List ℕ) × IsHead bytes head.options texts rest (place_of head) × Rest held left rest
+FindsHead false head texts bytes held left = IsOpenHead bytes head.options texts (place_of head) × (left ≡ Some [])
+
+-- the lines of the state, as they are kept
+pub record KeepsLines (head : Head) (texts : List (List ℕ)) : Type 0 where
+  pub text : head.text.items ≡ with_feeds texts
+  pub lines : lines_in head.text.items ≡ texts
+  pub count : head.lines ≡ length texts
 
 -- a line was read: it is the first, and the rest is behind it; or there is none
 abbrev pub ReadsLine : Bool → List ℕ → List ℕ → List ℕ → Option (List ℕ) → Type 0
@@ -117,7 +137,7 @@ link_kept (kept.HasLink number) = Some number
 
 -- the links that slots and jobs of a state name
 abbrev pub links_named : HubState → List ℕ
-links_named x = filter_map (λ (l : SlotLine). link_kept l.what) x.slots ++ each (λ (j : JobLine). j.job.number) x.jobs
+links_named x = flat_map (λ (l : SlotLine). option_to_list (link_kept l.what)) x.slots ++ each (λ (j : JobLine). j.job.number) x.jobs
 
 -- whether an item may come behind these where a script goes on from the state: no options, and an event behind the links that the
 -- state names, and before the count of events is at its end
@@ -174,15 +194,15 @@ pub record IsLegalBehind (o : Options) (x : HubState) (items : List Item) (log :
 
 -- a state was read, which its options do not refuse, and a script behind it
 pub record Resumes (bytes : List ℕ) (bad : Option ℕ) : Type 0 where
-  pub front : List Item
-  pub text : List ℕ
+  pub line : Option Item
+  pub texts : List (List ℕ)
   pub rest : List ℕ
   pub before : ℕ
-  pub head : IsHead bytes front text rest before
+  pub head : IsHead bytes line texts rest before
   pub state : HubState
-  pub spelled : IsSpelledBy (lines_in text) state
+  pub spelled : IsSpelledBy texts state
   pub options : Options
-  pub set : settings_of options ≡ options_in front
+  pub set : AreSet line options
   pub passed : (e : StateError) → HasCause options state e → ⊥
   pub items : List Item
   pub log : List Entry

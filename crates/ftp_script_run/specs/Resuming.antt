@@ -1,15 +1,14 @@
 -- What a run keeps that goes on from the state of a hub, and what it wrote, by its status.
-use Rattle.std.specs.Prelude.{◌≡◌, ◌⊎◌, ℕ, ◌+◌, false, true, List, [], ◌∷◌, ◌++◌, length, Contains, Option, Some, None, IfSome, Result, Ok, Err}
+use Rattle.std.specs.Prelude.{◌≡◌, ◌⊎◌, ℕ, true, List, [], ◌++◌, Option, Some, None, IfSome, Result, Ok, Err}
+use Rattle.std.specs.List.{list_all}
 use Rattle.ftp_base.specs.Outside.{Writes}
 use Rattle.ftp_options.specs.declared.options.Options.{Options}
-use Rattle.ftp_options.specs.Builder.{settings_of}
 use Rattle.ftp_control.specs.Lines.{Rest}
 use Rattle.ftp_control.specs.Writing.{WritesFront}
 use Rattle.ftp_hub.specs.declared.state.HubState.{HubState}
 use Rattle.ftp_hub.specs.declared.state.StateError.{StateError}
 use Rattle.ftp_hub.specs.Refused.{HasCause}
-use Rattle.ftp_hub.specs.Stands.{count_of}
-use Rattle.ftp_checkpoint.specs.StateText.{IsSpelledBy, lines_in}
+use Rattle.ftp_checkpoint.specs.StateText.{IsSpelledBy}
 use Rattle.ftp_text.specs.declared.setup.Item.{Item}
 use Rattle.ftp_script_run.specs.declared.resuming.Resumed.{Resumed}
 use Rattle.ftp_script_run.specs.declared.run.Run.{Run}
@@ -18,9 +17,8 @@ use Rattle.ftp_script_run.specs.declared.status.Status.TheVariants as status
 use Rattle.ftp_script_run.specs.declared.text_script.ScriptError.{ScriptError}
 use Rattle.ftp_script_run.specs.declared.text_script.ScriptError.TheVariants as error
 use Rattle.ftp_script_run.specs.declared.text_script.ScriptReader.{ScriptReader}
-use Rattle.ftp_script_run.specs.Items.{events_in, options_in}
 use Rattle.ftp_script_run.specs.Outcome.{bad_line}
-use Rattle.ftp_script_run.specs.Resumed.{AllGoOn, HasBadResumedLine, IsBadHead, IsHead, IsResumed, ResumesPart, links_named}
+use Rattle.ftp_script_run.specs.Resumed.{AllGoOn, AreSet, HasBadResumedLine, IsBadHead, IsHead, IsResumed, ResumesPart, links_named}
 use Rattle.ftp_script_run.specs.Runs.{Keeps, Running}
 use Rattle.ftp_script_run.specs.Script.{has_link}
 use Rattle.ftp_script_run.specs.Statuses.{IsCutShort}
@@ -29,24 +27,24 @@ use Rattle.ftp_script_run.specs.Statuses.{IsCutShort}
 
 -- the bytes begin with a state that the options do not refuse, and this rest stands behind so many lines
 pub record IsBegunAt (bytes rest : List ℕ) (before : ℕ) (o : Options) (x : HubState) : Type 0 where
-  pub front : List Item
-  pub text : List ℕ
-  pub head : IsHead bytes front text rest before
-  pub spelled : IsSpelledBy (lines_in text) x
-  pub set : settings_of o ≡ options_in front
+  pub line : Option Item
+  pub texts : List (List ℕ)
+  pub head : IsHead bytes line texts rest before
+  pub spelled : IsSpelledBy texts x
+  pub set : AreSet line o
   pub passed : (e : StateError) → HasCause o x e → ⊥
 
--- each link that the state names has its line, or is waited for; and events are counted on from the state
-pub record Awaits (resumed : Resumed) (run : Run) (x : HubState) (items : List Item) : Type 0 where
-  pub named : (n : ℕ) → Contains (links_named x) n → Contains resumed.links.items n ⊎ (has_link n items ≡ true)
-  pub awaited : (n : ℕ) → Contains resumed.links.items n → Contains (links_named x) n
-  pub events : count_of run.hub ≡ x.events + length (events_in items)
+-- the links that the state names: those that are waited for, and behind them those that have their lines
+pub record Awaits (resumed : Resumed) (x : HubState) (items : List Item) : Type 0 where
+  pub seen : List ℕ
+  pub named : resumed.links.items ++ seen ≡ links_named x
+  pub linked : list_all (λ n. has_link n items) seen ≡ true
 
 -- what was begun, or the first bad line
 abbrev pub IsBegun : List ℕ → Result Resumed ScriptError → Run → List ℕ → Option (List ℕ) → Type 0
 IsBegun bytes (Ok resumed) run held left =
     (rest : List ℕ) × (o : Options) × (x : HubState) × IsBegunAt bytes rest resumed.before o x × Rest held left rest
-    × Keeps (Some (o, x)) run [] [] × Awaits resumed run x []
+    × Keeps (Some (o, x)) run [] [] × Awaits resumed x []
 IsBegun bytes (Err (error.BadLine k)) run held left = IsBadHead k bytes
 IsBegun bytes (Err e) run held left = Unit {0}
 
@@ -58,7 +56,7 @@ pub record Resuming (all : Option (List ℕ)) (resumed : Resumed) (reader : Scri
   pub running : Running (Some (options, state)) behind reader run buffer left old new
   pub begun : IfSome all (λ bytes. (rest : List ℕ) × (behind ≡ Some rest) × IsBegunAt bytes rest resumed.before options state)
   pub goes_on : AllGoOn state [] running.items
-  pub awaits : Awaits resumed run state running.items
+  pub awaits : Awaits resumed state running.items
 
 -- ---- how it ends
 

@@ -2,7 +2,7 @@
 --
 -- A script begins anew, or goes on from the state of a hub: then its log stands behind any log that may have come before, which is
 -- one that has this state.
-use Rattle.std.specs.Prelude.{◌≡◌, ℕ, ◌⊎◌, true, false, List, [], ◌∷◌, ◌++◌, map, reverse, Option, Some, None, IfSome}
+use Rattle.std.specs.Prelude.{◌≡◌, ℕ, ◌+◌, ◌⊎◌, true, false, List, [], ◌∷◌, ◌++◌, length, map, reverse, Option, Some, None, IfSome}
 use Rattle.ftp_base.specs.Memory.{LinkState}
 use Rattle.ftp_base.specs.Outside.{Writes}
 use Rattle.ftp_options.specs.declared.options.Options.{Options}
@@ -14,7 +14,7 @@ use Rattle.ftp_control.specs.Writing.{WritesFront}
 use Rattle.ftp_hub.specs.declared.hub.Hub.{Hub}
 use Rattle.ftp_hub.specs.declared.state.HubState.{HubState}
 use Rattle.ftp_hub.specs.Runs.{is_linked}
-use Rattle.ftp_hub.specs.Stands.{Stands, options_of}
+use Rattle.ftp_hub.specs.Stands.{Stands, count_of, options_of}
 use Rattle.ftp_text.specs.declared.setup.Item.{Item}
 use Rattle.ftp_text.specs.declared.setup.Item.TheVariants as item
 use Rattle.ftp_text.specs.Setup.{IsItem}
@@ -44,6 +44,11 @@ abbrev pub AreOptions : Before → List Item → Options → Type 0
 AreOptions None items o = settings_of o ≡ options_in items
 AreOptions (Some b) items o = o ≡ b.0
 
+-- how many events were counted before
+abbrev pub events_before : Before → ℕ
+events_before None = 0
+events_before (Some b) = b.1.events
+
 -- ---- what is kept
 
 -- the storage and the links of a run
@@ -60,6 +65,7 @@ pub record HasRun (hub : Hub) (front : List Entry) (items : List Item) (log : Li
 pub record Keeps (before : Before) (run : Run) (items : List Item) (log : List Entry) : Type 0 where
   pub events : map (λ (e : Entry). e.event) (reverse log) ≡ events_in items
   pub options : AreOptions before items (options_of run.hub)
+  pub count : count_of run.hub ≡ events_before before + length (events_in items)
   pub start : has_event items ≡ false → outside run ≡ start_of items
   pub links : (n : ℕ) → has_link n items ≡ true → is_linked run.links n ≡ true
   pub hub : (front : List Entry) → MayPrecede before front → HasRun run.hub front items log (outside run)

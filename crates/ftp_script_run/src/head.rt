@@ -1,12 +1,12 @@
 //! What stands before the script of a resumed run: an options line or none, the text of a state, and a line of two hyphens.
 
-ghost use Rattle.std.specs.Prelude.{◌≡◌, ◌⊎◌, ℕ, ◌+◌, ◌≤◌, ◌<◌, ◌++◌, ◌∷◌, List, Option, Some, None, [], true, length, option_to_list, IfOk, IfErr, IfSome, OnOk, IsErrOf};
+ghost use Rattle.std.specs.Prelude.{◌≡◌, ◌⊎◌, ℕ, ◌+◌, ◌≤◌, ◌<◌, ◌++◌, ◌∷◌, List, Option, Some, None, [], true, length, option_to_list, IfOk, IfErr, IfNone, IfSome, OnOk, IsErrOf};
 ghost use Rattle.ftp_base.specs.Outside.{HasRisen};
 ghost use Rattle.ftp_control.specs.Lines.{bytes_in, IsWithin};
 ghost use Rattle.ftp_text.specs.declared.setup.Item.{Item};
-ghost use Rattle.ftp_text.specs.Setup.{IsItemOf};
+ghost use Rattle.ftp_text.specs.Setup.{IsItem};
 ghost use Rattle.ftp_script_run.specs.declared.text_script.ScriptError.{ScriptError};
-ghost use Rattle.ftp_script_run.specs.Resumed.{FindsHead, ReadsLine, place_of, sets_options};
+ghost use Rattle.ftp_script_run.specs.Resumed.{FindsHead, IsOptionsLine, KeepsLines, ReadsLine, place_of};
 
 use crate::admission::LONGEST_LINE;
 use crate::text_script::ScriptError;
@@ -22,7 +22,7 @@ const BAR: &[u8] = b"--";
 /// What stands before a script.
 #[derive(Drop)]
 pub struct Head {
-    /// The options, where the first line says them.
+    /// The options, where the first line is that of options.
     pub options: Option<Item>,
     /// The lines of the state, each with its line feed.
     pub text: Vec<u8>,
@@ -42,7 +42,7 @@ impl Head {
     ) -> Result<Head, ScriptError>
         requires within { IsWithin buffer.old held.old }
         requires len { length buffer.old ≡ 65537 }
-        ensures told { IfOk result (λ head. IfSome (S.left source.old) (λ left. FindsHead head (bytes_in buffer.old held.old ++ left) (bytes_in buffer.new held.new) (S.left source.new))) }
+        ensures told { IfOk result (λ head. IfSome (S.left source.old) (λ left. (texts : List (List ℕ)) × KeepsLines head texts × FindsHead head.is_closed head texts (bytes_in buffer.old held.old ++ left) (bytes_in buffer.new held.new) (S.left source.new))) }
         ensures only { IfErr result (λ e. (e ≡ ScriptError.Fault) ⊎ (e ≡ ScriptError.Memory)) }
         ensures fault_rose { IsErrOf result ScriptError.Fault → HasRisen (S.faults source.old) (S.faults source.new) }
         ensures count { S.faults source.old ≤ S.faults source.new }
@@ -106,7 +106,8 @@ impl Head {
 
 // The item of an options line.
 fn options_in(alloc: Global, line: &[u8]) -> Result<Option<Item>, ScriptError>
-    ensures found { IfOk result (λ found. IfSome found (λ i. IsItemOf line.now i × (sets_options i ≡ true) × (length line.now ≤ 65536))) }
+    ensures found { IfOk result (λ found. IfSome found (λ i. IsItem i × IsOptionsLine line.now i)) }
+    ensures none { IfOk result (λ found. IfNone found ((i : Item) → IsOptionsLine line.now i → ⊥)) }
     ensures only_memory { IfErr result (λ e. e ≡ ScriptError.Memory) }
 {
     if line.len() > LONGEST_LINE {

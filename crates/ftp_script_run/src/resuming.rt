@@ -3,7 +3,12 @@
 ghost use Rattle.std.specs.Prelude.{◌≡◌, ◌≢◌, ◌⊎◌, ℕ, ◌≤◌, ◌<◌, ◌++◌, ◌∷◌, [], List, Bool, true, Option, Some, IfOk, IfErr, IfSome, IfNone, IsErrOf, length};
 ghost use Rattle.ftp_base.specs.Outside.{HasRisen};
 ghost use Rattle.ftp_control.specs.Lines.{bytes_in, IsWithin};
+ghost use Rattle.std.specs.List.{list_all};
+ghost use Rattle.ftp_options.specs.declared.options.Options.{Options};
+ghost use Rattle.ftp_events.specs.declared.entry.Entry.{Entry};
+ghost use Rattle.ftp_hub.specs.declared.state.HubState.{HubState};
 ghost use Rattle.ftp_text.specs.declared.setup.Item.{Item};
+ghost use Rattle.ftp_script_run.specs.Script.{has_link};
 ghost use Rattle.ftp_script_run.specs.declared.text_script.ScriptError.{ScriptError};
 ghost use Rattle.ftp_script_run.specs.Resuming.{Awaits, IsBegun, IsRefusedSo, Resuming, ResumeOutcome};
 ghost use Rattle.ftp_script_run.specs.Resumed.{links_named, may_go_on};
@@ -73,6 +78,7 @@ fn ended<K: Sink>(run: &mut Run, error: ScriptError, sink: &mut K) -> Status
 }
 
 /// What a script goes on from: how many lines stand before it, and the links that the state names of which no line was seen.
+#[derive(Drop)]
 pub struct Resumed {
     before: u64,
     links: Vec<u64>,
@@ -99,7 +105,13 @@ fn begin<S: Source>(
     let state = state_of(alloc, &head)?;
     let before = head.last();
     let links = links_of(alloc, &state)?;
-    if let Some(options) = head.options {
+    let Head {
+        options,
+        text: _,
+        lines: _,
+        is_closed: _,
+    } = head;
+    if let Some(options) = options {
         if run.set_up(options).is_err() {
             return Err(ScriptError::Memory);
         }
@@ -146,7 +158,8 @@ impl Resumed {
     // Says whether an item may come where it comes: a script that goes on has no options, and an event comes behind the links that
     // the state names, and before the end of the count.
     fn admits(&mut self, item: &Item, run: &Run) -> bool
-        ensures { (state : HubState) (items : List Item) → Awaits self.old run.now state items → (result ≡ may_go_on state items item.now) × Awaits self.new run.now state items }
+        ensures admitted { (o : Options) (state : HubState) (items : List Item) (log : List Entry) → Keeps (Some (o, state)) run.now items log → Awaits self.old state items → result ≡ may_go_on state items item.now }
+        ensures awaits { (o : Options) (state : HubState) (items : List Item) (log : List Entry) → Keeps (Some (o, state)) run.now items log → Awaits self.old state items → Awaits self.new state items }
     {
         match item {
             Item::Options { .. } => false,
@@ -156,7 +169,10 @@ impl Resumed {
     }
 
     // Says whether each link that the state names has its line.
-    fn has_links(&mut self, run: &Run) -> bool {
+    fn has_links(&mut self, run: &Run) -> bool
+        ensures linked { (o : Options) (state : HubState) (items : List Item) (log : List Entry) → Keeps (Some (o, state)) run.now items log → Awaits self.old state items → result ≡ list_all (λ n. has_link n items) (links_named state) }
+        ensures awaits { (o : Options) (state : HubState) (items : List Item) (log : List Entry) → Keeps (Some (o, state)) run.now items log → Awaits self.old state items → Awaits self.new state items }
+    {
         while let Some(number) = self.links.last() {
             if !run.has_link(*number) {
                 return false;

@@ -192,6 +192,7 @@ impl Run {
     fn start(&mut self, builder: ServerBuilder)
         requires { refusal builder ≡ None }
         ensures fresh { Stands self.new.hub [] }
+        ensures count { count_of self.new.hub ≡ 0 }
         ensures set { settings_of (options_of self.new.hub) ≡ builder.settings }
         ensures others { self.new ≡ record self.old { hub = self.new.hub } }
     {

@@ -1,14 +1,15 @@
 use Rattle.std.proofs.Common.{◌∙◌, ◌≡◌, ap, subst, Some}
 use Rattle.std.specs.Prelude.{IfSome}
 use Rattle.std.proofs.lemmas.Option.{IfSome_then}
-use Rattle.ftp_script_run.specs.declared.command.Command.TheVariants.{Run, Audit, Tell}
+use Rattle.ftp_script_run.specs.declared.command.Command.TheVariants.{Run, Audit, Resume, Tell}
 use Rattle.ftp_script_run.specs.declared.command.Ending.{Ending}
 use Rattle.ftp_script_run.specs.declared.command.Told.TheVariants.{Stress}
 use Rattle.ftp_script_run.specs.declared.status.Status.{Status}
 use Rattle.ftp_script_run.specs.Outcome.{IsDone, WritesPart, Outcome}
-use Rattle.ftp_script_run.proofs.OutcomeLemmas.{cut-part, runs_whole, names_bad}
+use Rattle.ftp_script_run.specs.Resuming.{ResumeOutcome}
+use Rattle.ftp_script_run.proofs.OutcomeLemmas.{cut-part, resume-cut, runs_whole, names_bad}
 use Rattle.ftp_script_run.proofs.AuditLemmas.{audits_whole, audits_to_bad}
-use Rattle.ftp_script_run.proofs.CommandLemmas.{no_command, run_tells_nothing, run_is_no_audit, same_ending, audit_is_no_run, audit_tells_nothing, told_is_no_run, told_is_no_audit, usage-asked, told-done, told-cut, told-no_usage}
+use Rattle.ftp_script_run.proofs.CommandLemmas.{no_command, other_command, run_tells_nothing, run_is_no_audit, same_ending, audit_is_no_run, audit_tells_nothing, told_is_no_run, told_is_no_audit, usage-asked, told-done, told-cut, told-no_usage}
 use Rattle.ftp_script_run.proofs.script.run_script.Goals as goal
 
 pub tell-requires : goal.tell-requires
@@ -89,6 +90,108 @@ returns-in-Some-Run-clause-audit_complete g c = λ asks. run_is_no_audit _ c.com
 
 pub returns-in-Some-Run-clause-audit_first_bad : goal.returns-in-Some-Run-clause-audit_first_bad
 returns-in-Some-Run-clause-audit_first_bad g c = λ asks. run_is_no_audit _ c.command_of.result c.in-Some-Run.ending c.command_of.ensures (c.in-Some-Run.is ∙ ap Some c.in-Some-Run.field-0-is) asks
+
+-- ---- a script that goes on
+
+pub returns-in-Some-Resume-clause-resume_done : goal.returns-in-Some-Resume-clause-resume_done
+returns-in-Some-Resume-clause-resume_done g c = λ asks done.
+    subst (λ (s : Status). IfSome (g.S.Source.left c.args.source.now) (λ bytes. ResumeOutcome s bytes (g.S.Source.left c.resume_lines.new.source) (g.K.Sink.written c.args.sink.now) (g.K.Sink.written c.resume_lines.new.sink))) done c.resume_lines.ensures.outcome
+
+pub returns-in-Some-Resume-clause-resume_bad_line : goal.returns-in-Some-Resume-clause-resume_bad_line
+returns-in-Some-Resume-clause-resume_bad_line g c = λ asks k bad.
+    subst (λ (s : Status). IfSome (g.S.Source.left c.args.source.now) (λ bytes. ResumeOutcome s bytes (g.S.Source.left c.resume_lines.new.source) (g.K.Sink.written c.args.sink.now) (g.K.Sink.written c.resume_lines.new.sink))) bad c.resume_lines.ensures.outcome
+
+pub returns-in-Some-Resume-clause-resume_cut : goal.returns-in-Some-Resume-clause-resume_cut
+returns-in-Some-Resume-clause-resume_cut g c = λ asks cut. resume-cut c.resume_lines.result (g.S.Source.left c.args.source.now) (g.S.Source.left c.resume_lines.new.source) (g.K.Sink.written c.args.sink.now) (g.K.Sink.written c.resume_lines.new.sink) cut c.resume_lines.ensures.outcome
+
+pub returns-in-Some-Resume-clause-usage : goal.returns-in-Some-Resume-clause-usage
+returns-in-Some-Resume-clause-usage g c = usage-asked _ c.command_of.result Resume c.resume_lines.result c.command_of.ensures (c.in-Some-Resume.is ∙ ap Some c.in-Some-Resume.field-0-is) c.resume_lines.ensures.no_usage
+
+pub returns-in-Some-Resume-clause-done : goal.returns-in-Some-Resume-clause-done
+returns-in-Some-Resume-clause-done g c = λ e asks done. other_command _ c.command_of.result Resume (Run e) c.command_of.ensures (c.in-Some-Resume.is ∙ ap Some c.in-Some-Resume.field-0-is) (λ one. cc) asks
+
+pub returns-in-Some-Resume-clause-bad_line : goal.returns-in-Some-Resume-clause-bad_line
+returns-in-Some-Resume-clause-bad_line g c = λ e asks k bad. other_command _ c.command_of.result Resume (Run e) c.command_of.ensures (c.in-Some-Resume.is ∙ ap Some c.in-Some-Resume.field-0-is) (λ one. cc) asks
+
+pub returns-in-Some-Resume-clause-read_whole : goal.returns-in-Some-Resume-clause-read_whole
+returns-in-Some-Resume-clause-read_whole g c = λ e asks fault. other_command _ c.command_of.result Resume (Run e) c.command_of.ensures (c.in-Some-Resume.is ∙ ap Some c.in-Some-Resume.field-0-is) (λ one. cc) asks
+
+pub returns-in-Some-Resume-clause-front : goal.returns-in-Some-Resume-clause-front
+returns-in-Some-Resume-clause-front g c = λ e asks short. other_command _ c.command_of.result Resume (Run e) c.command_of.ensures (c.in-Some-Resume.is ∙ ap Some c.in-Some-Resume.field-0-is) (λ one. cc) asks
+
+pub returns-in-Some-Resume-clause-complete : goal.returns-in-Some-Resume-clause-complete
+returns-in-Some-Resume-clause-complete g c = λ e asks. other_command _ c.command_of.result Resume (Run e) c.command_of.ensures (c.in-Some-Resume.is ∙ ap Some c.in-Some-Resume.field-0-is) (λ one. cc) asks
+
+pub returns-in-Some-Resume-clause-first_bad : goal.returns-in-Some-Resume-clause-first_bad
+returns-in-Some-Resume-clause-first_bad g c = λ e asks k. other_command _ c.command_of.result Resume (Run e) c.command_of.ensures (c.in-Some-Resume.is ∙ ap Some c.in-Some-Resume.field-0-is) (λ one. cc) asks
+
+pub returns-in-Some-Resume-clause-audit_done : goal.returns-in-Some-Resume-clause-audit_done
+returns-in-Some-Resume-clause-audit_done g c = λ asks done. other_command _ c.command_of.result Resume Audit c.command_of.ensures (c.in-Some-Resume.is ∙ ap Some c.in-Some-Resume.field-0-is) (λ one. cc) asks
+
+pub returns-in-Some-Resume-clause-audit_bad_line : goal.returns-in-Some-Resume-clause-audit_bad_line
+returns-in-Some-Resume-clause-audit_bad_line g c = λ asks k bad. other_command _ c.command_of.result Resume Audit c.command_of.ensures (c.in-Some-Resume.is ∙ ap Some c.in-Some-Resume.field-0-is) (λ one. cc) asks
+
+pub returns-in-Some-Resume-clause-audit_whole : goal.returns-in-Some-Resume-clause-audit_whole
+returns-in-Some-Resume-clause-audit_whole g c = λ asks fault. other_command _ c.command_of.result Resume Audit c.command_of.ensures (c.in-Some-Resume.is ∙ ap Some c.in-Some-Resume.field-0-is) (λ one. cc) asks
+
+pub returns-in-Some-Resume-clause-audit_front : goal.returns-in-Some-Resume-clause-audit_front
+returns-in-Some-Resume-clause-audit_front g c = λ asks short. other_command _ c.command_of.result Resume Audit c.command_of.ensures (c.in-Some-Resume.is ∙ ap Some c.in-Some-Resume.field-0-is) (λ one. cc) asks
+
+pub returns-in-Some-Resume-clause-audit_complete : goal.returns-in-Some-Resume-clause-audit_complete
+returns-in-Some-Resume-clause-audit_complete g c = λ asks. other_command _ c.command_of.result Resume Audit c.command_of.ensures (c.in-Some-Resume.is ∙ ap Some c.in-Some-Resume.field-0-is) (λ one. cc) asks
+
+pub returns-in-Some-Resume-clause-audit_first_bad : goal.returns-in-Some-Resume-clause-audit_first_bad
+returns-in-Some-Resume-clause-audit_first_bad g c = λ asks. other_command _ c.command_of.result Resume Audit c.command_of.ensures (c.in-Some-Resume.is ∙ ap Some c.in-Some-Resume.field-0-is) (λ one. cc) asks
+
+pub returns-in-Some-Resume-clause-stress : goal.returns-in-Some-Resume-clause-stress
+returns-in-Some-Resume-clause-stress g c = λ seed sessions asks done. other_command _ c.command_of.result Resume (Tell (Stress seed sessions)) c.command_of.ensures (c.in-Some-Resume.is ∙ ap Some c.in-Some-Resume.field-0-is) (λ one. cc) asks
+
+pub returns-in-Some-Resume-clause-stress_front : goal.returns-in-Some-Resume-clause-stress_front
+returns-in-Some-Resume-clause-stress_front g c = λ seed sessions asks short. other_command _ c.command_of.result Resume (Tell (Stress seed sessions)) c.command_of.ensures (c.in-Some-Resume.is ∙ ap Some c.in-Some-Resume.field-0-is) (λ one. cc) asks
+
+pub returns-in-Some-Resume-clause-told : goal.returns-in-Some-Resume-clause-told
+returns-in-Some-Resume-clause-told g c = λ t asks done. other_command _ c.command_of.result Resume (Tell t) c.command_of.ensures (c.in-Some-Resume.is ∙ ap Some c.in-Some-Resume.field-0-is) (λ one. cc) asks
+
+pub returns-in-Some-Resume-clause-told_front : goal.returns-in-Some-Resume-clause-told_front
+returns-in-Some-Resume-clause-told_front g c = λ t asks short. other_command _ c.command_of.result Resume (Tell t) c.command_of.ensures (c.in-Some-Resume.is ∙ ap Some c.in-Some-Resume.field-0-is) (λ one. cc) asks
+
+pub returns-in-Some-Resume-clause-told_idle : goal.returns-in-Some-Resume-clause-told_idle
+returns-in-Some-Resume-clause-told_idle g c = λ t asks. other_command _ c.command_of.result Resume (Tell t) c.command_of.ensures (c.in-Some-Resume.is ∙ ap Some c.in-Some-Resume.field-0-is) (λ one. cc) asks
+
+pub returns-in-Some-Resume-clause-told_ends : goal.returns-in-Some-Resume-clause-told_ends
+returns-in-Some-Resume-clause-told_ends g c = λ t asks. other_command _ c.command_of.result Resume (Tell t) c.command_of.ensures (c.in-Some-Resume.is ∙ ap Some c.in-Some-Resume.field-0-is) (λ one. cc) asks
+
+pub returns-in-Some-Resume-clause-told_complete : goal.returns-in-Some-Resume-clause-told_complete
+returns-in-Some-Resume-clause-told_complete g c = λ t asks no_fault. other_command _ c.command_of.result Resume (Tell t) c.command_of.ensures (c.in-Some-Resume.is ∙ ap Some c.in-Some-Resume.field-0-is) (λ one. cc) asks
+
+-- another command
+
+pub returns-in-Some-Run-clause-resume_done : goal.returns-in-Some-Run-clause-resume_done
+returns-in-Some-Run-clause-resume_done g c = λ asks done. other_command _ c.command_of.result (Run c.in-Some-Run.ending) Resume c.command_of.ensures (c.in-Some-Run.is ∙ ap Some c.in-Some-Run.field-0-is) (λ one. cc) asks
+
+pub returns-in-Some-Run-clause-resume_bad_line : goal.returns-in-Some-Run-clause-resume_bad_line
+returns-in-Some-Run-clause-resume_bad_line g c = λ asks k bad. other_command _ c.command_of.result (Run c.in-Some-Run.ending) Resume c.command_of.ensures (c.in-Some-Run.is ∙ ap Some c.in-Some-Run.field-0-is) (λ one. cc) asks
+
+pub returns-in-Some-Run-clause-resume_cut : goal.returns-in-Some-Run-clause-resume_cut
+returns-in-Some-Run-clause-resume_cut g c = λ asks cut. other_command _ c.command_of.result (Run c.in-Some-Run.ending) Resume c.command_of.ensures (c.in-Some-Run.is ∙ ap Some c.in-Some-Run.field-0-is) (λ one. cc) asks
+
+pub returns-in-Some-Audit-clause-resume_done : goal.returns-in-Some-Audit-clause-resume_done
+returns-in-Some-Audit-clause-resume_done g c = λ asks done. other_command _ c.command_of.result Audit Resume c.command_of.ensures (c.in-Some-Audit.is ∙ ap Some c.in-Some-Audit.field-0-is) (λ one. cc) asks
+
+pub returns-in-Some-Audit-clause-resume_bad_line : goal.returns-in-Some-Audit-clause-resume_bad_line
+returns-in-Some-Audit-clause-resume_bad_line g c = λ asks k bad. other_command _ c.command_of.result Audit Resume c.command_of.ensures (c.in-Some-Audit.is ∙ ap Some c.in-Some-Audit.field-0-is) (λ one. cc) asks
+
+pub returns-in-Some-Audit-clause-resume_cut : goal.returns-in-Some-Audit-clause-resume_cut
+returns-in-Some-Audit-clause-resume_cut g c = λ asks cut. other_command _ c.command_of.result Audit Resume c.command_of.ensures (c.in-Some-Audit.is ∙ ap Some c.in-Some-Audit.field-0-is) (λ one. cc) asks
+
+pub returns-in-Some-Tell-clause-resume_done : goal.returns-in-Some-Tell-clause-resume_done
+returns-in-Some-Tell-clause-resume_done g c = λ asks done. other_command _ c.command_of.result (Tell c.in-Some-Tell.told) Resume c.command_of.ensures (c.in-Some-Tell.is ∙ ap Some c.in-Some-Tell.field-0-is) (λ one. cc) asks
+
+pub returns-in-Some-Tell-clause-resume_bad_line : goal.returns-in-Some-Tell-clause-resume_bad_line
+returns-in-Some-Tell-clause-resume_bad_line g c = λ asks k bad. other_command _ c.command_of.result (Tell c.in-Some-Tell.told) Resume c.command_of.ensures (c.in-Some-Tell.is ∙ ap Some c.in-Some-Tell.field-0-is) (λ one. cc) asks
+
+pub returns-in-Some-Tell-clause-resume_cut : goal.returns-in-Some-Tell-clause-resume_cut
+returns-in-Some-Tell-clause-resume_cut g c = λ asks cut. other_command _ c.command_of.result (Tell c.in-Some-Tell.told) Resume c.command_of.ensures (c.in-Some-Tell.is ∙ ap Some c.in-Some-Tell.field-0-is) (λ one. cc) asks
 
 -- ---- the audit
 
