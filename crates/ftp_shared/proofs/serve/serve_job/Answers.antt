@@ -59,7 +59,7 @@ returns-in-Ended-clause-settled g c =
     IfOk-weaker c.finish.result _ _
     (λ s next.
     outcome-told _ s.receipt.entry.answer c.in-Ended.outcome
-    (answer-told g.H.Serving.options s.receipt (end_of c.pieces.job c.now-at.result) (Done c.in-Ended.outcome) next)
+    (answer-told g.H.JournalHub.options s.receipt (end_of c.pieces.job c.now-at.result) (Done c.in-Ended.outcome) next)
     c.in-Ended.ensures.settled)
     c.finish.ensures.next
 
@@ -119,7 +119,7 @@ pub returns-in-Over-clause-settled : goal.returns-in-Over-clause-settled
 returns-in-Over-clause-settled g c =
     let over = c.in-Over.ensures in
     bytes-alone _ c.in-Over.submitted.receipt.entry.answer over.bytes
-    (answer-told g.H.Serving.options c.in-Over.submitted.receipt (piece_of c.pieces.job over.at) (Moved over.bytes) over.next)
+    (answer-told g.H.JournalHub.options c.in-Over.submitted.receipt (piece_of c.pieces.job over.at) (Moved over.bytes) over.next)
 
 -- a front of the run was moved, and the link was closed
 pub returns-in-Over-clause-stops : goal.returns-in-Over-clause-stops
