@@ -90,8 +90,8 @@ abbrev pub HasStateLines : List ℕ → Option Item → List (List ℕ) → ℕ 
 HasStateLines bytes options texts k = ((rest : List ℕ) × IsHead bytes options texts rest k) ⊎ IsOpenHead bytes options texts k
 
 -- options with the settings of the line, or the builder's
-abbrev pub AreSet : Option Item → Options → Type 0
-AreSet options o = settings_of o ≡ options_in (option_to_list options)
+abbrev pub AreOptionsOf : Option Item → Options → Type 0
+AreOptionsOf options o = settings_of o ≡ options_in (option_to_list options)
 
 -- line k is the first bad one, before the script: the first that is none of a state, the line of two hyphens behind a state that is
 -- refused under the options, or the one that is missing
@@ -99,7 +99,7 @@ abbrev pub IsBadHead : ℕ → List ℕ → Type 0
 IsBadHead k bytes =
     ((options : Option Item) × (texts : List (List ℕ)) × (end j : ℕ) × HasStateLines bytes options texts end × IsFirstBadStateLine j texts × (k ≡ length (option_to_list options) + j))
     ⊎ (((options : Option Item) × (texts : List (List ℕ)) × (rest : List ℕ) × (x : HubState) × (o : Options) × (e : StateError)
-    × IsHead bytes options texts rest k × IsSpelledBy texts x × AreSet options o × HasCause o x e)
+    × IsHead bytes options texts rest k × IsSpelledBy texts x × AreOptionsOf options o × HasCause o x e)
     ⊎ ((options : Option Item) × (texts : List (List ℕ)) × (x : HubState) × IsOpenHead bytes options texts k × IsSpelledBy texts x))
 
 -- ---- reading it
@@ -109,13 +109,13 @@ abbrev pub with_feeds : List (List ℕ) → List ℕ
 with_feeds texts = flat_map (λ (line : List ℕ). line ++ 10 ∷ []) texts
 
 -- the number of the line of two hyphens, or of the one that is missing
-abbrev pub place_of : Head → ℕ
-place_of head = length (option_to_list head.options) + head.lines + 1
+abbrev pub bar_place : Head → ℕ
+bar_place head = length (option_to_list head.options) + head.lines + 1
 
 -- what was found: with the line of two hyphens all that is held and left is the rest; without it nothing is left
 abbrev pub FindsHead : Bool → Head → List (List ℕ) → List ℕ → List ℕ → Option (List ℕ) → Type 0
-FindsHead true head texts bytes held left = (rest : List ℕ) × IsHead bytes head.options texts rest (place_of head) × Rest held left rest
-FindsHead false head texts bytes held left = IsOpenHead bytes head.options texts (place_of head) × (left ≡ Some [])
+FindsHead true head texts bytes held left = (rest : List ℕ) × IsHead bytes head.options texts rest (bar_place head) × Rest held left rest
+FindsHead false head texts bytes held left = IsOpenHead bytes head.options texts (bar_place head) × (left ≡ Some [])
 
 -- the lines of the state, as they are kept
 pub record KeepsLines (head : Head) (texts : List (List ℕ)) : Type 0 where
@@ -202,7 +202,7 @@ pub record Resumes (bytes : List ℕ) (bad : Option ℕ) : Type 0 where
   pub state : HubState
   pub spelled : IsSpelledBy texts state
   pub options : Options
-  pub set : AreSet line options
+  pub set : AreOptionsOf line options
   pub passed : (e : StateError) → HasCause options state e → ⊥
   pub items : List Item
   pub log : List Entry

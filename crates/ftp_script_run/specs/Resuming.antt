@@ -18,7 +18,7 @@ use Rattle.ftp_script_run.specs.declared.text_script.ScriptError.{ScriptError}
 use Rattle.ftp_script_run.specs.declared.text_script.ScriptError.TheVariants as error
 use Rattle.ftp_script_run.specs.declared.text_script.ScriptReader.{ScriptReader}
 use Rattle.ftp_script_run.specs.Outcome.{bad_line}
-use Rattle.ftp_script_run.specs.Resumed.{AllGoOn, AreSet, HasBadResumedLine, IsBadHead, IsHead, IsResumed, ResumesPart, links_named}
+use Rattle.ftp_script_run.specs.Resumed.{AllGoOn, AreOptionsOf, HasBadResumedLine, IsBadHead, IsHead, IsResumed, ResumesPart, links_named}
 use Rattle.ftp_script_run.specs.Runs.{Keeps, Running}
 use Rattle.ftp_script_run.specs.Script.{has_link}
 use Rattle.ftp_script_run.specs.Statuses.{IsCutShort}
@@ -31,7 +31,7 @@ pub record IsBegunAt (bytes rest : List ℕ) (before : ℕ) (o : Options) (x : H
   pub texts : List (List ℕ)
   pub head : IsHead bytes line texts rest before
   pub spelled : IsSpelledBy texts x
-  pub set : AreSet line o
+  pub set : AreOptionsOf line o
   pub passed : (e : StateError) → HasCause o x e → ⊥
 
 -- the links that the state names: those that are waited for, and behind them those that have their lines

@@ -6,7 +6,7 @@ ghost use Rattle.ftp_control.specs.Lines.{bytes_in, IsWithin};
 ghost use Rattle.ftp_text.specs.declared.setup.Item.{Item};
 ghost use Rattle.ftp_text.specs.Setup.{IsItem};
 ghost use Rattle.ftp_script_run.specs.declared.text_script.ScriptError.{ScriptError};
-ghost use Rattle.ftp_script_run.specs.Resumed.{FindsHead, IsOptionsLine, KeepsLines, ReadsLine, place_of};
+ghost use Rattle.ftp_script_run.specs.Resumed.{FindsHead, IsOptionsLine, KeepsLines, ReadsLine, bar_place};
 
 use crate::admission::LONGEST_LINE;
 use crate::text_script::ScriptError;
@@ -98,7 +98,7 @@ impl Head {
 
     /// The number of the line of two hyphens, or of the one that is missing behind the last.
     pub fn last(&self) -> u64
-        ensures { result ≡ place_of self.now }
+        ensures { result ≡ bar_place self.now }
     {
         self.first() + self.lines + 1
     }
