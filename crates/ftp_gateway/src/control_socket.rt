@@ -5,14 +5,14 @@ ghost use Rattle.std.specs.Prelude.{◌≡◌};
 use crate::duties::Duties;
 use crate::request::Request;
 use ftp_options::{Indicator, Shutdown};
-use std::alloc::AllocError;
+use std::alloc::{AllocError, Global};
 use std::fs::File;
 use std::io::{Read, Write};
 use std::net::Net;
 use std::os::unix::fs::FileTypeExt;
 use std::os::unix::net::{UnixListener, UnixStream};
 use std::rt::Files;
-use std::sync::Wait;
+use std::sync::{Arc, Mutex, Wait};
 use std::time::Clock;
 use std::{io, mem};
 
@@ -32,13 +32,16 @@ struct Caller {
     since: u64,
 }
 
+/// Those who have asked for a stop. The end of their connections, which is that of the gateway, answers them.
+pub type Waiting = Arc<Mutex<Vec<UnixStream>>, Global>;
+
 /// What came of a caller.
 #[derive(Drop)]
 enum Heard {
     /// Nothing was said yet.
     Waits(Caller),
-    /// A stop was asked for. The end of the connection, which is that of the gateway, answers it.
-    Stop(Caller),
+    /// A stop was asked for.
+    Stop(UnixStream),
     /// It was answered, or is gone.
     Over,
 }
@@ -49,6 +52,7 @@ pub struct ControlSocket<R: Wait + Copy + Drop> {
     listener: Option<UnixListener>,
     duties: Duties<R>,
     callers: Vec<Caller>,
+    waiting: Waiting,
     grace_ms: u64,
     // When the first turn was.
     started: Option<u64>,
@@ -89,6 +93,7 @@ impl<R: Wait + Files<File = File> + Clock + AllocGlobal + Copy + Drop> ControlSo
         path: Option<&str>,
         grace_ms: u64,
         duties: Duties<R>,
+        waiting: Waiting,
     ) -> io::Result<ControlSocket<R>> {
         let listener = match path {
             Some(path) => Some(listener_at(net, path)?),
@@ -99,6 +104,7 @@ impl<R: Wait + Files<File = File> + Clock + AllocGlobal + Copy + Drop> ControlSo
             listener,
             duties,
             callers,
+            waiting,
             grace_ms,
             started: None,
             asked: None,
@@ -162,12 +168,17 @@ impl<R: Wait + Files<File = File> + Clock + AllocGlobal + Copy + Drop> ControlSo
             Err(_) => return Heard::Over,
         };
         if let Some(Request::Stop) = request {
-            return Heard::Stop(caller);
+            return Heard::Stop(caller.stream);
         }
         if let Ok(answer) = self.answer(request, at) {
             let _ = caller.stream.write_all(answer.as_bytes());
         }
         Heard::Over
+    }
+
+    // Has a caller wait for the end.
+    fn keep(&self, stream: UnixStream) {
+        let _ = self.waiting.lock(&self.duties.rt).push(stream);
     }
 
     // Hears all callers, and says whether one of them asks for a stop.
@@ -183,9 +194,9 @@ impl<R: Wait + Files<File = File> + Clock + AllocGlobal + Copy + Drop> ControlSo
                 Heard::Waits(caller) => {
                     let _ = self.callers.push(caller);
                 }
-                Heard::Stop(caller) => {
+                Heard::Stop(stream) => {
                     is_asked = true;
-                    let _ = self.callers.push(caller);
+                    self.keep(stream);
                 }
                 Heard::Over => {}
             }

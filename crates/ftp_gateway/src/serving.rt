@@ -2,7 +2,7 @@
 
 use crate::activity::Activity;
 use crate::budgets::Budgets;
-use crate::control_socket::ControlSocket;
+use crate::control_socket::{ControlSocket, Waiting};
 use crate::current_users::{CurrentUsers, UserSource};
 use crate::duties::Duties;
 use crate::password_check::PasswordCheck;
@@ -20,7 +20,7 @@ use ftp_system::{Depot, ServerRuntime};
 use std::alloc::{AllocError, Global};
 use std::fs::File;
 use std::rt::Files;
-use std::sync::{Arc, Wait};
+use std::sync::{Arc, Mutex, Wait};
 use std::time::Clock;
 
 /// How many entries may wait to be written: some hundred MB of them.
@@ -79,6 +79,8 @@ pub struct Gateway<R: Wait + Copy + Drop> {
     pub logins: Activity,
     pub records: Arc<Records<R>, Global>,
     pub feed: Arc<JournalFeed, Global>,
+    /// They are told by its end, behind which nothing is written any more.
+    pub waiting: Waiting,
 }
 
 // Something for several to hold.
@@ -96,6 +98,7 @@ fn control_of<R: GatewayRuntime>(
     users: CurrentUsers<R>,
     activity: Activity,
     records: Arc<Records<R>, Global>,
+    waiting: Waiting,
 ) -> Result<ControlSocket<R>, Refusal> {
     let alloc = rt.alloc();
     let duties = Duties {
@@ -114,10 +117,22 @@ fn control_of<R: GatewayRuntime>(
         None => None,
     };
     let grace_ms = u64::from(config.shutdown_grace) * 1000;
-    match ControlSocket::bind(rt, path, grace_ms, duties) {
+    match ControlSocket::bind(rt, path, grace_ms, duties, waiting) {
         Ok(socket) => Ok(socket),
         Err(_) => Err(Refusal::ControlSocket),
     }
+}
+
+// Where and how a configuration has a gateway serve.
+fn plan(alloc: Global, config: &GatewayConfig, options: Options) -> Result<Plan, AllocError> {
+    Ok(Plan {
+        options,
+        address: config.listen.copy(alloc)?,
+        limits: Limits {
+            all: u64::from(config.max_clients),
+            of_one: u64::from(config.max_per_ip),
+        },
+    })
 }
 
 /// The gateway that the configuration file at a path describes.
@@ -141,17 +156,17 @@ pub fn prepare<R: GatewayRuntime>(rt: &R, path: &str) -> Result<Gateway<R>, Refu
         users: users.share()?,
     };
     let check = PasswordCheck::new(*rt, users.share()?);
-    let control = control_of(rt, &config, users, activity, Arc::try_clone(&records)?)?;
-    let plan = Plan {
-        options,
-        address: config.listen.copy(alloc)?,
-        limits: Limits {
-            all: u64::from(config.max_clients),
-            of_one: u64::from(config.max_per_ip),
-        },
-    };
+    let waiting = shared(alloc, Mutex::new(Vec::new(alloc)))?;
+    let control = control_of(
+        rt,
+        &config,
+        users,
+        activity,
+        Arc::try_clone(&records)?,
+        Arc::try_clone(&waiting)?,
+    )?;
     Ok(Gateway {
-        plan,
+        plan: plan(alloc, &config, options)?,
         check,
         depot,
         control,
@@ -159,6 +174,7 @@ pub fn prepare<R: GatewayRuntime>(rt: &R, path: &str) -> Result<Gateway<R>, Refu
         logins,
         records,
         feed: shared(alloc, JournalFeed::new(alloc, MOST_WAITING))?,
+        waiting,
     })
 }
 

@@ -33,7 +33,7 @@ pub lines-known :
 lines-known o taken log e h = λ i. lines_by (λ s. h.guests s i) (λ t. h.requests t i) e
 
 -- counts that stand still, and more
-more-still : (m n : ℕ) → saturated (saturated m + n) ≡ saturated (m + n)
+pub more-still : (m n : ℕ) → saturated (saturated m + n) ≡ saturated (m + n)
 more-still m n = omega arith
 
 -- what is known after an entry, from what memory was taken for
