@@ -84,15 +84,20 @@ def is_read_anew_by_a_signal_to_its_entry(command, _):
 
 
 def has_examples_that_it_takes(command, _):
-    """Every key of the example has a value that the program takes, and so has each without its mark of a comment."""
-    text = (TOP / "examples" / "ftp_gateway.toml").read_text()
-    keys = text.replace("/etc/ftp_gateway/users", str(TOP / "examples" / "users"))
-    lines = [line.removeprefix("# ") if line.startswith("# ") and " = " in line else line for line in keys.splitlines()]
-    for made in keys, "\n".join(lines):
-        with tempfile.NamedTemporaryFile("w", suffix=".toml") as file:
-            file.write(made)
-            file.flush()
-            done = subprocess.run([*command, "check", file.name], capture_output=True, timeout=OPENING, check=False)
+    """Every key of the example has a value that the program takes, and so has each without its mark of a comment; and so has each user,
+    whose home is there."""
+    with tempfile.TemporaryDirectory() as folder:
+        users = (TOP / "examples" / "users").read_text().replace("/srv/ftp", folder)
+        for line in users.splitlines():
+            if line and not line.startswith("#"):
+                Path(line.split(":")[3]).mkdir(exist_ok=True)
+        (Path(folder) / "users").write_text(users)
+        text = (TOP / "examples" / "ftp_gateway.toml").read_text()
+        keys = text.replace("/etc/ftp_gateway/users", f"{folder}/users")
+        lines = [line.removeprefix("# ") if line.startswith("# ") and " = " in line else line for line in keys.splitlines()]
+        for made in keys, "\n".join(lines):
+            (Path(folder) / "made.toml").write_text(made)
+            done = subprocess.run([*command, "check", f"{folder}/made.toml"], capture_output=True, timeout=OPENING, check=False)
             holds((done.returncode, done.stdout) == (0, b""), f"check is answered {done.returncode} {done.stdout!r}")
 
 
