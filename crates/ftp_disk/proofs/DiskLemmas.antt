@@ -1,5 +1,5 @@
 -- What the calls of a storage over homes tell, by the state that they are asked of.
-use Rattle.std.proofs.Common.{◌≡◌, ℕ, List, All, Some, IfOk, OnOk, Result, Ok, Err, subst}
+use Rattle.std.proofs.Common.{◌≡◌, ℕ, List, All, Some, IfOk, OnOk, Result, Ok, Err, false, subst}
 use Rattle.std.specs.List.Sorted.{IsSortedByKey}
 use Rattle.std.specs.Ordering.{nat_cmp}
 use Rattle.std.specs.Cmp.Lexicographic.{slice_cmp}
@@ -18,6 +18,19 @@ pub IsReached-same :
     place_in_home s.homes user path ≡ Some place → IsUnlinked (told s.system) place → IsReached (told t.system) t.homes user path
 IsReached-same {S} told s t user path place e leads unlinked =
     subst (λ (x : DiskState S). IsReached (told x.system) x.homes user path) e (record { place = place; leads = leads; unlinked = unlinked })
+
+-- a place is reached in the state that is the same, where a call went well
+pub IsReached-ok :
+    {S V E : Type 0} (told : S → Told) (s t : DiskState S) (user path : List ℕ) (place : Location) (r : Result V E) → s ≡ t →
+    place_in_home s.homes user path ≡ Some place → OnOk r (IsUnlinked (told s.system) place) → OnOk r (IsReached (told t.system) t.homes user path)
+IsReached-ok told s t user path place (Ok v) e leads unlinked = IsReached-same told s t user path place e leads unlinked
+IsReached-ok told s t user path place (Err x) e leads unlinked = tt
+
+-- a place is reached, also once the file that was open is closed
+pub IsReached-closed :
+    {S : Type 0} (told : S → Told) (s t : DiskState S) (user path : List ℕ) → s ≡ record t { is_apart = false } →
+    IsReached (told s.system) s.homes user path → IsReached (told t.system) t.homes user path
+IsReached-closed {S} told s t user path e h = subst (λ (x : DiskState S). IsReached (told x.system) x.homes user path) e h
 
 -- what was found is told by the state that is the same
 pub WasFound-same :

@@ -2,3 +2,4 @@ pub mod StandingLemmas
 pub mod ListingLemmas
 pub mod DiskLemmas
 pub mod HomeLemmas
+pub mod VisibleLemmas

@@ -1,6 +1,6 @@
 -- Storages over homes: what callers see of one, and what its calls tell.
-use Rattle.std.specs.Prelude.{◌≡◌, ℕ, List, All, IsSortedByKey, Option, Some, string_bytes}
-use Rattle.std.specs.Option.{option_map}
+use Rattle.std.specs.Prelude.{◌≡◌, ℕ, List, All, IsSortedByKey, Option, Some, string_bytes, Bool, false, is_some}
+use Rattle.std.specs.Option.{option_map, option_map_or}
 use Rattle.std.specs.Ordering.{nat_cmp}
 use Rattle.std.specs.Cmp.Lexicographic.{slice_cmp}
 use Rattle.ftp_base.specs.declared.storage.Meta.{Meta}
@@ -8,16 +8,24 @@ use Rattle.ftp_base.specs.declared.storage.FileInfo.{FileInfo}
 use Rattle.ftp_places.specs.Names.{names_of}
 use Rattle.ftp_places.specs.Place.{Location, below_by}
 use Rattle.ftp_disk.specs.declared.home.Home.{Home}
+use Rattle.ftp_disk.specs.declared.opened.Opened.{Opened}
 use Rattle.ftp_disk.specs.declared.standing.Standing.{Standing}
 use Rattle.ftp_disk.specs.FileSystem.{Told, IsUnlinked}
 use Rattle.ftp_disk.specs.Home.{home_of}
 use Rattle.ftp_disk.specs.Listing.{WasShown, shown_meta}
 use Rattle.ftp_disk.specs.Standing.{Stood}
 
--- the system that is asked, the homes of users, and how many calls failed
+-- an upload stands beside its path
+abbrev pub is_apart : {F : Type 0} → Option (Opened F) → Bool
+is_apart opened = option_map_or (λ o. is_some o.apart) opened false
+
+-- the system that is asked, the homes of users, whether uploads from the front stand beside their path until they came whole, whether
+-- one does, and how many calls failed
 pub record DiskState (S : Type 0) : Type 0 where
   pub system : S
   pub homes : List (List ℕ × Home)
+  pub is_whole : Bool
+  pub is_apart : Bool
   pub faults : ℕ
 
 -- where a user's path leads: below the user's home

@@ -8,6 +8,7 @@ use std::alloc::Global;
 use std::fs::{File, Metadata, OpenOptions, TryLockError};
 use std::io;
 use std::io::{Read, Write};
+use std::os::unix::fs::MetadataExt;
 use std::rt::Files;
 use std::time::Clock;
 
@@ -49,6 +50,8 @@ impl<R: Files<File = File> + Clock> FileSystem for Below<R> {
 
     ghost told = { λ _ _ _. ⊤ };
 
+    ghost renamed = { λ _ _ _. ⊤ };
+
     fn look(&self, place: &Place) -> io::Result<Metadata> {
         self.rt.symlink_metadata(place.text())
     }
@@ -73,6 +76,21 @@ impl<R: Files<File = File> + Clock> FileSystem for Below<R> {
 
     fn try_lock(&self, file: &File) -> Result<(), TryLockError> {
         file.try_lock()
+    }
+
+    fn is_at(&self, file: &File, place: &Place) -> io::Result<bool> {
+        let own = file.metadata()?;
+        let there = self.rt.symlink_metadata(place.text())?;
+        Ok(own.dev() == there.dev() && own.ino() == there.ino())
+    }
+
+    fn rename(&self, from: &Writable, onto: &Writable) -> io::Result<()> {
+        self.rt
+            .rename(from.as_place().text(), onto.as_place().text())
+    }
+
+    fn remove_file(&self, place: &Writable) -> io::Result<()> {
+        self.rt.remove_file(place.as_place().text())
     }
 
     fn write(&self, file: &mut File, bytes: &[u8], _grant: &Grant) -> io::Result<()> {

@@ -1,11 +1,14 @@
 //! The files of users' homes, as a storage.
 
-ghost use Rattle.std.specs.Prelude.{◌≡◌, ◌+◌, ◌^◌, ◌<◌, ◌≤◌, false, length, Some, IsOk, IfOk, OnOk, IsErrOf};
+ghost use Rattle.std.specs.Prelude.{◌≡◌, ◌+◌, ◌^◌, ◌<◌, ◌≤◌, ◌&&◌, nat_eq, true, false, is_some, length, Some, IfOk, OnOk, IsErrOf};
 ghost use Rattle.ftp_base.specs.declared.error_kind.ErrorKind.TheVariants.{PermissionDenied};
 ghost use Rattle.ftp_base.specs.Outside.{HasRisen};
 ghost use Rattle.ftp_disk.specs.Disk.{place_in_home, IsReached, WasFound, WasListed};
 ghost use Rattle.ftp_disk.specs.Home.{has_home, may_write};
 
+mod storage;
+
+use crate::apart::{begin_beside, finish, leave_off};
 use crate::file_system::FileSystem;
 use crate::home::Homes;
 use crate::listing::{list, meta_of};
@@ -14,7 +17,7 @@ use crate::opening::{open_to_append, open_to_begin, open_to_read};
 use crate::refusals::refusal;
 use crate::standing::resolve;
 use crate::writing::{check_reach, cut, go_to, put};
-use ftp_base::{Bytes, ErrorKind, FEATURE_RESTART, FileInfo, Meta, Storage, StoreError};
+use ftp_base::{Bytes, ErrorKind, FileInfo, Meta, StoreError};
 use ftp_places::Place;
 use std::alloc::Global;
 use std::io::{Read, SeekFrom};
@@ -23,23 +26,42 @@ use std::sync::{Arc, Wait};
 
 /// The files of users' homes, for one transfer: the file that it reads or writes is kept open between its pieces, and an
 /// upload's is locked. It tells no content.
-#[derive(Drop)]
 pub struct DiskStorage<R: Wait + Drop, S: FileSystem + Drop> {
     rt: R,
     system: S,
     alloc: Global,
     homes: Arc<Homes, Global>,
+    // Whether an upload from the front of a file stands beside its path until it came whole.
+    is_whole: bool,
     opened: Option<Opened<S::File>>,
     faults: u64,
 }
 
 impl<R: Wait + Drop, S: FileSystem + Drop> Model for DiskStorage<R, S> {
     ghost use Rattle.std.specs.Arc.{arc_value};
-    ghost use Rattle.ftp_disk.specs.Disk.{DiskState};
+    ghost use Rattle.ftp_disk.specs.Disk.{DiskState, is_apart};
 
     ghost Value = { DiskState S };
 
-    ghost view = { λ s. record { system = s.system; homes = arc_value s.homes; faults = s.faults } };
+    ghost view = { λ s. record { system = s.system; homes = arc_value s.homes; is_whole = s.is_whole; is_apart = is_apart s.opened; faults = s.faults } };
+}
+
+impl<R: Wait + Drop, S: FileSystem + Drop> Drop for DiskStorage<R, S> {
+    // What an upload has written beside its path is removed.
+    fn drop(self) {
+        let DiskStorage {
+            rt,
+            system,
+            alloc,
+            homes: _,
+            is_whole: _,
+            opened,
+            faults: _,
+        } = self;
+        if let Some(opened) = opened {
+            leave_off(&rt, &system, alloc, &opened);
+        }
+    }
 }
 
 impl<R: Wait + Drop, S: FileSystem + Drop> DiskStorage<R, S> {
@@ -50,15 +72,25 @@ impl<R: Wait + Drop, S: FileSystem + Drop> DiskStorage<R, S> {
         ensures system { result.system ≡ system }
         ensures homes { result.homes ≡ arc_value homes }
         ensures faults { result.faults ≡ 0 }
+        ensures in_place { result.is_whole ≡ false }
     {
         DiskStorage {
             rt,
             system,
             alloc,
             homes,
+            is_whole: false,
             opened: None,
             faults: 0,
         }
+    }
+
+    /// The same, where an upload from the front of a file stands beside its path until it came whole, if it is to.
+    pub fn whole_uploads(mut self, is_whole: bool) -> DiskStorage<R, S>
+        ensures { result ≡ record self { is_whole = is_whole } }
+    {
+        self.is_whole = is_whole;
+        self
     }
 
     // Where a user's path leads.
@@ -81,6 +113,29 @@ impl<R: Wait + Drop, S: FileSystem + Drop> DiskStorage<R, S> {
             self.faults = self.faults.saturating_add(1);
         }
         answer
+    }
+
+    // Closes the file that is open. What an upload has written beside its path is removed.
+    fn close(&mut self)
+        ensures closed { self.new ≡ record self.old { is_apart = false } }
+    {
+        if let Some(opened) = self.opened.take() {
+            leave_off(&self.rt, &self.system, self.alloc, &opened);
+        }
+    }
+
+    // The file that is open, where this user opened it by this path for this.
+    fn take_open(&mut self, user: &Bytes, path: &Bytes, access: Access) -> Option<Opened<S::File>>
+        ensures taken { self.new ≡ record self.old { is_apart = false } }
+    {
+        match self.opened.take() {
+            Some(opened) if opened.by.is(user, path, access) => Some(opened),
+            other => {
+                self.opened = other;
+                self.close();
+                None
+            }
+        }
     }
 
     // What stands at a path.
@@ -112,13 +167,13 @@ impl<R: Wait + Drop, S: FileSystem + Drop> DiskStorage<R, S> {
         at: u64,
     ) -> Result<Option<Opened<S::File>>, StoreError>
         ensures homeless { has_home self.old.homes user.now ≡ false → IsErrOf result (StoreError.Kind PermissionDenied) }
-        ensures unchanged { self.new ≡ self.old }
+        ensures others { self.new ≡ record self.old { is_apart = self.new.is_apart } }
     {
+        let taken = self.take_open(user, path, Access::Read);
         let home = self.homes.find(user)?;
-        if let Some(opened) = self.opened.take() {
-            if opened.by.is(user, path, Access::Read) && opened.at == at {
-                return Ok(Some(opened));
-            }
+        match taken {
+            Some(opened) if opened.at == at => return Ok(Some(opened)),
+            _ => {}
         }
         let place = home.place(self.alloc, path.as_slice())?;
         let by = Use::new(self.alloc, user, path, Access::Read)?;
@@ -127,7 +182,12 @@ impl<R: Wait + Drop, S: FileSystem + Drop> DiskStorage<R, S> {
             return Ok(None);
         }
         go_to(&mut file, SeekFrom::Start(at))?;
-        Ok(Some(Opened { by, file, at }))
+        Ok(Some(Opened {
+            by,
+            file,
+            at,
+            apart: None,
+        }))
     }
 
     // Reads from a place in a file, and keeps it open behind what was read.
@@ -141,7 +201,7 @@ impl<R: Wait + Drop, S: FileSystem + Drop> DiskStorage<R, S> {
         ensures within { IfOk result (λ n. n ≤ length out.new) }
         ensures in_range { IfOk result (λ n. at + n < 2 ^ 64) }
         ensures homeless { has_home self.old.homes user.now ≡ false → IsErrOf result (StoreError.Kind PermissionDenied) }
-        ensures unchanged { self.new ≡ self.old }
+        ensures others { self.new ≡ record self.old { is_apart = self.new.is_apart } }
     {
         let Some(mut opened) = self.reader(user, path, at)? else {
             return Ok(0);
@@ -158,13 +218,12 @@ impl<R: Wait + Drop, S: FileSystem + Drop> DiskStorage<R, S> {
         Ok(n)
     }
 
-    // Cuts a file at a place, and keeps it open there.
-    fn start(&mut self, user: &Bytes, path: &Bytes, start: u64) -> Result<(), StoreError>
-        ensures reached { OnOk result (IsReached (S.told self.old.system) self.old.homes user.now path.now) }
-        ensures read_only { may_write self.old.homes user.now ≡ false → IsErrOf result (StoreError.Kind PermissionDenied) }
-        ensures unchanged { self.new ≡ self.old }
+    // Cuts a file at a place, and opens it there.
+    fn open_at(&self, user: &Bytes, path: &Bytes, start: u64) -> Result<Opened<S::File>, StoreError>
+        ensures reached { OnOk result (IsReached (S.told self.now.system) self.now.homes user.now path.now) }
+        ensures read_only { may_write self.now.homes user.now ≡ false → IsErrOf result (StoreError.Kind PermissionDenied) }
+        ensures in_place { IfOk result (λ opened. is_some opened.apart ≡ false) }
     {
-        self.opened = None;
         let home = self.homes.find(user)?;
         let place = home.writable(self.alloc, path.as_slice())?;
         check_reach(start)?;
@@ -178,39 +237,83 @@ impl<R: Wait + Drop, S: FileSystem + Drop> DiskStorage<R, S> {
             start,
         )?;
         cut(&self.rt, &self.system, &home.budget, &mut file, start)?;
-        self.opened = Some(Opened {
+        Ok(Opened {
             by,
             file,
             at: start,
-        });
+            apart: None,
+        })
+    }
+
+    // Opens a file beside a path.
+    fn open_beside(&self, user: &Bytes, path: &Bytes) -> Result<Opened<S::File>, StoreError>
+        ensures reached { OnOk result (IsReached (S.told self.now.system) self.now.homes user.now path.now) }
+        ensures read_only { may_write self.now.homes user.now ≡ false → IsErrOf result (StoreError.Kind PermissionDenied) }
+        ensures beside { IfOk result (λ opened. is_some opened.apart ≡ true) }
+    {
+        let home = self.homes.find(user)?;
+        let onto = home.writable(self.alloc, path.as_slice())?;
+        let from = home.beside(self.alloc, path.as_slice())?;
+        let by = Use::new(self.alloc, user, path, Access::Write)?;
+        let budget = home.budget.share()?;
+        begin_beside(&self.rt, &self.system, self.alloc, by, from, onto, budget)
+    }
+
+    // Opens a file for an upload: beside its path if it is to come whole.
+    fn open_upload(
+        &self,
+        user: &Bytes,
+        path: &Bytes,
+        start: u64,
+    ) -> Result<Opened<S::File>, StoreError>
+        ensures reached { OnOk result (IsReached (S.told self.now.system) self.now.homes user.now path.now) }
+        ensures read_only { may_write self.now.homes user.now ≡ false → IsErrOf result (StoreError.Kind PermissionDenied) }
+        ensures beside { IfOk result (λ opened. is_some opened.apart ≡ (self.now.is_whole && nat_eq start 0)) }
+    {
+        if self.is_whole && start == 0 {
+            self.open_beside(user, path)
+        } else {
+            self.open_at(user, path, start)
+        }
+    }
+
+    // Begins an upload, and keeps its file open.
+    fn start(&mut self, user: &Bytes, path: &Bytes, start: u64) -> Result<(), StoreError>
+        ensures reached { OnOk result (IsReached (S.told self.old.system) self.old.homes user.now path.now) }
+        ensures read_only { may_write self.old.homes user.now ≡ false → IsErrOf result (StoreError.Kind PermissionDenied) }
+        ensures beside { OnOk result (self.new.is_apart ≡ (self.old.is_whole && nat_eq start 0)) }
+        ensures others { self.new ≡ record self.old { is_apart = self.new.is_apart } }
+    {
+        self.close();
+        let opened = self.open_upload(user, path, start)?;
+        self.opened = Some(opened);
         Ok(())
     }
 
-    // The file that is open to be written, or which is opened at its end.
-    fn writer(&mut self, user: &Bytes, path: &Bytes) -> Result<Opened<S::File>, StoreError>
-        ensures read_only { may_write self.old.homes user.now ≡ false → IsErrOf result (StoreError.Kind PermissionDenied) }
-        ensures unchanged { self.new ≡ self.old }
+    // Opens a file at its end.
+    fn open_end(&self, user: &Bytes, path: &Bytes) -> Result<Opened<S::File>, StoreError>
+        ensures read_only { may_write self.now.homes user.now ≡ false → IsErrOf result (StoreError.Kind PermissionDenied) }
     {
         let home = self.homes.find(user)?;
-        home.check_may_write()?;
-        if let Some(opened) = self.opened.take() {
-            if opened.by.is(user, path, Access::Write) {
-                return Ok(opened);
-            }
-        }
         let place = home.writable(self.alloc, path.as_slice())?;
         let by = Use::new(self.alloc, user, path, Access::Write)?;
         let mut file = open_to_append(&self.system, self.alloc, &place)?;
         let at = go_to(&mut file, SeekFrom::End(0))?;
-        Ok(Opened { by, file, at })
+        Ok(Opened {
+            by,
+            file,
+            at,
+            apart: None,
+        })
     }
 
-    // Puts bytes at the end of a file, and keeps it open there.
-    fn write(&mut self, user: &Bytes, path: &Bytes, bytes: &[u8]) -> Result<(), StoreError>
-        ensures read_only { may_write self.old.homes user.now ≡ false → IsErrOf result (StoreError.Kind PermissionDenied) }
-        ensures unchanged { self.new ≡ self.old }
-    {
-        let mut opened = self.writer(user, path)?;
+    // Puts bytes at the end of a file that is open.
+    fn put_at_end(
+        &self,
+        user: &Bytes,
+        opened: &mut Opened<S::File>,
+        bytes: &[u8],
+    ) -> Result<(), StoreError> {
         let home = self.homes.find(user)?;
         put(
             &self.rt,
@@ -221,102 +324,38 @@ impl<R: Wait + Drop, S: FileSystem + Drop> DiskStorage<R, S> {
             bytes,
         )?;
         opened.at = opened.at.saturating_add(bytes.len() as u64);
+        Ok(())
+    }
+
+    // Puts bytes at the end of a file, and keeps it open there.
+    fn write(&mut self, user: &Bytes, path: &Bytes, bytes: &[u8]) -> Result<(), StoreError>
+        ensures read_only { may_write self.old.homes user.now ≡ false → IsErrOf result (StoreError.Kind PermissionDenied) }
+        ensures others { self.new ≡ record self.old { is_apart = self.new.is_apart } }
+    {
+        self.homes.find(user)?.check_may_write()?;
+        let mut opened = match self.take_open(user, path, Access::Write) {
+            Some(opened) => opened,
+            None => self.open_end(user, path)?,
+        };
+        let put = self.put_at_end(user, &mut opened, bytes);
         self.opened = Some(opened);
-        Ok(())
-    }
-}
-
-impl<R: Wait + Drop, S: FileSystem + Drop> Storage for DiskStorage<R, S> {
-    ghost use Rattle.std.specs.Prelude.{None, true};
-
-    ghost abilities = { λ _. 1 };
-
-    ghost files = { λ _. None };
-
-    ghost rule = { λ _ _ _ _. None };
-
-    ghost faults = { λ s. s.faults };
-
-    ghost reads_take_memory = { true };
-
-    fn features(&self) -> u32 {
-        FEATURE_RESTART
+        if put.is_err() {
+            self.close();
+        }
+        put
     }
 
-    // # Proved
-    //
-    // - What is told of a path, listed in a directory and begun for an upload lies below the user's home, and no link was
-    //   there when it was looked at; a listing is in byte order of names (`found`; also `DiskStorage::list`: `listed`;
-    //   `DiskStorage::begin`: `reached`).
-    // - A user without a home is refused by each call, and one who may not write by each that changes anything
-    //   (`homeless`; also `DiskStorage::list`: `homeless`; `DiskStorage::read_at`: `homeless`; `DiskStorage::begin`:
-    //   `read_only`; `DiskStorage::append`: `read_only`).
-    fn metadata(&mut self, user: &Bytes, path: &Bytes) -> Result<Meta, StoreError>
-        ensures found { IfOk result (WasFound (S.told self.old.system) self.old.homes user.now path.now) }
-        ensures homeless { has_home self.old.homes user.now ≡ false → IsErrOf result (StoreError.Kind PermissionDenied) }
-        ensures fault_rose { IsErrOf result StoreError.Failed → HasRisen self.old.faults self.new.faults }
-        ensures count { self.old.faults ≤ self.new.faults }
-        ensures others { self.new ≡ record self.old { faults = self.new.faults } }
+    // Has an upload that came whole stand at its path.
+    fn end(&mut self, user: &Bytes, path: &Bytes) -> Result<(), StoreError>
+        ensures settled { self.new ≡ record self.old { is_apart = false } }
     {
-        let found = self.look(user, path);
-        self.counted(found)
-    }
-
-    fn list(&mut self, user: &Bytes, path: &Bytes) -> Result<Vec<FileInfo>, StoreError>
-        ensures listed { IfOk result (λ found. WasListed (S.told self.old.system) self.old.homes user.now path.now found.items) }
-        ensures homeless { has_home self.old.homes user.now ≡ false → IsErrOf result (StoreError.Kind PermissionDenied) }
-        ensures fault_rose { IsErrOf result StoreError.Failed → HasRisen self.old.faults self.new.faults }
-        ensures count { self.old.faults ≤ self.new.faults }
-        ensures others { self.new ≡ record self.old { faults = self.new.faults } }
-    {
-        let found = self.children(user, path);
-        self.counted(found)
-    }
-
-    fn read_at(
-        &mut self,
-        user: &Bytes,
-        path: &Bytes,
-        at: u64,
-        out: &mut [u8],
-    ) -> Result<usize, StoreError>
-        ensures within { IfOk result (λ n. n ≤ length out.new) }
-        ensures in_range { IfOk result (λ n. at + n < 2 ^ 64) }
-        ensures homeless { has_home self.old.homes user.now ≡ false → IsErrOf result (StoreError.Kind PermissionDenied) }
-        ensures fault_rose { IsErrOf result StoreError.Failed → HasRisen self.old.faults self.new.faults }
-        ensures count { self.old.faults ≤ self.new.faults }
-        ensures others { self.new ≡ record self.old { faults = self.new.faults } }
-    {
-        let read = self.read(user, path, at, out);
-        self.counted(read)
-    }
-
-    fn begin(&mut self, user: &Bytes, path: &Bytes, start: u64) -> Result<(), StoreError>
-        ensures reached { OnOk result (IsReached (S.told self.old.system) self.old.homes user.now path.now) }
-        ensures read_only { may_write self.old.homes user.now ≡ false → IsErrOf result (StoreError.Kind PermissionDenied) }
-        ensures fault_rose { IsErrOf result StoreError.Failed → HasRisen self.old.faults self.new.faults }
-        ensures count { self.old.faults ≤ self.new.faults }
-        ensures others { self.new ≡ record self.old { faults = self.new.faults } }
-    {
-        let begun = self.start(user, path, start);
-        self.counted(begun)
-    }
-
-    fn append(&mut self, user: &Bytes, path: &Bytes, bytes: &[u8]) -> Result<(), StoreError>
-        ensures read_only { may_write self.old.homes user.now ≡ false → IsErrOf result (StoreError.Kind PermissionDenied) }
-        ensures fault_rose { IsErrOf result StoreError.Failed → HasRisen self.old.faults self.new.faults }
-        ensures count { self.old.faults ≤ self.new.faults }
-        ensures others { self.new ≡ record self.old { faults = self.new.faults } }
-    {
-        let grown = self.write(user, path, bytes);
-        self.counted(grown)
-    }
-
-    // An upload goes into its file as it comes, so nothing is left to be done.
-    fn settle(&mut self, _user: &Bytes, _path: &Bytes) -> Result<(), StoreError>
-        ensures done { IsOk result }
-        ensures unchanged { self.new ≡ self.old }
-    {
-        Ok(())
+        let Some(opened) = self.take_open(user, path, Access::Write) else {
+            return Ok(());
+        };
+        let finished = finish(&self.rt, &self.system, self.alloc, &opened);
+        if finished.is_err() {
+            leave_off(&self.rt, &self.system, self.alloc, &opened);
+        }
+        finished
     }
 }

@@ -1,6 +1,7 @@
 //! What is asked of a system about the files below roots.
 
-ghost use Rattle.std.specs.Prelude.{◌+◌, ◌≤◌, length};
+ghost use Rattle.std.specs.Prelude.{◌+◌, ◌≤◌, length, OnOk};
+ghost use Rattle.ftp_places.specs.Place.{Location};
 ghost use Rattle.ftp_disk.specs.FileSystem.{Told, IsUnlinked, WasFile, WasFileOrNothing};
 
 use crate::budget::Grant;
@@ -22,6 +23,9 @@ pub trait FileSystem {
     // The system was asked what stands at a place, and this was its answer.
     ghost told: { Self → Told };
 
+    // The system was asked to rename what stood at a place to another one, and did.
+    ghost renamed: { Self → Location → Location → Type 0 };
+
     /// What stands at a place. Of a link it tells of the link.
     fn look(&self, place: &Place) -> io::Result<Metadata>
         ensures { told self.now place.now result };
@@ -41,6 +45,19 @@ pub trait FileSystem {
 
     /// Takes the lock of a file for as long as it is open, unless it is taken.
     fn try_lock(&self, file: &Self::File) -> Result<(), TryLockError>;
+
+    /// Whether the file that is open is the one that stands at a place.
+    fn is_at(&self, file: &Self::File, place: &Place) -> io::Result<bool>;
+
+    /// Renames what stands at a place. A file takes the place of a file.
+    fn rename(&self, from: &Writable, onto: &Writable) -> io::Result<()>
+        requires unlinked { IsUnlinked (told self.now) from.now }
+        requires onto { IsUnlinked (told self.now) onto.now }
+        ensures renamed { OnOk result (renamed self.now from.now onto.now) };
+
+    /// Removes a file.
+    fn remove_file(&self, place: &Writable) -> io::Result<()>
+        requires unlinked { IsUnlinked (told self.now) place.now };
 
     /// Writes bytes to a file where it stands.
     fn write(&self, file: &mut Self::File, bytes: &[u8], grant: &Grant) -> io::Result<()>

@@ -7,12 +7,12 @@ ghost use Rattle.ftp_places.specs.Names.{names_of, is_taken_name};
 ghost use Rattle.std.specs.Option.{option_copied};
 ghost use Rattle.ftp_places.specs.Place.{below_by};
 ghost use Rattle.ftp_disk.specs.Home.{homes_by_user, home_of};
-ghost use Rattle.ftp_disk.specs.Visible.{is_visible_name};
+ghost use Rattle.ftp_disk.specs.Visible.{IsBeside, is_visible_name};
 
 use crate::budget::Budget;
-use crate::visible::are_visible;
+use crate::visible::{are_visible, upload_name};
 use ftp_base::{Bytes, ErrorKind, StoreError};
-use ftp_places::{Place, PlaceError};
+use ftp_places::{Place, PlaceError, names_of};
 use std::alloc::{AllocError, Global};
 use std::collections::BTreeMap;
 use std::marker::Model;
@@ -46,6 +46,13 @@ impl Writable {
         ensures { result.now ≡ self.now }
     {
         &self.place
+    }
+
+    /// The place of a name in this directory.
+    pub(crate) fn child(&self, alloc: Global, name: &[u8]) -> Result<Writable, PlaceError> {
+        Ok(Writable {
+            place: self.place.child(alloc, name)?,
+        })
     }
 }
 
@@ -100,6 +107,29 @@ impl Home {
         self.check_may_write()?;
         let place = self.place(alloc, path)?;
         Ok(Writable { place })
+    }
+
+    /// Where an upload to a client's path stands until it came whole.
+    ///
+    /// # Proved
+    ///
+    /// - It stands in the directory of its path, under a name that no client may use (`beside`; also `uploads_are_hidden`:
+    ///   `hidden`).
+    pub fn beside(&self, alloc: Global, path: &[u8]) -> Result<Writable, StoreError>
+        ensures beside { IfOk result (IsBeside (below_by (string_bytes self.now.root) (names_of path.now))) }
+    {
+        let onto = self.writable(alloc, path)?;
+        let names = names_of(alloc, path)?;
+        let [dir @ .., name] = names.as_slice() else {
+            return Err(StoreError::Kind(ErrorKind::FileNameNotAllowedError));
+        };
+        let dir = onto.place.front(alloc, dir.len())?;
+        let name = upload_name(alloc, name)?;
+        match dir.child(alloc, name.as_slice()) {
+            Ok(place) => Ok(Writable { place }),
+            Err(PlaceError::Name) => Err(StoreError::Kind(ErrorKind::FileNameNotAllowedError)),
+            Err(PlaceError::OutOfMemory) => Err(StoreError::OutOfMemory),
+        }
     }
 }
 

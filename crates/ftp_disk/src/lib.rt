@@ -4,12 +4,14 @@
 //! budget. Begin with `FileSystem`.
 #![tactic(auto)]
 
+mod apart;
 mod below;
 mod budget;
 mod counting;
 mod disk;
 mod file_system;
 mod home;
+mod leftovers;
 mod listing;
 mod looks;
 mod opened;
@@ -26,6 +28,8 @@ pub use counting::usage;
 pub use disk::DiskStorage;
 pub use file_system::FileSystem;
 pub use home::{Home, Homes, Writable};
+pub use leftovers::remove_leftovers;
 pub use purse::Purse;
 pub use refusals::refusal;
 pub use standing::{Standing, resolve};
+pub use visible::uploads_are_hidden;

@@ -2,6 +2,8 @@
 
 ghost use Rattle.std.specs.Prelude.{◌≡◌, IsTrue};
 
+use crate::budget::Budget;
+use crate::home::Writable;
 use ftp_base::Bytes;
 use std::alloc::{AllocError, Global};
 
@@ -43,10 +45,22 @@ impl Use {
     }
 }
 
+/// Where an upload stands until it came whole, where it is to stand then, and the home's budget.
+#[derive(Drop)]
+pub(crate) struct Apart<F> {
+    pub(crate) from: Writable,
+    pub(crate) onto: Writable,
+    pub(crate) budget: Budget,
+    /// The file of which it takes the place, with its lock.
+    pub(crate) replaced: Option<F>,
+}
+
 /// A file that is open, and the place of the byte that is read or written next.
 #[derive(Drop)]
 pub(crate) struct Opened<F> {
     pub(crate) by: Use,
     pub(crate) file: F,
     pub(crate) at: u64,
+    /// None where the file stands at the path by which it was opened.
+    pub(crate) apart: Option<Apart<F>>,
 }

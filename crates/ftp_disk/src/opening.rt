@@ -33,8 +33,8 @@ pub(crate) fn open_to_read<S: FileSystem>(
     }
 }
 
-// What stands at a place that may be changed.
-fn resolve_writable<S: FileSystem>(
+/// What stands at a place that may be changed.
+pub(crate) fn resolve_writable<S: FileSystem>(
     system: &S,
     alloc: Global,
     place: &Writable,
@@ -87,8 +87,8 @@ pub(crate) fn open_to_append<S: FileSystem>(
     }
 }
 
-// The file with its lock, unless another upload has that.
-fn create<S: FileSystem>(system: &S, place: &Writable) -> Result<S::File, StoreError>
+/// The file at a place with its lock, unless another upload has that.
+pub(crate) fn create<S: FileSystem>(system: &S, place: &Writable) -> Result<S::File, StoreError>
     requires unlinked { IsUnlinked (S.told system.now) place.now }
     requires file { WasFileOrNothing (S.told system.now) place.now }
 {

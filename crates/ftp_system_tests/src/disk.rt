@@ -1,7 +1,7 @@
 //! The storage over a real directory, beside the one in memory.
 
 use ftp_base::{Bytes, Looks, MemoryStorage, Storage};
-use ftp_disk::{Below, Budget, DiskStorage, Home, Homes, usage};
+use ftp_disk::{Below, Budget, DiskStorage, Home, Homes, remove_leftovers, usage};
 use std::alloc::{AllocError, Global};
 use std::fs::{File, Permissions};
 use std::os::unix::fs::{PermissionsExt, symlink};
@@ -305,6 +305,80 @@ fn a_name_of_two_lines_is_in_no_listing(rt: HostRuntime) -> Result<(), Fail> {
         let given = answer(&mut storage, alloc, "ann", call_of(kind, path))?;
         assert_eq!(rt; given.as_str(), due, "{kind} {path}");
     }
+    fs::remove_dir_all(&rt, base.as_str())?;
+    Ok(())
+}
+
+/// What a storage answers to an upload of three bytes to `/a`.
+fn upload<S: Storage>(storage: &mut S, alloc: Global, byte: u8) -> Result<String, AllocError> {
+    let begun = answer(storage, alloc, "ann", call_of(3, "/a"))?;
+    let call = Call {
+        kind: 4,
+        path: "/a",
+        number: byte,
+    };
+    let grown = answer(storage, alloc, "ann", call)?;
+    format!(in alloc; "{begun} {grown}")
+}
+
+#[test]
+fn a_whole_upload_takes_its_place_at_its_end(rt: HostRuntime) -> Result<(), Fail> {
+    let alloc = rt.alloc();
+    let base = make_base(&rt, "whole")?;
+    let root = below(alloc, base.as_str(), "/home")?;
+    let file = below(alloc, root.as_str(), "/a")?;
+    fs::write(&rt, file.as_str(), b"old")?;
+    // It has room for two uploads of three, of which one takes the place of the other.
+    let budget = Budget::new(alloc, 8, usage(&Below::new(rt), alloc, root.as_str())?)?;
+    let homes = homes_within(alloc, base.as_str(), &budget)?;
+    let theirs = Arc::try_clone(&homes)?;
+    let mut first = DiskStorage::new(rt, alloc, Below::new(rt), homes).whole_uploads(true);
+    let mut second = DiskStorage::new(rt, alloc, Below::new(rt), theirs).whole_uploads(true);
+    let begun = upload(&mut first, alloc, b'x')?;
+    let busy = upload(&mut second, alloc, b'y')?;
+    let stands = fs::read_to_string(&rt, file.as_str())?;
+    drop(first);
+    let left = usage(&Below::new(rt), alloc, root.as_str())?;
+    let again = upload(&mut second, alloc, b'y')?;
+    let user = Bytes::from_slice(alloc, b"ann")?;
+    let path = Bytes::from_slice(alloc, b"/a")?;
+    let settled = second.settle(&user, &path);
+    let grown = second.append(&user, &path, b"zzz");
+    let after = fs::read_to_string(&rt, file.as_str())?;
+    let given = format!(in alloc;
+        "{begun}, {busy}, {stands} {left}, {again}, {settled:?} {grown:?} {after}"
+    )?;
+    assert_eq!(rt;
+        given.as_str(),
+        "Ok(()) Ok(()), Err(Kind(TransientFileNotAvailable)) Err(Kind(TransientFileNotAvailable)), old 3, Ok(()) Ok(()), Ok(()) Ok(()) yyyzzz"
+    );
+    fs::remove_dir_all(&rt, base.as_str())?;
+    Ok(())
+}
+
+#[test]
+fn what_a_killed_upload_left_is_hidden_and_removed(rt: HostRuntime) -> Result<(), Fail> {
+    let alloc = rt.alloc();
+    let base = make_base(&rt, "left")?;
+    let root = below(alloc, base.as_str(), "/home")?;
+    let file = below(alloc, root.as_str(), "/d/e/.ftp-upload-a")?;
+    fs::write(&rt, file.as_str(), b"part")?;
+    let budget = Budget::none();
+    let homes = homes_within(alloc, base.as_str(), &budget)?;
+    let theirs = Arc::try_clone(&homes)?;
+    let mut storage = DiskStorage::new(rt, alloc, Below::new(rt), theirs);
+    let shown = answer(&mut storage, alloc, "ann", call_of(1, "/d/e"))?;
+    let asked = answer(&mut storage, alloc, "ann", call_of(0, "/d/e/.ftp-upload-a"))?;
+    let held = usage(&Below::new(rt), alloc, root.as_str())?;
+    if let Ok(home) = homes.find(&Bytes::from_slice(alloc, b"ann")?) {
+        remove_leftovers(&Below::new(rt), alloc, home)?;
+    }
+    let left = usage(&Below::new(rt), alloc, root.as_str())?;
+    let given = format!(in alloc; "{shown} {asked} {held} {left}")?;
+    assert_eq!(rt;
+        given.as_str(),
+        "Ok([]) Err(Kind(FileNameNotAllowedError)) 4 0"
+    );
     fs::remove_dir_all(&rt, base.as_str())?;
     Ok(())
 }

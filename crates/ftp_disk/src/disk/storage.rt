@@ -1,0 +1,112 @@
+//! The storage of transfers.
+
+ghost use Rattle.std.specs.Prelude.{◌≡◌, ◌+◌, ◌^◌, ◌<◌, ◌≤◌, ◌&&◌, nat_eq, not, true, false, length, None, IfOk, OnOk, IsErrOf};
+ghost use Rattle.ftp_base.specs.declared.error_kind.ErrorKind.TheVariants.{PermissionDenied};
+ghost use Rattle.ftp_base.specs.Outside.{HasRisen};
+ghost use Rattle.ftp_disk.specs.Disk.{IsReached, WasFound, WasListed};
+ghost use Rattle.ftp_disk.specs.Home.{has_home, may_write};
+
+use crate::disk::DiskStorage;
+use crate::file_system::FileSystem;
+use ftp_base::{Bytes, FEATURE_RESTART, FileInfo, Meta, Storage, StoreError};
+use std::sync::Wait;
+
+impl<R: Wait + Drop, S: FileSystem + Drop> Storage for DiskStorage<R, S> {
+    ghost abilities = { λ _. 1 };
+
+    ghost files = { λ _. None };
+
+    ghost rule = { λ _ _ _ _. None };
+
+    ghost faults = { λ s. s.faults };
+
+    ghost reads_take_memory = { true };
+
+    ghost is_settled = { λ s. not s.is_apart };
+
+    fn features(&self) -> u32 {
+        FEATURE_RESTART
+    }
+
+    // # Proved
+    //
+    // - What is told of a path, listed in a directory and begun for an upload lies below the user's home, and no link was
+    //   there when it was looked at; a listing is in byte order of names (`found`; also `DiskStorage::list`: `listed`;
+    //   `DiskStorage::begin`: `reached`).
+    // - A user without a home is refused by each call, and one who may not write by each that changes anything
+    //   (`homeless`; also `DiskStorage::list`: `homeless`; `DiskStorage::read_at`: `homeless`; `DiskStorage::begin`:
+    //   `read_only`; `DiskStorage::append`: `read_only`).
+    // - Where uploads are to come whole, one from the front of a file stands beside its path until it is settled (also
+    //   `DiskStorage::begin`: `beside`; `DiskStorage::settle`: `settled`).
+    fn metadata(&mut self, user: &Bytes, path: &Bytes) -> Result<Meta, StoreError>
+        ensures found { IfOk result (WasFound (S.told self.old.system) self.old.homes user.now path.now) }
+        ensures homeless { has_home self.old.homes user.now ≡ false → IsErrOf result (StoreError.Kind PermissionDenied) }
+        ensures fault_rose { IsErrOf result StoreError.Failed → HasRisen self.old.faults self.new.faults }
+        ensures count { self.old.faults ≤ self.new.faults }
+        ensures others { self.new ≡ record self.old { faults = self.new.faults } }
+    {
+        let found = self.look(user, path);
+        self.counted(found)
+    }
+
+    fn list(&mut self, user: &Bytes, path: &Bytes) -> Result<Vec<FileInfo>, StoreError>
+        ensures listed { IfOk result (λ found. WasListed (S.told self.old.system) self.old.homes user.now path.now found.items) }
+        ensures homeless { has_home self.old.homes user.now ≡ false → IsErrOf result (StoreError.Kind PermissionDenied) }
+        ensures fault_rose { IsErrOf result StoreError.Failed → HasRisen self.old.faults self.new.faults }
+        ensures count { self.old.faults ≤ self.new.faults }
+        ensures others { self.new ≡ record self.old { faults = self.new.faults } }
+    {
+        let found = self.children(user, path);
+        self.counted(found)
+    }
+
+    fn read_at(
+        &mut self,
+        user: &Bytes,
+        path: &Bytes,
+        at: u64,
+        out: &mut [u8],
+    ) -> Result<usize, StoreError>
+        ensures within { IfOk result (λ n. n ≤ length out.new) }
+        ensures in_range { IfOk result (λ n. at + n < 2 ^ 64) }
+        ensures homeless { has_home self.old.homes user.now ≡ false → IsErrOf result (StoreError.Kind PermissionDenied) }
+        ensures fault_rose { IsErrOf result StoreError.Failed → HasRisen self.old.faults self.new.faults }
+        ensures count { self.old.faults ≤ self.new.faults }
+        ensures others { self.new ≡ record self.old { is_apart = self.new.is_apart; faults = self.new.faults } }
+    {
+        let read = self.read(user, path, at, out);
+        self.counted(read)
+    }
+
+    fn begin(&mut self, user: &Bytes, path: &Bytes, start: u64) -> Result<(), StoreError>
+        ensures reached { OnOk result (IsReached (S.told self.old.system) self.old.homes user.now path.now) }
+        ensures read_only { may_write self.old.homes user.now ≡ false → IsErrOf result (StoreError.Kind PermissionDenied) }
+        ensures beside { OnOk result (self.new.is_apart ≡ (self.old.is_whole && nat_eq start 0)) }
+        ensures fault_rose { IsErrOf result StoreError.Failed → HasRisen self.old.faults self.new.faults }
+        ensures count { self.old.faults ≤ self.new.faults }
+        ensures others { self.new ≡ record self.old { is_apart = self.new.is_apart; faults = self.new.faults } }
+    {
+        let begun = self.start(user, path, start);
+        self.counted(begun)
+    }
+
+    fn append(&mut self, user: &Bytes, path: &Bytes, bytes: &[u8]) -> Result<(), StoreError>
+        ensures read_only { may_write self.old.homes user.now ≡ false → IsErrOf result (StoreError.Kind PermissionDenied) }
+        ensures fault_rose { IsErrOf result StoreError.Failed → HasRisen self.old.faults self.new.faults }
+        ensures count { self.old.faults ≤ self.new.faults }
+        ensures others { self.new ≡ record self.old { is_apart = self.new.is_apart; faults = self.new.faults } }
+    {
+        let grown = self.write(user, path, bytes);
+        self.counted(grown)
+    }
+
+    fn settle(&mut self, user: &Bytes, path: &Bytes) -> Result<(), StoreError>
+        ensures settled { OnOk result (self.new.is_apart ≡ false) }
+        ensures fault_rose { IsErrOf result StoreError.Failed → HasRisen self.old.faults self.new.faults }
+        ensures count { self.old.faults ≤ self.new.faults }
+        ensures others { self.new ≡ record self.old { is_apart = self.new.is_apart; faults = self.new.faults } }
+    {
+        let ended = self.end(user, path);
+        self.counted(ended)
+    }
+}
