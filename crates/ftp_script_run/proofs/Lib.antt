@@ -12,8 +12,6 @@ pub mod LeadsLemmas
 pub mod RunLemmas
 pub mod SetUpLemmas
 pub mod OutcomeLemmas
-pub mod ResumeLemmas
-pub mod SaveLemmas
 pub mod CleanLemmas
 pub mod DeterminedLemmas
 pub mod ListedLemmas

@@ -13,9 +13,7 @@ pub mod Left
 pub mod Legal
 pub mod Statuses
 pub mod Outcome
-pub mod Resumed
 pub mod Runs
-pub mod Resuming
 pub mod Audited
 pub mod Clean
 pub mod Determined

@@ -1,4 +1,4 @@
-use Rattle.std.proofs.Common.{◌≡◌, true, None, List, [], ◌∷◌, ◌++◌, sym, subst}
+use Rattle.std.proofs.Common.{◌≡◌, true, List, [], ◌∷◌, ◌++◌, sym, subst}
 use Rattle.ftp_events.specs.declared.entry.Entry.{Entry}
 use Rattle.ftp_text.specs.declared.setup.Item.{Item}
 use Rattle.ftp_script_run.specs.Script.{may_stand}
@@ -11,7 +11,7 @@ pub returns-in-Ok-clause-noted : goal.returns-in-Ok-clause-noted
 returns-in-Ok-clause-noted c =
     subst
     (λ (i : Item).
-    (items : List Item) (log : List Entry) → Keeps None c.args.self.now items log → may_stand items i ≡ true → HasHeard c.args.audit.now log →
+    (items : List Item) (log : List Entry) → Keeps c.args.self.now items log → may_stand items i ≡ true → HasHeard c.args.audit.now log →
     IsNoted c.step.new.self (items ++ i ∷ []) log c.take.new.self)
     (sym c.in-Event.is)
-    (λ items log kept may heard. (c.in_ok-entry-in-Event.entry ∷ [], c.in_ok-entry-in-Event.ensures.due None items log kept (record { stands = may; goes_on = tt }), c.in-Ok.ensures.heard log heard))
+    (λ items log kept may heard. (c.in_ok-entry-in-Event.entry ∷ [], c.in_ok-entry-in-Event.ensures.due items log kept may, c.in-Ok.ensures.heard log heard))
