@@ -15,8 +15,8 @@ use ftp_base::{ErrorKind, StoreError};
 use std::alloc::Global;
 use std::sync::Wait;
 
-// The file of which an upload takes the place, with its lock.
-fn open_replaced<S: FileSystem>(
+/// The file of which another one takes the place, with its lock.
+pub(crate) fn open_replaced<S: FileSystem>(
     system: &S,
     alloc: Global,
     onto: &Writable,

@@ -10,7 +10,7 @@ use std::io;
 use std::io::{Read, Write};
 use std::os::unix::fs::MetadataExt;
 use std::rt::Files;
-use std::time::Clock;
+use std::time::{Clock, Duration, UNIX_EPOCH};
 
 /// How many bytes of names are read at a time. No name fits a small buffer.
 const NAMES_LEN: usize = 32_768;
@@ -91,6 +91,21 @@ impl<R: Files<File = File> + Clock> FileSystem for Below<R> {
 
     fn remove_file(&self, place: &Writable) -> io::Result<()> {
         self.rt.remove_file(place.as_place().text())
+    }
+
+    fn create_dir(&self, place: &Writable) -> io::Result<()> {
+        self.rt.create_dir(place.as_place().text())
+    }
+
+    fn remove_dir(&self, place: &Writable) -> io::Result<()> {
+        self.rt.remove_dir(place.as_place().text())
+    }
+
+    fn set_modified(&self, file: &File, seconds: u64) -> io::Result<()> {
+        match UNIX_EPOCH.checked_add(Duration::from_secs(seconds)) {
+            Some(time) => file.set_modified(time),
+            None => Err(io::Error::from(io::ErrorKind::InvalidInput)),
+        }
     }
 
     fn write(&self, file: &mut File, bytes: &[u8], _grant: &Grant) -> io::Result<()> {

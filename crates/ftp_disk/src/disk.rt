@@ -6,6 +6,7 @@ ghost use Rattle.ftp_base.specs.Outside.{HasRisen};
 ghost use Rattle.ftp_disk.specs.Disk.{place_in_home, IsReached, WasFound, WasListed};
 ghost use Rattle.ftp_disk.specs.Home.{has_home, may_write};
 
+mod archive;
 mod storage;
 
 use crate::apart::{begin_beside, finish, leave_off};

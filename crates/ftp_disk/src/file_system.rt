@@ -59,6 +59,17 @@ pub trait FileSystem {
     fn remove_file(&self, place: &Writable) -> io::Result<()>
         requires unlinked { IsUnlinked (told self.now) place.now };
 
+    /// Makes a directory.
+    fn create_dir(&self, place: &Writable) -> io::Result<()>
+        requires unlinked { IsUnlinked (told self.now) place.now };
+
+    /// Removes a directory that is empty.
+    fn remove_dir(&self, place: &Writable) -> io::Result<()>
+        requires unlinked { IsUnlinked (told self.now) place.now };
+
+    /// Says when a file was last changed, in seconds since 1970.
+    fn set_modified(&self, file: &Self::File, seconds: u64) -> io::Result<()>;
+
     /// Writes bytes to a file where it stands.
     fn write(&self, file: &mut Self::File, bytes: &[u8], grant: &Grant) -> io::Result<()>
         requires granted { length bytes.now ≤ grant.now.bytes };

@@ -7,7 +7,9 @@
 mod apart;
 mod below;
 mod budget;
+mod changing;
 mod counting;
+mod dating;
 mod disk;
 mod file_system;
 mod home;

@@ -11,7 +11,7 @@ use std::time::{Duration, UNIX_EPOCH};
 use std::{env, fs, io, process};
 
 /// A new directory for a test. In it stand `home`, which has a directory `d` with another one `e` in it, and a link to it.
-fn make_base(rt: &HostRuntime, test: &str) -> io::Result<String> {
+pub(crate) fn make_base(rt: &HostRuntime, test: &str) -> io::Result<String> {
     let id = process::id(rt.process());
     let temp = env::temp_dir(rt)?;
     let base = format!(in rt.alloc(); "{}/ftp_disk_{test}_{id}", temp.as_str())?;
@@ -26,12 +26,12 @@ fn make_base(rt: &HostRuntime, test: &str) -> io::Result<String> {
     Ok(base)
 }
 
-fn below(alloc: Global, root: &str, path: &str) -> Result<String, AllocError> {
+pub(crate) fn below(alloc: Global, root: &str, path: &str) -> Result<String, AllocError> {
     format!(in alloc; "{root}{path}")
 }
 
 /// The home of ann, who may write, and of bob, who may not. Carl comes to it by the link. They have one budget.
-fn homes_within(
+pub(crate) fn homes_within(
     alloc: Global,
     base: &str,
     budget: &Budget,
@@ -129,7 +129,7 @@ fn draw(state: &mut u64) -> Call {
 }
 
 /// Whether the files in memory are on disk.
-fn is_same(rt: &HostRuntime, base: &str, memory: &MemoryStorage) -> io::Result<bool> {
+pub(crate) fn is_same(rt: &HostRuntime, base: &str, memory: &MemoryStorage) -> io::Result<bool> {
     for (path, bytes) in memory.files() {
         let path = String::from_utf8_lossy(rt.alloc(), path)?;
         let path = format!(in rt.alloc(); "{base}/home{path}")?;

@@ -7,6 +7,7 @@
 
 #[cfg(test)]
 mod ahead;
+mod archive;
 #[cfg(test)]
 mod control;
 #[cfg(test)]

@@ -1,0 +1,152 @@
+//! The archive beside transfers.
+
+ghost use Rattle.std.specs.Prelude.{◌≡◌, ◌≤◌, true, false, None, IfOk, OnOk, OnErr, IsErrOf};
+ghost use Rattle.ftp_base.specs.declared.error_kind.ErrorKind.TheVariants.{PermissionDenied};
+ghost use Rattle.ftp_base.specs.Outside.{HasRisen};
+ghost use Rattle.ftp_extras.specs.Archive.{IsDated};
+ghost use Rattle.ftp_extras.specs.Moment.{is_moment};
+ghost use Rattle.ftp_disk.specs.Home.{has_home, may_write};
+
+use crate::changing;
+use crate::dating::modified_told;
+use crate::disk::DiskStorage;
+use crate::file_system::FileSystem;
+use crate::listing::meta_of;
+use crate::standing::resolve;
+use ftp_base::{Bytes, ErrorKind, StoreError};
+use ftp_extras::{Archive, Found};
+use std::sync::Wait;
+
+impl<R: Wait + Drop, S: FileSystem + Drop> DiskStorage<R, S> {
+    // What stands at a path, and when it was last changed.
+    fn find(&self, user: &Bytes, path: &Bytes) -> Result<Found, StoreError>
+        ensures dated { IfOk result IsDated }
+        ensures homeless { has_home self.now.homes user.now ≡ false → IsErrOf result (StoreError.Kind PermissionDenied) }
+    {
+        let place = self.place(user, path)?;
+        let Some(meta) = meta_of(resolve(&self.system, self.alloc, &place)?) else {
+            return Err(StoreError::Kind(ErrorKind::PermanentFileNotAvailable));
+        };
+        let modified = modified_told(&self.system.look(&place));
+        Ok(Found { meta, modified })
+    }
+
+    fn remove_file(&self, user: &Bytes, path: &Bytes) -> Result<(), StoreError>
+        ensures read_only { may_write self.now.homes user.now ≡ false → IsErrOf result (StoreError.Kind PermissionDenied) }
+    {
+        let home = self.homes.find(user)?;
+        let place = home.writable(self.alloc, path.as_slice())?;
+        changing::remove_file(&self.rt, &self.system, self.alloc, &home.budget, &place)
+    }
+
+    fn create_dir(&self, user: &Bytes, path: &Bytes) -> Result<(), StoreError>
+        ensures read_only { may_write self.now.homes user.now ≡ false → IsErrOf result (StoreError.Kind PermissionDenied) }
+    {
+        let home = self.homes.find(user)?;
+        let place = home.writable(self.alloc, path.as_slice())?;
+        changing::make_directory(&self.system, self.alloc, &place)
+    }
+
+    fn remove_dir(&self, user: &Bytes, path: &Bytes) -> Result<(), StoreError>
+        ensures read_only { may_write self.now.homes user.now ≡ false → IsErrOf result (StoreError.Kind PermissionDenied) }
+    {
+        let home = self.homes.find(user)?;
+        let place = home.writable(self.alloc, path.as_slice())?;
+        changing::remove_directory(&self.system, self.alloc, &place)
+    }
+
+    fn move_to(&self, user: &Bytes, from: &Bytes, to: &Bytes) -> Result<(), StoreError>
+        ensures read_only { may_write self.now.homes user.now ≡ false → IsErrOf result (StoreError.Kind PermissionDenied) }
+    {
+        let home = self.homes.find(user)?;
+        let from = home.writable(self.alloc, from.as_slice())?;
+        let onto = home.writable(self.alloc, to.as_slice())?;
+        changing::rename(
+            &self.rt,
+            &self.system,
+            self.alloc,
+            &home.budget,
+            &from,
+            &onto,
+        )
+    }
+
+    fn set_date(&self, user: &Bytes, path: &Bytes, at: &Bytes) -> Result<(), StoreError>
+        ensures read_only { may_write self.now.homes user.now ≡ false → IsErrOf result (StoreError.Kind PermissionDenied) }
+    {
+        let home = self.homes.find(user)?;
+        let place = home.writable(self.alloc, path.as_slice())?;
+        changing::set_modified(&self.system, self.alloc, &place, at.as_slice())
+    }
+}
+
+impl<R: Wait + Drop, S: FileSystem + Drop> Archive for DiskStorage<R, S> {
+    ghost refusals = { λ _ _ _ _. None };
+
+    // # Proved
+    //
+    // - A user without a home is refused a look, and one who may not write each change (`homeless`; also `DiskStorage::remove`:
+    //   `read_only`; `DiskStorage::make_directory`: `read_only`; `DiskStorage::remove_directory`: `read_only`;
+    //   `DiskStorage::rename`: `read_only`; `DiskStorage::set_modified`: `read_only`).
+    fn look(&mut self, user: &Bytes, path: &Bytes) -> Result<Found, StoreError>
+        ensures dated { IfOk result IsDated }
+        ensures homeless { has_home self.old.homes user.now ≡ false → IsErrOf result (StoreError.Kind PermissionDenied) }
+        ensures fault_rose { IsErrOf result StoreError.Failed → HasRisen self.old.faults self.new.faults }
+        ensures count { self.old.faults ≤ self.new.faults }
+        ensures others { self.new ≡ record self.old { faults = self.new.faults } }
+    {
+        let found = self.find(user, path);
+        self.counted(found)
+    }
+
+    fn remove(&mut self, user: &Bytes, path: &Bytes) -> Result<(), StoreError>
+        ensures read_only { may_write self.old.homes user.now ≡ false → IsErrOf result (StoreError.Kind PermissionDenied) }
+        ensures fault_rose { IsErrOf result StoreError.Failed → HasRisen self.old.faults self.new.faults }
+        ensures count { self.old.faults ≤ self.new.faults }
+        ensures others { self.new ≡ record self.old { faults = self.new.faults } }
+    {
+        let done = self.remove_file(user, path);
+        self.counted(done)
+    }
+
+    fn make_directory(&mut self, user: &Bytes, path: &Bytes) -> Result<(), StoreError>
+        ensures read_only { may_write self.old.homes user.now ≡ false → IsErrOf result (StoreError.Kind PermissionDenied) }
+        ensures fault_rose { IsErrOf result StoreError.Failed → HasRisen self.old.faults self.new.faults }
+        ensures count { self.old.faults ≤ self.new.faults }
+        ensures others { self.new ≡ record self.old { faults = self.new.faults } }
+    {
+        let done = self.create_dir(user, path);
+        self.counted(done)
+    }
+
+    fn remove_directory(&mut self, user: &Bytes, path: &Bytes) -> Result<(), StoreError>
+        ensures read_only { may_write self.old.homes user.now ≡ false → IsErrOf result (StoreError.Kind PermissionDenied) }
+        ensures fault_rose { IsErrOf result StoreError.Failed → HasRisen self.old.faults self.new.faults }
+        ensures count { self.old.faults ≤ self.new.faults }
+        ensures others { self.new ≡ record self.old { faults = self.new.faults } }
+    {
+        let done = self.remove_dir(user, path);
+        self.counted(done)
+    }
+
+    fn rename(&mut self, user: &Bytes, from: &Bytes, to: &Bytes) -> Result<(), StoreError>
+        ensures read_only { may_write self.old.homes user.now ≡ false → IsErrOf result (StoreError.Kind PermissionDenied) }
+        ensures fault_rose { IsErrOf result StoreError.Failed → HasRisen self.old.faults self.new.faults }
+        ensures count { self.old.faults ≤ self.new.faults }
+        ensures others { self.new ≡ record self.old { faults = self.new.faults } }
+    {
+        let done = self.move_to(user, from, to);
+        self.counted(done)
+    }
+
+    fn set_modified(&mut self, user: &Bytes, path: &Bytes, at: &Bytes) -> Result<(), StoreError>
+        requires moment { is_moment at.now ≡ true }
+        ensures read_only { may_write self.old.homes user.now ≡ false → IsErrOf result (StoreError.Kind PermissionDenied) }
+        ensures fault_rose { IsErrOf result StoreError.Failed → HasRisen self.old.faults self.new.faults }
+        ensures count { self.old.faults ≤ self.new.faults }
+        ensures others { self.new ≡ record self.old { faults = self.new.faults } }
+    {
+        let done = self.set_date(user, path, at);
+        self.counted(done)
+    }
+}
