@@ -7,6 +7,7 @@
 
 #[cfg(test)]
 mod ahead;
+#[cfg(test)]
 mod archive;
 #[cfg(test)]
 mod control;
