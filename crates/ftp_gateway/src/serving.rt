@@ -124,7 +124,7 @@ fn control_of<R: GatewayRuntime>(
 }
 
 // Where and how a configuration has a gateway serve.
-fn plan(alloc: Global, config: &GatewayConfig, options: Options) -> Result<Plan, AllocError> {
+fn make_plan(alloc: Global, config: &GatewayConfig, options: Options) -> Result<Plan, AllocError> {
     Ok(Plan {
         options,
         address: config.listen.copy(alloc)?,
@@ -166,7 +166,7 @@ pub fn prepare<R: GatewayRuntime>(rt: &R, path: &str) -> Result<Gateway<R>, Refu
         Arc::try_clone(&waiting)?,
     )?;
     Ok(Gateway {
-        plan: plan(alloc, &config, options)?,
+        plan: make_plan(alloc, &config, options)?,
         check,
         depot,
         control,
