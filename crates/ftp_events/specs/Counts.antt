@@ -172,3 +172,8 @@ pub record CountsOf (o : Options) (past : List Entry) (c : Counters) : Type 0 wh
 pub record Counted (o : Options) (past : List Entry) (c : Counters) : Type 0 where
   pub kept : o.collect_metrics ≡ true → CountsOf o past c
   pub none : o.collect_metrics ≡ false → CountsOf o [] c
+
+-- the counters of a server that goes on with so many live sessions: these are counted where counts are kept, and nothing else
+pub record CountsFrom (o : Options) (live : ℕ) (c : Counters) : Type 0 where
+  pub session : c.session ≡ (o.collect_metrics ⇒ live ∣ 0)
+  pub others : CountsOf o [] (record c { session = 0 })

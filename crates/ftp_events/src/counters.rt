@@ -61,6 +61,16 @@ impl Counters {
         }
     }
 
+    /// Counters of a server that goes on with live sessions. All else is 0.
+    pub fn with_sessions(live: u64) -> Counters
+        ensures session { result.session ≡ live }
+        ensures others { (o : Options) → CountsOf o [] (record result { session = 0 }) }
+    {
+        let mut counters = Counters::new();
+        counters.session = live;
+        counters
+    }
+
     /// How many sessions are live.
     pub fn session(&self) -> u64
         ensures { result ≡ self.now.session }

@@ -3,6 +3,7 @@
 ghost use Rattle.std.specs.Prelude.{◌≡◌, ℕ, ◌+◌, ◌==◌, ◌↔◌, List, IfOk, OnOk, Some, None, true, false, length, map as each, nat_eq, if◌then◌else◌};
 ghost use Rattle.std.specs.Option.{option_map};
 ghost use Rattle.std.specs.HashMap as map;
+ghost use Rattle.ftp_events.specs.Counts.{CountsFrom};
 ghost use Rattle.ftp_events.specs.Login.{logged_user};
 ghost use Rattle.ftp_laws.specs.Census.{IsAscending};
 ghost use Rattle.ftp_options.specs.Modes.{is_legacy};
@@ -241,17 +242,28 @@ pub(crate) fn sessions_of(
     Ok(table)
 }
 
+// The counters of a hub that goes on with these sessions.
+fn counters_from(options: &Options, sessions: &HashMap<u64, Session>) -> Counters
+    ensures { CountsFrom options.now (map.hash_map_len sessions.now) result }
+{
+    if options.collect_metrics {
+        Counters::with_sessions(sessions.len() as u64)
+    } else {
+        Counters::new()
+    }
+}
+
 impl Hub {
-    ghost use Rattle.std.specs.Prelude.{◌⊎◌, ◌&&◌, IfErr, [], not};
-    ghost use Rattle.ftp_events.specs.Counts.{Counted};
+    ghost use Rattle.std.specs.Prelude.{◌⊎◌, ◌&&◌, IfErr, not};
+    ghost use Rattle.ftp_events.specs.Counts.{CountsFrom};
     ghost use Rattle.ftp_hub.specs.Refused.{GivesCause, HasCause, IsFirst, IsFirstRefusal, known_by};
     ghost use Rattle.ftp_hub.specs.Stands.{count_of, counters_of};
     ghost use Rattle.ftp_hub.specs.State.{AreMadeBy, IsForm, WaitsAt};
     ghost use Rattle.ftp_hub.specs.declared.state.StateError.{StateError};
     ghost use Rattle.ftp_hub.specs.declared.state.StateError.TheVariants.{OutOfMemory};
 
-    /// A hub that goes on from a state, under these options. Its counters start at 0. Records of failed logins under keys that
-    /// the policy of the options does not make are left out.
+    /// A hub that goes on from a state, under these options. Its counters start at 0, but for that of the live sessions. Records
+    /// of failed logins under keys that the policy of the options does not make are left out.
     ///
     /// # Proved
     ///
@@ -261,7 +273,7 @@ impl Hub {
     /// - A state is refused where it gives cause to a refusal, and then by the first to which it does (`passed`, `refused`). The
     ///   state of a right and acted log is refused for nothing but want of memory (its records are of keys that the policy
     ///   makes) (`lawful`).
-    /// - Its counters have counted nothing (`counters`).
+    /// - Its counters have counted the live sessions, where metrics are kept, and nothing else (`counters`).
     pub fn from_state(alloc: Global, options: Options, state: HubState) -> Result<Hub, StateError>
         requires form { IsForm state }
         ensures options { IfOk result (λ hub. options_of hub ≡ options) }
@@ -272,7 +284,7 @@ impl Hub {
         ensures passed { OnOk result ((e : StateError) → HasCause options state e → ⊥) }
         ensures refused { IfErr result (λ e. (e ≡ OutOfMemory) ⊎ IsFirstRefusal options state e) }
         ensures lawful { IfErr result (λ e. (log : List Entry) → IsRight options log → IsActed options log → IsState options log state → AreMadeBy options.lockout state.records → e ≡ OutOfMemory) }
-        ensures counters { IfOk result (λ hub. Counted options [] (counters_of hub)) }
+        ensures counters { IfOk result (λ hub. CountsFrom options (length state.sessions) (counters_of hub)) }
     {
         let brings_v6 = has_v6(state.records.as_slice());
         let tables = Hub::rebuilt(alloc, options, state)?;
@@ -303,7 +315,7 @@ impl Hub {
         requires form { IsForm state }
         ensures options { IfOk result (λ hub. options_of hub ≡ options) }
         ensures told { IfOk result (λ hub. TellsState hub state) }
-        ensures counters { IfOk result (λ hub. Counted options [] (counters_of hub)) }
+        ensures counters { IfOk result (λ hub. CountsFrom options (length state.sessions) (counters_of hub)) }
         ensures memory { IfErr result (λ e. e ≡ OutOfMemory) }
     {
         let HubState {
@@ -326,6 +338,7 @@ impl Hub {
         )?;
         let running = run_all(alloc, jobs.into_vec())?;
         let board = free_board(alloc, &options);
+        let counters = counters_from(&options, &table);
         Ok(Hub {
             alloc,
             options,
@@ -335,7 +348,7 @@ impl Hub {
             board,
             failures,
             stopped,
-            counters: Counters::new(),
+            counters,
             count: events,
         })
     }

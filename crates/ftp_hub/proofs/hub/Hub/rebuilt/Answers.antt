@@ -1,11 +1,18 @@
-use Rattle.std.proofs.Common.{refl, ap, ◌∙◌, List, length}
+use Rattle.std.proofs.Common.{refl, ap, ◌∙◌, subst, ℕ, List, length}
 use Rattle.std.specs.Option.{option_map}
+use Rattle.ftp_events.specs.Counts.{CountsFrom}
 use Rattle.ftp_switchboard.specs.declared.numbers.Interval.{Interval}
 use Rattle.ftp_switchboard.specs.Used.{is_used as is_in_lines}
 use Rattle.ftp_hub.specs.declared.state.JobLine.{JobLine}
 use Rattle.ftp_hub.specs.declared.state.RecordLine.{RecordLine}
 use Rattle.ftp_hub.specs.State.{failures_told, job_line, session_by_lines, told_running}
 use Rattle.ftp_hub.proofs.hub.Hub.rebuilt.Goals as goal
+
+-- the sessions that are counted are those of the lines
+pub returns-clause-counters : goal.returns-clause-counters
+returns-clause-counters c =
+    subst (λ (n : ℕ). CountsFrom c.args.options n c.counters_from-counters.result)
+    (c.in_ok-table.ensures.len ∙ ap length c.into_vec-2.ensures) c.counters_from-counters.ensures
 
 -- each table is made of its lines
 pub returns-clause-told : goal.returns-clause-told
