@@ -181,7 +181,7 @@ where
         }
     }
 
-    /// From now on each session ends once none of its transfers runs, and is told so.
+    /// From now on each session ends once none of its transfers runs or waits for its data connection, and is told so.
     pub(crate) fn begin_stop(&self) {
         self.state.begin_stop(&self.rt);
     }

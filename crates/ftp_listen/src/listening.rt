@@ -28,7 +28,7 @@ pub(crate) enum Door {
 /// The listeners. The token of a passive port is its place; that of the control port comes after the last of them.
 #[derive(Drop)]
 pub(crate) struct ListeningSockets {
-    control: TcpListener,
+    control: Option<TcpListener>,
     ports: Vec<(u16, TcpListener)>,
 }
 
@@ -69,7 +69,10 @@ impl AcceptPoll {
         };
         Ok((
             AcceptPoll { poll, events },
-            ListeningSockets { control, ports },
+            ListeningSockets {
+                control: Some(control),
+                ports,
+            },
             acceptor,
         ))
     }
@@ -103,10 +106,15 @@ impl AcceptPoll {
 }
 
 impl ListeningSockets {
+    /// Closes the control port.
+    pub(crate) fn close_control(&mut self) {
+        self.control = None;
+    }
+
     // What the socket with this token is for, and its listener.
     fn door(&self, token: Token) -> Option<(Door, &TcpListener)> {
         if token.0 == self.ports.len() {
-            return Some((Door::Control, &self.control));
+            return Some((Door::Control, self.control.as_ref()?));
         }
         let (port, listener) = self.ports.get(token.0)?;
         Some((Door::Passive(*port), listener))

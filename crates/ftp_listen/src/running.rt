@@ -111,8 +111,8 @@ where
     unreachable!()
 }
 
-// Has each session end once none of its transfers runs, and waits for that, but not beyond the grace period of a shutdown that was
-// asked for at this moment; then ends what is left.
+// Has each session end once none of its transfers runs or waits for its data connection, and takes such connections in meanwhile, but
+// not beyond the grace period of a shutdown that was asked for at this moment; then ends what is left.
 fn drain<
     R: ServerRuntime,
     H: JournalHub + Send + Sync + Drop + 'static,
@@ -126,6 +126,7 @@ fn drain<
     rt: &R,
     acceptor: &mut Acceptor<R, H, A, N, D, G>,
     poll: &mut AcceptPoll,
+    sockets: &ListeningSockets,
     spawner: &mut P,
     front: &mut F,
     asked: (u64, Shutdown),
@@ -154,7 +155,9 @@ where
             return Err(ServerError::Shutdown);
         }
         acceptor.wait(poll, DRAINING_TURN);
+        acceptor.accept_ready(poll, sockets, now);
         acceptor.spawn_wanted(spawner);
+        acceptor.run_timers(now);
     }
     unreachable!()
 }
@@ -303,8 +306,21 @@ where
         front,
         indicator,
     );
+    let mut sockets = sockets;
+    // A proxy passes data connections on to the control port too.
+    if !is_behind_proxy {
+        sockets.close_control();
+    }
+    let ended = drain(
+        rt,
+        &mut acceptor,
+        &mut poll,
+        &sockets,
+        spawner,
+        front,
+        asked,
+    );
     drop(sockets);
-    let ended = drain(rt, &mut acceptor, &mut poll, spawner, front, asked);
     acceptor.close();
     ended
 }

@@ -114,11 +114,37 @@ fn stay<R: Net<Stream = TcpStream> + Clock>(
     client.hear_end()
 }
 
-/// Serves both, over a gate that holds the transfer back.
+/// Two clients of a server that is to shut down: one does nothing, and is sent away at once; the other was told that its transfer
+/// begins, connects for it only then, gets all, and is told so before it is sent away too.
+fn connect_late<R: Net<Stream = TcpStream> + Clock>(
+    rt: &R,
+    alloc: Global,
+    place: Place,
+    entering: &str,
+    board: &Board,
+) -> Result<(), Met> {
+    let mut idle = Client::greeted(rt, alloc, place.door(), "")?;
+    let mut client = Client::greeted(rt, alloc, place.door(), "")?;
+    client.log_in()?;
+    client.ask("PASV\r\n", entering)?;
+    client.ask("RETR a.txt\r\n", "150 Sending data\r\n")?;
+    board.asks.store(true, Ordering::SeqCst);
+    board.is_open.store(true, Ordering::SeqCst);
+    idle.hear(STOPPING)?;
+    idle.hear_end()?;
+    let data = data_connection(rt, place.passive(), "")?;
+    fetch(alloc, data, FILE)?;
+    client.hear("226 Successfully sent\r\n")?;
+    client.hear(STOPPING)?;
+    client.hear_end()
+}
+
+/// Serves both, over a gate that holds the transfer back, where its client connects for it before the server is to shut down or late.
 fn shut_down_behind<R: ServerRuntime>(
     rt: &R,
     alloc: Global,
     board: &SharedBoard,
+    is_late: bool,
 ) -> Result<(), Stopped> {
     let place = Place::drawn(rt).ok().ok_or(Stopped::NoPlace)?;
     let (text, entering) = (place.text(alloc)?, place.entering(alloc)?);
@@ -131,7 +157,11 @@ fn shut_down_behind<R: ServerRuntime>(
     let (met, ended) = thread::join(
         rt,
         || {
-            let met = stay(rt, alloc, place, entering.as_str(), board);
+            let met = if is_late {
+                connect_late(rt, alloc, place, entering.as_str(), board)
+            } else {
+                stay(rt, alloc, place, entering.as_str(), board)
+            };
             board.asks.store(true, Ordering::SeqCst);
             board.is_open.store(true, Ordering::SeqCst);
             met
@@ -229,7 +259,19 @@ fn a_shutdown_lets_a_transfer_end_and_tells_its_clients(rt: HostRuntime) -> Resu
     let types: Option<(TcpListener, TcpStream)> = None;
     drop(types);
     let board = new_board(rt.alloc())?;
-    shut_down_behind(&rt, rt.alloc(), &board)?;
+    shut_down_behind(&rt, rt.alloc(), &board, false)?;
+    assert!(rt; polls_agree(&board));
+    Ok(())
+}
+
+#[test]
+fn a_shutdown_takes_in_the_connection_of_a_transfer_that_waits(
+    rt: HostRuntime,
+) -> Result<(), Fail> {
+    let types: Option<(TcpListener, TcpStream)> = None;
+    drop(types);
+    let board = new_board(rt.alloc())?;
+    shut_down_behind(&rt, rt.alloc(), &board, true)?;
     assert!(rt; polls_agree(&board));
     Ok(())
 }

@@ -1,18 +1,20 @@
 -- What an entry asks of its server.
 --   is_closed actions n    an action closes the connection of this number
 --   first_link actions     the link of the job that starts first
+--   settled_by action        the job that waits no longer behind the action
 --   to_stop e              the session whose job is to stop
 --   not_taken e            the connection that came with the event and was not taken
 use Rattle.std.specs.Prelude.{ℕ, Bool, true, false, ◌==◌, List, [], ◌∷◌, Option, Some, None, if◌then◌else◌}
 use Rattle.std.specs.List.{list_any}
 use Rattle.std.specs.Option.{option_or}
 use Rattle.ftp_events.specs.declared.action.Action.{Action}
-use Rattle.ftp_events.specs.declared.action.Action.TheVariants.{Close, Notify, Start}
+use Rattle.ftp_events.specs.declared.action.Action.TheVariants.{Cancelled, Close, Notify, Start}
 use Rattle.ftp_events.specs.declared.decision.Decision.{Decision}
 use Rattle.ftp_events.specs.declared.decision.Decision.TheVariants.{Aborting, Attached, Opened, PortOk}
 use Rattle.ftp_events.specs.declared.entry.Entry.{Entry}
 use Rattle.ftp_events.specs.Covers.{link_number}
 use Rattle.ftp_events.specs.Log.{named_session}
+use Rattle.ftp_transfer.specs.declared.job.Ticket.{Ticket}
 
 -- the action closes a connection
 abbrev pub is_close : Action → Bool
@@ -42,6 +44,12 @@ link_of _ = None
 abbrev pub first_link : List Action → Option ℕ
 first_link [] = None
 first_link (a ∷ actions) = option_or (link_of a) (first_link actions)
+
+-- the job that waits no longer behind the action: it starts, or is given up
+abbrev pub settled_by : Action → Option Ticket
+settled_by (Start ticket number) = Some ticket
+settled_by (Cancelled ticket) = Some ticket
+settled_by _ = None
 
 -- a job that runs is to stop
 abbrev pub is_aborting : Decision → Bool

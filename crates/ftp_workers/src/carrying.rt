@@ -21,12 +21,13 @@ impl<
     D: Depot + Drop,
     G: Gate + Drop,
 > ServerState<H, A, N, D, G> {
-    /// Hands the job to a worker, shuts down the link of a job that is to stop, closes the links that the entry closes, and
+    /// Hands the job to a worker, keeps which jobs wait, shuts down the link of a job that is to stop, closes the links that the entry closes, and
     /// tells the listeners.
     pub(crate) fn carry_out<R: Wait>(&self, rt: &R, entry: &Entry, job: Option<JobShare>) {
         if let Some(job) = job {
             self.handoff.start(rt, entry, job);
         }
+        self.handoff.follow_jobs(rt, entry);
         if let Some(session) = to_stop(entry) {
             self.handoff.stop_job(rt, session);
         }

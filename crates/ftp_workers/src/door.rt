@@ -69,7 +69,8 @@ impl<
         self.handoff.is_left(rt)
     }
 
-    /// From now on each session ends once none of its transfers runs, and is told 421; who comes later is told so at once.
+    /// From now on each session ends once none of its transfers runs or waits for its data connection, and is told 421; who comes
+    /// later is told so at once.
     pub fn begin_stop<R: Wait>(&self, rt: &R) {
         self.handoff.begin_stop(rt);
     }

@@ -5,7 +5,8 @@ use crate::link_handle::LinkHandle;
 use crate::listening::{AcceptorHandle, Listening};
 use crate::running_job::{RunningJob, end_job, is_idle, start_job};
 use crate::task::Task;
-use ftp_events::Entry;
+use crate::waiting_jobs::{JobProgress, ask_job, has_waiting_job, leave_wait, settled_by};
+use ftp_events::{Decision, Entry};
 use ftp_shared::Others;
 use ftp_system::{ControlHandle, Queue};
 use indexmap::IndexMap;
@@ -27,8 +28,8 @@ const REST: u64 = 60_000;
 
 const FEW: u64 = 4;
 
-/// Links that wait for a job, jobs that run, ports that were bound for sessions, those that wait for their connections, the handles of
-/// control connections, and tasks.
+/// Links that wait for a job, jobs that run, how far the jobs of sessions have come, ports that were bound for sessions, those that
+/// wait for their connections, the handles of control connections, and tasks.
 ///
 /// Each stands behind a lock of its own, and no two of them are held together.
 #[derive(Drop)]
@@ -36,13 +37,15 @@ pub(crate) struct Handoff {
     links: Mutex<IndexMap<u64, PendingConnection>>,
     // By session.
     running: Mutex<IndexMap<u64, RunningJob>>,
+    // By session, while its loop runs.
+    progress: Mutex<IndexMap<u64, JobProgress>>,
     bound: Mutex<IndexMap<u64, (u16, TcpListener)>>,
     pub(crate) listeners: Mutex<IndexMap<u64, Listening>>,
     controls: Mutex<IndexMap<u64, ControlHandle>>,
     tasks: Queue<Task>,
     wanted: AtomicU64,
     calls: AtomicU64,
-    // The server is to stop: sessions end once none of their jobs runs.
+    // The server is to stop: sessions end once none of their jobs runs or waits.
     is_stopping: AtomicBool,
     pub(crate) acceptor: AcceptorHandle,
 }
@@ -53,6 +56,7 @@ impl Handoff {
         Handoff {
             links: Mutex::new(IndexMap::new(alloc)),
             running: Mutex::new(IndexMap::new(alloc)),
+            progress: Mutex::new(IndexMap::new(alloc)),
             bound: Mutex::new(IndexMap::new(alloc)),
             listeners: Mutex::new(IndexMap::new(alloc)),
             controls: Mutex::new(IndexMap::new(alloc)),
@@ -114,6 +118,21 @@ impl Handoff {
         }
     }
 
+    /// Keeps which jobs wait for their data connections behind the entry. One that starts was kept as running before.
+    pub(crate) fn follow_jobs<R: Wait>(&self, rt: &R, entry: &Entry) {
+        if let Decision::Queued { ticket } = entry.decision {
+            ask_job(&mut self.progress.lock(rt), ticket);
+        }
+        for action in entry.actions.as_slice() {
+            if let Some(ticket) = settled_by(action) {
+                leave_wait(&mut self.progress.lock(rt), ticket);
+                if self.is_stopping.load(Ordering::SeqCst) {
+                    self.wake(rt, ticket.session);
+                }
+            }
+        }
+    }
+
     /// Shuts down the link of the session's job.
     pub(crate) fn stop_job<R: Wait>(&self, rt: &R, session: u64) {
         if let Some(job) = self.running.lock(rt).get(&session) {
@@ -143,12 +162,21 @@ impl Handoff {
 
     /// From now on others can wake the loop of the session, unless there is no room.
     pub(crate) fn enter<R: Wait>(&self, rt: &R, session: u64, handle: ControlHandle) -> bool {
-        self.controls.lock(rt).insert(session, handle).is_ok()
+        let progress = JobProgress { asked: 0, begun: 0 };
+        if self.progress.lock(rt).insert(session, progress).is_err() {
+            return false;
+        }
+        let is_in = self.controls.lock(rt).insert(session, handle).is_ok();
+        if !is_in {
+            drop(self.progress.lock(rt).swap_remove(&session));
+        }
+        is_in
     }
 
     /// The loop of the session has ended.
     pub(crate) fn leave<R: Wait>(&self, rt: &R, session: u64) {
         drop(self.controls.lock(rt).swap_remove(&session));
+        drop(self.progress.lock(rt).swap_remove(&session));
         drop(self.take_bound(rt, session));
         self.stop_listening(rt, session);
     }
@@ -170,7 +198,7 @@ impl Handoff {
         }
     }
 
-    /// From now on each session ends once none of its jobs runs, and no other begins.
+    /// From now on each session ends once none of its jobs runs or waits for its data connection.
     pub(crate) fn begin_stop<R: Wait>(&self, rt: &R) {
         self.is_stopping.store(true, Ordering::SeqCst);
         for handle in self.controls.lock(rt).values() {
@@ -178,9 +206,14 @@ impl Handoff {
         }
     }
 
-    /// Says whether the session is to end, as the server is to stop and no job of it runs.
+    /// Says whether the session is to end, as the server is to stop and no job of it waits or runs.
     pub(crate) fn is_to_end<R: Wait>(&self, rt: &R, session: u64) -> bool {
-        self.is_stopping.load(Ordering::SeqCst) && is_idle(&self.running.lock(rt), session)
+        if !self.is_stopping.load(Ordering::SeqCst) {
+            return false;
+        }
+        // A job that waits no longer was kept as running before.
+        let waits = has_waiting_job(&self.progress.lock(rt), session);
+        !waits && is_idle(&self.running.lock(rt), session)
     }
 
     /// Says whether the loops of all sessions have ended.

@@ -23,6 +23,7 @@ mod server_state;
 mod session_edge;
 mod stopping;
 mod task;
+mod waiting_jobs;
 mod worker;
 
 pub use desk::ServerDesk;

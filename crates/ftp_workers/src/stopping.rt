@@ -9,7 +9,8 @@ use std::sync::Wait;
 /// What a client is told whose session ends with the server (RFC 959, section 4.2).
 pub(crate) const STOPPING: &[u8] = b"421 Server is stopping, closing control connection\r\n";
 
-/// A control connection that comes to its end, for who reads it, once the server is to stop and no job of its session runs.
+/// A control connection that comes to its end, for who reads it, once the server is to stop and no job of its session runs
+/// or waits for its data connection.
 #[derive(Drop)]
 pub(crate) struct Stoppable<'a, R: Wait + Drop, C: Control + Drop> {
     rt: R,
