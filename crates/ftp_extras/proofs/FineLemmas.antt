@@ -22,7 +22,7 @@ use Rattle.ftp_extras.specs.declared.word.ExtraWord.TheVariants as word
 use Rattle.ftp_extras.specs.Archive.{is_sound}
 use Rattle.ftp_extras.specs.Extra.{AskerView, IsWhole, says_text, tells}
 use Rattle.ftp_extras.specs.Moment.{is_moment}
-use Rattle.ftp_extras.specs.Plan.{path_in, bad_plan, asked_on, rename_plan, date_plan, file_plan, directory_reply, features, feature_reply, option_reply, user_line, place_line, status_lines, status_reply, only_one, protection_reply, session_extra, login_plan, is_pattern, list_plan, transfer_plan, plan_of, is_spelled}
+use Rattle.ftp_extras.specs.Plan.{path_in, bad_plan, asked_on, rename_plan, date_plan, file_plan, directory_reply, features, feature_reply, option_reply, user_line, place_line, status_lines, status_reply, only_one, protection_reply, session_extra, login_plan, is_pattern, list_plan, facts_list_plan, transfer_plan, plan_of, is_spelled}
 use Rattle.ftp_extras.specs.ReplyLines.{ReplyText, OneLine, ManyLines, reply_bytes, is_whole_reply}
 use Rattle.ftp_extras.specs.Texts.{resolved, sent_text, quoted}
 use Rattle.ftp_extras.specs.Words.{extra_word_of, is_open_word}
@@ -171,13 +171,17 @@ fine-list : (who : AskerView) (path : Option (List ℕ)) → IsFine (list_plan w
 fine-list who None = tt
 fine-list who (Some path) = either_fine (is_pattern path) _ _ tt refl
 
+fine-facts-list : (who : AskerView) (path : Option (List ℕ)) → IsFine (facts_list_plan who path)
+fine-facts-list who None = tt
+fine-facts-list who (Some path) = refl
+
 fine-transfer : (who : AskerView) (c : DataChanCmd) → IsFine (transfer_plan who c)
 fine-transfer who (move.Retr path) = refl
 fine-transfer who (move.Stor path) = refl
 fine-transfer who (move.Appe path) = refl
 fine-transfer who (move.List options path) = fine-list who path
 fine-transfer who (move.Nlst path) = fine-list who path
-fine-transfer who (move.Mlsd path) = fine-list who path
+fine-transfer who (move.Mlsd path) = fine-facts-list who path
 
 fine-known : (o : Offers) (who : AskerView) (before : Option (List ℕ)) (line : List ℕ) (w : Option ExtraWord) →
     IsFine (option_map_or (λ known. login_plan o who before known (parameter line)) w (plan.Do extra.Pass))

@@ -100,11 +100,13 @@ refusal_for (move.Retr path) k = k
 refusal_for _ kind.PermanentFileNotAvailable = kind.PermanentDirectoryNotAvailable
 refusal_for _ k = k
 
--- how a transfer is refused for what was found: a directory is not sent, and no file is stored in a file
+-- how a transfer is refused for what was found: a directory is not sent, no file is stored in a file, and MLSD lists directories
+-- alone (RFC 3659, section 7.2.1)
 abbrev pub refused_for : DataChanCmd → Bool → Extra
 refused_for (move.Retr path) true = refuses_by kind.PermanentFileNotAvailable
 refused_for (move.Stor path) false = refuses_by kind.PermanentDirectoryNotAvailable
 refused_for (move.Appe path) false = refuses_by kind.PermanentDirectoryNotAvailable
+refused_for (move.Mlsd path) false = refuses_by kind.PermanentDirectoryNotAvailable
 refused_for _ _ = extra.Pass
 
 -- what is done on a transfer: it is refused, or goes on

@@ -206,6 +206,11 @@ abbrev pub list_plan : AskerView → Option (List ℕ) → Plan
 list_plan who None = plan.Do extra.Pass
 list_plan who (Some path) = if is_pattern path then plan.Do extra.Pass else look_plan who path
 
+-- MLSD takes no pattern (RFC 3659, section 7.1): its path is looked at
+abbrev pub facts_list_plan : AskerView → Option (List ℕ) → Plan
+facts_list_plan who None = plan.Do extra.Pass
+facts_list_plan who (Some path) = look_plan who path
+
 -- the directory is looked at in which a file is to be stored
 abbrev pub store_plan : AskerView → List ℕ → Plan
 store_plan who path = plan.Ask (request.Look (parent (join_path who.cwd path)))
@@ -216,6 +221,7 @@ abbrev pub transfer_plan : AskerView → DataChanCmd → Plan
 transfer_plan who (move.Retr path) = look_plan who path
 transfer_plan who (move.Stor path) = store_plan who path
 transfer_plan who (move.Appe path) = store_plan who path
+transfer_plan who (move.Mlsd path) = facts_list_plan who path
 transfer_plan who c = list_plan who (path_of c)
 
 -- what is done on the line of a command

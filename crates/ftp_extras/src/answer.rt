@@ -188,9 +188,8 @@ fn refused_for(command: &DataChanCmd, is_dir: bool) -> Extra
 {
     match command {
         DataChanCmd::Retr { .. } if is_dir => refuses_by(ErrorKind::PermanentFileNotAvailable),
-        DataChanCmd::Stor { .. } | DataChanCmd::Appe { .. } if !is_dir => {
-            refuses_by(ErrorKind::PermanentDirectoryNotAvailable)
-        }
+        DataChanCmd::Stor { .. } | DataChanCmd::Appe { .. } | DataChanCmd::Mlsd { .. } if !is_dir =>
+            { refuses_by(ErrorKind::PermanentDirectoryNotAvailable) }
         _ => Extra::Pass,
     }
 }

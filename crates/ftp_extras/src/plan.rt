@@ -4,7 +4,7 @@ ghost use Rattle.std.specs.Prelude.{◌≡◌, IfOk};
 ghost use Rattle.std.specs.List.{list_any};
 ghost use Rattle.std.specs.Option.{option_copied};
 ghost use Rattle.ftp_extras.specs.Extra.{seen};
-ghost use Rattle.ftp_extras.specs.Plan.{path_in, bad_plan, request_on, word_asked, rename_plan, date_plan, facts_plan, file_plan, login_plan, is_wildcard, begins_with_hyphen, is_pattern, list_plan, look_plan, store_plan, transfer_plan, plan_of};
+ghost use Rattle.ftp_extras.specs.Plan.{path_in, bad_plan, request_on, word_asked, rename_plan, date_plan, facts_plan, file_plan, login_plan, is_wildcard, begins_with_hyphen, is_pattern, list_plan, facts_list_plan, look_plan, store_plan, transfer_plan, plan_of};
 
 use crate::archive::Request;
 use crate::extra::{Asker, Extra};
@@ -220,6 +220,20 @@ fn list_plan(alloc: Global, asker: &Asker<'_>, path: Option<&Bytes>) -> Result<P
     }
 }
 
+// MLSD takes no pattern: its path is looked at.
+fn facts_list_plan(
+    alloc: Global,
+    asker: &Asker<'_>,
+    path: Option<&Bytes>,
+) -> Result<Plan, AllocError>
+    ensures { IfOk result (λ p. p ≡ facts_list_plan (seen asker.now) (option_copied path.entry)) }
+{
+    match path {
+        Some(path) => look_plan(alloc, asker, path),
+        None => Ok(Plan::Do(Extra::Pass)),
+    }
+}
+
 // The directory is looked at in which a file is to be stored.
 fn store_plan(alloc: Global, asker: &Asker<'_>, path: &Bytes) -> Result<Plan, AllocError>
     ensures { IfOk result (λ p. p ≡ store_plan (seen asker.now) path.now) }
@@ -240,6 +254,7 @@ fn transfer_plan(
     match command {
         DataChanCmd::Retr { path } => look_plan(alloc, asker, path),
         DataChanCmd::Stor { path } | DataChanCmd::Appe { path } => store_plan(alloc, asker, path),
+        DataChanCmd::Mlsd { .. } => facts_list_plan(alloc, asker, command.path()),
         _ => list_plan(alloc, asker, command.path()),
     }
 }
