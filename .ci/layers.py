@@ -9,6 +9,8 @@ ARCHITECTURE = TOP / "docs" / "ARCHITECTURE.md"
 BEGIN, END = "<!-- written by .ci/documents --write -->\n", "<!-- end of what is written -->\n"
 # The columns of a line of the picture.
 WIDTH = 120
+# So many words before a colon say enough of a crate.
+SAID = 6
 
 
 def groups():
@@ -23,11 +25,13 @@ def groups():
 
 
 def sentence(name):
-    """The first sentence of a crate's documentation."""
+    """The first sentence of a crate's documentation, without what follows a semicolon, or a colon after many words."""
     root = TOP / "crates" / name / "src"
     text = (root / "lib.rt" if (root / "lib.rt").is_file() else root / "main.rt").read_text()
     first = " ".join(line[3:].strip() for line in text.split("//!\n")[0].splitlines() if line.startswith("//!"))
-    first = re.split(r"(?<=\.)\s", first.removeprefix(f"{name}: "))[0].rstrip(".")
+    first = re.split(r"(?<=\.)\s|; ", first.removeprefix(f"{name}: "))[0].rstrip(".")
+    head, _, _ = first.partition(": ")
+    first = head if len(head.split()) > SAID else first
     return first[:1].lower() + first[1:]
 
 
