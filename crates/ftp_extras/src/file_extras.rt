@@ -101,6 +101,13 @@ impl<S: Archive + Drop> FileExtras<S> {
         }
     }
 
+    /// From now on they are words over this archive. What was kept of the line before stays.
+    pub fn go_on_over(&mut self, store: S)
+        ensures { self.new ≡ record self.old { store = store } }
+    {
+        self.store = store;
+    }
+
     // Asks the archive, and says what is done by its answer.
     fn carry_out(
         &mut self,

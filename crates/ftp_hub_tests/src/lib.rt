@@ -50,5 +50,7 @@ mod ticks;
 mod transfers;
 #[cfg(test)]
 mod values;
+#[cfg(test)]
+mod words;
 
 pub use budgets::{usage_after, within_budgets};

@@ -24,9 +24,13 @@ use Rattle.ftp_talk.specs.declared.serving.ServeEnd.TheVariants as end
 use Rattle.ftp_talk.specs.Ground.{Start, Ground}
 use Rattle.ftp_talk.specs.Seen.{IsSeen}
 use Rattle.ftp_talk.specs.Talk.{IsInput}
-use Rattle.ftp_talk.specs.Speaking.{Begins, Knows, Keeps, IsCut, Talking}
-use Rattle.ftp_talk.specs.Control.{peer_of, ground_of, is_opened, IsServedTo, Serves}
-use Rattle.ftp_talk.proofs.DelayLemmas.{paused-none, says-none}
+use Rattle.ftp_talk.specs.Speaking.{Begins, Knows, Keeps, IsCut, Talking, OutcomeHeard}
+use Rattle.ftp_talk.specs.Control.{peer_of, ground_of, is_opened}
+use Rattle.ftp_talk.specs.ControlWith.{IsServedWith, ServesWith}
+use Rattle.ftp_talk.specs.Extended.{OutcomeWith}
+use Rattle.ftp_talk.specs.Parts.{HeardLine, MayDoSo, AreAllowed}
+use Rattle.ftp_talk.proofs.DelayLemmas.{paused-none}
+use Rattle.ftp_talk.proofs.PieceLemmas.{pieces-none}
 use Rattle.ftp_talk.proofs.ServeLemmas.{told_self}
 
 pub opened-is : (d : Decision) → is_opened d ≡ true → d ≡ Opened
@@ -91,16 +95,17 @@ pub begin-talking : (e : Entry) (peer : Peer) (a : Answer) (start : Start) (desk
     Knows (ground_of e peer start) state (e ∷ []) → state.is_over ≡ false →
     Writes start.sent sent1 (greeting_line start.desk.options.greeting) →
     left1 ≡ start.input →
-    Talking (ground_of e peer start) state start.edge desk1 sent1 [] left1
+    Talking (ground_of e peer start) state start.edge desk1 sent1 [] [] left1
 begin-talking e peer a start desk1 earlier state sent1 left1 opened named added share options files count refused knows live wrote is =
     let g = ground_of e peer start in
     let r = read-begin start.input in
     record {
       rest = r.0;
       standing = record {
-        turns = [];
+        parts = [];
         cut = r.1;
         ruled = tt;
+        heard = refl;
         long = λ h. cc;
         speaking = record {
           seen = seen-none g desk1.faults count;
@@ -128,15 +133,16 @@ pub begin-cut : (e : Entry) (peer : Peer) (a : Answer) (start : Start) (desk1 : 
     desk1.options ≡ start.desk.options → start.desk.faults ≤ desk1.faults → desk1.refused ≡ start.desk.refused →
     state.session ≡ peer.session → state.is_over ≡ false →
     WritesFront start.sent sent1 (greeting_line start.desk.options.greeting) →
-    IsCut (ground_of e peer start) state start.edge desk1 sent1
+    IsCut (ground_of e peer start) state start.edge desk1 sent1 []
 begin-cut e peer a start desk1 earlier state sent1 opened named added share options count refused session live wrote =
     let g = ground_of e peer start in
     let r = read-begin start.input in
     record {
-      turns = [];
+      parts = [];
       rest = r.0;
       cut = r.1;
       ruled = tt;
+      heard = refl;
       long = λ h. cc;
       front = record {
         session = session;
@@ -147,16 +153,26 @@ begin-cut e peer a start desk1 earlier state sent1 opened named added share opti
         vouched = λ v. tt;
         share = share;
         refused = omega (arith, refused);
-        written = says-none start.sent sent1 start.edge.paused start.edge.paused (greeting_line start.desk.options.greeting) [] wrote refl;
+        written = pieces-none start.sent sent1 start.edge.paused start.edge.paused (greeting_line start.desk.options.greeting) [] wrote refl;
       };
     }
 
 -- what was said of each end
-pub serves-of : (x : ServeEnd) (opening : HubEvent) (a : Answer) (start : Start) (edge : EdgeView) (desk : DeskView) (sent : Option (List ℕ)) →
-    IsServedTo x opening a start edge desk sent → Serves x opening a start edge desk sent
-serves-of end.Ended opening a start edge desk sent h = h
-serves-of (end.Refused d) opening a start edge desk sent h = absurd h.outcome
-serves-of end.ReadFault opening a start edge desk sent h = h
-serves-of end.WriteFault opening a start edge desk sent h = h
-serves-of end.OutOfMemory opening a start edge desk sent h = inr h
-serves-of end.Exhausted opening a start edge desk sent h = inr h
+pub serves-with : (may : MayDoSo) (first : Option (List ℕ)) (x : ServeEnd) (opening : HubEvent) (a : Answer) (start : Start) (edge : EdgeView) (desk : DeskView) (sent : Option (List ℕ)) →
+    IsServedWith may first x opening a start edge desk sent → ServesWith may first x opening a start edge desk sent
+serves-with may first end.Ended opening a start edge desk sent h = h
+serves-with may first (end.Refused d) opening a start edge desk sent h = absurd h.outcome
+serves-with may first end.ReadFault opening a start edge desk sent h = h
+serves-with may first end.WriteFault opening a start edge desk sent h = h
+serves-with may first end.OutOfMemory opening a start edge desk sent h = inr h
+serves-with may first end.Exhausted opening a start edge desk sent h = inr h
+
+-- what was heard is what may be done
+pub ends-with : (may : MayDoSo) (first : Option (List ℕ)) (x : ServeEnd) (g : Ground) (edge : EdgeView) (desk : DeskView) (sent : Option (List ℕ)) (hs : List HeardLine) →
+    AreAllowed may first hs → OutcomeHeard x g edge desk sent hs → OutcomeWith may first x g edge desk sent
+ends-with may first end.Ended g edge desk sent hs allowed h = (hs, allowed, h)
+ends-with may first (end.Refused d) g edge desk sent hs allowed h = absurd h
+ends-with may first end.ReadFault g edge desk sent hs allowed h = (hs, allowed, h)
+ends-with may first end.WriteFault g edge desk sent hs allowed h = (hs, allowed, h)
+ends-with may first end.OutOfMemory g edge desk sent hs allowed h = (hs, allowed, h)
+ends-with may first end.Exhausted g edge desk sent hs allowed h = (hs, allowed, h)

@@ -31,15 +31,16 @@ use Rattle.ftp_control.specs.Line.{parsed}
 use Rattle.ftp_control.specs.Lines.{Rest}
 use Rattle.ftp_shared.specs.Desk.{DeskView, SameDesk, IsVouched}
 use Rattle.ftp_control.specs.ControlLine.{RanOut, IsLong}
-use Rattle.ftp_talk.specs.Saying.{said}
 use Rattle.ftp_control.proofs.ControlLineLemmas.{long-append}
-use Rattle.ftp_talk.proofs.DelayLemmas.{says-longer, says-still}
+use Rattle.ftp_talk.specs.Parts.{HeardLine, turns_of, turn_pieces, due_pieces}
+use Rattle.ftp_talk.specs.Extended.{TalkHeard, TalkFrontHeard}
+use Rattle.ftp_talk.proofs.PieceLemmas.{pieces-longer, pieces-still}
 use Rattle.ftp_talk.specs.declared.control_session.ControlSession.{ControlSession}
 use Rattle.ftp_talk.specs.Ground.{Step, ALine, AnAnswer, AnIdleTick, ASlotTick, ALongLine, AClose, Turn, Ground, history, lines_in}
 use Rattle.ftp_talk.specs.Turns.{Due, LineDue, AnswerDue, SlotTickDue, CloseDue, NothingDue, is_end, due, due_by, due_after, due_behind}
 use Rattle.ftp_talk.specs.Seen.{AreFed, all_missing, all_failed, missing_in, failed_in}
-use Rattle.ftp_talk.specs.Talk.{Talk, TalkFront, IsInput, due_replies, greeting_of, is_long, is_long_last, is_over, MayClose}
-use Rattle.ftp_talk.specs.Speaking.{Entered, Spoken, Halted, Standing, IsCut, Talking, Outcome, end_by, turn_of}
+use Rattle.ftp_talk.specs.Talk.{IsInput, greeting_of, is_long, is_long_last, is_over, MayClose}
+use Rattle.ftp_talk.specs.Speaking.{Entered, Spoken, Halted, Standing, IsCut, Talking, OutcomeHeard, end_by, turn_of}
 use Rattle.ftp_talk.proofs.TalkLemmas.{counted-on, counted-less, kept-more, kept-same, grew-of, rises-same, risen-on, vouched-more, shares-more}
 
 -- ---- what is due
@@ -143,20 +144,21 @@ closed-ends o earlier e s vouched is =
 -- ---- a talk
 
 -- the last entry ended the session
-pub talk-over : (g : Ground) (state : ControlSession) (edge : EdgeView) (desk : DeskView) (sent : Option (List ℕ)) (rest : List ℕ) →
-    Standing NothingDue g state edge desk sent rest → Talk g edge desk sent
-talk-over g state edge desk sent rest s =
-    let over = over-due s.turns s.stands in
+pub talk-over : (g : Ground) (state : ControlSession) (edge : EdgeView) (desk : DeskView) (sent : Option (List ℕ)) (hs : List HeardLine) (rest : List ℕ) →
+    Standing NothingDue g state edge desk sent hs rest → TalkHeard g edge desk sent hs
+talk-over g state edge desk sent hs rest s =
+    let over = over-due (turns_of s.parts) s.stands in
     record {
-      turns = s.turns;
+      parts = s.parts;
       close = None;
       rest = rest;
       cut = s.cut;
       ruled = s.ruled;
+      heard = s.heard;
       long = s.long;
       ended = over;
       seen = s.speaking.seen;
-      grew = grew-of g desk s.turns s.speaking.kept;
+      grew = grew-of g desk (turns_of s.parts) s.speaking.kept;
       vouched = s.speaking.vouched;
       last = λ v. over;
       share = s.speaking.share;
@@ -166,26 +168,27 @@ talk-over g state edge desk sent rest s =
 
 -- the connection was closed behind the lines
 pub talk-closed : (g : Ground) (state0 state : ControlSession) (edge0 edge : EdgeView) (desk0 desk : DeskView) (sent0 sent : Option (List ℕ))
-    (d : Due) (rest : List ℕ) (d0 : Decision) (s : Standing d g state0 edge0 desk0 sent0 rest) →
-    Spoken g state edge desk sent s.turns AClose (kind.Closed g.session) d0 →
+    (d : Due) (hs : List HeardLine) (rest : List ℕ) (d0 : Decision) (s : Standing d g state0 edge0 desk0 sent0 hs rest) →
+    Spoken g state edge desk sent (turns_of s.parts) (due_pieces g s.parts) AClose (kind.Closed g.session) d0 →
     MayClose d rest →
-    Talk g edge desk sent
-talk-closed g state0 state edge0 edge desk0 desk sent0 sent d rest d0 s spoken may =
+    TalkHeard g edge desk sent hs
+talk-closed g state0 state edge0 edge desk0 desk sent0 sent d hs rest d0 s spoken may =
     let close = turn_of AClose spoken.earlier spoken.entry in
     record {
-      turns = s.turns;
+      parts = s.parts;
       close = Some close;
       rest = rest;
       cut = s.cut;
       ruled = s.ruled;
+      heard = s.heard;
       long = s.long;
       ended = (
         record { step = refl; kind = spoken.kind; answer = spoken.answer },
-        lives s.turns d s.stands (closable-lives d rest may),
+        lives (turns_of s.parts) d s.stands (closable-lives d rest may),
         subst (λ (x : Due). MayClose x rest) (sym s.stands) may,
       );
       seen = spoken.speaking.seen;
-      grew = grew-of g desk (close ∷ s.turns) spoken.speaking.kept;
+      grew = grew-of g desk (close ∷ (turns_of s.parts)) spoken.speaking.kept;
       vouched = spoken.speaking.vouched;
       last = λ v. closed-ends g.start.desk.options spoken.earlier spoken.entry g.session (spoken.speaking.vouched v).0 spoken.kind;
       share = spoken.speaking.share;
@@ -199,125 +202,130 @@ fed-less g (Some f) t ts h = h.0
 
 -- the connection was to be closed, and that was cut short
 pub front-halted : (g : Ground) (state0 state : ControlSession) (edge0 edge : EdgeView) (desk0 desk : DeskView) (sent0 sent : Option (List ℕ))
-    (d : Due) (rest : List ℕ) (s : Standing d g state0 edge0 desk0 sent0 rest) →
-    Halted g state edge desk sent s.turns AClose (kind.Closed g.session) →
+    (d : Due) (hs : List HeardLine) (rest : List ℕ) (s : Standing d g state0 edge0 desk0 sent0 hs rest) →
+    Halted g state edge desk sent (turns_of s.parts) (due_pieces g s.parts) AClose (kind.Closed g.session) →
     MayClose d rest →
-    TalkFront g edge desk sent
-front-halted g state0 state edge0 edge desk0 desk sent0 sent d rest s (inl halted) may =
+    TalkFrontHeard g edge desk sent hs
+front-halted g state0 state edge0 edge desk0 desk sent0 sent d hs rest s (inl halted) may =
     let f = halted.0 in
     record {
-      turns = s.turns;
+      parts = s.parts;
       close = None;
       rest = rest;
       cut = s.cut;
       ruled = s.ruled;
+      heard = s.heard;
       long = s.long;
       closing = inr halted.1;
       seen = f.seen;
-      grew = grew-of g desk s.turns f.kept;
+      grew = grew-of g desk (turns_of s.parts) f.kept;
       vouched = f.vouched;
       share = f.share;
       written = f.written;
     }
-front-halted g state0 state edge0 edge desk0 desk sent0 sent d rest s (inr heard) may =
+front-halted g state0 state edge0 edge desk0 desk sent0 sent d hs rest s (inr heard) may =
     let t = turn_of AClose heard.earlier heard.entry in
     let f = heard.front in
     record {
-      turns = s.turns;
+      parts = s.parts;
       close = Some t;
       rest = rest;
       cut = s.cut;
       ruled = s.ruled;
+      heard = s.heard;
       long = s.long;
-      closing = (record { step = refl; kind = heard.kind; answer = heard.answer }, lives s.turns d s.stands (closable-lives d rest may));
+      closing = (record { step = refl; kind = heard.kind; answer = heard.answer }, lives (turns_of s.parts) d s.stands (closable-lives d rest may));
       seen = record {
-        fed = fed-less g g.start.edge.feed t s.turns f.seen.fed;
-        edge = counted-less (all_missing g s.turns) (missing_in g (history g s.turns) heard.entry.event.kind) g.start.edge.faults edge.faults edge.faults f.seen.edge (omega arith);
-        storage = counted-less (all_failed s.turns) (failed_in heard.entry.event.kind) g.start.desk.faults desk.faults desk.faults f.seen.storage (omega arith);
+        fed = fed-less g g.start.edge.feed t (turns_of s.parts) f.seen.fed;
+        edge = counted-less (all_missing g (turns_of s.parts)) (missing_in g (history g (turns_of s.parts)) heard.entry.event.kind) g.start.edge.faults edge.faults edge.faults f.seen.edge (omega arith);
+        storage = counted-less (all_failed (turns_of s.parts)) (failed_in heard.entry.event.kind) g.start.desk.faults desk.faults desk.faults f.seen.storage (omega arith);
       };
-      grew = grew-of g desk (t ∷ s.turns) f.kept;
+      grew = grew-of g desk (t ∷ (turns_of s.parts)) f.kept;
       vouched = f.vouched;
       share = f.share;
       written = f.written;
     }
 
 -- the session had ended where the talk was cut short
-pub left-over : (g : Ground) (state : ControlSession) (edge : EdgeView) (desk : DeskView) (sent : Option (List ℕ)) → IsCut g state edge desk sent → state.is_over ≡ true → TalkFront g edge desk sent
-left-over g state edge desk sent c over =
+pub left-over : (g : Ground) (state : ControlSession) (edge : EdgeView) (desk : DeskView) (sent : Option (List ℕ)) (hs : List HeardLine) → IsCut g state edge desk sent hs → state.is_over ≡ true → TalkFrontHeard g edge desk sent hs
+left-over g state edge desk sent hs c over =
     record {
-      turns = c.turns;
+      parts = c.parts;
       close = None;
       rest = c.rest;
       cut = c.cut;
       ruled = c.ruled;
+      heard = c.heard;
       long = c.long;
       closing = inl (sym c.front.over ∙ over);
       seen = c.front.seen;
-      grew = grew-of g desk c.turns c.front.kept;
+      grew = grew-of g desk (turns_of c.parts) c.front.kept;
       vouched = c.front.vouched;
       share = c.front.share;
       written = c.front.written;
     }
 
 -- after the cut there was no memory for the event that closes
-pub left-alone : (g : Ground) (state : ControlSession) (edge edge1 : EdgeView) (desk desk1 : DeskView) (sent : Option (List ℕ)) →
-    IsCut g state edge desk sent → edge.faults ≤ edge1.faults → edge1.paused ≡ edge.paused → SameDesk desk desk1 → HasRisen desk.refused desk1.refused → TalkFront g edge1 desk1 sent
-left-alone g state edge edge1 desk desk1 sent c count still same risen =
+pub left-alone : (g : Ground) (state : ControlSession) (edge edge1 : EdgeView) (desk desk1 : DeskView) (sent : Option (List ℕ)) (hs : List HeardLine) →
+    IsCut g state edge desk sent hs → edge.faults ≤ edge1.faults → edge1.paused ≡ edge.paused → SameDesk desk desk1 → HasRisen desk.refused desk1.refused → TalkFrontHeard g edge1 desk1 sent hs
+left-alone g state edge edge1 desk desk1 sent hs c count still same risen =
     let f = c.front in
     record {
-      turns = c.turns;
+      parts = c.parts;
       close = None;
       rest = c.rest;
       cut = c.cut;
       ruled = c.ruled;
+      heard = c.heard;
       long = c.long;
       closing = inr (risen-on g.start.desk.refused desk.refused desk1.refused f.refused risen same.refused);
       seen = record {
         fed = f.seen.fed;
-        edge = counted-on (all_missing g c.turns) g.start.edge.faults edge.faults edge1.faults f.seen.edge count;
-        storage = counted-on (all_failed c.turns) g.start.desk.faults desk.faults desk1.faults f.seen.storage same.count;
+        edge = counted-on (all_missing g (turns_of c.parts)) g.start.edge.faults edge.faults edge1.faults f.seen.edge count;
+        storage = counted-on (all_failed (turns_of c.parts)) g.start.desk.faults desk.faults desk1.faults f.seen.storage same.count;
       };
-      grew = grew-of g desk1 c.turns (kept-same g desk desk1 c.turns f.kept same);
+      grew = grew-of g desk1 (turns_of c.parts) (kept-same g desk desk1 (turns_of c.parts) f.kept same);
       vouched = f.vouched;
       share = rises-same _ g.start.desk.share desk.share desk1.share f.share same.share;
-      written = says-still g.start.sent sent g.start.edge.paused edge.paused edge1.paused (greeting_of g) (due_replies g c.turns) still f.written;
+      written = pieces-still g.start.sent sent g.start.edge.paused edge.paused edge1.paused (greeting_of g) (due_pieces g c.parts) still f.written;
     }
 
 -- after the cut the connection was closed
-pub left-closed : (g : Ground) (vouches : Bool) (state : ControlSession) (edge edge1 : EdgeView) (desk desk1 : DeskView) (sent : Option (List ℕ))
+pub left-closed : (g : Ground) (vouches : Bool) (state : ControlSession) (edge edge1 : EdgeView) (desk desk1 : DeskView) (sent : Option (List ℕ)) (hs : List HeardLine)
     (earlier : List (ℕ × Reply)) (e : Entry) (s : ℕ) →
-    IsCut g state edge desk sent → state.is_over ≡ false → s ≡ state.session → g.start.vouches ≡ vouches →
+    IsCut g state edge desk sent hs → state.is_over ≡ false → s ≡ state.session → g.start.vouches ≡ vouches →
     Entered vouches edge edge1 desk desk1 earlier e (kind.Closed s) →
-    TalkFront g edge1 desk1 sent
-left-closed g vouches state edge edge1 desk desk1 sent earlier e s c live named same n =
+    TalkFrontHeard g edge1 desk1 sent hs
+left-closed g vouches state edge edge1 desk desk1 sent hs earlier e s c live named same n =
     let f = c.front in
     let t = turn_of AClose earlier e in
     let closed : e.event.kind ≡ kind.Closed g.session = n.kind ∙ ap (λ (n : ℕ). kind.Closed n) (named ∙ f.session) in
     record {
-      turns = c.turns;
+      parts = c.parts;
       close = Some t;
       rest = c.rest;
       cut = c.cut;
       ruled = c.ruled;
+      heard = c.heard;
       long = c.long;
       closing = (record { step = refl; kind = closed; answer = n.answer }, sym f.over ∙ live);
       seen = record {
         fed = f.seen.fed;
-        edge = counted-on (all_missing g c.turns) g.start.edge.faults edge.faults edge1.faults f.seen.edge n.taken.count;
-        storage = counted-on (all_failed c.turns) g.start.desk.faults desk.faults desk1.faults f.seen.storage n.count;
+        edge = counted-on (all_missing g (turns_of c.parts)) g.start.edge.faults edge.faults edge1.faults f.seen.edge n.taken.count;
+        storage = counted-on (all_failed (turns_of c.parts)) g.start.desk.faults desk.faults desk1.faults f.seen.storage n.count;
       };
-      grew = grew-of g desk1 (t ∷ c.turns) (kept-more g desk desk1 c.turns AClose earlier e f.kept n.appended (ap own_session closed));
-      vouched = vouched-more g vouches desk c.turns AClose earlier e f.vouched same f.options n.vouched;
-      share = shares-more g desk desk1 c.turns AClose earlier e f.share n.share;
-      written = says-longer g.start.sent sent g.start.edge.paused edge1.paused (greeting_of g) (due_replies g c.turns) (said g.session earlier e.actions)
-          (says-still g.start.sent sent g.start.edge.paused edge.paused edge1.paused (greeting_of g) (due_replies g c.turns) n.unpaused f.written);
+      grew = grew-of g desk1 (t ∷ (turns_of c.parts)) (kept-more g desk desk1 (turns_of c.parts) AClose earlier e f.kept n.appended (ap own_session closed));
+      vouched = vouched-more g vouches desk (turns_of c.parts) AClose earlier e f.vouched same f.options n.vouched;
+      share = shares-more g desk desk1 (turns_of c.parts) AClose earlier e f.share n.share;
+      written = pieces-longer g.start.sent sent g.start.edge.paused edge1.paused (greeting_of g) (due_pieces g c.parts) (turn_pieces g t)
+          (pieces-still g.start.sent sent g.start.edge.paused edge.paused edge1.paused (greeting_of g) (due_pieces g c.parts) n.unpaused f.written);
     }
 
 -- a fault of a write, or want of memory
-pub ends-front : (f : Halt) (g : Ground) (edge : EdgeView) (desk : DeskView) (sent : Option (List ℕ)) → TalkFront g edge desk sent → Outcome (end_by f) g edge desk sent
-ends-front Fault g edge desk sent h = h
-ends-front Memory g edge desk sent h = h
-ends-front Exhausted g edge desk sent h = h
+pub ends-front : (f : Halt) (g : Ground) (edge : EdgeView) (desk : DeskView) (sent : Option (List ℕ)) (hs : List HeardLine) → TalkFrontHeard g edge desk sent hs → OutcomeHeard (end_by f) g edge desk sent hs
+ends-front Fault g edge desk sent hs h = h
+ends-front Memory g edge desk sent hs h = h
+ends-front Exhausted g edge desk sent hs h = h
 
 -- ---- the input
 
@@ -337,19 +345,20 @@ read-on (Some all) a line held held1 rest (Some l) (Some l1) input read told = (
 )
 
 -- a line was found, or nothing: it stands before the rest
-pub standing-line : (g : Ground) (state : ControlSession) (edge : EdgeView) (desk : DeskView) (sent : Option (List ℕ)) (line held held1 : List ℕ) (left left1 : Option (List ℕ)) →
-    Talking g state edge desk sent held left →
+pub standing-line : (g : Ground) (state : ControlSession) (edge : EdgeView) (desk : DeskView) (sent : Option (List ℕ)) (hs : List HeardLine) (line held held1 : List ℕ) (left left1 : Option (List ℕ)) →
+    Talking g state edge desk sent hs held left →
     IfSome left (λ l. Rest (line ++ held1) left1 (held ++ l)) →
-    (rest1 : List ℕ) × Standing LineDue g state edge desk sent (line ++ rest1) × IfSome g.start.input (λ all. Rest held1 left1 rest1)
-standing-line g state edge desk sent line held held1 left left1 t told =
+    (rest1 : List ℕ) × Standing LineDue g state edge desk sent hs (line ++ rest1) × IfSome g.start.input (λ all. Rest held1 left1 rest1)
+standing-line g state edge desk sent hs line held held1 left left1 t told =
     let s = t.standing in
-    let r = read-on g.start.input (lines_in s.turns) line held held1 t.rest left left1 s.cut t.read told in (
+    let r = read-on g.start.input (lines_in (turns_of s.parts)) line held held1 t.rest left left1 s.cut t.read told in (
       r.0,
       record {
-        turns = s.turns;
+        parts = s.parts;
         cut = r.1;
         ruled = s.ruled;
-        long = λ h. absurd (short-due s.turns s.stands h);
+        heard = s.heard;
+        long = λ h. absurd (short-due (turns_of s.parts) s.stands h);
         speaking = s.speaking;
         stands = s.stands;
       },
@@ -375,21 +384,22 @@ read-shown (Some all) a held held1 rest (Some l) (Some l1) P input read told alo
 )
 
 -- what is held shows of the rest that it is too long, or that no line is left
-standing-shown : (g : Ground) (state : ControlSession) (edge : EdgeView) (desk : DeskView) (sent : Option (List ℕ)) (held held1 : List ℕ) (left left1 : Option (List ℕ)) (P : List ℕ → Type 0) →
-    Talking g state edge desk sent held left →
+standing-shown : (g : Ground) (state : ControlSession) (edge : EdgeView) (desk : DeskView) (sent : Option (List ℕ)) (hs : List HeardLine) (held held1 : List ℕ) (left left1 : Option (List ℕ)) (P : List ℕ → Type 0) →
+    Talking g state edge desk sent hs held left →
     IfSome left (λ l. Rest held1 left1 (held ++ l)) →
     P held1 →
     ((l more : List ℕ) → left ≡ Some l → left1 ≡ Some more → P (held1 ++ more)) →
-    (rest1 : List ℕ) × Standing LineDue g state edge desk sent rest1 × P rest1 × IfSome g.start.input (λ all. Rest held1 left1 rest1)
-standing-shown g state edge desk sent held held1 left left1 P t told alone more =
+    (rest1 : List ℕ) × Standing LineDue g state edge desk sent hs rest1 × P rest1 × IfSome g.start.input (λ all. Rest held1 left1 rest1)
+standing-shown g state edge desk sent hs held held1 left left1 P t told alone more =
     let s = t.standing in
-    let r = read-shown g.start.input (lines_in s.turns) held held1 t.rest left left1 P s.cut t.read told alone more in (
+    let r = read-shown g.start.input (lines_in (turns_of s.parts)) held held1 t.rest left left1 P s.cut t.read told alone more in (
       r.0,
       record {
-        turns = s.turns;
+        parts = s.parts;
         cut = r.1;
         ruled = s.ruled;
-        long = λ h. absurd (short-due s.turns s.stands h);
+        heard = s.heard;
+        long = λ h. absurd (short-due (turns_of s.parts) s.stands h);
         speaking = s.speaking;
         stands = s.stands;
       },
@@ -398,13 +408,13 @@ standing-shown g state edge desk sent held held1 left left1 P t told alone more 
     )
 
 -- a line that is too long stands next
-pub standing-long : (g : Ground) (state : ControlSession) (edge : EdgeView) (desk : DeskView) (sent : Option (List ℕ)) (held held1 : List ℕ) (left left1 : Option (List ℕ)) →
-    Talking g state edge desk sent held left →
+pub standing-long : (g : Ground) (state : ControlSession) (edge : EdgeView) (desk : DeskView) (sent : Option (List ℕ)) (hs : List HeardLine) (held held1 : List ℕ) (left left1 : Option (List ℕ)) →
+    Talking g state edge desk sent hs held left →
     IfSome left (λ l. Rest held1 left1 (held ++ l)) →
     IsLong held1 →
-    (rest1 : List ℕ) × Standing LineDue g state edge desk sent rest1 × IsLong rest1 × IfSome g.start.input (λ all. Rest held1 left1 rest1)
-standing-long g state edge desk sent held held1 left left1 t told long =
-    standing-shown g state edge desk sent held held1 left left1 IsLong t told long (λ l more isl is. long-append held1 more long)
+    (rest1 : List ℕ) × Standing LineDue g state edge desk sent hs rest1 × IsLong rest1 × IfSome g.start.input (λ all. Rest held1 left1 rest1)
+standing-long g state edge desk sent hs held held1 left left1 t told long =
+    standing-shown g state edge desk sent hs held held1 left left1 IsLong t told long (λ l more isl is. long-append held1 more long)
 
 ended-none : (left left1 : Option (List ℕ)) (held l more : List ℕ) → IfSome left (λ l. left1 ≡ Some []) → RanOut held → left ≡ Some l → left1 ≡ Some more → RanOut (held ++ more)
 ended-none left left1 held l more end out isl is =
@@ -413,22 +423,22 @@ ended-none left left1 held l more end out isl is =
     subst RanOut (sym (append-nil held) ∙ ap (λ (x : List ℕ). held ++ x) (sym none)) out
 
 -- no line is left
-pub standing-out : (g : Ground) (state : ControlSession) (edge : EdgeView) (desk : DeskView) (sent : Option (List ℕ)) (held held1 : List ℕ) (left left1 : Option (List ℕ)) →
-    Talking g state edge desk sent held left →
+pub standing-out : (g : Ground) (state : ControlSession) (edge : EdgeView) (desk : DeskView) (sent : Option (List ℕ)) (hs : List HeardLine) (held held1 : List ℕ) (left left1 : Option (List ℕ)) →
+    Talking g state edge desk sent hs held left →
     IfSome left (λ l. Rest held1 left1 (held ++ l)) →
     IfSome left (λ l. left1 ≡ Some []) →
     RanOut held1 →
-    (rest1 : List ℕ) × Standing LineDue g state edge desk sent rest1 × RanOut rest1 × IfSome g.start.input (λ all. Rest held1 left1 rest1)
-standing-out g state edge desk sent held held1 left left1 t told end out =
-    standing-shown g state edge desk sent held held1 left left1 RanOut t told out (λ l more isl is. ended-none left left1 held1 l more end out isl is)
+    (rest1 : List ℕ) × Standing LineDue g state edge desk sent hs rest1 × RanOut rest1 × IfSome g.start.input (λ all. Rest held1 left1 rest1)
+standing-out g state edge desk sent hs held held1 left left1 t told end out =
+    standing-shown g state edge desk sent hs held held1 left left1 RanOut t told out (λ l more isl is. ended-none left left1 held1 l more end out isl is)
 
 -- the control says the same of what was sent
-pub talking-sent : (g : Ground) (state : ControlSession) (edge : EdgeView) (desk : DeskView) (sent sent1 : Option (List ℕ)) (held : List ℕ) (left : Option (List ℕ)) →
-    sent1 ≡ sent → Talking g state edge desk sent held left → Talking g state edge desk sent1 held left
-talking-sent g state edge desk sent sent1 held left same t = subst (λ (o : Option (List ℕ)). Talking g state edge desk o held left) (sym same) t
+pub talking-sent : (g : Ground) (state : ControlSession) (edge : EdgeView) (desk : DeskView) (sent sent1 : Option (List ℕ)) (hs : List HeardLine) (held : List ℕ) (left : Option (List ℕ)) →
+    sent1 ≡ sent → Talking g state edge desk sent hs held left → Talking g state edge desk sent1 hs held left
+talking-sent g state edge desk sent sent1 hs held left same t = subst (λ (o : Option (List ℕ)). Talking g state edge desk o hs held left) (sym same) t
 
 -- a line is due again
-pub talking-on : (g : Ground) (state : ControlSession) (edge : EdgeView) (desk : DeskView) (sent : Option (List ℕ)) (held rest : List ℕ) (left left1 : Option (List ℕ)) →
-    Standing LineDue g state edge desk sent rest → IfSome g.start.input (λ all. Rest held left rest) → left1 ≡ left → Talking g state edge desk sent held left1
-talking-on g state edge desk sent held rest left left1 s read same =
+pub talking-on : (g : Ground) (state : ControlSession) (edge : EdgeView) (desk : DeskView) (sent : Option (List ℕ)) (hs : List HeardLine) (held rest : List ℕ) (left left1 : Option (List ℕ)) →
+    Standing LineDue g state edge desk sent hs rest → IfSome g.start.input (λ all. Rest held left rest) → left1 ≡ left → Talking g state edge desk sent hs held left1
+talking-on g state edge desk sent hs held rest left left1 s read same =
     record { rest = rest; standing = s; read = subst (λ (o : Option (List ℕ)). IfSome g.start.input (λ all. Rest held o rest)) (sym same) read }

@@ -1,8 +1,14 @@
 mod AskLemmas
+mod PieceLemmas
 mod TalkLemmas
 mod ServeLemmas
+mod HeardLemmas
 mod EndLemmas
 mod ResultLemmas
 mod ControlLemmas
 mod Written
 mod DelayLemmas
+mod PlainLemmas
+mod MergeLemmas
+mod SessionLemmas
+mod Examples

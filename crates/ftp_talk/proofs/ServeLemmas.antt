@@ -24,9 +24,12 @@ use Rattle.ftp_talk.specs.Ground.{Step, ALine, Turn, Ground, history, line_of, l
 use Rattle.ftp_talk.specs.Commands.{Gives, refused_as}
 use Rattle.ftp_talk.specs.Turns.{Due, LineDue, NothingDue, AnswerDue, is_end, due, due_by, due_behind, Comes}
 use Rattle.ftp_talk.specs.Seen.{IsDrawn, behind_kind, missing_in, failed_in, feed_after, all_missing, all_failed}
-use Rattle.ftp_talk.specs.Saying.{delays, IsPaused}
-use Rattle.ftp_talk.specs.Talk.{IsInput, due_replies, is_long}
-use Rattle.ftp_talk.specs.Serving.{is_pass, is_out, next_of, behind_refusal}
+use Rattle.ftp_extras.specs.Extra.{gives_password}
+use Rattle.ftp_talk.specs.Parts.{HeardLine, TalkPart, turns_of, is_heard_step, due_pieces}
+use Rattle.ftp_talk.specs.Pieces.{Pieces, piece_delays}
+use Rattle.ftp_talk.specs.Saying.{IsPaused}
+use Rattle.ftp_talk.specs.Talk.{IsInput, is_long}
+use Rattle.ftp_talk.specs.Serving.{is_out, next_of, behind_refusal}
 use Rattle.ftp_talk.specs.Speaking.{Knows, IsGround, SameEdge, Speaking, Asking, Spoken, Halted, Standing, IsCut, due_at, turn_of}
 use Rattle.ftp_talk.proofs.TalkLemmas.{counted-more, kept-same, rises-same, front-same}
 
@@ -77,16 +80,16 @@ ground-same g h edge edge1 desk desk1 is edges desks =
     }
 
 -- what was asked for an event, behind turns that were spoken
-pub asking-from : (g : Ground) (state : ControlSession) (edge edge1 : EdgeView) (desk desk1 : DeskView) (sent : Option (List ℕ)) (ts : List Turn) (k : EventKind) →
-    Speaking g state edge desk sent ts →
+pub asking-from : (g : Ground) (state : ControlSession) (edge edge1 : EdgeView) (desk desk1 : DeskView) (sent : Option (List ℕ)) (ts : List Turn) (pieces : Pieces) (k : EventKind) →
+    Speaking g state edge desk sent ts pieces →
     own_session k ≡ Some g.session →
     IfSome edge.feed (λ f. IsDrawn g (history g ts) k f × (edge1.feed ≡ Some (behind_kind g (history g ts) k f))) →
     IsCounted (missing_in g (history g ts) k) edge.faults edge1.faults →
     IsCounted (failed_in k) desk.faults desk1.faults →
     SameEdge edge edge1 →
     SameDesk desk desk1 →
-    Asking g state edge1 desk1 sent ts k
-asking-from g state edge edge1 desk desk1 sent ts k s named drawn missing failed edges desks =
+    Asking g state edge1 desk1 sent ts pieces k
+asking-from g state edge edge1 desk desk1 sent ts pieces k s named drawn missing failed edges desks =
     record {
       named = named;
       fed = s.seen.fed;
@@ -101,20 +104,20 @@ asking-from g state edge edge1 desk desk1 sent ts k s named drawn missing failed
       share = rises-same (length (history g ts)) g.start.desk.share desk.share desk1.share s.share desks.share;
       refused = omega (arith, s.refused, desks.refused);
       written = s.written;
-      paused = subst (IsPaused (delays (due_replies g ts)) g.start.edge.paused) (sym edges.paused) s.paused;
+      paused = subst (IsPaused (piece_delays pieces) g.start.edge.paused) (sym edges.paused) s.paused;
     }
 
 -- an event for which nothing is asked
-pub asking-plain : (g : Ground) (state : ControlSession) (edge : EdgeView) (desk : DeskView) (sent : Option (List ℕ)) (ts : List Turn) (k : EventKind) →
-    Speaking g state edge desk sent ts →
+pub asking-plain : (g : Ground) (state : ControlSession) (edge : EdgeView) (desk : DeskView) (sent : Option (List ℕ)) (ts : List Turn) (pieces : Pieces) (k : EventKind) →
+    Speaking g state edge desk sent ts pieces →
     own_session k ≡ Some g.session →
     ((f : Feed) → IsDrawn g (history g ts) k f) →
     ((f : Feed) → behind_kind g (history g ts) k f ≡ f) →
     missing_in g (history g ts) k ≡ 0 →
     failed_in k ≡ 0 →
-    Asking g state edge desk sent ts k
-asking-plain g state edge desk sent ts k s named drawn same missing failed =
-    asking-from g state edge edge desk desk sent ts k s named
+    Asking g state edge desk sent ts pieces k
+asking-plain g state edge desk sent ts pieces k s named drawn same missing failed =
+    asking-from g state edge edge desk desk sent ts pieces k s named
     (told_self edge.feed (λ f is. (drawn f, is ∙ ap Some (sym (same f)))))
     (λ lt. omega (arith, missing)) (λ lt. omega (arith, failed)) (same_edge edge) (same_desk desk)
 
@@ -135,12 +138,12 @@ own-of g h command.TypeCmd k e = ap own_session e
 own-of g h (command.Other word) k e = ap own_session e
 
 -- the answer to a line that is refused, and what is asked for it: nothing
-pub refused-plain : (g : Ground) (state : ControlSession) (edge : EdgeView) (desk : DeskView) (sent : Option (List ℕ)) (ts : List Turn) (s : ℕ) (e : LineError) →
-    Speaking g state edge desk sent ts → s ≡ g.session → Asking g state edge desk sent ts (refused_as s e)
-refused-plain g state edge desk sent ts s error.Utf8 spoken is = asking-plain g state edge desk sent ts (refused_as s error.Utf8) spoken (ap Some is) (λ f. tt) (λ f. refl) refl refl
-refused-plain g state edge desk sent ts s error.InvalidEol spoken is = asking-plain g state edge desk sent ts (refused_as s error.InvalidEol) spoken (ap Some is) (λ f. tt) (λ f. refl) refl refl
-refused-plain g state edge desk sent ts s error.InvalidCommand spoken is = asking-plain g state edge desk sent ts (refused_as s error.InvalidCommand) spoken (ap Some is) (λ f. tt) (λ f. refl) refl refl
-refused-plain g state edge desk sent ts s error.OutOfMemory spoken is = asking-plain g state edge desk sent ts (refused_as s error.OutOfMemory) spoken (ap Some is) (λ f. tt) (λ f. refl) refl refl
+pub refused-plain : (g : Ground) (state : ControlSession) (edge : EdgeView) (desk : DeskView) (sent : Option (List ℕ)) (ts : List Turn) (pieces : Pieces) (s : ℕ) (e : LineError) →
+    Speaking g state edge desk sent ts pieces → s ≡ g.session → Asking g state edge desk sent ts pieces (refused_as s e)
+refused-plain g state edge desk sent ts pieces s error.Utf8 spoken is = asking-plain g state edge desk sent ts pieces (refused_as s error.Utf8) spoken (ap Some is) (λ f. tt) (λ f. refl) refl refl
+refused-plain g state edge desk sent ts pieces s error.InvalidEol spoken is = asking-plain g state edge desk sent ts pieces (refused_as s error.InvalidEol) spoken (ap Some is) (λ f. tt) (λ f. refl) refl refl
+refused-plain g state edge desk sent ts pieces s error.InvalidCommand spoken is = asking-plain g state edge desk sent ts pieces (refused_as s error.InvalidCommand) spoken (ap Some is) (λ f. tt) (λ f. refl) refl refl
+refused-plain g state edge desk sent ts pieces s error.OutOfMemory spoken is = asking-plain g state edge desk sent ts pieces (refused_as s error.OutOfMemory) spoken (ap Some is) (λ f. tt) (λ f. refl) refl refl
 
 -- ---- what is due
 
@@ -152,7 +155,7 @@ next-due d x on e = due_if (is_end d) where
   due_if false = e
 
 -- behind a command that gives no password a line is due
-pub command-due : (c : Command) (d : Decision) → is_pass c ≡ false → due_behind (Ok c) d ≡ LineDue
+pub command-due : (c : Command) (d : Decision) → gives_password c ≡ false → due_behind (Ok c) d ≡ LineDue
 command-due (command.Pass p) d h = cc
 command-due (command.User p) d h = refl
 command-due (command.Cwd p) d h = refl
@@ -193,70 +196,79 @@ line-due line r d on same e = next-due d (due_behind (parsed line) d) on (ap (λ
 pub input-same : (input : Option (List ℕ)) (a b : List ℕ) → a ≡ b → IsInput input a → IsInput input b
 input-same input a b e h = subst (IsInput input) e h
 
--- a step was spoken behind turns
+-- a step was spoken behind parts
 pub standing-spoken : (g : Ground) (state0 state : ControlSession) (edge0 edge : EdgeView) (desk0 desk : DeskView) (sent0 sent : Option (List ℕ))
-    (old new : Due) (step : Step) (k : EventKind) (d : Decision) (rest : List ℕ)
-    (s : Standing old g state0 edge0 desk0 sent0 (line_of step ++ rest)) →
-    Spoken g state edge desk sent s.turns step k d →
-    Comes g (history g s.turns) old step k →
+    (old new : Due) (step : Step) (k : EventKind) (d : Decision) (hs : List HeardLine) (rest : List ℕ)
+    (s : Standing old g state0 edge0 desk0 sent0 hs (line_of step ++ rest)) →
+    Spoken g state edge desk sent (turns_of s.parts) (due_pieces g s.parts) step k d →
+    Comes g (history g (turns_of s.parts)) old step k →
+    is_heard_step step ≡ false →
     (is_long step ≡ true → IsLong rest) →
     due_by step d ≡ new →
-    Standing new g state edge desk sent rest
-standing-spoken g state0 state edge0 edge desk0 desk sent0 sent old new step k d rest s spoken comes long is =
+    Standing new g state edge desk sent hs rest
+standing-spoken g state0 state edge0 edge desk0 desk sent0 sent old new step k d hs rest s spoken comes unheard long is =
+    let ts = turns_of s.parts in
     record {
-      turns = turn_of step spoken.earlier spoken.entry ∷ s.turns;
-      cut = input-same g.start.input (lines_in s.turns ++ (line_of step ++ rest)) ((lines_in s.turns ++ line_of step) ++ rest) (sym (append_assoc (lines_in s.turns) (line_of step) rest)) s.cut;
+      parts = record { turn = turn_of step spoken.earlier spoken.entry; heard = None } ∷ s.parts;
+      cut = input-same g.start.input (lines_in ts ++ (line_of step ++ rest)) ((lines_in ts ++ line_of step) ++ rest) (sym (append_assoc (lines_in ts) (line_of step) rest)) s.cut;
       ruled = (
         s.ruled,
         (
-          subst (λ (x : EventKind). Comes g (history g s.turns) (due s.turns) step x) (sym spoken.kind)
-              (subst (λ (x : Due). Comes g (history g s.turns) x step k) (sym s.stands) comes),
-          spoken.answer,
+          subst (λ (x : EventKind). Comes g (history g ts) (due ts) step x) (sym spoken.kind)
+              (subst (λ (x : Due). Comes g (history g ts) x step k) (sym s.stands) comes),
+          unheard,
         ),
+        spoken.answer,
       );
+      heard = s.heard;
       long = long;
       speaking = spoken.speaking;
       stands = ap (due_by step) spoken.decision ∙ is;
     }
 
--- a step was cut short behind turns
+-- a step was cut short behind parts
 pub cut-spoken : (g : Ground) (state0 state : ControlSession) (edge0 edge : EdgeView) (desk0 desk : DeskView) (sent0 sent : Option (List ℕ))
-    (old : Due) (step : Step) (k : EventKind) (rest : List ℕ)
-    (s : Standing old g state0 edge0 desk0 sent0 (line_of step ++ rest)) →
-    Halted g state edge desk sent s.turns step k →
-    Comes g (history g s.turns) old step k →
+    (old : Due) (step : Step) (k : EventKind) (hs : List HeardLine) (rest : List ℕ)
+    (s : Standing old g state0 edge0 desk0 sent0 hs (line_of step ++ rest)) →
+    Halted g state edge desk sent (turns_of s.parts) (due_pieces g s.parts) step k →
+    Comes g (history g (turns_of s.parts)) old step k →
+    is_heard_step step ≡ false →
     (is_long step ≡ true → IsLong rest) →
-    IsCut g state edge desk sent
-cut-spoken g state0 state edge0 edge desk0 desk sent0 sent old step k rest s (inl halted) comes long =
-    record { turns = s.turns; rest = line_of step ++ rest; cut = s.cut; ruled = s.ruled; long = s.long; front = halted.0 }
-cut-spoken g state0 state edge0 edge desk0 desk sent0 sent old step k rest s (inr heard) comes long =
+    IsCut g state edge desk sent hs
+cut-spoken g state0 state edge0 edge desk0 desk sent0 sent old step k hs rest s (inl halted) comes unheard long =
+    record { parts = s.parts; rest = line_of step ++ rest; cut = s.cut; ruled = s.ruled; heard = s.heard; long = s.long; front = halted.0 }
+cut-spoken g state0 state edge0 edge desk0 desk sent0 sent old step k hs rest s (inr heard) comes unheard long =
+    let ts = turns_of s.parts in
     record {
-      turns = turn_of step heard.earlier heard.entry ∷ s.turns;
+      parts = record { turn = turn_of step heard.earlier heard.entry; heard = None } ∷ s.parts;
       rest = rest;
-      cut = input-same g.start.input (lines_in s.turns ++ (line_of step ++ rest)) ((lines_in s.turns ++ line_of step) ++ rest) (sym (append_assoc (lines_in s.turns) (line_of step) rest)) s.cut;
+      cut = input-same g.start.input (lines_in ts ++ (line_of step ++ rest)) ((lines_in ts ++ line_of step) ++ rest) (sym (append_assoc (lines_in ts) (line_of step) rest)) s.cut;
       ruled = (
         s.ruled,
         (
-          subst (λ (x : EventKind). Comes g (history g s.turns) (due s.turns) step x) (sym heard.kind)
-              (subst (λ (x : Due). Comes g (history g s.turns) x step k) (sym s.stands) comes),
-          heard.answer,
+          subst (λ (x : EventKind). Comes g (history g ts) (due ts) step x) (sym heard.kind)
+              (subst (λ (x : Due). Comes g (history g ts) x step k) (sym s.stands) comes),
+          unheard,
         ),
+        heard.answer,
       );
+      heard = s.heard;
       long = long;
       front = heard.front;
     }
 
--- turns that stand are cut where nothing was submitted since
-pub cut-standing : (g : Ground) (state : ControlSession) (edge edge1 : EdgeView) (desk desk1 : DeskView) (sent : Option (List ℕ)) (d : Due) (rest : List ℕ) →
-    Standing d g state edge desk sent rest → SameEdge edge edge1 → SameDesk desk desk1 → IsCut g state edge1 desk1 sent
-cut-standing g state edge edge1 desk desk1 sent d rest s edges desks =
+-- parts that stand are cut where nothing was submitted since
+pub cut-standing : (g : Ground) (state : ControlSession) (edge edge1 : EdgeView) (desk desk1 : DeskView) (sent : Option (List ℕ)) (d : Due) (hs : List HeardLine) (rest : List ℕ) →
+    Standing d g state edge desk sent hs rest → SameEdge edge edge1 → SameDesk desk desk1 → IsCut g state edge1 desk1 sent hs
+cut-standing g state edge edge1 desk desk1 sent d hs rest s edges desks =
     record {
-      turns = s.turns;
+      parts = s.parts;
       rest = rest;
       cut = s.cut;
       ruled = s.ruled;
+      heard = s.heard;
       long = s.long;
-      front = front-same g state edge edge1 desk desk1 sent s.turns s.speaking edges.count edges.paused desks;
+      front = front-same g state edge edge1 desk desk1 sent (turns_of s.parts) (due_pieces g s.parts) s.speaking edges.count edges.paused desks;
     }
 
 -- ---- what follows from what is said of a result

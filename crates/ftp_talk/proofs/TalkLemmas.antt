@@ -4,7 +4,6 @@ use Rattle.std.specs.Prelude.{IfSome, if◌then◌else◌}
 use Rattle.std.specs.List.{AllByRecursion}
 use Rattle.std.specs.Option.{option_map_or}
 use Rattle.std.proofs.lemmas.Bool.{cases_lt}
-use Rattle.std.proofs.lemmas.List.{append-nil}
 use Rattle.ftp_base.specs.declared.reply.Reply.{Reply}
 use Rattle.ftp_base.specs.Edge.{Feed, EdgeView, Takes, IsCounted, next_number, behind_moment, behind_word, behind_lookup, behind_port, behind_connect}
 use Rattle.ftp_base.specs.Outside.{HasRisen, Writes}
@@ -15,13 +14,15 @@ use Rattle.ftp_events.specs.declared.event.EventKind.TheVariants as kind
 use Rattle.ftp_shared.specs.Outbox.{own_session, outbox_after, replies_in}
 use Rattle.ftp_shared.specs.Desk.{DeskView, SameDesk, Appends, IsVouched, RisesBy}
 use Rattle.ftp_talk.specs.Saying.{encodings, delays, said, IsPaused, SaysFront}
-use Rattle.ftp_talk.proofs.DelayLemmas.{says-all, says-behind, wrote-behind, paused-behind}
+use Rattle.ftp_talk.specs.Pieces.{Pieces, pieces_of, piece_text, piece_delays, SaysPieces}
+use Rattle.ftp_talk.specs.Parts.{turn_pieces}
+use Rattle.ftp_talk.proofs.PieceLemmas.{text-replies, delays-replies, wrote-pieces, paused-pieces, says-replies, pieces-behind, pieces-all}
 use Rattle.ftp_talk.specs.declared.control_session.ControlSession.{ControlSession}
 use Rattle.ftp_talk.specs.Ground.{Step, Turn, Ground, history}
 use Rattle.ftp_talk.specs.Commands.{asked_name, asked_range, asked_target}
 use Rattle.ftp_talk.specs.Turns.{is_end}
 use Rattle.ftp_talk.specs.Seen.{behind_asked, behind_kind, IsDrawn, AreFed, feed_after, missing_in, failed_in, all_missing, all_failed}
-use Rattle.ftp_talk.specs.Talk.{Grew, AreVouched, Shares, due_replies, greeting_of, ArePaused, SaysSome}
+use Rattle.ftp_talk.specs.Talk.{Grew, AreVouched, Shares, greeting_of}
 use Rattle.ftp_talk.specs.Speaking.{Knows, Keeps, Speaking, Asking, Front, Entered, turn_of}
 
 -- ---- counts
@@ -158,8 +159,8 @@ shares-more g desk desk1 ts step earlier e before more =
 
 -- an event was submitted and answered
 pub spoken-is : (g : Ground) (vouches : Bool) (state state1 : ControlSession) (edge edge1 edge2 : EdgeView) (desk desk1 : DeskView) (sent sent1 : Option (List ℕ))
-    (ts : List Turn) (step : Step) (earlier : List (ℕ × Reply)) (e : Entry) (k : EventKind) →
-    Asking g state edge desk sent ts k →
+    (ts : List Turn) (pieces : Pieces) (step : Step) (earlier : List (ℕ × Reply)) (e : Entry) (k : EventKind) →
+    Asking g state edge desk sent ts pieces k →
     g.start.vouches ≡ vouches →
     Entered vouches edge edge1 desk desk1 earlier e k →
     Takes (λ f. f) edge1 edge2 →
@@ -167,10 +168,11 @@ pub spoken-is : (g : Ground) (vouches : Bool) (state state1 : ControlSession) (e
     state1.is_over ≡ is_end e.decision →
     Writes sent sent1 (encodings (said g.session earlier e.actions)) →
     IsPaused (delays (said g.session earlier e.actions)) edge1.paused edge2.paused →
-    Speaking g state1 edge2 desk1 sent1 (turn_of step earlier e ∷ ts)
-spoken-is g vouches state state1 edge edge1 edge2 desk desk1 sent sent1 ts step earlier e k asking same n two knows over wrote paused =
-    let a = subst (Asking g state edge desk sent ts) (sym n.kind) asking in
+    Speaking g state1 edge2 desk1 sent1 (turn_of step earlier e ∷ ts) (pieces ++ turn_pieces g (turn_of step earlier e))
+spoken-is g vouches state state1 edge edge1 edge2 desk desk1 sent sent1 ts pieces step earlier e k asking same n two knows over wrote paused =
+    let a = subst (Asking g state edge desk sent ts pieces) (sym n.kind) asking in
     let kept = kept-more g desk desk1 ts step earlier e a.kept n.appended a.named in
+    let replies = said g.session earlier e.actions in
     record {
       seen = record {
         fed = fed-more g g.start.edge.feed edge.feed ts e a.fed a.feed n.moment;
@@ -190,23 +192,25 @@ spoken-is g vouches state state1 edge edge1 edge2 desk desk1 sent sent1 ts step 
       vouched = vouched-more g vouches desk ts step earlier e a.vouched same a.ground.options n.vouched;
       share = shares-more g desk desk1 ts step earlier e a.share n.share;
       refused = omega (arith, a.refused, n.unrefused);
-      written = wrote-behind g.start.sent sent sent1 (greeting_of g) (due_replies g ts) (said g.session earlier e.actions) a.written wrote;
-      paused = paused-behind g.start.edge.paused edge.paused edge1.paused edge2.paused (due_replies g ts) (said g.session earlier e.actions) a.paused n.unpaused paused;
+      written = wrote-pieces g.start.sent sent sent1 (greeting_of g) pieces (pieces_of replies) a.written (subst (Writes sent sent1) (sym (text-replies replies)) wrote);
+      paused = paused-pieces g.start.edge.paused edge.paused edge1.paused edge2.paused pieces (pieces_of replies) a.paused n.unpaused
+          (subst (λ (n : ℕ). IsPaused n edge1.paused edge2.paused) (sym (delays-replies replies)) paused);
     }
 
 -- an event was submitted, and a part of what is due was said
 pub front-after : (g : Ground) (vouches : Bool) (state state1 : ControlSession) (edge edge1 edge2 : EdgeView) (desk desk1 : DeskView) (sent sent1 : Option (List ℕ))
-    (ts : List Turn) (step : Step) (earlier : List (ℕ × Reply)) (e : Entry) (k : EventKind) →
-    Asking g state edge desk sent ts k →
+    (ts : List Turn) (pieces : Pieces) (step : Step) (earlier : List (ℕ × Reply)) (e : Entry) (k : EventKind) →
+    Asking g state edge desk sent ts pieces k →
     g.start.vouches ≡ vouches →
     Entered vouches edge edge1 desk desk1 earlier e k →
     edge1.faults ≤ edge2.faults →
     state1.session ≡ state.session →
     state1.is_over ≡ is_end e.decision →
     SaysFront sent sent1 edge1.paused edge2.paused [] (said g.session earlier e.actions) →
-    Front g state1 edge2 desk1 sent1 (turn_of step earlier e ∷ ts)
-front-after g vouches state state1 edge edge1 edge2 desk desk1 sent sent1 ts step earlier e k asking same n two session over says =
-    let a = subst (Asking g state edge desk sent ts) (sym n.kind) asking in
+    Front g state1 edge2 desk1 sent1 (turn_of step earlier e ∷ ts) (pieces ++ turn_pieces g (turn_of step earlier e))
+front-after g vouches state state1 edge edge1 edge2 desk desk1 sent sent1 ts pieces step earlier e k asking same n two session over says =
+    let a = subst (Asking g state edge desk sent ts pieces) (sym n.kind) asking in
+    let replies = said g.session earlier e.actions in
     record {
       session = session ∙ a.known.session;
       over = over;
@@ -220,26 +224,26 @@ front-after g vouches state state1 edge edge1 edge2 desk desk1 sent sent1 ts ste
       vouched = vouched-more g vouches desk ts step earlier e a.vouched same a.ground.options n.vouched;
       share = shares-more g desk desk1 ts step earlier e a.share n.share;
       refused = omega (arith, a.refused, n.unrefused);
-      written = says-behind g.start.sent sent sent1 g.start.edge.paused edge1.paused edge2.paused (greeting_of g) [] (due_replies g ts) (said g.session earlier e.actions)
-          (greeting_of g ++ encodings (due_replies g ts), a.written, append-nil (greeting_of g ++ encodings (due_replies g ts)))
-          (subst (IsPaused (delays (due_replies g ts)) g.start.edge.paused) (sym n.unpaused) a.paused) says;
+      written = pieces-behind g.start.sent sent sent1 g.start.edge.paused edge1.paused edge2.paused (greeting_of g) pieces (pieces_of replies) a.written
+          (subst (IsPaused (piece_delays pieces) g.start.edge.paused) (sym n.unpaused) a.paused) (says-replies sent sent1 edge1.paused edge2.paused [] replies says);
     }
 
 -- all that is due was said, and nothing was paused since
-all-said : (g : Ground) (edge edge1 : EdgeView) (sent : Option (List ℕ)) (ts : List Turn) →
-    Writes g.start.sent sent (greeting_of g ++ encodings (due_replies g ts)) → ArePaused g edge ts → edge1.paused ≡ edge.paused → SaysSome g edge1 sent ts
-all-said g edge edge1 sent ts wrote paused still =
-    says-all g.start.sent sent g.start.edge.paused edge1.paused (greeting_of g) (due_replies g ts) wrote
-    (subst (IsPaused (delays (due_replies g ts)) g.start.edge.paused) (sym still) paused)
+all-said : (g : Ground) (edge edge1 : EdgeView) (sent : Option (List ℕ)) (pieces : Pieces) →
+    Writes g.start.sent sent (greeting_of g ++ piece_text pieces) → IsPaused (piece_delays pieces) g.start.edge.paused edge.paused → edge1.paused ≡ edge.paused →
+    SaysPieces g.start.sent sent g.start.edge.paused edge1.paused (greeting_of g) pieces
+all-said g edge edge1 sent pieces wrote paused still =
+    pieces-all g.start.sent sent g.start.edge.paused edge1.paused (greeting_of g) pieces wrote
+    (subst (IsPaused (piece_delays pieces) g.start.edge.paused) (sym still) paused)
 
 -- an event was not submitted
-pub front-before : (g : Ground) (state : ControlSession) (edge edge1 : EdgeView) (desk desk1 : DeskView) (sent : Option (List ℕ)) (ts : List Turn) (k : EventKind) →
-    Asking g state edge desk sent ts k →
+pub front-before : (g : Ground) (state : ControlSession) (edge edge1 : EdgeView) (desk desk1 : DeskView) (sent : Option (List ℕ)) (ts : List Turn) (pieces : Pieces) (k : EventKind) →
+    Asking g state edge desk sent ts pieces k →
     edge.faults ≤ edge1.faults →
     edge1.paused ≡ edge.paused →
     SameDesk desk desk1 →
-    Front g state edge1 desk1 sent ts
-front-before g state edge edge1 desk desk1 sent ts k a count still same =
+    Front g state edge1 desk1 sent ts pieces
+front-before g state edge edge1 desk desk1 sent ts pieces k a count still same =
     record {
       session = a.known.session;
       over = a.over;
@@ -253,17 +257,17 @@ front-before g state edge edge1 desk desk1 sent ts k a count still same =
       vouched = a.vouched;
       share = rises-same (length (history g ts)) g.start.desk.share desk.share desk1.share a.share same.share;
       refused = omega (arith, a.refused, same.refused);
-      written = all-said g edge edge1 sent ts a.written a.paused still;
+      written = all-said g edge edge1 sent pieces a.written a.paused still;
     }
 
 -- the turns that were spoken, where nothing was submitted since
-pub front-same : (g : Ground) (state : ControlSession) (edge edge1 : EdgeView) (desk desk1 : DeskView) (sent : Option (List ℕ)) (ts : List Turn) →
-    Speaking g state edge desk sent ts →
+pub front-same : (g : Ground) (state : ControlSession) (edge edge1 : EdgeView) (desk desk1 : DeskView) (sent : Option (List ℕ)) (ts : List Turn) (pieces : Pieces) →
+    Speaking g state edge desk sent ts pieces →
     edge.faults ≤ edge1.faults →
     edge1.paused ≡ edge.paused →
     SameDesk desk desk1 →
-    Front g state edge1 desk1 sent ts
-front-same g state edge edge1 desk desk1 sent ts s count still same =
+    Front g state edge1 desk1 sent ts pieces
+front-same g state edge edge1 desk desk1 sent ts pieces s count still same =
     record {
       session = s.known.session;
       over = s.over;
@@ -277,5 +281,5 @@ front-same g state edge edge1 desk desk1 sent ts s count still same =
       vouched = s.vouched;
       share = rises-same (length (history g ts)) g.start.desk.share desk.share desk1.share s.share same.share;
       refused = omega (arith, s.refused, same.refused);
-      written = all-said g edge edge1 sent ts s.written s.paused still;
+      written = all-said g edge edge1 sent pieces s.written s.paused still;
     }

@@ -8,3 +8,8 @@ pub mod Control
 pub mod Speaking
 pub mod Serving
 pub mod Saying
+pub mod Pieces
+pub mod Parts
+pub mod Extended
+pub mod ControlWith
+pub mod ExtendedLaws

@@ -2,18 +2,11 @@
 use Rattle.std.specs.Prelude.{Bool, true, false, if◌then◌else◌}
 use Rattle.ftp_events.specs.declared.decision.Decision.{Decision}
 use Rattle.ftp_events.specs.declared.decision.Decision.TheVariants as decision
-use Rattle.ftp_control.specs.declared.command.Command.{Command}
-use Rattle.ftp_control.specs.declared.command.Command.TheVariants as command
 use Rattle.ftp_control.specs.declared.line.LineError.{LineError}
 use Rattle.ftp_control.specs.declared.line.LineError.TheVariants as error
 use Rattle.ftp_talk.specs.declared.serving.Next.{Next}
 use Rattle.ftp_talk.specs.declared.serving.Next.TheVariants as next
 use Rattle.ftp_talk.specs.Turns.{is_end}
-
--- the command gives a password
-abbrev pub is_pass : Command → Bool
-is_pass (command.Pass password) = true
-is_pass _ = false
 
 -- a password is out to be checked
 abbrev pub is_out : Decision → Bool

@@ -1,5 +1,5 @@
 -- What is kept while a talk goes on.
-use Rattle.std.specs.Prelude.{◌≡◌, ℕ, ◌+◌, ◌%◌, ◌^◌, ◌≤◌, ◌⊎◌, Bool, true, false, List, [], ◌∷◌, ◌++◌, Option, Some, None, IfSome, MatchOption, is_some}
+use Rattle.std.specs.Prelude.{◌≡◌, ℕ, ◌+◌, ◌%◌, ◌^◌, ◌≤◌, ◌⊎◌, Bool, true, false, List, [], ◌∷◌, ◌++◌, Option, Some, None, IfSome, MatchOption, is_some, Ok}
 use Rattle.std.specs.Bool.{then_some}
 use Rattle.std.specs.List.{AllByRecursion}
 use Rattle.ftp_base.specs.declared.login.AuthAnswer.{AuthAnswer}
@@ -22,7 +22,7 @@ use Rattle.ftp_shared.specs.Outbox.{own_session}
 use Rattle.ftp_control.specs.declared.command.Command.{Command}
 use Rattle.ftp_control.specs.Lines.{Rest}
 use Rattle.ftp_shared.specs.Desk.{DeskView, IsVouched, Appends, RisesBy}
-use Rattle.ftp_control.specs.ControlLine.{IsLong}
+use Rattle.ftp_control.specs.ControlLine.{IsLine, IsLong}
 use Rattle.ftp_talk.specs.declared.control_session.Peer.{Peer}
 use Rattle.ftp_talk.specs.declared.control_session.ControlSession.{ControlSession}
 use Rattle.ftp_talk.specs.declared.halt.Halt.{Halt}
@@ -32,10 +32,18 @@ use Rattle.ftp_talk.specs.declared.serving.Next.TheVariants as next
 use Rattle.ftp_talk.specs.declared.serving.ServeEnd.{ServeEnd}
 use Rattle.ftp_talk.specs.declared.serving.ServeEnd.TheVariants as end
 use Rattle.ftp_talk.specs.Ground.{Step, Turn, Ground, history, lines_in}
-use Rattle.ftp_talk.specs.Commands.{asked_of, connected_to, looked_up, bound_in, MayBe, Gives}
-use Rattle.ftp_talk.specs.Turns.{Due, LineDue, CloseDue, NothingDue, due, Turns}
+use Rattle.ftp_extras.specs.declared.extra.Extra.{Extra}
+use Rattle.ftp_extras.specs.declared.extra.Extra.TheVariants as extra
+use Rattle.ftp_extras.specs.Extra.{AskerView, gives_password, is_beside, IsWhole}
+use Rattle.ftp_control.specs.Line.{parsed}
+use Rattle.ftp_talk.specs.Commands.{is_in, asked_of, connected_to, looked_up, bound_in, MayBe, Gives}
+use Rattle.ftp_talk.specs.Turns.{Due, LineDue, CloseDue, NothingDue, due}
 use Rattle.ftp_talk.specs.Seen.{IsSeen, IsDrawn, IsAsked, missing, behind_asked, AreFed, behind_kind, missing_in, failed_in, feed_after, all_missing, all_failed}
-use Rattle.ftp_talk.specs.Talk.{Talk, TalkFront, IsInput, AreVouched, Shares, due_text, ArePaused, SaysSome, is_over, is_long_last}
+use Rattle.ftp_talk.specs.Talk.{Talk, TalkFront, IsInput, AreVouched, Shares, greeting_of, is_over, is_long_last}
+use Rattle.ftp_talk.specs.Saying.{IsPaused}
+use Rattle.ftp_talk.specs.Pieces.{Pieces, piece_text, piece_delays, SaysPieces}
+use Rattle.ftp_talk.specs.Parts.{HeardLine, TalkPart, turns_of, heard_in, MayDoSo, AreAllowed, kept_behind, Parts, turn_pieces, due_pieces}
+use Rattle.ftp_talk.specs.Extended.{TalkHeard, TalkFrontHeard}
 
 -- what a state knows is what these entries tell
 pub record Knows (g : Ground) (state : ControlSession) (h : List Entry) : Type 0 where
@@ -115,7 +123,7 @@ Keeps g desk ts =
     IfSome g.start.desk.journal (λ J. (desk.journal ≡ Some (history g ts ++ J)) × (desk.outbox g.session ≡ []) × AllByRecursion (λ (t : Turn). t.earlier ≡ []) ts)
 
 -- the turns so far gave their entries, and all that is due was sent
-pub record Speaking (g : Ground) (state : ControlSession) (edge : EdgeView) (desk : DeskView) (sent : Option (List ℕ)) (ts : List Turn) : Type 0 where
+pub record Speaking (g : Ground) (state : ControlSession) (edge : EdgeView) (desk : DeskView) (sent : Option (List ℕ)) (ts : List Turn) (pieces : Pieces) : Type 0 where
   pub seen : IsSeen g ts edge desk.faults
   pub feed : IfSome g.start.edge.feed (λ f. edge.feed ≡ Some (feed_after g f ts))
   pub known : Knows g state (history g ts)
@@ -125,11 +133,11 @@ pub record Speaking (g : Ground) (state : ControlSession) (edge : EdgeView) (des
   pub refused : g.start.desk.refused ≤ desk.refused
   pub vouched : AreVouched g ts
   pub share : Shares g desk ts
-  pub written : Writes g.start.sent sent (due_text g ts)
-  pub paused : ArePaused g edge ts
+  pub written : Writes g.start.sent sent (greeting_of g ++ piece_text pieces)
+  pub paused : IsPaused (piece_delays pieces) g.start.edge.paused edge.paused
 
 -- edge and storage were asked, besides, for the next event
-pub record Asking (g : Ground) (state : ControlSession) (edge : EdgeView) (desk : DeskView) (sent : Option (List ℕ)) (ts : List Turn) (k : EventKind) : Type 0 where
+pub record Asking (g : Ground) (state : ControlSession) (edge : EdgeView) (desk : DeskView) (sent : Option (List ℕ)) (ts : List Turn) (pieces : Pieces) (k : EventKind) : Type 0 where
   pub named : own_session k ≡ Some g.session
   pub fed : IfSome g.start.edge.feed (λ f. AreFed g f ts)
   pub feed : IfSome g.start.edge.feed (λ f. IsDrawn g (history g ts) k (feed_after g f ts) × (edge.feed ≡ Some (behind_kind g (history g ts) k (feed_after g f ts))))
@@ -142,11 +150,11 @@ pub record Asking (g : Ground) (state : ControlSession) (edge : EdgeView) (desk 
   pub refused : g.start.desk.refused ≤ desk.refused
   pub vouched : AreVouched g ts
   pub share : Shares g desk ts
-  pub written : Writes g.start.sent sent (due_text g ts)
-  pub paused : ArePaused g edge ts
+  pub written : Writes g.start.sent sent (greeting_of g ++ piece_text pieces)
+  pub paused : IsPaused (piece_delays pieces) g.start.edge.paused edge.paused
 
 -- the turns so far gave their entries, and of what is due a front was sent
-pub record Front (g : Ground) (state : ControlSession) (edge : EdgeView) (desk : DeskView) (sent : Option (List ℕ)) (ts : List Turn) : Type 0 where
+pub record Front (g : Ground) (state : ControlSession) (edge : EdgeView) (desk : DeskView) (sent : Option (List ℕ)) (ts : List Turn) (pieces : Pieces) : Type 0 where
   pub session : state.session ≡ g.session
   pub over : state.is_over ≡ is_over ts
   pub options : desk.options ≡ g.start.desk.options
@@ -155,7 +163,7 @@ pub record Front (g : Ground) (state : ControlSession) (edge : EdgeView) (desk :
   pub refused : g.start.desk.refused ≤ desk.refused
   pub vouched : AreVouched g ts
   pub share : Shares g desk ts
-  pub written : SaysSome g edge sent ts
+  pub written : SaysPieces g.start.sent sent g.start.edge.paused edge.paused (greeting_of g) pieces
 
 -- an event of this moment was submitted, and this entry was told
 pub record Entered (vouches : Bool) (edge edge1 : EdgeView) (desk desk1 : DeskView) (earlier : List (ℕ × Reply)) (e : Entry) (k : EventKind) : Type 0 where
@@ -177,43 +185,45 @@ abbrev pub turn_of : Step → List (ℕ × Reply) → Entry → Turn
 turn_of step earlier e = record { step = step; earlier = earlier; entry = e }
 
 -- the event was submitted, decided so, and answered
-pub record Spoken (g : Ground) (state : ControlSession) (edge : EdgeView) (desk : DeskView) (sent : Option (List ℕ)) (ts : List Turn) (step : Step) (k : EventKind) (d : Decision) : Type 0 where
+pub record Spoken (g : Ground) (state : ControlSession) (edge : EdgeView) (desk : DeskView) (sent : Option (List ℕ)) (ts : List Turn) (pieces : Pieces) (step : Step) (k : EventKind) (d : Decision) : Type 0 where
   pub earlier : List (ℕ × Reply)
   pub entry : Entry
   pub kind : entry.event.kind ≡ k
   pub answer : entry.answer ≡ answer.None
   pub decision : entry.decision ≡ d
-  pub speaking : Speaking g state edge desk sent (turn_of step earlier entry ∷ ts)
+  pub speaking : Speaking g state edge desk sent (turn_of step earlier entry ∷ ts) (pieces ++ turn_pieces g (turn_of step earlier entry))
 
 -- the event was submitted, and of what is due a front was said
-pub record Heard (g : Ground) (state : ControlSession) (edge : EdgeView) (desk : DeskView) (sent : Option (List ℕ)) (ts : List Turn) (step : Step) (k : EventKind) : Type 0 where
+pub record Heard (g : Ground) (state : ControlSession) (edge : EdgeView) (desk : DeskView) (sent : Option (List ℕ)) (ts : List Turn) (pieces : Pieces) (step : Step) (k : EventKind) : Type 0 where
   pub earlier : List (ℕ × Reply)
   pub entry : Entry
   pub kind : entry.event.kind ≡ k
   pub answer : entry.answer ≡ answer.None
-  pub front : Front g state edge desk sent (turn_of step earlier entry ∷ ts)
+  pub front : Front g state edge desk sent (turn_of step earlier entry ∷ ts) (pieces ++ turn_pieces g (turn_of step earlier entry))
 
 -- the event was not taken, or it was submitted and not all was said
-abbrev pub Halted : Ground → ControlSession → EdgeView → DeskView → Option (List ℕ) → List Turn → Step → EventKind → Type 0
-Halted g state edge desk sent ts step k = (Front g state edge desk sent ts × HasRisen g.start.desk.refused desk.refused) ⊎ Heard g state edge desk sent ts step k
+abbrev pub Halted : Ground → ControlSession → EdgeView → DeskView → Option (List ℕ) → List Turn → Pieces → Step → EventKind → Type 0
+Halted g state edge desk sent ts pieces step k = (Front g state edge desk sent ts pieces × HasRisen g.start.desk.refused desk.refused) ⊎ Heard g state edge desk sent ts pieces step k
 
--- turns were spoken, this is due behind them, and this is the rest of the input
-pub record Standing (d : Due) (g : Ground) (state : ControlSession) (edge : EdgeView) (desk : DeskView) (sent : Option (List ℕ)) (rest : List ℕ) : Type 0 where
-  pub turns : List Turn
-  pub cut : IsInput g.start.input (lines_in turns ++ rest)
-  pub ruled : Turns g turns
-  pub long : is_long_last turns ≡ true → IsLong rest
-  pub speaking : Speaking g state edge desk sent turns
-  pub stands : due turns ≡ d
+-- parts were spoken in which these lines were heard, this is due behind them, and this is the rest of the input
+pub record Standing (d : Due) (g : Ground) (state : ControlSession) (edge : EdgeView) (desk : DeskView) (sent : Option (List ℕ)) (hs : List HeardLine) (rest : List ℕ) : Type 0 where
+  pub parts : List TalkPart
+  pub cut : IsInput g.start.input (lines_in (turns_of parts) ++ rest)
+  pub ruled : Parts g parts
+  pub heard : heard_in parts ≡ hs
+  pub long : is_long_last (turns_of parts) ≡ true → IsLong rest
+  pub speaking : Speaking g state edge desk sent (turns_of parts) (due_pieces g parts)
+  pub stands : due (turns_of parts) ≡ d
 
--- some turns were spoken, the last perhaps in part
-pub record IsCut (g : Ground) (state : ControlSession) (edge : EdgeView) (desk : DeskView) (sent : Option (List ℕ)) : Type 0 where
-  pub turns : List Turn
+-- some parts were spoken, the last perhaps not to its end
+pub record IsCut (g : Ground) (state : ControlSession) (edge : EdgeView) (desk : DeskView) (sent : Option (List ℕ)) (hs : List HeardLine) : Type 0 where
+  pub parts : List TalkPart
   pub rest : List ℕ
-  pub cut : IsInput g.start.input (lines_in turns ++ rest)
-  pub ruled : Turns g turns
-  pub long : is_long_last turns ≡ true → IsLong rest
-  pub front : Front g state edge desk sent turns
+  pub cut : IsInput g.start.input (lines_in (turns_of parts) ++ rest)
+  pub ruled : Parts g parts
+  pub heard : heard_in parts ≡ hs
+  pub long : is_long_last (turns_of parts) ≡ true → IsLong rest
+  pub front : Front g state edge desk sent (turns_of parts) (due_pieces g parts)
 
 -- what is due where this comes next
 abbrev pub due_at : Next → Due
@@ -222,9 +232,9 @@ due_at next.Over = NothingDue
 due_at next.Close = CloseDue
 
 -- a line is due, and what is held and left of the input is the rest, where the input is told
-pub record Talking (g : Ground) (state : ControlSession) (edge : EdgeView) (desk : DeskView) (sent : Option (List ℕ)) (held : List ℕ) (left : Option (List ℕ)) : Type 0 where
+pub record Talking (g : Ground) (state : ControlSession) (edge : EdgeView) (desk : DeskView) (sent : Option (List ℕ)) (hs : List HeardLine) (held : List ℕ) (left : Option (List ℕ)) : Type 0 where
   pub rest : List ℕ
-  pub standing : Standing LineDue g state edge desk sent rest
+  pub standing : Standing LineDue g state edge desk sent hs rest
   pub read : IfSome g.start.input (λ all. Rest held left rest)
 
 -- how a talk ended
@@ -232,6 +242,42 @@ abbrev pub Outcome : ServeEnd → Ground → EdgeView → DeskView → Option (L
 Outcome end.Ended g edge desk sent = Talk g edge desk sent
 Outcome (end.Refused d) g edge desk sent = ⊥
 Outcome _ g edge desk sent = TalkFront g edge desk sent
+
+-- how a talk ended in which these lines were heard
+abbrev pub OutcomeHeard : ServeEnd → Ground → EdgeView → DeskView → Option (List ℕ) → List HeardLine → Type 0
+OutcomeHeard end.Ended g edge desk sent hs = TalkHeard g edge desk sent hs
+OutcomeHeard (end.Refused d) g edge desk sent hs = ⊥
+OutcomeHeard _ g edge desk sent hs = TalkFrontHeard g edge desk sent hs
+
+-- who asks, as a state knows it
+abbrev pub asker_of : ControlSession → AskerView
+asker_of state = record { name = state.name; is_in = is_in state.login; cwd = state.cwd }
+
+-- a line is heard of who asks
+pub record IsHearing (state : ControlSession) (x : HeardLine) : Type 0 where
+  pub line : IsLine x.line
+  pub parsed : parsed x.line ≡ Ok x.command
+  pub unsecret : gives_password x.command ≡ false
+  pub who : x.who ≡ asker_of state
+  pub beside : is_beside x.command x.extra ≡ true
+  pub whole : IsWhole x.extra
+
+-- on a line that was heard this command is carried out
+abbrev pub Carries : Command → Extra → Command → Type 0
+Carries c extra.Pass done = c ≡ done
+Carries c (extra.As other) done = other ≡ done
+Carries c _ done = ⊥
+
+-- a line was cut short: before its turn, or in it
+abbrev pub IsCutAt : Ground → ControlSession → EdgeView → DeskView → Option (List ℕ) → List HeardLine → HeardLine → Type 0
+IsCutAt g state edge desk sent hs x = IsCut g state edge desk sent hs ⊎ IsCut g state edge desk sent (x ∷ hs)
+
+-- what was heard so far is allowed by what the extras may do, and what they keep is what was kept last
+pub record HearsLines (may0 : MayDoSo) (first : Option (List ℕ)) (may : MayDoSo) (pending : Option (List ℕ)) (hs : List HeardLine) : Type 0 where
+  pub allowed : AreAllowed may0 first hs
+  pub kept : kept_behind first hs ≡ pending
+  pub within : (who : AskerView) (before : Option (List ℕ)) (c : Command) (l : List ℕ) (x : Extra) (after : Option (List ℕ)) →
+      may who before c l x after → may0 who before c l x after
 
 -- how a talk ends where it goes no further
 abbrev pub end_by : Halt → ServeEnd

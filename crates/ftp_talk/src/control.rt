@@ -9,6 +9,7 @@ ghost use Rattle.ftp_talk.specs.Saying.{greeting_line};
 ghost use Rattle.ftp_talk.specs.Ground.{Ground};
 ghost use Rattle.ftp_talk.specs.Speaking.{Knows};
 ghost use Rattle.ftp_talk.specs.Control.{client_of, peer_of, is_opening, is_opened, is_fault, Serves};
+ghost use Rattle.ftp_talk.specs.ControlWith.{ServesWith};
 
 use crate::control_session::{ControlSession, Peer};
 use crate::ending::end_by;
@@ -18,6 +19,7 @@ use crate::serve::serve_lines;
 use crate::serving::ServeEnd;
 use ftp_base::{Authenticator, Bytes, Control, Edge, Failed, IpAddr, Link};
 use ftp_events::{Answer, Decision, EventKind, HubEvent};
+use ftp_extras::{Extras, NoExtras};
 use ftp_shared::{AppendError, Desk};
 use std::alloc::Global;
 
@@ -144,6 +146,63 @@ pub fn serve_control<D: Desk, C: Control, E: Edge, A: Authenticator>(
     ensures complete { C.faults control.new ≡ C.faults control.old → C.faults control.old < 2 ^ 64 - 1 → is_fault result ≡ false }
     ensures count { C.faults control.old ≤ C.faults control.new }
 {
+    let mut none = NoExtras;
+    serve_control_with(alloc, desk, control, edge, auth, &mut none, opening, answer)
+}
+
+/// Serves a control connection as `serve_control` does, and on lines of commands more than the profile, as the extras have it:
+/// a message of the control layer is told, lines of reply are said, or another command is carried out.
+///
+/// # Proved
+///
+/// - What `serve_control` proves of a talk holds of the turns of this one, but for the events of the lines on which more was
+///   done, and for what was said on them (`served`).
+/// - Each line of a command that gives no password was heard, with who asked as the entries before it tell, and with what was
+///   kept from the heard line before it; what was done on it is what the extras may do, and its event is the one that
+///   this gives: the command's own, that of the message, one without a reply, or that of the other command (`served`).
+/// - Nothing is done in place of a command of the profile, but that a transfer may be refused as the storage refuses; what
+///   is said is whole replies, behind the replies of its turn, and before those of any later one (`served`).
+/// - Without extras it is the talk of the profile; with what was said on the lines left out, what was sent is the talk's;
+///   login, name, directory, offset, slot and transfers of the session are those of its turns without those lines: three laws,
+///   `without_extras_it_is_the_talk`, `struck_out_it_is_the_talk` and `extras_leave_the_session`, of what is `served`.
+/// - An end by a fault only where the control's count rose (`read_fault`, `write_fault`, `complete`), and by a count of events
+///   at its end only over a desk whose count can come to its end (`exhausted`).
+pub fn serve_control_with<D: Desk, C: Control, E: Edge, A: Authenticator, X: Extras>(
+    alloc: Global,
+    desk: &mut D,
+    control: &mut C,
+    edge: &mut E,
+    auth: &A,
+    extras: &mut X,
+    opening: HubEvent,
+    answer: Answer,
+) -> ServeEnd
+    requires opening { is_opening opening.kind ≡ true }
+
+    // What was submitted is what the lines ask for, or what the extras may do on them, and what was sent is what was replied
+    // and said: all of it at the end of the talk, else a part from the front. A session that may be live is closed.
+    ensures served { ServesWith (X.may extras.old) (X.pending extras.old) result opening answer (record {
+      edge = E.view edge.old;
+      desk = D.view desk.old;
+      input = C.left control.old;
+      sent = (C.sending control.old).sent;
+      answers = A.may_answer auth.now;
+      ready = C.is_always_ready;
+      vouches = D.vouches;
+      draws_next = D.draws_next;
+    })
+        (E.view edge.new) (D.view desk.new) (C.sending control.new).sent }
+    ensures read_fault { result ≡ ServeEnd.ReadFault → HasRisen (C.faults control.old) (C.faults control.new) }
+    ensures write_fault { result ≡ ServeEnd.WriteFault → HasRisen (C.faults control.old) (C.faults control.new) }
+
+    // Only a desk whose count of events can come to its end tells that it has.
+    ensures exhausted { result ≡ ServeEnd.Exhausted → D.exhausts ≡ true }
+
+    // Where no call of the control failed, the talk came to its end, or none was opened, or no more events were taken.
+    ensures complete { C.faults control.new ≡ C.faults control.old → C.faults control.old < 2 ^ 64 - 1 → is_fault result ≡ false }
+    ensures count { C.faults control.old ≤ C.faults control.new }
+    ensures extras_count { X.faults extras.old ≤ X.faults extras.new }
+{
     let Some(peer) = peer_of(&opening.kind, &answer) else {
         unreachable!()
     };
@@ -164,5 +223,5 @@ pub fn serve_control<D: Desk, C: Control, E: Edge, A: Authenticator>(
         return end_by(Halt::from(failed));
     }
     let mut buffer = [0u8; BUFFER_SIZE];
-    serve_lines(&mut state, desk, control, edge, auth, &mut buffer)
+    serve_lines(&mut state, desk, control, edge, auth, extras, &mut buffer)
 }

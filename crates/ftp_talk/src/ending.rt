@@ -6,8 +6,10 @@ ghost use Rattle.ftp_control.specs.ControlLine.{IsLong};
 ghost use Rattle.ftp_talk.specs.declared.halt.Halt.TheVariants.{Exhausted, Fault};
 ghost use Rattle.ftp_talk.specs.Ground.{Ground};
 ghost use Rattle.ftp_talk.specs.Turns.{Due, LineDue, SlotTickDue};
-ghost use Rattle.ftp_talk.specs.Talk.{TalkFront, MayClose};
-ghost use Rattle.ftp_talk.specs.Speaking.{IsCut, Standing, Outcome, due_at, end_by, IsAbout};
+ghost use Rattle.ftp_talk.specs.Talk.{MayClose};
+ghost use Rattle.ftp_talk.specs.Parts.{HeardLine};
+ghost use Rattle.ftp_talk.specs.Extended.{TalkFrontHeard};
+ghost use Rattle.ftp_talk.specs.Speaking.{IsCut, Standing, OutcomeHeard, due_at, end_by, IsAbout};
 
 use crate::control_session::{ControlSession, is_end};
 use crate::halt::Halt;
@@ -36,9 +38,9 @@ impl ControlSession {
         control: &mut C,
         edge: &mut E,
     ) -> ServeEnd
-        ensures ended { (g : Ground) (d : Due) (rest : List ℕ) → IsAbout g D.vouches D.draws_next →
-            Standing d g self.old (E.view edge.old) (D.view desk.old) (C.sending control.old).sent rest → MayClose d rest →
-            Outcome result g (E.view edge.new) (D.view desk.new) (C.sending control.new).sent }
+        ensures ended { (g : Ground) (d : Due) (hs : List HeardLine) (rest : List ℕ) → IsAbout g D.vouches D.draws_next →
+            Standing d g self.old (E.view edge.old) (D.view desk.old) (C.sending control.old).sent hs rest → MayClose d rest →
+            OutcomeHeard result g (E.view edge.new) (D.view desk.new) (C.sending control.new).sent hs }
         ensures no_read_fault { result ≡ ServeEnd.ReadFault → HasRisen (C.faults control.old) (C.faults control.new) }
         ensures write_fault { result ≡ ServeEnd.WriteFault → HasRisen (C.faults control.old) (C.faults control.new) }
         ensures exhausted { result ≡ ServeEnd.Exhausted → D.exhausts ≡ true }
@@ -53,9 +55,9 @@ impl ControlSession {
 
     // Closes the connection where the talk was cut short and its session has not ended, and says nothing more.
     pub(crate) fn leave<D: Desk, E: Edge>(&self, desk: &mut D, edge: &mut E)
-        ensures { (g : Ground) (sent : Option (List ℕ)) → IsAbout g D.vouches D.draws_next →
-            IsCut g self.now (E.view edge.old) (D.view desk.old) sent →
-            TalkFront g (E.view edge.new) (D.view desk.new) sent }
+        ensures { (g : Ground) (hs : List HeardLine) (sent : Option (List ℕ)) → IsAbout g D.vouches D.draws_next →
+            IsCut g self.now (E.view edge.old) (D.view desk.old) sent hs →
+            TalkFrontHeard g (E.view edge.new) (D.view desk.new) sent hs }
     {
         if self.is_over {
             return;
@@ -75,13 +77,13 @@ impl ControlSession {
         edge: &mut E,
         next: Result<Next, Halt>,
     ) -> Option<ServeEnd>
-        ensures goes_on { IfNone result ((C.left control.new ≡ C.left control.old) × ((g : Ground) (rest : List ℕ) →
-            IfOk next (λ n. Standing (due_at n) g self.old (E.view edge.old) (D.view desk.old) (C.sending control.old).sent rest) →
-            Standing LineDue g self.new (E.view edge.new) (D.view desk.new) (C.sending control.new).sent rest)) }
-        ensures ended { IfSome result (λ end. (g : Ground) (rest : List ℕ) → IsAbout g D.vouches D.draws_next →
-            IfOk next (λ n. Standing (due_at n) g self.old (E.view edge.old) (D.view desk.old) (C.sending control.old).sent rest) →
-            OnErr next (IsCut g self.old (E.view edge.old) (D.view desk.old) (C.sending control.old).sent) →
-            Outcome end g (E.view edge.new) (D.view desk.new) (C.sending control.new).sent) }
+        ensures goes_on { IfNone result ((C.left control.new ≡ C.left control.old) × OnErr next ⊥ × ((g : Ground) (hs : List HeardLine) (rest : List ℕ) →
+            IfOk next (λ n. Standing (due_at n) g self.old (E.view edge.old) (D.view desk.old) (C.sending control.old).sent hs rest) →
+            Standing LineDue g self.new (E.view edge.new) (D.view desk.new) (C.sending control.new).sent hs rest)) }
+        ensures ended { IfSome result (λ end. (g : Ground) (hs : List HeardLine) (rest : List ℕ) → IsAbout g D.vouches D.draws_next →
+            IfOk next (λ n. Standing (due_at n) g self.old (E.view edge.old) (D.view desk.old) (C.sending control.old).sent hs rest) →
+            OnErr next (IsCut g self.old (E.view edge.old) (D.view desk.old) (C.sending control.old).sent hs) →
+            OutcomeHeard end g (E.view edge.new) (D.view desk.new) (C.sending control.new).sent hs) }
         ensures no_read_fault { result ≡ Some ServeEnd.ReadFault → HasRisen (C.faults control.old) (C.faults control.new) }
         ensures write_fault { result ≡ Some ServeEnd.WriteFault → IsErrOf next Fault ⊎ HasRisen (C.faults control.old) (C.faults control.new) }
         ensures exhausted { result ≡ Some ServeEnd.Exhausted → IsErrOf next Exhausted ⊎ (D.exhausts ≡ true) }
@@ -105,12 +107,12 @@ impl ControlSession {
         control: &mut C,
         edge: &mut E,
     ) -> Result<Next, Halt>
-        ensures served { IfOk result (λ next. (g : Ground) (rest : List ℕ) → IsAbout g D.vouches D.draws_next → g.start.ready ≡ false →
-            Standing LineDue g self.old (E.view edge.old) (D.view desk.old) (C.sending control.old).sent rest →
-            Standing (due_at next) g self.new (E.view edge.new) (D.view desk.new) (C.sending control.new).sent rest) }
-        ensures cut { OnErr result ((g : Ground) (rest : List ℕ) → IsAbout g D.vouches D.draws_next → g.start.ready ≡ false →
-            Standing LineDue g self.old (E.view edge.old) (D.view desk.old) (C.sending control.old).sent rest →
-            IsCut g self.new (E.view edge.new) (D.view desk.new) (C.sending control.new).sent) }
+        ensures served { IfOk result (λ next. (g : Ground) (hs : List HeardLine) (rest : List ℕ) → IsAbout g D.vouches D.draws_next → g.start.ready ≡ false →
+            Standing LineDue g self.old (E.view edge.old) (D.view desk.old) (C.sending control.old).sent hs rest →
+            Standing (due_at next) g self.new (E.view edge.new) (D.view desk.new) (C.sending control.new).sent hs rest) }
+        ensures cut { OnErr result ((g : Ground) (hs : List HeardLine) (rest : List ℕ) → IsAbout g D.vouches D.draws_next → g.start.ready ≡ false →
+            Standing LineDue g self.old (E.view edge.old) (D.view desk.old) (C.sending control.old).sent hs rest →
+            IsCut g self.new (E.view edge.new) (D.view desk.new) (C.sending control.new).sent hs) }
         ensures left { C.left control.new ≡ C.left control.old }
         ensures fault_rose { IsErrOf result Fault → HasRisen (C.faults control.old) (C.faults control.new) }
         ensures exhausted { IsErrOf result Exhausted → D.exhausts ≡ true }
@@ -136,12 +138,12 @@ impl ControlSession {
         control: &mut C,
         edge: &mut E,
     ) -> Result<Next, Halt>
-        ensures served { IfOk result (λ next. (g : Ground) (rest : List ℕ) → IsAbout g D.vouches D.draws_next →
-            Standing SlotTickDue g self.old (E.view edge.old) (D.view desk.old) (C.sending control.old).sent rest →
-            Standing (due_at next) g self.new (E.view edge.new) (D.view desk.new) (C.sending control.new).sent rest) }
-        ensures cut { OnErr result ((g : Ground) (rest : List ℕ) → IsAbout g D.vouches D.draws_next →
-            Standing SlotTickDue g self.old (E.view edge.old) (D.view desk.old) (C.sending control.old).sent rest →
-            IsCut g self.new (E.view edge.new) (D.view desk.new) (C.sending control.new).sent) }
+        ensures served { IfOk result (λ next. (g : Ground) (hs : List HeardLine) (rest : List ℕ) → IsAbout g D.vouches D.draws_next →
+            Standing SlotTickDue g self.old (E.view edge.old) (D.view desk.old) (C.sending control.old).sent hs rest →
+            Standing (due_at next) g self.new (E.view edge.new) (D.view desk.new) (C.sending control.new).sent hs rest) }
+        ensures cut { OnErr result ((g : Ground) (hs : List HeardLine) (rest : List ℕ) → IsAbout g D.vouches D.draws_next →
+            Standing SlotTickDue g self.old (E.view edge.old) (D.view desk.old) (C.sending control.old).sent hs rest →
+            IsCut g self.new (E.view edge.new) (D.view desk.new) (C.sending control.new).sent hs) }
         ensures left { C.left control.new ≡ C.left control.old }
         ensures fault_rose { IsErrOf result Fault → HasRisen (C.faults control.old) (C.faults control.new) }
         ensures exhausted { IsErrOf result Exhausted → D.exhausts ≡ true }
@@ -161,12 +163,12 @@ impl ControlSession {
         control: &mut C,
         edge: &mut E,
     ) -> Result<Next, Halt>
-        ensures served { IfOk result (λ next. (g : Ground) (rest : List ℕ) → IsAbout g D.vouches D.draws_next → IsLong rest →
-            Standing LineDue g self.old (E.view edge.old) (D.view desk.old) (C.sending control.old).sent rest →
-            Standing (due_at next) g self.new (E.view edge.new) (D.view desk.new) (C.sending control.new).sent rest) }
-        ensures cut { OnErr result ((g : Ground) (rest : List ℕ) → IsAbout g D.vouches D.draws_next → IsLong rest →
-            Standing LineDue g self.old (E.view edge.old) (D.view desk.old) (C.sending control.old).sent rest →
-            IsCut g self.new (E.view edge.new) (D.view desk.new) (C.sending control.new).sent) }
+        ensures served { IfOk result (λ next. (g : Ground) (hs : List HeardLine) (rest : List ℕ) → IsAbout g D.vouches D.draws_next → IsLong rest →
+            Standing LineDue g self.old (E.view edge.old) (D.view desk.old) (C.sending control.old).sent hs rest →
+            Standing (due_at next) g self.new (E.view edge.new) (D.view desk.new) (C.sending control.new).sent hs rest) }
+        ensures cut { OnErr result ((g : Ground) (hs : List HeardLine) (rest : List ℕ) → IsAbout g D.vouches D.draws_next → IsLong rest →
+            Standing LineDue g self.old (E.view edge.old) (D.view desk.old) (C.sending control.old).sent hs rest →
+            IsCut g self.new (E.view edge.new) (D.view desk.new) (C.sending control.new).sent hs) }
         ensures left { C.left control.new ≡ C.left control.old }
         ensures fault_rose { IsErrOf result Fault → HasRisen (C.faults control.old) (C.faults control.new) }
         ensures exhausted { IsErrOf result Exhausted → D.exhausts ≡ true }

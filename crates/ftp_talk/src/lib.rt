@@ -9,11 +9,15 @@ mod control;
 mod control_session;
 mod ending;
 mod halt;
+mod laws;
 mod saying;
 mod serve;
 mod serving;
 mod submitting;
 
-pub use control::serve_control;
+pub use control::{serve_control, serve_control_with};
 pub use control_session::Peer;
+pub use laws::{
+    extras_leave_the_session, struck_out_it_is_the_talk, without_extras_it_is_the_talk,
+};
 pub use serving::ServeEnd;

@@ -1,6 +1,6 @@
 //! A talk, line by line.
 
-ghost use Rattle.std.specs.Prelude.{◌≡◌, ◌≤◌, ◌++◌, [], ℕ, List, Option, true, false, IfOk, Ok, Err, unwrap_or, OnErr, IsErrOf};
+ghost use Rattle.std.specs.Prelude.{◌≡◌, ◌≤◌, ◌++◌, [], ◌∷◌, ℕ, List, Option, true, false, IfOk, Ok, Err, unwrap_or, OnErr, IsErrOf};
 ghost use Rattle.ftp_base.specs.Outside.{HasRisen};
 ghost use Rattle.ftp_control.specs.declared.command.Command.TheVariants as command;
 ghost use Rattle.ftp_control.specs.Line.{parsed};
@@ -8,14 +8,19 @@ ghost use Rattle.ftp_control.specs.ControlLine.{IsLine};
 ghost use Rattle.ftp_talk.specs.declared.halt.Halt.TheVariants.{Exhausted, Fault};
 ghost use Rattle.ftp_talk.specs.Ground.{Ground, ALine};
 ghost use Rattle.ftp_talk.specs.Turns.{LineDue, AnswerDue};
-ghost use Rattle.ftp_talk.specs.Speaking.{IsCut, Standing, due_at, IsAbout};
-ghost use Rattle.ftp_talk.specs.Serving.{is_pass, is_out, next_of, behind_refusal};
+ghost use Rattle.ftp_extras.specs.Extra.{gives_password};
+ghost use Rattle.ftp_talk.specs.Commands.{is_in};
+ghost use Rattle.ftp_talk.specs.Parts.{HeardLine, AreAllowed};
+ghost use Rattle.ftp_talk.specs.Speaking.{IsCut, IsCutAt, IsHearing, Carries, HearsLines, Standing, due_at, IsAbout};
+ghost use Rattle.ftp_talk.specs.Serving.{is_out, next_of, behind_refusal};
 
 use crate::control_session::{ControlSession, is_end};
 use crate::halt::Halt;
-use ftp_base::{AuthAnswer, Authenticator, Bytes, Control, Edge};
+use crate::saying::write_all;
+use ftp_base::{AuthAnswer, Authenticator, Bytes, Control, ControlChanMsg, Edge, Reply};
 use ftp_control::{Command, LineError, Password, parse_line};
-use ftp_events::{Decision, EventKind};
+use ftp_events::{Decision, EventKind, Login};
+use ftp_extras::{Asker, Extra, Extras};
 use ftp_shared::Desk;
 
 /// How serving a control connection ended.
@@ -61,6 +66,13 @@ fn behind_refusal(error: LineError) -> Next
     }
 }
 
+// Says whether the user is logged in.
+fn is_in(login: Login) -> bool
+    ensures { result ≡ is_in login }
+{
+    matches!(login, Login::LoggedIn)
+}
+
 // Says whether the password is out to be checked.
 fn is_out(decision: Decision) -> bool
     ensures { result ≡ is_out decision }
@@ -69,7 +81,7 @@ fn is_out(decision: Decision) -> bool
 }
 
 impl ControlSession {
-    // Serves a command that gives no password.
+    // Carries out a command on a line that was heard.
     fn serve_command<D: Desk, C: Control, E: Edge>(
         &mut self,
         desk: &mut D,
@@ -77,15 +89,14 @@ impl ControlSession {
         edge: &mut E,
         command: Command,
     ) -> Result<Next, Halt>
-        requires { is_pass command ≡ false }
-        ensures served { IfOk result (λ next. (g : Ground) (line rest : List ℕ) → IsAbout g D.vouches D.draws_next →
-            Standing LineDue g self.old (E.view edge.old) (D.view desk.old) (C.sending control.old).sent (line ++ rest) →
-            IsLine line → parsed line ≡ Ok command →
-            Standing (due_at next) g self.new (E.view edge.new) (D.view desk.new) (C.sending control.new).sent rest) }
-        ensures cut { OnErr result ((g : Ground) (line rest : List ℕ) → IsAbout g D.vouches D.draws_next →
-            Standing LineDue g self.old (E.view edge.old) (D.view desk.old) (C.sending control.old).sent (line ++ rest) →
-            IsLine line → parsed line ≡ Ok command →
-            IsCut g self.new (E.view edge.new) (D.view desk.new) (C.sending control.new).sent) }
+        ensures served { IfOk result (λ next. (g : Ground) (hs : List HeardLine) (x : HeardLine) (rest : List ℕ) → IsAbout g D.vouches D.draws_next →
+            Standing LineDue g self.old (E.view edge.old) (D.view desk.old) (C.sending control.old).sent hs (x.line ++ rest) →
+            IsHearing self.old x → Carries x.command x.extra command →
+            Standing (due_at next) g self.new (E.view edge.new) (D.view desk.new) (C.sending control.new).sent (x ∷ hs) rest) }
+        ensures cut { OnErr result ((g : Ground) (hs : List HeardLine) (x : HeardLine) (rest : List ℕ) → IsAbout g D.vouches D.draws_next →
+            Standing LineDue g self.old (E.view edge.old) (D.view desk.old) (C.sending control.old).sent hs (x.line ++ rest) →
+            IsHearing self.old x → Carries x.command x.extra command →
+            IsCutAt g self.new (E.view edge.new) (D.view desk.new) (C.sending control.new).sent hs x) }
         ensures left { C.left control.new ≡ C.left control.old }
         ensures fault_rose { IsErrOf result Fault → HasRisen (C.faults control.old) (C.faults control.new) }
         ensures exhausted { IsErrOf result Exhausted → D.exhausts ≡ true }
@@ -100,6 +111,81 @@ impl ControlSession {
         }
     }
 
+    // Tells a message of the control layer on a line that was heard.
+    fn tell<D: Desk, C: Control, E: Edge>(
+        &mut self,
+        desk: &mut D,
+        control: &mut C,
+        edge: &mut E,
+        message: ControlChanMsg,
+    ) -> Result<Next, Halt>
+        ensures served { IfOk result (λ next. (g : Ground) (hs : List HeardLine) (x : HeardLine) (rest : List ℕ) → IsAbout g D.vouches D.draws_next →
+            Standing LineDue g self.old (E.view edge.old) (D.view desk.old) (C.sending control.old).sent hs (x.line ++ rest) →
+            IsHearing self.old x → x.extra ≡ Extra.Tell message →
+            Standing (due_at next) g self.new (E.view edge.new) (D.view desk.new) (C.sending control.new).sent (x ∷ hs) rest) }
+        ensures cut { OnErr result ((g : Ground) (hs : List HeardLine) (x : HeardLine) (rest : List ℕ) → IsAbout g D.vouches D.draws_next →
+            Standing LineDue g self.old (E.view edge.old) (D.view desk.old) (C.sending control.old).sent hs (x.line ++ rest) →
+            IsHearing self.old x → x.extra ≡ Extra.Tell message →
+            IsCutAt g self.new (E.view edge.new) (D.view desk.new) (C.sending control.new).sent hs x) }
+        ensures left { C.left control.new ≡ C.left control.old }
+        ensures fault_rose { IsErrOf result Fault → HasRisen (C.faults control.old) (C.faults control.new) }
+        ensures exhausted { IsErrOf result Exhausted → D.exhausts ≡ true }
+        ensures count { C.faults control.old ≤ C.faults control.new }
+    {
+        let session = self.session;
+        match self.submit_and_reply(
+            desk,
+            control,
+            edge,
+            EventKind::Internal { session, message },
+        ) {
+            Ok(decision) => Ok(next_of(decision, Next::GoOn)),
+            Err(halt) => Err(halt),
+        }
+    }
+
+    // Says lines of reply behind an event that has none, unless the session has ended with it.
+    fn say_lines<D: Desk, C: Control, E: Edge>(
+        &mut self,
+        desk: &mut D,
+        control: &mut C,
+        edge: &mut E,
+        lines: Bytes,
+    ) -> Result<Next, Halt>
+        ensures served { IfOk result (λ next. (g : Ground) (hs : List HeardLine) (x : HeardLine) (rest : List ℕ) → IsAbout g D.vouches D.draws_next →
+            Standing LineDue g self.old (E.view edge.old) (D.view desk.old) (C.sending control.old).sent hs (x.line ++ rest) →
+            IsHearing self.old x → x.extra ≡ Extra.Say lines →
+            Standing (due_at next) g self.new (E.view edge.new) (D.view desk.new) (C.sending control.new).sent (x ∷ hs) rest) }
+        ensures cut { OnErr result ((g : Ground) (hs : List HeardLine) (x : HeardLine) (rest : List ℕ) → IsAbout g D.vouches D.draws_next →
+            Standing LineDue g self.old (E.view edge.old) (D.view desk.old) (C.sending control.old).sent hs (x.line ++ rest) →
+            IsHearing self.old x → x.extra ≡ Extra.Say lines →
+            IsCutAt g self.new (E.view edge.new) (D.view desk.new) (C.sending control.new).sent hs x) }
+        ensures left { C.left control.new ≡ C.left control.old }
+        ensures fault_rose { IsErrOf result Fault → HasRisen (C.faults control.old) (C.faults control.new) }
+        ensures exhausted { IsErrOf result Exhausted → D.exhausts ≡ true }
+        ensures count { C.faults control.old ≤ C.faults control.new }
+    {
+        let session = self.session;
+        let message = ControlChanMsg::CommandChannelReply(Reply::None);
+        match self.submit_and_reply(
+            desk,
+            control,
+            edge,
+            EventKind::Internal { session, message },
+        ) {
+            Ok(decision) => {
+                if is_end(decision) {
+                    return Ok(Next::Over);
+                }
+                match write_all(control, lines.as_slice()) {
+                    Ok(()) => Ok(Next::GoOn),
+                    Err(failed) => Err(Halt::from(failed)),
+                }
+            }
+            Err(halt) => Err(halt),
+        }
+    }
+
     // Answers a line that is refused.
     fn serve_refusal<D: Desk, C: Control, E: Edge>(
         &mut self,
@@ -108,14 +194,14 @@ impl ControlSession {
         edge: &mut E,
         error: LineError,
     ) -> Result<Next, Halt>
-        ensures served { IfOk result (λ next. (g : Ground) (line rest : List ℕ) → IsAbout g D.vouches D.draws_next →
-            Standing LineDue g self.old (E.view edge.old) (D.view desk.old) (C.sending control.old).sent (line ++ rest) →
+        ensures served { IfOk result (λ next. (g : Ground) (hs : List HeardLine) (line rest : List ℕ) → IsAbout g D.vouches D.draws_next →
+            Standing LineDue g self.old (E.view edge.old) (D.view desk.old) (C.sending control.old).sent hs (line ++ rest) →
             IsLine line → parsed line ≡ Err error →
-            Standing (due_at next) g self.new (E.view edge.new) (D.view desk.new) (C.sending control.new).sent rest) }
-        ensures cut { OnErr result ((g : Ground) (line rest : List ℕ) → IsAbout g D.vouches D.draws_next →
-            Standing LineDue g self.old (E.view edge.old) (D.view desk.old) (C.sending control.old).sent (line ++ rest) →
+            Standing (due_at next) g self.new (E.view edge.new) (D.view desk.new) (C.sending control.new).sent hs rest) }
+        ensures cut { OnErr result ((g : Ground) (hs : List HeardLine) (line rest : List ℕ) → IsAbout g D.vouches D.draws_next →
+            Standing LineDue g self.old (E.view edge.old) (D.view desk.old) (C.sending control.old).sent hs (line ++ rest) →
             IsLine line → parsed line ≡ Err error →
-            IsCut g self.new (E.view edge.new) (D.view desk.new) (C.sending control.new).sent) }
+            IsCut g self.new (E.view edge.new) (D.view desk.new) (C.sending control.new).sent hs) }
         ensures left { C.left control.new ≡ C.left control.old }
         ensures fault_rose { IsErrOf result Fault → HasRisen (C.faults control.old) (C.faults control.new) }
         ensures exhausted { IsErrOf result Exhausted → D.exhausts ≡ true }
@@ -139,14 +225,14 @@ impl ControlSession {
         auth: &A,
         password: Password,
     ) -> Result<Next, Halt>
-        ensures served { IfOk result (λ next. (g : Ground) (line rest : List ℕ) → IsAbout g D.vouches D.draws_next → g.start.answers ≡ A.may_answer auth.now →
-            Standing LineDue g self.old (E.view edge.old) (D.view desk.old) (C.sending control.old).sent (line ++ rest) →
+        ensures served { IfOk result (λ next. (g : Ground) (hs : List HeardLine) (line rest : List ℕ) → IsAbout g D.vouches D.draws_next → g.start.answers ≡ A.may_answer auth.now →
+            Standing LineDue g self.old (E.view edge.old) (D.view desk.old) (C.sending control.old).sent hs (line ++ rest) →
             IsLine line → parsed line ≡ Ok (command.Pass password) →
-            Standing (due_at next) g self.new (E.view edge.new) (D.view desk.new) (C.sending control.new).sent rest) }
-        ensures cut { OnErr result ((g : Ground) (line rest : List ℕ) → IsAbout g D.vouches D.draws_next → g.start.answers ≡ A.may_answer auth.now →
-            Standing LineDue g self.old (E.view edge.old) (D.view desk.old) (C.sending control.old).sent (line ++ rest) →
+            Standing (due_at next) g self.new (E.view edge.new) (D.view desk.new) (C.sending control.new).sent hs rest) }
+        ensures cut { OnErr result ((g : Ground) (hs : List HeardLine) (line rest : List ℕ) → IsAbout g D.vouches D.draws_next → g.start.answers ≡ A.may_answer auth.now →
+            Standing LineDue g self.old (E.view edge.old) (D.view desk.old) (C.sending control.old).sent hs (line ++ rest) →
             IsLine line → parsed line ≡ Ok (command.Pass password) →
-            IsCut g self.new (E.view edge.new) (D.view desk.new) (C.sending control.new).sent) }
+            IsCut g self.new (E.view edge.new) (D.view desk.new) (C.sending control.new).sent hs) }
         ensures left { C.left control.new ≡ C.left control.old }
         ensures fault_rose { IsErrOf result Fault → HasRisen (C.faults control.old) (C.faults control.new) }
         ensures exhausted { IsErrOf result Exhausted → D.exhausts ≡ true }
@@ -174,12 +260,12 @@ impl ControlSession {
         auth: &A,
         password: Password,
     ) -> Result<Next, Halt>
-        ensures served { IfOk result (λ next. (g : Ground) (rest : List ℕ) → IsAbout g D.vouches D.draws_next → g.start.answers ≡ A.may_answer auth.now →
-            Standing (AnswerDue password.0) g self.old (E.view edge.old) (D.view desk.old) (C.sending control.old).sent rest →
-            Standing (due_at next) g self.new (E.view edge.new) (D.view desk.new) (C.sending control.new).sent rest) }
-        ensures cut { OnErr result ((g : Ground) (rest : List ℕ) → IsAbout g D.vouches D.draws_next → g.start.answers ≡ A.may_answer auth.now →
-            Standing (AnswerDue password.0) g self.old (E.view edge.old) (D.view desk.old) (C.sending control.old).sent rest →
-            IsCut g self.new (E.view edge.new) (D.view desk.new) (C.sending control.new).sent) }
+        ensures served { IfOk result (λ next. (g : Ground) (hs : List HeardLine) (rest : List ℕ) → IsAbout g D.vouches D.draws_next → g.start.answers ≡ A.may_answer auth.now →
+            Standing (AnswerDue password.0) g self.old (E.view edge.old) (D.view desk.old) (C.sending control.old).sent hs rest →
+            Standing (due_at next) g self.new (E.view edge.new) (D.view desk.new) (C.sending control.new).sent hs rest) }
+        ensures cut { OnErr result ((g : Ground) (hs : List HeardLine) (rest : List ℕ) → IsAbout g D.vouches D.draws_next → g.start.answers ≡ A.may_answer auth.now →
+            Standing (AnswerDue password.0) g self.old (E.view edge.old) (D.view desk.old) (C.sending control.old).sent hs rest →
+            IsCut g self.new (E.view edge.new) (D.view desk.new) (C.sending control.new).sent hs) }
         ensures left { C.left control.new ≡ C.left control.old }
         ensures fault_rose { IsErrOf result Fault → HasRisen (C.faults control.old) (C.faults control.new) }
         ensures exhausted { IsErrOf result Exhausted → D.exhausts ≡ true }
@@ -206,32 +292,74 @@ impl ControlSession {
         }
     }
 
+    // Serves the line of a command that gives no password, as the extras have it.
+    fn serve_heard<D: Desk, C: Control, E: Edge, X: Extras>(
+        &mut self,
+        desk: &mut D,
+        control: &mut C,
+        edge: &mut E,
+        extras: &mut X,
+        command: Command,
+        line: &[u8],
+    ) -> Result<Next, Halt>
+        requires unsecret { gives_password command ≡ false }
+        ensures served { (g : Ground) (x0 : X) (hs : List HeardLine) (rest : List ℕ) → IsAbout g D.vouches D.draws_next →
+            HearsLines (X.may x0) (X.pending x0) (X.may extras.old) (X.pending extras.old) hs →
+            Standing LineDue g self.old (E.view edge.old) (D.view desk.old) (C.sending control.old).sent hs (line.now ++ rest) →
+            IsLine line.now → parsed line.now ≡ Ok command →
+            (hs1 : List HeardLine) × AreAllowed (X.may x0) (X.pending x0) hs1
+            × IfOk result (λ next. Standing (due_at next) g self.new (E.view edge.new) (D.view desk.new) (C.sending control.new).sent hs1 rest
+            × HearsLines (X.may x0) (X.pending x0) (X.may extras.new) (X.pending extras.new) hs1)
+            × OnErr result (IsCut g self.new (E.view edge.new) (D.view desk.new) (C.sending control.new).sent hs1) }
+        ensures left { C.left control.new ≡ C.left control.old }
+        ensures fault_rose { IsErrOf result Fault → HasRisen (C.faults control.old) (C.faults control.new) }
+        ensures exhausted { IsErrOf result Exhausted → D.exhausts ≡ true }
+        ensures count { C.faults control.old ≤ C.faults control.new }
+        ensures extras_count { X.faults extras.old ≤ X.faults extras.new }
+    {
+        let asker = Asker {
+            name: self.name.as_ref(),
+            is_in: is_in(self.login),
+            cwd: &self.cwd,
+        };
+        match extras.hear(asker, &command, line) {
+            Ok(Extra::Pass) => self.serve_command(desk, control, edge, command),
+            Ok(Extra::Tell(message)) => self.tell(desk, control, edge, message),
+            Ok(Extra::Say(lines)) => self.say_lines(desk, control, edge, lines),
+            Ok(Extra::As(other)) => self.serve_command(desk, control, edge, other),
+            Err(_) => Err(Halt::Memory),
+        }
+    }
+
     // Serves a line with its line feed.
-    pub(crate) fn serve_line<D: Desk, C: Control, E: Edge, A: Authenticator>(
+    pub(crate) fn serve_line<D: Desk, C: Control, E: Edge, A: Authenticator, X: Extras>(
         &mut self,
         desk: &mut D,
         control: &mut C,
         edge: &mut E,
         auth: &A,
+        extras: &mut X,
         line: &[u8],
     ) -> Result<Next, Halt>
-        ensures served { IfOk result (λ next. (g : Ground) (rest : List ℕ) → IsAbout g D.vouches D.draws_next → g.start.answers ≡ A.may_answer auth.now →
-            Standing LineDue g self.old (E.view edge.old) (D.view desk.old) (C.sending control.old).sent (line.now ++ rest) → IsLine line.now →
-            Standing (due_at next) g self.new (E.view edge.new) (D.view desk.new) (C.sending control.new).sent rest) }
-        ensures cut { OnErr result ((g : Ground) (rest : List ℕ) → IsAbout g D.vouches D.draws_next → g.start.answers ≡ A.may_answer auth.now →
-            Standing LineDue g self.old (E.view edge.old) (D.view desk.old) (C.sending control.old).sent (line.now ++ rest) → IsLine line.now →
-            IsCut g self.new (E.view edge.new) (D.view desk.new) (C.sending control.new).sent) }
+        ensures served { (g : Ground) (x0 : X) (hs : List HeardLine) (rest : List ℕ) → IsAbout g D.vouches D.draws_next → g.start.answers ≡ A.may_answer auth.now →
+            HearsLines (X.may x0) (X.pending x0) (X.may extras.old) (X.pending extras.old) hs →
+            Standing LineDue g self.old (E.view edge.old) (D.view desk.old) (C.sending control.old).sent hs (line.now ++ rest) → IsLine line.now →
+            (hs1 : List HeardLine) × AreAllowed (X.may x0) (X.pending x0) hs1
+            × IfOk result (λ next. Standing (due_at next) g self.new (E.view edge.new) (D.view desk.new) (C.sending control.new).sent hs1 rest
+            × HearsLines (X.may x0) (X.pending x0) (X.may extras.new) (X.pending extras.new) hs1)
+            × OnErr result (IsCut g self.new (E.view edge.new) (D.view desk.new) (C.sending control.new).sent hs1) }
         ensures left { C.left control.new ≡ C.left control.old }
         ensures fault_rose { IsErrOf result Fault → HasRisen (C.faults control.old) (C.faults control.new) }
         ensures exhausted { IsErrOf result Exhausted → D.exhausts ≡ true }
         ensures count { C.faults control.old ≤ C.faults control.new }
+        ensures extras_count { X.faults extras.old ≤ X.faults extras.new }
     {
         match parse_line(self.alloc, line) {
             Ok(command) => match command {
                 Command::Pass { password } => {
                     self.serve_password(desk, control, edge, auth, password)
                 }
-                command => self.serve_command(desk, control, edge, command),
+                command => self.serve_heard(desk, control, edge, extras, command, line),
             },
             Err(LineError::OutOfMemory) => Err(Halt::Memory),
             Err(LineError::Utf8) => self.serve_refusal(desk, control, edge, LineError::Utf8),

@@ -7,6 +7,7 @@ ghost use Rattle.ftp_shared.specs.Outbox.{has_ticket};
 ghost use Rattle.ftp_shared.specs.Desk.{SameDesk};
 ghost use Rattle.ftp_talk.specs.declared.halt.Halt.TheVariants.{Exhausted, Fault, Memory};
 ghost use Rattle.ftp_talk.specs.Ground.{Step, Turn, Ground};
+ghost use Rattle.ftp_talk.specs.Pieces.{Pieces};
 ghost use Rattle.ftp_talk.specs.Speaking.{Asking, Entered, Spoken, Halted};
 
 use crate::control_session::ControlSession;
@@ -49,12 +50,12 @@ impl ControlSession {
         kind: EventKind,
     ) -> Result<Decision, Halt>
         requires unticketed { has_ticket kind ≡ false }
-        ensures spoke { IfOk result (λ d. (g : Ground) (ts : List Turn) (step : Step) → g.start.vouches ≡ D.vouches →
-            Asking g self.old (E.view edge.old) (D.view desk.old) (C.sending control.old).sent ts kind →
-            Spoken g self.new (E.view edge.new) (D.view desk.new) (C.sending control.new).sent ts step kind d) }
-        ensures halted { OnErr result ((g : Ground) (ts : List Turn) (step : Step) → g.start.vouches ≡ D.vouches →
-            Asking g self.old (E.view edge.old) (D.view desk.old) (C.sending control.old).sent ts kind →
-            Halted g self.new (E.view edge.new) (D.view desk.new) (C.sending control.new).sent ts step kind) }
+        ensures spoke { IfOk result (λ d. (g : Ground) (ts : List Turn) (pieces : Pieces) (step : Step) → g.start.vouches ≡ D.vouches →
+            Asking g self.old (E.view edge.old) (D.view desk.old) (C.sending control.old).sent ts pieces kind →
+            Spoken g self.new (E.view edge.new) (D.view desk.new) (C.sending control.new).sent ts pieces step kind d) }
+        ensures halted { OnErr result ((g : Ground) (ts : List Turn) (pieces : Pieces) (step : Step) → g.start.vouches ≡ D.vouches →
+            Asking g self.old (E.view edge.old) (D.view desk.old) (C.sending control.old).sent ts pieces kind →
+            Halted g self.new (E.view edge.new) (D.view desk.new) (C.sending control.new).sent ts pieces step kind) }
         ensures left { C.left control.new ≡ C.left control.old }
         ensures fault_rose { IsErrOf result Fault → HasRisen (C.faults control.old) (C.faults control.new) }
         ensures exhausted { IsErrOf result Exhausted → D.exhausts ≡ true }

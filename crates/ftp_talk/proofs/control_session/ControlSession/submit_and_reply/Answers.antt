@@ -8,16 +8,16 @@ use Rattle.ftp_talk.proofs.TalkLemmas.{spoken-is, front-after, front-before, ris
 use Rattle.ftp_talk.proofs.control_session.ControlSession.submit_and_reply.Goals as goal
 
 pub returns-in-Err-clause-halted : goal.returns-in-Err-clause-halted
-returns-in-Err-clause-halted g c = λ q ts step same a.
+returns-in-Err-clause-halted g c = λ q ts pieces step same a.
     inl (
       front-before q c.args.self.now (g.E.Edge.view c.args.edge.now) (g.E.Edge.view c.submit.new.edge)
-          (g.D.Desk.view c.args.desk.now) (g.D.Desk.view c.submit.new.desk) (g.C.Source.sending c.args.control.now).sent ts c.args.kind
+          (g.D.Desk.view c.args.desk.now) (g.D.Desk.view c.submit.new.desk) (g.C.Source.sending c.args.control.now).sent ts pieces c.args.kind
           a c.submit.ensures.taken.count c.submit.ensures.unpaused c.in-Err.ensures.refused,
       risen-on _ _ _ a.refused c.in-Err.ensures.refused_rose c.in-Err.ensures.refused.refused,
     )
 
 pub returns-in_default-clause-halted : goal.returns-in_default-clause-halted
-returns-in_default-clause-halted g c = λ q ts step same a.
+returns-in_default-clause-halted g c = λ q ts pieces step same a.
     let e = c.in-Ok.told.entry in
     let n = c.in-Ok.ensures.entered in
     inr (record {
@@ -27,12 +27,12 @@ returns-in_default-clause-halted g c = λ q ts step same a.
       answer = n.answer;
       front = front-after q g.D.Desk.vouches c.args.self.now c.learn.new.self (g.E.Edge.view c.args.edge.now) (g.E.Edge.view c.submit.new.edge) (g.E.Edge.view c.submit.new.edge)
           (g.D.Desk.view c.args.desk.now) (g.D.Desk.view c.submit.new.desk) (g.C.Source.sending c.args.control.now).sent (g.C.Source.sending c.args.control.now).sent
-          ts step c.in-Ok.told.earlier e c.args.kind a same n (omega arith) c.learn.ensures.session c.learn.ensures.over
+          ts pieces step c.in-Ok.told.earlier e c.args.kind a same n (omega arith) c.learn.ensures.session c.learn.ensures.over
           (says-none _ _ _ _ [] _ (front-none _ []) refl);
     })
 
 pub returns-in-Ok-say-clause-spoke : goal.returns-in-Ok-say-clause-spoke
-returns-in-Ok-say-clause-spoke g c = λ q ts step same a.
+returns-in-Ok-say-clause-spoke g c = λ q ts pieces step same a.
     let e = c.in-Ok.told.entry in
     let n = c.in-Ok.ensures.entered in
     let w = c.in-Ok-learn.ensures.learnt q (history q ts) a.known in
@@ -46,7 +46,7 @@ returns-in-Ok-say-clause-spoke g c = λ q ts step same a.
       speaking =
           spoken-is q g.D.Desk.vouches c.args.self.now _ (g.E.Edge.view c.args.edge.now) (g.E.Edge.view c.submit.new.edge) (g.E.Edge.view c.say.new.edge)
           (g.D.Desk.view c.args.desk.now) (g.D.Desk.view c.submit.new.desk) (g.C.Source.sending c.args.control.now).sent (g.C.Source.sending c.say.new.link).sent
-          ts step c.in-Ok.told.earlier e c.args.kind a same n c.say.ensures.edge
+          ts pieces step c.in-Ok.told.earlier e c.args.kind a same n c.say.ensures.edge
           (record { session = w.session; raw = w.raw; client = w.client; host = w.host; range = w.range; active = w.active; login = w.login; name = w.name; cwd = w.cwd })
           c.learn.ensures.over
           (subst (λ (s : ℕ). Writes (g.C.Source.sending c.args.control.now).sent (g.C.Source.sending c.say.new.link).sent (encodings (said s c.in-Ok.told.earlier e.actions))) session (rw (c.as_slice.ensures, c.as_slice-2.ensures) at c.in-Ok-say.ensures.wrote))
@@ -54,7 +54,7 @@ returns-in-Ok-say-clause-spoke g c = λ q ts step same a.
     }
 
 pub returns-clause-halted : goal.returns-clause-halted
-returns-clause-halted g c = λ q ts step same a.
+returns-clause-halted g c = λ q ts pieces step same a.
     let e = c.in-Ok.told.entry in
     let n = c.in-Ok.ensures.entered in
     let session = c.learn.ensures.session ∙ a.known.session in
@@ -65,6 +65,6 @@ returns-clause-halted g c = λ q ts step same a.
       answer = n.answer;
       front = front-after q g.D.Desk.vouches c.args.self.now _ (g.E.Edge.view c.args.edge.now) (g.E.Edge.view c.submit.new.edge) (g.E.Edge.view c.say.new.edge)
           (g.D.Desk.view c.args.desk.now) (g.D.Desk.view c.submit.new.desk) (g.C.Source.sending c.args.control.now).sent (g.C.Source.sending c.say.new.link).sent
-          ts step c.in-Ok.told.earlier e c.args.kind a same n c.say.ensures.edge.count c.learn.ensures.session c.learn.ensures.over
+          ts pieces step c.in-Ok.told.earlier e c.args.kind a same n c.say.ensures.edge.count c.learn.ensures.session c.learn.ensures.over
           (subst (λ (s : ℕ). SaysFront (g.C.Source.sending c.args.control.now).sent (g.C.Source.sending c.say.new.link).sent (g.E.Edge.view c.submit.new.edge).paused (g.E.Edge.view c.say.new.edge).paused [] (said s c.in-Ok.told.earlier e.actions)) session (rw (c.as_slice.ensures, c.as_slice-2.ensures) at c.in-Err-say.ensures.front));
     })

@@ -1,0 +1,115 @@
+//! Lines with words beside the profile's.
+
+ghost use Rattle.std.specs.Prelude.{◌≡◌};
+
+use crate::talk_values::{OnlyAnn, edge, opening, pooled, storage};
+use ftp_base::{MemoryEdge, MemoryLink, MemoryStorage};
+use ftp_events::Answer;
+use ftp_extras::{FileExtras, Offers};
+use ftp_options::Options;
+use ftp_shared::{Serving, SoloDesk};
+use ftp_talk::{ServeEnd, serve_control_with};
+use std::alloc::Global;
+use std::marker::Brand;
+use std::process::Abort;
+use std::sync::ledger::Blank;
+use std::test::Fail;
+
+const GREETING: &[u8] = b"220 Welcome to the libunftp FTP server\r\n";
+
+const OFFERS: Offers = Offers {
+    is_behind_tls: false,
+    can_restart: false,
+};
+
+/// Lines of a client, and what it is sent behind the greeting.
+type Row<'a> = (&'a [u8], &'a [u8]);
+
+const ROWS: [Row<'static>; 4] = [
+    (
+        b"PWD\r\nSYST\r\nUSER ann\r\nPASS x\r\nPWD\r\nCWD up\r\nXPWD\r\nCDUP\r\nPWD\r\n",
+        b"530 Please authenticate\r\n215 UNIX Type: L8\r\n331 Password Required\r\n\
+          230 User logged in, proceed\r\n257 \"/\" is the current directory\r\n\
+          250 Successfully changed working directory\r\n257 \"/up\" is the current directory\r\n\
+          250 Successfully changed working directory\r\n257 \"/\" is the current directory\r\n",
+    ),
+    // A rename follows its look at once.
+    (
+        b"USER ann\r\nPASS x\r\nRNFR up\r\nRNTO down\r\nRNFR down\r\nNOOP\r\nRNTO up\r\n",
+        b"331 Password Required\r\n230 User logged in, proceed\r\n350 Ready for RNTO\r\n250 Renamed\r\n\
+          350 Ready for RNTO\r\n200 Successfully did nothing\r\n503 Use RNFR first\r\n",
+    ),
+    (
+        b"FEAT\r\nNOPE\r\nQUIT\r\n",
+        b"211-Extensions supported\r\n MDTM\r\n MFMT\r\n MLST type*;size*;modify*;\r\n SIZE\r\n UTF8\r\n211 End\r\n\
+          500 Command not implemented\r\n221 Bye!\r\n",
+    ),
+    // What is not there is refused before any data connection.
+    (
+        b"USER ann\r\nPASS x\r\nRETR none\r\n",
+        b"331 Password Required\r\n230 User logged in, proceed\r\n550 File not found\r\n",
+    ),
+];
+
+/// The talk on a connection with words about files, over a desk of this server: what was sent, and how it ended.
+fn serve_shared<L: Serving>(
+    alloc: Global,
+    options: Options,
+    storage: MemoryStorage,
+    edge: MemoryEdge,
+    link: MemoryLink,
+    extras: FileExtras<MemoryStorage>,
+    blank: Blank,
+) -> (ServeEnd, MemoryLink)
+    requires name { blank.name ≡ L.name }
+    requires parts { blank.parts ≡ L.parts }
+    requires two { blank.parts ≡ 2 }
+    requires options { options ≡ L.options }
+{
+    let (steps, parts) = blank.open::<L>();
+    let mut desk = SoloDesk::new(alloc, options, storage, steps, parts, 2);
+    let mut edge = edge;
+    let mut link = link;
+    let mut extras = extras;
+    let end = serve_control_with(
+        alloc,
+        &mut desk,
+        &mut link,
+        &mut edge,
+        &OnlyAnn,
+        &mut extras,
+        opening(),
+        Answer::None,
+    );
+    (end, link)
+}
+
+/// Compares a row with its talk, in one packet and byte by byte.
+fn compare(rt: &impl Abort, alloc: Global, row: Row<'_>) -> Result<(), Fail> {
+    let (lines, replies) = row;
+    for chunk in [1, 65536] {
+        let input = Vec::from_slice(alloc, lines)?;
+        let link = MemoryLink::new(alloc, input, chunk, Vec::new(alloc));
+        let extras = FileExtras::new(alloc, OFFERS, storage(alloc)?);
+        let (end, link) = serve_shared::<Brand>(
+            alloc,
+            pooled(alloc)?,
+            storage(alloc)?,
+            edge(alloc)?,
+            link,
+            extras,
+            Blank::new(2),
+        );
+        assert_eq!(rt; link.sent().strip_prefix(GREETING), Some(replies));
+        assert_eq!(rt; end, ServeEnd::Ended);
+    }
+    Ok(())
+}
+
+#[test]
+fn words_of_clients_are_answered_in_their_order(rt: HostRuntime) -> Result<(), Fail> {
+    for row in ROWS {
+        compare(&rt, rt.alloc(), row)?;
+    }
+    Ok(())
+}

@@ -1,0 +1,189 @@
+-- Without extras it is the talk.
+use Rattle.std.proofs.Common.{◌≡◌, ℕ, Bool, true, false, List, [], ◌∷◌, ◌++◌, Option, Some, None, refl, sym, ap, subst, ◌∙◌, arith, inl, inr}
+use Rattle.std.specs.Prelude.{⊤, Result, Ok}
+use Rattle.std.specs.List.{AllByRecursion}
+use Rattle.ftp_base.specs.declared.reply.Reply.{Reply}
+use Rattle.ftp_base.specs.Edge.{EdgeView}
+use Rattle.ftp_base.specs.Outside.{Writes}
+use Rattle.ftp_base.specs.Reply.{encoding}
+use Rattle.ftp_events.specs.declared.entry.Entry.{Entry}
+use Rattle.ftp_events.specs.declared.event.Answer.{Answer}
+use Rattle.ftp_events.specs.declared.event.EventKind.{EventKind}
+use Rattle.ftp_events.specs.declared.event.HubEvent.{HubEvent}
+use Rattle.ftp_control.specs.declared.command.Command.{Command}
+use Rattle.ftp_control.specs.declared.line.LineError.{LineError}
+use Rattle.ftp_control.specs.Line.{parsed}
+use Rattle.ftp_control.specs.Writing.{WritesFront}
+use Rattle.ftp_extras.specs.declared.extra.Extra.{Extra}
+use Rattle.ftp_extras.specs.declared.extra.Extra.TheVariants.{Pass}
+use Rattle.ftp_shared.specs.Desk.{DeskView}
+use Rattle.ftp_talk.specs.declared.serving.ServeEnd.{ServeEnd}
+use Rattle.ftp_talk.specs.declared.serving.ServeEnd.TheVariants as end
+use Rattle.ftp_talk.specs.Commands.{GivenBy}
+use Rattle.ftp_talk.specs.Control.{IsServedTo, Serves}
+use Rattle.ftp_talk.specs.ControlWith.{IsServedWith, ServesWith}
+use Rattle.ftp_talk.specs.Extended.{TalkHeard, TalkFrontHeard, OutcomeWith}
+use Rattle.ftp_talk.specs.Ground.{Step, ALine, Turn, Start, Ground, history}
+use Rattle.ftp_talk.specs.Parts.{HeardLine, TalkPart, turns_of, with_heard, heard_in, MayDoSo, AreAllowed, GivesMore, IsHeard, ComesWith, Parts, with_said, with_spoken, turn_pieces, due_pieces, pieces_by}
+use Rattle.ftp_talk.specs.Pieces.{Pieces, pieces_of, piece_text, piece_delays, SaysPieces}
+use Rattle.ftp_talk.specs.Saying.{encodings, delays, IsPaused, SaysFront, said}
+use Rattle.ftp_talk.specs.Speaking.{Outcome}
+use Rattle.ftp_talk.specs.Talk.{Talk, TalkFront, due_replies, greeting_of, closed_by}
+use Rattle.ftp_talk.specs.Turns.{Due, LineDue, due, Comes, Turns}
+use Rattle.ftp_talk.proofs.PieceLemmas.{text-replies, delays-replies, replies-pieces}
+
+-- on each line was done what the profile does
+abbrev ArePlain : List HeardLine → Type 0
+ArePlain hs = AllByRecursion (λ (x : HeardLine). x.extra ≡ Pass) hs
+
+abbrev IsPlainAt : Option HeardLine → Type 0
+IsPlainAt None = ⊤
+IsPlainAt (Some x) = x.extra ≡ Pass
+
+plain-first : (h : Option HeardLine) (hs : List HeardLine) → ArePlain (with_heard h hs) → IsPlainAt h
+plain-first None hs all = tt
+plain-first (Some x) hs all = all.0
+
+plain-rest : (h : Option HeardLine) (hs : List HeardLine) → ArePlain (with_heard h hs) → ArePlain hs
+plain-rest None hs all = all
+plain-rest (Some x) hs all = all.1
+
+-- a line that was heard comes as the profile has it
+comes-plain : (g : Ground) (ts : List Turn) (h : Option HeardLine) (t : Turn) → ComesWith g ts h t → IsPlainAt h → Comes g (history g ts) (due ts) t.step t.entry.event.kind
+comes-plain g ts None t c plain = c.0
+comes-plain g ts (Some x) t c plain =
+    let k = t.entry.event.kind in
+    let h = history g ts in
+    let gives = subst (λ (y : Extra). GivesMore g h x.command y k) plain c.gives in
+    let given = subst (λ (r : Result Command LineError). GivenBy g h r k) (sym c.parsed) gives in
+    let comes : Comes g h LineDue (ALine x.line) k = (c.line, given) in
+    subst (λ (d : Due). Comes g h d t.step k) (sym c.due) (subst (λ (s : Step). Comes g h LineDue s k) (sym c.step) comes)
+
+turns-plain : (g : Ground) (ps : List TalkPart) → Parts g ps → ArePlain (heard_in ps) → Turns g (turns_of ps)
+turns-plain g [] ruled plain = tt
+turns-plain g (p ∷ ps) ruled plain = (
+  turns-plain g ps ruled.0 (plain-rest p.heard (heard_in ps) plain),
+  (comes-plain g (turns_of ps) p.heard p.turn ruled.1 (plain-first p.heard (heard_in ps) plain), ruled.2),
+)
+
+more-plain : (h : Option HeardLine) (over : Bool) (pieces : Pieces) → IsPlainAt h → with_spoken h over pieces ≡ pieces
+more-plain None over pieces plain = refl
+more-plain (Some x) true pieces plain = refl
+more-plain (Some x) false pieces plain = ap (λ (y : Extra). with_said y pieces) plain
+
+-- what is to be said are the replies
+pieces-plain : (g : Ground) (ps : List TalkPart) → ArePlain (heard_in ps) → due_pieces g ps ≡ pieces_of (due_replies g (turns_of ps))
+pieces-plain g [] plain = refl
+pieces-plain g (p ∷ ps) plain =
+    let t = p.turn in
+    more-plain p.heard _ (due_pieces g ps ++ turn_pieces g t) (plain-first p.heard (heard_in ps) plain)
+    ∙ ap (λ (x : Pieces). x ++ turn_pieces g t) (pieces-plain g ps (plain-rest p.heard (heard_in ps) plain))
+    ∙ sym (replies-pieces (due_replies g (turns_of ps)) (said g.session t.earlier t.entry.actions))
+
+closed-plain : (g : Ground) (close : Option Turn) (ps : List TalkPart) → ArePlain (heard_in ps) → pieces_by g close ps ≡ pieces_of (due_replies g (closed_by close (turns_of ps)))
+closed-plain g None ps plain = pieces-plain g ps plain
+closed-plain g (Some t) ps plain =
+    ap (λ (x : Pieces). x ++ turn_pieces g t) (pieces-plain g ps plain) ∙ sym (replies-pieces (due_replies g (turns_of ps)) (said g.session t.earlier t.entry.actions))
+
+-- a front of the pieces of replies is the pieces of a front
+split-pieces : (begun left : Pieces) (rs : List (ℕ × Reply)) → begun ++ left ≡ pieces_of rs → (b l : List (ℕ × Reply)) × (b ++ l ≡ rs) × (pieces_of b ≡ begun)
+split-pieces [] left rs e = ([], rs, refl, refl)
+split-pieces (p ∷ begun) left [] e = absurd (cc)
+split-pieces (p ∷ begun) left (r ∷ rs) e =
+    let first : (r.0, encoding r.1) ≡ p = cc in
+    let rest : begun ++ left ≡ pieces_of rs = cc in
+    let s = split-pieces begun left rs rest in
+    (r ∷ s.0, s.1, ap (λ (x : List (ℕ × Reply)). r ∷ x) s.2, ap (λ (x : Pieces). (r.0, encoding r.1) ∷ x) s.3 ∙ ap (λ (x : ℕ × List ℕ). x ∷ begun) first)
+
+says-plain : (old new : Option (List ℕ)) (before after : ℕ) (w : List ℕ) (rs : List (ℕ × Reply)) → SaysPieces old new before after w (pieces_of rs) → SaysFront old new before after w rs
+says-plain old new before after w rs h =
+    let s = split-pieces h.begun h.left rs h.parts in
+    let text : piece_text h.begun ≡ encodings s.0 = ap piece_text (sym s.3) ∙ text-replies s.0 in
+    let millis : piece_delays h.begun ≡ delays s.0 = ap piece_delays (sym s.3) ∙ delays-replies s.0 in
+    record {
+      begun = s.0;
+      left = s.1;
+      parts = s.2;
+      written = subst (λ (x : List ℕ). WritesFront old new (w ++ x)) text h.written;
+      millis = h.millis;
+      least = omega (arith, h.least, millis);
+      most = omega (arith, h.most, delays-replies rs);
+      paused = h.paused;
+    }
+
+-- the law, of a talk and of one that was cut short
+pub plain-talk : (g : Ground) (edge : EdgeView) (desk : DeskView) (sent : Option (List ℕ)) (hs : List HeardLine) → ArePlain hs → TalkHeard g edge desk sent hs → Talk g edge desk sent
+plain-talk g edge desk sent hs plain t =
+    let all = subst ArePlain (sym t.heard) plain in
+    let replies = due_replies g (closed_by t.close (turns_of t.parts)) in
+    let same = closed-plain g t.close t.parts all in
+    record {
+      turns = turns_of t.parts;
+      close = t.close;
+      rest = t.rest;
+      cut = t.cut;
+      ruled = turns-plain g t.parts t.ruled all;
+      long = t.long;
+      ended = t.ended;
+      seen = t.seen;
+      grew = t.grew;
+      vouched = t.vouched;
+      last = t.last;
+      share = t.share;
+      written = subst (λ (x : List ℕ). Writes g.start.sent sent (greeting_of g ++ x)) (ap piece_text same ∙ text-replies replies) t.written;
+      paused = subst (λ (n : ℕ). IsPaused n g.start.edge.paused edge.paused) (ap piece_delays same ∙ delays-replies replies) t.paused;
+    }
+
+pub plain-front : (g : Ground) (edge : EdgeView) (desk : DeskView) (sent : Option (List ℕ)) (hs : List HeardLine) → ArePlain hs → TalkFrontHeard g edge desk sent hs → TalkFront g edge desk sent
+plain-front g edge desk sent hs plain t =
+    let all = subst ArePlain (sym t.heard) plain in
+    let replies = due_replies g (closed_by t.close (turns_of t.parts)) in
+    record {
+      turns = turns_of t.parts;
+      close = t.close;
+      rest = t.rest;
+      cut = t.cut;
+      ruled = turns-plain g t.parts t.ruled all;
+      long = t.long;
+      closing = t.closing;
+      seen = t.seen;
+      grew = t.grew;
+      vouched = t.vouched;
+      share = t.share;
+      written = says-plain g.start.sent sent g.start.edge.paused edge.paused (greeting_of g) replies
+          (subst (SaysPieces g.start.sent sent g.start.edge.paused edge.paused (greeting_of g)) (closed-plain g t.close t.parts all) t.written);
+    }
+
+-- ---- where nothing else may be done
+
+abbrev OnlyPasses : MayDoSo
+OnlyPasses = λ who before c line x after. x ≡ Pass
+
+allowed-plain : (first : Option (List ℕ)) (hs : List HeardLine) → AreAllowed OnlyPasses first hs → ArePlain hs
+allowed-plain first [] allowed = tt
+allowed-plain first (x ∷ hs) allowed = (allowed.2, allowed-plain first hs allowed.0)
+
+outcome-plain : (first : Option (List ℕ)) (x : ServeEnd) (g : Ground) (edge : EdgeView) (desk : DeskView) (sent : Option (List ℕ)) →
+    OutcomeWith OnlyPasses first x g edge desk sent → Outcome x g edge desk sent
+outcome-plain first end.Ended g edge desk sent h = plain-talk g edge desk sent h.0 (allowed-plain first h.0 h.1) h.2
+outcome-plain first (end.Refused d) g edge desk sent h = absurd h
+outcome-plain first end.ReadFault g edge desk sent h = plain-front g edge desk sent h.0 (allowed-plain first h.0 h.1) h.2
+outcome-plain first end.WriteFault g edge desk sent h = plain-front g edge desk sent h.0 (allowed-plain first h.0 h.1) h.2
+outcome-plain first end.OutOfMemory g edge desk sent h = plain-front g edge desk sent h.0 (allowed-plain first h.0 h.1) h.2
+outcome-plain first end.Exhausted g edge desk sent h = plain-front g edge desk sent h.0 (allowed-plain first h.0 h.1) h.2
+
+served-plain : (first : Option (List ℕ)) (x : ServeEnd) (opening : HubEvent) (a : Answer) (start : Start) (edge : EdgeView) (desk : DeskView) (sent : Option (List ℕ)) →
+    IsServedWith OnlyPasses first x opening a start edge desk sent → IsServedTo x opening a start edge desk sent
+served-plain first x opening a start edge desk sent h =
+    record { entry = h.entry; peer = h.peer; submitted = h.submitted; decision = h.decision; named = h.named; outcome = outcome-plain first x _ edge desk sent h.outcome }
+
+pub serves-plain : (first : Option (List ℕ)) (x : ServeEnd) (opening : HubEvent) (a : Answer) (start : Start) (edge : EdgeView) (desk : DeskView) (sent : Option (List ℕ)) →
+    ServesWith OnlyPasses first x opening a start edge desk sent → Serves x opening a start edge desk sent
+serves-plain first end.Ended opening a start edge desk sent h = served-plain first end.Ended opening a start edge desk sent h
+serves-plain first (end.Refused d) opening a start edge desk sent h = h
+serves-plain first end.ReadFault opening a start edge desk sent h = served-plain first end.ReadFault opening a start edge desk sent h
+serves-plain first end.WriteFault opening a start edge desk sent h = served-plain first end.WriteFault opening a start edge desk sent h
+serves-plain first end.OutOfMemory opening a start edge desk sent (inl h) = inl h
+serves-plain first end.OutOfMemory opening a start edge desk sent (inr h) = inr (served-plain first end.OutOfMemory opening a start edge desk sent h)
+serves-plain first end.Exhausted opening a start edge desk sent (inl h) = inl h
+serves-plain first end.Exhausted opening a start edge desk sent (inr h) = inr (served-plain first end.Exhausted opening a start edge desk sent h)

@@ -1,0 +1,63 @@
+-- The talk on a control connection where more is done on some lines than the profile does, as a relation on the whole input.
+use Rattle.std.specs.Prelude.{◌≡◌, ℕ, true, List, ◌++◌, Option}
+use Rattle.ftp_base.specs.Edge.{EdgeView}
+use Rattle.ftp_base.specs.Outside.{Writes}
+use Rattle.ftp_shared.specs.Desk.{DeskView}
+use Rattle.ftp_control.specs.ControlLine.{IsLong}
+use Rattle.ftp_talk.specs.declared.serving.ServeEnd.{ServeEnd}
+use Rattle.ftp_talk.specs.declared.serving.ServeEnd.TheVariants as end
+use Rattle.ftp_talk.specs.Ground.{Turn, Ground, lines_in}
+use Rattle.ftp_talk.specs.Parts.{HeardLine, TalkPart, turns_of, heard_in, MayDoSo, AreAllowed, Parts, pieces_by}
+use Rattle.ftp_talk.specs.Pieces.{piece_text, piece_delays, SaysPieces}
+use Rattle.ftp_talk.specs.Saying.{IsPaused}
+use Rattle.ftp_talk.specs.Seen.{IsSeen}
+use Rattle.ftp_talk.specs.Talk.{greeting_of, IsInput, Grew, AreVouched, Shares, is_long_last, is_over, IsEnded, IsLeft, closed_by}
+
+-- a talk in which these lines were heard: as a talk of the profile, but for the events of those lines, and what is said on
+-- them
+pub record TalkHeard (g : Ground) (edge : EdgeView) (desk : DeskView) (sent : Option (List ℕ)) (hs : List HeardLine) : Type 0 where
+  pub parts : List TalkPart
+  pub close : Option Turn
+  pub rest : List ℕ
+  pub cut : IsInput g.start.input (lines_in (turns_of parts) ++ rest)
+  pub ruled : Parts g parts
+  pub heard : heard_in parts ≡ hs
+  pub long : is_long_last (turns_of parts) ≡ true → IsLong rest
+  pub ended : IsEnded g close (turns_of parts) rest
+  pub seen : IsSeen g (closed_by close (turns_of parts)) edge desk.faults
+  pub grew : Grew g desk (closed_by close (turns_of parts))
+  pub vouched : AreVouched g (closed_by close (turns_of parts))
+  pub last : g.start.vouches ≡ true → is_over (closed_by close (turns_of parts)) ≡ true
+  pub share : Shares g desk (closed_by close (turns_of parts))
+  pub written : Writes g.start.sent sent (greeting_of g ++ piece_text (pieces_by g close parts))
+  pub paused : IsPaused (piece_delays (pieces_by g close parts)) g.start.edge.paused edge.paused
+
+-- such a talk that was cut short
+pub record TalkFrontHeard (g : Ground) (edge : EdgeView) (desk : DeskView) (sent : Option (List ℕ)) (hs : List HeardLine) : Type 0 where
+  pub parts : List TalkPart
+  pub close : Option Turn
+  pub rest : List ℕ
+  pub cut : IsInput g.start.input (lines_in (turns_of parts) ++ rest)
+  pub ruled : Parts g parts
+  pub heard : heard_in parts ≡ hs
+  pub long : is_long_last (turns_of parts) ≡ true → IsLong rest
+  pub closing : IsLeft g desk close (turns_of parts)
+  pub seen : IsSeen g (turns_of parts) edge desk.faults
+  pub grew : Grew g desk (closed_by close (turns_of parts))
+  pub vouched : AreVouched g (closed_by close (turns_of parts))
+  pub share : Shares g desk (closed_by close (turns_of parts))
+  pub written : SaysPieces g.start.sent sent g.start.edge.paused edge.paused (greeting_of g) (pieces_by g close parts)
+
+-- a talk in which on each line was done what may be done
+abbrev pub TalkWith : MayDoSo → Option (List ℕ) → Ground → EdgeView → DeskView → Option (List ℕ) → Type 0
+TalkWith may first g edge desk sent = (hs : List HeardLine) × AreAllowed may first hs × TalkHeard g edge desk sent hs
+
+-- such a talk that was cut short
+abbrev pub TalkFrontWith : MayDoSo → Option (List ℕ) → Ground → EdgeView → DeskView → Option (List ℕ) → Type 0
+TalkFrontWith may first g edge desk sent = (hs : List HeardLine) × AreAllowed may first hs × TalkFrontHeard g edge desk sent hs
+
+-- how a talk ended
+abbrev pub OutcomeWith : MayDoSo → Option (List ℕ) → ServeEnd → Ground → EdgeView → DeskView → Option (List ℕ) → Type 0
+OutcomeWith may first end.Ended g edge desk sent = TalkWith may first g edge desk sent
+OutcomeWith may first (end.Refused d) g edge desk sent = ⊥
+OutcomeWith may first _ g edge desk sent = TalkFrontWith may first g edge desk sent
