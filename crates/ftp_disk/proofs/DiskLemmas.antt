@@ -1,15 +1,12 @@
 -- What the calls of a storage over homes tell, by the state that they are asked of.
-use Rattle.std.proofs.Common.{◌≡◌, ℕ, List, All, Some, IfOk, OnOk, Result, Ok, Err, false, subst}
-use Rattle.std.specs.List.Sorted.{IsSortedByKey}
-use Rattle.std.specs.Ordering.{nat_cmp}
-use Rattle.std.specs.Cmp.Lexicographic.{slice_cmp}
+use Rattle.std.proofs.Common.{◌≡◌, ℕ, List, Some, IfOk, OnOk, Result, Ok, Err, false, subst}
 use Rattle.ftp_base.specs.declared.storage.Meta.{Meta}
 use Rattle.ftp_base.specs.declared.storage.FileInfo.{FileInfo}
 use Rattle.ftp_places.specs.Place.{Location}
 use Rattle.ftp_disk.specs.declared.standing.Standing.{Standing}
 use Rattle.ftp_disk.specs.FileSystem.{Told, IsUnlinked}
 use Rattle.ftp_disk.specs.Standing.{Stood}
-use Rattle.ftp_disk.specs.Listing.{WasShown, shown_meta}
+use Rattle.ftp_disk.specs.Listing.{IsListingOf, shown_meta}
 use Rattle.ftp_disk.specs.Disk.{DiskState, place_in_home, IsReached, WasFound, WasListed}
 
 -- a place is reached in the state that is the same
@@ -44,10 +41,8 @@ WasFound-same {S} told s t user path place standing meta e leads unlinked stood 
 -- what was listed is told by the state that is the same
 pub WasListed-same :
     {S V E : Type 0} (items : V → List FileInfo) (told : S → Told) (s t : DiskState S) (user path : List ℕ) (place : Location) (r : Result V E) → s ≡ t →
-    place_in_home t.homes user path ≡ Some place → OnOk r (IsUnlinked (told s.system) place) → IfOk r (λ v. All (WasShown (told s.system) place) (items v)) →
-    IfOk r (λ v. IsSortedByKey (λ info. info.name) (slice_cmp nat_cmp) (items v)) →
+    place_in_home t.homes user path ≡ Some place → IfOk r (λ v. IsListingOf (told s.system) place (items v)) →
     IfOk r (λ v. WasListed (told t.system) t.homes user path (items v))
-WasListed-same {S} items told s t user path place (Ok v) e leads unlinked shown in_order =
-    subst (λ (x : DiskState S). WasListed (told x.system) t.homes user path (items v)) e
-    (record { place = place; leads = leads; unlinked = unlinked; shown = shown; in_order = in_order })
-WasListed-same items told s t user path place (Err e) same leads unlinked shown in_order = tt
+WasListed-same {S} items told s t user path place (Ok v) e leads listing =
+    subst (λ (x : DiskState S). WasListed (told x.system) t.homes user path (items v)) e (record { place = place; leads = leads; listing = listing })
+WasListed-same items told s t user path place (Err x) e leads listing = tt

@@ -6,7 +6,7 @@ use Rattle.ftp_places.specs.Place.{Location, below_by}
 use Rattle.ftp_disk.specs.Visible.{IsBeside, upload_mark}
 
 -- the names before the last one
-dir-of :
+pub dir-of :
     (dir : List (Bor (List ℕ))) (last : Bor (List ℕ)) →
     take (length dir) (map (λ n. n.now) (dir ++ last ∷ [])) ≡ map (λ n. n.now) dir
 dir-of dir last =

@@ -1,8 +1,6 @@
 -- Storages over homes: what callers see of one, and what its calls tell.
-use Rattle.std.specs.Prelude.{◌≡◌, ℕ, List, All, IsSortedByKey, Option, Some, string_bytes, Bool, false, is_some}
+use Rattle.std.specs.Prelude.{◌≡◌, ℕ, List, Option, Some, string_bytes, Bool, false, is_some}
 use Rattle.std.specs.Option.{option_map, option_map_or}
-use Rattle.std.specs.Ordering.{nat_cmp}
-use Rattle.std.specs.Cmp.Lexicographic.{slice_cmp}
 use Rattle.ftp_base.specs.declared.storage.Meta.{Meta}
 use Rattle.ftp_base.specs.declared.storage.FileInfo.{FileInfo}
 use Rattle.ftp_places.specs.Names.{names_of}
@@ -12,7 +10,7 @@ use Rattle.ftp_disk.specs.declared.opened.Opened.{Opened}
 use Rattle.ftp_disk.specs.declared.standing.Standing.{Standing}
 use Rattle.ftp_disk.specs.FileSystem.{Told, IsUnlinked}
 use Rattle.ftp_disk.specs.Home.{home_of}
-use Rattle.ftp_disk.specs.Listing.{WasShown, shown_meta}
+use Rattle.ftp_disk.specs.Listing.{IsListingOf, shown_meta}
 use Rattle.ftp_disk.specs.Standing.{Stood}
 
 -- an upload stands beside its path
@@ -47,10 +45,8 @@ pub record WasFound (told : Told) (homes : List (List ℕ × Home)) (user path :
   pub stood : Stood told place standing
   pub shown : shown_meta standing ≡ Some meta
 
--- the children of the directory to which a user's path leads, over no link, were looked at, and are told in order
+-- what a listing of a user's path tells: the children of a directory, a file alone, or what matches a pattern
 pub record WasListed (told : Told) (homes : List (List ℕ × Home)) (user path : List ℕ) (infos : List FileInfo) : Type 0 where
   pub place : Location
   pub leads : place_in_home homes user path ≡ Some place
-  pub unlinked : IsUnlinked told place
-  pub shown : All (WasShown told place) infos
-  pub in_order : IsSortedByKey (λ info. info.name) (slice_cmp nat_cmp) infos
+  pub listing : IsListingOf told place infos

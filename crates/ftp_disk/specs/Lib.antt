@@ -4,5 +4,6 @@ pub mod FileSystem
 pub mod Standing
 pub mod Home
 pub mod Looks
+pub mod Patterns
 pub mod Listing
 pub mod Disk

@@ -3,6 +3,7 @@
 ghost use Rattle.std.specs.Prelude.{◌≡◌, ◌+◌, ◌^◌, ◌<◌, ◌≤◌, ◌&&◌, nat_eq, true, false, is_some, length, Some, IfOk, OnOk, IsErrOf};
 ghost use Rattle.ftp_base.specs.declared.error_kind.ErrorKind.TheVariants.{PermissionDenied};
 ghost use Rattle.ftp_base.specs.Outside.{HasRisen};
+ghost use Rattle.ftp_places.specs.Names.{names_of};
 ghost use Rattle.ftp_disk.specs.Disk.{place_in_home, IsReached, WasFound, WasListed};
 ghost use Rattle.ftp_disk.specs.Home.{has_home, may_write};
 
@@ -97,6 +98,7 @@ impl<R: Wait + Drop, S: FileSystem + Drop> DiskStorage<R, S> {
     // Where a user's path leads.
     fn place(&self, user: &Bytes, path: &Bytes) -> Result<Place, StoreError>
         ensures place { IfOk result (λ place. place_in_home self.now.homes user.now path.now ≡ Some place) }
+        ensures names { IfOk result (λ place. place.names ≡ names_of path.now) }
         ensures homeless { has_home self.now.homes user.now ≡ false → IsErrOf result (StoreError.Kind PermissionDenied) }
     {
         let home = self.homes.find(user)?;
@@ -151,13 +153,13 @@ impl<R: Wait + Drop, S: FileSystem + Drop> DiskStorage<R, S> {
         }
     }
 
-    // What a listing of a directory shows.
+    // What a listing of a path shows.
     fn children(&self, user: &Bytes, path: &Bytes) -> Result<Vec<FileInfo>, StoreError>
         ensures listed { IfOk result (λ found. WasListed (S.told self.now.system) self.now.homes user.now path.now found.items) }
         ensures homeless { has_home self.now.homes user.now ≡ false → IsErrOf result (StoreError.Kind PermissionDenied) }
     {
         let place = self.place(user, path)?;
-        list(&self.system, self.alloc, &place)
+        list(&self.system, self.alloc, &place, path.as_slice())
     }
 
     // The file that is open to be read at a place, or which is opened there; none past its end.

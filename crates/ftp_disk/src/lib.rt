@@ -18,6 +18,7 @@ mod listing;
 mod looks;
 mod opened;
 mod opening;
+mod pattern;
 mod purse;
 mod refusals;
 mod standing;

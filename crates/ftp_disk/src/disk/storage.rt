@@ -31,8 +31,10 @@ impl<R: Wait + Drop, S: FileSystem + Drop> Storage for DiskStorage<R, S> {
     // # Proved
     //
     // - What is told of a path, listed in a directory and begun for an upload lies below the user's home, and no link was
-    //   there when it was looked at; a listing is in byte order of names (`found`; also `DiskStorage::list`: `listed`;
-    //   `DiskStorage::begin`: `reached`).
+    //   there when it was looked at (`found`; also `DiskStorage::list`: `listed`; `DiskStorage::begin`: `reached`).
+    // - A listing of a directory is of its children, one of a file is of that alone, and one of a path at which nothing
+    //   stands is of the children of the directory before it that match its last name, where that has a wildcard and no
+    //   name before it has one; each in byte order of names (also `DiskStorage::list`: `listed`).
     // - A user without a home is refused by each call, and one who may not write by each that changes anything
     //   (`homeless`; also `DiskStorage::list`: `homeless`; `DiskStorage::read_at`: `homeless`; `DiskStorage::begin`:
     //   `read_only`; `DiskStorage::append`: `read_only`).
