@@ -77,6 +77,7 @@ takes_value key.UsersFile value = is_some (option_and_then as_str value)
 takes_value key.Mode value = is_some (option_and_then (mode_named 0) (text_or (codes "pooled") value))
 takes_value key.Lockout value = is_some (option_and_then block_named (text_or (codes "ip") value))
 takes_value key.PortEnable value = is_flag value
+takes_value key.WholeUploads value = is_flag value
 takes_value key.ProxyControlPort value = is_port_value value
 takes_value key.PasvMinPort value = is_port_value value
 takes_value key.PasvMaxPort value = is_port_value value
@@ -115,6 +116,7 @@ pub record IsConfigOf (document : Members) (config : GatewayConfig) : Type 0 whe
   pub lockout : option_and_then block_named (text_or (codes "ip") (value_at key.Lockout document)) ≡ Some config.lockout
   pub failures : number_or 1 4294967295 5 (value_at key.LockoutFailures document) ≡ Some config.lockout_failures
   pub forget : number_or 1 4294967295 600 (value_at key.LockoutForget document) ≡ Some config.lockout_forget
+  pub whole : flag_or false (value_at key.WholeUploads document) ≡ Some config.whole_uploads
   pub xferlog : maybe_text (value_at key.XferlogFile document) ≡ Some config.xferlog_file
   pub log : maybe_text (value_at key.LogFile document) ≡ Some config.log_file
   pub metrics : maybe_text (value_at key.MetricsFile document) ≡ Some config.metrics_file

@@ -22,6 +22,7 @@ key_name key.MaxPerIp = codes "max_per_ip"
 key_name key.Lockout = codes "lockout"
 key_name key.LockoutFailures = codes "lockout_failures"
 key_name key.LockoutForget = codes "lockout_forget"
+key_name key.WholeUploads = codes "whole_uploads"
 key_name key.XferlogFile = codes "xferlog_file"
 key_name key.LogFile = codes "log_file"
 key_name key.MetricsFile = codes "metrics_file"
@@ -32,7 +33,7 @@ abbrev pub keys : List Key
 keys =
     key.UsersFile ∷ key.Listen ∷ key.Mode ∷ key.ProxyControlPort ∷ key.PasvMinPort ∷ key.PasvMaxPort ∷ key.PasvAddress ∷ key.PortEnable ∷ key.Banner
     ∷ key.IdleSessionTimeout ∷ key.ShutdownGrace ∷ key.MaxClients ∷ key.MaxPerIp ∷ key.Lockout ∷ key.LockoutFailures ∷ key.LockoutForget
-    ∷ key.XferlogFile ∷ key.LogFile ∷ key.MetricsFile ∷ key.ControlSocket ∷ []
+    ∷ key.WholeUploads ∷ key.XferlogFile ∷ key.LogFile ∷ key.MetricsFile ∷ key.ControlSocket ∷ []
 
 -- the key that is written so
 abbrev pub config_key : List ℕ → Option Key

@@ -38,6 +38,8 @@ pub struct GatewayConfig {
     pub lockout: Option<FailedLoginsBlock>,
     pub lockout_failures: u32,
     pub lockout_forget: u32,
+    /// Whether an upload takes its place only once it came whole.
+    pub whole_uploads: bool,
     /// Where transfers are told in xferlog's form.
     pub xferlog_file: Option<Bytes>,
     /// Where all that is told of sessions stands.
@@ -70,6 +72,7 @@ fn config_in(alloc: Global, table: &Table) -> Result<GatewayConfig, ConfigError>
         lockout: lockout(table)?,
         lockout_failures: number(table, Key::LockoutFailures, 1, MOST, 5)?,
         lockout_forget: number(table, Key::LockoutForget, 1, MOST, 600)?,
+        whole_uploads: flag(table, Key::WholeUploads, false)?,
         xferlog_file: maybe_text_at(alloc, table, Key::XferlogFile)?,
         log_file: maybe_text_at(alloc, table, Key::LogFile)?,
         metrics_file: maybe_text_at(alloc, table, Key::MetricsFile)?,

@@ -33,6 +33,8 @@ pub enum Key {
     LockoutFailures,
     /// For how many seconds a failed login counts.
     LockoutForget,
+    /// Whether an upload takes its place only once it came whole.
+    WholeUploads,
     /// The log of transfers in xferlog's form.
     XferlogFile,
     /// The log of sessions, logins and transfers.
@@ -43,7 +45,7 @@ pub enum Key {
     ControlSocket,
 }
 
-const KEYS: [Key; 20] = [
+const KEYS: [Key; 21] = [
     Key::UsersFile,
     Key::Listen,
     Key::Mode,
@@ -60,6 +62,7 @@ const KEYS: [Key; 20] = [
     Key::Lockout,
     Key::LockoutFailures,
     Key::LockoutForget,
+    Key::WholeUploads,
     Key::XferlogFile,
     Key::LogFile,
     Key::MetricsFile,
@@ -87,6 +90,7 @@ pub fn key_name(key: Key) -> &'static str
         Key::Lockout => "lockout",
         Key::LockoutFailures => "lockout_failures",
         Key::LockoutForget => "lockout_forget",
+        Key::WholeUploads => "whole_uploads",
         Key::XferlogFile => "xferlog_file",
         Key::LogFile => "log_file",
         Key::MetricsFile => "metrics_file",

@@ -19,6 +19,7 @@ returns-clause-said c =
       lockout = c.in_ok-lockout.ensures.written;
       failures = c.in_ok-number-5.ensures.written;
       forget = c.in_ok-number-6.ensures.written;
+      whole = c.in_ok-flag-2.ensures.written;
       xferlog = c.in_ok-maybe_text_at-2.ensures.written;
       log = c.in_ok-maybe_text_at-3.ensures.written;
       metrics = c.in_ok-maybe_text_at-4.ensures.written;
