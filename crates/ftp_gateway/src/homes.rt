@@ -5,8 +5,9 @@ ghost use Rattle.ftp_gateway.specs.Owned.{AreHomesOf, IsHome, is_writer};
 
 use crate::budgets::Budgets;
 use ftp_config::{Rights, User, Users};
-use ftp_disk::{Home, Homes};
+use ftp_disk::{FileSystem, Home, Homes, remove_leftovers};
 use std::alloc::{AllocError, Global};
+use std::collections::BTreeMap;
 
 // Whether a user may write.
 fn is_writer(rights: Rights) -> bool
@@ -44,4 +45,23 @@ pub fn homes_of(alloc: Global, users: &Users, budgets: &Budgets) -> Result<Homes
         homes.add(Vec::from_slice(alloc, name.as_slice())?, home)?;
     }
     Ok(homes)
+}
+
+/// Removes what uploads left in the homes of users as a gateway was killed, in each directory once.
+pub fn clear_homes<S: FileSystem>(
+    system: &S,
+    alloc: Global,
+    users: &Users,
+) -> Result<(), AllocError> {
+    let budgets = Budgets::none(alloc);
+    let mut cleared = BTreeMap::new(alloc);
+    for (_, user) in users.iter() {
+        let root = user.home.as_str().as_bytes();
+        if is_writer(user.rights) && !cleared.contains_key(root) {
+            let home = home(alloc, user, &budgets)?;
+            remove_leftovers(system, alloc, &home)?;
+            cleared.insert(Vec::from_slice(alloc, root)?, ())?;
+        }
+    }
+    Ok(())
 }

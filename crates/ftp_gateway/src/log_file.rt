@@ -30,6 +30,24 @@ fn file_at<R: Files<File = File>>(rt: &R, path: &str) -> io::Result<File> {
     OpenOptions::new().append(true).create(true).open(rt, path)
 }
 
+impl<R: Wait + Drop> LogFile<R> {
+    /// Where it is.
+    pub fn path(&self) -> &str {
+        self.path.as_str()
+    }
+
+    /// Adds the lines that the next entry tells.
+    pub fn take(&self, entry: &Entry) -> io::Result<()> {
+        let mut text = Vec::new(self.alloc);
+        let mut lines = self.lines.lock(&self.rt);
+        lines.log.take(entry, &mut text)?;
+        if text.is_empty() {
+            return Ok(());
+        }
+        lines.file.write_all(text.as_slice())
+    }
+}
+
 impl<R: Wait + Files<File = File> + AllocGlobal + Copy + Drop> LogFile<R> {
     /// A log in the file at a path, which is made where there is none. Moments are counted from one in milliseconds since the first
     /// day of 1970.
@@ -45,22 +63,6 @@ impl<R: Wait + Files<File = File> + AllocGlobal + Copy + Drop> LogFile<R> {
             path: String::from_str(alloc, path)?,
             lines: Mutex::new(lines),
         })
-    }
-
-    /// Where it is.
-    pub fn path(&self) -> &str {
-        self.path.as_str()
-    }
-
-    /// Adds the lines that the next entry tells.
-    pub fn take(&self, entry: &Entry) -> io::Result<()> {
-        let mut text = Vec::new(self.alloc);
-        let mut lines = self.lines.lock(&self.rt);
-        lines.log.take(entry, &mut text)?;
-        if text.is_empty() {
-            return Ok(());
-        }
-        lines.file.write_all(text.as_slice())
     }
 
     /// From now on adds to the file that stands at the path then, which is made where there is none. Where it cannot be opened, lines go

@@ -27,6 +27,7 @@ mod serving;
 mod settings;
 mod setup;
 mod user_table;
+mod words;
 
 use command::Command;
 use ftp_listen::Parts;
@@ -147,8 +148,9 @@ fn main(rt: HostRuntime) -> ExitCode {
         indicator,
         storage: gateway.depot,
     };
+    let plan = gateway.plan;
     let (records, feed) = (&*gateway.records, &gateway.feed);
-    let (server, address) = match server_of(rt.alloc(), gateway.plan, parts, records, feed) {
+    let (server, address) = match server_of(rt.alloc(), plan, parts, records, feed) {
         Ok(made) => made,
         Err(refusal) => return ended(&rt, Err(refusal)),
     };
@@ -156,6 +158,8 @@ fn main(rt: HostRuntime) -> ExitCode {
         &rt,
         || record(&rt, feed, records),
         || {
+            let types: Option<(TcpListener, TcpStream)> = None;
+            drop(types);
             let served = server.listen_over(&rt, address.as_slice());
             feed.close(&rt);
             served

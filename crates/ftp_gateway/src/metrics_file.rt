@@ -20,6 +20,18 @@ pub struct MetricsFile<R: Wait + Drop> {
     tally: Mutex<Tally>,
 }
 
+impl<R: Wait + Drop> MetricsFile<R> {
+    /// Where it is.
+    pub fn path(&self) -> &str {
+        self.path.as_str()
+    }
+
+    /// Counts the next entry.
+    pub fn take(&self, entry: &Entry) -> Result<(), PrepareError> {
+        self.tally.lock(&self.rt).take(entry)
+    }
+}
+
 impl<R: Wait + Files + AllocGlobal + Copy + Drop> MetricsFile<R> {
     /// The counts of a server with these options, at a path. Nothing was counted, and nothing is written yet.
     pub fn new(rt: R, path: &str, options: Options) -> io::Result<MetricsFile<R>> {
@@ -31,16 +43,6 @@ impl<R: Wait + Files + AllocGlobal + Copy + Drop> MetricsFile<R> {
             beside: format!(in alloc; "{path}.new")?,
             tally: Mutex::new(Tally::new(alloc, options)),
         })
-    }
-
-    /// Where it is.
-    pub fn path(&self) -> &str {
-        self.path.as_str()
-    }
-
-    /// Counts the next entry.
-    pub fn take(&self, entry: &Entry) -> Result<(), PrepareError> {
-        self.tally.lock(&self.rt).take(entry)
     }
 
     /// Writes the file anew. Whoever reads it finds the counts whole, those from before or those of now.

@@ -3,15 +3,12 @@
 use crate::records::Records;
 use crate::refusal::tell;
 use ftp_shared::{EntriesLost, JournalFeed};
-use std::fs::File;
-use std::rt::Files;
 use std::sync::Wait;
-use std::time::Clock;
 
 const LOST: &str = "entries of the journal are lost: nothing more is logged or counted";
 
 /// Writes what each entry of a feed tells, until the server has ended. Where that fails it says so, once until it goes on.
-pub fn record<R: Wait + Files<File = File> + Clock + Print + AllocGlobal + Copy + Drop>(
+pub fn record<R: Wait + Print + AllocGlobal + Drop>(
     rt: &R,
     feed: &JournalFeed,
     records: &Records<R>,

@@ -48,6 +48,29 @@ fn unwritable(alloc: Global, path: &[u8]) -> Refusal {
     }
 }
 
+impl<R: Wait + Drop> Records<R> {
+    /// Whether nothing is written.
+    pub fn is_empty(&self) -> bool {
+        self.logs.is_empty() && self.metrics.is_none()
+    }
+
+    /// Writes what the next entry tells, wherever it can be written, and says where it cannot.
+    pub fn take(&self, entry: &Entry) -> Result<(), Refusal> {
+        let mut told = Ok(());
+        for log in &self.logs {
+            if log.take(entry).is_err() {
+                told = Err(unwritable(self.alloc, log.path().as_bytes()));
+            }
+        }
+        if let Some(metrics) = &self.metrics {
+            if metrics.take(entry).is_err() {
+                told = Err(unwritable(self.alloc, metrics.path().as_bytes()));
+            }
+        }
+        told
+    }
+}
+
 impl<R: Wait + Files<File = File> + Clock + AllocGlobal + Copy + Drop> Records<R> {
     /// Opens the files that a configuration names, for the journal of a server with these options.
     pub fn open(rt: R, config: &GatewayConfig, options: &Options) -> Result<Records<R>, Refusal> {
@@ -94,27 +117,6 @@ impl<R: Wait + Files<File = File> + Clock + AllocGlobal + Copy + Drop> Records<R
             None => return Err(unwritable(self.alloc, path.as_slice())),
         }
         self.write_metrics()
-    }
-
-    /// Whether nothing is written.
-    pub fn is_empty(&self) -> bool {
-        self.logs.is_empty() && self.metrics.is_none()
-    }
-
-    /// Writes what the next entry tells, wherever it can be written, and says where it cannot.
-    pub fn take(&self, entry: &Entry) -> Result<(), Refusal> {
-        let mut told = Ok(());
-        for log in &self.logs {
-            if log.take(entry).is_err() {
-                told = Err(unwritable(self.alloc, log.path().as_bytes()));
-            }
-        }
-        if let Some(metrics) = &self.metrics {
-            if metrics.take(entry).is_err() {
-                told = Err(unwritable(self.alloc, metrics.path().as_bytes()));
-            }
-        }
-        told
     }
 
     /// Has each log go on in the file that stands at its path then.

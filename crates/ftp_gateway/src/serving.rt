@@ -1,18 +1,24 @@
 //! A gateway that serves.
 
+ghost use Rattle.std.specs.Prelude.{◌≡◌};
+ghost use Rattle.std.specs.Arc.{arc_value};
+
 use crate::activity::Activity;
 use crate::budgets::Budgets;
 use crate::control_socket::{ControlSocket, Waiting};
 use crate::current_users::{CurrentUsers, UserSource};
 use crate::duties::Duties;
+use crate::homes::clear_homes;
 use crate::password_check::PasswordCheck;
 use crate::records::Records;
 use crate::refusal::Refusal;
 use crate::setup::{Setup, read_setup};
 use crate::user_table::UserTable;
+use crate::words::HomeWords;
 use ftp_base::Bytes;
-use ftp_config::GatewayConfig;
-use ftp_disk::{Below, DiskStorage};
+use ftp_config::{GatewayConfig, Users};
+use ftp_disk::{Below, DiskStorage, Homes};
+use ftp_extras::Offers;
 use ftp_listen::{Parts, Server};
 use ftp_options::Options;
 use ftp_shared::JournalFeed;
@@ -34,21 +40,41 @@ pub trait GatewayRuntime: ServerRuntime + Files<File = File> + AllocGlobal {}
 
 impl<R: ServerRuntime + Files<File = File> + AllocGlobal> GatewayRuntime for R {}
 
-/// Gives each transfer a storage of its own over the homes of the users that count.
+/// Gives each transfer a storage of its own over the homes of the users that count, and each session words of its own over them.
 #[derive(Drop)]
 pub struct HomeDepot<R: Wait + Drop> {
     rt: R,
     alloc: Global,
     users: CurrentUsers<R>,
+    offers: Offers,
+    whole_uploads: bool,
+}
+
+impl<R: Wait + Files<File = File> + Clock + Copy + Drop> HomeDepot<R> {
+    // A storage over these homes, where uploads come whole if they are to.
+    fn over(&self, homes: Arc<Homes, Global>) -> DiskStorage<R, Below<R>>
+        ensures homes { result.homes ≡ arc_value homes }
+        ensures whole { result.is_whole ≡ self.now.whole_uploads }
+        ensures faults { result.faults ≡ 0 }
+    {
+        let storage = DiskStorage::new(self.rt, self.alloc, Below::new(self.rt), homes);
+        storage.whole_uploads(self.whole_uploads)
+    }
 }
 
 impl<R: Wait + Files<File = File> + Clock + Copy + Drop> Depot for HomeDepot<R> {
     type Store = DiskStorage<R, Below<R>>;
 
+    type Words = HomeWords<R>;
+
     fn store(&self) -> Result<DiskStorage<R, Below<R>>, AllocError> {
         let table = self.users.users()?;
         let homes = Arc::try_clone(&table.homes)?;
-        Ok(DiskStorage::new(self.rt, self.alloc, Below::new(self.rt), homes))
+        Ok(self.over(homes))
+    }
+
+    fn words(&self) -> Result<HomeWords<R>, AllocError> {
+        HomeWords::new(self.rt, self.alloc, self.users.share()?, self.offers)
     }
 }
 
@@ -135,6 +161,21 @@ fn make_plan(alloc: Global, config: &GatewayConfig, options: Options) -> Result<
     })
 }
 
+// The users that were read first. Where uploads come whole, what earlier ones left in their homes is removed before their budgets are
+// counted.
+fn first_table<R: GatewayRuntime>(
+    rt: &R,
+    whole_uploads: bool,
+    users: Users,
+) -> Result<UserTable, AllocError> {
+    let alloc = rt.alloc();
+    let system = Below::new(*rt);
+    if whole_uploads {
+        clear_homes(&system, alloc, &users)?;
+    }
+    UserTable::new(rt, &system, alloc, users, &Budgets::none(alloc))
+}
+
 /// The gateway that the configuration file at a path describes.
 pub fn prepare<R: GatewayRuntime>(rt: &R, path: &str) -> Result<Gateway<R>, Refusal> {
     let alloc = rt.alloc();
@@ -144,8 +185,7 @@ pub fn prepare<R: GatewayRuntime>(rt: &R, path: &str) -> Result<Gateway<R>, Refu
         users,
     } = read_setup(rt, path)?;
     let records = shared(alloc, Records::open(*rt, &config, &options)?)?;
-    let system = Below::new(*rt);
-    let table = UserTable::new(rt, &system, alloc, users, &Budgets::none(alloc))?;
+    let table = first_table(rt, config.whole_uploads, users)?;
     let users = CurrentUsers::new(*rt, alloc, table)?;
     let activity = Activity::new(alloc)?;
     let transfers = activity.share()?;
@@ -154,6 +194,11 @@ pub fn prepare<R: GatewayRuntime>(rt: &R, path: &str) -> Result<Gateway<R>, Refu
         rt: *rt,
         alloc,
         users: users.share()?,
+        offers: Offers {
+            is_behind_tls: false,
+            can_restart: options.has_restart(),
+        },
+        whole_uploads: config.whole_uploads,
     };
     let check = PasswordCheck::new(*rt, users.share()?);
     let waiting = shared(alloc, Mutex::new(Vec::new(alloc)))?;
@@ -189,6 +234,7 @@ pub fn server_of<R: GatewayRuntime, D: Depot + Send + Sync + Drop + 'static>(
 ) -> Result<(Server<D>, Bytes), Refusal>
 where
     D::Store: Send + 'static,
+    D::Words: Send + 'static,
 {
     let Plan {
         options,

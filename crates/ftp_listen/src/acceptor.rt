@@ -68,6 +68,7 @@ impl<
 where
     H::Pass: Send + 'static,
     D::Store: Send + 'static,
+    D::Words: Send + 'static,
 {
     /// No connection has come yet, at this moment in milliseconds.
     pub(crate) fn new(

@@ -93,6 +93,7 @@ fn accept_until_shutdown<
 where
     H::Pass: Send + 'static,
     D::Store: Send + 'static,
+    D::Words: Send + 'static,
     ensures asked { I.asked indicator.old ≡ None → I.asked indicator.new ≡ Some (result.0, result.1.grace_ms) }
     ensures has_asked { IsSome (I.asked indicator.new) }
     ensures spawner { P.faults spawner.old ≤ P.faults spawner.new }
@@ -134,6 +135,7 @@ fn drain<
 where
     H::Pass: Send + 'static,
     D::Store: Send + 'static,
+    D::Words: Send + 'static,
     ensures shutdown { IsErrOf result ServerError.Shutdown → asked.0 + asked.1.grace_ms < F.latest front.new }
     ensures only { IfErr result (λ e. e ≡ ServerError.Shutdown) }
     ensures spawner { P.faults spawner.old ≤ P.faults spawner.new }
@@ -190,6 +192,7 @@ pub(crate) fn run_server<
 ) -> Result<(), ServerError>
 where
     D::Store: Send + 'static,
+    D::Words: Send + 'static,
     requires name { blank.name ≡ L.name }
     requires parts { blank.parts ≡ L.parts }
     requires all { blank.parts ≡ PARTS }
@@ -265,6 +268,7 @@ fn run_over<
 where
     H::Pass: Send + 'static,
     D::Store: Send + 'static,
+    D::Words: Send + 'static,
     requires options { options ≡ H.options }
     ensures ok { OnOk result (IsSome (I.asked indicator.new)) }
     ensures listener { IsErrOf result ServerError.Listener → HasRisen (P.faults spawner.old) (P.faults spawner.new) }

@@ -275,6 +275,7 @@ impl<S: Drop> Server<S> {
 impl<D: Depot + Send + Sync + Drop + 'static> Server<D>
 where
     D::Store: Send + 'static,
+    D::Words: Send + 'static,
 {
     /// A server without handlers of SITE commands, over a depot: it takes a storage from there for each transfer, which is dropped
     /// with it.
@@ -410,6 +411,7 @@ fn listen_at<
 ) -> Result<(), ServerError>
 where
     D::Store: Send + 'static,
+    D::Words: Send + 'static,
     requires some { every ≢ Some 0 }
     ensures ok { OnOk result (IsSome (I.asked indicator.new)) }
     ensures io { IsErrOf result ServerError.Io → HasRisen (F.faults front.old) (F.faults front.new) }

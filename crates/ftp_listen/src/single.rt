@@ -98,6 +98,7 @@ fn spawn_on<
 where
     H::Pass: Send + 'static,
     D::Store: Send + 'static,
+    D::Words: Send + 'static,
 {
     let mut desk = desk;
     let mut front = SystemFront::new(*rt, alloc);
@@ -141,6 +142,7 @@ fn serve_inside<
 ) -> Result<(), ServerError>
 where
     D::Store: Send + 'static,
+    D::Words: Send + 'static,
     requires name { blank.name ≡ L.name }
     requires parts { blank.parts ≡ L.parts }
     requires all { blank.parts ≡ PARTS }
@@ -184,6 +186,7 @@ fn serve_over<
 where
     H::Pass: Send + 'static,
     D::Store: Send + 'static,
+    D::Words: Send + 'static,
     requires options { options ≡ H.options }
     ensures only { IfErr result (λ e. (e ≡ ServerError.Io) ⊎ (e ≡ ServerError.OutOfMemory)) }
 {
@@ -244,6 +247,7 @@ pub(crate) fn serve_one<R: ServerRuntime, D: Depot + Send + Sync + Drop + 'stati
 ) -> Result<(), ServerError>
 where
     D::Store: Send + 'static,
+    D::Words: Send + 'static,
     requires some { every ≢ Some 0 }
     ensures only { IfErr result (λ e. (e ≡ ServerError.Io) ⊎ (e ≡ ServerError.OutOfMemory)) }
 {

@@ -24,6 +24,7 @@ pub(crate) fn spawn_worker<
 where
     H::Pass: Send + 'static,
     D::Store: Send + 'static,
+    D::Words: Send + 'static,
     ensures fault_rose { result ≡ false → HasRisen (P.faults spawner.old) (P.faults spawner.new) }
     ensures count { P.faults spawner.old ≤ P.faults spawner.new }
 {
@@ -51,6 +52,7 @@ pub(crate) fn spawn_wanted<
 where
     H::Pass: Send + 'static,
     D::Store: Send + 'static,
+    D::Words: Send + 'static,
     ensures count { P.faults spawner.old ≤ P.faults spawner.new }
 {
     let wanted = owed.saturating_add(state.wanted());

@@ -6,6 +6,7 @@ use ftp_base::{
     AuthAnswer, Authenticator, Bytes, DataEvent, DataListener, EventMeta, Gate, IpAddr,
     PresenceEvent, PresenceListener, SocketAddr,
 };
+use ftp_extras::NoExtras;
 use ftp_options::{Indicator, Shutdown};
 use ftp_system::{Depot, Doors, Front, SharedDepot, SharedStorage};
 use std::alloc::{AllocError, Global};
@@ -264,8 +265,14 @@ pub struct CountedDepot<R: Wait + Copy + Drop> {
 impl<R: Wait + Copy + Drop> Depot for CountedDepot<R> {
     type Store = SharedStorage<R, AnnsFiles>;
 
+    type Words = NoExtras;
+
     fn store(&self) -> Result<SharedStorage<R, AnnsFiles>, AllocError> {
         self.board.stores.fetch_add(1, Ordering::SeqCst);
         self.files.store()
+    }
+
+    fn words(&self) -> Result<NoExtras, AllocError> {
+        self.files.words()
     }
 }

@@ -5,6 +5,7 @@ ghost use Rattle.std.specs.Prelude.{◌≡◌};
 use crate::depot::Depot;
 use crate::uploads::Uploads;
 use ftp_base::{Bytes, ErrorKind, FileInfo, Meta, Storage, StoreError};
+use ftp_extras::NoExtras;
 use std::alloc::{AllocError, Global};
 use std::sync::{Arc, Mutex, Wait};
 
@@ -37,6 +38,8 @@ impl<R: Wait + Copy + Drop, S: Storage + Drop> SharedDepot<R, S> {
 impl<R: Wait + Copy + Drop, S: Storage + Drop> Depot for SharedDepot<R, S> {
     type Store = SharedStorage<R, S>;
 
+    type Words = NoExtras;
+
     fn store(&self) -> Result<SharedStorage<R, S>, AllocError> {
         let files = Arc::try_clone(&self.files)?;
         let uploads = Arc::try_clone(&self.uploads)?;
@@ -49,6 +52,10 @@ impl<R: Wait + Copy + Drop, S: Storage + Drop> Depot for SharedDepot<R, S> {
             features: self.features,
             faults: 0,
         })
+    }
+
+    fn words(&self) -> Result<NoExtras, AllocError> {
+        Ok(NoExtras)
     }
 }
 

@@ -12,7 +12,7 @@ use ftp_base::{Authenticator, Control, Edge, Gate, Link};
 use ftp_events::{Answer, EventKind, HubEvent};
 use ftp_shared::JournalHub;
 use ftp_system::{ControlHandle, Depot, LIMIT, SocketControl, SystemEdge, told_address};
-use ftp_talk::{ServeEnd, serve_control};
+use ftp_talk::{ServeEnd, serve_control_with};
 use std::net::{IpAddr, SocketAddr, TcpStream};
 
 // How often an idle control connection is looked at, in milliseconds: four times in its idle time, but not more often
@@ -80,6 +80,7 @@ impl<
     ) -> Option<ServeEnd>
         requires opening { is_opening opening.kind ≡ true }
     {
+        let mut words = self.state.depot.words().ok()?;
         if !self.state.handoff.enter(&self.rt, session, handle) {
             return None;
         }
@@ -91,12 +92,13 @@ impl<
         let end = if control.look() {
             None
         } else {
-            Some(serve_control(
+            Some(serve_control_with(
                 self.alloc,
                 &mut self.desk,
                 &mut control,
                 &mut edge,
                 &self.state.authenticator,
+                &mut words,
                 opening,
                 answer,
             ))
