@@ -1,16 +1,19 @@
 #!/usr/bin/env python3
 """Has ten clients work with the gateway for a long time, and looks whether it keeps more and more of anything.
 
-Usage: bench/soak.py [--minutes N] [--settles N] [COMMAND ..]
+Usage: bench/soak.py [--minutes N] [--settles N] [--pause SECONDS] [COMMAND ..]
 
 COMMAND is as for trials/gateway.py; without --minutes it is an hour. Each client has an address and a directory of its own, and does
 one thing after the other, drawn by chance: uploads of all lengths, with offsets and at ends of files, downloads whole and in part,
 listings, transfers that it cuts off or aborts, sessions that it leaves, and wrong passwords. It knows what its files are due to
-hold, and each byte that comes is compared. In some minutes the users are read anew, where the program knows the word.
+hold, and each byte that comes is compared. In some minutes the users are read anew, where the program knows the word. With --pause
+each client does nothing for so long on the average between two things: ten clients that rest for a second each do some ten things a
+second.
 
 Every ten seconds it notes the resident memory, the descriptors and the threads of the gateway. It prints a line a minute, and says
 at last of each of the three whether it was flat from minute --settles on, which is the tenth: whether the median of the last third
-is at most so much above that of the first third behind it. The status is 1 where it was not, or a client found anything wrong.
+is at most so much above that of the first third behind it; and how much of a processor the gateway and the clients took. The
+status is 1 where one of the three was not flat, or a client found anything wrong.
 """
 
 import argparse
@@ -39,9 +42,9 @@ SLACK = {"Rss in KiB": (0.05, 2048), "descriptors": (0, CLIENTS * 6), "threads":
 class Client(threading.Thread):
     """A client of an address and a directory of its own, who knows what its files hold."""
 
-    def __init__(self, door, number, until):
+    def __init__(self, door, number, until, pause):
         super().__init__(daemon=True)
-        self.door, self.until = door, until
+        self.door, self.until, self.pause = door, until, pause
         self.source, self.folder = f"127.0.2.{number + 1}", f"client-{number}"
         self.random = random.Random(number)
         self.files, self.done, self.faults = {}, 0, []
@@ -56,6 +59,7 @@ class Client(threading.Thread):
             except Exception as why:  # told at the end; the client goes on
                 self.faults.append(f"{self.folder}, {work.__name__}: {type(why).__name__}: {why}")
                 self.leave()
+            time.sleep(self.random.uniform(0, 2 * self.pause))
         self.leave()
 
     def leave(self):
@@ -209,6 +213,12 @@ def sample(pid):
     }
 
 
+def processor_time(pid):
+    """The seconds of a processor that a process took."""
+    fields = Path(f"/proc/{pid}/stat").read_text().rpartition(")")[2].split()
+    return (int(fields[11]) + int(fields[12])) / os.sysconf("SC_CLK_TCK")
+
+
 def watch(gateway, clients, begun, until):
     """Notes and prints; gives the samples, each with its minute."""
     samples, told = [], 0
@@ -250,6 +260,7 @@ def main():
     parser = argparse.ArgumentParser(description="ten clients and the gateway for a long time")
     parser.add_argument("--minutes", type=float, default=60)
     parser.add_argument("--settles", type=float, default=10)
+    parser.add_argument("--pause", type=float, default=0)
     parser.add_argument("command", nargs=argparse.REMAINDER)
     asked = parser.parse_args()
     prepare()
@@ -258,13 +269,17 @@ def main():
         until = begun + 60 * asked.minutes
         for number in range(CLIENTS):
             (gateway.home / f"client-{number}").mkdir()
-        clients = [Client(gateway.door(), number, until) for number in range(CLIENTS)]
+        clients = [Client(gateway.door(), number, until, asked.pause) for number in range(CLIENTS)]
         for client in clients:
             client.start()
         samples = watch(gateway, clients, begun, until)
         for client in clients:
             client.join(60)
         flat = judge(samples, asked.settles)
+        if gateway.is_running():
+            took = time.monotonic() - begun
+            parts = processor_time(gateway.process.pid) / took, time.process_time() / took
+            print(f"the gateway took {parts[0]:.3f} of a processor, the clients {parts[1]:.3f}")
         faults = [fault for client in clients for fault in client.faults]
         if not gateway.is_running():
             faults.append(f"the gateway has ended: {gateway.text()}")
