@@ -89,7 +89,7 @@ def never_connects(abuse):
     try:
         for session in sessions:
             session.tell("PASV", 227)
-            session.tell("RETR none", 150)
+            session.tell("LIST", 150)
             session.tell("NOOP", 200)
         with abuse.session() as session:
             session.tell("PASV", 425)
@@ -104,7 +104,7 @@ def never_connects_to_its_listener(abuse):
     """The listener of a session is closed behind a wait, the transfer is cancelled, and the session goes on."""
     with abuse.session() as session:
         port = session.passive()
-        session.tell("RETR none", 150)
+        session.tell("LIST", 150)
         session.control.settimeout(LISTENER + SLACK)
         session.expect(426)
         try:

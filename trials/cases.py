@@ -97,6 +97,11 @@ def begin(description, program="ftp_serve"):
 class Place:
     """A door to a server, an address to come from, and a folder for the files of a client."""
 
+    # The words beside the profile that the server answers.
+    extra_words = ()
+    # Whether a listing of a file shows that file.
+    lists_files = False
+
     def __init__(self, door, source="127.0.0.1"):
         self.door, self.source = door, source
         self.folder = Path(tempfile.mkdtemp(prefix="celuviamo-"))

@@ -76,7 +76,7 @@ def ncftp():
 
 
 def tnftp():
-    """It takes each name of a `mget` from an NLST of that name, which is of no directory."""
+    """It takes each name of a `mget` from an NLST of that name, which `ftp_serve` has of directories alone."""
     told = {
         "upload": "put {file} {name}",
         "download": "get {name} {got}",
@@ -87,7 +87,7 @@ def tnftp():
         "names": "nlist",
         "facts": "mlsd",
         "many uploads": "prompt\nlcd {sent}\nmput {names}",
-        "vain many downloads": "prompt\nlcd {folder}\nmget {names}",
+        "many downloads by name": "prompt\nlcd {folder}\nmget {names}",
     }
     return {operation: ("tnftp -n", TNFTP + line + "\nbye\n") for operation, line in told.items()}
 

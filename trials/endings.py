@@ -28,6 +28,7 @@ WRONG_KEYS = [
     ("max_clients = 0", "max_clients"),
     ('max_per_ip = "20"', "max_per_ip"),
     ("port_enable = 1", "port_enable"),
+    ('whole_uploads = "yes"', "whole_uploads"),
     ('lockout = "all"', "lockout"),
     ("idle_session_timeout = -1", "idle_session_timeout"),
     ("banner", "line 2"),
@@ -214,6 +215,30 @@ def ends_behind_its_transfers(command, mode):
         same_tree(gateway.home, {"large": LARGE, "new": DATA + DATA})
 
 
+def ends_behind_transfers_that_were_told_so(command, mode):
+    """Whoever was told 150 before a stop may connect for the transfer behind it, and gets it."""
+    with Gateway(command, mode, keys={"shutdown_grace": 60}) as gateway:
+        (gateway.home / "large").write_bytes(LARGE)
+        down, up, idle = let_in(gateway), let_in(gateway), let_in(gateway)
+        down_port, up_port = down.passive(), up.passive()
+        down.tell("RETR large", 150)
+        up.tell("STOR new", 150)
+        asking = Asking(gateway, "stop")
+        idle.expect(421)
+        time.sleep(1)
+        holds(gateway.is_running(), "it does not wait for their connections")
+        got = wire.drained(down.door.dial(down.source, down_port))
+        down.expect(226)
+        same(got, LARGE)
+        down.expect(421)
+        with up.door.dial(up.source, up_port) as sent:
+            sent.sendall(DATA)
+        up.expect(226)
+        up.expect(421)
+        holds(asking.wait() == (0, ""), f"stop is answered {asking.answer}")
+        same_tree(gateway.home, {"large": LARGE, "new": DATA})
+
+
 def is_greeted(gateway):
     try:
         return greeting(gateway) == 220
@@ -222,11 +247,13 @@ def is_greeted(gateway):
 
 
 def ends_where_a_transfer_does_not(command, mode):
-    """A client that does not read is waited for as long as the configuration says, and no longer."""
+    """A client that does not read, or does not connect, is waited for as long as the configuration says, and no longer."""
     with Gateway(command, mode, keys={"shutdown_grace": 4}) as gateway:
         (gateway.home / "large").write_bytes(LARGE)
-        with let_in(gateway) as session, session.link():
+        with let_in(gateway) as session, session.link(), let_in(gateway) as other:
             session.tell("RETR large", 150)
+            other.passive()
+            other.tell("RETR large", 150)
             began = time.monotonic()
             holds(gateway.tells("stop")[0] == 0, "stop fails")
             took = time.monotonic() - began
@@ -395,6 +422,7 @@ STARTS += [does_not_take_the_socket_of_another, says_why_it_does_not_serve, show
 ENDS = [
     ends_at_once_without_work,
     ends_behind_its_transfers,
+    ends_behind_transfers_that_were_told_so,
     ends_where_a_transfer_does_not,
     hears_others_beside_one_who_says_nothing,
     takes_in_users_anew,

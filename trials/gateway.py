@@ -24,6 +24,7 @@ import endings  # noqa: E402
 import health  # noqa: E402
 import homes  # noqa: E402
 import interrupts  # noqa: E402
+import listings  # noqa: E402
 import logged  # noqa: E402
 import operations  # noqa: E402
 import packaged  # noqa: E402
@@ -31,6 +32,7 @@ import places  # noqa: E402
 import sessions  # noqa: E402
 import sharing  # noqa: E402
 import tasks  # noqa: E402
+import whole  # noqa: E402
 from cases import begin  # noqa: E402
 from gateways import Gateway, HomePlace  # noqa: E402
 from programs import HEADER_1, HEADER_2, Proxy  # noqa: E402
@@ -53,7 +55,7 @@ def run_clients(tally, name, gateway, door, relayed=False):
         sessions.run(tally, name, place, more=[])
         aborts.run(tally, name, place, aborts.RELAYED if relayed else aborts.WAYS)
         if door.proxied is None:
-            operations.run(tally, name, place)
+            operations.run(tally, name, place, has_words=True)
             interrupts.run(tally, name, place, interrupts.RELAYED if relayed else interrupts.CLIENTS)
             tasks.run(tally, name, place)
     tally.runs_on(name, gateway)
@@ -71,7 +73,7 @@ def run_proxied(tally, words, name, header):
 
 def run_front(tally, words):
     with Gateway(words) as gateway, HomePlace(gateway.door(), gateway.home) as place:
-        operations.run(tally, "pooled", place, clients=["curl"])
+        operations.run(tally, "pooled", place, clients=["curl"], has_words=True)
         tasks.run(tally, "pooled", place, clients=["ftplib"])
     for case in FRONT:
         tally.case(f"pooled the gateway {case.__name__.replace('_', ' ')}", case, words, "pooled")
@@ -101,7 +103,7 @@ def main():
         tally.group(mode, run_direct, words, mode)
         if mode != "legacy":
             tally.group(f"{mode} with one port", sessions.run_addresses, words, mode, Gateway)
-        for cases in homes, places, disks, endings, logged:
+        for cases in homes, places, listings, disks, endings, whole, logged:
             tally.group(f"{mode} {cases.__name__}", cases.run, words, mode)
     run_behind_haproxy(tally, words)
     abuse.run(tally, words, Gateway)

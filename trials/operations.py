@@ -77,6 +77,12 @@ def keeps_its_part(place, told, name):
     goes_on(place, name)
 
 
+def downloads_by_name(place, told, name):
+    """The client fetches the files of an NLST of each of them, where files are listed."""
+    fetches = downloads_many if place.lists_files else fetches_nothing
+    fetches(place, told, name)
+
+
 def fetches_nothing(place, told, name):
     """The client fetches none of many files, and the server goes on."""
     for one, due in place.many.items():
@@ -104,7 +110,7 @@ OPERATIONS = {
     "refused download": is_refused,
     "refused list": is_refused,
     "vain resumed download": keeps_its_part,
-    "vain many downloads": fetches_nothing,
+    "many downloads by name": downloads_by_name,
 }
 
 
@@ -113,10 +119,16 @@ def is_bound(told):
     return isinstance(told, str) and "{source}" in told
 
 
-def run(tally, mode, place, only_bound=False, clients=CLIENTS):
+# What becomes of an operation where the server answers words beside the profile, as SIZE.
+BY_WORDS = {"vain resumed download": "resumed download"}
+
+
+def run(tally, mode, place, only_bound=False, clients=CLIENTS, has_words=False):
     """Each operation of these clients, or of those of them that can come from an address of their own."""
     for client in clients:
         for operation, told in CLIENTS[client].items():
+            if has_words:
+                operation = BY_WORDS.get(operation, operation)
             name = f"{mode} {client} {operation}"
             if only_bound and not is_bound(told):
                 continue

@@ -120,6 +120,9 @@ def follows_no_link(words, mode):
                     is_refused(session, f"{word} {path}", 550)
             same(names_in(session), [b"below", b"own"], "the names")
             same(names_in(session, "NLST below"), [b"own"], "the names below")
+            same(names_in(session, "NLST *"), [b"below", b"own"], "the names of a pattern")
+            for path in "to-directory/*", "to-etc/pass??", "below/out/*":
+                is_refused(session, f"NLST {path}", 550)
         same_tree(gateway.home, before)
         same_tree(outside, {"secret": b"outside"})
 
@@ -167,6 +170,7 @@ def tells_files_from_directories(words, mode):
                 holds(code in (550, 553), f"{word} {path} is answered {code} {text}")
         for path in "file", "none", "file/none", "none/..x":
             holds(session.ask(f"CWD {path}")[0] == 550, f"CWD {path} is taken")
+        for path in "none", "file/none", "none/..x":
             for word in "LIST", "NLST", "MLSD":
                 is_refused(session, f"{word} {path}", 550)
         for path in "sub/", "/sub/./in/..", "sub//in/../../sub":

@@ -162,12 +162,13 @@ def plain_offsets(place, name):
 
 def plain_missing(place, _):
     """What is no command is answered so, before a login and behind it; PORT is one that is switched off."""
+    missing = [word for word in MISSING if word not in place.extra_words]
     with wire.Session(place.door, place.source) as session:
-        for word in MISSING:
+        for word in missing:
             code, text = session.ask(f"{word} x")
             holds(code == (530 if word == "PORT" else 500), f"{word} is answered {code} {text} before a login")
     with place.session() as session:
-        for word in MISSING:
+        for word in missing:
             code, text = session.ask(f"{word} x")
             holds(code in (500, 502), f"{word} is answered {code} {text}")
         holds(session.ask("NOOP") == (200, "Successfully did nothing"), "no NOOP behind them")

@@ -59,18 +59,18 @@ def lay_out(folder, files):
 
 
 class Task:
-    """What is due behind a task: files of the client, what changes in the directory, or words that the client shows."""
+    """What is due behind a task: files of the client, what changes in the directory or goes, or words that the client shows."""
 
-    def __init__(self, got=None, put=None, shows=(), hides=(), fails=False):
-        self.got, self.put, self.shows, self.hides, self.fails = got or {}, put or {}, shows, hides, fails
+    def __init__(self, got=None, put=None, gone=(), shows=(), hides=()):
+        self.got, self.put, self.gone = got or {}, put or {}, gone
+        self.shows, self.hides = shows, hides
 
     def check(self, own, home, out, status):
-        holds(not self.fails or status != 0, f"the client says that it did it: {out}")
         for name, data in self.got.items():
             if data is not None:
                 holds((own / name).exists(), f"the client has no {name}: {out}")
                 same((own / name).read_bytes(), data, f"those of {name}")
-        same_tree(home, {**SERVED, **self.put})
+        same_tree(home, {name: data for name, data in {**SERVED, **self.put}.items() if name not in self.gone})
         for word in self.shows:
             holds(word in out, f"no {word!r} in {out!r}")
         for word in self.hides:
@@ -85,6 +85,9 @@ TASKS = {
     "list": Task(shows=["a.txt", "sub", "hollow", "with space.txt"], hides=["f000.txt", "d3"]),
     "list of a directory": Task(shows=MANY, hides=["a.txt"]),
     "names": Task(shows=["a.txt", "big.bin"]),
+    "list by a pattern": Task(shows=["a.txt", "with space.txt"], hides=["big.bin", "sub", "f000.txt"]),
+    "names by a pattern": Task(shows=["f020.txt", "f029.txt"], hides=["f019.txt", "a.txt"]),
+    "list of a file": Task(shows=["a.txt"], hides=["big.bin", "sub"]),
     "get": Task(got={"got": SMALL}),
     "get of nothing": Task(got={"got": b""}),
     "get of a big file": Task(got={"got": BIG}),
@@ -103,8 +106,15 @@ TASKS = {
     "put below": Task(put={"sub/d2/s.txt": SMALL}),
     "resumed put": Task(put={"part.bin": BIG}),
     "append": Task(put={"a.txt": SMALL + SMALL}),
-    "get that is refused": Task(fails=True),
     "way down and up": Task(shows=["a.txt", "hollow"], hides=["d3"]),
+    "make a directory": Task(put={"new": None}),
+    "remove a directory": Task(gone=["hollow"]),
+    "delete": Task(gone=["a.txt"]),
+    "rename": Task(gone=["a.txt"], put={"b.txt": SMALL}),
+    "put into new directories": Task(put={"new": None, "new/one": None, "new/one/s.txt": SMALL}),
+    "size": Task(shows=[str(len(BIG))]),
+    "where": Task(shows=["/sub/d2"]),
+    "set a date": Task(shows=["20200102030405"]),
 }
 
 URL = f"ftp://{WRITER}:{PASSWORD}@{{host}}:{{port}}"
@@ -118,6 +128,9 @@ def curl():
         "list": told + URL + "/",
         "list of a directory": told + URL + "/many/",
         "names": told + "-l " + URL + "/",
+        "list by a pattern": told + "--ftp-method nocwd " + URL + "/%2A.txt/",
+        "names by a pattern": told + "-l -X 'NLST f02*' " + URL + "/many/",
+        "list of a file": told + "-X 'LIST a.txt' " + URL + "/",
         "get": get + "/a.txt",
         "get of nothing": get + "/empty",
         "get of a big file": get + "/big.bin",
@@ -134,6 +147,11 @@ def curl():
         "put below": told + "-T {own}/s.txt " + URL + "/sub/d2/",
         "resumed put": told + "-C {half} -T {own}/big.bin " + URL + "/part.bin",
         "append": told + "-a -T {own}/s.txt " + URL + "/a.txt",
+        "make a directory": told + "-o {own}/got -Q 'MKD new' " + URL + "/",
+        "delete": told + "-o {own}/got -Q 'DELE a.txt' " + URL + "/",
+        "rename": told + "-o {own}/got -Q 'RNFR a.txt' -Q 'RNTO b.txt' " + URL + "/",
+        "put into new directories": told + "--ftp-create-dirs -T {own}/s.txt " + URL + "/new/one/",
+        "size": told + "-I " + URL + "/big.bin",
     }
 
 
@@ -158,6 +176,9 @@ def lftp():
         "list": "ls",
         "list of a directory": "ls many",
         "names": "nlist",
+        "list by a pattern": "ls *.txt",
+        "names by a pattern": "nlist many/f02?.txt",
+        "list of a file": "ls a.txt",
         "get": "get a.txt -o {own}/got",
         "get of nothing": "get empty -o {own}/got",
         "get of a big file": "get big.bin -o {own}/got",
@@ -176,6 +197,11 @@ def lftp():
         "put below": "cd sub; put -O d2 {own}/s.txt",
         "resumed put": "put -c {own}/big.bin -o part.bin",
         "way down and up": "cd sub; cd ..; ls",
+        "make a directory": "mkdir new",
+        "remove a directory": "rmdir hollow",
+        "delete": "rm a.txt",
+        "rename": "mv a.txt b.txt",
+        "put into new directories": "mkdir -p new/one; put -O new/one {own}/s.txt",
     }
     front = "set net:timeout 30; set net:max-retries 1; set net:reconnect-interval-base 1; set cmd:fail-exit true; "
     front += "set ftp:use-feat false; set xfer:clobber true; open -u " + f"{WRITER},{PASSWORD} " + "ftp://{host}:{port}; "
@@ -201,6 +227,7 @@ def terminal(program, first=""):
     told = {
         "list": "ls",
         "list of a directory": "ls many",
+        "list by a pattern": "ls *.txt",
         "get": "get a.txt {own}/got",
         "get of nothing": "get empty {own}/got",
         "get of a big file": "get big.bin {own}/got",
@@ -208,6 +235,7 @@ def terminal(program, first=""):
         "get of a name in UTF-8": f"get {UTF8} {{own}}/got",
         "get from below": "cd sub\ncd d2\nget d3/deep.txt {own}/got",
         "resumed get": "lcd {own}\nreget big.bin halfbig.bin",
+        "get of many": "cd many\nlcd {own}/down\nmget f*",
         "put": "lcd {own}\nput s.txt",
         "put of nothing": "lcd {own}\nput zero",
         "put of a big file": "lcd {own}\nput big.bin big2.bin",
@@ -253,6 +281,9 @@ def ftplib():
     told = {
         "list": "f.dir()",
         "names": "print(f.nlst())",
+        "list by a pattern": "f.dir('*.txt')",
+        "names by a pattern": "print(f.nlst('many/f02?.txt'))",
+        "list of a file": "f.dir('-la', 'a.txt')",
         "list of a directory": "print([name for name, _ in f.mlsd('many')])",
         "get": "f.retrbinary('RETR a.txt', open('{own}/got', 'wb').write)",
         "get of a big file": "f.retrbinary('RETR big.bin', open('{own}/got', 'wb').write)",
@@ -263,6 +294,13 @@ def ftplib():
         "put of a big file": "f.storbinary('STOR big2.bin', open('{own}/big.bin', 'rb'))",
         "append": "f.storbinary('APPE a.txt', open('{own}/s.txt', 'rb'))",
         "way down and up": "f.cwd('sub')\nf.cwd('..')\nf.dir()",
+        "make a directory": "f.mkd('new')",
+        "remove a directory": "f.rmd('hollow')",
+        "delete": "f.delete('a.txt')",
+        "rename": "f.rename('a.txt', 'b.txt')",
+        "size": "print(f.size('big.bin'))",
+        "where": "f.cwd('sub')\nf.cwd('d2')\nprint(f.pwd())",
+        "set a date": "f.sendcmd('MFMT 20200102030405 a.txt')\nprint(f.sendcmd('MDTM a.txt'))",
     }
     return {task: f"{shlex.quote(sys.executable)} -X utf8 -c " + shlex.quote(f"{front}{line}\nf.quit()\n") for task, line in told.items()}
 
@@ -284,11 +322,18 @@ def perl():
     told = {
         "list": 'print join("\\n", $f->dir)',
         "names": 'print join("\\n", $f->ls)',
+        "names by a pattern": 'print join("\\n", $f->ls("many/f02*"))',
         "get": "$f->get('a.txt', '{own}/got') or die",
         "get of a big file": "$f->get('big.bin', '{own}/got') or die",
         "resumed get": "$f->get('big.bin', '{own}/halfbig.bin', {half}) or die",
         "put": "$f->put('{own}/s.txt', 's.txt') or die",
         "put of a big file": "$f->put('{own}/big.bin', 'big2.bin') or die",
+        "make a directory": "$f->mkdir('new') or die",
+        "remove a directory": "$f->rmdir('hollow') or die",
+        "delete": "$f->delete('a.txt') or die",
+        "rename": "$f->rename('a.txt', 'b.txt') or die",
+        "size": "print $f->size('big.bin')",
+        "where": "$f->cwd('sub/d2') or die; print $f->pwd",
     }
     return {task: "perl -e " + shlex.quote(f"{front}{line}; $f->quit;") for task, line in told.items()}
 
@@ -316,13 +361,13 @@ def wput():
 
 
 def axel():
-    """It asks for SIZE, and else for a LIST of the file, which is of directories here."""
-    return {"get that is refused": "axel -q -n 1 -o {own}/got " + URL + "/a.txt"}
+    """It asks for SIZE, and else for a LIST of the file."""
+    told = "axel -q -n 1 -o {own}/got " + URL
+    return {"get": told + "/a.txt", "get of a big file": told + "/big.bin"}
 
 
 def aria2c():
-    """It stops where PWD is refused."""
-    return {"get that is refused": "aria2c -q --timeout=8 --connect-timeout=8 -m 1 -d {own} -o got " + URL + "/a.txt"}
+    return {"get": "aria2c -q --timeout=8 --connect-timeout=8 -m 1 -d {own} -o got " + URL + "/a.txt"}
 
 
 def yafc():
