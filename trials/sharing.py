@@ -91,27 +91,24 @@ def run(tally, words):
 TLS = TOP / "examples" / "haproxy-tls.cfg"
 LFTP = "set ssl:verify-certificate no; set ftps:initial-prot P; set cmd:fail-exit true; set net:timeout 20; set net:max-retries 1; "
 CURL = f"curl -sS --insecure -u {WRITER}:{PASSWORD} "
-# What each client is told. Data is under TLS with the first, and in the clear with the second, as curl takes the refusal of PROT.
+# What each client is told.
 UNDER_TLS = {
-    "lftp upload": ("put {file} -o {name}", True),
-    "lftp download": ("get {name} -o {got}", True),
-    "curl upload": (CURL + "-T {file} ftps://{host}:{port}/{name}", False),
-    "curl download": (CURL + "-o {got} ftps://{host}:{port}/{name}", False),
+    "lftp upload": "put {file} -o {name}",
+    "lftp download": "get {name} -o {got}",
+    "curl upload": CURL + "-T {file} ftps://{host}:{port}/{name}",
+    "curl download": CURL + "-o {got} ftps://{host}:{port}/{name}",
 }
 
 
 class TlsProxy(Program):
-    """HAProxy as examples/haproxy-tls.cfg has it, in front of a gateway, with TLS on the data ports or without."""
+    """HAProxy as examples/haproxy-tls.cfg has it, in front of a gateway."""
 
-    def __init__(self, gateway, is_data_hidden):
+    def __init__(self, gateway):
         self.port = gateway.control
         certificate = gateway.folder / "certificate.pem"
         make_certificate(gateway.folder, certificate)
-        lines = TLS.read_text().splitlines(keepends=True)
-        settings = gateway.folder / "haproxy.cfg"
-        settings.write_text("".join(line if is_data_hidden or "FTP_PASSIVE}" not in line else line.partition(" ssl ")[0] + "\n" for line in lines))
         super().__init__(
-            ["haproxy", "-db", "-f", str(settings)],
+            ["haproxy", "-db", "-f", str(TLS)],
             FTP_ADDRESS=HOST,
             FTP_CONTROL=str(gateway.control),
             FTP_PASSIVE=f"{gateway.first}-{gateway.last}",
@@ -149,12 +146,10 @@ def run_tls(tally, words):
     if not (shutil.which("openssl") and shutil.which("lftp")):
         tally.skip("TLS", "openssl or lftp is not installed")
         return
-    for is_data_hidden in True, False:
-        with contextlib.ExitStack() as stack:
-            gateway = stack.enter_context(Gateway(words, "proxy"))
-            proxy = stack.enter_context(TlsProxy(gateway, is_data_hidden))
-            place = stack.enter_context(HomePlace(proxy.door(), gateway.home))
-            for line, (told, hidden) in UNDER_TLS.items():
-                if hidden == is_data_hidden:
-                    tally.case(f"TLS by HAProxy, {line}", moves_under_tls, place, told, place.name(), line)
-            tally.runs_on("TLS by HAProxy", gateway)
+    with contextlib.ExitStack() as stack:
+        gateway = stack.enter_context(Gateway(words, "proxy", keys={"tls_at_proxy": True}))
+        proxy = stack.enter_context(TlsProxy(gateway))
+        place = stack.enter_context(HomePlace(proxy.door(), gateway.home))
+        for line, told in UNDER_TLS.items():
+            tally.case(f"TLS by HAProxy, {line}", moves_under_tls, place, told, place.name(), line)
+        tally.runs_on("TLS by HAProxy", gateway)

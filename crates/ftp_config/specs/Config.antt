@@ -77,6 +77,7 @@ takes_value key.UsersFile value = is_some (option_and_then as_str value)
 takes_value key.Mode value = is_some (option_and_then (mode_named 0) (text_or (codes "pooled") value))
 takes_value key.Lockout value = is_some (option_and_then block_named (text_or (codes "ip") value))
 takes_value key.PortEnable value = is_flag value
+takes_value key.TlsAtProxy value = is_flag value
 takes_value key.WholeUploads value = is_flag value
 takes_value key.ProxyControlPort value = is_port_value value
 takes_value key.PasvMinPort value = is_port_value value
@@ -104,6 +105,7 @@ pub record IsConfigOf (document : Members) (config : GatewayConfig) : Type 0 whe
   pub listen : text_or (codes "0.0.0.0:21") (value_at key.Listen document) ≡ Some config.listen
   pub control_port : number_or 1 65535 21 (value_at key.ProxyControlPort document) ≡ Some config.proxy_control_port
   pub mode : option_and_then (mode_named config.proxy_control_port) (text_or (codes "pooled") (value_at key.Mode document)) ≡ Some config.mode
+  pub tls : flag_or false (value_at key.TlsAtProxy document) ≡ Some config.tls_at_proxy
   pub min_port : number_or 1 65535 20000 (value_at key.PasvMinPort document) ≡ Some config.pasv_min_port
   pub max_port : number_or 1 65535 20099 (value_at key.PasvMaxPort document) ≡ Some config.pasv_max_port
   pub address : maybe_text (value_at key.PasvAddress document) ≡ Some config.pasv_address

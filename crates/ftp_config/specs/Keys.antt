@@ -10,6 +10,7 @@ key_name key.UsersFile = codes "users_file"
 key_name key.Listen = codes "listen"
 key_name key.Mode = codes "mode"
 key_name key.ProxyControlPort = codes "proxy_control_port"
+key_name key.TlsAtProxy = codes "tls_at_proxy"
 key_name key.PasvMinPort = codes "pasv_min_port"
 key_name key.PasvMaxPort = codes "pasv_max_port"
 key_name key.PasvAddress = codes "pasv_address"
@@ -31,7 +32,7 @@ key_name key.ControlSocket = codes "control_socket"
 -- all keys
 abbrev pub keys : List Key
 keys =
-    key.UsersFile ∷ key.Listen ∷ key.Mode ∷ key.ProxyControlPort ∷ key.PasvMinPort ∷ key.PasvMaxPort ∷ key.PasvAddress ∷ key.PortEnable ∷ key.Banner
+    key.UsersFile ∷ key.Listen ∷ key.Mode ∷ key.ProxyControlPort ∷ key.TlsAtProxy ∷ key.PasvMinPort ∷ key.PasvMaxPort ∷ key.PasvAddress ∷ key.PortEnable ∷ key.Banner
     ∷ key.IdleSessionTimeout ∷ key.ShutdownGrace ∷ key.MaxClients ∷ key.MaxPerIp ∷ key.Lockout ∷ key.LockoutFailures ∷ key.LockoutForget
     ∷ key.WholeUploads ∷ key.XferlogFile ∷ key.LogFile ∷ key.MetricsFile ∷ key.ControlSocket ∷ []
 

@@ -25,6 +25,8 @@ pub struct GatewayConfig {
     pub listen: Bytes,
     pub mode: ListenerMode,
     pub proxy_control_port: u16,
+    /// Whether the proxy ends TLS for its clients.
+    pub tls_at_proxy: bool,
     pub pasv_min_port: u16,
     pub pasv_max_port: u16,
     pub pasv_address: Option<Bytes>,
@@ -60,6 +62,7 @@ fn config_in(alloc: Global, table: &Table) -> Result<GatewayConfig, ConfigError>
         listen: text_at(alloc, table, Key::Listen, b"0.0.0.0:21")?,
         mode: mode(table, proxy_control_port)?,
         proxy_control_port,
+        tls_at_proxy: flag(table, Key::TlsAtProxy, false)?,
         pasv_min_port: port(table, Key::PasvMinPort, 20_000)?,
         pasv_max_port: port(table, Key::PasvMaxPort, 20_099)?,
         pasv_address: maybe_text_at(alloc, table, Key::PasvAddress)?,

@@ -14,6 +14,8 @@ pub enum Key {
     Mode,
     /// The control port of the proxy, where the mode is `proxy`.
     ProxyControlPort,
+    /// Whether the proxy ends TLS for its clients, where the mode is `proxy`.
+    TlsAtProxy,
     PasvMinPort,
     PasvMaxPort,
     /// What a 227 shows: an address of IP version 4, or a name; without it the address that the client connected to.
@@ -45,11 +47,12 @@ pub enum Key {
     ControlSocket,
 }
 
-const KEYS: [Key; 21] = [
+const KEYS: [Key; 22] = [
     Key::UsersFile,
     Key::Listen,
     Key::Mode,
     Key::ProxyControlPort,
+    Key::TlsAtProxy,
     Key::PasvMinPort,
     Key::PasvMaxPort,
     Key::PasvAddress,
@@ -78,6 +81,7 @@ pub fn key_name(key: Key) -> &'static str
         Key::Listen => "listen",
         Key::Mode => "mode",
         Key::ProxyControlPort => "proxy_control_port",
+        Key::TlsAtProxy => "tls_at_proxy",
         Key::PasvMinPort => "pasv_min_port",
         Key::PasvMaxPort => "pasv_max_port",
         Key::PasvAddress => "pasv_address",

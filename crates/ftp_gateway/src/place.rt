@@ -1,9 +1,10 @@
-//! Where a gateway listens.
+//! Where a gateway listens, and where TLS ends.
 
-ghost use Rattle.std.specs.Prelude.{◌≡◌, ◌↔◌, ◌⊎◌, false, IfErr, IsErrOf};
-ghost use Rattle.ftp_options.specs.Modes.{is_legacy};
+ghost use Rattle.std.specs.Prelude.{◌≡◌, ◌↔◌, ◌⊎◌, true, false, IfErr, IsErrOf};
+ghost use Rattle.ftp_options.specs.Modes.{is_legacy, is_proxy};
 ghost use Rattle.ftp_listen.specs.Causes.{WritesNone, WritesV6};
 
+use ftp_config::GatewayConfig;
 use ftp_options::{ListenerMode, ServerError};
 use ftp_system::bind_address;
 
@@ -25,4 +26,12 @@ pub fn check_listen(text: &[u8], mode: ListenerMode) -> Result<(), ServerError>
         return Err(ServerError::Ipv6OutsideLegacy);
     }
     Ok(())
+}
+
+/// Whether TLS can end where a configuration says: at a proxy before the gateway, or nowhere.
+pub fn can_end_tls(config: &GatewayConfig) -> bool
+    ensures proxy { config.now.tls_at_proxy ≡ true → result ≡ is_proxy config.now.mode }
+    ensures nowhere { config.now.tls_at_proxy ≡ false → result ≡ true }
+{
+    !config.tls_at_proxy || config.mode.is_proxy()
 }

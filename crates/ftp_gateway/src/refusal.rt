@@ -14,6 +14,8 @@ pub enum Refusal {
     /// A log, or the file of the counts, cannot be written.
     Unwritable(Bytes),
     Config(ConfigError),
+    /// TLS is to end at a proxy, and none stands before the gateway.
+    TlsWithoutProxy,
     Users(UsersError),
     /// The home of this user is no directory.
     Home(Bytes),
@@ -58,6 +60,9 @@ pub fn reason(alloc: Global, refusal: &Refusal) -> Result<String, AllocError> {
         Refusal::Config(ConfigError::Value(key)) => {
             let name = key_name(*key);
             format!(in alloc; "the key {name} has no value that it takes")
+        }
+        Refusal::TlsWithoutProxy => {
+            format!(in alloc; "tls_at_proxy is for the mode proxy alone")
         }
         Refusal::Users(UsersError::Line(number)) => {
             format!(in alloc; "line {number} of the users is no user's")

@@ -2,6 +2,7 @@
 
 ghost use Rattle.std.specs.Prelude.{◌≡◌};
 ghost use Rattle.std.specs.Arc.{arc_value};
+ghost use Rattle.ftp_options.specs.Features.{has_restart};
 
 use crate::activity::Activity;
 use crate::budgets::Budgets;
@@ -161,6 +162,17 @@ fn make_plan(alloc: Global, config: &GatewayConfig, options: Options) -> Result<
     })
 }
 
+// What the words of a gateway offer.
+fn offers(config: &GatewayConfig, options: &Options) -> Offers
+    ensures tls { result.is_behind_tls ≡ config.now.tls_at_proxy }
+    ensures restart { result.can_restart ≡ has_restart options.now.features }
+{
+    Offers {
+        is_behind_tls: config.tls_at_proxy,
+        can_restart: options.has_restart(),
+    }
+}
+
 // The users that were read first. Where uploads come whole, what earlier ones left in their homes is removed before their budgets are
 // counted.
 fn first_table<R: GatewayRuntime>(
@@ -194,10 +206,7 @@ pub fn prepare<R: GatewayRuntime>(rt: &R, path: &str) -> Result<Gateway<R>, Refu
         rt: *rt,
         alloc,
         users: users.share()?,
-        offers: Offers {
-            is_behind_tls: false,
-            can_restart: options.has_restart(),
-        },
+        offers: offers(&config, &options),
         whole_uploads: config.whole_uploads,
     };
     let check = PasswordCheck::new(*rt, users.share()?);

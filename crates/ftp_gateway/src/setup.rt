@@ -1,6 +1,6 @@
 //! What a gateway is started with: its two files, and what they name.
 
-use crate::place::check_listen;
+use crate::place::{can_end_tls, check_listen};
 use crate::refusal::Refusal;
 use crate::settings::options;
 use ftp_base::Bytes;
@@ -39,12 +39,15 @@ fn config_at<R: Files + AllocGlobal>(rt: &R, path: &str) -> Result<GatewayConfig
     }
 }
 
-// The options of a configuration, which names an address where such a server can listen.
+// The options of a configuration, which names an address where such a server can listen, and a place where TLS can end.
 fn options_of(alloc: Global, config: &GatewayConfig) -> Result<Options, Refusal> {
     let options = match options(alloc, config) {
         Ok(options) => options,
         Err(error) => return Err(Refusal::Server(error)),
     };
+    if !can_end_tls(config) {
+        return Err(Refusal::TlsWithoutProxy);
+    }
     match check_listen(config.listen.as_slice(), config.mode) {
         Ok(()) => Ok(options),
         Err(error) => Err(Refusal::Server(error)),
