@@ -74,7 +74,7 @@ def answers_a_long_pattern_soon(words, mode):
 
 
 def lists_a_file_as_itself(words, mode):
-    """LIST of a file has its line, as that of its directory has it, and NLST its name."""
+    """LIST of a file has its line, as that of its directory has it, NLST its name, and MLSD is refused."""
     with Gateway(words, mode) as gateway, let_in(gateway) as session:
         (gateway.home / "sub").mkdir()
         (gateway.home / "sub/file").write_bytes(DATA)
@@ -84,6 +84,7 @@ def lists_a_file_as_itself(words, mode):
         for path in "sub/file", "/sub/./file", "sub/../sub/file", "sub/fil?", "sub/f*":
             same(names_in(session, f"LIST {path}"), [line], f"the lines of {path}")
             same(names_in(session, f"NLST {path}"), [b"file"], f"the names of {path}")
+            is_refused(session, f"MLSD {path}", 550)
         session.tell("CWD sub", 250)
         same(names_in(session, "LIST file"), [line], "the lines in its directory")
 
@@ -104,11 +105,14 @@ def passes_over_options_of_listings(words, mode):
             "NLST -a": "NLST",
             "NLST -la": "NLST",
             "NLST -CF": "NLST",
-            "NLST sub/-a": "NLST sub",
         }.items():
             same(names_in(session, line), names_in(session, due), f"the lines of {line}")
         same(names_in(session, "NLST"), [b".hidden", b"a.txt", b"b", b"sub"], "the names")
-        is_refused(session, "NLST -a none", 550)
+        for line in "NLST -a none", "NLST sub/-a":
+            is_refused(session, line, 550)
+        session.tell("CWD sub", 250)
+        same(names_in(session, "NLST -a"), [b"in"], "the names below")
+        session.tell("CWD /", 250)
         (gateway.home / "-a").mkdir()
         (gateway.home / "-a/own").write_bytes(DATA)
         same(names_in(session, "NLST -a"), [b"own"], "the names of a directory that is named so")

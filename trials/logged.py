@@ -3,31 +3,42 @@
 import calendar
 import time
 
-from cases import holds
+import wire
+from cases import body, holds
 from gateways import PASSWORD, WRITER, Gateway
-from homes import DATA, is_let_in, let_in, outcome, wait_for
+from homes import DATA, is_let_in, is_refused, let_in, wait_for
+
+# More than the buffers of a connection take.
+LARGE = body(32 << 20)
 
 
 def logs_each_transfer(command, mode):
-    """A line of wu-ftpd's form for each file that was sent or received, whole or not, in their order, with the moment of its end."""
+    """A line of wu-ftpd's form for each file that was sent or received, whole or not, in their order, with the moment of its end. What is
+    refused before its 150 has none."""
     with Gateway(command, mode) as other:
         log = other.folder / "transfers.log"
         began = time.time()
         with Gateway(command, mode, keys={"xferlog_file": log}) as gateway:
+            (gateway.home / "large").write_bytes(LARGE)
             with let_in(gateway, source="127.0.0.7") as session:
                 session.store("STOR a name", DATA)
                 session.fetch("RETR a name")
                 session.fetch("RETR a name", 1000)
-                outcome(session, "RETR none")
+                is_refused(session, "RETR none", 550)
+                with session.link() as stream:
+                    session.tell("RETR large", 150)
+                    wire.reset(stream)
+                session.expect(426, 451)
                 session.fetch("NLST")
                 session.quit()
             holds(gateway.tells("stop")[0] == 0, "stop fails")
         lines = [line.split() for line in log.read_text().splitlines()]
-        due = [(len(DATA), "/a_name", "i", "c"), (len(DATA), "/a_name", "o", "c"), (len(DATA) - 1000, "/a_name", "o", "c"), (0, "/none", "o", "i")]
+        due = [(len(DATA), "/a_name", "i", "c"), (len(DATA), "/a_name", "o", "c"), (len(DATA) - 1000, "/a_name", "o", "c"), (None, "/large", "o", "i")]
         holds(len(lines) == len(due), f"{len(lines)} lines of {len(due)}: {lines}")
         for line, (length, path, way, end) in zip(lines, due):
             holds(began - 1 <= moment(line) <= time.time() + 1, f"another moment: {line}")
-            fields = ["127.0.0.7", str(length), path, "b", "_", way, "r", WRITER, "ftp", "0", "*", end]
+            holds(int(line[7]) < len(LARGE) if length is None else int(line[7]) == length, f"{line[7]} bytes of {length}")
+            fields = ["127.0.0.7", line[7], path, "b", "_", way, "r", WRITER, "ftp", "0", "*", end]
             holds(line[6:] == fields, f"{line[6:]}, and {fields} is due")
 
 

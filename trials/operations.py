@@ -119,8 +119,8 @@ def is_bound(told):
     return isinstance(told, str) and "{source}" in told
 
 
-# What becomes of an operation where the server answers words beside the profile, as SIZE.
-BY_WORDS = {"vain resumed download": "resumed download"}
+# What becomes of an operation where the server answers words beside the profile, as SIZE; None where trials/tasks.py has it.
+BY_WORDS = {"vain resumed download": "resumed download", "refused list": None}
 
 
 def run(tally, mode, place, only_bound=False, clients=CLIENTS, has_words=False):
@@ -130,7 +130,7 @@ def run(tally, mode, place, only_bound=False, clients=CLIENTS, has_words=False):
             if has_words:
                 operation = BY_WORDS.get(operation, operation)
             name = f"{mode} {client} {operation}"
-            if only_bound and not is_bound(told):
+            if operation is None or (only_bound and not is_bound(told)):
                 continue
             if shutil.which(INSTALLED.get(client, client)):
                 tally.case(name, OPERATIONS[operation], place, told, place.name())
