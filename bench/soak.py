@@ -5,10 +5,10 @@ Usage: bench/soak.py [--minutes N] [--settles N] [--pause SECONDS] [COMMAND ..]
 
 COMMAND is as for trials/gateway.py; without --minutes it is an hour. Each client has an address and a directory of its own, and does
 one thing after the other, drawn by chance: uploads of all lengths, with offsets and at ends of files, downloads whole and in part,
-listings, transfers that it cuts off or aborts, sessions that it leaves, and wrong passwords. It knows what its files are due to
-hold, and each byte that comes is compared. In some minutes the users are read anew, where the program knows the word. With --pause
-each client does nothing for so long on the average between two things: ten clients that rest for a second each do some ten things a
-second.
+listings, transfers that it cuts off or aborts, looks at files, renames and deletes, directories that come and go, sessions that it
+leaves, and wrong passwords. It knows what its files are due to hold, and each byte that comes is compared. In some minutes the users
+are read anew, where the program knows the word. With --pause each client does nothing for so long on the average between two things:
+ten clients that rest for a second each do some ten things a second.
 
 Every ten seconds it notes the resident memory, the descriptors and the threads of the gateway. It prints a line a minute, and says
 at last of each of the three whether it was flat from minute --settles on, which is the tenth: whether the median of the last third
@@ -135,8 +135,40 @@ def missing(client):
     """A file that is not there."""
     session = client.at_work()
     with session.link():
-        session.tell("RETR none", 150)
-        session.expect(550)
+        session.tell("RETR none", 550)
+
+
+def looks(client):
+    name, session = client.known(), client.at_work()
+    shown = session.tell(f"SIZE {name}", 213)
+    if int(shown) != len(client.files[name]):
+        raise wire.Unexpected(f"{name} has {shown} bytes, and {len(client.files[name])} are due")
+    session.tell(f"MDTM {name}", 213)
+    session.tell(f"MLST {name}", 250)
+
+
+def renames(client):
+    """Also over another file, which is gone then."""
+    name, to = client.known(), client.name()
+    session = client.at_work()
+    session.tell(f"RNFR {name}", 350)
+    session.tell(f"RNTO {to}", 250)
+    client.files[to] = client.files.pop(name)
+
+
+def deletes(client):
+    name = client.known()
+    client.at_work().tell(f"DELE {name}", 250)
+    del client.files[name]
+
+
+def directories(client):
+    session = client.at_work()
+    session.tell("MKD below", 257)
+    session.tell("CWD below", 250)
+    session.tell("CDUP", 250)
+    session.tell("RMD below", 250)
+    session.tell("PWD", 257)
 
 
 def cut_off(client):
@@ -198,7 +230,8 @@ def pause(client):
     time.sleep(client.random.random())
 
 
-WORK = [upload, upload_from, append, download, download, download_from, listings, missing, cut_off, aborted, left_upload]
+WORK = [upload, upload, upload_from, append, download, download, download_from, listings, missing, cut_off, aborted, left_upload]
+WORK += [looks, renames, deletes, directories]
 WORK += [quits, vanishes, wrong_password, pause]
 
 
