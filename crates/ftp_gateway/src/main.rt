@@ -30,15 +30,16 @@ mod user_table;
 mod words;
 
 use command::Command;
-use ftp_listen::Parts;
+use ftp_listen::{Parts, Server};
 use recording::record;
 use refusal::{Refusal, tell};
-use serving::{Gateway, GatewayRuntime, server_of};
+use serving::{CHECKPOINT_EVERY, Gateway, GatewayRuntime};
 use setup::read_setup;
 use std::net::{Net, TcpListener, TcpStream};
 use std::process::ExitCode;
 use std::random::RandomSource;
 use std::rt::{Env, Files};
+use std::sync::Arc;
 use std::{env, thread};
 
 const HELP: &str = "\
@@ -125,42 +126,46 @@ fn gateway<R: GatewayRuntime + Env + Input + Print>(rt: &R) -> Result<Gateway<R>
     }
 }
 
+// It names sockets, as the check looks for the types of a bound among those of the function.
 fn main(rt: HostRuntime) -> ExitCode {
-    // The check looks for the types of a bound among those of the function.
     let types: Option<(TcpListener, TcpStream)> = None;
     drop(types);
     let gateway = match gateway(&rt) {
         Ok(gateway) => gateway,
         Err(status) => return status,
     };
-    let (Ok(authenticator), Ok(data_listener), Ok(presence_listener), Ok(indicator)) = (
+    let (Ok(check), Ok(transfers), Ok(logins), Ok(control), Ok(journal)) = (
         Box::new(rt.alloc(), gateway.check),
         Box::new(rt.alloc(), gateway.transfers),
         Box::new(rt.alloc(), gateway.logins),
         Box::new(rt.alloc(), gateway.control),
+        Arc::try_clone(&gateway.feed),
     ) else {
         return ended(&rt, Err(Refusal::OutOfMemory));
     };
     let parts = Parts {
-        authenticator,
-        data_listener,
-        presence_listener,
-        indicator,
+        authenticator: check,
+        data_listener: transfers,
+        presence_listener: logins,
+        indicator: control,
         storage: gateway.depot,
     };
     let plan = gateway.plan;
     let (records, feed) = (&*gateway.records, &gateway.feed);
-    let (server, address) = match server_of(rt.alloc(), plan, parts, records, feed) {
-        Ok(made) => made,
-        Err(refusal) => return ended(&rt, Err(refusal)),
-    };
+    let mut server = Server::over(rt.alloc(), plan.options, parts);
+    server.most_sessions(plan.limits.all);
+    server.most_sessions_of_one(plan.limits.of_one);
+    server.checkpoint_every(CHECKPOINT_EVERY);
+    if !records.is_empty() {
+        server.feed_journal(journal);
+    }
     let ((), served) = thread::join(
         &rt,
         || record(&rt, feed, records),
         || {
             let types: Option<(TcpListener, TcpStream)> = None;
             drop(types);
-            let served = server.listen_over(&rt, address.as_slice());
+            let served = server.listen_over(&rt, plan.address.as_slice());
             feed.close(&rt);
             served
         },

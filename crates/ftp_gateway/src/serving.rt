@@ -20,7 +20,6 @@ use ftp_base::Bytes;
 use ftp_config::{GatewayConfig, Users};
 use ftp_disk::{Below, DiskStorage, Homes};
 use ftp_extras::Offers;
-use ftp_listen::{Parts, Server};
 use ftp_options::Options;
 use ftp_shared::JournalFeed;
 use ftp_system::{Depot, ServerRuntime};
@@ -34,7 +33,7 @@ use std::time::Clock;
 const MOST_WAITING: u64 = 200_000;
 
 /// How many entries of the journal are kept behind its checkpoint at most.
-const CHECKPOINT_EVERY: u64 = 1_000;
+pub const CHECKPOINT_EVERY: u64 = 1_000;
 
 /// What a gateway uses of the runtime.
 pub trait GatewayRuntime: ServerRuntime + Files<File = File> + AllocGlobal {}
@@ -230,32 +229,4 @@ pub fn prepare<R: GatewayRuntime>(rt: &R, path: &str) -> Result<Gateway<R>, Refu
         feed: shared(alloc, JournalFeed::new(alloc, MOST_WAITING))?,
         waiting,
     })
-}
-
-/// A server as planned over these parts, with the address where it is to listen. Its journal has a checkpoint and so many entries at
-/// most; where they are written somewhere, each goes to the feed.
-pub fn server_of<R: GatewayRuntime, D: Depot + Send + Sync + Drop + 'static>(
-    alloc: Global,
-    plan: Plan,
-    parts: Parts<D>,
-    records: &Records<R>,
-    feed: &Arc<JournalFeed, Global>,
-) -> Result<(Server<D>, Bytes), Refusal>
-where
-    D::Store: Send + 'static,
-    D::Words: Send + 'static,
-{
-    let Plan {
-        options,
-        address,
-        limits,
-    } = plan;
-    let mut server = Server::over(alloc, options, parts);
-    server.most_sessions(limits.all);
-    server.most_sessions_of_one(limits.of_one);
-    server.checkpoint_every(CHECKPOINT_EVERY);
-    if !records.is_empty() {
-        server.feed_journal(Arc::try_clone(feed)?);
-    }
-    Ok((server, address))
 }
