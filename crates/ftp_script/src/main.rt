@@ -1,8 +1,8 @@
-//! Runs a script of events from standard input, and prints the log that is due for it, or what its users moved; or counts
-//! the decisions of a run of drawn events.
+//! Runs a script of events from standard input, anew or from a state on, and prints the log that is due for it, or what its
+//! users moved, or the log and the state of the hub; or counts the decisions of a run of drawn events.
 //!
-//! The commands are `ftp_script script`, `ftp_script audit`, `ftp_script stress SEED SESSIONS`, and `--help` and
-//! `--version` alone. It ends with 0 where all was read and written, 2 at a bad line, 3 where standard input fails, 4 where
+//! The commands are `ftp_script script`, `ftp_script audit`, `ftp_script save`, `ftp_script resume`, `ftp_script stress SEED
+//! SESSIONS`, and `--help` and `--version` alone. It ends with 0 where all was read and written, 2 at a bad line, 3 where standard input fails, 4 where
 //! standard output fails, 5 where memory runs out, and 64 where the words are no command.
 //! Begin with `run_script` of `ftp_script_run`.
 #![tactic(auto)]

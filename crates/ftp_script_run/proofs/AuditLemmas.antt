@@ -21,29 +21,14 @@ use Rattle.ftp_script_run.specs.declared.status.Status.{Status}
 use Rattle.ftp_script_run.specs.declared.status.Status.TheVariants as status
 use Rattle.ftp_script_run.specs.Statuses.{ended_by}
 use Rattle.ftp_script_run.specs.Outcome.{bad_line}
-use Rattle.ftp_script_run.specs.Legal.{IsLegal}
 use Rattle.ftp_script_run.specs.Runs.{Keeps}
 use Rattle.ftp_script_run.specs.Audited.{IsNoted, Hearing, Reports, ReportsPart, behind_report, AuditsPart, AuditOutcome}
-use Rattle.ftp_script_run.proofs.RunLemmas.{kept-listed}
+use Rattle.ftp_script_run.proofs.RunLemmas.{kept-legal, stands-anew}
 use Rattle.ftp_script_run.proofs.Written.{front-more, front-longer}
 
--- the log of a run is legal, by the options of its hub
-abbrev legal_log : (run : Run) (items : List Item) (log : List Entry) → Keeps run items log → IsLegal items log run.links run.storage
-legal_log run items log kept = record {
-  events = kept.events;
-  due = record {
-    options = options_of run.hub;
-    set = kept.hub.options;
-    right = kept.hub.stands.right;
-    acted = kept.hub.stands.acted;
-    led = kept.hub.led;
-  };
-  listed = kept-listed run items log kept;
-}
-
 -- the audit stands for the log of the run
-heard-stands : (run : Run) (items : List Item) (log : List Entry) (audit : AuditState) → Keeps run items log → HasHeard audit log → Stands (options_of run.hub) audit log
-heard-stands run items log audit kept heard = record { right = kept.hub.stands.right; acted = kept.hub.stands.acted; heard = heard }
+heard-stands : (run : Run) (items : List Item) (log : List Entry) (audit : AuditState) → Keeps None run items log → HasHeard audit log → Stands (options_of run.hub) audit log
+heard-stands run items log audit kept heard = let stands = stands-anew run items log kept in record { right = stands.right; acted = stands.acted; heard = heard }
 
 -- ---- reports
 
@@ -94,7 +79,7 @@ heard-memory failed all left later old new reader run audit buffer r ahead same 
       reads = ahead bytes h;
       links = run.links;
       storage = run.storage;
-      legal = legal_log run r.items r.log r.kept;
+      legal = kept-legal run r.items r.log r.kept;
       begun = inl same;
       reported = inl same;
     })
@@ -103,7 +88,7 @@ heard-memory failed all left later old new reader run audit buffer r ahead same 
 part-all : (failed : Type 0) (bytes : List ℕ) (later old new : Option (List ℕ)) (run : Run) (items : List Item) (log : List Entry) (bad : Option ℕ) →
     IsScriptOf bytes items bad →
     ReadsAhead items bytes later →
-    Keeps run items log →
+    Keeps None run items log →
     ReportsPart (options_of run.hub) log (behind_report bad) old new →
     AuditsPart failed bytes later old new
 part-all failed bytes later old new run items log bad script ahead kept part = record {
@@ -118,7 +103,7 @@ part-all failed bytes later old new run items log bad script ahead kept part = r
   reads = ahead;
   links = run.links;
   storage = run.storage;
-  legal = legal_log run items log kept;
+  legal = kept-legal run items log kept;
   begun = inr (inl refl);
   reported = part;
 }
@@ -128,7 +113,7 @@ part-failed : (failed : Type 0) (bytes : List ℕ) (left later old new : Option 
     failed →
     HasRead items bytes reader buffer left →
     ReadsAhead items bytes later →
-    Keeps run items log →
+    Keeps None run items log →
     ReportsPart (options_of run.hub) log [] old new →
     AuditsPart failed bytes later old new
 part-failed failed bytes left later old new reader buffer run items log risen h ahead kept part = record {
@@ -143,7 +128,7 @@ part-failed failed bytes left later old new reader buffer run items log risen h 
   reads = ahead;
   links = run.links;
   storage = run.storage;
-  legal = legal_log run items log kept;
+  legal = kept-legal run items log kept;
   begun = inr (inr risen);
   reported = part;
 }
@@ -163,7 +148,7 @@ heard-end failed all left later old new reader run audit buffer (Ok x) r told ah
       end = (told bytes h).1;
       links = run.links;
       storage = run.storage;
-      legal = legal_log run r.items r.log r.kept;
+      legal = kept-legal run r.items r.log r.kept;
       reported = wrote (options_of run.hub) r.log (heard-stands run r.items r.log audit r.kept r.heard);
     })
 heard-end failed all left later old new reader run audit buffer (Err Fault) r told ahead wrote front =
@@ -186,7 +171,7 @@ heard-bad failed all left later old new reader run audit buffer k (Ok x) r told 
       reads = ahead bytes h;
       links = run.links;
       storage = run.storage;
-      legal = legal_log run r.items r.log r.kept;
+      legal = kept-legal run r.items r.log r.kept;
       reported = wrote (options_of run.hub) r.log (heard-stands run r.items r.log audit r.kept r.heard);
     })
 heard-bad failed all left later old new reader run audit buffer k (Err Fault) r told ahead wrote front =
@@ -209,7 +194,7 @@ heard-fault failed all left later old new reader run audit buffer (Ok x) r risen
       stopped = told bytes h;
       links = run.links;
       storage = run.storage;
-      legal = legal_log run r.items r.log r.kept;
+      legal = kept-legal run r.items r.log r.kept;
       reported = wrote (options_of run.hub) r.log (heard-stands run r.items r.log audit r.kept r.heard);
     })
 heard-fault failed all left later old new reader run audit buffer (Err Fault) r risen told ahead wrote front =

@@ -1,5 +1,5 @@
 -- The words of the commands, and the numbers among them.
-use Rattle.std.proofs.Common.{◌≡◌, ◌⊎◌, inl, inr, ℕ, ◌==◌, Bool, true, false, cond, drop, ◌^◌, ◌<◌, ◌≤◌, List, [], ◌∷◌, length, get_or, Option, Some, None, refl, sym, ap, subst, ◌∙◌, arith}
+use Rattle.std.proofs.Common.{◌≡◌, ◌⊎◌, inl, inr, ℕ, ◌==◌, Bool, true, false, cond, drop, ◌^◌, ◌<◌, ◌≤◌, List, [], ◌∷◌, length, get_or, Option, Some, None, sym, ap, subst, ◌∙◌, arith}
 use Rattle.std.specs.Prelude.{◌↔◌, Result, Ok, Err, OnOk, OnErr, decimal}
 use Rattle.std.specs.Str.{IsUtf8, bytes_eq}
 use Rattle.std.proofs.lemmas.Slice.Eq.{bytes_eq-Decides}
@@ -14,7 +14,8 @@ use Rattle.ftp_base.specs.declared.fault.Failed.TheVariants.{Fault, Memory}
 use Rattle.ftp_control.specs.Writing.{WritesFront}
 use Rattle.ftp_text.proofs.Numerals.{own}
 use Rattle.ftp_script_run.specs.declared.command.Command.{Command}
-use Rattle.ftp_script_run.specs.declared.command.Command.TheVariants.{Script, Audit, Tell}
+use Rattle.ftp_script_run.specs.declared.command.Command.TheVariants.{Run, Audit, Tell}
+use Rattle.ftp_script_run.specs.declared.command.Ending.{Ending}
 use Rattle.ftp_script_run.specs.declared.command.Told.{Told}
 use Rattle.ftp_script_run.specs.declared.status.Status.{Status}
 use Rattle.ftp_script_run.specs.declared.status.Status.TheVariants as status
@@ -125,19 +126,26 @@ no_command words found c same none asks = let is : found ≡ Some c = (same c).1
 pub one_command : (words : List (List ℕ)) (found : Option Command) (c d : Command) → IsCommandOf words found → found ≡ Some c → Asks words d → c ≡ d
 one_command words found c d same is asks = let other : found ≡ Some d = (same d).1 asks in cc
 
--- it is the script or something else
-pub script_tells_nothing : {X : Type 0} (words : List (List ℕ)) (found : Option Command) (t : Told) → IsCommandOf words found → found ≡ Some Script → Asks words (Tell t) → X
-script_tells_nothing words found t same is asks = let one : Script ≡ Tell t = one_command words found Script (Tell t) same is asks in absurd (cc)
-
-pub told_is_no_script : {X : Type 0} (words : List (List ℕ)) (found : Option Command) (t : Told) → IsCommandOf words found → found ≡ Some (Tell t) → Asks words Script → X
-told_is_no_script words found t same is asks = let one : Tell t ≡ Script = one_command words found (Tell t) Script same is asks in absurd (cc)
+-- it is that command or another
+pub other_command : {X : Type 0} (words : List (List ℕ)) (found : Option Command) (c d : Command) → IsCommandOf words found → found ≡ Some c → (c ≡ d → ⊥) → Asks words d → X
+other_command words found c d same is apart asks = absurd (apart (one_command words found c d same is asks))
 
 -- the log and the audit are two commands
-pub script_is_no_audit : {X : Type 0} (words : List (List ℕ)) (found : Option Command) → IsCommandOf words found → found ≡ Some Script → Asks words Audit → X
-script_is_no_audit words found same is asks = let one : Script ≡ Audit = one_command words found Script Audit same is asks in absurd (cc)
+pub run_is_no_audit : {X : Type 0} (words : List (List ℕ)) (found : Option Command) (e : Ending) → IsCommandOf words found → found ≡ Some (Run e) → Asks words Audit → X
+run_is_no_audit words found e same is asks = other_command words found (Run e) Audit same is (λ one. cc) asks
 
-pub audit_is_no_script : {X : Type 0} (words : List (List ℕ)) (found : Option Command) → IsCommandOf words found → found ≡ Some Audit → Asks words Script → X
-audit_is_no_script words found same is asks = let one : Audit ≡ Script = one_command words found Audit Script same is asks in absurd (cc)
+pub audit_is_no_run : {X : Type 0} (words : List (List ℕ)) (found : Option Command) (e : Ending) → IsCommandOf words found → found ≡ Some Audit → Asks words (Run e) → X
+audit_is_no_run words found e same is asks = other_command words found Audit (Run e) same is (λ one. cc) asks
+
+pub run_tells_nothing : {X : Type 0} (words : List (List ℕ)) (found : Option Command) (e : Ending) (t : Told) → IsCommandOf words found → found ≡ Some (Run e) → Asks words (Tell t) → X
+run_tells_nothing words found e t same is asks = other_command words found (Run e) (Tell t) same is (λ one. cc) asks
+
+pub told_is_no_run : {X : Type 0} (words : List (List ℕ)) (found : Option Command) (t : Told) (e : Ending) → IsCommandOf words found → found ≡ Some (Tell t) → Asks words (Run e) → X
+told_is_no_run words found t e same is asks = other_command words found (Tell t) (Run e) same is (λ one. cc) asks
+
+-- the log with one thing behind it and the log with another
+pub same_ending : (words : List (List ℕ)) (found : Option Command) (d e : Ending) → IsCommandOf words found → found ≡ Some (Run d) → Asks words (Run e) → d ≡ e
+same_ending words found d e same is asks = let one : Run d ≡ Run e = one_command words found (Run d) (Run e) same is asks in cc
 
 pub audit_tells_nothing : {X : Type 0} (words : List (List ℕ)) (found : Option Command) (t : Told) → IsCommandOf words found → found ≡ Some Audit → Asks words (Tell t) → X
 audit_tells_nothing words found t same is asks = let one : Audit ≡ Tell t = one_command words found Audit (Tell t) same is asks in absurd (cc)

@@ -1,5 +1,5 @@
 -- What is drawn, which events come of it, and the names that are counted.
-use Rattle.std.proofs.Common.{◌≡◌, ℕ, ◌<◌, List, [], ◌∷◌, length, get_or, codes, None, refl, lit<}
+use Rattle.std.proofs.Common.{◌≡◌, [], ◌∷◌, codes, None, refl, lit<}
 use Rattle.std.specs.Prelude.{Contains}
 use Rattle.ftp_base.specs.declared.login.AuthAnswer.TheVariants.{Good}
 use Rattle.ftp_events.specs.declared.decision.Decision.{Decision}

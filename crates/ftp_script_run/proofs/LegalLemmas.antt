@@ -34,7 +34,7 @@ events-more items log event e same events =
     ∙ ap (λ (x : HubEvent). events_in items ++ x ∷ []) same
     ∙ sym (events_in-append items (item.Event event ∷ []))
 
-no_events : (items : List Item) → has_event items ≡ false → events_in items ≡ []
+pub no_events : (items : List Item) → has_event items ≡ false → events_in items ≡ []
 no_events [] h = refl
 no_events (item.Skip ∷ items) h = no_events items h
 no_events (item.Options mode lo hi host active idle lockout restart ∷ items) h = no_events items h

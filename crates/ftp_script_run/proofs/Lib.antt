@@ -10,8 +10,16 @@ pub mod ItemLemmas
 pub mod LegalLemmas
 pub mod LeadsLemmas
 pub mod RunLemmas
+pub mod EventLemmas
 pub mod SetUpLemmas
 pub mod OutcomeLemmas
+pub mod HeadLemmas
+pub mod BeginLemmas
+pub mod ResumeLemmas
+pub mod GoOnLemmas
+pub mod FittingLemmas
+pub mod SaveLemmas
+pub mod SavedLemmas
 pub mod CleanLemmas
 pub mod DeterminedLemmas
 pub mod ListedLemmas

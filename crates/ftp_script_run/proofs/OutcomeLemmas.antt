@@ -18,11 +18,13 @@ use Rattle.ftp_script_run.specs.declared.status.Status.{Status}
 use Rattle.ftp_script_run.specs.declared.status.Status.TheVariants as status
 use Rattle.ftp_script_run.specs.Statuses.{IsCutShort, ended_by}
 use Rattle.ftp_script_run.specs.SetUp.{StorageState, IsSetUp}
-use Rattle.ftp_script_run.specs.Left.{end_lines}
-use Rattle.ftp_script_run.specs.Outcome.{log_lines, bad_line, WritesWhole, WritesPart, closing, Outcome}
-use Rattle.ftp_script_run.specs.Runs.{Keeps, IsTaken, IsPartlyTaken, Running}
-use Rattle.ftp_script_run.proofs.RunLemmas.{kept-legal, kept-storage}
-use Rattle.ftp_script_run.proofs.Written.{writes-more, front-more, front-longer, front-whole, log_lines-append}
+use Rattle.ftp_hub.specs.Stands.{Stands, options_of}
+use Rattle.ftp_script_run.specs.declared.command.Ending.{Ending}
+use Rattle.ftp_script_run.specs.Outcome.{log_lines, bad_line, WritesWhole, WritesPart, IsBehindFront, Ends, EndsPart, Outcome}
+use Rattle.ftp_script_run.specs.Resuming.{IsResumeCut, ResumeOutcome}
+use Rattle.ftp_script_run.specs.Runs.{Before, Keeps, IsTaken, IsPartlyTaken, Running}
+use Rattle.ftp_script_run.proofs.RunLemmas.{kept-legal, kept-storage, stands-anew}
+use Rattle.ftp_script_run.proofs.Written.{writes-more, front-all, front-more, log_lines-append}
 
 -- what was told where there is something to tell
 pub told-start : (left : Option (List ℕ)) (reader : ScriptReader) (buffer : List ℕ) →
@@ -34,30 +36,30 @@ told-start (Some bytes) reader buffer h = h bytes
 -- ---- the steps
 
 -- one more item was read and taken
-pub running-more : (all left later before now new : Option (List ℕ)) (reader next : ScriptReader) (run after : Run) (buffer out : List ℕ) (i : Item) (r : Running all reader run buffer left before now) →
+unfoldable pub running-more : (before : Before) (all left later first now new : Option (List ℕ)) (reader next : ScriptReader) (run after : Run) (buffer out : List ℕ) (i : Item) (r : Running before all reader run buffer left first now) →
     IsLetIn r.items i next →
     ((bytes : List ℕ) → HasRead r.items bytes reader buffer left → HasRead (r.items ++ i ∷ []) bytes next out later) →
-    IsTaken after (r.items ++ i ∷ []) r.log now new →
-    Running all next after out later before new
-running-more all left later before now new reader next run after buffer out i r in_place told took = record {
+    IsTaken before after (r.items ++ i ∷ []) r.log now new →
+    Running before all next after out later first new
+running-more before all left later first now new reader next run after buffer out i r in_place told took = record {
   items = r.items ++ i ∷ [];
   log = took.0 ++ r.log;
   known = in_place.1;
   kept = took.1;
   read = IfSome_then all r.read told;
   written =
-      subst (Writes before new) (sym (log_lines-append took.0 r.log))
-      (writes-more before now new (log_lines r.log) (log_lines took.0) r.written took.2);
+      subst (Writes first new) (sym (log_lines-append took.0 r.log))
+      (writes-more first now new (log_lines r.log) (log_lines took.0) r.written took.2);
 }
 
 -- of the whole output, all that came so far was written
-part-whole : (bytes : List ℕ) (left later before now : Option (List ℕ)) (reader : ScriptReader) (buffer : List ℕ) (run : Run) (items : List Item) (log : List Entry) →
+part-whole : (e : Ending) (bytes : List ℕ) (left later before now : Option (List ℕ)) (reader : ScriptReader) (buffer : List ℕ) (run : Run) (items : List Item) (log : List Entry) →
     HasRead items bytes reader buffer left →
     ReadsAhead items bytes later →
-    Keeps run items log →
+    Keeps None run items log →
     Writes before now (log_lines log) →
-    WritesPart bytes later before now
-part-whole bytes left later before now reader buffer run items log h ahead kept written = record {
+    WritesPart e bytes later before now
+part-whole e bytes left later before now reader buffer run items log h ahead kept written = record {
   read = h.read;
   rest = h.bytes;
   items = items;
@@ -70,31 +72,31 @@ part-whole bytes left later before now reader buffer run items log h ahead kept 
   links = run.links;
   storage = run.storage;
   legal = kept-legal run items log kept;
-  written = front-whole before now (log_lines log) (closing run.links run.storage None h.bytes) written;
+  written = inl (front-all before now (log_lines log) written);
 }
 
-pub out-memory : (all left later before now : Option (List ℕ)) (reader : ScriptReader) (run : Run) (buffer : List ℕ) (r : Running all reader run buffer left before now) →
+pub out-memory : (e : Ending) (all left later before now : Option (List ℕ)) (reader : ScriptReader) (run : Run) (buffer : List ℕ) (r : Running None all reader run buffer left before now) →
     ((bytes : List ℕ) → HasRead r.items bytes reader buffer left → ReadsAhead r.items bytes later) →
-    IfSome all (λ bytes. WritesPart bytes later before now)
-out-memory all left later before now reader run buffer r ahead =
-    IfSome_then all r.read (λ bytes h. part-whole bytes left later before now reader buffer run r.items r.log h (ahead bytes h) r.kept r.written)
+    IfSome all (λ bytes. WritesPart e bytes later before now)
+out-memory e all left later before now reader run buffer r ahead =
+    IfSome_then all r.read (λ bytes h. part-whole e bytes left later before now reader buffer run r.items r.log h (ahead bytes h) r.kept r.written)
 
 -- of an item that was read, at most a part of its lines was written
-pub out-cut : (all left later before now new : Option (List ℕ)) (reader next : ScriptReader) (run after : Run) (buffer out : List ℕ) (i : Item) (s : Status) (r : Running all reader run buffer left before now) →
+pub out-cut : (e : Ending) (all left later before now new : Option (List ℕ)) (reader next : ScriptReader) (run after : Run) (buffer out : List ℕ) (i : Item) (s : Status) (r : Running None all reader run buffer left before now) →
     IsLawful next out →
     ((bytes : List ℕ) → HasRead r.items bytes reader buffer left → ReadsAhead r.items bytes later) →
     ((bytes : List ℕ) → HasRead r.items bytes reader buffer left → HasRead (r.items ++ i ∷ []) bytes next out later) →
-    IsPartlyTaken after (r.items ++ i ∷ []) r.log now new →
+    IsPartlyTaken None after (r.items ++ i ∷ []) r.log now new →
     IsCutShort s →
-    IfSome all (λ bytes. Outcome s bytes later before new)
-out-cut all left later before now new reader next run after buffer out i s r lawful ahead told part short =
+    IfSome all (λ bytes. Outcome e s bytes later before new)
+out-cut e all left later before now new reader next run after buffer out i s r lawful ahead told part short =
     IfSome_then all r.read (λ bytes h. cut_short bytes s short (of_part bytes h (told bytes h) part)) where
-      cut_short : (bytes : List ℕ) (s : Status) → IsCutShort s → WritesPart bytes later before new → Outcome s bytes later before new
-      cut_short bytes s (inl e) p = subst (λ (t : Status). Outcome t bytes later before new) (sym e) p
-      cut_short bytes s (inr e) p = subst (λ (t : Status). Outcome t bytes later before new) (sym e) p
+      cut_short : (bytes : List ℕ) (s : Status) → IsCutShort s → WritesPart e bytes later before new → Outcome e s bytes later before new
+      cut_short bytes s (inl is) p = subst (λ (t : Status). Outcome e t bytes later before new) (sym is) p
+      cut_short bytes s (inr is) p = subst (λ (t : Status). Outcome e t bytes later before new) (sym is) p
 
-      of_part : (bytes : List ℕ) → HasRead r.items bytes reader buffer left → HasRead (r.items ++ i ∷ []) bytes next out later → IsPartlyTaken after (r.items ++ i ∷ []) r.log now new → WritesPart bytes later before new
-      of_part bytes h more (inl same) = part-whole bytes left later before new reader buffer run r.items r.log h (ahead bytes h) r.kept (subst (λ (w : Option (List ℕ)). Writes before w (log_lines r.log)) (sym same) r.written)
+      of_part : (bytes : List ℕ) → HasRead r.items bytes reader buffer left → HasRead (r.items ++ i ∷ []) bytes next out later → IsPartlyTaken None after (r.items ++ i ∷ []) r.log now new → WritesPart e bytes later before new
+      of_part bytes h more (inl same) = part-whole e bytes left later before new reader buffer run r.items r.log h (ahead bytes h) r.kept (subst (λ (w : Option (List ℕ)). Writes before w (log_lines r.log)) (sym same) r.written)
       of_part bytes h more (inr taken) = record {
         read = more.read;
         rest = more.bytes;
@@ -108,21 +110,21 @@ out-cut all left later before now new reader next run after buffer out i s r law
         links = after.links;
         storage = after.storage;
         legal = kept-legal after (r.items ++ i ∷ []) (taken.0 ++ r.log) taken.1;
-        written =
-            front-longer before new (log_lines (taken.0 ++ r.log)) (closing after.links after.storage None more.bytes)
+        written = inl
             (subst (WritesFront before new) (sym (log_lines-append taken.0 r.log))
             (front-more before now new (log_lines r.log) (log_lines taken.0) r.written taken.2));
       }
 
 -- all bytes were read, and what is written behind the log was begun
-part-closing : (bytes : List ℕ) (later before now new : Option (List ℕ)) (run : Run) (items : List Item) (log : List Entry) (bad : Option ℕ) →
+part-closing : (e : Ending) (bytes : List ℕ) (later before now new : Option (List ℕ)) (run : Run) (items : List Item) (log : List Entry) (bad : Option ℕ) (behind : List ℕ) →
     IsScriptOf bytes items bad →
     ReadsAhead items bytes later →
-    Keeps run items log →
+    Keeps None run items log →
     Writes before now (log_lines log) →
-    WritesFront now new (closing run.links run.storage bad []) →
-    WritesPart bytes later before new
-part-closing bytes later before now new run items log bad script ahead kept written more = record {
+    IsBehindFront e (options_of run.hub) log run.links run.storage bad [] behind →
+    WritesFront now new behind →
+    WritesPart e bytes later before new
+part-closing e bytes later before now new run items log bad behind script ahead kept written closing more = record {
   read = bytes;
   rest = [];
   items = items;
@@ -135,16 +137,31 @@ part-closing bytes later before now new run items log bad script ahead kept writ
   links = run.links;
   storage = run.storage;
   legal = kept-legal run items log kept;
-  written = front-more before now new (log_lines log) (closing run.links run.storage bad []) written more;
+  written = inr (behind, closing, front-more before now new (log_lines log) behind written more);
 }
 
-pub out-end : (all left later before now new : Option (List ℕ)) (reader : ScriptReader) (run : Run) (buffer : List ℕ) (last : Result Unit Failed) (r : Running all reader run buffer left before now) →
+-- all bytes were read, and nothing of what is written behind the log, or a part of it
+part-end : (e : Ending) (bytes : List ℕ) (left later before now new : Option (List ℕ)) (reader : ScriptReader) (buffer : List ℕ) (run : Run) (items : List Item) (log : List Entry) →
+    HasRead items bytes reader buffer left →
+    IsScriptOf bytes items None →
+    ReadsAhead items bytes later →
+    Keeps None run items log →
+    Writes before now (log_lines log) →
+    EndsPart e (options_of run.hub) log run.links run.storage now new →
+    WritesPart e bytes later before new
+part-end e bytes left later before now new reader buffer run items log h script ahead kept written (inl same) =
+    part-whole e bytes left later before new reader buffer run items log h ahead kept (subst (λ (w : Option (List ℕ)). Writes before w (log_lines log)) (sym same) written)
+part-end e bytes left later before now new reader buffer run items log h script ahead kept written (inr ends) =
+    part-closing e bytes later before now new run items log None ends.0 script ahead kept written ends.1 ends.2
+
+pub out-end : (e : Ending) (all left later before now new : Option (List ℕ)) (reader : ScriptReader) (run : Run) (buffer : List ℕ) (last : Result Unit Failed) (r : Running None all reader run buffer left before now) →
     ((bytes : List ℕ) → HasRead r.items bytes reader buffer left → IsScriptOf bytes r.items None × (later ≡ Some [])) →
     ((bytes : List ℕ) → HasRead r.items bytes reader buffer left → ReadsAhead r.items bytes later) →
-    OnOk last (Writes now new (end_lines run.links run.storage)) →
-    OnErr last (WritesFront now new (end_lines run.links run.storage)) →
-    IfSome all (λ bytes. Outcome (ended_by last status.Done) bytes later before new)
-out-end all left later before now new reader run buffer (Ok x) r told ahead wrote front =
+    OnOk last ((log : List Entry) → Stands run.hub log → Ends e (options_of run.hub) log run.links run.storage now new) →
+    OnErr last ((log : List Entry) → Stands run.hub log → EndsPart e (options_of run.hub) log run.links run.storage now new) →
+    IfSome all (λ bytes. Outcome e (ended_by last status.Done) bytes later before new)
+out-end e all left later before now new reader run buffer (Ok x) r told ahead wrote front =
+    let ends = wrote r.log (stands-anew run r.items r.log r.kept) in
     IfSome_then all r.read
     (λ bytes h. record {
       items = r.items;
@@ -154,20 +171,24 @@ out-end all left later before now new reader run buffer (Ok x) r told ahead wrot
       links = run.links;
       storage = run.storage;
       legal = kept-legal run r.items r.log r.kept;
-      written = writes-more before now new (log_lines r.log) (end_lines run.links run.storage) r.written wrote;
+      behind = ends.0;
+      ends = ends.1;
+      written = writes-more before now new (log_lines r.log) ends.0 r.written ends.2;
     })
-out-end all left later before now new reader run buffer (Err Fault) r told ahead wrote front =
-    IfSome_then all r.read (λ bytes h. part-closing bytes later before now new run r.items r.log None (told bytes h).0 (ahead bytes h) r.kept r.written front)
-out-end all left later before now new reader run buffer (Err Memory) r told ahead wrote front =
-    IfSome_then all r.read (λ bytes h. part-closing bytes later before now new run r.items r.log None (told bytes h).0 (ahead bytes h) r.kept r.written front)
+out-end e all left later before now new reader run buffer (Err Fault) r told ahead wrote front =
+    IfSome_then all r.read
+    (λ bytes h. part-end e bytes left later before now new reader buffer run r.items r.log h (told bytes h).0 (ahead bytes h) r.kept r.written (front r.log (stands-anew run r.items r.log r.kept)))
+out-end e all left later before now new reader run buffer (Err Memory) r told ahead wrote front =
+    IfSome_then all r.read
+    (λ bytes h. part-end e bytes left later before now new reader buffer run r.items r.log h (told bytes h).0 (ahead bytes h) r.kept r.written (front r.log (stands-anew run r.items r.log r.kept)))
 
-pub out-bad : (all left later before now new : Option (List ℕ)) (reader : ScriptReader) (run : Run) (buffer : List ℕ) (k : ℕ) (last : Result Unit Failed) (r : Running all reader run buffer left before now) →
+pub out-bad : (e : Ending) (all left later before now new : Option (List ℕ)) (reader : ScriptReader) (run : Run) (buffer : List ℕ) (k : ℕ) (last : Result Unit Failed) (r : Running None all reader run buffer left before now) →
     ((bytes : List ℕ) → HasRead r.items bytes reader buffer left → IsScriptOf bytes r.items (Some k)) →
     ((bytes : List ℕ) → HasRead r.items bytes reader buffer left → ReadsAhead r.items bytes later) →
     OnOk last (Writes now new (bad_line k)) →
     OnErr last (WritesFront now new (bad_line k)) →
-    IfSome all (λ bytes. Outcome (ended_by last (status.BadLine k)) bytes later before new)
-out-bad all left later before now new reader run buffer k (Ok x) r told ahead wrote front =
+    IfSome all (λ bytes. Outcome e (ended_by last (status.BadLine k)) bytes later before new)
+out-bad e all left later before now new reader run buffer k (Ok x) r told ahead wrote front =
     IfSome_then all r.read
     (λ bytes h. record {
       items = r.items;
@@ -179,12 +200,14 @@ out-bad all left later before now new reader run buffer k (Ok x) r told ahead wr
       legal = kept-legal run r.items r.log r.kept;
       written = writes-more before now new (log_lines r.log) (bad_line k) r.written wrote;
     })
-out-bad all left later before now new reader run buffer k (Err Fault) r told ahead wrote front =
-    IfSome_then all r.read (λ bytes h. part-closing bytes later before now new run r.items r.log (Some k) (told bytes h) (ahead bytes h) r.kept r.written front)
-out-bad all left later before now new reader run buffer k (Err Memory) r told ahead wrote front =
-    IfSome_then all r.read (λ bytes h. part-closing bytes later before now new run r.items r.log (Some k) (told bytes h) (ahead bytes h) r.kept r.written front)
+out-bad e all left later before now new reader run buffer k (Err Fault) r told ahead wrote front =
+    IfSome_then all r.read
+    (λ bytes h. part-closing e bytes later before now new run r.items r.log (Some k) (bad_line k) (told bytes h) (ahead bytes h) r.kept r.written refl front)
+out-bad e all left later before now new reader run buffer k (Err Memory) r told ahead wrote front =
+    IfSome_then all r.read
+    (λ bytes h. part-closing e bytes later before now new run r.items r.log (Some k) (bad_line k) (told bytes h) (ahead bytes h) r.kept r.written refl front)
 
-pub out-fault : (all left later before now : Option (List ℕ)) (reader : ScriptReader) (run : Run) (buffer : List ℕ) (r : Running all reader run buffer left before now) →
+pub out-fault : (all left later before now : Option (List ℕ)) (reader : ScriptReader) (run : Run) (buffer : List ℕ) (r : Running None all reader run buffer left before now) →
     ((bytes : List ℕ) → HasRead r.items bytes reader buffer left → StopsBehind r.items bytes later) →
     IfSome all (λ bytes. WritesWhole bytes later before now)
 out-fault all left later before now reader run buffer r told =
@@ -200,41 +223,52 @@ out-fault all left later before now reader run buffer r told =
     })
 
 -- until an event comes, the storage of a run is the one that its items set up
-pub kept-set_up : (run : Run) (items : List Item) (log : List Entry) (storage : StorageState) → Keeps run items log → storage ≡ run.storage → IsSetUp storage items
-kept-set_up run items log storage kept same = λ no_event. same ∙ kept-storage run items log kept no_event
+pub kept-set_up : (before : Before) (run : Run) (items : List Item) (log : List Entry) (storage : StorageState) → Keeps before run items log → storage ≡ run.storage → IsSetUp storage items
+kept-set_up before run items log storage kept same = λ no_event. same ∙ kept-storage before run items log kept no_event
 
 -- ---- what a status says
 
-pub outcome-of : (all left old new : Option (List ℕ)) (s t : Status) → s ≡ t → IfSome all (λ bytes. Outcome s bytes left old new) → IfSome all (λ bytes. Outcome t bytes left old new)
-outcome-of all left old new s t same h = subst (λ (u : Status). IfSome all (λ bytes. Outcome u bytes left old new)) same h
+pub outcome-of : (e : Ending) (all left old new : Option (List ℕ)) (s t : Status) → s ≡ t → IfSome all (λ bytes. Outcome e s bytes left old new) → IfSome all (λ bytes. Outcome e t bytes left old new)
+outcome-of e all left old new s t same h = subst (λ (u : Status). IfSome all (λ bytes. Outcome e u bytes left old new)) same h
+
+-- a run that was cut short wrote a part
+pub cut-part : (e : Ending) (s : Status) (all left old new : Option (List ℕ)) → IsCutShort s → IfSome all (λ bytes. Outcome e s bytes left old new) → IfSome all (λ bytes. WritesPart e bytes left old new)
+cut-part e s all left old new (inl is) h = subst (λ (t : Status). IfSome all (λ bytes. Outcome e t bytes left old new)) is h
+cut-part e s all left old new (inr is) h = subst (λ (t : Status). IfSome all (λ bytes. Outcome e t bytes left old new)) is h
+
+-- so did one that goes on from a state, or nothing
+pub resume-cut : (s : Status) (all left old new : Option (List ℕ)) → (s ≡ status.ReadFault) ⊎ IsCutShort s → IfSome all (λ bytes. ResumeOutcome s bytes left old new) → IfSome all (λ bytes. IsResumeCut bytes old new)
+resume-cut s all left old new (inl is) h = subst (λ (t : Status). IfSome all (λ bytes. ResumeOutcome t bytes left old new)) is h
+resume-cut s all left old new (inr (inl is)) h = subst (λ (t : Status). IfSome all (λ bytes. ResumeOutcome t bytes left old new)) is h
+resume-cut s all left old new (inr (inr is)) h = subst (λ (t : Status). IfSome all (λ bytes. ResumeOutcome t bytes left old new)) is h
 
 -- of a script that was run while nothing failed, all was run
-pub runs_whole : (s : Status) (bytes : List ℕ) (left old new : Option (List ℕ)) (items : List Item) →
-    Outcome s bytes left old new →
+pub runs_whole : (e : Ending) (s : Status) (bytes : List ℕ) (left old new : Option (List ℕ)) (items : List Item) →
+    Outcome e s bytes left old new →
     IsScriptOf bytes items None →
     (s ≡ status.ReadFault → ⊥) →
     (s ≡ status.WriteFault → ⊥) →
     (s ≡ status.Done) ⊎ (s ≡ status.OutOfMemory)
-runs_whole status.Done bytes left old new items out is no_read no_write = inl refl
-runs_whole (status.BadLine k) bytes left old new items out is no_read no_write =
+runs_whole e status.Done bytes left old new items out is no_read no_write = inl refl
+runs_whole e (status.BadLine k) bytes left old new items out is no_read no_write =
     let other : Some k ≡ None = (script-once bytes items out.items None (Some k) is out.script).1 in absurd cc
-runs_whole status.ReadFault bytes left old new items out is no_read no_write = absurd (no_read refl)
-runs_whole status.WriteFault bytes left old new items out is no_read no_write = absurd (no_write refl)
-runs_whole status.OutOfMemory bytes left old new items out is no_read no_write = inr refl
-runs_whole status.Usage bytes left old new items out is no_read no_write = absurd out
+runs_whole e status.ReadFault bytes left old new items out is no_read no_write = absurd (no_read refl)
+runs_whole e status.WriteFault bytes left old new items out is no_read no_write = absurd (no_write refl)
+runs_whole e status.OutOfMemory bytes left old new items out is no_read no_write = inr refl
+runs_whole e status.Usage bytes left old new items out is no_read no_write = absurd out
 
 -- and of other bytes the first bad line was named
-pub names_bad : (s : Status) (k : ℕ) (bytes : List ℕ) (left old new : Option (List ℕ)) (items : List Item) →
-    Outcome s bytes left old new →
+pub names_bad : (e : Ending) (s : Status) (k : ℕ) (bytes : List ℕ) (left old new : Option (List ℕ)) (items : List Item) →
+    Outcome e s bytes left old new →
     IsScriptOf bytes items (Some k) →
     (s ≡ status.ReadFault → ⊥) →
     (s ≡ status.WriteFault → ⊥) →
     (s ≡ status.BadLine k) ⊎ (s ≡ status.OutOfMemory)
-names_bad status.Done k bytes left old new items out is no_read no_write =
+names_bad e status.Done k bytes left old new items out is no_read no_write =
     let other : None ≡ Some k = (script-once bytes items out.items (Some k) None is out.script).1 in absurd cc
-names_bad (status.BadLine j) k bytes left old new items out is no_read no_write =
+names_bad e (status.BadLine j) k bytes left old new items out is no_read no_write =
     let same : Some j ≡ Some k = (script-once bytes items out.items (Some k) (Some j) is out.script).1 in inl cc
-names_bad status.ReadFault k bytes left old new items out is no_read no_write = absurd (no_read refl)
-names_bad status.WriteFault k bytes left old new items out is no_read no_write = absurd (no_write refl)
-names_bad status.OutOfMemory k bytes left old new items out is no_read no_write = inr refl
-names_bad status.Usage k bytes left old new items out is no_read no_write = absurd out
+names_bad e status.ReadFault k bytes left old new items out is no_read no_write = absurd (no_read refl)
+names_bad e status.WriteFault k bytes left old new items out is no_read no_write = absurd (no_write refl)
+names_bad e status.OutOfMemory k bytes left old new items out is no_read no_write = inr refl
+names_bad e status.Usage k bytes left old new items out is no_read no_write = absurd out

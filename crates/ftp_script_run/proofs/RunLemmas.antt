@@ -1,57 +1,67 @@
 -- A run, and one more item.
 use Rattle.std.specs.List.{list_any}
-use Rattle.std.proofs.Common.{◌≡◌, ℕ, Bool, true, false, List, [], ◌∷◌, ◌++◌, None, refl, sym, ap, subst, ◌∙◌, ◌≤◌, arith}
-use Rattle.std.specs.Prelude.{IsTrue}
+use Rattle.std.proofs.Common.{◌≡◌, ◌⊎◌, inl, inr, ℕ, ◌+◌, length, Bool, true, false, ◌||◌, List, [], ◌∷◌, ◌++◌, Option, Some, None, is_some, nat_eq, refl, sym, ap, subst, ◌∙◌, ◌≤◌, arith}
 use Rattle.std.specs.FinMap as map
 use Rattle.std.proofs.lemmas.List.{append-nil}
-use Rattle.std.proofs.lemmas.Bool.{not-true}
+use Rattle.std.proofs.lemmas.List.Folds.{list_any-append}
+use Rattle.std.proofs.lemmas.Bool.{eqb-true, not-true}
+use Rattle.ftp_base.proofs.LinkTableLemmas.{get-insert-same}
 use Rattle.ftp_base.specs.declared.fault.LinkFault.{LinkFault}
 use Rattle.ftp_base.specs.LinkTable.{Numbered}
 use Rattle.ftp_base.specs.Memory.{LinkState, link_fault_limit}
 use Rattle.ftp_options.specs.declared.options.Options.{Options}
+use Rattle.ftp_options.specs.declared.host.PassiveHost.{PassiveHost}
+use Rattle.ftp_options.specs.declared.lockout.FailedLoginsPolicy.{FailedLoginsPolicy}
+use Rattle.ftp_options.specs.declared.options.ActivePassiveMode.{ActivePassiveMode}
+use Rattle.ftp_options.specs.declared.options.ListenerMode.{ListenerMode}
 use Rattle.ftp_options.specs.Builder.{defaults, settings_of}
 use Rattle.ftp_events.specs.declared.entry.Entry.{Entry}
 use Rattle.ftp_events.specs.declared.event.HubEvent.{HubEvent}
-use Rattle.ftp_events.specs.Covers.{is_covered}
-use Rattle.ftp_events.specs.Leads.{Outside, HasLinks, LeadsOne, Leads}
+use Rattle.ftp_events.specs.Right.{IsActed, IsRight}
+use Rattle.ftp_events.specs.Leads.{Outside, HasLinks, Leads}
 use Rattle.ftp_events.specs.Log.{past_of}
 use Rattle.ftp_hub.specs.declared.hub.Hub.{Hub}
-use Rattle.ftp_hub.specs.Runs.{has_link_of, is_linked, job_due}
-use Rattle.ftp_hub.specs.Stands.{Stands, options_of}
-use Rattle.ftp_hub.proofs.Links.{has_link_of-due, has_links-under, links-more, insert-linked}
+use Rattle.ftp_hub.specs.Runs.{is_linked}
+use Rattle.ftp_hub.specs.Stands.{Stands, count_of, options_of}
+use Rattle.ftp_hub.proofs.Links.{insert-linked}
 use Rattle.ftp_text.specs.declared.setup.Item.{Item}
 use Rattle.ftp_text.specs.declared.setup.Item.TheVariants as item
-use Rattle.ftp_script_run.specs.Script.{says, has_link, may_stand}
-use Rattle.ftp_script_run.specs.SetUp.{StorageState, has_event, set_up, storage_in}
+use Rattle.ftp_hub.specs.declared.state.HubState.{HubState}
+use Rattle.ftp_script_run.specs.Script.{is_link, says, has_link, may_stand}
+use Rattle.ftp_script_run.specs.SetUp.{StorageState, has_event, is_event, set_up, storage_in}
 use Rattle.ftp_script_run.specs.declared.run.Run.{Run}
 use Rattle.ftp_script_run.specs.Items.{events_in, options_in, new_link, link_in, links_in}
 use Rattle.ftp_script_run.specs.Legal.{memory_views, start_of, FailsAsListed, IsLegal}
-use Rattle.ftp_script_run.specs.Runs.{outside, HasRun, Keeps, MayTake}
-use Rattle.ftp_script_run.proofs.ItemLemmas.{options_in-other, IsUnsaid, unsaid, is_some-links_in, links_in-other, links_in-link, storage_in-more}
-use Rattle.ftp_script_run.proofs.LegalLemmas.{events-other, events-more, no-entry}
-use Rattle.ftp_script_run.proofs.LeadsLemmas.{leads-numbers, with_link, leads-framed, LimitsFall, leads-limits}
+use Rattle.ftp_script_run.specs.Resumed.{HasState, IsLegalBehind}
+use Rattle.ftp_script_run.specs.Runs.{Before, AreOptions, events_before, outside, HasRun, Keeps, MayGoOn}
+use Rattle.ftp_script_run.proofs.ItemLemmas.{events_in-append, options_in-other, IsUnsaid, unsaid, is_some-links_in, links_in-other, links_in-link, storage_in-more}
+use Rattle.ftp_script_run.proofs.LegalLemmas.{events-other, no-entry, no_events}
+use Rattle.ftp_script_run.proofs.LeadsLemmas.{with_link, leads-framed, LimitsFall, leads-limits}
 
 -- ---- what is kept
 
 -- without an entry no connection is asked for
-no_links : (o : Options) (links : Numbered LinkState) → HasLinks o (past_of []) links
+pub no_links : (o : Options) (links : Numbered LinkState) → HasLinks o (past_of []) links
 no_links o links = record { slots = λ s n x. cc; jobs = λ s job x. cc }
 
--- without an event nothing was run
-at-start : (run : Run) (items : List Item) (log : List Entry) → Keeps run items log → has_event items ≡ false → outside run ≡ start_of items
-at-start run items log kept none =
-    subst (λ (entries : List Entry). Leads memory_views (options_of run.hub) [] entries (start_of items) (outside run)) (no-entry items log kept.events none) kept.hub.led
+-- the hub of a script that begins anew
+pub anew : (run : Run) (items : List Item) (log : List Entry) → Keeps None run items log → HasRun run.hub [] items log (outside run)
+anew run items log kept = kept.hub [] refl
 
-pub kept-storage : (run : Run) (items : List Item) (log : List Entry) → Keeps run items log → has_event items ≡ false → run.storage ≡ storage_in items
-kept-storage run items log kept none = ap (λ (x : Outside StorageState LinkState). x.storage) (at-start run items log kept none)
+-- it stands for the log
+pub stands-anew : (run : Run) (items : List Item) (log : List Entry) → Keeps None run items log → Stands run.hub log
+stands-anew run items log kept = subst (Stands run.hub) (append-nil log) (anew run items log kept).stands
 
--- the links are those of the items
-pub kept-numbers : (run : Run) (items : List Item) (log : List Entry) (n : ℕ) → Keeps run items log → is_linked run.links n ≡ has_link n items
-kept-numbers run items log n kept = leads-numbers memory_views (options_of run.hub) [] log (start_of items) (outside run) n kept.hub.led ∙ is_some-links_in items n
+pub kept-storage : (before : Before) (run : Run) (items : List Item) (log : List Entry) → Keeps before run items log → has_event items ≡ false → run.storage ≡ storage_in items
+kept-storage before run items log kept none = ap (λ (x : Outside StorageState LinkState). x.storage) (kept.start none)
+
+-- until an event comes the links are those of the items
+pub kept-numbers : (before : Before) (run : Run) (items : List Item) (log : List Entry) (n : ℕ) → Keeps before run items log → has_event items ≡ false → is_linked run.links n ≡ has_link n items
+kept-numbers before run items log n kept none = ap (λ (x : Outside StorageState LinkState). is_linked x.links n) (kept.start none) ∙ is_some-links_in items n
 
 -- no more calls failed than the items list
-pub kept-listed : (run : Run) (items : List Item) (log : List Entry) → Keeps run items log → FailsAsListed (start_of items) (outside run)
-kept-listed run items log kept = record {
+pub kept-listed : (hub : Hub) (front : List Entry) (items : List Item) (log : List Entry) (now : Outside StorageState LinkState) → HasRun hub front items log now → FailsAsListed (start_of items) now
+kept-listed hub front items log now h = record {
   storage = omega (arith, falls.storage);
   links = λ n before after was there.
       (let found = falls.links n after there in
@@ -59,124 +69,194 @@ kept-listed run items log kept = record {
       let limit = subst (λ (x : LinkState). link_fault_limit after.calls ≤ link_fault_limit x.calls) same found.2.limit in
       omega (arith, limit));
 } where
-  falls : LimitsFall memory_views (start_of items) (outside run)
-  falls = leads-limits memory_views (options_of run.hub) [] log (start_of items) (outside run) kept.hub.led
+  falls : LimitsFall memory_views (start_of items) now
+  falls = leads-limits memory_views (options_of hub) front log (start_of items) now h.led
 
-pub kept-legal : (run : Run) (items : List Item) (log : List Entry) → Keeps run items log → IsLegal items log run.links run.storage
+abbrev pub kept-legal : (run : Run) (items : List Item) (log : List Entry) → Keeps None run items log → IsLegal items log run.links run.storage
 kept-legal run items log kept = record {
   events = kept.events;
   due = record {
     options = options_of run.hub;
-    set = kept.hub.options;
-    right = kept.hub.stands.right;
-    acted = kept.hub.stands.acted;
-    led = kept.hub.led;
+    set = kept.options;
+    right = (stands-anew run items log kept).right;
+    acted = (stands-anew run items log kept).acted;
+    led = (anew run items log kept).led;
   };
-  listed = kept-listed run items log kept;
+  listed = kept-listed run.hub [] items log (outside run) (anew run items log kept);
+}
+
+-- behind every log that may have come before
+pub legal-behind : (o : Options) (x : HubState) (run : Run) (items : List Item) (log : List Entry) → Keeps (Some (o, x)) run items log → IsLegalBehind o x items log run.links run.storage
+legal-behind o x run items log kept = record {
+  events = kept.events;
+  due = λ front has.
+      (let h = kept.hub front has in
+      record {
+        right = subst (λ (p : Options). IsRight p (log ++ front)) kept.options h.stands.right;
+        acted = subst (λ (p : Options). IsActed p (log ++ front)) kept.options h.stands.acted;
+        led = subst (λ (p : Options). Leads memory_views p front log (start_of items) (outside run)) kept.options h.led;
+        listed = kept-listed run.hub front items log (outside run) h;
+      });
 }
 
 -- the text that is written next is not asked for
-pub keeps-text : (old new : Run) (items : List Item) (log : List Entry) → new.hub ≡ old.hub → outside new ≡ outside old → Keeps old items log → Keeps new items log
-keeps-text old new items log hub same kept = record {
+pub keeps-text : (before : Before) (old new : Run) (items : List Item) (log : List Entry) → new.hub ≡ old.hub → outside new ≡ outside old → Keeps before old items log → Keeps before new items log
+keeps-text before old new items log hub same kept = record {
   events = kept.events;
-  hub = subst (λ (h : Hub). HasRun h items log (outside new)) (sym hub) (subst (HasRun old.hub items log) (sym same) kept.hub);
+  options = subst (λ (h : Hub). AreOptions before items (options_of h)) (sym hub) kept.options;
+  count = ap count_of hub ∙ kept.count;
+  start = λ none. same ∙ kept.start none;
+  links = λ n has. subst (λ (x : Outside StorageState LinkState). is_linked x.links n ≡ true) (sym same) (kept.links n has);
+  hub = λ front may. subst (λ (h : Hub). HasRun h front items log (outside new)) (sym hub) (subst (HasRun old.hub front items log) (sym same) (kept.hub front may));
 }
+
+-- ---- one more item that is no event
+
+either : (a b : Bool) → (a || b) ≡ true → (a ≡ true) ⊎ (b ≡ true)
+either true b e = inl refl
+either false b e = inr e
+
+neither : (a b : Bool) → (a || b) ≡ false → a ≡ false
+neither true b e = absurd cc
+neither false b e = refl
+
+-- where no event is among more items, none is among the first
+none-before : (items more : List Item) → has_event (items ++ more) ≡ false → has_event items ≡ false
+none-before items more none = neither (has_event items) (has_event more) (sym (list_any-append is_event items more) ∙ none)
+
+-- a link of more items is one of the first, or of the others
+pub link-either : (n : ℕ) (items more : List Item) → has_link n (items ++ more) ≡ true → (has_link n items ≡ true) ⊎ (has_link n more ≡ true)
+link-either n items more has = either (has_link n items) (has_link n more) (sym (list_any-append (is_link n) items more) ∙ has)
+
+-- the options stay where no others are set
+pub options-stay : (before : Before) (items more : List Item) (o : Options) → options_in more ≡ options_in items → AreOptions before items o → AreOptions before more o
+options-stay None items more o same are = are ∙ sym same
+options-stay (Some b) items more o same are = are
 
 -- what one more item, no event, changes at the start is changed now
 record Moves (items more : List Item) (log : List Entry) (old new : Outside StorageState LinkState) : Type 0 where
   linked : (n : ℕ) → is_linked old.links n ≡ true → is_linked new.links n ≡ true
-  led : (o : Options) → Leads memory_views o [] log (start_of items) old → Leads memory_views o [] log (start_of more) new
+  led : (o : Options) (front : List Entry) → Leads memory_views o front log (start_of items) old → Leads memory_views o front log (start_of more) new
 
-hub-moves : (hub : Hub) (items more : List Item) (log : List Entry) (old new : Outside StorageState LinkState) →
-    options_in more ≡ options_in items →
+linked-still : (o : Options) (log : List Entry) (past : List Entry) (old new : Numbered LinkState) → ((n : ℕ) → is_linked old n ≡ true → is_linked new n ≡ true) →
+    (log ≡ []) ⊎ HasLinks o past old → (log ≡ []) ⊎ HasLinks o past new
+linked-still o log past old new more (inl none) = inl none
+linked-still o log past old new more (inr has) = inr (record {
+  slots = λ s n x. more n (has.slots s n x);
+  jobs = λ s r x. more r.job.number (has.jobs s r x);
+})
+
+hub-moves : (hub : Hub) (front : List Entry) (items more : List Item) (log : List Entry) (old new : Outside StorageState LinkState) →
     Moves items more log old new →
-    HasRun hub items log old →
-    HasRun hub more log new
-hub-moves hub items more log old new same moves h = record {
-  options = h.options ∙ sym same;
+    HasRun hub front items log old →
+    HasRun hub front more log new
+hub-moves hub front items more log old new moves h = record {
   stands = h.stands;
-  has_links = record {
-    slots = λ s n x. moves.linked n (h.has_links.slots s n x);
-    jobs = λ s r x. moves.linked r.job.number (h.has_links.jobs s r x);
-  };
-  led = moves.led (options_of hub) h.led;
+  has_links = linked-still (options_of hub) log (past_of (log ++ front)) old.links new.links moves.linked h.has_links;
+  led = moves.led (options_of hub) front h.led;
 }
 
 -- an item that is no event and sets no options
-keeps-other : (old new : Run) (items : List Item) (log : List Entry) (i : Item) →
+keeps-other : (before : Before) (old new : Run) (items : List Item) (log : List Entry) (i : Item) →
     events_in (i ∷ []) ≡ [] →
     options_in (i ∷ []) ≡ defaults →
     new.hub ≡ old.hub →
+    (outside old ≡ start_of items → outside new ≡ start_of (items ++ i ∷ [])) →
+    ((n : ℕ) → has_link n (i ∷ []) ≡ true → is_linked new.links n ≡ true) →
     Moves items (items ++ i ∷ []) log (outside old) (outside new) →
-    Keeps old items log →
-    Keeps new (items ++ i ∷ []) log
-keeps-other old new items log i no_event none hub moves kept = record {
+    Keeps before old items log →
+    Keeps before new (items ++ i ∷ []) log
+keeps-other before old new items log i no_event none hub start link moves kept = record {
   events = events-other items log i no_event kept.events;
-  hub =
-      subst (λ (h : Hub). HasRun h (items ++ i ∷ []) log (outside new)) (sym hub)
-      (hub-moves old.hub items (items ++ i ∷ []) log (outside old) (outside new) (options_in-other items i none) moves kept.hub);
-}
+  options =
+      subst (λ (h : Hub). AreOptions before more (options_of h)) (sym hub)
+      (options-stay before items more (options_of old.hub) (options_in-other items i none) kept.options);
+  count = ap count_of hub ∙ kept.count ∙ ap (λ (es : List HubEvent). events_before before + length es) (sym (events_in-append items (i ∷ []) ∙ ap (λ (es : List HubEvent). events_in items ++ es) no_event ∙ append-nil (events_in items)));
+  start = λ quiet. start (kept.start (none-before items (i ∷ []) quiet));
+  links = λ n has. by n (link-either n items (i ∷ []) has);
+  hub = λ front may.
+      subst (λ (h : Hub). HasRun h front more log (outside new)) (sym hub)
+      (hub-moves old.hub front items more log (outside old) (outside new) moves (kept.hub front may));
+} where
+  more : List Item
+  more = items ++ i ∷ []
+
+  by : (n : ℕ) → (has_link n items ≡ true) ⊎ (has_link n (i ∷ []) ≡ true) → is_linked new.links n ≡ true
+  by n (inl has) = moves.linked n (kept.links n has)
+  by n (inr has) = link n has
 
 -- what an item that is no link sets up
-start-more : (items : List Item) (i : Item) → link_in i ≡ None → start_of (items ++ i ∷ []) ≡ record { storage = set_up (storage_in items) i; links = links_in items }
+pub start-more : (items : List Item) (i : Item) → link_in i ≡ None → start_of (items ++ i ∷ []) ≡ record { storage = set_up (storage_in items) i; links = links_in items }
 start-more items i no_link = λ k. record { storage = storage_in-more items i k; links = links_in-other items i no_link k }
 
 -- where nothing more is set up, nothing changes
 stays : (items more : List Item) (log : List Entry) (now : Outside StorageState LinkState) → start_of more ≡ start_of items → Moves items more log now now
 stays items more log now same = record {
   linked = λ n has. has;
-  led = λ o led. subst (λ (start : Outside StorageState LinkState). Leads memory_views o [] log start now) (sym same) led;
+  led = λ o front led. subst (λ (start : Outside StorageState LinkState). Leads memory_views o front log start now) (sym same) led;
 }
 
-pub keeps-skip : (run : Run) (items : List Item) (log : List Entry) → Keeps run items log → Keeps run (items ++ item.Skip ∷ []) log
-keeps-skip run items log kept =
-    keeps-other run run items log item.Skip refl refl refl (stays items (items ++ item.Skip ∷ []) log (outside run) (start-more items item.Skip refl)) kept
+pub keeps-skip : (before : Before) (run : Run) (items : List Item) (log : List Entry) → Keeps before run items log → Keeps before run (items ++ item.Skip ∷ []) log
+keeps-skip before run items log kept =
+    let same = start-more items item.Skip refl in
+    keeps-other before run run items log item.Skip refl refl refl (λ was. was ∙ sym same) (λ n has. absurd cc) (stays items (items ++ item.Skip ∷ []) log (outside run) same) kept
 
 -- an item that sets up the storage, before all events
-pub keeps-stored : (old new : Run) (items : List Item) (log : List Entry) (i : Item) →
+pub keeps-stored : (before : Before) (old new : Run) (items : List Item) (log : List Entry) (i : Item) →
     events_in (i ∷ []) ≡ [] →
     options_in (i ∷ []) ≡ defaults →
     link_in i ≡ None →
+    ((n : ℕ) → has_link n (i ∷ []) ≡ false) →
     has_event items ≡ false →
     new.hub ≡ old.hub →
     new.links ≡ old.links →
     new.storage ≡ set_up old.storage i →
-    Keeps old items log →
-    Keeps new (items ++ i ∷ []) log
-keeps-stored old new items log i no_event none no_link first hub links storage kept =
-    keeps-other old new items log i no_event none hub
+    Keeps before old items log →
+    Keeps before new (items ++ i ∷ []) log
+keeps-stored before old new items log i no_event none no_link no_number first hub links storage kept =
+    keeps-other before old new items log i no_event none hub now
+    (λ n has. let never = no_number n in absurd cc)
     (record {
       linked = λ n has. subst (λ (l : Numbered LinkState). is_linked l n ≡ true) (sym links) has;
-      led = λ o led. subst (λ (entries : List Entry). Leads memory_views o [] entries (start_of (items ++ i ∷ [])) (outside new)) (sym empty) now;
+      led = λ o front led. subst (λ (entries : List Entry). Leads memory_views o front entries (start_of (items ++ i ∷ [])) (outside new)) (sym empty) (now (kept.start first));
     })
     kept where
       empty : log ≡ []
       empty = no-entry items log kept.events first
 
-      was : outside old ≡ start_of items
-      was = at-start old items log kept first
-
-      now : outside new ≡ start_of (items ++ i ∷ [])
-      now =
+      now : outside old ≡ start_of items → outside new ≡ start_of (items ++ i ∷ [])
+      now was =
           (λ k. record { storage = storage k; links = links k })
           ∙ ap (λ (x : Outside StorageState LinkState). record { storage = set_up x.storage i; links = x.links }) was
           ∙ sym (start-more items i no_link)
 
-pub keeps-link : (old new : Run) (items : List Item) (log : List Entry) (n chunk : ℕ) (fails : List (ℕ × LinkFault)) (bytes : List ℕ) →
+-- a link that was put has its number
+linked-at : (n m : ℕ) (links : Numbered LinkState) (link : LinkState) → (nat_eq n m || false) ≡ true → is_linked (map.insert links m link) n ≡ true
+linked-at n m links link has = put-found n m links link (eqb-true n m (or-false (nat_eq n m) has)) where
+  or-false : (b : Bool) → (b || false) ≡ true → b ≡ true
+  or-false true e = refl
+  or-false false e = absurd cc
+
+  put-found : (n m : ℕ) (links : Numbered LinkState) (link : LinkState) → n ≡ m → is_linked (map.insert links m link) n ≡ true
+  put-found n m links link same = ap (λ (q : ℕ). is_linked (map.insert links m link) q) same ∙ ap is_some (get-insert-same links m link)
+
+pub keeps-link : (before : Before) (old new : Run) (items : List Item) (log : List Entry) (n chunk : ℕ) (fails : List (ℕ × LinkFault)) (bytes : List ℕ) →
     new.hub ≡ old.hub →
     new.links ≡ map.insert old.links n (new_link chunk fails bytes) →
     new.storage ≡ old.storage →
     may_stand items (item.Link n chunk fails bytes) ≡ true →
-    Keeps old items log →
-    Keeps new (items ++ item.Link n chunk fails bytes ∷ []) log
-keeps-link old new items log n chunk fails bytes hub put storage stands kept =
-    keeps-other old new items log (item.Link n chunk fails bytes) refl refl hub
+    Keeps before old items log →
+    Keeps before new (items ++ item.Link n chunk fails bytes ∷ []) log
+keeps-link before old new items log n chunk fails bytes hub put storage stands kept =
+    keeps-other before old new items log (item.Link n chunk fails bytes) refl refl hub
+    (λ was. now ∙ ap framed was ∙ sym start)
+    (λ q has. subst (λ (l : Numbered LinkState). is_linked l q ≡ true) (sym put) (linked-at q n old.links link has))
     (record {
       linked = λ q has. subst (λ (l : Numbered LinkState). is_linked l q ≡ true) (sym put) (insert-linked old.links n q link has);
-      led = λ o led.
-          subst (Leads memory_views o [] log (start_of more)) (sym now)
-          (subst (λ (x : Outside StorageState LinkState). Leads memory_views o [] log x (framed (outside old))) (sym start)
-          (leads-framed memory_views o [] log (start_of items) (outside old) n link (is_some-links_in items n ∙ unused) led));
+      led = λ o front led.
+          subst (Leads memory_views o front log (start_of more)) (sym now)
+          (subst (λ (x : Outside StorageState LinkState). Leads memory_views o front log x (framed (outside old))) (sym start)
+          (leads-framed memory_views o front log (start_of items) (outside old) n link (is_some-links_in items n ∙ unused) led));
     })
     kept where
       link : LinkState
@@ -201,24 +281,28 @@ keeps-link old new items log n chunk fails bytes hub put storage stands kept =
 pub keeps-options : (old new : Run) (items : List Item) (log : List Entry) (i : Item) →
     events_in (i ∷ []) ≡ [] →
     link_in i ≡ None →
+    ((n : ℕ) → has_link n (i ∷ []) ≡ false) →
     set_up (storage_in items) i ≡ storage_in items →
     list_any says items ≡ false →
     settings_of (options_of new.hub) ≡ options_in (i ∷ []) →
     Stands new.hub [] →
+    count_of new.hub ≡ 0 →
     outside new ≡ outside old →
-    Keeps old items log →
-    Keeps new (items ++ i ∷ []) log
-keeps-options old new items log i no_event no_link no_set_up first set stands same kept =
+    Keeps None old items log →
+    Keeps None new (items ++ i ∷ []) log
+keeps-options old new items log i no_event no_link no_number no_set_up first set stands count same kept =
     record {
       events = events-other items log i no_event kept.events;
-      hub =
-          subst (λ (entries : List Entry). HasRun new.hub more entries (outside new)) (sym empty)
-          (record {
-            options = set ∙ sym (none.first (i ∷ []));
-            stands = stands;
-            has_links = no_links (options_of new.hub) new.links;
-            led = same ∙ at-start old items log kept none.no_event ∙ sym start;
-          });
+      options = set ∙ sym (none.first (i ∷ []));
+      count =
+          count
+          ∙ ap (λ (es : List HubEvent). 0 + length es) (sym (events_in-append items (i ∷ []) ∙ (λ k. no_events items none.no_event k ++ no_event k)));
+      start = λ quiet. now;
+      links = λ n has. by n (link-either n items (i ∷ []) has);
+      hub = λ front is.
+          subst (λ (f : List Entry). HasRun new.hub f more log (outside new)) (sym is)
+          (subst (λ (entries : List Entry). HasRun new.hub [] more entries (outside new)) (sym empty)
+          (record { stands = stands; has_links = inl refl; led = now }));
     } where
       more : List Item
       more = items ++ i ∷ []
@@ -232,47 +316,47 @@ keeps-options old new items log i no_event no_link no_set_up first set stands sa
       start : start_of more ≡ start_of items
       start = start-more items i no_link ∙ (λ k. record { storage = no_set_up k; links = links_in items })
 
--- ---- events
+      now : outside new ≡ start_of more
+      now = same ∙ kept.start none.no_event ∙ sym start
 
-covered-in : (run : Run) (items : List Item) (log : List Entry) (event : HubEvent) → Keeps run items log → may_stand items (item.Event event) ≡ true → is_covered (is_linked run.links) event.kind ≡ true
-covered-in run items log event kept stands = ap (λ (linked : ℕ → Bool). is_covered linked event.kind) (λ i n. kept-numbers run items log n kept i) ∙ stands
+      by : (n : ℕ) → (has_link n items ≡ true) ⊎ (has_link n (i ∷ []) ≡ true) → is_linked new.links n ≡ true
+      by n (inl has) = subst (λ (x : Outside StorageState LinkState). is_linked x.links n ≡ true) (sym same) (kept.links n has)
+      by n (inr has) = let never = no_number n in absurd cc
 
--- the connection that comes with an event is in the table
-pub covered : (run : Run) (event : HubEvent) → MayTake run (item.Event event) → IsTrue (is_covered (is_linked run.links) event.kind)
-covered run event may = covered-in run may.1.0 may.1.1 event may.1.2 may.1.3
+-- where a script goes on no options come
+pub keeps-options-at : (before : Before) (old new : Run) (items : List Item) (log : List Entry) (mode : ListenerMode) (lo hi : ℕ) (host : PassiveHost) (active : ActivePassiveMode) (idle : ℕ) (lockout : Option FailedLoginsPolicy) (restart : Bool) →
+    (Keeps None old items log → Keeps None new (items ++ item.Options mode lo hi host active idle lockout restart ∷ []) log) →
+    MayGoOn before old (item.Options mode lo hi host active idle lockout restart) →
+    Keeps before old items log →
+    Keeps before new (items ++ item.Options mode lo hi host active idle lockout restart ∷ []) log
+keeps-options-at None old new items log mode lo hi host active idle lockout restart keeps goes_on kept = keeps kept
+keeps-options-at (Some b) old new items log mode lo hi host active idle lockout restart keeps goes_on kept = absurd goes_on
 
-pub keeps-event : (old new : Run) (items : List Item) (log : List Entry) (event : HubEvent) (e : Entry) →
-    options_of new.hub ≡ options_of old.hub →
-    e.event ≡ event →
-    (Stands old.hub log → Stands new.hub (e ∷ log)) →
-    (Stands old.hub log →
-    has_link_of old.links (job_due (options_of old.hub) (past_of log) event.kind) ≡ true →
-    LeadsOne memory_views (options_of old.hub) (past_of log) e (outside old) (outside new)) →
-    ((n : ℕ) → is_linked old.links n ≡ true → is_linked new.links n ≡ true) →
-    may_stand items (item.Event event) ≡ true →
-    Keeps old items log →
-    Keeps new (items ++ item.Event event ∷ []) (e ∷ log)
-keeps-event old new items log event e same of_event stands leads linked may kept =
-    record {
-      events = events-more items log event e of_event kept.events;
-      hub = record {
-        options = ap settings_of same ∙ kept.hub.options ∙ sym (options_in-other items (item.Event event) refl);
-        stands = stands kept.hub.stands;
-        has_links =
-            links-more (options_of new.hub) e log old.links new.links (stands kept.hub.stands).right
-            (has_links-under _ _ (past_of log) old.links (sym same) kept.hub.has_links)
-            (subst (λ (x : HubEvent). is_covered (is_linked old.links) x.kind ≡ true) (sym of_event) (covered-in old items log event kept may))
-            linked;
-        led =
-            subst (λ (o : Options). Leads memory_views o [] (e ∷ log) (start_of more) (outside new)) (sym same)
-            (subst (λ (start : Outside StorageState LinkState). Leads memory_views (options_of old.hub) [] (e ∷ log) start (outside new))
-            (sym (start-more items (item.Event event) refl)) (
-              outside old,
-              kept.hub.led,
-              subst (λ (past : List Entry). LeadsOne memory_views (options_of old.hub) (past_of past) e (outside old) (outside new)) (sym (append-nil log))
-                  (leads kept.hub.stands (has_link_of-due (options_of old.hub) (past_of log) event.kind old.links kept.hub.has_links)),
-            ));
-      };
-    } where
-      more : List Item
-      more = items ++ item.Event event ∷ []
+-- ---- a run to which nothing came
+
+pub keeps-none : (run : Run) → settings_of (options_of run.hub) ≡ defaults → Stands run.hub [] → count_of run.hub ≡ 0 → outside run ≡ start_of [] → Keeps None run [] []
+keeps-none run set stands count same = record {
+  events = refl;
+  options = set;
+  count = count;
+  start = λ quiet. same;
+  links = λ n has. absurd cc;
+  hub = λ front is. subst (λ (f : List Entry). HasRun run.hub f [] [] (outside run)) (sym is) (record { stands = stands; has_links = inl refl; led = same });
+}
+
+-- a run that begins anew goes on from a state under its options
+pub keeps-state : (o : Options) (x : HubState) (old new : Run) →
+    options_of new.hub ≡ o →
+    ((front : List Entry) → HasState o front x → Stands new.hub front) →
+    count_of new.hub ≡ x.events →
+    outside new ≡ outside old →
+    outside old ≡ start_of [] →
+    Keeps (Some (o, x)) new [] []
+keeps-state o x old new options stands count same start = record {
+  events = refl;
+  options = options;
+  count = omega (arith, count);
+  start = λ none. same ∙ start;
+  links = λ n has. absurd cc;
+  hub = λ front has. record { stands = stands front has; has_links = inl refl; led = same ∙ start };
+}

@@ -110,19 +110,19 @@ continues-line_of before items taken more bytes others i bad lt count next on =
 -- ---- the steps of the reader
 
 -- before the first line
-pub start_told : (reader : ScriptReader) (buffer bytes : List ℕ) →
+pub start_told : (reader : ScriptReader) (buffer bytes : List ℕ) (left : Option (List ℕ)) →
     reader.number ≡ 0 →
     reader.taken ≡ 0 →
-    bytes_in buffer reader.held ≡ [] →
+    Rest (bytes_in buffer reader.held) left bytes →
     Remembers reader.admission [] →
-    HasRead [] bytes reader buffer (Some bytes)
-start_told reader buffer bytes number taken held known = record {
+    HasRead [] bytes reader buffer left
+start_told reader buffer bytes left number taken rest known = record {
   number = number;
   known = known;
   read = [];
   bytes = bytes;
   all_is = refl;
-  rest = ap (λ (h : List ℕ). h ++ bytes) held;
+  rest = rest;
   whole = inl (inl refl);
   items = record { lines = refl };
   same = at_once bytes;

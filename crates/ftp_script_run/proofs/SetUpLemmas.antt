@@ -1,6 +1,6 @@
 -- What sets up a storage or a link: it is made as its line says, and it is not refused.
-use Rattle.std.proofs.Common.{◌≡◌, ◌≢◌, ℕ, true, false, not, ◌&&◌, leb, ltb, List, [], Option, Some, None, is_some, length, refl, sym, ap, subst, ◌∙◌, arith}
-use Rattle.std.specs.Prelude.{is_none, Result, Err, IfErr}
+use Rattle.std.proofs.Common.{◌≡◌, ◌≢◌, ℕ, true, false, not, ◌&&◌, leb, ltb, List, [], Option, Some, None, length, refl, sym, ap, subst, ◌∙◌, arith}
+use Rattle.std.specs.Prelude.{is_none}
 use Rattle.std.specs.FinMap as map
 use Rattle.std.proofs.lemmas.Bool.{not-true, leb-true, and_parts}
 use Rattle.std.proofs.lemmas.Bool.Decides.{nat_tests}
@@ -12,21 +12,18 @@ use Rattle.ftp_base.specs.declared.storage.StoreError.TheVariants as store
 use Rattle.ftp_base.specs.MemoryStorage.{MemoryState, directory_refusal, file_refusal, if_directory, if_new, if_file, if_within}
 use Rattle.ftp_base.specs.Storage.{Files, parent, Refuses, item as item_at}
 use Rattle.ftp_base.specs.Storage as storage
-use Rattle.ftp_base.specs.declared.link_table.InsertError.{InsertError}
-use Rattle.ftp_base.specs.declared.link_table.InsertError.TheVariants.{Taken}
-use Rattle.ftp_base.specs.LinkTable.{link_of}
 use Rattle.ftp_base.specs.Memory.{LinkState}
 use Rattle.ftp_events.specs.declared.entry.Entry.{Entry}
 use Rattle.ftp_text.specs.declared.setup.Item.{Item}
 use Rattle.ftp_text.specs.declared.setup.Item.TheVariants as item
 use Rattle.ftp_audit.specs.Quota.{IsUnused}
-use Rattle.ftp_script_run.specs.Script.{has_link, has_stored, has_quota, has_no_budget, is_free, may_stand}
+use Rattle.ftp_script_run.specs.Script.{has_stored, has_quota, has_no_budget, is_free, may_stand}
 use Rattle.ftp_script_run.specs.SetUp.{StorageState, has_event, new_storage, storage_in}
 use Rattle.ftp_script_run.specs.declared.run.Run.{Run}
 use Rattle.ftp_script_run.specs.Items.{new_link}
-use Rattle.ftp_script_run.specs.Runs.{Keeps, MayTake}
+use Rattle.ftp_script_run.specs.Runs.{Before, Keeps, MayTake}
 use Rattle.ftp_script_run.proofs.ItemLemmas.{storage_in-unused}
-use Rattle.ftp_script_run.proofs.RunLemmas.{kept-storage, kept-numbers}
+use Rattle.ftp_script_run.proofs.RunLemmas.{kept-storage}
 
 -- ---- the storage
 
@@ -49,8 +46,8 @@ none_is None h = refl
 none_is (Some x) h = absurd cc
 
 -- a path is free in the storage where it is free by the items
-free_is : (run : Run) (items : List Item) (log : List Entry) (path : List ℕ) → Keeps run items log → has_event items ≡ false → is_free items path ≡ true → directory_refusal run.storage.inner.files path ≡ None
-free_is run items log path kept first free = ap (λ (s : StorageState). directory_refusal s.inner.files path) (kept-storage run items log kept first) ∙ none_is (directory_refusal (storage_in items).inner.files path) free
+free_is : (before : Before) (run : Run) (items : List Item) (log : List Entry) (path : List ℕ) → Keeps before run items log → has_event items ≡ false → is_free items path ≡ true → directory_refusal run.storage.inner.files path ≡ None
+free_is before run items log path kept first free = ap (λ (s : StorageState). directory_refusal s.inner.files path) (kept-storage before run items log kept first) ∙ none_is (directory_refusal (storage_in items).inner.files path) free
 
 -- a file is not refused where a directory is not, and it is not too long
 file_refusal-none : (files : Files) (max : ℕ) (path : List ℕ) (len : ℕ) → directory_refusal files path ≡ None → leb len max ≡ true → file_refusal files max path len ≡ None
@@ -82,36 +79,38 @@ pub budget_first : (items : List Item) (bytes : ℕ) (user : List ℕ) → may_s
 budget_first items bytes user may = not-true (has_event items) (and_parts (not (has_event items)) (has_quota items && has_no_budget items user) may).0
 
 -- before all events nobody owns a file
-unused_first : (run : Run) (items : List Item) (log : List Entry) → Keeps run items log → has_event items ≡ false → IsUnused run.storage.accounts
-unused_first run items log kept first =
-    subst (λ (s : StorageState). IsUnused s.accounts) (sym (kept-storage run items log kept first)) (storage_in-unused items)
+unused_first : (before : Before) (run : Run) (items : List Item) (log : List Entry) → Keeps before run items log → has_event items ≡ false → IsUnused run.storage.accounts
+unused_first before run items log kept first =
+    subst (λ (s : StorageState). IsUnused s.accounts) (sym (kept-storage before run items log kept first)) (storage_in-unused items)
 
 pub storage_unused : (run : Run) (max : ℕ) (fails : List ℕ) → MayTake run (item.Storage max fails) → IsUnused run.storage.accounts
-storage_unused run max fails may = unused_first run may.1.0 may.1.1 may.1.2 (storage_first may.1.0 max fails may.1.3)
+storage_unused run max fails may = unused_first may.1.0 run may.1.1 may.1.2 may.1.3 (storage_first may.1.1 max fails may.1.4.stands)
 
 pub dir_unused : (run : Run) (path : List ℕ) → MayTake run (item.Dir path) → IsUnused run.storage.accounts
-dir_unused run path may = unused_first run may.1.0 may.1.1 may.1.2 (dir_first may.1.0 path may.1.3)
+dir_unused run path may = unused_first may.1.0 run may.1.1 may.1.2 may.1.3 (dir_first may.1.1 path may.1.4.stands)
 
 pub file_unused : (run : Run) (bytes path : List ℕ) → MayTake run (item.File bytes path) → IsUnused run.storage.accounts
-file_unused run bytes path may = unused_first run may.1.0 may.1.1 may.1.2 (file_first may.1.0 bytes path may.1.3)
+file_unused run bytes path may = unused_first may.1.0 run may.1.1 may.1.2 may.1.3 (file_first may.1.1 bytes path may.1.4.stands)
 
 -- a directory that comes is not refused
 pub dir_taken : (run : Run) (path : List ℕ) → MayTake run (item.Dir path) → directory_refusal run.storage.inner.files path ≡ None
 dir_taken run path may =
-    let items = may.1.0 in
-    free_is run items may.1.1 path may.1.2 (dir_first items path may.1.3) (and_parts (not (has_event items)) (is_free items path) may.1.3).1
+    let items = may.1.1 in
+    let stands = may.1.4.stands in
+    free_is may.1.0 run items may.1.2 path may.1.3 (dir_first items path stands) (and_parts (not (has_event items)) (is_free items path) stands).1
 
 -- a file that comes is not refused
 pub file_taken : (run : Run) (bytes path : List ℕ) → MayTake run (item.File bytes path) → file_refusal run.storage.inner.files run.storage.inner.max_file path (length bytes) ≡ None
 file_taken run bytes path may =
-    let items = may.1.0 in
-    let kept = may.1.2 in
-    let first = file_first items bytes path may.1.3 in
-    let fits = (and_parts (not (has_event items)) (is_free items path && leb (length bytes) (storage_in items).inner.max_file) may.1.3).1 in
+    let items = may.1.1 in
+    let kept = may.1.3 in
+    let stands = may.1.4.stands in
+    let first = file_first items bytes path stands in
+    let fits = (and_parts (not (has_event items)) (is_free items path && leb (length bytes) (storage_in items).inner.max_file) stands).1 in
     let parts = and_parts (is_free items path) (leb (length bytes) (storage_in items).inner.max_file) fits in
     file_refusal-none run.storage.inner.files run.storage.inner.max_file path (length bytes)
-    (free_is run items may.1.1 path kept first parts.0)
-    (ap (λ (s : StorageState). leb (length bytes) s.inner.max_file) (kept-storage run items may.1.1 kept first) ∙ parts.1)
+    (free_is may.1.0 run items may.1.2 path kept first parts.0)
+    (ap (λ (s : StorageState). leb (length bytes) s.inner.max_file) (kept-storage may.1.0 run items may.1.2 kept first) ∙ parts.1)
 
 -- what is not refused and does not fail is stopped by want of memory alone
 pub not_refused : (refusal : Option ErrorKind) (e : StoreError) → refusal ≡ None → Refuses refusal e → e ≢ store.Failed → e ≡ store.OutOfMemory
@@ -140,24 +139,3 @@ new_link-is l chunk fails bytes left sent closed last_fault moved made faults fa
   chunk = moved i;
   calls = record { made = made i; faults = faults i; failing = failing i };
 }
-
--- a link that comes has a new number
-pub new_number : (old : Run) (n chunk : ℕ) (fails : List (ℕ × LinkFault)) (bytes : List ℕ) → MayTake old (item.Link n chunk fails bytes) → is_some (map.get old.links n) ≡ false
-new_number old n chunk fails bytes may =
-    let items = may.1.0 in
-    kept-numbers old items may.1.1 n may.1.2
-    ∙ not-true (has_link n items) may.1.3
-
--- a table that has no link of this number does not refuse it as taken
-pub not_taken : {T : Type 0} (r : Result T (InsertError LinkState)) (e : InsertError LinkState) (x link : LinkState) (there : Option LinkState) →
-    r ≡ Err e →
-    e ≡ Taken x →
-    IfErr r (λ f. link_of f ≡ link) →
-    (r ≡ Err (Taken link) → is_some there ≡ true) →
-    is_some there ≡ false →
-    ⊥
-not_taken r e x link there is e_is returned taken none =
-    let given : link_of e ≡ link = subst (λ (q : Result _ (InsertError LinkState)). IfErr q (λ f. link_of f ≡ link)) is returned in
-    let same : x ≡ link = sym (ap link_of e_is) ∙ given in
-    let found : is_some there ≡ true = taken (is ∙ ap Err (e_is ∙ ap Taken same)) in
-    absurd cc

@@ -2,7 +2,7 @@
 use Rattle.std.specs.Coded.{le_prop}
 use Rattle.std.specs.Prelude.{Result, Ok, Err, OnOk, IfOk, codes}
 use Rattle.std.specs.List.{flat_map, range_with_len}
-use Rattle.std.proofs.Common.{◌≡◌, ℕ, zero, suc, ◌+◌, ◌-◌, ◌*◌, ◌<◌, ◌≤◌, ◌^◌, false, List, [], ◌∷◌, ◌++◌, length, map, reverse, None, refl, sym, ap, subst, ◌∙◌, append_assoc, length-append, arith}
+use Rattle.std.proofs.Common.{◌≡◌, ℕ, zero, suc, ◌+◌, ◌-◌, ◌*◌, ◌≤◌, false, List, [], ◌∷◌, ◌++◌, length, map, reverse, refl, sym, ap, subst, ◌∙◌, append_assoc, length-append, arith}
 use Rattle.std.proofs.lemmas.List.{append-nil, map-append, reverse-append}
 use Rattle.std.proofs.lemmas.Grind.{flat_map-append}
 use Rattle.ftp_base.specs.declared.login.AuthAnswer.TheVariants.{Good}
@@ -21,8 +21,8 @@ use Rattle.ftp_hub.proofs.Refusals.{stands-same}
 use Rattle.ftp_script_run.specs.declared.stress_run.Run.{Run}
 use Rattle.ftp_script_run.specs.Draws.{stirred, stirred_by, given}
 use Rattle.ftp_script_run.specs.Events.{client, called, login_of, chosen, drawn, unasked}
-use Rattle.ftp_script_run.specs.Counts.{AreCounts, count_lines}
-use Rattle.ftp_script_run.specs.Stress.{stress_options, log_after, stress_lines}
+use Rattle.ftp_script_run.specs.Counts.{AreCounts}
+use Rattle.ftp_script_run.specs.Stress.{stress_options, log_after}
 use Rattle.ftp_script_run.specs.Keeping.{Keeps, HasPlace, Takes}
 
 -- ---- the options

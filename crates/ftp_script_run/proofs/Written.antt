@@ -55,6 +55,10 @@ front-whole (Some w) new a b h = (
   h ∙ ap (λ (x : List ℕ). Some (w ++ x)) (sym (take_at a b (length a) refl)),
 )
 
+-- a whole text is a part of itself
+pub front-all : (old new : Option (List ℕ)) (a : List ℕ) → Writes old new a → WritesFront old new a
+front-all old new a h = subst (WritesFront old new) (append-nil a) (front-whole old new a [] h)
+
 -- the lines of one entry
 pub log_lines-one : (e : Entry) → log_lines (e ∷ []) ≡ entry_lines e
 log_lines-one e = append-nil (entry_lines e)

@@ -1,5 +1,5 @@
 -- What an audit of a script has read and written, by the status of its run.
-use Rattle.std.specs.Prelude.{◌≡◌, ℕ, ◌⊎◌, List, [], ◌∷◌, ◌++◌, Option, Some, None, IfSome}
+use Rattle.std.specs.Prelude.{◌≡◌, ℕ, ◌⊎◌, List, [], ◌++◌, Option, Some, None, IfSome}
 use Rattle.std.specs.List.{flat_map}
 use Rattle.ftp_base.specs.LinkTable.{Numbered}
 use Rattle.ftp_base.specs.Memory.{LinkState}
@@ -26,14 +26,14 @@ use Rattle.ftp_script_run.specs.Runs.{Keeps}
 
 -- an item was taken behind others, and the audit has heard the entries that came
 abbrev pub IsNoted : Run → List Item → List Entry → AuditState → Type 0
-IsNoted run items log audit = (entries : List Entry) × Keeps run items (entries ++ log) × HasHeard audit (entries ++ log)
+IsNoted run items log audit = (entries : List Entry) × Keeps None run items (entries ++ log) × HasHeard audit (entries ++ log)
 
 -- items were read and their log was heard, on the way through these bytes, where they are told
 pub record Hearing (all : Option (List ℕ)) (reader : ScriptReader) (run : Run) (audit : AuditState) (buffer : List ℕ) (left : Option (List ℕ)) : Type 0 where
   pub items : List Item
   pub log : List Entry
   pub known : Follows reader items
-  pub kept : Keeps run items log
+  pub kept : Keeps None run items log
   pub heard : HasHeard audit log
   pub read : IfSome all (λ bytes. HasRead items bytes reader buffer left)
 

@@ -3,14 +3,17 @@ use Rattle.std.specs.Prelude.{◌≡◌, ℕ, ◌^◌, ◌<◌, ◌≤◌, List,
 use Rattle.ftp_script_run.specs.Stress.{stress_lines}
 use Rattle.ftp_script_run.specs.declared.telling.TheConstants.{HELP, VERSION}
 use Rattle.ftp_script_run.specs.declared.command.Command.{Command}
-use Rattle.ftp_script_run.specs.declared.command.Command.TheVariants.{Script, Audit, Tell}
+use Rattle.ftp_script_run.specs.declared.command.Command.TheVariants.{Run, Audit, Resume, Tell}
+use Rattle.ftp_script_run.specs.declared.command.Ending.TheVariants.{LinksAndFiles, State}
 use Rattle.ftp_script_run.specs.declared.command.Told.{Told}
 use Rattle.ftp_script_run.specs.declared.command.Told.TheVariants.{Stress, Help, Version}
 
 -- how a command is spelled, word by word
 abbrev pub words_of : Command → List (List ℕ)
-words_of Script = codes "script" ∷ []
+words_of (Run LinksAndFiles) = codes "script" ∷ []
+words_of (Run State) = codes "save" ∷ []
 words_of Audit = codes "audit" ∷ []
+words_of Resume = codes "resume" ∷ []
 words_of (Tell (Stress seed sessions)) = codes "stress" ∷ decimal seed ∷ decimal sessions ∷ []
 words_of (Tell Help) = codes "--help" ∷ []
 words_of (Tell Version) = codes "--version" ∷ []

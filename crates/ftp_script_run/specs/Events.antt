@@ -1,5 +1,5 @@
 -- The events of a stress run: the logins of all sessions, and then PASVs, data connections and ABORs as they are drawn.
-use Rattle.std.specs.Prelude.{ℕ, ◌+◌, ◌-◌, ◌*◌, ◌%◌, ◌==◌, List, [], ◌∷◌, ◌++◌, map, flat_map, reverse, codes, None}
+use Rattle.std.specs.Prelude.{ℕ, ◌+◌, ◌-◌, ◌*◌, ◌%◌, ◌==◌, List, [], ◌∷◌, ◌++◌, map, flat_map, codes, None}
 use Rattle.std.specs.List.{range_with_len}
 use Rattle.ftp_base.specs.declared.login.AuthAnswer.TheVariants.{Good}
 use Rattle.ftp_base.specs.declared.net.IpAddr.TheVariants.{V4}

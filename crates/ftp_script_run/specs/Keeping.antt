@@ -1,5 +1,5 @@
 -- What a run keeps while it goes on.
-use Rattle.std.specs.Prelude.{◌≡◌, ℕ, ◌<◌, ◌+◌, ◌^◌, List, [], ◌∷◌, ◌++◌, length}
+use Rattle.std.specs.Prelude.{◌≡◌, ℕ, ◌<◌, ◌+◌, ◌^◌, List, ◌++◌, length}
 use Rattle.ftp_events.specs.declared.event.EventKind.{EventKind}
 use Rattle.ftp_hub.specs.Stands.{Stands, options_of, count_of}
 use Rattle.ftp_script_run.specs.declared.stress_run.Run.{Run}

@@ -13,8 +13,12 @@ pub mod Left
 pub mod Legal
 pub mod Statuses
 pub mod Outcome
+pub mod Fitting
+pub mod Resumed
 pub mod Runs
+pub mod Resuming
 pub mod Audited
+pub mod Saved
 pub mod Clean
 pub mod Determined
 pub mod Listed

@@ -1,16 +1,24 @@
 -- What was read and what was written, by the status of a run.
-use Rattle.std.specs.Prelude.{◌≡◌, ℕ, List, [], ◌∷◌, ◌++◌, codes, reverse, Option, Some, None}
+use Rattle.std.specs.Prelude.{◌≡◌, ◌⊎◌, ℕ, List, [], ◌∷◌, ◌++◌, codes, reverse, Option, Some, None}
 use Rattle.ftp_base.specs.LinkTable.{Numbered}
 use Rattle.ftp_base.specs.Memory.{LinkState}
 use Rattle.ftp_base.specs.Outside.{Writes}
+use Rattle.ftp_options.specs.declared.options.Options.{Options}
 use Rattle.ftp_events.specs.declared.entry.Entry.{Entry}
+use Rattle.ftp_hub.specs.declared.state.HubState.{HubState}
+use Rattle.ftp_hub.specs.State.{AreMadeBy, IsState}
 use Rattle.ftp_control.specs.Writing.{WritesFront}
 use Rattle.ftp_text.specs.Fields.{number}
 use Rattle.ftp_text.specs.declared.setup.Item.{Item}
 use Rattle.ftp_text.specs.Printing.{print}
+use Rattle.ftp_checkpoint.specs.declared.line.StateLine.{StateLine}
+use Rattle.ftp_checkpoint.specs.Grammar.{AreStateLines}
+use Rattle.ftp_checkpoint.specs.StateText.{state_text}
 use Rattle.ftp_script_run.specs.Script.{IsScriptOf}
 use Rattle.ftp_script_run.specs.ScriptReader.{AreWhole, ReadsAhead, StopsBehind}
 use Rattle.ftp_script_run.specs.SetUp.{StorageState}
+use Rattle.ftp_script_run.specs.declared.command.Ending.{Ending}
+use Rattle.ftp_script_run.specs.declared.command.Ending.TheVariants as ending
 use Rattle.ftp_script_run.specs.declared.status.Status.{Status}
 use Rattle.ftp_script_run.specs.declared.status.Status.TheVariants as status
 use Rattle.ftp_script_run.specs.Left.{end_lines}
@@ -24,8 +32,41 @@ log_lines log = print (reverse log)
 abbrev pub bad_line : ℕ → List ℕ
 bad_line k = (codes "bad line" ++ number k) ++ 10 ∷ []
 
--- all bytes are a script, and are read; its legal log was written, and the lines on the links and files that it leaves
-pub record IsDone (bytes : List ℕ) (left old new : Option (List ℕ)) : Type 0 where
+-- ---- what stands behind the log
+
+-- the text of the lines of a state which answers each question as the log does
+pub record IsStateText (o : Options) (log : List Entry) (text : List ℕ) : Type 0 where
+  pub state : HubState
+  pub of_log : IsState o log state
+  pub made : AreMadeBy o.lockout state.records
+  pub lines : List StateLine
+  pub has : AreStateLines state lines
+  pub text_is : text ≡ state_text lines
+
+-- behind the log of a whole script: the lines on the links and files that it leaves, or the text of the state
+abbrev pub IsEnd : Ending → Options → List Entry → Numbered LinkState → StorageState → List ℕ → Type 0
+IsEnd ending.LinksAndFiles o log links storage text = text ≡ end_lines links storage
+IsEnd ending.State o log links storage text = IsStateText o log text
+
+-- behind the log of a script's front, with the rest behind it: the line that names its bad line, or with no rest what stands
+-- behind that of a whole script
+abbrev pub IsBehindFront : Ending → Options → List Entry → Numbered LinkState → StorageState → Option ℕ → List ℕ → List ℕ → Type 0
+IsBehindFront e o log links storage (Some k) rest text = text ≡ bad_line k
+IsBehindFront e o log links storage None [] text = IsEnd e o log links storage text
+IsBehindFront e o log links storage None (c ∷ rest) text = text ≡ []
+
+-- what stands behind the log was written
+abbrev pub Ends : Ending → Options → List Entry → Numbered LinkState → StorageState → Option (List ℕ) → Option (List ℕ) → Type 0
+Ends e o log links storage old new = (text : List ℕ) × IsEnd e o log links storage text × Writes old new text
+
+-- nothing was written, or a part from the front of it
+abbrev pub EndsPart : Ending → Options → List Entry → Numbered LinkState → StorageState → Option (List ℕ) → Option (List ℕ) → Type 0
+EndsPart e o log links storage old new = (new ≡ old) ⊎ ((text : List ℕ) × IsEnd e o log links storage text × WritesFront old new text)
+
+-- ---- how it ends
+
+-- all bytes are a script, and are read; its legal log was written, and what stands behind it
+pub record IsDone (e : Ending) (bytes : List ℕ) (left old new : Option (List ℕ)) : Type 0 where
   pub items : List Item
   pub log : List Entry
   pub script : IsScriptOf bytes items None
@@ -33,7 +74,9 @@ pub record IsDone (bytes : List ℕ) (left old new : Option (List ℕ)) : Type 0
   pub links : Numbered LinkState
   pub storage : StorageState
   pub legal : IsLegal items log links storage
-  pub written : Writes old new (log_lines log ++ end_lines links storage)
+  pub behind : List ℕ
+  pub ends : IsEnd e legal.due.options log links storage behind
+  pub written : Writes old new (log_lines log ++ behind)
 
 -- line k is the first bad one; behind the lines before it at most one buffer was taken from the source; the legal log of these
 -- lines was written, and the line that names the bad one
@@ -57,16 +100,9 @@ pub record WritesWhole (bytes : List ℕ) (left old new : Option (List ℕ)) : T
   pub legal : IsLegal items log links storage
   pub written : Writes old new (log_lines log)
 
--- what is written behind the log of a script's front, with the rest behind it: the line that names its bad line, or with no
--- rest the lines on the links and files that it leaves
-abbrev pub closing : Numbered LinkState → StorageState → Option ℕ → List ℕ → List ℕ
-closing links storage (Some k) rest = bad_line k
-closing links storage None [] = end_lines links storage
-closing links storage None (c ∷ rest) = []
-
 -- a part from the front of the whole output was written, as a front of whole lines tells it; behind the lines of its items at
 -- most one buffer was taken from the source
-pub record WritesPart (bytes : List ℕ) (left old new : Option (List ℕ)) : Type 0 where
+pub record WritesPart (e : Ending) (bytes : List ℕ) (left old new : Option (List ℕ)) : Type 0 where
   pub read : List ℕ
   pub rest : List ℕ
   pub items : List Item
@@ -79,13 +115,16 @@ pub record WritesPart (bytes : List ℕ) (left old new : Option (List ℕ)) : Ty
   pub links : Numbered LinkState
   pub storage : StorageState
   pub legal : IsLegal items log links storage
-  pub written : WritesFront old new (log_lines log ++ closing links storage bad rest)
+  -- a part of the log, or the log and a part of what stands behind it
+  pub written :
+      WritesFront old new (log_lines log)
+      ⊎ ((behind : List ℕ) × IsBehindFront e legal.due.options log links storage bad rest behind × WritesFront old new (log_lines log ++ behind))
 
 -- what was read of these bytes and what was written, by the status
-abbrev pub Outcome : Status → List ℕ → Option (List ℕ) → Option (List ℕ) → Option (List ℕ) → Type 0
-Outcome status.Done bytes left old new = IsDone bytes left old new
-Outcome (status.BadLine k) bytes left old new = HasBadLine k bytes left old new
-Outcome status.ReadFault bytes left old new = WritesWhole bytes left old new
-Outcome status.WriteFault bytes left old new = WritesPart bytes left old new
-Outcome status.OutOfMemory bytes left old new = WritesPart bytes left old new
-Outcome status.Usage bytes left old new = ⊥
+abbrev pub Outcome : Ending → Status → List ℕ → Option (List ℕ) → Option (List ℕ) → Option (List ℕ) → Type 0
+Outcome e status.Done bytes left old new = IsDone e bytes left old new
+Outcome e (status.BadLine k) bytes left old new = HasBadLine k bytes left old new
+Outcome e status.ReadFault bytes left old new = WritesWhole bytes left old new
+Outcome e status.WriteFault bytes left old new = WritesPart e bytes left old new
+Outcome e status.OutOfMemory bytes left old new = WritesPart e bytes left old new
+Outcome e status.Usage bytes left old new = ⊥

@@ -1,5 +1,5 @@
 -- How a run ends.
-use Rattle.std.specs.Prelude.{◌≡◌, ℕ, ◌⊎◌, List, [], ◌∷◌, codes, Result, Ok, Err}
+use Rattle.std.specs.Prelude.{◌≡◌, ℕ, ◌⊎◌, Result, Ok, Err}
 use Rattle.ftp_base.specs.Outside.{HasRisen}
 use Rattle.ftp_base.specs.declared.fault.Failed.{Failed}
 use Rattle.ftp_base.specs.declared.fault.Failed.TheVariants.{Fault, Memory}

@@ -1,6 +1,6 @@
 //! A whole script: bytes in, and out what its users moved.
 
-ghost use Rattle.std.specs.Prelude.{◌≡◌, ◌≢◌, ℕ, ◌≤◌, ◌<◌, ◌∷◌, ◌++◌, [], true, List, Option, Some, IfSome, IfNone, OnOk, OnErr, IsErrOf, length};
+ghost use Rattle.std.specs.Prelude.{◌≡◌, ◌≢◌, ℕ, ◌≤◌, ◌<◌, ◌∷◌, ◌++◌, [], true, List, Option, Some, None, IfSome, IfNone, OnOk, OnErr, IsErrOf, length};
 ghost use Rattle.ftp_base.specs.Outside.{HasRisen};
 ghost use Rattle.ftp_base.specs.declared.fault.Failed.TheVariants.{Fault};
 ghost use Rattle.ftp_options.specs.declared.options.Options.{Options};
@@ -95,7 +95,7 @@ fn hear<S: Source, K: Sink>(
 // Takes the item, and has the audit hear its entry. It gives the status where that fails.
 fn noted(run: &mut Run, item: Item, audit: &mut Audit) -> Option<Status>
     requires { MayTake run.old item }
-    ensures noted { IfNone result ((items : List Item) (log : List Entry) → Keeps run.old items log → may_stand items item ≡ true → HasHeard audit.old log →
+    ensures noted { IfNone result ((items : List Item) (log : List Entry) → Keeps None run.old items log → may_stand items item ≡ true → HasHeard audit.old log →
         IsNoted run.new (items ++ item ∷ []) log audit.new) }
     ensures only_memory { IfSome result (λ s. s ≡ Status.OutOfMemory) }
 {

@@ -9,12 +9,23 @@ use std::str;
 /// What the program does.
 #[derive(Clone, Copy, Debug, PartialEq, Eq)]
 pub enum Command {
-    /// It runs the script that the source gives.
-    Script,
+    /// It runs the script that the source gives, and prints its log with this behind it.
+    Run(Ending),
     /// It runs the script too, and tells what its users moved in place of its log.
     Audit,
+    /// It goes on from the state of a hub, and runs the script behind that.
+    Resume,
     /// It tells something, and reads nothing.
     Tell(Told),
+}
+
+/// What is printed behind the log of a whole script.
+#[derive(Clone, Copy, Debug, PartialEq, Eq)]
+pub enum Ending {
+    /// A line for each link and for each file.
+    LinksAndFiles,
+    /// The text of the hub's state.
+    State,
 }
 
 /// What is told where nothing is read.
@@ -43,9 +54,13 @@ fn lone(word: &[u8]) -> Option<Command>
     ensures { (c : Command) → (result ≡ Some c) ↔ Asks (word.now ∷ []) c }
 {
     if word == b"script".as_slice() {
-        Some(Command::Script)
+        Some(Command::Run(Ending::LinksAndFiles))
     } else if word == b"audit".as_slice() {
         Some(Command::Audit)
+    } else if word == b"save".as_slice() {
+        Some(Command::Run(Ending::State))
+    } else if word == b"resume".as_slice() {
+        Some(Command::Resume)
     } else if word == b"--help".as_slice() {
         Some(Command::Tell(Told::Help))
     } else if word == b"--version".as_slice() {

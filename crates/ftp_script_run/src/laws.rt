@@ -2,6 +2,7 @@
 
 ghost use Rattle.ftp_script_run.specs.Clean.{TakenTransfersAreDone, HeadersAreRead};
 ghost use Rattle.ftp_script_run.specs.Determined.{SettledRunsAreDetermined, ReadHeadersAreDetermined};
+ghost use Rattle.ftp_script_run.specs.Saved.{SavedScriptsAreOne, SavedScriptsGoOn, SavedStatesAreRead};
 ghost use Rattle.ftp_script_run.specs.Listed.{ToldFaultsAreListed, ToldHeaderFaultsAreListed};
 
 /// Where a script lists no call that fails, a transfer that is run, and of which the storage's rule refuses no call, is
@@ -47,4 +48,19 @@ pub fn settled_runs_are_determined()
 pub fn told_faults_are_listed()
     ensures transfers { ToldFaultsAreListed }
     ensures headers { ToldHeaderFaultsAreListed }
+{}
+
+/// Where one script leaves off, by the text of its state, another goes on.
+///
+/// # Proved
+///
+/// - The text that is written of the state behind a script's log is read as that state and as no other, and options with the same
+///   settings do not refuse it (`read`).
+/// - Behind the log of a script all is due that another says which goes on from that text by the same settings (`go_on`).
+/// - Where the second sets up the storage and the links that the first left, both logs in a row are due for the events of
+///   both, from what the first sets up (`one`).
+pub fn saved_scripts_go_on()
+    ensures read { SavedStatesAreRead }
+    ensures go_on { SavedScriptsGoOn }
+    ensures one { SavedScriptsAreOne }
 {}

@@ -12,8 +12,13 @@ mod command;
 mod counts;
 mod draws;
 mod events;
+mod fitting;
+mod head;
+mod head_reading;
 mod laws;
 mod printing;
+mod resumed;
+mod resuming;
 mod run;
 mod script;
 mod status;
@@ -24,8 +29,11 @@ mod text_laws;
 mod text_script;
 
 pub use admission::{LONGEST_LINE, LONGEST_SCRIPT, MAX_FILE};
-pub use command::{Command, Told, command_of};
-pub use laws::{settled_runs_are_determined, taken_transfers_are_done, told_faults_are_listed};
+pub use command::{Command, Ending, Told, command_of};
+pub use laws::{
+    saved_scripts_go_on, settled_runs_are_determined, taken_transfers_are_done,
+    told_faults_are_listed,
+};
 pub use script::run_script;
 pub use status::Status;
 pub use stress_laws::every_decision_is_counted;

@@ -1,6 +1,6 @@
 //! A run of a script, item by item.
 
-ghost use Rattle.std.specs.Prelude.{◌≡◌, ◌≤◌, ◌<◌, ◌*◌, ◌∷◌, ◌++◌, [], List, true, None, IfOk, IfErr, OnOk, OnErr, IsErrOf};
+ghost use Rattle.std.specs.Prelude.{◌≡◌, ◌⊎◌, ◌≤◌, ◌<◌, ◌*◌, ◌∷◌, ◌++◌, [], List, true, None, IfOk, IfErr, OnOk, OnErr, IsErrOf};
 ghost use Rattle.std.specs.Option.{option_or};
 ghost use Rattle.ftp_base.specs.declared.fault.Failed.TheVariants.{Fault, Memory};
 ghost use Rattle.ftp_base.specs.Outside.{HasRisen, Writes};
@@ -10,23 +10,33 @@ ghost use Rattle.ftp_text.specs.declared.setup.Item.{Item};
 ghost use Rattle.ftp_text.specs.declared.setup.Item.TheVariants as item;
 ghost use Rattle.ftp_script_run.specs.Items.{event_in, features_of};
 ghost use Rattle.ftp_script_run.specs.Left.{end_lines};
-ghost use Rattle.ftp_script_run.specs.Outcome.{log_lines, bad_line};
+ghost use Rattle.ftp_script_run.specs.declared.command.Ending.TheVariants as ending;
+ghost use Rattle.ftp_script_run.specs.Outcome.{log_lines, bad_line, Ends, EndsPart};
 ghost use Rattle.ftp_audit.specs.Heard.{HasHeard};
-ghost use Rattle.ftp_script_run.specs.Runs.{Keeps, MayTake, Takes, IsTaken, IsPartlyTaken};
+ghost use Rattle.ftp_script_run.specs.Runs.{Before, Keeps, MayCome, MayTake, Takes, IsTaken, IsPartlyTaken};
 ghost use Rattle.ftp_script_run.specs.Audited.{IsNoted};
 ghost use Rattle.ftp_options.specs.Builder.{refusal, settings_of};
-ghost use Rattle.ftp_hub.specs.Stands.{Stands, options_of};
+ghost use Rattle.ftp_hub.specs.Runs.{is_linked};
+ghost use Rattle.ftp_hub.specs.declared.state.StateError.{StateError};
+ghost use Rattle.ftp_hub.specs.Refused.{HasCause, IsFirstRefusal};
+ghost use Rattle.ftp_hub.specs.State.{IsForm};
+ghost use Rattle.ftp_hub.specs.Stands.{Stands, count_of, options_of};
+ghost use Rattle.ftp_script_run.specs.Resumed.{HasState};
 ghost use Rattle.ftp_script_run.specs.Script.{may_stand};
 
 use crate::MAX_FILE;
+use crate::command::Ending;
+use crate::fitting::look_at;
 use crate::printing::{print_bad_line, print_entry, print_files, print_links};
 use ftp_audit::{Audit, Quota};
 use ftp_base::{
     Bytes, FEATURE_RESTART, Failed, InsertError, LinkFault, LinkTable, MemoryLink, MemoryStorage,
     Sink, StoreError,
 };
+use ftp_checkpoint::encode_state;
+use ftp_control::write_all;
 use ftp_events::{Entry, HubEvent};
-use ftp_hub::{Hub, run_event};
+use ftp_hub::{Hub, HubState, StateError, run_event};
 use ftp_options::{
     ActivePassiveMode, FailedLoginsPolicy, ListenerMode, Options, PassiveHost, ServerBuilder,
 };
@@ -47,12 +57,14 @@ pub struct Run {
 impl Run {
     /// Nothing came.
     pub fn new(alloc: Global) -> Run
-        ensures { Keeps result [] [] }
+        ensures { Keeps None result [] [] }
     {
+        let hub = Hub::new(alloc, built(ServerBuilder::new(alloc)));
+        let storage = Quota::transparent(MemoryStorage::new(alloc, MAX_FILE, Vec::new(alloc)));
         Run {
             alloc,
-            hub: Hub::new(alloc, built(ServerBuilder::new(alloc))),
-            storage: Quota::transparent(MemoryStorage::new(alloc, MAX_FILE, Vec::new(alloc))),
+            hub,
+            storage,
             links: LinkTable::new(alloc),
             text: Vec::new(alloc),
         }
@@ -68,14 +80,14 @@ impl Run {
     /// Does what the item asks for, and writes the entry of an event.
     pub fn take<K: Sink>(&mut self, item: Item, sink: &mut K) -> Result<(), Failed>
         requires { MayTake self.old item }
-        ensures took { OnOk result ((items : List Item) (log : List Entry) → Keeps self.old items log → may_stand items item ≡ true →
-            IsTaken self.new (items ++ item ∷ []) log (K.written sink.old) (K.written sink.new)) }
+        ensures took { OnOk result ((before : Before) (items : List Item) (log : List Entry) → Keeps before self.old items log → MayCome before self.old items item →
+            IsTaken before self.new (items ++ item ∷ []) log (K.written sink.old) (K.written sink.new)) }
         ensures fault_rose { IsErrOf result Fault → HasRisen (K.faults sink.old) (K.faults sink.new) }
         ensures count { K.faults sink.old ≤ K.faults sink.new }
 
         // After an error a part from the front of the entry was written.
-        ensures front { OnErr result ((items : List Item) (log : List Entry) → Keeps self.old items log → may_stand items item ≡ true →
-            IsPartlyTaken self.new (items ++ item ∷ []) log (K.written sink.old) (K.written sink.new)) }
+        ensures front { OnErr result ((before : Before) (items : List Item) (log : List Entry) → Keeps before self.old items log → MayCome before self.old items item →
+            IsPartlyTaken before self.new (items ++ item ∷ []) log (K.written sink.old) (K.written sink.new)) }
     {
         match item {
             Item::Event(event) => self.event(event, sink),
@@ -83,8 +95,8 @@ impl Run {
         }
     }
 
-    // Does what an item asks for that is no event.
-    fn set_up(&mut self, item: Item) -> Result<(), Failed>
+    /// Does what an item asks for that is no event.
+    pub fn set_up(&mut self, item: Item) -> Result<(), Failed>
         requires may { MayTake self.old item }
         requires quiet { event_in item ≡ None }
         ensures took { OnOk result (Takes self.old item self.new []) }
@@ -134,7 +146,7 @@ impl Run {
     /// Neither the hub's count of events nor that of the audit can end in a script, which has far fewer lines.
     pub fn note(&mut self, item: Item, audit: &mut Audit) -> Result<(), Failed>
         requires { MayTake self.old item }
-        ensures noted { OnOk result ((items : List Item) (log : List Entry) → Keeps self.old items log → may_stand items item ≡ true → HasHeard audit.old log →
+        ensures noted { OnOk result ((items : List Item) (log : List Entry) → Keeps None self.old items log → may_stand items item ≡ true → HasHeard audit.old log →
             IsNoted self.new (items ++ item ∷ []) log audit.new) }
         ensures only_memory { IfErr result (λ e. e ≡ Memory) }
     {
@@ -150,10 +162,40 @@ impl Run {
         }
     }
 
+    /// Goes on from the state of a hub, under the options so far.
+    pub fn go_on_from(&mut self, state: HubState) -> Result<(), StateError>
+        requires form { IsForm state }
+        ensures options { OnOk result (options_of self.new.hub ≡ options_of self.old.hub) }
+        ensures stands { OnOk result ((front : List Entry) → HasState (options_of self.old.hub) front state → Stands self.new.hub front) }
+        ensures count { OnOk result (count_of self.new.hub ≡ state.events) }
+        ensures passed { OnOk result ((e : StateError) → HasCause (options_of self.old.hub) state e → ⊥) }
+        ensures refused { IfErr result (λ e. (e ≡ StateError.OutOfMemory) ⊎ IsFirstRefusal (options_of self.old.hub) state e) }
+        ensures others { self.new ≡ record self.old { hub = self.new.hub } }
+    {
+        let options = self.hub.options().copy(self.alloc)?;
+        self.hub = Hub::from_state(self.alloc, options, state)?;
+        Ok(())
+    }
+
+    /// How many events the hub has counted.
+    pub fn events(&self) -> u64
+        ensures { result ≡ count_of self.now.hub }
+    {
+        self.hub.events()
+    }
+
+    /// Says whether the number has its link.
+    pub fn has_link(&self, number: u64) -> bool
+        ensures { result ≡ is_linked self.now.links number }
+    {
+        self.links.has(number)
+    }
+
     // Makes the hub anew, as the builder says.
     fn start(&mut self, builder: ServerBuilder)
         requires { refusal builder ≡ None }
         ensures fresh { Stands self.new.hub [] }
+        ensures count { count_of self.new.hub ≡ 0 }
         ensures set { settings_of (options_of self.new.hub) ≡ builder.settings }
         ensures others { self.new ≡ record self.old { hub = self.new.hub } }
     {
@@ -228,20 +270,20 @@ impl Run {
         let link = MemoryLink::new(self.alloc, bytes.into_vec(), chunk, fails.into_vec());
         match self.links.insert(number, link) {
             Ok(()) => Ok(()),
-            Err(InsertError::Taken(_)) => unreachable!(),
-            Err(InsertError::OutOfMemory(_)) => Err(Failed::Memory),
+            // A number that has its link has no second line.
+            Err(InsertError::Taken(_) | InsertError::OutOfMemory(_)) => Err(Failed::Memory),
         }
     }
 
     // Runs the event, writes its entry and lets it go.
     fn event<K: Sink>(&mut self, event: HubEvent, sink: &mut K) -> Result<(), Failed>
         requires { MayTake self.old (item.Event event) }
-        ensures took { OnOk result ((items : List Item) (log : List Entry) → Keeps self.old items log → may_stand items (item.Event event) ≡ true →
-            IsTaken self.new (items ++ item.Event event ∷ []) log (K.written sink.old) (K.written sink.new)) }
+        ensures took { OnOk result ((before : Before) (items : List Item) (log : List Entry) → Keeps before self.old items log → MayCome before self.old items (item.Event event) →
+            IsTaken before self.new (items ++ item.Event event ∷ []) log (K.written sink.old) (K.written sink.new)) }
         ensures fault_rose { IsErrOf result Fault → HasRisen (K.faults sink.old) (K.faults sink.new) }
         ensures count { K.faults sink.old ≤ K.faults sink.new }
-        ensures front { OnErr result ((items : List Item) (log : List Entry) → Keeps self.old items log → may_stand items (item.Event event) ≡ true →
-            IsPartlyTaken self.new (items ++ item.Event event ∷ []) log (K.written sink.old) (K.written sink.new)) }
+        ensures front { OnErr result ((before : Before) (items : List Item) (log : List Entry) → Keeps before self.old items log → MayCome before self.old items (item.Event event) →
+            IsPartlyTaken before self.new (items ++ item.Event event ∷ []) log (K.written sink.old) (K.written sink.new)) }
     {
         let entry = self.step(event)?;
         print_entry(sink, &mut self.text, &entry)
@@ -259,7 +301,43 @@ impl Run {
         }
     }
 
-    /// Writes the lines behind the log.
+    /// Writes what stands behind the log.
+    pub fn close<K: Sink>(&mut self, ending: Ending, sink: &mut K) -> Result<(), Failed>
+        ensures wrote { OnOk result ((log : List Entry) → Stands self.old.hub log →
+            Ends ending (options_of self.old.hub) log self.old.links self.old.storage (K.written sink.old) (K.written sink.new)) }
+        ensures fault_rose { IsErrOf result Fault → HasRisen (K.faults sink.old) (K.faults sink.new) }
+        ensures count { K.faults sink.old ≤ K.faults sink.new }
+
+        // After an error nothing was written, or a part from the front.
+        ensures front { OnErr result ((log : List Entry) → Stands self.old.hub log →
+            EndsPart ending (options_of self.old.hub) log self.old.links self.old.storage (K.written sink.old) (K.written sink.new)) }
+    {
+        match ending {
+            Ending::LinksAndFiles => self.end(sink),
+            Ending::State => self.save(sink),
+        }
+    }
+
+    // Writes the text of the hub's state.
+    fn save<K: Sink>(&self, sink: &mut K) -> Result<(), Failed>
+        ensures wrote { OnOk result ((log : List Entry) → Stands self.now.hub log →
+            Ends ending.State (options_of self.now.hub) log self.now.links self.now.storage (K.written sink.old) (K.written sink.new)) }
+        ensures fault_rose { IsErrOf result Fault → HasRisen (K.faults sink.old) (K.faults sink.new) }
+        ensures count { K.faults sink.old ≤ K.faults sink.new }
+        ensures front { OnErr result ((log : List Entry) → Stands self.now.hub log →
+            EndsPart ending.State (options_of self.now.hub) log self.now.links self.now.storage (K.written sink.old) (K.written sink.new)) }
+    {
+        let Ok(state) = self.hub.state() else {
+            return Err(Failed::Memory);
+        };
+        look_at(&state);
+        match encode_state(self.alloc, &state) {
+            Ok(text) => write_all(sink, text.as_slice()),
+            Err(_) => Err(Failed::Memory),
+        }
+    }
+
+    /// Writes the lines on links and files.
     pub fn end<K: Sink>(&mut self, sink: &mut K) -> Result<(), Failed>
         ensures wrote { OnOk result (Writes (K.written sink.old) (K.written sink.new) (end_lines self.old.links self.old.storage)) }
         ensures fault_rose { IsErrOf result Fault → HasRisen (K.faults sink.old) (K.faults sink.new) }

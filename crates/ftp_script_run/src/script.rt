@@ -5,22 +5,27 @@ ghost use Rattle.std.specs.Option.{OnSome};
 ghost use Rattle.ftp_base.specs.Outside.{HasRisen, Writes};
 ghost use Rattle.ftp_events.specs.declared.entry.Entry.{Entry};
 ghost use Rattle.ftp_text.specs.declared.setup.Item.{Item};
-ghost use Rattle.ftp_script_run.specs.Script.{may_stand, IsScriptOf};
+ghost use Rattle.ftp_script_run.specs.Script.{IsScriptOf};
 ghost use Rattle.ftp_script_run.specs.ScriptReader.{IsLawful};
 ghost use Rattle.ftp_script_run.specs.Statuses.{IsCutShort, HasNotRisen};
 ghost use Rattle.ftp_script_run.specs.declared.command.Command.{Command};
-ghost use Rattle.ftp_script_run.specs.declared.command.Command.TheVariants.{Script, Audit, Tell};
+ghost use Rattle.ftp_script_run.specs.declared.command.Command.TheVariants as command;
+ghost use Rattle.ftp_script_run.specs.declared.command.Command.TheVariants.{Audit, Resume, Tell};
+ghost use Rattle.ftp_script_run.specs.declared.command.Ending.{Ending};
 ghost use Rattle.ftp_script_run.specs.declared.command.Told.{Told};
 ghost use Rattle.ftp_script_run.specs.declared.command.Told.TheVariants.{Stress};
 ghost use Rattle.ftp_script_run.specs.Commands.{Asks, text_of};
 ghost use Rattle.ftp_control.specs.Writing.{WritesFront};
 ghost use Rattle.ftp_script_run.specs.Stress.{stress_lines};
 ghost use Rattle.ftp_script_run.specs.Outcome.{IsDone, HasBadLine, WritesWhole, WritesPart, Outcome};
+ghost use Rattle.ftp_script_run.specs.Resumed.{HasBadResumedLine, IsResumed};
+ghost use Rattle.ftp_script_run.specs.Resuming.{IsResumeCut};
 ghost use Rattle.ftp_script_run.specs.Audited.{IsAudited, IsAuditedTo, AuditsWhole, AuditsPart};
-ghost use Rattle.ftp_script_run.specs.Runs.{Keeps, MayTake, IsTaken, IsPartlyTaken, Running};
+ghost use Rattle.ftp_script_run.specs.Runs.{Before, Keeps, MayCome, MayTake, IsTaken, IsPartlyTaken, Running};
 
 use crate::auditing::audit_lines;
-use crate::command::{Command, command_of};
+use crate::command::{Command, Ending, command_of};
+use crate::resuming::resume_lines;
 use crate::run::Run;
 use crate::status::Status;
 use crate::telling::tell;
@@ -29,9 +34,9 @@ use ftp_base::{Sink, Source};
 use ftp_text::Item;
 use std::alloc::Global;
 
-/// Does what the words ask for: runs the script that the source gives, event by event, and writes its printed log, or in
-/// place of it a line for each user on what it moved and how often it came and went; or writes how often each decision
-/// came in a run of drawn events, the commands, or the version.
+/// Does what the words ask for: runs the script that the source gives, anew or from a state on, event by event, and
+/// writes its printed log, with links and files or the state of the hub behind it, or in place of it a line for each user on what it moved and how
+/// often it came and went; or writes how often each decision came in a run of drawn events, the commands, or the version.
 ///
 /// A line has at most 65,536 bytes, its line feed not counted, and a script 16,777,216. An entry is let go as soon as it
 /// is written or heard.
@@ -41,7 +46,8 @@ use std::alloc::Global;
 /// - Done: all bytes were read and are a script; what was written is the printed log of its events, each decided and
 ///   done as is due under the options of its line, or the builder's defaults where it has none, then a line for each
 ///   link in order of number and for each file in byte order of paths, of the links and the storage that its events
-///   leave (`done`).
+///   leave; or, where the state is asked for, the text of a state that answers each question as this log does, and whose
+///   lists have the order and the form of a state's lines (`IsEnd` in `ftp_script_run/specs/Outcome.antt`) (`done`).
 /// - A script's storage and links are at first as its lines set them up; each transfer is run at its end, on that
 ///   storage and on the link that it started on, each header is read from the link of its connection, and nothing else
 ///   changes them; of the storage and of each link no more calls fail than their lines list (`done`, `bad_line`,
@@ -51,9 +57,9 @@ use std::alloc::Global;
 /// - A read fault only where the source's count rose; what was written is exactly the printed log of the whole lines
 ///   that were read, and of what stands behind them at most one buffer was taken (`read_fault`, `read_whole`).
 /// - A write fault only where the sink's count rose (`write_fault`).
-/// - After a write fault or want of memory what was written is a front of the whole output, as the whole lines that
-///   were read give it: the lines on links and files come only where all was read, and that of a bad line where it was
-///   read; behind the lines of the items at most one buffer was taken (`front`).
+/// - After a write fault or want of memory what was written is a front of the log, as the whole lines that were read give
+///   it, or the log and a front of what stands behind it: links and files, or the state, only where all was read, and the
+///   line of a bad line where it was read; behind the lines of the items at most one buffer was taken (`front`).
 /// - Usage exactly where the words are no command; nothing is read or written (`usage`, `usage_idle`).
 /// - A stress run: what was written is how often each decision came in the right log of its drawn events, a line each;
 ///   after a write fault or want of memory a front of that (`stress`, `stress_front`).
@@ -62,6 +68,13 @@ use std::alloc::Global;
 ///   decided); with a bad line the report on the lines before it and then that line's; after a read fault that on the
 ///   whole lines; after a write fault or want of memory nothing, or a front of it (`audit_done`, `audit_bad_line`,
 ///   `audit_whole`, `audit_front`).
+/// - A script that goes on from a state: what is read is an options line or none, the text of a state that the options do
+///   not refuse, a line of two hyphens and a script without options; what was written is the printed log of its events,
+///   each decided and done as is due behind every right and acted log that has the state, and then the lines on the
+///   links and files that they leave (`resume_done`; `IsLegalBehind` in `ftp_script_run/specs/Resumed.antt`). A bad line
+///   is the first: none of the state's, the line of two hyphens behind a state that is refused, the one that is missing,
+///   or one of the script; among these are an event before the links that the state names and one at the end of the
+///   count (`resume_bad_line`). After a fault or want of memory a part from the front was written (`resume_cut`).
 /// - Where nothing fails an audit of a script is done, and of other bytes the first bad line is named, unless memory
 ///   runs out (`audit_complete`, `audit_first_bad`).
 /// - The same of the commands and the version; in none of the three is the source touched, and each ends with done, or
@@ -78,25 +91,25 @@ pub fn run_script<S: Source, K: Sink>(
     ensures usage { (result ≡ Status.Usage) ↔ ((c : Command) → Asks (map (λ w. w.items) words.now) c → ⊥) }
     ensures usage_idle { result ≡ Status.Usage → (source.new ≡ source.old) × (sink.new ≡ sink.old) }
 
-    // All was read and is a script, and its log was written.
-    ensures done { Asks (map (λ w. w.items) words.now) Script → result ≡ Status.Done →
-        IfSome (S.left source.old) (λ bytes. IsDone bytes (S.left source.new) (K.written sink.old) (K.written sink.new)) }
-    ensures bad_line { Asks (map (λ w. w.items) words.now) Script → (k : ℕ) → result ≡ Status.BadLine k → IfSome (S.left source.old) (λ bytes. HasBadLine k bytes (S.left source.new) (K.written sink.old) (K.written sink.new)) }
+    // All was read and is a script, and its log was written, with links and files or the state behind it.
+    ensures done { (e : Ending) → Asks (map (λ w. w.items) words.now) (command.Run e) → result ≡ Status.Done →
+        IfSome (S.left source.old) (λ bytes. IsDone e bytes (S.left source.new) (K.written sink.old) (K.written sink.new)) }
+    ensures bad_line { (e : Ending) → Asks (map (λ w. w.items) words.now) (command.Run e) → (k : ℕ) → result ≡ Status.BadLine k → IfSome (S.left source.old) (λ bytes. HasBadLine k bytes (S.left source.new) (K.written sink.old) (K.written sink.new)) }
 
     // After a fault of the source the log of the whole lines that were read was written.
     ensures read_fault { result ≡ Status.ReadFault → HasRisen (S.faults source.old) (S.faults source.new) }
-    ensures read_whole { Asks (map (λ w. w.items) words.now) Script → result ≡ Status.ReadFault → IfSome (S.left source.old) (λ bytes. WritesWhole bytes (S.left source.new) (K.written sink.old) (K.written sink.new)) }
+    ensures read_whole { (e : Ending) → Asks (map (λ w. w.items) words.now) (command.Run e) → result ≡ Status.ReadFault → IfSome (S.left source.old) (λ bytes. WritesWhole bytes (S.left source.new) (K.written sink.old) (K.written sink.new)) }
 
     // After a fault of the sink, or where memory ran out, a part from the front was written.
     ensures write_fault { result ≡ Status.WriteFault → HasRisen (K.faults sink.old) (K.faults sink.new) }
-    ensures front { Asks (map (λ w. w.items) words.now) Script → IsCutShort result →
-        IfSome (S.left source.old) (λ bytes. WritesPart bytes (S.left source.new) (K.written sink.old) (K.written sink.new)) }
+    ensures front { (e : Ending) → Asks (map (λ w. w.items) words.now) (command.Run e) → IsCutShort result →
+        IfSome (S.left source.old) (λ bytes. WritesPart e bytes (S.left source.new) (K.written sink.old) (K.written sink.new)) }
 
     // Where nothing fails, a script is run to its end, and the first bad line is named.
-    ensures complete { Asks (map (λ w. w.items) words.now) Script → IfSome (S.left source.old) (λ bytes. (items : List Item) → IsScriptOf bytes items None →
+    ensures complete { (e : Ending) → Asks (map (λ w. w.items) words.now) (command.Run e) → IfSome (S.left source.old) (λ bytes. (items : List Item) → IsScriptOf bytes items None →
         HasNotRisen (S.faults source.old) (S.faults source.new) → HasNotRisen (K.faults sink.old) (K.faults sink.new) →
         (result ≡ Status.Done) ⊎ (result ≡ Status.OutOfMemory)) }
-    ensures first_bad { Asks (map (λ w. w.items) words.now) Script → (k : ℕ) → IfSome (S.left source.old) (λ bytes. (items : List Item) → IsScriptOf bytes items (Some k) →
+    ensures first_bad { (e : Ending) → Asks (map (λ w. w.items) words.now) (command.Run e) → (k : ℕ) → IfSome (S.left source.old) (λ bytes. (items : List Item) → IsScriptOf bytes items (Some k) →
         HasNotRisen (S.faults source.old) (S.faults source.new) → HasNotRisen (K.faults sink.old) (K.faults sink.new) →
         (result ≡ Status.BadLine k) ⊎ (result ≡ Status.OutOfMemory)) }
 
@@ -115,6 +128,14 @@ pub fn run_script<S: Source, K: Sink>(
     ensures audit_first_bad { Asks (map (λ w. w.items) words.now) Audit → (k : ℕ) → IfSome (S.left source.old) (λ bytes. (items : List Item) → IsScriptOf bytes items (Some k) →
         HasNotRisen (S.faults source.old) (S.faults source.new) → HasNotRisen (K.faults sink.old) (K.faults sink.new) →
         (result ≡ Status.BadLine k) ⊎ (result ≡ Status.OutOfMemory)) }
+
+    // The same of a script that goes on from a state: its log stands behind each that has the state.
+    ensures resume_done { Asks (map (λ w. w.items) words.now) Resume → result ≡ Status.Done →
+        IfSome (S.left source.old) (λ bytes. IsResumed bytes (S.left source.new) (K.written sink.old) (K.written sink.new)) }
+    ensures resume_bad_line { Asks (map (λ w. w.items) words.now) Resume → (k : ℕ) → result ≡ Status.BadLine k →
+        IfSome (S.left source.old) (λ bytes. HasBadResumedLine k bytes (K.written sink.old) (K.written sink.new)) }
+    ensures resume_cut { Asks (map (λ w. w.items) words.now) Resume → (result ≡ Status.ReadFault) ⊎ IsCutShort result →
+        IfSome (S.left source.old) (λ bytes. IsResumeCut bytes (K.written sink.old) (K.written sink.new)) }
 
     // The counts of exactly the drawn events were written, or a part from the front.
     ensures stress { (seed sessions : ℕ) → Asks (map (λ w. w.items) words.now) (Tell (Stress seed sessions)) → result ≡ Status.Done →
@@ -136,9 +157,13 @@ pub fn run_script<S: Source, K: Sink>(
     ensures sink_count { K.faults sink.old ≤ K.faults sink.new }
 {
     match command_of(words) {
-        Some(Command::Script) => {
+        Some(Command::Run(ending)) => {
             let mut buffer = [0u8; BUFFER_SIZE];
-            run_lines(alloc, &mut buffer, source, sink)
+            run_lines(alloc, ending, &mut buffer, source, sink)
+        }
+        Some(Command::Resume) => {
+            let mut buffer = [0u8; BUFFER_SIZE];
+            resume_lines(alloc, &mut buffer, source, sink)
         }
         Some(Command::Audit) => {
             let mut buffer = [0u8; BUFFER_SIZE];
@@ -152,12 +177,13 @@ pub fn run_script<S: Source, K: Sink>(
 // Runs the script line by line, by way of a buffer in which any line fits.
 fn run_lines<S: Source, K: Sink>(
     alloc: Global,
+    ending: Ending,
     buffer: &mut [u8],
     source: &mut S,
     sink: &mut K,
 ) -> Status
     requires { length buffer.old ≡ 65537 }
-    ensures outcome { IfSome (S.left source.old) (λ bytes. Outcome result bytes (S.left source.new) (K.written sink.old) (K.written sink.new)) }
+    ensures outcome { IfSome (S.left source.old) (λ bytes. Outcome ending result bytes (S.left source.new) (K.written sink.old) (K.written sink.new)) }
     ensures no_usage { result ≢ Status.Usage }
     ensures read_fault { result ≡ Status.ReadFault → HasRisen (S.faults source.old) (S.faults source.new) }
     ensures write_fault { result ≡ Status.WriteFault → HasRisen (K.faults sink.old) (K.faults sink.new) }
@@ -167,7 +193,7 @@ fn run_lines<S: Source, K: Sink>(
     let mut reader = ScriptReader::new(alloc);
     let mut run = Run::new(alloc);
     loop {
-        if let Some(status) = advance(alloc, &mut reader, &mut run, buffer, source, sink) {
+        if let Some(status) = advance(alloc, ending, &mut reader, &mut run, buffer, source, sink) {
             return status;
         }
     }
@@ -176,6 +202,7 @@ fn run_lines<S: Source, K: Sink>(
 // Reads a line and does what it asks for. It gives the status where the run is at its end.
 fn advance<S: Source, K: Sink>(
     alloc: Global,
+    ending: Ending,
     reader: &mut ScriptReader,
     run: &mut Run,
     buffer: &mut [u8],
@@ -183,11 +210,11 @@ fn advance<S: Source, K: Sink>(
     sink: &mut K,
 ) -> Option<Status>
     requires lawful { IsLawful reader.old buffer.old }
-    requires running { (all : Option (List ℕ)) × (before : Option (List ℕ)) × Running all reader.old run.old buffer.old (S.left source.old) before (K.written sink.old) }
-    ensures goes_on { IfNone result ((all before : Option (List ℕ)) → Running all reader.old run.old buffer.old (S.left source.old) before (K.written sink.old) →
-        Running all reader.new run.new buffer.new (S.left source.new) before (K.written sink.new)) }
-    ensures ended { IfSome result (λ status. (all before : Option (List ℕ)) → Running all reader.old run.old buffer.old (S.left source.old) before (K.written sink.old) →
-        IfSome all (λ bytes. Outcome status bytes (S.left source.new) before (K.written sink.new))) }
+    requires running { (all : Option (List ℕ)) × (before : Option (List ℕ)) × Running None all reader.old run.old buffer.old (S.left source.old) before (K.written sink.old) }
+    ensures goes_on { IfNone result ((all before : Option (List ℕ)) → Running None all reader.old run.old buffer.old (S.left source.old) before (K.written sink.old) →
+        Running None all reader.new run.new buffer.new (S.left source.new) before (K.written sink.new)) }
+    ensures ended { IfSome result (λ status. (all before : Option (List ℕ)) → Running None all reader.old run.old buffer.old (S.left source.old) before (K.written sink.old) →
+        IfSome all (λ bytes. Outcome ending status bytes (S.left source.new) before (K.written sink.new))) }
     ensures no_usage { result ≢ Some Status.Usage }
     ensures read_fault { result ≡ Some Status.ReadFault → HasRisen (S.faults source.old) (S.faults source.new) }
     ensures write_fault { result ≡ Some Status.WriteFault → HasRisen (K.faults sink.old) (K.faults sink.new) }
@@ -198,20 +225,20 @@ fn advance<S: Source, K: Sink>(
 {
     match reader.next_item(alloc, buffer, source, run.storage()) {
         Ok(Some(item)) => taken(run, item, sink),
-        Ok(None) => Some(Status::Done.after(run.end(sink))),
+        Ok(None) => Some(Status::Done.after(run.close(ending, sink))),
         Err(ScriptError::BadLine(k)) => Some(Status::BadLine(k).after(run.bad_line(k, sink))),
         Err(ScriptError::Fault) => Some(Status::ReadFault),
         Err(ScriptError::Memory) => Some(Status::OutOfMemory),
     }
 }
 
-// Takes the item. It gives the status where that fails.
-fn taken<K: Sink>(run: &mut Run, item: Item, sink: &mut K) -> Option<Status>
+/// Takes the item. It gives the status where that fails.
+pub(crate) fn taken<K: Sink>(run: &mut Run, item: Item, sink: &mut K) -> Option<Status>
     requires { MayTake run.old item }
-    ensures took { IfNone result ((items : List Item) (log : List Entry) → Keeps run.old items log → may_stand items item ≡ true →
-        IsTaken run.new (items ++ item ∷ []) log (K.written sink.old) (K.written sink.new)) }
-    ensures front { OnSome result ((items : List Item) (log : List Entry) → Keeps run.old items log → may_stand items item ≡ true →
-        IsPartlyTaken run.new (items ++ item ∷ []) log (K.written sink.old) (K.written sink.new)) }
+    ensures took { IfNone result ((before : Before) (items : List Item) (log : List Entry) → Keeps before run.old items log → MayCome before run.old items item →
+        IsTaken before run.new (items ++ item ∷ []) log (K.written sink.old) (K.written sink.new)) }
+    ensures front { OnSome result ((before : Before) (items : List Item) (log : List Entry) → Keeps before run.old items log → MayCome before run.old items item →
+        IsPartlyTaken before run.new (items ++ item ∷ []) log (K.written sink.old) (K.written sink.new)) }
     ensures cut_short { IfSome result IsCutShort }
     ensures write_fault { result ≡ Some Status.WriteFault → HasRisen (K.faults sink.old) (K.faults sink.new) }
     ensures sink_count { K.faults sink.old ≤ K.faults sink.new }

@@ -19,6 +19,12 @@ pub const HELP: &[u8] = b"ftp_script script
 ftp_script audit
     runs the script that standard input gives, and prints what each user moved
     and how often it came and went, in place of the log
+ftp_script save
+    runs the script that standard input gives, and prints its log and then the
+    state of the hub, in place of links and files
+ftp_script resume
+    reads an options line or none, the state of a hub, a line of two hyphens,
+    and a script, runs the script from that state on, and prints its log
 ftp_script stress SEED SESSIONS
     lets 1 to 1000 sessions log in, draws 16 events for each of them from the
     seed, which is below 2^64, and prints how often each decision came

@@ -2,7 +2,7 @@
 
 ghost use Rattle.std.specs.Prelude.{◌≡◌, ℕ, ◌<◌, ◌≤◌, ◌+◌, ◌-◌, ◌++◌, List, [], length, Option, Some, None, IfOk, IfSome, OnOk, IsErrOf};
 ghost use Rattle.ftp_base.specs.Outside.{HasRisen};
-ghost use Rattle.ftp_control.specs.Lines.{bytes_in, behind_line, IsWithin, TakesAtMost};
+ghost use Rattle.ftp_control.specs.Lines.{bytes_in, behind_line, IsWithin, Rest, TakesAtMost};
 ghost use Rattle.ftp_text.specs.declared.setup.Item.{Item};
 ghost use Rattle.ftp_text.specs.Setup.{IsItem};
 ghost use Rattle.ftp_script_run.specs.SetUp.{IsSetUp};
@@ -13,7 +13,7 @@ use ftp_audit::Quota;
 use ftp_base::{MemoryStorage, Source};
 use ftp_control::{NextLineError, Span, next_line};
 use ftp_text::{Item, LineFault};
-use std::alloc::Global;
+use std::alloc::{AllocError, AllocFailed, Global};
 
 /// How many bytes the buffer of a reader has: any line fits with its line feed.
 pub const BUFFER_SIZE: usize = LONGEST_LINE + 1;
@@ -26,6 +26,28 @@ pub enum ScriptError {
     Fault,
     /// The first bad line, counted from 1.
     BadLine(u64),
+}
+
+impl From<AllocError> for ScriptError {
+    ghost use Rattle.std.specs.Prelude.{◌≡◌};
+    ghost use Rattle.ftp_script_run.specs.declared.text_script.ScriptError.TheVariants.{Memory};
+
+    ghost from_gives = { λ _ e. e ≡ Memory };
+
+    fn from(_error: AllocError) -> ScriptError {
+        ScriptError::Memory
+    }
+}
+
+impl<T: Drop> From<AllocFailed<T>> for ScriptError {
+    ghost use Rattle.std.specs.Prelude.{◌≡◌};
+    ghost use Rattle.ftp_script_run.specs.declared.text_script.ScriptError.TheVariants.{Memory};
+
+    ghost from_gives = { λ _ e. e ≡ Memory };
+
+    fn from(_error: AllocFailed<T>) -> ScriptError {
+        ScriptError::Memory
+    }
 }
 
 /// How far a script is read, by way of a buffer of `BUFFER_SIZE` bytes.
@@ -44,12 +66,28 @@ impl ScriptReader {
         ensures start { (buffer bytes : List ℕ) → HasRead [] bytes result buffer (Some bytes) }
         ensures none { Follows result [] }
     {
+        ScriptReader::behind(alloc, Span { start: 0, end: 0 })
+    }
+
+    /// Nothing is read but what the buffer holds.
+    pub(crate) fn behind(alloc: Global, held: Span) -> ScriptReader
+        ensures lawful { (buffer : List ℕ) → length buffer ≡ 65537 → IsWithin buffer held → IsLawful result buffer }
+        ensures start { (buffer bytes : List ℕ) (left : Option (List ℕ)) → Rest (bytes_in buffer held) left bytes → HasRead [] bytes result buffer left }
+        ensures none { Follows result [] }
+    {
         ScriptReader {
             admission: Admission::new(alloc),
-            held: Span { start: 0, end: 0 },
+            held,
             taken: 0,
             number: 0,
         }
+    }
+
+    /// How many lines were read.
+    pub(crate) fn lines(&self) -> u64
+        ensures { result ≡ self.now.number }
+    {
+        self.number
     }
 
     /// The item of the next line, or None at the end of the script. Until an event comes, the storage is the one that
@@ -87,6 +125,7 @@ impl ScriptReader {
         // The next call can be made, and the reader is further on.
         ensures lawful { OnOk result (IsLawful self.new buffer.new) }
         ensures moved { IfOk result (λ found. IfSome found (λ i. self.old.taken < self.new.taken)) }
+        ensures near { (k : ℕ) → IsErrOf result (ScriptError.BadLine k) → k ≤ self.old.number + 1 }
     {
         let line = match advance(buffer, &mut self.held, source) {
             Next::Line(line) => line,

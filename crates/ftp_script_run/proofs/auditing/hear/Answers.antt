@@ -1,5 +1,5 @@
 use Rattle.std.proofs.Common.{◌≡◌, ◌∙◌, Option, Some, None, ap, refl, subst, sym}
-use Rattle.std.specs.Prelude.{Result, Ok, Err, IfOk, OnOk, IfSome}
+use Rattle.std.specs.Prelude.{Result, Ok, Err, IfOk, IfSome}
 use Rattle.std.proofs.lemmas.Option.{IfSome_then}
 use Rattle.ftp_base.specs.Outside.{HasRisen}
 use Rattle.ftp_text.specs.declared.setup.Item.{Item}
@@ -21,8 +21,8 @@ pub noted-requires : goal.noted-requires
 noted-requires g c =
     let found : c.next_item.result ≡ Ok (Some c.in-Ok-Some.item) = c.in-Ok-Some.is ∙ ap Ok c.in-Ok-Some.field-0-is in
     let r = c.requires.hearing.1 in
-    let placed = subst (λ (f : Found). IfOk f (λ o. IfSome o (λ i. IsLetIn r.items i c.next_item.new.self))) found (c.next_item.ensures.let_in r.items r.known (kept-set_up c.args.run.now r.items r.log c.storage.result.now r.kept c.storage.ensures)) in
-    (subst (λ (f : Found). IfOk f (λ o. IfSome o IsItem)) found c.next_item.ensures.item, (r.items, r.log, r.kept, placed.0))
+    let placed = subst (λ (f : Found). IfOk f (λ o. IfSome o (λ i. IsLetIn r.items i c.next_item.new.self))) found (c.next_item.ensures.let_in r.items r.known (kept-set_up None c.args.run.now r.items r.log c.storage.result.now r.kept c.storage.ensures)) in
+    (subst (λ (f : Found). IfOk f (λ o. IfSome o IsItem)) found c.next_item.ensures.item, (None, r.items, r.log, r.kept, record { stands = placed.0; goes_on = tt }))
 
 pub returns-in-Ok-Some-clause-goes_on : goal.returns-in-Ok-Some-clause-goes_on
 returns-in-Ok-Some-clause-goes_on g c =
@@ -30,10 +30,10 @@ returns-in-Ok-Some-clause-goes_on g c =
     let left = g.S.Source.left c.args.source.now in
     let later = g.S.Source.left c.next_item.new.source in
     if_none-then c.noted.result c.noted.ensures.noted (λ noted all r.
-    let placed = subst (λ (f : Found). IfOk f (λ o. IfSome o (λ i. IsLetIn r.items i c.next_item.new.self))) found (c.next_item.ensures.let_in r.items r.known (kept-set_up c.args.run.now r.items r.log c.storage.result.now r.kept c.storage.ensures)) in
+    let placed = subst (λ (f : Found). IfOk f (λ o. IfSome o (λ i. IsLetIn r.items i c.next_item.new.self))) found (c.next_item.ensures.let_in r.items r.known (kept-set_up None c.args.run.now r.items r.log c.storage.result.now r.kept c.storage.ensures)) in
     hearing-more all left later c.args.reader.now c.next_item.new.self c.args.run.now c.noted.new.run c.args.audit.now c.noted.new.audit c.args.buffer.now c.next_item.new.buffer c.in-Ok-Some.item r
     placed
-    (λ bytes h. subst (λ (f : Found). Answers r.items bytes f c.next_item.new.self c.next_item.new.buffer later) found (c.next_item.ensures.told r.items bytes h (kept-set_up c.args.run.now r.items r.log c.storage.result.now r.kept c.storage.ensures)))
+    (λ bytes h. subst (λ (f : Found). Answers r.items bytes f c.next_item.new.self c.next_item.new.buffer later) found (c.next_item.ensures.told r.items bytes h (kept-set_up None c.args.run.now r.items r.log c.storage.result.now r.kept c.storage.ensures)))
     (noted r.items r.log r.kept placed.0 r.heard))
 
 pub returns-in-Ok-Some-clause-ended : goal.returns-in-Ok-Some-clause-ended
@@ -57,7 +57,7 @@ returns-in-Ok-None-clause-ended g c =
     λ all r.
     audited-of risen all later old new (ended_by c.write_report.result status.Done) c.after.result (sym c.after.ensures)
     (heard-end risen all (g.S.Source.left c.args.source.now) later old new c.args.reader.now c.args.run.now c.args.audit.now c.args.buffer.now c.write_report.result r
-    (λ bytes h. subst (λ (f : Found). Answers r.items bytes f c.next_item.new.self c.next_item.new.buffer later) found (c.next_item.ensures.told r.items bytes h (kept-set_up c.args.run.now r.items r.log c.storage.result.now r.kept c.storage.ensures)))
+    (λ bytes h. subst (λ (f : Found). Answers r.items bytes f c.next_item.new.self c.next_item.new.buffer later) found (c.next_item.ensures.told r.items bytes h (kept-set_up None c.args.run.now r.items r.log c.storage.result.now r.kept c.storage.ensures)))
     (λ bytes h. c.next_item.ensures.ahead r.items bytes h)
     c.write_report.ensures.wrote c.write_report.ensures.front)
 
@@ -71,7 +71,7 @@ returns-in-Err-BadLine-clause-ended g c =
     λ all r.
     audited-of risen all later old new (ended_by c.write_to.result (status.BadLine c.in-Err-BadLine.k)) c.after-in-Err-BadLine.result (sym c.after-in-Err-BadLine.ensures)
     (heard-bad risen all (g.S.Source.left c.args.source.now) later old new c.args.reader.now c.args.run.now c.args.audit.now c.args.buffer.now c.in-Err-BadLine.k c.write_to.result r
-    (λ bytes h. subst (λ (f : Found). Answers r.items bytes f c.next_item.new.self c.next_item.new.buffer later) found (c.next_item.ensures.told r.items bytes h (kept-set_up c.args.run.now r.items r.log c.storage.result.now r.kept c.storage.ensures)))
+    (λ bytes h. subst (λ (f : Found). Answers r.items bytes f c.next_item.new.self c.next_item.new.buffer later) found (c.next_item.ensures.told r.items bytes h (kept-set_up None c.args.run.now r.items r.log c.storage.result.now r.kept c.storage.ensures)))
     (λ bytes h. c.next_item.ensures.ahead r.items bytes h)
     c.write_to.ensures.wrote c.write_to.ensures.front)
 
@@ -86,7 +86,7 @@ returns-in-Err-Fault-clause-ended g c =
     audited-of risen all later old new (ended_by c.write_report-in-Err-Fault.result status.ReadFault) c.after-in-Err-Fault.result (sym c.after-in-Err-Fault.ensures)
     (heard-fault risen all (g.S.Source.left c.args.source.now) later old new c.args.reader.now c.args.run.now c.args.audit.now c.args.buffer.now c.write_report-in-Err-Fault.result r
     (c.next_item.ensures.fault_rose found)
-    (λ bytes h. subst (λ (f : Found). Answers r.items bytes f c.next_item.new.self c.next_item.new.buffer later) found (c.next_item.ensures.told r.items bytes h (kept-set_up c.args.run.now r.items r.log c.storage.result.now r.kept c.storage.ensures)))
+    (λ bytes h. subst (λ (f : Found). Answers r.items bytes f c.next_item.new.self c.next_item.new.buffer later) found (c.next_item.ensures.told r.items bytes h (kept-set_up None c.args.run.now r.items r.log c.storage.result.now r.kept c.storage.ensures)))
     (λ bytes h. c.next_item.ensures.ahead r.items bytes h)
     c.write_report-in-Err-Fault.ensures.wrote c.write_report-in-Err-Fault.ensures.front)
 

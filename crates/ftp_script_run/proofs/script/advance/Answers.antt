@@ -18,8 +18,8 @@ pub taken-requires : goal.taken-requires
 taken-requires g c =
     let found : c.next_item.result ≡ Ok (Some c.in-Ok-Some.item) = c.in-Ok-Some.is ∙ ap Ok c.in-Ok-Some.field-0-is in
     let r = c.requires.running.2 in
-    let placed = subst (λ (f : Found). IfOk f (λ o. IfSome o (λ i. IsLetIn r.items i c.next_item.new.self))) found (c.next_item.ensures.let_in r.items r.known (kept-set_up c.args.run.now r.items r.log c.storage.result.now r.kept c.storage.ensures)) in
-    (subst (λ (f : Found). IfOk f (λ o. IfSome o IsItem)) found c.next_item.ensures.item, (r.items, r.log, r.kept, placed.0))
+    let placed = subst (λ (f : Found). IfOk f (λ o. IfSome o (λ i. IsLetIn r.items i c.next_item.new.self))) found (c.next_item.ensures.let_in r.items r.known (kept-set_up None c.args.run.now r.items r.log c.storage.result.now r.kept c.storage.ensures)) in
+    (subst (λ (f : Found). IfOk f (λ o. IfSome o IsItem)) found c.next_item.ensures.item, (None, r.items, r.log, r.kept, record { stands = placed.0; goes_on = tt }))
 
 pub returns-in-Ok-Some-clause-goes_on : goal.returns-in-Ok-Some-clause-goes_on
 returns-in-Ok-Some-clause-goes_on g c =
@@ -29,11 +29,11 @@ returns-in-Ok-Some-clause-goes_on g c =
     let now = g.K.Sink.written c.args.sink.now in
     let new = g.K.Sink.written c.taken.new.sink in
     if_none-then c.taken.result c.taken.ensures.took (λ took all before r.
-    let placed = subst (λ (f : Found). IfOk f (λ o. IfSome o (λ i. IsLetIn r.items i c.next_item.new.self))) found (c.next_item.ensures.let_in r.items r.known (kept-set_up c.args.run.now r.items r.log c.storage.result.now r.kept c.storage.ensures)) in
-    running-more all left later before now new c.args.reader.now c.next_item.new.self c.args.run.now c.taken.new.run c.args.buffer.now c.next_item.new.buffer c.in-Ok-Some.item r
+    let placed = subst (λ (f : Found). IfOk f (λ o. IfSome o (λ i. IsLetIn r.items i c.next_item.new.self))) found (c.next_item.ensures.let_in r.items r.known (kept-set_up None c.args.run.now r.items r.log c.storage.result.now r.kept c.storage.ensures)) in
+    running-more None all left later before now new c.args.reader.now c.next_item.new.self c.args.run.now c.taken.new.run c.args.buffer.now c.next_item.new.buffer c.in-Ok-Some.item r
     placed
-    (λ bytes h. subst (λ (f : Found). Answers r.items bytes f c.next_item.new.self c.next_item.new.buffer later) found (c.next_item.ensures.told r.items bytes h (kept-set_up c.args.run.now r.items r.log c.storage.result.now r.kept c.storage.ensures)))
-    (took r.items r.log r.kept placed.0))
+    (λ bytes h. subst (λ (f : Found). Answers r.items bytes f c.next_item.new.self c.next_item.new.buffer later) found (c.next_item.ensures.told r.items bytes h (kept-set_up None c.args.run.now r.items r.log c.storage.result.now r.kept c.storage.ensures)))
+    (took None r.items r.log r.kept (record { stands = placed.0; goes_on = tt })))
 
 pub returns-in-Ok-Some-clause-ended : goal.returns-in-Ok-Some-clause-ended
 returns-in-Ok-Some-clause-ended g c =
@@ -43,12 +43,12 @@ returns-in-Ok-Some-clause-ended g c =
     let now = g.K.Sink.written c.args.sink.now in
     let new = g.K.Sink.written c.taken.new.sink in
     if_some-both c.taken.result c.taken.ensures.front c.taken.ensures.cut_short (λ s front short all before r.
-    let placed = subst (λ (f : Found). IfOk f (λ o. IfSome o (λ i. IsLetIn r.items i c.next_item.new.self))) found (c.next_item.ensures.let_in r.items r.known (kept-set_up c.args.run.now r.items r.log c.storage.result.now r.kept c.storage.ensures)) in
-    out-cut all left later before now new c.args.reader.now c.next_item.new.self c.args.run.now c.taken.new.run c.args.buffer.now c.next_item.new.buffer c.in-Ok-Some.item s r
+    let placed = subst (λ (f : Found). IfOk f (λ o. IfSome o (λ i. IsLetIn r.items i c.next_item.new.self))) found (c.next_item.ensures.let_in r.items r.known (kept-set_up None c.args.run.now r.items r.log c.storage.result.now r.kept c.storage.ensures)) in
+    out-cut c.args.ending all left later before now new c.args.reader.now c.next_item.new.self c.args.run.now c.taken.new.run c.args.buffer.now c.next_item.new.buffer c.in-Ok-Some.item s r
     (subst (λ (f : Found). OnOk f (IsLawful c.next_item.new.self c.next_item.new.buffer)) found c.next_item.ensures.lawful)
     (λ bytes h. c.next_item.ensures.ahead r.items bytes h)
-    (λ bytes h. subst (λ (f : Found). Answers r.items bytes f c.next_item.new.self c.next_item.new.buffer later) found (c.next_item.ensures.told r.items bytes h (kept-set_up c.args.run.now r.items r.log c.storage.result.now r.kept c.storage.ensures)))
-    (front r.items r.log r.kept placed.0)
+    (λ bytes h. subst (λ (f : Found). Answers r.items bytes f c.next_item.new.self c.next_item.new.buffer later) found (c.next_item.ensures.told r.items bytes h (kept-set_up None c.args.run.now r.items r.log c.storage.result.now r.kept c.storage.ensures)))
+    (front None r.items r.log r.kept (record { stands = placed.0; goes_on = tt }))
     short)
 
 pub returns-in-Ok-None-clause-ended : goal.returns-in-Ok-None-clause-ended
@@ -57,13 +57,13 @@ returns-in-Ok-None-clause-ended g c =
     let left = g.S.Source.left c.args.source.now in
     let later = g.S.Source.left c.next_item.new.source in
     let now = g.K.Sink.written c.args.sink.now in
-    let new = g.K.Sink.written c.end.new.sink in
+    let new = g.K.Sink.written c.close.new.sink in
     λ all before r.
-    outcome-of all later before new (ended_by c.end.result status.Done) c.after.result (sym c.after.ensures)
-    (out-end all left later before now new c.args.reader.now c.args.run.now c.args.buffer.now c.end.result r
-    (λ bytes h. subst (λ (f : Found). Answers r.items bytes f c.next_item.new.self c.next_item.new.buffer later) found (c.next_item.ensures.told r.items bytes h (kept-set_up c.args.run.now r.items r.log c.storage.result.now r.kept c.storage.ensures)))
+    outcome-of c.args.ending all later before new (ended_by c.close.result status.Done) c.after.result (sym c.after.ensures)
+    (out-end c.args.ending all left later before now new c.args.reader.now c.args.run.now c.args.buffer.now c.close.result r
+    (λ bytes h. subst (λ (f : Found). Answers r.items bytes f c.next_item.new.self c.next_item.new.buffer later) found (c.next_item.ensures.told r.items bytes h (kept-set_up None c.args.run.now r.items r.log c.storage.result.now r.kept c.storage.ensures)))
     (λ bytes h. c.next_item.ensures.ahead r.items bytes h)
-    c.end.ensures.wrote c.end.ensures.front)
+    c.close.ensures.wrote c.close.ensures.front)
 
 pub returns-in-Err-BadLine-clause-ended : goal.returns-in-Err-BadLine-clause-ended
 returns-in-Err-BadLine-clause-ended g c =
@@ -73,11 +73,11 @@ returns-in-Err-BadLine-clause-ended g c =
     let now = g.K.Sink.written c.args.sink.now in
     let new = g.K.Sink.written c.bad_line.new.sink in
     λ all before r.
-    outcome-of all later before new (ended_by c.bad_line.result (status.BadLine c.in-Err-BadLine.k)) c.after-in-Err-BadLine.result (sym c.after-in-Err-BadLine.ensures)
-    (out-bad all left later before now new c.args.reader.now c.args.run.now c.args.buffer.now c.in-Err-BadLine.k c.bad_line.result r
-    (λ bytes h. subst (λ (f : Found). Answers r.items bytes f c.next_item.new.self c.next_item.new.buffer later) found (c.next_item.ensures.told r.items bytes h (kept-set_up c.args.run.now r.items r.log c.storage.result.now r.kept c.storage.ensures)))
+    outcome-of c.args.ending all later before new (ended_by c.bad_line.result (status.BadLine c.in-Err-BadLine.k)) c.after-in-Err-BadLine.result (sym (rw c.in-Err-BadLine.field-0-is at c.after-in-Err-BadLine.ensures))
+    (out-bad c.args.ending all left later before now new c.args.reader.now c.args.run.now c.args.buffer.now c.in-Err-BadLine.k c.bad_line.result r
+    (λ bytes h. subst (λ (f : Found). Answers r.items bytes f c.next_item.new.self c.next_item.new.buffer later) found (c.next_item.ensures.told r.items bytes h (kept-set_up None c.args.run.now r.items r.log c.storage.result.now r.kept c.storage.ensures)))
     (λ bytes h. c.next_item.ensures.ahead r.items bytes h)
-    c.bad_line.ensures.wrote c.bad_line.ensures.front)
+    (rw c.in-Err-BadLine.field-0-is at c.bad_line.ensures.wrote) (rw c.in-Err-BadLine.field-0-is at c.bad_line.ensures.front))
 
 pub returns-in-Err-Fault-clause-ended : goal.returns-in-Err-Fault-clause-ended
 returns-in-Err-Fault-clause-ended g c =
@@ -86,9 +86,9 @@ returns-in-Err-Fault-clause-ended g c =
     let later = g.S.Source.left c.next_item.new.source in
     λ all before r.
     out-fault all left later before (g.K.Sink.written c.args.sink.now) c.args.reader.now c.args.run.now c.args.buffer.now r
-    (λ bytes h. subst (λ (f : Found). Answers r.items bytes f c.next_item.new.self c.next_item.new.buffer later) found (c.next_item.ensures.told r.items bytes h (kept-set_up c.args.run.now r.items r.log c.storage.result.now r.kept c.storage.ensures)))
+    (λ bytes h. subst (λ (f : Found). Answers r.items bytes f c.next_item.new.self c.next_item.new.buffer later) found (c.next_item.ensures.told r.items bytes h (kept-set_up None c.args.run.now r.items r.log c.storage.result.now r.kept c.storage.ensures)))
 
 pub returns-in-Err-Memory-clause-ended : goal.returns-in-Err-Memory-clause-ended
 returns-in-Err-Memory-clause-ended g c = λ all before r.
-    out-memory all (g.S.Source.left c.args.source.now) (g.S.Source.left c.next_item.new.source) before (g.K.Sink.written c.args.sink.now) c.args.reader.now c.args.run.now c.args.buffer.now r
+    out-memory c.args.ending all (g.S.Source.left c.args.source.now) (g.S.Source.left c.next_item.new.source) before (g.K.Sink.written c.args.sink.now) c.args.reader.now c.args.run.now c.args.buffer.now r
     (λ bytes h. c.next_item.ensures.ahead r.items bytes h)

@@ -1,5 +1,5 @@
-use Rattle.std.proofs.Common.{refl, ap, ◌≡◌, ◌∙◌, List, ℕ, subst, sym}
-use Rattle.ftp_script_run.proofs.CountLemmas.{HasLines, lines-next, lines-end}
+use Rattle.std.proofs.Common.{◌∙◌}
+use Rattle.ftp_script_run.proofs.CountLemmas.{lines-next, lines-end}
 use Rattle.ftp_script_run.proofs.counts.Counts.lines.Goals as goal
 
 pub loop-i-preserved : goal.loop-i-preserved

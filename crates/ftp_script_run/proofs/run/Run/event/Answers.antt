@@ -7,17 +7,17 @@ use Rattle.ftp_script_run.proofs.run.Run.event.Goals as goal
 
 pub returns-in_err-entry-clause-front : goal.returns-in_err-entry-clause-front
 returns-in_err-entry-clause-front g c =
-    on_err c.from_residual.result (λ items log kept may. inl refl)
+    on_err c.from_residual.result (λ before items log kept may. inl refl)
 
 pub returns-clause-took : goal.returns-clause-took
 returns-clause-took g c =
     let e = c.in_ok-entry.entry in
     let step = c.step.new.self in
-    on_ok-then c.print_entry.result c.print_entry.ensures.wrote (λ wrote items log kept may. (
+    on_ok-then c.print_entry.result c.print_entry.ensures.wrote (λ wrote before items log kept may. (
       e ∷ [],
-      keeps-text step
+      keeps-text before step
           (record { alloc = step.alloc; hub = step.hub; storage = step.storage; links = step.links; text = c.print_entry.new.text })
-          _ _ refl refl (c.in_ok-entry.ensures.due items log kept may),
+          _ _ refl refl (c.in_ok-entry.ensures.due before items log kept may),
       subst (Writes (g.K.Sink.written c.args.sink.now) (g.K.Sink.written c.print_entry.new.sink)) (sym (log_lines-one e)) wrote,
     ))
 
@@ -25,10 +25,10 @@ pub returns-clause-front : goal.returns-clause-front
 returns-clause-front g c =
     let e = c.in_ok-entry.entry in
     let step = c.step.new.self in
-    on_err-then c.print_entry.result c.print_entry.ensures.front (λ front items log kept may. inr (
+    on_err-then c.print_entry.result c.print_entry.ensures.front (λ front before items log kept may. inr (
       e ∷ [],
-      keeps-text step
+      keeps-text before step
           (record { alloc = step.alloc; hub = step.hub; storage = step.storage; links = step.links; text = c.print_entry.new.text })
-          _ _ refl refl (c.in_ok-entry.ensures.due items log kept may),
+          _ _ refl refl (c.in_ok-entry.ensures.due before items log kept may),
       subst (WritesFront (g.K.Sink.written c.args.sink.now) (g.K.Sink.written c.print_entry.new.sink)) (sym (log_lines-one e)) front,
     ))

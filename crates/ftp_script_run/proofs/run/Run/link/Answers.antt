@@ -3,15 +3,9 @@ use Rattle.ftp_base.specs.Calls.{rises_above}
 use Rattle.std.specs.FinMap as map
 use Rattle.ftp_base.specs.Memory.{LinkState}
 use Rattle.ftp_script_run.proofs.RunLemmas.{keeps-link}
-use Rattle.ftp_script_run.proofs.SetUpLemmas.{new_number, not_taken, new_link-is}
+use Rattle.ftp_script_run.proofs.SetUpLemmas.{new_link-is}
 use Rattle.ftp_script_run.proofs.run.Run.link.Goals as goal
-use Rattle.ftp_script_run.proofs.run.Run.link.Goals.{in-Ok, in-Err-OutOfMemory}
-
-pub unreachable-requires : goal.unreachable-requires
-unreachable-requires c =
-    not_taken c.insert.result c.in-Err-Taken.field-0 c.in-Err-Taken.field-0-0 c.new-link.result (map.get c.args.self.now.links c.args.number)
-    c.in-Err-Taken.is c.in-Err-Taken.field-0-is c.insert.ensures.returned c.insert.ensures.taken.0
-    (new_number c.args.self.now c.args.number c.args.chunk c.args.fails c.args.bytes c.requires)
+use Rattle.ftp_script_run.proofs.run.Run.link.Goals.{in-Ok, in-Err-Taken}
 
 pub returns-clause-put : goal.returns-clause-put
 returns-clause-put c =
@@ -22,11 +16,11 @@ returns-clause-put c =
     (made.kept rising ∙ c.into_vec-2.ensures) in
     elim c.match-insert.branch [
       | in-Ok w ↦ rw w.result-is
-          (λ items log kept may.
-          keeps-link c.args.self.now
+          (λ before items log kept may.
+          keeps-link before c.args.self.now
           (record { alloc = c.args.self.now.alloc; hub = c.args.self.now.hub; storage = c.args.self.now.storage; links = c.insert.new.self; text = c.args.self.now.text })
           items log c.args.number c.args.chunk c.args.fails c.args.bytes refl
           (w.in-Ok.ensures.inserted ∙ ap (λ (l : LinkState). map.insert c.args.self.now.links c.args.number l) same)
-          refl may kept)
-      | in-Err-OutOfMemory w ↦ rw w.result-is tt
+          refl may.stands kept)
+      | in-Err-Taken w ↦ rw w.result-is tt
     ]

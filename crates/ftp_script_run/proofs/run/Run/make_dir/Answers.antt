@@ -14,7 +14,7 @@ want_of_memory-requires c =
     (dir_taken c.args.self.now c.args.path c.requires) c.in-Err.ensures.refused c.in-Err.ensures.no_fault
 
 pub returns-in-Ok-clause-put : goal.returns-in-Ok-clause-put
-returns-in-Ok-clause-put c = λ items log kept may.
-    keeps-stored c.args.self.now
+returns-in-Ok-clause-put c = λ before items log kept may.
+    keeps-stored before c.args.self.now
     (record { alloc = c.args.self.now.alloc; hub = c.args.self.now.hub; storage = c.mkdir.new.self; links = c.args.self.now.links; text = c.args.self.now.text })
-    items log (item.Dir c.args.path) refl refl refl (dir_first items c.args.path may) refl refl c.in-Ok.ensures.made kept
+    items log (item.Dir c.args.path) refl refl refl (λ n. refl) (dir_first items c.args.path may.stands) refl refl c.in-Ok.ensures.made kept

@@ -18,9 +18,9 @@ want_of_memory-requires c =
     none c.in-Err.ensures.refused c.in-Err.ensures.no_fault
 
 pub returns-in-Ok-clause-put : goal.returns-in-Ok-clause-put
-returns-in-Ok-clause-put c = λ items log kept may.
-    keeps-stored c.args.self.now
+returns-in-Ok-clause-put c = λ before items log kept may.
+    keeps-stored before c.args.self.now
     (record { alloc = c.args.self.now.alloc; hub = c.args.self.now.hub; storage = c.put_file.new.self; links = c.args.self.now.links; text = c.args.self.now.text })
-    items log (item.File c.args.bytes c.args.path) refl refl refl (file_first items c.args.bytes c.args.path may) refl refl
+    items log (item.File c.args.bytes c.args.path) refl refl refl (λ n. refl) (file_first items c.args.bytes c.args.path may.stands) refl refl
     (c.in-Ok.ensures.stored ∙ ap (λ (b : List ℕ). record c.args.self.now.storage { inner = record c.args.self.now.storage.inner { files = with_file c.args.self.now.storage.inner.files c.args.path b } }) c.into_vec.ensures)
     kept

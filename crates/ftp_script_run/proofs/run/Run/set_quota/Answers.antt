@@ -5,7 +5,7 @@ use Rattle.ftp_script_run.proofs.SetUpLemmas.{quota_first}
 use Rattle.ftp_script_run.proofs.run.Run.set_quota.Goals as goal
 
 pub returns : goal.returns
-returns c = λ items log kept may.
-    keeps-stored c.args.self.now
+returns c = λ before items log kept may.
+    keeps-stored before c.args.self.now
     (record { alloc = c.args.self.now.alloc; hub = c.args.self.now.hub; storage = c.limit.new.self; links = c.args.self.now.links; text = c.args.self.now.text })
-    items log (item.Quota c.args.default) refl refl refl (quota_first items c.args.default may) refl refl c.limit.ensures kept
+    items log (item.Quota c.args.default) refl refl refl (λ n. refl) (quota_first items c.args.default may.stands) refl refl c.limit.ensures kept

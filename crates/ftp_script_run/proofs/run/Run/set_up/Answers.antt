@@ -1,17 +1,17 @@
-use Rattle.std.proofs.Common.{◌≡◌, ◌∙◌, [], ap, refl, sym, subst}
+use Rattle.std.proofs.Common.{◌∙◌, [], ap, refl, sym, subst}
 use Rattle.std.proofs.lemmas.Bool.{not-true}
 use Rattle.ftp_options.specs.Settings.{Draft}
 use Rattle.ftp_text.specs.declared.setup.Item.{Item}
 use Rattle.ftp_script_run.specs.Runs.{Takes, outside}
 use Rattle.ftp_script_run.proofs.Written.{on_ok-then}
 use Rattle.ftp_script_run.proofs.ItemLemmas.{options_in-line}
-use Rattle.ftp_script_run.proofs.RunLemmas.{keeps-options, keeps-skip}
+use Rattle.ftp_script_run.proofs.RunLemmas.{keeps-options, keeps-options-at, keeps-skip}
 use Rattle.ftp_script_run.proofs.run.Run.set_up.Goals as goal
 
 pub returns-in-Skip-clause-took : goal.returns-in-Skip-clause-took
 returns-in-Skip-clause-took c =
     let run = c.args.self.now in
-    subst (λ (i : Item). Takes run i run []) (sym c.in-Skip.is) (λ items log kept may. keeps-skip run items log kept)
+    subst (λ (i : Item). Takes run i run []) (sym c.in-Skip.is) (λ before items log kept may. keeps-skip before run items log kept)
 
 pub returns-in-Storage-clause-took : goal.returns-in-Storage-clause-took
 returns-in-Storage-clause-took c =
@@ -47,7 +47,9 @@ returns-in-Options-clause-took c =
     (ap (λ (d : Draft _). d.settings) c.set_listening.ensures ∙ ap (λ (d : Draft _). record d.settings { mode = i.mode; lo = i.lo; hi = i.hi }) c.new-builder.ensures)
     (ap (λ (d : Draft _). d.settings) c.set_rules.ensures) in
     subst (λ (i : Item). Takes run i later []) (sym c.in-Options.is)
-    (λ items log kept may.
-    keeps-options run later items log _ refl refl refl (not-true _ may)
+    (λ before items log kept may.
+    keeps-options-at before run later items log i.mode i.lo i.hi i.host i.active i.idle i.lockout i.restart
+    (keeps-options run later items log _ refl refl (λ n. refl) refl (not-true _ may.stands)
     (c.start.ensures.set ∙ set)
-    c.start.ensures.fresh (ap outside c.start.ensures.others) kept)
+    c.start.ensures.fresh c.start.ensures.count (ap outside c.start.ensures.others))
+    may.goes_on kept)

@@ -1,0 +1,7 @@
+use Rattle.std.proofs.Common.{take}
+use Rattle.std.specs.List.{AllByRecursion}
+use Rattle.ftp_script_run.specs.Fitting.{FitsQueued}
+use Rattle.ftp_script_run.proofs.fitting.each_queued.Given as goal
+
+abbrev pub invariant-loop-line : goal.invariant-loop-line
+invariant-loop-line l = AllByRecursion FitsQueued (take l.line-index l.queued)
