@@ -305,10 +305,11 @@ CASES = {
 }
 
 
-def main(words):
+def main(words, cases):
+    """Runs each case with the program that the words start. It gives 1 where one failed."""
     program = words or shlex.split(os.environ.get("FTP_SCRIPT", "")) or [str(PROGRAM)]
     failed = 0
-    for name, case in CASES.items():
+    for name, case in cases.items():
         try:
             case(program)
         except Exception as why:  # whatever the program did, the next case is run
@@ -316,9 +317,9 @@ def main(words):
             print(f"FAIL  {name}: {type(why).__name__}: {why}", flush=True)
         else:
             print(f"pass  {name}", flush=True)
-    print(f"{len(CASES) - failed} passed, {failed} failed")
+    print(f"{len(cases) - failed} passed, {failed} failed")
     return 1 if failed else 0
 
 
 if __name__ == "__main__":
-    sys.exit(main(sys.argv[1:]))
+    sys.exit(main(sys.argv[1:], CASES))

@@ -7,13 +7,11 @@ state, with the files and the links as the first left them: what is printed for 
 byte for byte, and the same files have to be left. Each case prints a line; the status is 1 if one failed.
 """
 
-import os
 import random
-import shlex
 import sys
 
 sys.dont_write_bytecode = True
-from audits import PROGRAM, Differs, drawn, run, told  # noqa: E402
+from audits import Differs, drawn, main, run, told  # noqa: E402
 
 SCRIPTS = 1000
 LOCKS = ["off", "1:100:both", "2:0:ip", "0:1000:user"]
@@ -116,20 +114,5 @@ CASES = {
 }
 
 
-def main(words):
-    program = words or shlex.split(os.environ.get("FTP_SCRIPT", "")) or [str(PROGRAM)]
-    failed = 0
-    for name, case in CASES.items():
-        try:
-            case(program)
-        except Exception as why:  # whatever the program did, the next case is run
-            failed += 1
-            print(f"FAIL  {name}: {type(why).__name__}: {why}", flush=True)
-        else:
-            print(f"pass  {name}", flush=True)
-    print(f"{len(CASES) - failed} passed, {failed} failed")
-    return 1 if failed else 0
-
-
 if __name__ == "__main__":
-    sys.exit(main(sys.argv[1:]))
+    sys.exit(main(sys.argv[1:], CASES))
