@@ -1,9 +1,14 @@
 -- Worked examples of the definitions, each by computation.
 use Rattle.std.proofs.Common.{◌≡◌, true, false, [], ◌∷◌, Some, None, refl}
 use Rattle.std.specs.Prelude.{codes}
+use Rattle.std.specs.Fmt.{digits}
 use Rattle.ftp_extras.specs.declared.word.ExtraWord.TheVariants as word
+use Rattle.ftp_base.specs.declared.reply.ReplyCode.TheVariants.{CommandOkay}
+use Rattle.ftp_extras.specs.declared.extra.Extra.TheVariants.{Epsv}
+use Rattle.ftp_extras.specs.Extra.{says_text, tells}
 use Rattle.ftp_extras.specs.Moment.{is_moment}
-use Rattle.ftp_extras.specs.ReplyLines.{ManyLines, OneLine, reply_bytes, is_whole_reply}
+use Rattle.ftp_extras.specs.Plan.{epsv_extra}
+use Rattle.ftp_extras.specs.ReplyLines.{ManyLines, OneLine, reply_bytes, is_whole_reply, epsv_reply}
 use Rattle.ftp_extras.specs.Texts.{resolved, sent_text, quoted}
 use Rattle.ftp_extras.specs.Words.{extra_word_of}
 
@@ -45,3 +50,20 @@ ended_early = refl
 
 bytes_of_a_line : reply_bytes (OneLine (codes "213") (codes "5")) ≡ codes "213 5\r\n"
 bytes_of_a_line = refl
+
+-- the example of RFC 2428, section 3
+the_reply_to_an_epsv : reply_bytes (epsv_reply 6446) ≡ codes "229 Entering Extended Passive Mode (|||6446|)\r\n"
+unfolding digits
+the_reply_to_an_epsv = refl
+
+an_epsv_alone : epsv_extra [] ≡ Epsv
+an_epsv_alone = refl
+
+an_epsv_over_ip_4 : epsv_extra (codes "1") ≡ Epsv
+an_epsv_over_ip_4 = refl
+
+an_epsv_over_ip_6 : epsv_extra (codes "2") ≡ says_text (OneLine (codes "522") (codes "Network protocol not supported, use (1)"))
+an_epsv_over_ip_6 = refl
+
+no_other_command_for_a_port : epsv_extra (codes "All") ≡ tells CommandOkay (codes "Noted")
+no_other_command_for_a_port = refl

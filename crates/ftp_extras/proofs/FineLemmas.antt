@@ -22,7 +22,7 @@ use Rattle.ftp_extras.specs.declared.word.ExtraWord.TheVariants as word
 use Rattle.ftp_extras.specs.Archive.{is_sound}
 use Rattle.ftp_extras.specs.Extra.{AskerView, IsWhole, says_text, tells}
 use Rattle.ftp_extras.specs.Moment.{is_moment}
-use Rattle.ftp_extras.specs.Plan.{path_in, bad_plan, asked_on, rename_plan, date_plan, file_plan, directory_reply, features, feature_reply, option_reply, user_line, place_line, status_lines, status_reply, only_one, protection_reply, session_extra, login_plan, is_pattern, list_plan, facts_list_plan, transfer_plan, plan_of, is_spelled}
+use Rattle.ftp_extras.specs.Plan.{path_in, bad_plan, asked_on, rename_plan, date_plan, file_plan, directory_reply, features, feature_reply, option_reply, user_line, place_line, status_lines, status_reply, only_one, epsv_extra, protection_reply, session_extra, login_plan, is_pattern, list_plan, facts_list_plan, transfer_plan, plan_of, is_spelled}
 use Rattle.ftp_extras.specs.ReplyLines.{ReplyText, OneLine, ManyLines, reply_bytes, is_whole_reply}
 use Rattle.ftp_extras.specs.Texts.{resolved, sent_text, quoted}
 use Rattle.ftp_extras.specs.Words.{extra_word_of, is_open_word}
@@ -84,6 +84,7 @@ fine-file who before word.Help p = tt
 fine-file who before word.Allo p = tt
 fine-file who before word.Mode p = tt
 fine-file who before word.Stru p = tt
+fine-file who before word.Epsv p = tt
 fine-file who before word.Clnt p = tt
 fine-file who before word.Pbsz p = tt
 fine-file who before word.Prot p = tt
@@ -117,6 +118,11 @@ whole-status who p =
 whole-only : (letter p : List ℕ) → IsWhole (only_one letter p)
 whole-only letter p = either (is_spelled letter p) _ _ tt (one_line (codes "504") (codes "Not implemented for that parameter") refl refl)
 
+whole-epsv : (p : List ℕ) → IsWhole (epsv_extra p)
+whole-epsv p =
+    either (length p == 0 || is_spelled (codes "1") p) _ _ tt
+    (either (is_spelled (codes "all") p) _ _ tt (one_line (codes "522") (codes "Network protocol not supported, use (1)") refl refl))
+
 whole-protection : (p : List ℕ) → IsWhole (protection_reply p)
 whole-protection p = either (is_spelled (codes "p") p) _ _ tt (one_line (codes "536") (codes "Only P is supported") refl refl)
 
@@ -138,6 +144,7 @@ whole-session o who word.Help p = one_line (codes "214") (codes "See RFC 959") r
 whole-session o who word.Allo p = one_line (codes "202") (codes "No storage has to be allocated") refl refl
 whole-session o who word.Mode p = whole-only (codes "s") p
 whole-session o who word.Stru p = whole-only (codes "f") p
+whole-session o who word.Epsv p = whole-epsv p
 whole-session o who word.Clnt p = tt
 whole-session o who word.Pbsz p = either o.is_behind_tls _ _ tt tt
 whole-session o who word.Prot p = either o.is_behind_tls _ _ (whole-protection p) tt

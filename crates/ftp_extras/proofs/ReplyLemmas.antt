@@ -22,11 +22,19 @@ use Rattle.ftp_extras.specs.Answers.{facts_line, date_fact, facts_reply, size_re
 use Rattle.ftp_extras.specs.Archive.{is_sound, IsDated}
 use Rattle.ftp_extras.specs.Extra.{is_beside, is_passed_or_refused, IsWhole}
 use Rattle.ftp_extras.specs.Moment.{is_moment}
-use Rattle.ftp_extras.specs.ReplyLines.{ManyLines}
+use Rattle.ftp_extras.specs.ReplyLines.{ManyLines, epsv_reply, is_whole_reply}
 use Rattle.ftp_extras.specs.Texts.{resolved, sent_text}
 use Rattle.ftp_extras.specs.Words.{extra_word_of}
 use Rattle.ftp_extras.proofs.LineLemmas.{HasNoFeed, both_in_line, sent_text-in_line, decimal-in_line, digits-in_line, facts-in_line, both_true}
 use Rattle.ftp_extras.proofs.FineLemmas.{one_reply, one_line, either}
+
+-- the reply to an EPSV stands in its line
+pub whole_epsv_reply : (port : ℕ) → is_whole_reply (epsv_reply port) ≡ true
+whole_epsv_reply port =
+    let front = codes "Entering Extended Passive Mode (|||" ++ decimal port in
+    let front_in : HasNoFeed front = both_in_line (codes "Entering Extended Passive Mode (|||") (decimal port) refl (decimal-in_line port) in
+    let line_in : HasNoFeed (front ++ codes "|)") = both_in_line front (codes "|)") front_in refl in
+    rw line_in refl
 
 -- a moment is digits
 moment-digits : (at : List ℕ) → is_moment at ≡ true → list_all is_ascii_digit at ≡ true
@@ -90,6 +98,7 @@ whole-found word.Help path found dated = tt
 whole-found word.Allo path found dated = tt
 whole-found word.Mode path found dated = tt
 whole-found word.Stru path found dated = tt
+whole-found word.Epsv path found dated = tt
 whole-found word.Clnt path found dated = tt
 whole-found word.Pbsz path found dated = tt
 whole-found word.Prot path found dated = tt

@@ -1,5 +1,5 @@
--- What is done on a line, at once or once the archive is asked (RFC 959; RFC 2389 for FEAT and OPTS; RFC 3659 for SIZE, MDTM
--- and MLST; RFC 4217 for PBSZ and PROT).
+-- What is done on a line, at once or once the archive is asked (RFC 959; RFC 2389 for FEAT and OPTS; RFC 2428 for EPSV;
+-- RFC 3659 for SIZE, MDTM and MLST; RFC 4217 for PBSZ and PROT).
 --   file_plan      of a word that is about files
 --   session_extra  of a word that is about the session or the server
 --   transfer_plan  of a transfer, which is looked at first
@@ -105,7 +105,7 @@ up_extra who = extra.As (command.Cwd (resolved (join_path who.cwd (codes "..")))
 -- the lines of FEAT: what is there beside the commands of RFC 959
 abbrev pub features : Offers → List (List ℕ)
 features o =
-    codes " MDTM" ∷ codes " MFMT" ∷ codes " MLST type*;size*;modify*;"
+    codes " EPSV" ∷ codes " MDTM" ∷ codes " MFMT" ∷ codes " MLST type*;size*;modify*;"
     ∷ (if o.can_restart then codes " REST STREAM" ∷ [] else [])
     ++ codes " SIZE" ∷ codes " UTF8"
     ∷ (if o.is_behind_tls then codes " PBSZ" ∷ codes " PROT" ∷ [] else [])
@@ -147,6 +147,13 @@ only_one letter p =
     if is_spelled letter p then tells code.CommandOkay (codes "As always") else
     says_text (OneLine (codes "504") (codes "Not implemented for that parameter"))
 
+-- EPSV: as a PASV, over IP version 4; a client that will send no other command for a port is told so much
+abbrev pub epsv_extra : List ℕ → Extra
+epsv_extra p =
+    if length p == 0 || is_spelled (codes "1") p then extra.Epsv else
+    (if is_spelled (codes "all") p then tells code.CommandOkay (codes "Noted") else
+    says_text (OneLine (codes "522") (codes "Network protocol not supported, use (1)")))
+
 -- PROT: a proxy protects each connection
 abbrev pub protection_reply : List ℕ → Extra
 protection_reply p =
@@ -171,6 +178,7 @@ session_extra o who word.Help p = says_text (OneLine (codes "214") (codes "See R
 session_extra o who word.Allo p = says_text (OneLine (codes "202") (codes "No storage has to be allocated"))
 session_extra o who word.Mode p = only_one (codes "s") p
 session_extra o who word.Stru p = only_one (codes "f") p
+session_extra o who word.Epsv p = epsv_extra p
 session_extra o who word.Clnt p = tells code.CommandOkay (codes "Noted")
 session_extra o who word.Pbsz p = secured o (tells code.CommandOkay (codes "PBSZ=0"))
 session_extra o who word.Prot p = secured o (protection_reply p)

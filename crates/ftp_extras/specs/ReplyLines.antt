@@ -1,5 +1,5 @@
 -- Replies as they are sent: one line, or several (RFC 959, section 4.2).
-use Rattle.std.specs.Prelude.{◌≡◌, ℕ, ◌==◌, ◌&&◌, not, nat_eq, Bool, true, List, ◌++◌, length, codes}
+use Rattle.std.specs.Prelude.{◌≡◌, ℕ, ◌==◌, ◌&&◌, not, nat_eq, Bool, true, List, ◌++◌, length, codes, decimal}
 use Rattle.std.specs.List.{list_any, list_all, flat_map, starts_with}
 use Rattle.std.specs.Char.{is_ascii_digit}
 
@@ -17,6 +17,10 @@ abbrev pub reply_bytes : ReplyText → List ℕ
 reply_bytes (OneLine code text) = code ++ codes " " ++ line_with_end text
 reply_bytes (ManyLines code first middle last) =
     (code ++ codes "-" ++ line_with_end first) ++ flat_map line_with_end middle ++ (code ++ codes " " ++ line_with_end last)
+
+-- the reply to an EPSV that is granted a port (RFC 2428, section 3)
+abbrev pub epsv_reply : ℕ → ReplyText
+epsv_reply port = OneLine (codes "229") (codes "Entering Extended Passive Mode (|||" ++ decimal port ++ codes "|)")
 
 -- a code: three digits
 abbrev pub is_code : List ℕ → Bool

@@ -30,6 +30,8 @@ pub enum Extra {
     Say(Bytes),
     /// What the profile does on this command.
     As(Command),
+    /// What the profile does on a PASV; the port that it is granted is said as the reply to an EPSV.
+    Epsv,
 }
 
 /// Does more than the profile on some lines.

@@ -21,4 +21,5 @@ pub use extra::{Asker, Extra, Extras, NoExtras};
 pub use file_extras::FileExtras;
 pub use laws::{renames_follow_looks, words_wait_for_login};
 pub use plan::Offers;
+pub use reply_lines::put_epsv_reply;
 pub use word::ExtraWord;

@@ -1,8 +1,8 @@
-//! Replies as they are sent (RFC 959, section 4.2).
+//! Replies as they are sent (RFC 959, section 4.2; RFC 2428 for EPSV).
 
-ghost use Rattle.std.specs.Prelude.{◌≡◌, ◌++◌, ℕ, List, IfOk, OnOk};
+ghost use Rattle.std.specs.Prelude.{◌≡◌, ◌++◌, ℕ, true, List, IfOk, OnOk};
 ghost use Rattle.std.specs.List.{flat_map};
-ghost use Rattle.ftp_extras.specs.ReplyLines.{OneLine, ManyLines, line_with_end, reply_bytes};
+ghost use Rattle.ftp_extras.specs.ReplyLines.{OneLine, ManyLines, line_with_end, reply_bytes, epsv_reply, is_whole_reply};
 ghost use Rattle.ftp_extras.specs.Extra.{says_text, tells};
 
 use crate::extra::Extra;
@@ -46,6 +46,25 @@ pub(crate) fn say_many(
     text.extend_from_slice(b" ")?;
     put_line(&mut text, last)?;
     Ok(Extra::Say(Bytes::from_vec(text)))
+}
+
+/// Puts the reply to an EPSV that is granted a port.
+///
+/// # Proved
+///
+/// - One whole line, of code 229, that shows the port between three bars and one (`put`, `whole`).
+#[tactic(auto, using(crate::proofs::ReplyLemmas::whole_epsv_reply))]
+pub fn put_epsv_reply(text: &mut Vec<u8>, port: u16) -> Result<(), AllocError>
+    ensures put { OnOk result (text.new.items ≡ text.old.items ++ reply_bytes (epsv_reply port)) }
+    ensures whole { is_whole_reply (epsv_reply port) ≡ true }
+{
+    let alloc = *text.allocator();
+    let digits = format!(in alloc; "{port}")?.into_bytes();
+    let mut line = Vec::from_slice(alloc, b"Entering Extended Passive Mode (|||")?;
+    line.extend_from_slice(digits.as_slice())?;
+    line.extend_from_slice(b"|)")?;
+    text.extend_from_slice(b"229 ")?;
+    put_line(text, line.as_slice())
 }
 
 /// A reply that the hub sends.

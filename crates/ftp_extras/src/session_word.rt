@@ -1,10 +1,11 @@
-//! The words that are about the session or the server (RFC 959; RFC 2389 for FEAT and OPTS; RFC 4217 for PBSZ and PROT).
+//! The words that are about the session or the server (RFC 959; RFC 2389 for FEAT and OPTS; RFC 2428 for EPSV;
+//! RFC 4217 for PBSZ and PROT).
 
 ghost use Rattle.std.specs.Prelude.{◌≡◌, ◌++◌, IfOk, OnOk};
 ghost use Rattle.std.specs.List.{flat_map};
 ghost use Rattle.ftp_extras.specs.Extra.{seen};
 ghost use Rattle.ftp_extras.specs.ReplyLines.{line_with_end};
-ghost use Rattle.ftp_extras.specs.Plan.{is_spelled, directory_reply, up_extra, features, feature_reply, option_reply, user_line, place_line, status_lines, session_status, status_reply, only_one, protection_reply, session_extra};
+ghost use Rattle.ftp_extras.specs.Plan.{is_spelled, directory_reply, up_extra, features, feature_reply, option_reply, user_line, place_line, status_lines, session_status, status_reply, only_one, epsv_extra, protection_reply, session_extra};
 
 use crate::extra::{Asker, Extra};
 use crate::plan::Offers;
@@ -51,6 +52,7 @@ fn features(alloc: Global, offers: Offers) -> Result<Vec<u8>, AllocError>
     ensures { IfOk result (λ text. text.items ≡ flat_map line_with_end (features offers)) }
 {
     let mut text = Vec::new(alloc);
+    put_line(&mut text, b" EPSV")?;
     put_line(&mut text, b" MDTM")?;
     put_line(&mut text, b" MFMT")?;
     put_line(&mut text, b" MLST type*;size*;modify*;")?;
@@ -167,6 +169,19 @@ fn only_one(alloc: Global, letter: &[u8], parameter: &[u8]) -> Result<Extra, All
     say(alloc, b"504", b"Not implemented for that parameter")
 }
 
+// EPSV: as a PASV, over IP version 4.
+fn epsv_extra(alloc: Global, parameter: &[u8]) -> Result<Extra, AllocError>
+    ensures { IfOk result (λ x. x ≡ epsv_extra parameter.now) }
+{
+    if parameter.is_empty() || is_spelled(b"1", parameter) {
+        return Ok(Extra::Epsv);
+    }
+    if is_spelled(b"all", parameter) {
+        return tell(alloc, ReplyCode::CommandOkay, b"Noted");
+    }
+    say(alloc, b"522", b"Network protocol not supported, use (1)")
+}
+
 // PROT: a proxy protects each connection.
 fn protection_reply(alloc: Global, parameter: &[u8]) -> Result<Extra, AllocError>
     ensures { IfOk result (λ x. x ≡ protection_reply parameter.now) }
@@ -198,6 +213,7 @@ pub(crate) fn session_extra(
         ExtraWord::Allo => say(alloc, b"202", b"No storage has to be allocated"),
         ExtraWord::Mode => only_one(alloc, b"s", parameter),
         ExtraWord::Stru => only_one(alloc, b"f", parameter),
+        ExtraWord::Epsv => epsv_extra(alloc, parameter),
         ExtraWord::Clnt => tell(alloc, ReplyCode::CommandOkay, b"Noted"),
         ExtraWord::Pbsz if offers.is_behind_tls => tell(alloc, ReplyCode::CommandOkay, b"PBSZ=0"),
         ExtraWord::Prot if offers.is_behind_tls => protection_reply(alloc, parameter),

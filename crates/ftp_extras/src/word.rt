@@ -29,12 +29,13 @@ pub enum ExtraWord {
     Allo,
     Mode,
     Stru,
+    Epsv,
     Clnt,
     Pbsz,
     Prot,
 }
 
-const WORDS: [ExtraWord; 26] = [
+const WORDS: [ExtraWord; 27] = [
     ExtraWord::Pwd,
     ExtraWord::Xpwd,
     ExtraWord::Cdup,
@@ -58,6 +59,7 @@ const WORDS: [ExtraWord; 26] = [
     ExtraWord::Allo,
     ExtraWord::Mode,
     ExtraWord::Stru,
+    ExtraWord::Epsv,
     ExtraWord::Clnt,
     ExtraWord::Pbsz,
     ExtraWord::Prot,
@@ -90,6 +92,7 @@ fn word_text(word: ExtraWord) -> &'static [u8]
         ExtraWord::Allo => b"allo",
         ExtraWord::Mode => b"mode",
         ExtraWord::Stru => b"stru",
+        ExtraWord::Epsv => b"epsv",
         ExtraWord::Clnt => b"clnt",
         ExtraWord::Pbsz => b"pbsz",
         ExtraWord::Prot => b"prot",

@@ -25,7 +25,7 @@ const OFFERS: Offers = Offers {
 /// Lines of a client, and what it is sent behind the greeting.
 type Row<'a> = (&'a [u8], &'a [u8]);
 
-const ROWS: [Row<'static>; 4] = [
+const ROWS: [Row<'static>; 6] = [
     (
         b"PWD\r\nSYST\r\nUSER ann\r\nPASS x\r\nPWD\r\nCWD up\r\nXPWD\r\nCDUP\r\nPWD\r\n",
         b"530 Please authenticate\r\n215 UNIX Type: L8\r\n331 Password Required\r\n\
@@ -41,8 +41,21 @@ const ROWS: [Row<'static>; 4] = [
     ),
     (
         b"FEAT\r\nNOPE\r\nQUIT\r\n",
-        b"211-Extensions supported\r\n MDTM\r\n MFMT\r\n MLST type*;size*;modify*;\r\n SIZE\r\n UTF8\r\n211 End\r\n\
+        b"211-Extensions supported\r\n EPSV\r\n MDTM\r\n MFMT\r\n MLST type*;size*;modify*;\r\n SIZE\r\n UTF8\r\n211 End\r\n\
           500 Command not implemented\r\n221 Bye!\r\n",
+    ),
+    // A port is shown as RFC 2428 has it, behind a 229, and only over IP version 4.
+    (
+        b"EPSV\r\nUSER ann\r\nPASS x\r\nEPSV 2\r\nEPSV ALL\r\nepsv\r\nQUIT\r\n",
+        b"530 Please authenticate\r\n331 Password Required\r\n230 User logged in, proceed\r\n\
+          522 Network protocol not supported, use (1)\r\n200 Noted\r\n\
+          229 Entering Extended Passive Mode (|||50000|)\r\n221 Bye!\r\n",
+    ),
+    // A PASV beside it is answered as ever, and keeps its port until the EPSV has another.
+    (
+        b"USER ann\r\nPASS x\r\nPASV\r\nEPSV 1\r\nQUIT\r\n",
+        b"331 Password Required\r\n230 User logged in, proceed\r\n227 Entering Passive Mode (10,0,0,9,195,80)\r\n\
+          229 Entering Extended Passive Mode (|||50001|)\r\n221 Bye!\r\n",
     ),
     // What is not there is refused before any data connection.
     (

@@ -169,7 +169,7 @@ talk-over g state edge desk sent hs rest s =
 -- the connection was closed behind the lines
 pub talk-closed : (g : Ground) (state0 state : ControlSession) (edge0 edge : EdgeView) (desk0 desk : DeskView) (sent0 sent : Option (List ℕ))
     (d : Due) (hs : List HeardLine) (rest : List ℕ) (d0 : Decision) (s : Standing d g state0 edge0 desk0 sent0 hs rest) →
-    Spoken g state edge desk sent (turns_of s.parts) (due_pieces g s.parts) AClose (kind.Closed g.session) d0 →
+    Spoken g state edge desk sent (turns_of s.parts) (due_pieces g s.parts) AClose (kind.Closed g.session) d0 false →
     MayClose d rest →
     TalkHeard g edge desk sent hs
 talk-closed g state0 state edge0 edge desk0 desk sent0 sent d hs rest d0 s spoken may =
@@ -203,7 +203,7 @@ fed-less g (Some f) t ts h = h.0
 -- the connection was to be closed, and that was cut short
 pub front-halted : (g : Ground) (state0 state : ControlSession) (edge0 edge : EdgeView) (desk0 desk : DeskView) (sent0 sent : Option (List ℕ))
     (d : Due) (hs : List HeardLine) (rest : List ℕ) (s : Standing d g state0 edge0 desk0 sent0 hs rest) →
-    Halted g state edge desk sent (turns_of s.parts) (due_pieces g s.parts) AClose (kind.Closed g.session) →
+    Halted g state edge desk sent (turns_of s.parts) (due_pieces g s.parts) AClose (kind.Closed g.session) false →
     MayClose d rest →
     TalkFrontHeard g edge desk sent hs
 front-halted g state0 state edge0 edge desk0 desk sent0 sent d hs rest s (inl halted) may =

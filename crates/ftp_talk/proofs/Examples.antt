@@ -1,14 +1,21 @@
 -- Worked examples of the definitions, each by computation.
-use Rattle.std.proofs.Common.{◌≡◌, true, false, [], ◌∷◌, Some, None, refl, inl, inr}
+use Rattle.std.proofs.Common.{◌≡◌, ℕ, true, false, List, [], ◌∷◌, Some, None, refl, inl, inr}
 use Rattle.std.specs.Prelude.{codes}
+use Rattle.std.specs.Fmt.{digits}
 use Rattle.std.specs.Str.{is_utf8, chars}
 use lib.Utf8.{encode}
+use Rattle.ftp_base.specs.declared.reply.Reply.{Reply}
+use Rattle.ftp_base.specs.declared.reply.Reply.TheVariants.{CodeAndMsg}
+use Rattle.ftp_base.specs.declared.reply.ReplyCode.TheVariants.{FileStatusOkay, EnteringPassiveMode, CantOpenDataConnection}
+use Rattle.ftp_events.specs.declared.action.Action.{Action}
+use Rattle.ftp_events.specs.declared.action.Action.TheVariants as action
+use Rattle.ftp_events.specs.declared.decision.Decision.TheVariants.{Granted, Full}
 use Rattle.ftp_control.specs.declared.command.Command.TheVariants.{Other}
 use Rattle.ftp_extras.specs.declared.extra.Extra.TheVariants.{Say}
 use Rattle.ftp_talk.specs.ExtendedLaws.{IsMerged}
 use Rattle.ftp_talk.specs.Ground.{ALine, ALongLine}
-use Rattle.ftp_talk.specs.Parts.{HeardLine, kept_behind, is_heard_step, with_spoken}
-use Rattle.ftp_talk.specs.Pieces.{piece_text, piece_delays}
+use Rattle.ftp_talk.specs.Parts.{HeardLine, kept_behind, is_heard_step, with_spoken, epsv_port}
+use Rattle.ftp_talk.specs.Pieces.{piece_text, piece_delays, said_pieces}
 
 -- a PWD in the root
 asked_where : HeardLine
@@ -51,3 +58,25 @@ their_delays_add_up = refl
 
 two_lists_are_merged : IsMerged ((5, codes "a") ∷ (0, codes "c") ∷ []) ((0, codes "b") ∷ []) ((5, codes "a") ∷ (0, codes "b") ∷ (0, codes "c") ∷ [])
 two_lists_are_merged = inl ((0, codes "c") ∷ [], refl, inr ([], refl, inl ([], refl, (refl, refl))))
+
+-- the reply that a transfer told earlier, and the one to a PASV
+told_earlier : List (ℕ × Reply)
+told_earlier = (0, CodeAndMsg FileStatusOkay (codes "Sending data")) ∷ []
+
+to_a_pasv : List Action
+to_a_pasv = action.Reply 1 0 (CodeAndMsg EnteringPassiveMode (codes "Entering Passive Mode (10,0,0,9,195,80)")) ∷ []
+
+to_a_pasv_in_vain : List Action
+to_a_pasv_in_vain = action.Reply 1 0 (CodeAndMsg CantOpenDataConnection (codes "Could not allocate passive port")) ∷ []
+
+a_pasv_is_answered_as_it_is : said_pieces 1 (epsv_port false (Granted 50000)) told_earlier to_a_pasv ≡ (0, codes "150 Sending data\r\n") ∷ (0, codes "227 Entering Passive Mode (10,0,0,9,195,80)\r\n") ∷ []
+unfolding told_earlier to_a_pasv
+a_pasv_is_answered_as_it_is = refl
+
+an_epsv_shows_the_port_alone : said_pieces 1 (epsv_port true (Granted 50000)) told_earlier to_a_pasv ≡ (0, codes "150 Sending data\r\n") ∷ (0, codes "229 Entering Extended Passive Mode (|||50000|)\r\n") ∷ []
+unfolding told_earlier to_a_pasv digits
+an_epsv_shows_the_port_alone = refl
+
+an_epsv_without_a_port_is_refused_as_a_pasv : said_pieces 1 (epsv_port true Full) [] to_a_pasv_in_vain ≡ (0, codes "425 Could not allocate passive port\r\n") ∷ []
+unfolding to_a_pasv_in_vain
+an_epsv_without_a_port_is_refused_as_a_pasv = refl

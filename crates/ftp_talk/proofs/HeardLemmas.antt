@@ -22,10 +22,10 @@ use Rattle.ftp_talk.specs.declared.halt.Halt.{Halt}
 use Rattle.ftp_talk.specs.declared.serving.Next.{Next}
 use Rattle.ftp_talk.specs.Commands.{Gives}
 use Rattle.ftp_talk.specs.Ground.{ALine, Turn, Ground, history, lines_in}
-use Rattle.ftp_talk.specs.Parts.{HeardLine, MayDoSo, turns_of, IsHeard, GivesMore, asker_at, with_said, with_spoken, turn_pieces, due_pieces}
+use Rattle.ftp_talk.specs.Parts.{HeardLine, MayDoSo, turns_of, IsHeard, GivesMore, asker_at, with_said, with_spoken, is_epsv_line, pieces_for, due_pieces}
 use Rattle.ftp_talk.specs.Pieces.{Pieces, piece_delays, SaysPieces}
 use Rattle.ftp_talk.specs.Saying.{IsPaused}
-use Rattle.ftp_talk.specs.Speaking.{Knows, Speaking, Front, Spoken, Halted, Standing, IsCut, IsCutAt, IsHearing, Carries, HearsLines, asker_of, turn_of}
+use Rattle.ftp_talk.specs.Speaking.{Knows, Speaking, Front, Spoken, Heard, Halted, Standing, IsCut, IsCutAt, IsHearing, Carries, HearsLines, asker_of, turn_of}
 use Rattle.ftp_talk.specs.Talk.{greeting_of}
 use Rattle.ftp_talk.specs.Turns.{Due, LineDue, NothingDue, is_end, due, due_by, due_behind}
 use Rattle.ftp_talk.proofs.PieceLemmas.{delays-pieces, wrote-pieces, text-one, pieces-behind, pieces-longer, piece-front}
@@ -41,6 +41,7 @@ asker-same g state h knows = rw (knows.login, knows.name, knows.cwd) refl
 pub still-carried : (c done : Command) (y : Extra) (pieces : Pieces) → Carries c y done → with_said y pieces ≡ pieces
 still-carried c done extra.Pass pieces h = refl
 still-carried c done (extra.As other) pieces h = refl
+still-carried c done extra.Epsv pieces h = refl
 still-carried c done (extra.Tell m) pieces h = absurd h
 still-carried c done (extra.Say bytes) pieces h = absurd h
 
@@ -64,6 +65,7 @@ more-said x bytes over pieces is live = ap (λ (b : Bool). with_spoken (Some x) 
 longer-said : (y : Extra) (old new : Option (List ℕ)) (before after : ℕ) (w : List ℕ) (pieces : Pieces) → SaysPieces old new before after w pieces → SaysPieces old new before after w (with_said y pieces)
 longer-said extra.Pass old new before after w pieces h = h
 longer-said (extra.As other) old new before after w pieces h = h
+longer-said extra.Epsv old new before after w pieces h = h
 longer-said (extra.Tell m) old new before after w pieces h = h
 longer-said (extra.Say bytes) old new before after w pieces h = pieces-longer old new before after w pieces ((0, bytes) ∷ []) h
 
@@ -95,11 +97,11 @@ heard-turn g state ts x k earlier e knows stands h is gives =
 pub heard-standing : (g : Ground) (state0 state : ControlSession) (edge0 edge : EdgeView) (desk0 desk : DeskView) (sent0 sent sent1 : Option (List ℕ))
     (new : Due) (x : HeardLine) (k : EventKind) (d : Decision) (hs : List HeardLine) (rest : List ℕ)
     (s : Standing LineDue g state0 edge0 desk0 sent0 hs (x.line ++ rest))
-    (spoken : Spoken g state edge desk sent (turns_of s.parts) (due_pieces g s.parts) (ALine x.line) k d) →
+    (spoken : Spoken g state edge desk sent (turns_of s.parts) (due_pieces g s.parts) (ALine x.line) k d (is_epsv_line x.extra)) →
     IsHearing state0 x →
     GivesMore g (history g (turns_of s.parts)) x.command x.extra k →
     Speaking g state edge desk sent1 (turn_of (ALine x.line) spoken.earlier spoken.entry ∷ turns_of s.parts)
-    (with_spoken (Some x) (is_end spoken.entry.decision) (due_pieces g s.parts ++ turn_pieces g (turn_of (ALine x.line) spoken.earlier spoken.entry))) →
+    (with_spoken (Some x) (is_end spoken.entry.decision) (due_pieces g s.parts ++ pieces_for g (is_epsv_line x.extra) (turn_of (ALine x.line) spoken.earlier spoken.entry))) →
     due_by (ALine x.line) d ≡ new →
     Standing new g state edge desk sent1 (x ∷ hs) rest
 heard-standing g state0 state edge0 edge desk0 desk sent0 sent sent1 new x k d hs rest s spoken hearing gives speaking is =
@@ -115,18 +117,20 @@ heard-standing g state0 state edge0 edge desk0 desk sent0 sent sent1 new x k d h
     }
 
 -- a line was heard, and nothing is said behind the replies of its turn
-pub heard-spoken : (g : Ground) (state0 state : ControlSession) (edge0 edge : EdgeView) (desk0 desk : DeskView) (sent0 sent : Option (List ℕ))
+pub heard-spoken : {epsv : Bool} (g : Ground) (state0 state : ControlSession) (edge0 edge : EdgeView) (desk0 desk : DeskView) (sent0 sent : Option (List ℕ))
     (new : Due) (x : HeardLine) (k : EventKind) (d : Decision) (hs : List HeardLine) (rest : List ℕ)
     (s : Standing LineDue g state0 edge0 desk0 sent0 hs (x.line ++ rest)) →
-    Spoken g state edge desk sent (turns_of s.parts) (due_pieces g s.parts) (ALine x.line) k d →
+    Spoken g state edge desk sent (turns_of s.parts) (due_pieces g s.parts) (ALine x.line) k d epsv →
+    is_epsv_line x.extra ≡ epsv →
     IsHearing state0 x →
     GivesMore g (history g (turns_of s.parts)) x.command x.extra k →
     ((pieces : Pieces) → with_spoken (Some x) (is_end d) pieces ≡ pieces) →
     due_by (ALine x.line) d ≡ new →
     Standing new g state edge desk sent (x ∷ hs) rest
-heard-spoken g state0 state edge0 edge desk0 desk sent0 sent new x k d hs rest s spoken hearing gives still is =
+heard-spoken g state0 state edge0 edge desk0 desk sent0 sent new x k d hs rest s given same hearing gives still is =
+    let spoken = subst (Spoken g state edge desk sent (turns_of s.parts) (due_pieces g s.parts) (ALine x.line) k d) (sym same) given in
     let t = turn_of (ALine x.line) spoken.earlier spoken.entry in
-    let pieces = due_pieces g s.parts ++ turn_pieces g t in
+    let pieces = due_pieces g s.parts ++ pieces_for g (is_epsv_line x.extra) t in
     let same : with_spoken (Some x) (is_end spoken.entry.decision) pieces ≡ pieces = ap (λ (y : Decision). with_spoken (Some x) (is_end y) pieces) spoken.decision ∙ still pieces in
     heard-standing g state0 state edge0 edge desk0 desk sent0 sent sent new x k d hs rest s spoken hearing gives
     (subst (Speaking g state edge desk sent (t ∷ turns_of s.parts)) (sym same) spoken.speaking) is
@@ -151,10 +155,11 @@ spoken-more g state edge desk sent sent1 ts pieces bytes s wrote =
     }
 
 -- a line was heard, and bytes were said behind the replies of its turn
-pub heard-said : (g : Ground) (state0 state : ControlSession) (edge0 edge : EdgeView) (desk0 desk : DeskView) (sent0 sent sent1 : Option (List ℕ))
+pub heard-said : {epsv : Bool} (g : Ground) (state0 state : ControlSession) (edge0 edge : EdgeView) (desk0 desk : DeskView) (sent0 sent sent1 : Option (List ℕ))
     (new : Due) (x : HeardLine) (bytes : List ℕ) (k : EventKind) (d : Decision) (hs : List HeardLine) (rest : List ℕ)
     (s : Standing LineDue g state0 edge0 desk0 sent0 hs (x.line ++ rest)) →
-    Spoken g state edge desk sent (turns_of s.parts) (due_pieces g s.parts) (ALine x.line) k d →
+    Spoken g state edge desk sent (turns_of s.parts) (due_pieces g s.parts) (ALine x.line) k d epsv →
+    is_epsv_line x.extra ≡ epsv →
     IsHearing state0 x →
     GivesMore g (history g (turns_of s.parts)) x.command x.extra k →
     x.extra ≡ extra.Say bytes →
@@ -162,9 +167,10 @@ pub heard-said : (g : Ground) (state0 state : ControlSession) (edge0 edge : Edge
     Writes sent sent1 bytes →
     due_by (ALine x.line) d ≡ new →
     Standing new g state edge desk sent1 (x ∷ hs) rest
-heard-said g state0 state edge0 edge desk0 desk sent0 sent sent1 new x bytes k d hs rest s spoken hearing gives says live wrote is =
+heard-said g state0 state edge0 edge desk0 desk sent0 sent sent1 new x bytes k d hs rest s given same hearing gives says live wrote is =
+    let spoken = subst (Spoken g state edge desk sent (turns_of s.parts) (due_pieces g s.parts) (ALine x.line) k d) (sym same) given in
     let t = turn_of (ALine x.line) spoken.earlier spoken.entry in
-    let pieces = due_pieces g s.parts ++ turn_pieces g t in
+    let pieces = due_pieces g s.parts ++ pieces_for g (is_epsv_line x.extra) t in
     let more = more-said x bytes (is_end spoken.entry.decision) pieces says (ap is_end spoken.decision ∙ live) in
     heard-standing g state0 state edge0 edge desk0 desk sent0 sent sent1 new x k d hs rest s spoken hearing gives
     (subst (Speaking g state edge desk sent1 (t ∷ turns_of s.parts)) (sym more) (spoken-more g state edge desk sent sent1 (t ∷ turns_of s.parts) pieces bytes spoken.speaking wrote)) is
@@ -179,19 +185,21 @@ front-pieces g state edge desk sent ts pieces more f says =
     record { session = f.session; over = f.over; options = f.options; seen = f.seen; kept = f.kept; refused = f.refused; vouched = f.vouched; share = f.share; written = says }
 
 -- a line was heard, and its turn was cut short or did not come
-pub heard-cut : (g : Ground) (state0 state : ControlSession) (edge0 edge : EdgeView) (desk0 desk : DeskView) (sent0 sent : Option (List ℕ))
+pub heard-cut : {epsv : Bool} (g : Ground) (state0 state : ControlSession) (edge0 edge : EdgeView) (desk0 desk : DeskView) (sent0 sent : Option (List ℕ))
     (x : HeardLine) (k : EventKind) (hs : List HeardLine) (rest : List ℕ)
     (s : Standing LineDue g state0 edge0 desk0 sent0 hs (x.line ++ rest)) →
-    Halted g state edge desk sent (turns_of s.parts) (due_pieces g s.parts) (ALine x.line) k →
+    Halted g state edge desk sent (turns_of s.parts) (due_pieces g s.parts) (ALine x.line) k epsv →
+    is_epsv_line x.extra ≡ epsv →
     IsHearing state0 x →
     GivesMore g (history g (turns_of s.parts)) x.command x.extra k →
     IsCutAt g state edge desk sent hs x
-heard-cut g state0 state edge0 edge desk0 desk sent0 sent x k hs rest s (inl halted) hearing gives =
+heard-cut g state0 state edge0 edge desk0 desk sent0 sent x k hs rest s (inl halted) same hearing gives =
     inl (record { parts = s.parts; rest = x.line ++ rest; cut = s.cut; ruled = s.ruled; heard = s.heard; long = s.long; front = halted.0 })
-heard-cut g state0 state edge0 edge desk0 desk sent0 sent x k hs rest s (inr heard) hearing gives =
+heard-cut g state0 state edge0 edge desk0 desk sent0 sent x k hs rest s (inr given) same hearing gives =
+    let heard = subst (Heard g state edge desk sent (turns_of s.parts) (due_pieces g s.parts) (ALine x.line) k) (sym same) given in
     let ts = turns_of s.parts in
     let t = turn_of (ALine x.line) heard.earlier heard.entry in
-    let pieces = due_pieces g s.parts ++ turn_pieces g t in
+    let pieces = due_pieces g s.parts ++ pieces_for g (is_epsv_line x.extra) t in
     inr (record {
       parts = record { turn = t; heard = Some x } ∷ s.parts;
       rest = rest;
@@ -204,20 +212,22 @@ heard-cut g state0 state edge0 edge desk0 desk sent0 sent x k hs rest s (inr hea
     })
 
 -- a line was heard, and of the bytes behind its replies a part was said
-pub heard-part : (g : Ground) (state0 state : ControlSession) (edge0 edge : EdgeView) (desk0 desk : DeskView) (sent0 sent sent1 : Option (List ℕ))
+pub heard-part : {epsv : Bool} (g : Ground) (state0 state : ControlSession) (edge0 edge : EdgeView) (desk0 desk : DeskView) (sent0 sent sent1 : Option (List ℕ))
     (x : HeardLine) (bytes : List ℕ) (k : EventKind) (d : Decision) (hs : List HeardLine) (rest : List ℕ)
     (s : Standing LineDue g state0 edge0 desk0 sent0 hs (x.line ++ rest)) →
-    Spoken g state edge desk sent (turns_of s.parts) (due_pieces g s.parts) (ALine x.line) k d →
+    Spoken g state edge desk sent (turns_of s.parts) (due_pieces g s.parts) (ALine x.line) k d epsv →
+    is_epsv_line x.extra ≡ epsv →
     IsHearing state0 x →
     GivesMore g (history g (turns_of s.parts)) x.command x.extra k →
     x.extra ≡ extra.Say bytes →
     is_end d ≡ false →
     WritesFront sent sent1 bytes →
     IsCut g state edge desk sent1 (x ∷ hs)
-heard-part g state0 state edge0 edge desk0 desk sent0 sent sent1 x bytes k d hs rest s spoken hearing gives says live wrote =
+heard-part g state0 state edge0 edge desk0 desk sent0 sent sent1 x bytes k d hs rest s given same hearing gives says live wrote =
+    let spoken = subst (Spoken g state edge desk sent (turns_of s.parts) (due_pieces g s.parts) (ALine x.line) k d) (sym same) given in
     let ts = turns_of s.parts in
     let t = turn_of (ALine x.line) spoken.earlier spoken.entry in
-    let pieces = due_pieces g s.parts ++ turn_pieces g t in
+    let pieces = due_pieces g s.parts ++ pieces_for g (is_epsv_line x.extra) t in
     let more = more-said x bytes (is_end spoken.entry.decision) pieces says (ap is_end spoken.decision ∙ live) in
     let z = spoken.speaking in
     record {
@@ -245,6 +255,7 @@ heard-part g state0 state edge0 edge desk0 desk sent0 sent sent1 x bytes k d hs 
 pub gives-carried : (g : Ground) (h : List Entry) (c done : Command) (y : Extra) (k : EventKind) → Carries c y done → Gives g h done k → GivesMore g h c y k
 gives-carried g h c done extra.Pass k is gives = subst (λ (x : Command). Gives g h x k) (sym is) gives
 gives-carried g h c done (extra.As other) k is gives = subst (λ (x : Command). Gives g h x k) (sym is) gives
+gives-carried g h c done extra.Epsv k is gives = subst (λ (x : Command). Gives g h x k) (sym is) gives
 gives-carried g h c done (extra.Tell m) k is gives = absurd is
 gives-carried g h c done (extra.Say bytes) k is gives = absurd is
 

@@ -3,9 +3,9 @@ use Rattle.std.proofs.Common.{◌≡◌, ℕ, Bool, true, false, List, [], ◌�
 use Rattle.std.proofs.lemmas.List.{append-nil}
 use Rattle.ftp_extras.specs.declared.extra.Extra.{Extra}
 use Rattle.ftp_extras.specs.declared.extra.Extra.TheVariants as extra
-use Rattle.ftp_talk.specs.ExtendedLaws.{IsMerged, said_on_lines, SaysReplies}
+use Rattle.ftp_talk.specs.ExtendedLaws.{IsMerged, said_on_lines, replies_in_form, HasNoEpsv, SaysReplies}
 use Rattle.ftp_talk.specs.Ground.{Ground}
-use Rattle.ftp_talk.specs.Parts.{HeardLine, TalkPart, turns_of, with_said, with_spoken, turn_pieces, due_pieces}
+use Rattle.ftp_talk.specs.Parts.{HeardLine, TalkPart, turns_of, with_said, with_spoken, is_epsv_at, pieces_for, turn_pieces, due_pieces}
 use Rattle.ftp_talk.specs.Pieces.{Pieces, pieces_of}
 use Rattle.ftp_talk.specs.Saying.{said}
 use Rattle.ftp_talk.specs.Talk.{due_replies}
@@ -38,6 +38,7 @@ merged-last a b (p ∷ c) more (inr m) = inr (m.0 ++ more, ap (λ (x : Pieces). 
 with-said-last : (y : Extra) (pieces : Pieces) → with_said y pieces ≡ pieces ++ with_said y []
 with-said-last extra.Pass pieces = sym (append-nil pieces)
 with-said-last (extra.As other) pieces = sym (append-nil pieces)
+with-said-last extra.Epsv pieces = sym (append-nil pieces)
 with-said-last (extra.Tell m) pieces = sym (append-nil pieces)
 with-said-last (extra.Say bytes) pieces = refl
 
@@ -46,17 +47,28 @@ with-more-last None over pieces = sym (append-nil pieces)
 with-more-last (Some x) true pieces = sym (append-nil pieces)
 with-more-last (Some x) false pieces = with-said-last x.extra pieces
 
+-- what is said behind the replies, between them and what was said on lines
+says-between : (g : Ground) (ps : List TalkPart) → IsMerged (replies_in_form g ps) (said_on_lines ps) (due_pieces g ps)
+says-between g [] = (refl, refl)
+says-between g (p ∷ ps) =
+    let over = is_end p.turn.entry.decision in
+    let more = with_spoken p.heard over [] in
+    let turn = pieces_for g (is_epsv_at p.heard) p.turn in
+    let pieces = due_pieces g ps ++ turn in
+    let replies = replies_in_form g ps ++ turn in
+    let said1 = merged-more (replies_in_form g ps) (said_on_lines ps) (due_pieces g ps) turn (says-between g ps) in
+    subst (IsMerged replies (said_on_lines ps ++ more)) (sym (with-more-last p.heard over pieces))
+    (merged-last replies (said_on_lines ps) pieces more said1)
+
+-- without an EPSV the replies are those of a talk
+in-form-plain : (g : Ground) (ps : List TalkPart) → HasNoEpsv ps → replies_in_form g ps ≡ pieces_of (due_replies g (turns_of ps))
+in-form-plain g [] none = refl
+in-form-plain g (p ∷ ps) none =
+    let t = p.turn in
+    ap (λ (b : Bool). replies_in_form g ps ++ pieces_for g b t) none.0
+    ∙ ap (λ (x : Pieces). x ++ turn_pieces g t) (in-form-plain g ps none.1)
+    ∙ sym (replies-pieces (due_replies g (turns_of ps)) (said g.session t.earlier t.entry.actions))
+
 -- the law
 pub says-merged : SaysReplies
-says-merged g [] = (refl, refl)
-says-merged g (p ∷ ps) =
-    let t = p.turn in
-    let replies = due_replies g (turns_of ps) in
-    let lines = said_on_lines ps in
-    let over = is_end t.entry.decision in
-    let pieces = due_pieces g ps ++ turn_pieces g t in
-    let more = with_spoken p.heard over [] in
-    let turn = merged-more (pieces_of replies) lines (due_pieces g ps) (turn_pieces g t) (says-merged g ps) in
-    let said1 = subst (λ (x : Pieces). IsMerged x lines pieces) (sym (replies-pieces replies (said g.session t.earlier t.entry.actions))) turn in
-    subst (IsMerged (pieces_of (due_replies g (turns_of (p ∷ ps)))) (lines ++ more)) (sym (with-more-last p.heard over pieces))
-    (merged-last (pieces_of (due_replies g (turns_of (p ∷ ps)))) lines pieces more said1)
+says-merged g ps = (says-between g ps, in-form-plain g ps)

@@ -146,3 +146,39 @@ piece-front old new at bytes wrote =
       most = none;
       paused = paused-none at at refl;
     }
+
+-- ---- replies, and one piece behind them
+
+replies-alone : (a : List (ℕ × Reply)) → a ++ [] ≡ a
+replies-alone a = append-nil a
+
+-- all was said
+pub wrote-last : (old mid new : Option (List ℕ)) (a : List (ℕ × Reply)) (line : List ℕ) →
+    Writes old mid (encodings (a ++ [])) → Writes mid new line → Writes old new (piece_text (pieces_of a ++ (0, line) ∷ []))
+wrote-last old mid new a line first second =
+    let text : encodings (a ++ []) ≡ piece_text (pieces_of a) = ap encodings (replies-alone a) ∙ sym (text-replies a) in
+    wrote-pieces old mid new [] (pieces_of a) ((0, line) ∷ []) (subst (Writes old mid) text first) (subst (Writes mid new) (sym (text-one line)) second)
+
+pub paused-last : (before after : ℕ) (a : List (ℕ × Reply)) (line : List ℕ) →
+    IsPaused (delays (a ++ [])) before after → IsPaused (piece_delays (pieces_of a ++ (0, line) ∷ [])) before after
+paused-last before after a line paused =
+    let all : delays (a ++ []) ≡ piece_delays (pieces_of a ++ (0, line) ∷ []) =
+    omega (arith, ap delays (replies-alone a), delays-replies a, delays-pieces (pieces_of a) ((0, line) ∷ [])) in
+    subst (λ (n : ℕ). IsPaused n before after) all paused
+
+-- a part of the replies was said
+pub says-first : (old new : Option (List ℕ)) (before after : ℕ) (a : List (ℕ × Reply)) (line : List ℕ) →
+    SaysFront old new before after [] (a ++ []) → SaysPieces old new before after [] (pieces_of a ++ (0, line) ∷ [])
+says-first old new before after a line h =
+    pieces-longer old new before after [] (pieces_of a) ((0, line) ∷ [])
+    (subst (λ (rs : List (ℕ × Reply)). SaysPieces old new before after [] (pieces_of rs)) (replies-alone a) (says-replies old new before after [] (a ++ []) h))
+
+-- the replies were said, and a part of the piece behind them
+pub says-last : (old mid new : Option (List ℕ)) (before after : ℕ) (a : List (ℕ × Reply)) (line : List ℕ) →
+    Writes old mid (encodings (a ++ [])) → IsPaused (delays (a ++ [])) before after → WritesFront mid new line →
+    SaysPieces old new before after [] (pieces_of a ++ (0, line) ∷ [])
+says-last old mid new before after a line first paused front =
+    let text : encodings (a ++ []) ≡ piece_text (pieces_of a) = ap encodings (replies-alone a) ∙ sym (text-replies a) in
+    let millis : delays (a ++ []) ≡ piece_delays (pieces_of a) = ap delays (replies-alone a) ∙ sym (delays-replies a) in
+    pieces-behind old mid new before after after [] (pieces_of a) ((0, line) ∷ []) (subst (Writes old mid) text first)
+    (subst (λ (n : ℕ). IsPaused n before after) millis paused) (piece-front mid new after line front)

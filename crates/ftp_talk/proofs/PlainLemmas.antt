@@ -24,7 +24,7 @@ use Rattle.ftp_talk.specs.Control.{IsServedTo, Serves}
 use Rattle.ftp_talk.specs.ControlWith.{IsServedWith, ServesWith}
 use Rattle.ftp_talk.specs.Extended.{TalkHeard, TalkFrontHeard, OutcomeWith}
 use Rattle.ftp_talk.specs.Ground.{Step, ALine, Turn, Start, Ground, history}
-use Rattle.ftp_talk.specs.Parts.{HeardLine, TalkPart, turns_of, with_heard, heard_in, MayDoSo, AreAllowed, GivesMore, IsHeard, ComesWith, Parts, with_said, with_spoken, turn_pieces, due_pieces, pieces_by}
+use Rattle.ftp_talk.specs.Parts.{HeardLine, TalkPart, turns_of, with_heard, heard_in, MayDoSo, AreAllowed, GivesMore, IsHeard, ComesWith, Parts, with_said, with_spoken, is_epsv_line, is_epsv_at, pieces_for, turn_pieces, due_pieces, pieces_by}
 use Rattle.ftp_talk.specs.Pieces.{Pieces, pieces_of, piece_text, piece_delays, SaysPieces}
 use Rattle.ftp_talk.specs.Saying.{encodings, delays, IsPaused, SaysFront, said}
 use Rattle.ftp_talk.specs.Speaking.{Outcome}
@@ -71,12 +71,18 @@ more-plain None over pieces plain = refl
 more-plain (Some x) true pieces plain = refl
 more-plain (Some x) false pieces plain = ap (λ (y : Extra). with_said y pieces) plain
 
+epsv-plain : (h : Option HeardLine) → IsPlainAt h → is_epsv_at h ≡ false
+epsv-plain None plain = refl
+epsv-plain (Some x) plain = ap is_epsv_line plain
+
 -- what is to be said are the replies
 pieces-plain : (g : Ground) (ps : List TalkPart) → ArePlain (heard_in ps) → due_pieces g ps ≡ pieces_of (due_replies g (turns_of ps))
 pieces-plain g [] plain = refl
 pieces-plain g (p ∷ ps) plain =
     let t = p.turn in
-    more-plain p.heard _ (due_pieces g ps ++ turn_pieces g t) (plain-first p.heard (heard_in ps) plain)
+    let first = plain-first p.heard (heard_in ps) plain in
+    more-plain p.heard _ (due_pieces g ps ++ pieces_for g (is_epsv_at p.heard) t) first
+    ∙ ap (λ (b : Bool). due_pieces g ps ++ pieces_for g b t) (epsv-plain p.heard first)
     ∙ ap (λ (x : Pieces). x ++ turn_pieces g t) (pieces-plain g ps (plain-rest p.heard (heard_in ps) plain))
     ∙ sym (replies-pieces (due_replies g (turns_of ps)) (said g.session t.earlier t.entry.actions))
 

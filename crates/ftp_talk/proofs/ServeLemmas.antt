@@ -200,7 +200,7 @@ input-same input a b e h = subst (IsInput input) e h
 pub standing-spoken : (g : Ground) (state0 state : ControlSession) (edge0 edge : EdgeView) (desk0 desk : DeskView) (sent0 sent : Option (List ℕ))
     (old new : Due) (step : Step) (k : EventKind) (d : Decision) (hs : List HeardLine) (rest : List ℕ)
     (s : Standing old g state0 edge0 desk0 sent0 hs (line_of step ++ rest)) →
-    Spoken g state edge desk sent (turns_of s.parts) (due_pieces g s.parts) step k d →
+    Spoken g state edge desk sent (turns_of s.parts) (due_pieces g s.parts) step k d false →
     Comes g (history g (turns_of s.parts)) old step k →
     is_heard_step step ≡ false →
     (is_long step ≡ true → IsLong rest) →
@@ -230,7 +230,7 @@ standing-spoken g state0 state edge0 edge desk0 desk sent0 sent old new step k d
 pub cut-spoken : (g : Ground) (state0 state : ControlSession) (edge0 edge : EdgeView) (desk0 desk : DeskView) (sent0 sent : Option (List ℕ))
     (old : Due) (step : Step) (k : EventKind) (hs : List HeardLine) (rest : List ℕ)
     (s : Standing old g state0 edge0 desk0 sent0 hs (line_of step ++ rest)) →
-    Halted g state edge desk sent (turns_of s.parts) (due_pieces g s.parts) step k →
+    Halted g state edge desk sent (turns_of s.parts) (due_pieces g s.parts) step k false →
     Comes g (history g (turns_of s.parts)) old step k →
     is_heard_step step ≡ false →
     (is_long step ≡ true → IsLong rest) →

@@ -173,6 +173,7 @@ same-one e a b neutral s =
 internal-told : (g : Ground) (h : List Entry) (c : _) (y : Extra) (k : EventKind) → is_told y ≡ true → GivesMore g h c y k → (m : ControlChanMsg) × (k ≡ kind.Internal g.session m)
 internal-told g h c extra.Pass k told gives = absurd (cc)
 internal-told g h c (extra.As other) k told gives = absurd (cc)
+internal-told g h c extra.Epsv k told gives = absurd (cc)
 internal-told g h c (extra.Tell m) k told gives = (m, gives)
 internal-told g h c (extra.Say bytes) k told gives = (CommandChannelReply reply.None, gives)
 

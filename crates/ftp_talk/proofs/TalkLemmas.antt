@@ -13,10 +13,9 @@ use Rattle.ftp_events.specs.declared.event.EventKind.{EventKind}
 use Rattle.ftp_events.specs.declared.event.EventKind.TheVariants as kind
 use Rattle.ftp_shared.specs.Outbox.{own_session, outbox_after, replies_in}
 use Rattle.ftp_shared.specs.Desk.{DeskView, SameDesk, Appends, IsVouched, RisesBy}
-use Rattle.ftp_talk.specs.Saying.{encodings, delays, said, IsPaused, SaysFront}
-use Rattle.ftp_talk.specs.Pieces.{Pieces, pieces_of, piece_text, piece_delays, SaysPieces}
-use Rattle.ftp_talk.specs.Parts.{turn_pieces}
-use Rattle.ftp_talk.proofs.PieceLemmas.{text-replies, delays-replies, wrote-pieces, paused-pieces, says-replies, pieces-behind, pieces-all}
+use Rattle.ftp_talk.specs.Saying.{IsPaused}
+use Rattle.ftp_talk.specs.Pieces.{Pieces, piece_text, piece_delays, SaysPieces}
+use Rattle.ftp_talk.proofs.PieceLemmas.{wrote-pieces, paused-pieces, pieces-behind, pieces-all}
 use Rattle.ftp_talk.specs.declared.control_session.ControlSession.{ControlSession}
 use Rattle.ftp_talk.specs.Ground.{Step, Turn, Ground, history}
 use Rattle.ftp_talk.specs.Commands.{asked_name, asked_range, asked_target}
@@ -159,20 +158,19 @@ shares-more g desk desk1 ts step earlier e before more =
 
 -- an event was submitted and answered
 pub spoken-is : (g : Ground) (vouches : Bool) (state state1 : ControlSession) (edge edge1 edge2 : EdgeView) (desk desk1 : DeskView) (sent sent1 : Option (List ℕ))
-    (ts : List Turn) (pieces : Pieces) (step : Step) (earlier : List (ℕ × Reply)) (e : Entry) (k : EventKind) →
+    (ts : List Turn) (pieces more : Pieces) (step : Step) (earlier : List (ℕ × Reply)) (e : Entry) (k : EventKind) →
     Asking g state edge desk sent ts pieces k →
     g.start.vouches ≡ vouches →
     Entered vouches edge edge1 desk desk1 earlier e k →
     Takes (λ f. f) edge1 edge2 →
     Knows g state1 (e ∷ history g ts) →
     state1.is_over ≡ is_end e.decision →
-    Writes sent sent1 (encodings (said g.session earlier e.actions)) →
-    IsPaused (delays (said g.session earlier e.actions)) edge1.paused edge2.paused →
-    Speaking g state1 edge2 desk1 sent1 (turn_of step earlier e ∷ ts) (pieces ++ turn_pieces g (turn_of step earlier e))
-spoken-is g vouches state state1 edge edge1 edge2 desk desk1 sent sent1 ts pieces step earlier e k asking same n two knows over wrote paused =
+    Writes sent sent1 (piece_text more) →
+    IsPaused (piece_delays more) edge1.paused edge2.paused →
+    Speaking g state1 edge2 desk1 sent1 (turn_of step earlier e ∷ ts) (pieces ++ more)
+spoken-is g vouches state state1 edge edge1 edge2 desk desk1 sent sent1 ts pieces more step earlier e k asking same n two knows over wrote paused =
     let a = subst (Asking g state edge desk sent ts pieces) (sym n.kind) asking in
     let kept = kept-more g desk desk1 ts step earlier e a.kept n.appended a.named in
-    let replies = said g.session earlier e.actions in
     record {
       seen = record {
         fed = fed-more g g.start.edge.feed edge.feed ts e a.fed a.feed n.moment;
@@ -192,25 +190,23 @@ spoken-is g vouches state state1 edge edge1 edge2 desk desk1 sent sent1 ts piece
       vouched = vouched-more g vouches desk ts step earlier e a.vouched same a.ground.options n.vouched;
       share = shares-more g desk desk1 ts step earlier e a.share n.share;
       refused = omega (arith, a.refused, n.unrefused);
-      written = wrote-pieces g.start.sent sent sent1 (greeting_of g) pieces (pieces_of replies) a.written (subst (Writes sent sent1) (sym (text-replies replies)) wrote);
-      paused = paused-pieces g.start.edge.paused edge.paused edge1.paused edge2.paused pieces (pieces_of replies) a.paused n.unpaused
-          (subst (λ (n : ℕ). IsPaused n edge1.paused edge2.paused) (sym (delays-replies replies)) paused);
+      written = wrote-pieces g.start.sent sent sent1 (greeting_of g) pieces more a.written wrote;
+      paused = paused-pieces g.start.edge.paused edge.paused edge1.paused edge2.paused pieces more a.paused n.unpaused paused;
     }
 
 -- an event was submitted, and a part of what is due was said
 pub front-after : (g : Ground) (vouches : Bool) (state state1 : ControlSession) (edge edge1 edge2 : EdgeView) (desk desk1 : DeskView) (sent sent1 : Option (List ℕ))
-    (ts : List Turn) (pieces : Pieces) (step : Step) (earlier : List (ℕ × Reply)) (e : Entry) (k : EventKind) →
+    (ts : List Turn) (pieces more : Pieces) (step : Step) (earlier : List (ℕ × Reply)) (e : Entry) (k : EventKind) →
     Asking g state edge desk sent ts pieces k →
     g.start.vouches ≡ vouches →
     Entered vouches edge edge1 desk desk1 earlier e k →
     edge1.faults ≤ edge2.faults →
     state1.session ≡ state.session →
     state1.is_over ≡ is_end e.decision →
-    SaysFront sent sent1 edge1.paused edge2.paused [] (said g.session earlier e.actions) →
-    Front g state1 edge2 desk1 sent1 (turn_of step earlier e ∷ ts) (pieces ++ turn_pieces g (turn_of step earlier e))
-front-after g vouches state state1 edge edge1 edge2 desk desk1 sent sent1 ts pieces step earlier e k asking same n two session over says =
+    SaysPieces sent sent1 edge1.paused edge2.paused [] more →
+    Front g state1 edge2 desk1 sent1 (turn_of step earlier e ∷ ts) (pieces ++ more)
+front-after g vouches state state1 edge edge1 edge2 desk desk1 sent sent1 ts pieces more step earlier e k asking same n two session over says =
     let a = subst (Asking g state edge desk sent ts pieces) (sym n.kind) asking in
-    let replies = said g.session earlier e.actions in
     record {
       session = session ∙ a.known.session;
       over = over;
@@ -224,8 +220,8 @@ front-after g vouches state state1 edge edge1 edge2 desk desk1 sent sent1 ts pie
       vouched = vouched-more g vouches desk ts step earlier e a.vouched same a.ground.options n.vouched;
       share = shares-more g desk desk1 ts step earlier e a.share n.share;
       refused = omega (arith, a.refused, n.unrefused);
-      written = pieces-behind g.start.sent sent sent1 g.start.edge.paused edge1.paused edge2.paused (greeting_of g) pieces (pieces_of replies) a.written
-          (subst (IsPaused (piece_delays pieces) g.start.edge.paused) (sym n.unpaused) a.paused) (says-replies sent sent1 edge1.paused edge2.paused [] replies says);
+      written = pieces-behind g.start.sent sent sent1 g.start.edge.paused edge1.paused edge2.paused (greeting_of g) pieces more a.written
+          (subst (IsPaused (piece_delays pieces) g.start.edge.paused) (sym n.unpaused) a.paused) says;
     }
 
 -- all that is due was said, and nothing was paused since

@@ -1,6 +1,6 @@
 -- What holds of a talk with extras, whatever they may do.
 --   IsTalkWithoutExtras   where none does anything, it is the talk
---   SaysReplies           what was said on the lines left out, it says the replies of its turns
+--   SaysReplies           what was said on the lines left out, it says the replies of its turns, an EPSV's as an EPSV has it
 --   KeepsSession          login, name, directory, offset, slot and transfers are those of its turns without the lines on which a
 --                         message was told or bytes were said
 use Rattle.std.specs.Prelude.{◌≡◌, ℕ, ◌⊎◌, Bool, true, false, List, [], ◌∷◌, ◌++◌, Option, Some, None, if◌then◌else◌}
@@ -15,7 +15,7 @@ use Rattle.ftp_extras.specs.declared.extra.Extra.TheVariants as extra
 use Rattle.ftp_shared.specs.Desk.{DeskView}
 use Rattle.ftp_talk.specs.Extended.{TalkHeard, TalkFrontHeard}
 use Rattle.ftp_talk.specs.Ground.{Turn, Ground, history}
-use Rattle.ftp_talk.specs.Parts.{HeardLine, TalkPart, turns_of, Parts, with_spoken, due_pieces}
+use Rattle.ftp_talk.specs.Parts.{HeardLine, TalkPart, turns_of, Parts, with_spoken, is_epsv_at, pieces_for, due_pieces}
 use Rattle.ftp_talk.specs.Pieces.{Pieces, pieces_of}
 use Rattle.ftp_talk.specs.Talk.{Talk, TalkFront, AreVouched, due_replies}
 use Rattle.ftp_talk.specs.Turns.{is_end}
@@ -37,9 +37,21 @@ abbrev pub said_on_lines : List TalkPart → Pieces
 said_on_lines [] = []
 said_on_lines (p ∷ ps) = said_on_lines ps ++ with_spoken p.heard (is_end p.turn.entry.decision) []
 
--- what is to be said are the replies of the turns, as in a talk, and between them what is said on lines
+-- the replies of the turns, where that to an EPSV which is granted a port stands in place of that to its PASV
+abbrev pub replies_in_form : Ground → List TalkPart → Pieces
+replies_in_form g [] = []
+replies_in_form g (p ∷ ps) = replies_in_form g ps ++ pieces_for g (is_epsv_at p.heard) p.turn
+
+-- no line is an EPSV
+abbrev pub HasNoEpsv : List TalkPart → Type 0
+HasNoEpsv ps = AllByRecursion (λ (p : TalkPart). is_epsv_at p.heard ≡ false) ps
+
+-- what is to be said are the replies of the turns, and between them what is said on lines; without an EPSV they are those of a
+-- talk
 abbrev pub SaysReplies : Type 0
-SaysReplies = (g : Ground) (ps : List TalkPart) → IsMerged (pieces_of (due_replies g (turns_of ps))) (said_on_lines ps) (due_pieces g ps)
+SaysReplies =
+    (g : Ground) (ps : List TalkPart) →
+    IsMerged (replies_in_form g ps) (said_on_lines ps) (due_pieces g ps) × (HasNoEpsv ps → replies_in_form g ps ≡ pieces_of (due_replies g (turns_of ps)))
 
 -- a message was told, or bytes were said
 abbrev pub is_told : Extra → Bool

@@ -2,13 +2,16 @@
 use Rattle.std.specs.Prelude.{◌≡◌, ℕ, ⊤, Bool, true, false, List, [], ◌∷◌, ◌++◌, Option, Some, None, Result, Ok, Err, not, if◌then◌else◌}
 use Rattle.ftp_base.specs.declared.message.ControlChanMsg.TheVariants as message
 use Rattle.ftp_base.specs.declared.reply.Reply.TheVariants as reply
+use Rattle.ftp_events.specs.declared.decision.Decision.{Decision}
 use Rattle.ftp_events.specs.declared.entry.Entry.{Entry}
 use Rattle.ftp_events.specs.declared.event.Answer.TheVariants as answer
 use Rattle.ftp_events.specs.declared.event.EventKind.{EventKind}
 use Rattle.ftp_events.specs.declared.event.EventKind.TheVariants as kind
+use Rattle.ftp_events.specs.Board.{granted_port}
 use Rattle.ftp_events.specs.Login.{login_state, user_name}
 use Rattle.ftp_events.specs.Place.{cwd}
 use Rattle.ftp_control.specs.declared.command.Command.{Command}
+use Rattle.ftp_control.specs.declared.command.Command.TheVariants.{Pasv}
 use Rattle.ftp_control.specs.declared.line.LineError.{LineError}
 use Rattle.ftp_control.specs.Line.{parsed}
 use Rattle.ftp_control.specs.ControlLine.{IsLine}
@@ -17,8 +20,7 @@ use Rattle.ftp_extras.specs.declared.extra.Extra.TheVariants as extra
 use Rattle.ftp_extras.specs.Extra.{AskerView, gives_password, is_beside, IsWhole}
 use Rattle.ftp_talk.specs.Commands.{is_in, Gives}
 use Rattle.ftp_talk.specs.Ground.{Step, ALine, Turn, Ground, history}
-use Rattle.ftp_talk.specs.Pieces.{Pieces, pieces_of}
-use Rattle.ftp_talk.specs.Saying.{said}
+use Rattle.ftp_talk.specs.Pieces.{Pieces, said_pieces}
 use Rattle.ftp_talk.specs.Turns.{LineDue, is_end, due, Comes}
 
 -- a line on which the extras were asked: who asked, what was kept from the line before, its command, what was done, and what
@@ -73,6 +75,7 @@ GivesMore g h c extra.Pass k = Gives g h c k
 GivesMore g h c (extra.Tell m) k = k ≡ kind.Internal g.session m
 GivesMore g h c (extra.Say bytes) k = k ≡ kind.Internal g.session (message.CommandChannelReply reply.None)
 GivesMore g h c (extra.As other) k = Gives g h other k
+GivesMore g h c extra.Epsv k = Gives g h Pasv k
 
 -- a turn for a line that was heard: it is the line of a command that gives no password, heard for who asks, and on it nothing
 -- is done in place of a command of the profile, but that a transfer may be refused
@@ -116,14 +119,33 @@ abbrev pub with_spoken : Option HeardLine → Bool → Pieces → Pieces
 with_spoken None over pieces = pieces
 with_spoken (Some x) over pieces = if over then pieces else with_said x.extra pieces
 
--- the pieces of a turn: the replies that came earlier, and those of its entry
+-- the line is an EPSV, for which a PASV is carried out
+abbrev pub is_epsv_line : Extra → Bool
+is_epsv_line extra.Epsv = true
+is_epsv_line _ = false
+
+abbrev pub is_epsv_at : Option HeardLine → Bool
+is_epsv_at None = false
+is_epsv_at (Some x) = is_epsv_line x.extra
+
+-- the port that is granted for an EPSV
+abbrev pub epsv_port : Bool → Decision → Option ℕ
+epsv_port true d = granted_port d
+epsv_port false d = None
+
+-- the pieces of a turn, for an EPSV or not: the replies that came earlier, and those of its entry, or the one that shows the
+-- port
+abbrev pub pieces_for : Ground → Bool → Turn → Pieces
+pieces_for g epsv t = said_pieces g.session (epsv_port epsv t.entry.decision) t.earlier t.entry.actions
+
+-- the pieces of a turn that is for no EPSV
 abbrev pub turn_pieces : Ground → Turn → Pieces
-turn_pieces g t = pieces_of (said g.session t.earlier t.entry.actions)
+turn_pieces g t = pieces_for g false t
 
 -- what is to be said: part by part the replies, and what is said behind them
 abbrev pub due_pieces : Ground → List TalkPart → Pieces
 due_pieces g [] = []
-due_pieces g (p ∷ ps) = with_spoken p.heard (is_end p.turn.entry.decision) (due_pieces g ps ++ turn_pieces g p.turn)
+due_pieces g (p ∷ ps) = with_spoken p.heard (is_end p.turn.entry.decision) (due_pieces g ps ++ pieces_for g (is_epsv_at p.heard) p.turn)
 
 -- with the replies of the turn in which the connection is closed
 abbrev pub pieces_by : Ground → Option Turn → List TalkPart → Pieces

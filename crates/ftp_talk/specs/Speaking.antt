@@ -20,6 +20,7 @@ use Rattle.ftp_options.specs.Modes.{is_active_off}
 use Rattle.ftp_events.specs.declared.session.Login.TheVariants as login
 use Rattle.ftp_shared.specs.Outbox.{own_session}
 use Rattle.ftp_control.specs.declared.command.Command.{Command}
+use Rattle.ftp_control.specs.declared.command.Command.TheVariants.{Pasv}
 use Rattle.ftp_control.specs.Lines.{Rest}
 use Rattle.ftp_shared.specs.Desk.{DeskView, IsVouched, Appends, RisesBy}
 use Rattle.ftp_control.specs.ControlLine.{IsLine, IsLong}
@@ -42,7 +43,7 @@ use Rattle.ftp_talk.specs.Seen.{IsSeen, IsDrawn, IsAsked, missing, behind_asked,
 use Rattle.ftp_talk.specs.Talk.{Talk, TalkFront, IsInput, AreVouched, Shares, greeting_of, is_over, is_long_last}
 use Rattle.ftp_talk.specs.Saying.{IsPaused}
 use Rattle.ftp_talk.specs.Pieces.{Pieces, piece_text, piece_delays, SaysPieces}
-use Rattle.ftp_talk.specs.Parts.{HeardLine, TalkPart, turns_of, heard_in, MayDoSo, AreAllowed, kept_behind, Parts, turn_pieces, due_pieces}
+use Rattle.ftp_talk.specs.Parts.{HeardLine, TalkPart, turns_of, heard_in, MayDoSo, AreAllowed, kept_behind, Parts, pieces_for, due_pieces}
 use Rattle.ftp_talk.specs.Extended.{TalkHeard, TalkFrontHeard}
 
 -- what a state knows is what these entries tell
@@ -184,26 +185,26 @@ pub record Entered (vouches : Bool) (edge edge1 : EdgeView) (desk desk1 : DeskVi
 abbrev pub turn_of : Step → List (ℕ × Reply) → Entry → Turn
 turn_of step earlier e = record { step = step; earlier = earlier; entry = e }
 
--- the event was submitted, decided so, and answered
-pub record Spoken (g : Ground) (state : ControlSession) (edge : EdgeView) (desk : DeskView) (sent : Option (List ℕ)) (ts : List Turn) (pieces : Pieces) (step : Step) (k : EventKind) (d : Decision) : Type 0 where
+-- the event was submitted, decided so, and answered, as for an EPSV or not
+pub record Spoken (g : Ground) (state : ControlSession) (edge : EdgeView) (desk : DeskView) (sent : Option (List ℕ)) (ts : List Turn) (pieces : Pieces) (step : Step) (k : EventKind) (d : Decision) (epsv : Bool) : Type 0 where
   pub earlier : List (ℕ × Reply)
   pub entry : Entry
   pub kind : entry.event.kind ≡ k
   pub answer : entry.answer ≡ answer.None
   pub decision : entry.decision ≡ d
-  pub speaking : Speaking g state edge desk sent (turn_of step earlier entry ∷ ts) (pieces ++ turn_pieces g (turn_of step earlier entry))
+  pub speaking : Speaking g state edge desk sent (turn_of step earlier entry ∷ ts) (pieces ++ pieces_for g epsv (turn_of step earlier entry))
 
 -- the event was submitted, and of what is due a front was said
-pub record Heard (g : Ground) (state : ControlSession) (edge : EdgeView) (desk : DeskView) (sent : Option (List ℕ)) (ts : List Turn) (pieces : Pieces) (step : Step) (k : EventKind) : Type 0 where
+pub record Heard (g : Ground) (state : ControlSession) (edge : EdgeView) (desk : DeskView) (sent : Option (List ℕ)) (ts : List Turn) (pieces : Pieces) (step : Step) (k : EventKind) (epsv : Bool) : Type 0 where
   pub earlier : List (ℕ × Reply)
   pub entry : Entry
   pub kind : entry.event.kind ≡ k
   pub answer : entry.answer ≡ answer.None
-  pub front : Front g state edge desk sent (turn_of step earlier entry ∷ ts) (pieces ++ turn_pieces g (turn_of step earlier entry))
+  pub front : Front g state edge desk sent (turn_of step earlier entry ∷ ts) (pieces ++ pieces_for g epsv (turn_of step earlier entry))
 
 -- the event was not taken, or it was submitted and not all was said
-abbrev pub Halted : Ground → ControlSession → EdgeView → DeskView → Option (List ℕ) → List Turn → Pieces → Step → EventKind → Type 0
-Halted g state edge desk sent ts pieces step k = (Front g state edge desk sent ts pieces × HasRisen g.start.desk.refused desk.refused) ⊎ Heard g state edge desk sent ts pieces step k
+abbrev pub Halted : Ground → ControlSession → EdgeView → DeskView → Option (List ℕ) → List Turn → Pieces → Step → EventKind → Bool → Type 0
+Halted g state edge desk sent ts pieces step k epsv = (Front g state edge desk sent ts pieces × HasRisen g.start.desk.refused desk.refused) ⊎ Heard g state edge desk sent ts pieces step k epsv
 
 -- parts were spoken in which these lines were heard, this is due behind them, and this is the rest of the input
 pub record Standing (d : Due) (g : Ground) (state : ControlSession) (edge : EdgeView) (desk : DeskView) (sent : Option (List ℕ)) (hs : List HeardLine) (rest : List ℕ) : Type 0 where
@@ -266,6 +267,7 @@ pub record IsHearing (state : ControlSession) (x : HeardLine) : Type 0 where
 abbrev pub Carries : Command → Extra → Command → Type 0
 Carries c extra.Pass done = c ≡ done
 Carries c (extra.As other) done = other ≡ done
+Carries c extra.Epsv done = Pasv ≡ done
 Carries c _ done = ⊥
 
 -- a line was cut short: before its turn, or in it

@@ -151,7 +151,7 @@ pub fn serve_control<D: Desk, C: Control, E: Edge, A: Authenticator>(
 }
 
 /// Serves a control connection as `serve_control` does, and on lines of commands more than the profile, as the extras have it:
-/// a message of the control layer is told, lines of reply are said, or another command is carried out.
+/// a message of the control layer is told, lines of reply are said, another command is carried out, or a PASV for an EPSV.
 ///
 /// # Proved
 ///
@@ -162,6 +162,8 @@ pub fn serve_control<D: Desk, C: Control, E: Edge, A: Authenticator>(
 ///   this gives: the command's own, that of the message, one without a reply, or that of the other command (`served`).
 /// - Nothing is done in place of a command of the profile, but that a transfer may be refused as the storage refuses; what
 ///   is said is whole replies, behind the replies of its turn, and before those of any later one (`served`).
+/// - For an EPSV a PASV is submitted; where its decision grants a port, the line of code 229 that shows this port is said in place
+///   of the reply to the PASV, and else that reply (`served`).
 /// - Without extras it is the talk of the profile; with what was said on the lines left out, what was sent is the talk's;
 ///   login, name, directory, offset, slot and transfers of the session are those of its turns without those lines: three laws,
 ///   `without_extras_it_is_the_talk`, `struck_out_it_is_the_talk` and `extras_leave_the_session`, of what is `served`.

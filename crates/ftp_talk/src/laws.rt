@@ -16,8 +16,9 @@ pub fn without_extras_it_is_the_talk()
 ///
 /// # Proved
 ///
-/// - What was said on the lines left out, what is to be said are the replies of the turns in their order, with their delays, as in
-///   a talk; and what was said on the lines is whole and in its order too (`struck_out`).
+/// - What was said on the lines left out, what is to be said are the replies of the turns in their order, with their delays, where
+///   the one to an EPSV shows the port that was granted; without an EPSV they are those of a talk. What was said on the lines is
+///   whole and in its order too (`struck_out`).
 pub fn struck_out_it_is_the_talk()
     ensures struck_out { SaysReplies }
 {}

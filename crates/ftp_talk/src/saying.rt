@@ -1,6 +1,6 @@
 //! Replies on their way to the client, by way of one buffer that is used again and again.
 
-ghost use Rattle.std.specs.Prelude.{◌≡◌, ◌≤◌, ◌++◌, [], OnOk, OnErr, IsErrOf};
+ghost use Rattle.std.specs.Prelude.{◌≡◌, ◌≤◌, ◌++◌, [], Some, OnOk, OnErr, IsErrOf};
 ghost use Rattle.ftp_base.specs.declared.fault.Failed.TheVariants.{Fault};
 ghost use Rattle.ftp_base.specs.Edge.{Takes};
 ghost use Rattle.ftp_base.specs.Outside.{HasRisen, Writes};
@@ -8,9 +8,11 @@ ghost use Rattle.ftp_base.specs.Reply.{encoding};
 ghost use Rattle.ftp_control.specs.Writing.{WritesFront};
 ghost use Rattle.ftp_shared.specs.Outbox.{replies_in};
 ghost use Rattle.ftp_talk.specs.Saying.{encodings, greeting_line, said_in, delay_in, delays, said, WritesBut, IsPaused, IsPausedWithin, SaysFront};
+ghost use Rattle.ftp_talk.specs.Pieces.{SaysPieces, piece_delays, piece_text, said_pieces};
 
 use ftp_base::{Bytes, Edge, Failed, Link, Reply};
 use ftp_events::Action;
+use ftp_extras::put_epsv_reply;
 use std::alloc::AllocError;
 
 /// Sends all of the bytes, in as many calls as the link needs.
@@ -218,4 +220,54 @@ pub(crate) fn say<L: Link, E: Edge>(
     add_replies(link, edge, text, earlier)?;
     add_actions(link, edge, text, session, actions)?;
     flush(link, text)
+}
+
+// Says the earlier replies, and that to an EPSV that is granted a port.
+fn say_port<L: Link, E: Edge>(
+    link: &mut L,
+    edge: &mut E,
+    text: &mut Vec<u8>,
+    session: u64,
+    earlier: &[(u32, Reply)],
+    port: u16,
+) -> Result<(), Failed>
+    ensures wrote { OnOk result (Writes (L.sending link.old).sent (L.sending link.new).sent (piece_text (said_pieces session (Some port) earlier.now []))) }
+    ensures left { L.left link.new ≡ L.left link.old }
+    ensures edge { Takes (λ f. f) (E.view edge.old) (E.view edge.new) }
+    ensures paused { OnOk result (IsPaused (piece_delays (said_pieces session (Some port) earlier.now [])) (E.view edge.old).paused (E.view edge.new).paused) }
+    ensures fault_rose { IsErrOf result Fault → HasRisen (L.faults link.old) (L.faults link.new) }
+    ensures count { L.faults link.old ≤ L.faults link.new }
+    ensures front { OnErr result (SaysPieces (L.sending link.old).sent (L.sending link.new).sent (E.view edge.old).paused (E.view edge.new).paused [] (said_pieces session (Some port) earlier.now [])) }
+{
+    say(link, edge, text, session, earlier, &[])?;
+    text.clear();
+    let Ok(()) = put_epsv_reply(text, port) else {
+        return Err(Failed::Memory);
+    };
+    flush(link, text)
+}
+
+/// Says what is due on an entry: as `say`, but where a port is granted for an EPSV the reply that shows it in place of those
+/// among the actions.
+pub(crate) fn say_for<L: Link, E: Edge>(
+    link: &mut L,
+    edge: &mut E,
+    text: &mut Vec<u8>,
+    session: u64,
+    port: Option<u16>,
+    earlier: &[(u32, Reply)],
+    actions: &[Action],
+) -> Result<(), Failed>
+    ensures wrote { OnOk result (Writes (L.sending link.old).sent (L.sending link.new).sent (piece_text (said_pieces session port earlier.now actions.now))) }
+    ensures left { L.left link.new ≡ L.left link.old }
+    ensures edge { Takes (λ f. f) (E.view edge.old) (E.view edge.new) }
+    ensures paused { OnOk result (IsPaused (piece_delays (said_pieces session port earlier.now actions.now)) (E.view edge.old).paused (E.view edge.new).paused) }
+    ensures fault_rose { IsErrOf result Fault → HasRisen (L.faults link.old) (L.faults link.new) }
+    ensures count { L.faults link.old ≤ L.faults link.new }
+    ensures front { OnErr result (SaysPieces (L.sending link.old).sent (L.sending link.new).sent (E.view edge.old).paused (E.view edge.new).paused [] (said_pieces session port earlier.now actions.now)) }
+{
+    match port {
+        None => say(link, edge, text, session, earlier, actions),
+        Some(port) => say_port(link, edge, text, session, earlier, port),
+    }
 }

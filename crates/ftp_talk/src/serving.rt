@@ -10,7 +10,7 @@ ghost use Rattle.ftp_talk.specs.Ground.{Ground, ALine};
 ghost use Rattle.ftp_talk.specs.Turns.{LineDue, AnswerDue};
 ghost use Rattle.ftp_extras.specs.Extra.{gives_password};
 ghost use Rattle.ftp_talk.specs.Commands.{is_in};
-ghost use Rattle.ftp_talk.specs.Parts.{HeardLine, AreAllowed};
+ghost use Rattle.ftp_talk.specs.Parts.{HeardLine, AreAllowed, is_epsv_line};
 ghost use Rattle.ftp_talk.specs.Speaking.{IsCut, IsCutAt, IsHearing, Carries, HearsLines, Standing, due_at, IsAbout};
 ghost use Rattle.ftp_talk.specs.Serving.{is_out, next_of, behind_refusal};
 
@@ -81,21 +81,22 @@ fn is_out(decision: Decision) -> bool
 }
 
 impl ControlSession {
-    // Carries out a command on a line that was heard.
+    // Carries out a command on a line that was heard; for an EPSV the port that it is granted is said as an EPSV has it.
     fn serve_command<D: Desk, C: Control, E: Edge>(
         &mut self,
         desk: &mut D,
         control: &mut C,
         edge: &mut E,
         command: Command,
+        is_epsv: bool,
     ) -> Result<Next, Halt>
         ensures served { IfOk result (λ next. (g : Ground) (hs : List HeardLine) (x : HeardLine) (rest : List ℕ) → IsAbout g D.vouches D.draws_next →
             Standing LineDue g self.old (E.view edge.old) (D.view desk.old) (C.sending control.old).sent hs (x.line ++ rest) →
-            IsHearing self.old x → Carries x.command x.extra command →
+            IsHearing self.old x → Carries x.command x.extra command → is_epsv_line x.extra ≡ is_epsv →
             Standing (due_at next) g self.new (E.view edge.new) (D.view desk.new) (C.sending control.new).sent (x ∷ hs) rest) }
         ensures cut { OnErr result ((g : Ground) (hs : List HeardLine) (x : HeardLine) (rest : List ℕ) → IsAbout g D.vouches D.draws_next →
             Standing LineDue g self.old (E.view edge.old) (D.view desk.old) (C.sending control.old).sent hs (x.line ++ rest) →
-            IsHearing self.old x → Carries x.command x.extra command →
+            IsHearing self.old x → Carries x.command x.extra command → is_epsv_line x.extra ≡ is_epsv →
             IsCutAt g self.new (E.view edge.new) (D.view desk.new) (C.sending control.new).sent hs x) }
         ensures left { C.left control.new ≡ C.left control.old }
         ensures fault_rose { IsErrOf result Fault → HasRisen (C.faults control.old) (C.faults control.new) }
@@ -103,7 +104,7 @@ impl ControlSession {
         ensures count { C.faults control.old ≤ C.faults control.new }
     {
         match self.ask(desk, edge, command) {
-            Ok(kind) => match self.submit_and_reply(desk, control, edge, kind) {
+            Ok(kind) => match self.submit_for(desk, control, edge, kind, is_epsv) {
                 Ok(decision) => Ok(next_of(decision, Next::GoOn)),
                 Err(halt) => Err(halt),
             },
@@ -323,10 +324,11 @@ impl ControlSession {
             cwd: &self.cwd,
         };
         match extras.hear(asker, &command, line) {
-            Ok(Extra::Pass) => self.serve_command(desk, control, edge, command),
+            Ok(Extra::Pass) => self.serve_command(desk, control, edge, command, false),
             Ok(Extra::Tell(message)) => self.tell(desk, control, edge, message),
             Ok(Extra::Say(lines)) => self.say_lines(desk, control, edge, lines),
-            Ok(Extra::As(other)) => self.serve_command(desk, control, edge, other),
+            Ok(Extra::As(other)) => self.serve_command(desk, control, edge, other, false),
+            Ok(Extra::Epsv) => self.serve_command(desk, control, edge, Command::Pasv, true),
             Err(_) => Err(Halt::Memory),
         }
     }

@@ -7,12 +7,13 @@ ghost use Rattle.ftp_shared.specs.Outbox.{has_ticket};
 ghost use Rattle.ftp_shared.specs.Desk.{SameDesk};
 ghost use Rattle.ftp_talk.specs.declared.halt.Halt.TheVariants.{Exhausted, Fault, Memory};
 ghost use Rattle.ftp_talk.specs.Ground.{Step, Turn, Ground};
+ghost use Rattle.ftp_talk.specs.Parts.{epsv_port};
 ghost use Rattle.ftp_talk.specs.Pieces.{Pieces};
 ghost use Rattle.ftp_talk.specs.Speaking.{Asking, Entered, Spoken, Halted};
 
 use crate::control_session::ControlSession;
 use crate::halt::Halt;
-use crate::saying::say;
+use crate::saying::say_for;
 use ftp_base::{Control, Edge};
 use ftp_events::{Answer, Decision, EventKind, HubEvent};
 use ftp_shared::{AppendError, Desk, Told};
@@ -40,6 +41,16 @@ pub(crate) fn submit<D: Desk, E: Edge>(
     }
 }
 
+// The port that is granted for an EPSV.
+fn epsv_port(is_epsv: bool, decision: Decision) -> Option<u16>
+    ensures { result ≡ epsv_port is_epsv decision }
+{
+    match decision {
+        Decision::Granted { port } if is_epsv => Some(port),
+        _ => None,
+    }
+}
+
 impl ControlSession {
     // Submits an event, takes in what was decided, and says what is due.
     pub(crate) fn submit_and_reply<D: Desk, C: Control, E: Edge>(
@@ -52,10 +63,34 @@ impl ControlSession {
         requires unticketed { has_ticket kind ≡ false }
         ensures spoke { IfOk result (λ d. (g : Ground) (ts : List Turn) (pieces : Pieces) (step : Step) → g.start.vouches ≡ D.vouches →
             Asking g self.old (E.view edge.old) (D.view desk.old) (C.sending control.old).sent ts pieces kind →
-            Spoken g self.new (E.view edge.new) (D.view desk.new) (C.sending control.new).sent ts pieces step kind d) }
+            Spoken g self.new (E.view edge.new) (D.view desk.new) (C.sending control.new).sent ts pieces step kind d false) }
         ensures halted { OnErr result ((g : Ground) (ts : List Turn) (pieces : Pieces) (step : Step) → g.start.vouches ≡ D.vouches →
             Asking g self.old (E.view edge.old) (D.view desk.old) (C.sending control.old).sent ts pieces kind →
-            Halted g self.new (E.view edge.new) (D.view desk.new) (C.sending control.new).sent ts pieces step kind) }
+            Halted g self.new (E.view edge.new) (D.view desk.new) (C.sending control.new).sent ts pieces step kind false) }
+        ensures left { C.left control.new ≡ C.left control.old }
+        ensures fault_rose { IsErrOf result Fault → HasRisen (C.faults control.old) (C.faults control.new) }
+        ensures exhausted { IsErrOf result Exhausted → D.exhausts ≡ true }
+        ensures count { C.faults control.old ≤ C.faults control.new }
+    {
+        self.submit_for(desk, control, edge, kind, false)
+    }
+
+    // Submits an event as `submit_and_reply` does; for an EPSV the port that is granted is said as an EPSV has it.
+    pub(crate) fn submit_for<D: Desk, C: Control, E: Edge>(
+        &mut self,
+        desk: &mut D,
+        control: &mut C,
+        edge: &mut E,
+        kind: EventKind,
+        is_epsv: bool,
+    ) -> Result<Decision, Halt>
+        requires unticketed { has_ticket kind ≡ false }
+        ensures spoke { IfOk result (λ d. (g : Ground) (ts : List Turn) (pieces : Pieces) (step : Step) → g.start.vouches ≡ D.vouches →
+            Asking g self.old (E.view edge.old) (D.view desk.old) (C.sending control.old).sent ts pieces kind →
+            Spoken g self.new (E.view edge.new) (D.view desk.new) (C.sending control.new).sent ts pieces step kind d is_epsv) }
+        ensures halted { OnErr result ((g : Ground) (ts : List Turn) (pieces : Pieces) (step : Step) → g.start.vouches ≡ D.vouches →
+            Asking g self.old (E.view edge.old) (D.view desk.old) (C.sending control.old).sent ts pieces kind →
+            Halted g self.new (E.view edge.new) (D.view desk.new) (C.sending control.new).sent ts pieces step kind is_epsv) }
         ensures left { C.left control.new ≡ C.left control.old }
         ensures fault_rose { IsErrOf result Fault → HasRisen (C.faults control.old) (C.faults control.new) }
         ensures exhausted { IsErrOf result Exhausted → D.exhausts ≡ true }
@@ -70,11 +105,13 @@ impl ControlSession {
             return Err(Halt::Memory);
         };
         let session = self.session;
-        match say(
+        let port = epsv_port(is_epsv, decision);
+        match say_for(
             control,
             edge,
             &mut self.text,
             session,
+            port,
             told.earlier.as_slice(),
             told.entry.actions.as_slice(),
         ) {

@@ -32,6 +32,7 @@ fn text_of(alloc: Global, extra: &Extra) -> Result<Bytes, AllocError> {
         Extra::Say(bytes) => bytes.copy(alloc),
         Extra::As(Command::Cwd { path }) => path.copy(alloc),
         Extra::As(_) => Bytes::from_slice(alloc, b"another"),
+        Extra::Epsv => Bytes::from_slice(alloc, b"epsv"),
     }
 }
 
@@ -57,7 +58,8 @@ fn heard(
     }
 }
 
-// The replies are those of RFC 959, section 5.4 and its appendix on directories, and of RFC 3659, sections 4 and 7.
+// The replies are those of RFC 959, section 5.4 and its appendix on directories, of RFC 2428, section 3, and of RFC 3659, sections 4
+// and 7.
 #[test]
 fn the_words_of_a_session_are_answered(rt: HostRuntime) -> Result<(), Fail> {
     let mut words = words(rt.alloc())?;
@@ -79,6 +81,13 @@ fn the_words_of_a_session_are_answered(rt: HostRuntime) -> Result<(), Fail> {
         (b"RETR /usr/dm/f\r\n", b"pass"),
         (b"NLST *\r\n", b"pass"),
         (b"PASV\r\n", b"pass"),
+        (b"EPSV\r\n", b"epsv"),
+        (b"epsv 1\r\n", b"epsv"),
+        (
+            b"EPSV 2\r\n",
+            b"522 Network protocol not supported, use (1)\r\n",
+        ),
+        (b"EPSV ALL\r\n", b"200 Noted\r\n"),
         (b"FOO\r\n", b"pass"),
     ] {
         assert_eq!(rt; heard(&mut words, rt.alloc(), true, line)?.as_slice(), due);
@@ -130,6 +139,7 @@ fn before_the_login_only_open_words_are_answered(rt: HostRuntime) -> Result<(), 
         (b"PWD\r\n", b"530 Please authenticate\r\n"),
         (b"RETR /usr/dm/none\r\n", b"pass"),
         (b"OPTS UTF8 ON\r\n", b"200 Always in UTF8 mode\r\n"),
+        (b"EPSV\r\n", b"530 Please authenticate\r\n"),
         (b"PBSZ 0\r\n", b"pass"),
     ] {
         assert_eq!(rt; heard(&mut words, rt.alloc(), false, line)?.as_slice(), due);

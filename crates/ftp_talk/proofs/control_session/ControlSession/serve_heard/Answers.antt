@@ -20,8 +20,8 @@ returns-in-Ok-Pass-clause-served g c = λ q x0 hs rest about hears s is_line sam
     let H = HearsLines (g.X.Extras.may x0) (g.X.Extras.pending x0) (g.X.Extras.may c.hear.new.self) (g.X.Extras.pending c.hear.new.self) in
     let A = AreAllowed (g.X.Extras.may x0) (g.X.Extras.pending x0) in
     pick-heard P H A K c.serve_command.result hs x hears.allowed more.allowed more
-    (if_ok-then c.serve_command.result (λ n f. f q hs x rest about s hearing refl) c.serve_command.ensures.served)
-    (on_err-then c.serve_command.result (λ f. f q hs x rest about s hearing refl) c.serve_command.ensures.cut)
+    (if_ok-then c.serve_command.result (λ n f. f q hs x rest about s hearing refl refl) c.serve_command.ensures.served)
+    (on_err-then c.serve_command.result (λ f. f q hs x rest about s hearing refl refl) c.serve_command.ensures.cut)
 
 pub returns-in-Ok-Tell-clause-served : goal.returns-in-Ok-Tell-clause-served
 returns-in-Ok-Tell-clause-served g c = λ q x0 hs rest about hears s is_line same.
@@ -68,8 +68,24 @@ returns-in-Ok-As-clause-served g c = λ q x0 hs rest about hears s is_line same.
     let H = HearsLines (g.X.Extras.may x0) (g.X.Extras.pending x0) (g.X.Extras.may c.hear.new.self) (g.X.Extras.pending c.hear.new.self) in
     let A = AreAllowed (g.X.Extras.may x0) (g.X.Extras.pending x0) in
     pick-heard P H A K c.serve_command-in-Ok-As.result hs x hears.allowed more.allowed more
-    (if_ok-then c.serve_command-in-Ok-As.result (λ n f. f q hs x rest about s hearing refl) c.serve_command-in-Ok-As.ensures.served)
-    (on_err-then c.serve_command-in-Ok-As.result (λ f. f q hs x rest about s hearing refl) c.serve_command-in-Ok-As.ensures.cut)
+    (if_ok-then c.serve_command-in-Ok-As.result (λ n f. f q hs x rest about s hearing refl refl) c.serve_command-in-Ok-As.ensures.served)
+    (on_err-then c.serve_command-in-Ok-As.result (λ f. f q hs x rest about s hearing refl refl) c.serve_command-in-Ok-As.ensures.cut)
+
+pub returns-in-Ok-Epsv-clause-served : goal.returns-in-Ok-Epsv-clause-served
+returns-in-Ok-Epsv-clause-served g c = λ q x0 hs rest about hears s is_line same.
+    let says = c.in-Ok-Epsv.field-0-is in
+    let who = asker_of c.args.self.now in
+    let x : HeardLine = record { who = who; before = g.X.Extras.pending c.args.extras.now; command = c.args.command; line = c.args.line.now; extra = extra.Epsv; after = g.X.Extras.pending c.hear.new.self } in
+    let may = rw (says, c.as_ref.ensures.value, c.is_in.ensures) at c.in-Ok-Epsv.ensures.may in
+    let hearing : IsHearing c.args.self.now x = record { line = is_line; parsed = same; unsecret = c.requires.unsecret; who = refl; beside = rw says at c.in-Ok-Epsv.ensures.beside; whole = rw says at c.in-Ok-Epsv.ensures.whole } in
+    let more = hears-more (g.X.Extras.may x0) (g.X.Extras.may c.args.extras.now) (g.X.Extras.may c.hear.new.self) (g.X.Extras.pending x0) (g.X.Extras.pending c.args.extras.now) (g.X.Extras.pending c.hear.new.self) hs x hears refl may refl c.hear.ensures.kept in
+    let P = λ (n : Next) (l : List HeardLine). Standing (due_at n) q c.serve_command-in-Ok-Epsv.new.self (g.E.Edge.view c.serve_command-in-Ok-Epsv.new.edge) (g.D.Desk.view c.serve_command-in-Ok-Epsv.new.desk) (g.C.Source.sending c.serve_command-in-Ok-Epsv.new.control).sent l rest in
+    let K = λ (l : List HeardLine). IsCut q c.serve_command-in-Ok-Epsv.new.self (g.E.Edge.view c.serve_command-in-Ok-Epsv.new.edge) (g.D.Desk.view c.serve_command-in-Ok-Epsv.new.desk) (g.C.Source.sending c.serve_command-in-Ok-Epsv.new.control).sent l in
+    let H = HearsLines (g.X.Extras.may x0) (g.X.Extras.pending x0) (g.X.Extras.may c.hear.new.self) (g.X.Extras.pending c.hear.new.self) in
+    let A = AreAllowed (g.X.Extras.may x0) (g.X.Extras.pending x0) in
+    pick-heard P H A K c.serve_command-in-Ok-Epsv.result hs x hears.allowed more.allowed more
+    (if_ok-then c.serve_command-in-Ok-Epsv.result (λ n f. f q hs x rest about s hearing refl refl) c.serve_command-in-Ok-Epsv.ensures.served)
+    (on_err-then c.serve_command-in-Ok-Epsv.result (λ f. f q hs x rest about s hearing refl refl) c.serve_command-in-Ok-Epsv.ensures.cut)
 
 pub returns-in-Err-clause-served : goal.returns-in-Err-clause-served
 returns-in-Err-clause-served g c = λ q x0 hs rest about hears s is_line same. (

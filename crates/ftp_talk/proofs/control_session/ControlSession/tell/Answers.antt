@@ -4,7 +4,7 @@ use Rattle.ftp_events.specs.declared.event.EventKind.TheVariants as kind
 use Rattle.ftp_extras.specs.declared.extra.Extra.TheVariants.{Tell}
 use Rattle.ftp_talk.specs.declared.serving.Next.TheVariants.{GoOn}
 use Rattle.ftp_talk.specs.Ground.{ALine, history}
-use Rattle.ftp_talk.specs.Parts.{turns_of, due_pieces}
+use Rattle.ftp_talk.specs.Parts.{turns_of, due_pieces, is_epsv_line}
 use Rattle.ftp_talk.specs.Turns.{is_end}
 use Rattle.ftp_talk.proofs.ServeLemmas.{asking-plain, command-due, line-due}
 use Rattle.ftp_talk.proofs.HeardLemmas.{heard-spoken, heard-cut, gives-done, still-by, still-told}
@@ -19,7 +19,7 @@ returns-in-Ok-clause-served g c = λ q hs x rest about s hearing tells.
     let asking = asking-plain q c.args.self.now _ _ _ (turns_of s.parts) (due_pieces q s.parts) k s.speaking (ap Some s.speaking.known.session) (λ f. tt) (λ f. refl) refl refl in
     let spoken = c.in-Ok.ensures.spoke q (turns_of s.parts) (due_pieces q s.parts) (ALine x.line) about.0 asking in
     rw c.next_of.ensures
-    (heard-spoken q _ _ _ _ _ _ _ _ _ x k d hs rest s spoken hearing
+    (heard-spoken q _ _ _ _ _ _ _ _ _ x k d hs rest s spoken (ap is_epsv_line tells) hearing
     (gives-done q h x.command x.extra (Tell m) k tells (ap (λ (n : ℕ). kind.Internal n m) s.speaking.known.session))
     (λ pieces. still-by x (is_end d) pieces (still-told m x.extra pieces tells))
     (line-due x.line (Ok x.command) d GoOn hearing.parsed (command-due x.command d hearing.unsecret)))
@@ -30,5 +30,5 @@ returns-in-Err-clause-cut g c = λ q hs x rest about s hearing tells.
     let m = c.args.message in
     let k = kind.Internal c.args.self.now.session m in
     let asking = asking-plain q c.args.self.now _ _ _ (turns_of s.parts) (due_pieces q s.parts) k s.speaking (ap Some s.speaking.known.session) (λ f. tt) (λ f. refl) refl refl in
-    heard-cut q _ _ _ _ _ _ _ _ x k hs rest s (c.in-Err.ensures.halted q (turns_of s.parts) (due_pieces q s.parts) (ALine x.line) about.0 asking) hearing
+    heard-cut q _ _ _ _ _ _ _ _ x k hs rest s (c.in-Err.ensures.halted q (turns_of s.parts) (due_pieces q s.parts) (ALine x.line) about.0 asking) (ap is_epsv_line tells) hearing
     (gives-done q h x.command x.extra (Tell m) k tells (ap (λ (n : ℕ). kind.Internal n m) s.speaking.known.session))
