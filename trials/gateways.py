@@ -114,8 +114,8 @@ class Gateway(Server):
 class HomePlace(Place):
     """A place whose files come from the directory itself, and are compared with it."""
 
-    extra_words = """ALLO CDUP CLNT DELE FEAT HELP MDTM MFMT MKD MLST MODE OPTS PWD RMD RNFR RNTO SIZE STAT STRU SYST
-    XCUP XMKD XPWD XRMD""".split()
+    extra_words = """ALLO CDUP CLNT DELE EPSV FEAT HELP MDTM MFMT MKD MLST MODE OPTS PWD RMD RNFR RNTO SIZE STAT STRU
+    SYST XCUP XMKD XPWD XRMD""".split()
     lists_files = True
 
     def __init__(self, door, home, source="127.0.0.1"):
