@@ -1,12 +1,14 @@
-"""The cases on patterns, files and options in listings, which trials/gateway.py runs in each mode."""
+"""The cases on patterns, files and options in listings, and on EPSV, which trials/gateway.py runs in each mode."""
 
 import fnmatch
 import os
+import re
 import time
 
+import wire
 from cases import body, holds, same
 from gateways import Gateway
-from homes import DATA, is_refused, let_in, names_in
+from homes import DATA, greeted, is_refused, let_in, names_in
 
 NAMES = ["a.txt", "b.txt", ".txt", "a.txt.gz", "axb", "ab", "a-b.b-c", "with space.txt", "ü.txt", "[a]", "\\"]
 PATTERNS = ["*.txt", "*", "**", "a?b", "a*", "?*.*", "*a*b*c", "??", "???", "[a]*", "*x*x*", "with *.txt", "?.txt", "*.none", "\\*"]
@@ -118,12 +120,32 @@ def passes_over_options_of_listings(words, mode):
         same(names_in(session, "NLST -a"), [b"own"], "the names of a directory that is named so")
 
 
+def opens_a_port_by_epsv(words, mode):
+    """The 229 has the port where a data connection comes; only version 4 is taken, and nothing before a login."""
+    with Gateway(words, mode) as gateway:
+        (gateway.home / "file").write_bytes(DATA)
+        with greeted(gateway) as session:
+            session.tell("EPSV", 530)
+        with let_in(gateway) as session:
+            for line in "EPSV", "epsv 1":
+                shown = session.tell(line, 229)
+                found = re.fullmatch(r"Entering Extended Passive Mode \(\|\|\|(\d+)\|\)", shown)
+                holds(found, f"{line} is answered {shown}")
+                stream = session.door.dial(session.source, int(found[1]))
+                session.tell("RETR file", 150)
+                same(wire.drained(stream), DATA)
+                session.expect(226)
+            session.tell("EPSV 2", 522)
+            session.tell("EPSV ALL", 200)
+
+
 CASES = [
     lists_what_matches_a_pattern,
     takes_a_pattern_in_the_last_name_alone,
     answers_a_long_pattern_soon,
     lists_a_file_as_itself,
     passes_over_options_of_listings,
+    opens_a_port_by_epsv,
 ]
 
 
