@@ -12,7 +12,7 @@ import subprocess
 import library_clients
 import shell_clients
 from cases import body, holds, same
-from gateways import same_tree
+from gateways import same_tree, tree
 from library_clients import COMMONS_NET
 from shell_clients import UTF8
 
@@ -67,11 +67,11 @@ def lay_out(folder, files):
 
 
 class Task:
-    """What is due behind a task: files of the client, what changes in the directory or goes, and words that the client shows. Where it is
-    dated, these files have the date of the other side, to so many seconds."""
+    """What is due behind a task: files of the client, what changes in the directory or goes, a file to which the server gives a name, and
+    words that the client shows. Where it is dated, these files have the date of the other side, to so many seconds."""
 
-    def __init__(self, got=None, put=None, gone=(), shows=(), hides=(), dated=None):
-        self.got, self.put, self.gone = got or {}, put or {}, gone
+    def __init__(self, got=None, put=None, gone=(), fresh=None, shows=(), hides=(), dated=None):
+        self.got, self.put, self.gone, self.fresh = got or {}, put or {}, gone, fresh
         self.shows, self.hides, self.dated = shows, hides, dated
 
     def check(self, own, home, out, status):
@@ -79,7 +79,12 @@ class Task:
             if data is not None:
                 holds((own / name).exists(), f"the client has no {name}: {out}")
                 same((own / name).read_bytes(), data, f"those of {name}")
-        same_tree(home, {name: data for name, data in {**SERVED, **self.put}.items() if name not in self.gone})
+        due = {name: data for name, data in {**SERVED, **self.put}.items() if name not in self.gone}
+        if self.fresh is not None:
+            names = sorted(set(tree(home)) - set(due))
+            holds(len(names) == 1, f"there are {names} beside what was there")
+            due[names[0]] = self.fresh
+        same_tree(home, due)
         if self.dated:
             for path in [own / name for name in self.got] + [home / name for name in self.put]:
                 holds(abs(path.stat().st_mtime - CHANGED) < self.dated, f"{path.name} is of {path.stat().st_mtime}")
@@ -115,6 +120,7 @@ TASKS = {
     "put over a file": Task(put={"big.bin": SMALL}),
     "put of a name with a space": Task(put={"sp ace.txt": b"space"}),
     "put of a name in UTF-8": Task(put={"ü.txt": b"utf8"}),
+    "put under a name of the server's": Task(fresh=SMALL),
     "put below": Task(put={"sub/d2/s.txt": SMALL}),
     "resumed put": Task(put={"part.bin": BIG}),
     "append": Task(put={"a.txt": SMALL + SMALL}),
