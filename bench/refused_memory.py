@@ -23,9 +23,9 @@ from pathlib import Path
 TOP = Path(__file__).resolve().parent.parent
 PROGRAM = TOP / "crates/ftp_script/out/ftp_script"
 TESTS = (
-    ("ftp_shared_tests", "tests::a_hub_is_settled_with_all_shares_and_receipts"),
-    ("ftp_shared_tests", "tests::steps_are_missed"),
-    ("ftp_shared_tests", "tests::the_receipt_of_another_hub_differs"),
+    ("ftp_hub_tests", "shared::a_hub_is_settled_with_all_shares_and_receipts"),
+    ("ftp_hub_tests", "shared::steps_are_missed"),
+    ("ftp_hub_tests", "shared::the_receipt_of_another_hub_differs"),
     ("ftp_hub_tests", "lines::a_client_logs_in_asks_for_a_port_and_quits"),
 )
 OUT_OF_MEMORY = 5

@@ -19,3 +19,10 @@ pub mod OwnerLemmas
 pub mod EntryLemmas
 pub mod HeardLemmas
 mod Examples
+pub mod CalendarLemmas
+pub mod GuestLemmas
+pub mod RequestLemmas
+pub mod TicketLemmas
+pub mod TakenLemmas
+pub mod TallyLemmas
+mod LogExamples

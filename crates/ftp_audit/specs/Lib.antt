@@ -13,3 +13,12 @@ pub mod Owner
 pub mod Sums
 pub mod Heard
 pub mod Laws
+pub mod Calendar
+pub mod Guests
+pub mod Requests
+pub mod Tickets
+pub mod Lines
+pub mod Forms
+pub mod Written
+pub mod Metrics
+pub mod Tally

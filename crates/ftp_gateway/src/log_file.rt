@@ -1,7 +1,7 @@
 //! A log on disk.
 
+use ftp_audit::{LogForm, ServerLog};
 use ftp_events::Entry;
-use ftp_server_log::{LogForm, ServerLog};
 use std::alloc::Global;
 use std::fs::{File, OpenOptions};
 use std::io;

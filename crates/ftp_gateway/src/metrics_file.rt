@@ -1,9 +1,9 @@
 //! The counts of a gateway, in a file that Prometheus' node_exporter takes up.
 
+use ftp_audit::Tally;
 use ftp_events::Entry;
 use ftp_hub::PrepareError;
 use ftp_options::Options;
-use ftp_server_log::Tally;
 use std::alloc::Global;
 use std::rt::Files;
 use std::sync::{Mutex, Wait};

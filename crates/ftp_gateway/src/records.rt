@@ -3,11 +3,11 @@
 use crate::log_file::LogFile;
 use crate::metrics_file::MetricsFile;
 use crate::refusal::Refusal;
+use ftp_audit::LogForm;
 use ftp_base::Bytes;
 use ftp_config::GatewayConfig;
 use ftp_events::Entry;
 use ftp_options::{Options, ServerError};
-use ftp_server_log::LogForm;
 use std::alloc::{AllocError, Global};
 use std::fs::File;
 use std::rt::Files;

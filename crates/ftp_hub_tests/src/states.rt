@@ -1,8 +1,8 @@
 //! Texts of states, and texts that no state has.
 
 use ftp_base::Bytes;
-use ftp_checkpoint::{decode_state, encode_state};
 use ftp_hub::StateError;
+use ftp_text::{decode_state, encode_state};
 use std::alloc::Global;
 use std::test::Fail;
 

@@ -12,7 +12,7 @@ use Rattle.ftp_hub.specs.Refused.{HasCause, IsFirstRefusal}
 use Rattle.ftp_text.specs.declared.setup.Item.{Item}
 use Rattle.ftp_text.specs.declared.setup.Item.TheVariants as item
 use Rattle.ftp_text.specs.Setup.{IsItem}
-use Rattle.ftp_checkpoint.specs.StateText.{IsFirstBadStateLine, IsSpelledBy, before_first, lines_in}
+use Rattle.ftp_text.specs.StateText.{IsFirstBadStateLine, IsSpelledBy, before_first, lines_in}
 use Rattle.ftp_script_run.specs.declared.head.Head.{Head}
 use Rattle.ftp_script_run.specs.declared.run.Run.{Run}
 use Rattle.ftp_script_run.specs.declared.text_script.ScriptError.TheVariants as error

@@ -19,13 +19,13 @@ use Rattle.ftp_hub.specs.declared.state.RecordLine.{RecordLine}
 use Rattle.ftp_hub.specs.declared.state.SessionLine.{SessionLine}
 use Rattle.ftp_hub.specs.declared.state.SlotLine.{SlotLine}
 use Rattle.ftp_hub.specs.State.{AreMadeBy, IsAbsolute, IsForm, entries_of, is_keyed, is_made_by, record_key}
-use Rattle.ftp_checkpoint.specs.declared.line.StateLine.{StateLine}
-use Rattle.ftp_checkpoint.specs.declared.line.StateLine.TheVariants as says
-use Rattle.ftp_checkpoint.specs.Grammar.{AreStateLines}
-use Rattle.ftp_checkpoint.specs.ListOrder.{AreListsInOrder, AreOfOnePolicy, IsOfPolicy}
-use Rattle.ftp_checkpoint.specs.Spelling.{IsStateLine, is_from_root}
-use Rattle.ftp_checkpoint.specs.Walk.{Onward, own_queued, own_slot, session_walk, walk}
-use Rattle.ftp_checkpoint.proofs.HaveLines.{walk-has}
+use Rattle.ftp_text.specs.declared.state_line.StateLine.{StateLine}
+use Rattle.ftp_text.specs.declared.state_line.StateLine.TheVariants as says
+use Rattle.ftp_text.specs.Grammar.{AreStateLines}
+use Rattle.ftp_text.specs.ListOrder.{AreListsInOrder, AreOfOnePolicy, IsOfPolicy}
+use Rattle.ftp_text.specs.Spelling.{IsStateLine, is_from_root}
+use Rattle.ftp_text.specs.Walk.{Onward, own_queued, own_slot, session_walk, walk}
+use Rattle.ftp_text.proofs.HaveLines.{walk-has}
 use Rattle.ftp_script_run.specs.Fitting.{FitsInterval, FitsJob, FitsQueued, FitsRecord, FitsSession, FitsSlot, FitsState}
 
 -- ---- lists

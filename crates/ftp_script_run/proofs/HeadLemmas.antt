@@ -14,9 +14,9 @@ use Rattle.ftp_text.specs.declared.setup.Item.{Item}
 use Rattle.ftp_text.specs.declared.setup.Item.TheVariants as item
 use Rattle.ftp_text.specs.Setup.{IsItem, IsItemOf}
 use Rattle.ftp_text.proofs.Exact.{Pass}
-use Rattle.ftp_checkpoint.specs.StateText.{lines_in}
-use Rattle.ftp_checkpoint.proofs.FeedLemmas.{HasNone, is_line_byte}
-use Rattle.ftp_checkpoint.proofs.TextLemmas.{lines-line}
+use Rattle.ftp_text.specs.StateText.{lines_in}
+use Rattle.ftp_text.proofs.StateFeedLemmas.{HasNone, is_line_byte}
+use Rattle.ftp_text.proofs.TextLemmas.{lines-line}
 use Rattle.ftp_script_run.specs.declared.head.Head.{Head}
 use Rattle.ftp_script_run.specs.Resumed.{AreOfOptions, AreOptionsLines, FindsHead, HasLines, IsOptionsLine, KeepsLines, ReadsHead, ReadsLine, bar, sets_options, with_feeds}
 

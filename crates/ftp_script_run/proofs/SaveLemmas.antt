@@ -4,8 +4,8 @@ use Rattle.ftp_options.specs.declared.options.Options.{Options}
 use Rattle.ftp_events.specs.declared.entry.Entry.{Entry}
 use Rattle.ftp_hub.specs.declared.state.HubState.{HubState}
 use Rattle.ftp_hub.specs.State.{AreMadeBy, IsForm, IsState}
-use Rattle.ftp_checkpoint.specs.StateText.{state_text}
-use Rattle.ftp_checkpoint.specs.Walk.{walk}
+use Rattle.ftp_text.specs.StateText.{state_text}
+use Rattle.ftp_text.specs.Walk.{walk}
 use Rattle.ftp_script_run.specs.Outcome.{IsStateText}
 use Rattle.ftp_script_run.specs.Fitting.{FitsState}
 use Rattle.ftp_script_run.proofs.FittingLemmas.{state-has-lines}

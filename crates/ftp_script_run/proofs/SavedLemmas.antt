@@ -12,11 +12,11 @@ use Rattle.ftp_events.specs.Log.{past_of}
 use Rattle.ftp_events.specs.Right.{IsActed, IsRight}
 use Rattle.ftp_hub.specs.declared.state.HubState.{HubState}
 use Rattle.ftp_hub.proofs.Lawful.{logs-pass}
-use Rattle.ftp_checkpoint.specs.Grammar.{no_state, with_lines}
-use Rattle.ftp_checkpoint.specs.Spelling.{state_line}
-use Rattle.ftp_checkpoint.specs.StateText.{IsSpelledBy, lines_in}
-use Rattle.ftp_checkpoint.proofs.GrammarLemmas.{lines-injective}
-use Rattle.ftp_checkpoint.proofs.TextLemmas.{lines-text}
+use Rattle.ftp_text.specs.Grammar.{no_state, with_lines}
+use Rattle.ftp_text.specs.Spelling.{state_line}
+use Rattle.ftp_text.specs.StateText.{IsSpelledBy, lines_in}
+use Rattle.ftp_text.proofs.GrammarLemmas.{lines-injective}
+use Rattle.ftp_text.proofs.TextLemmas.{lines-text}
 use Rattle.ftp_text.specs.declared.setup.Item.{Item}
 use Rattle.ftp_script_run.specs.SetUp.{StorageState}
 use Rattle.ftp_script_run.specs.Items.{options_in}

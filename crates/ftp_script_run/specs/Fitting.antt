@@ -9,7 +9,7 @@ use Rattle.ftp_hub.specs.declared.state.SessionLine.{SessionLine}
 use Rattle.ftp_hub.specs.declared.state.SlotLine.{SlotLine}
 use Rattle.ftp_switchboard.specs.declared.numbers.Interval.{Interval}
 use Rattle.ftp_text.specs.Fields.{Each, IsAddress, IsIp, IsNumber, IsText}
-use Rattle.ftp_checkpoint.specs.Spelling.{HasPieces, IsPiece, IsSlotKind}
+use Rattle.ftp_text.specs.Spelling.{HasPieces, IsPiece, IsSlotKind}
 
 -- the ends of an interval
 abbrev pub FitsInterval : Interval → Type 0

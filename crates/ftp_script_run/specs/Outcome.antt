@@ -11,9 +11,9 @@ use Rattle.ftp_control.specs.Writing.{WritesFront}
 use Rattle.ftp_text.specs.Fields.{number}
 use Rattle.ftp_text.specs.declared.setup.Item.{Item}
 use Rattle.ftp_text.specs.Printing.{print}
-use Rattle.ftp_checkpoint.specs.declared.line.StateLine.{StateLine}
-use Rattle.ftp_checkpoint.specs.Grammar.{AreStateLines}
-use Rattle.ftp_checkpoint.specs.StateText.{state_text}
+use Rattle.ftp_text.specs.declared.state_line.StateLine.{StateLine}
+use Rattle.ftp_text.specs.Grammar.{AreStateLines}
+use Rattle.ftp_text.specs.StateText.{state_text}
 use Rattle.ftp_script_run.specs.Script.{IsScriptOf}
 use Rattle.ftp_script_run.specs.ScriptReader.{AreWhole, ReadsAhead, StopsBehind}
 use Rattle.ftp_script_run.specs.SetUp.{StorageState}

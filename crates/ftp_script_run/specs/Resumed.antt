@@ -23,7 +23,7 @@ use Rattle.ftp_hub.specs.declared.state.SlotLine.{SlotLine}
 use Rattle.ftp_hub.specs.declared.state.StateError.{StateError}
 use Rattle.ftp_hub.specs.Refused.{HasCause}
 use Rattle.ftp_hub.specs.State.{IsState}
-use Rattle.ftp_checkpoint.specs.StateText.{IsFirstBadStateLine, IsSpelledBy, lines_in}
+use Rattle.ftp_text.specs.StateText.{IsFirstBadStateLine, IsSpelledBy, lines_in}
 use Rattle.ftp_text.specs.declared.setup.Item.{Item}
 use Rattle.ftp_text.specs.declared.setup.Item.TheVariants as item
 use Rattle.ftp_text.specs.Setup.{IsItem, IsItemOf}

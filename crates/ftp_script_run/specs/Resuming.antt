@@ -8,7 +8,7 @@ use Rattle.ftp_control.specs.Writing.{WritesFront}
 use Rattle.ftp_hub.specs.declared.state.HubState.{HubState}
 use Rattle.ftp_hub.specs.declared.state.StateError.{StateError}
 use Rattle.ftp_hub.specs.Refused.{HasCause}
-use Rattle.ftp_checkpoint.specs.StateText.{IsFirstBadStateLine, IsSpelledBy}
+use Rattle.ftp_text.specs.StateText.{IsFirstBadStateLine, IsSpelledBy}
 use Rattle.ftp_text.specs.declared.setup.Item.{Item}
 use Rattle.ftp_script_run.specs.declared.head.Head.{Head}
 use Rattle.ftp_script_run.specs.declared.resumed.Resumed.{Resumed}

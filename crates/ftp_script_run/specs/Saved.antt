@@ -9,7 +9,7 @@ use Rattle.ftp_events.specs.Right.{IsActed, IsRight}
 use Rattle.ftp_hub.specs.declared.state.HubState.{HubState}
 use Rattle.ftp_hub.specs.declared.state.StateError.{StateError}
 use Rattle.ftp_hub.specs.Refused.{HasCause}
-use Rattle.ftp_checkpoint.specs.StateText.{IsSpelledBy, lines_in}
+use Rattle.ftp_text.specs.StateText.{IsSpelledBy, lines_in}
 use Rattle.ftp_text.specs.declared.setup.Item.{Item}
 use Rattle.ftp_script_run.specs.SetUp.{StorageState}
 use Rattle.ftp_script_run.specs.Items.{events_in, options_in}

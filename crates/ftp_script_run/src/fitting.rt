@@ -5,7 +5,7 @@
 
 ghost use Rattle.std.specs.List.{AllByRecursion};
 ghost use Rattle.ftp_text.specs.Fields.{Each, IsAddress, IsIp, IsNumber};
-ghost use Rattle.ftp_checkpoint.specs.Spelling.{HasPieces, IsPiece, IsSlotKind};
+ghost use Rattle.ftp_text.specs.Spelling.{HasPieces, IsPiece, IsSlotKind};
 ghost use Rattle.ftp_script_run.specs.Fitting.{FitsInterval, FitsJob, FitsOpening, FitsProgress, FitsQueued, FitsRecord, FitsSession, FitsSlot, FitsState};
 
 use ftp_base::{Bytes, DataChanCmd, IpAddr, SocketAddr};

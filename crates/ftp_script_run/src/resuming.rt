@@ -30,10 +30,9 @@ use crate::script::taken;
 use crate::status::Status;
 use crate::{ScriptError, ScriptReader};
 use ftp_base::{Sink, Source};
-use ftp_checkpoint::decode_state;
 use ftp_control::Span;
 use ftp_hub::{HubState, JobLine, SlotKind, SlotLine, StateError};
-use ftp_text::Item;
+use ftp_text::{Item, decode_state};
 use std::alloc::{AllocError, Global};
 
 /// Reads a state, goes on from it by the script behind it, line by line, and writes the log of the script.

@@ -33,14 +33,13 @@ use ftp_base::{
     Bytes, FEATURE_RESTART, Failed, InsertError, LinkFault, LinkTable, MemoryLink, MemoryStorage,
     Sink, StoreError,
 };
-use ftp_checkpoint::encode_state;
 use ftp_control::write_all;
 use ftp_events::{Entry, HubEvent};
 use ftp_hub::{Hub, HubState, StateError, run_event};
 use ftp_options::{
     ActivePassiveMode, FailedLoginsPolicy, ListenerMode, Options, PassiveHost, ServerBuilder,
 };
-use ftp_text::{FailingCalls, Item};
+use ftp_text::{FailingCalls, Item, encode_state};
 use std::alloc::Global;
 
 /// The hub, the storage with its budgets, and the links. Of events and entries nothing is kept here.

@@ -1,11 +1,11 @@
 //! A visit and its lines: a login that fails, one that is let in, an upload, and the end of the session.
 
+use ftp_audit::{LogForm, log_text};
 use ftp_base::{
     AuthAnswer, Bytes, DataChanCmd, DataEvent, EventMeta, IpAddr, Notice, PresenceEvent,
     SocketAddr, TraceId,
 };
 use ftp_events::{Action, Actions, Answer, Decision, Entry, EventKind, HubEvent, Log};
-use ftp_server_log::{LogForm, log_text};
 use ftp_transfer::{Completion, Outcome, Ticket};
 use std::alloc::{AllocError, AllocFailed, Global};
 use std::test::Fail;

@@ -18,3 +18,9 @@ pub mod Fields
 pub mod Reading
 pub mod Message
 pub mod Forms
+pub mod Spelling
+pub mod Grammar
+pub mod StateLineReading
+pub mod StateText
+pub mod ListOrder
+pub mod Walk

@@ -1,8 +1,9 @@
-//! The lines of scripts and logs: their fields, and events, the set-up of a script and the entries of a log in them; and readers
-//! and writers as sources and sinks of them.
+//! The lines of scripts and logs: their fields, and events, the set-up of a script and the entries of a log in them; a hub's state
+//! as a text, and read again; and readers and writers as sources and sinks of them.
 //!
-//! Each value has one spelling, so a field or a line is read exactly where something is spelled so; a fault of a reader or a
-//! writer is counted once. Begin with `field`, `read_item`, `put_entry`, `read_log_line`, `Input` and specs/Fields.antt.
+//! Each value has one spelling, so a field, a line or a state is read exactly where something is spelled so; a fault of a reader
+//! or a writer is counted once. Begin with `field`, `read_item`, `put_entry`, `read_log_line`, `Input` and specs/Fields.antt, and for
+//! states with `encode_state`, `decode_state` and specs/Grammar.antt.
 #![tactic(auto)]
 
 mod action;
@@ -23,6 +24,15 @@ mod place;
 mod printing;
 mod settings;
 mod setup;
+mod state_command;
+mod state_decoding;
+mod state_encoding;
+mod state_grammar;
+mod state_laws;
+mod state_line;
+mod state_piece;
+mod state_word;
+mod state_writing;
 mod streams;
 mod text;
 mod trace;
@@ -40,6 +50,14 @@ pub use place::{LONGEST_LOG, Place, Stage, first_bad_line};
 pub use printing::{decision_text, put_entry};
 pub use settings::{default_options, options_in};
 pub use setup::{Item, put_file, put_sent, read_item};
+pub use state_decoding::decode_state;
+pub use state_encoding::encode_state;
+pub use state_laws::{
+    a_state_has_one_text, lines_give_lists_in_order, lists_in_order_have_lines,
+    states_of_logs_begin_at_the_root,
+};
+pub use state_line::{StateLine, read_state_line};
+pub use state_word::{CommandWord, LineWord, SlotWord};
 pub use streams::{Input, Output};
 pub use text::whole_text;
 pub use word::Word;

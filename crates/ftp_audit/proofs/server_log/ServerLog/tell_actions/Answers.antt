@@ -1,0 +1,8 @@
+use Rattle.std.proofs.Common.{arith}
+use Rattle.std.proofs.lemmas.Grind.{common_steps}
+use Rattle.std.proofs.lemmas.List.Concat.{flat_map-append}
+use Rattle.std.proofs.lemmas.List.Elements.{filter_map-append}
+use Rattle.ftp_audit.proofs.server_log.ServerLog.tell_actions.Goals as goal
+
+pub loop-action-preserved : goal.loop-action-preserved
+loop-action-preserved c = grind (arith, common_steps, filter_map-append, flat_map-append)

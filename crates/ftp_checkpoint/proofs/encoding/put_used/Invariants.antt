@@ -1,8 +1,0 @@
-use Rattle.std.proofs.Common.{◌≡◌, ◌++◌, take}
-use Rattle.std.specs.List.{flat_map}
-use Rattle.ftp_checkpoint.specs.declared.line.StateLine.TheVariants as says
-use Rattle.ftp_checkpoint.specs.StateText.{with_feed}
-use Rattle.ftp_checkpoint.proofs.encoding.put_used.Given as goal
-
-abbrev pub invariant-loop-interval : goal.invariant-loop-interval
-invariant-loop-interval l = l.out.items ≡ l.initial.out.items ++ flat_map (λ x. with_feed (says.Used x)) (take l.interval-index l.used)

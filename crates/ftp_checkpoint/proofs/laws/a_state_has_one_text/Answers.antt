@@ -1,6 +1,0 @@
-use Rattle.std.proofs.Common.{sym, ◌∙◌}
-use Rattle.ftp_checkpoint.proofs.WalkLemmas.{walk-is}
-use Rattle.ftp_checkpoint.proofs.laws.a_state_has_one_text.Goals as goal
-
-pub returns : goal.returns
-returns c = λ x a b first second. sym (walk-is x a first) ∙ walk-is x b second

@@ -1,5 +1,0 @@
-use Rattle.ftp_checkpoint.proofs.RootLemmas.{states-rooted}
-use Rattle.ftp_checkpoint.proofs.laws.states_of_logs_begin_at_the_root.Goals as goal
-
-pub returns : goal.returns
-returns c = states-rooted

@@ -1,6 +1,0 @@
-use Rattle.std.proofs.Common.{◌≡◌, ◌++◌, take}
-use Rattle.ftp_server_log.specs.Forms.{blankless}
-use Rattle.ftp_server_log.proofs.form.put_bare.Given as goal
-
-abbrev pub invariant-loop-b : goal.invariant-loop-b
-invariant-loop-b l = l.out.items ≡ l.initial.out.items ++ blankless (take l.b-index l.text)

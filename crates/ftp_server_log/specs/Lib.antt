@@ -1,9 +1,0 @@
-pub mod Calendar
-pub mod Guests
-pub mod Requests
-pub mod Tickets
-pub mod Lines
-pub mod Forms
-pub mod Written
-pub mod Metrics
-pub mod Tally

@@ -1,0 +1,177 @@
+-- No line of a state has a line feed within it.
+use Rattle.std.proofs.Common.{◌≡◌, ℕ, zero, suc, ◌/◌, ◌%◌, ◌^◌, ◌<◌, Bool, true, false, not, cond, eqb, List, [], ◌∷◌, ◌++◌, length, Option, Some, None, refl, arith}
+use Rattle.std.specs.Prelude.{codes}
+use Rattle.std.specs.Char.{is_ascii_digit}
+use Rattle.std.specs.Fmt.{decimal, digit_glyph}
+use Rattle.std.specs.Option.{option_map}
+use Rattle.std.proofs.lemmas.Bool.Decides.{nat_tests}
+use Rattle.std.proofs.lemmas.Fmt.{digits_decimal}
+use Rattle.ftp_base.specs.declared.net.IpAddr.{IpAddr}
+use Rattle.ftp_base.specs.declared.net.IpAddr.TheVariants.{V4, V6}
+use Rattle.ftp_base.specs.declared.net.SocketAddr.{SocketAddr}
+use Rattle.ftp_base.specs.declared.command.DataChanCmd.{DataChanCmd}
+use Rattle.ftp_base.specs.Command.{path_of}
+use Rattle.ftp_text.specs.Fields.{field, number, hex_byte, hex_digits, dotted, ip_text, address_text, is_plain, escape_byte, escape, optional, Each, IsText, IsAddress, IsNumber}
+use Rattle.ftp_text.proofs.Exact.{Pass, digits_pass, passes_true}
+use Rattle.ftp_text.proofs.Lists.{pass-append, pass-more}
+use Rattle.ftp_text.proofs.Numerals.{own}
+use Rattle.ftp_hub.specs.declared.state.LoginState.{LoginState}
+use Rattle.ftp_hub.specs.declared.state.LoginState.TheVariants as login
+use Rattle.ftp_hub.specs.declared.state.SlotKind.{SlotKind}
+use Rattle.ftp_hub.specs.declared.state.SlotKind.TheVariants as kept
+use Rattle.ftp_text.specs.declared.state_line.StateLine.{StateLine}
+use Rattle.ftp_text.specs.declared.state_line.StateLine.TheVariants as says
+use Rattle.ftp_text.specs.declared.state_word.CommandWord.{CommandWord}
+use Rattle.ftp_text.specs.declared.state_word.CommandWord.TheVariants as command_word
+use Rattle.ftp_text.specs.declared.state_word.LineWord.{LineWord}
+use Rattle.ftp_text.specs.declared.state_word.LineWord.TheVariants as line_word
+use Rattle.ftp_text.specs.Spelling.{line_word_text, login_state_text, command_word_text, command_word_of, bit, bytes_or_none, length_field, slot_kind_fields, command_options, command_lengths, command_parts, command_field, line_fields, line_word_of, state_line, IsPiece, HasPieces, IsSlotKind, IsStateLine}
+use Rattle.ftp_text.proofs.Pieces.{text-append, piece-length, piece-text, parts-text}
+
+-- the byte ends no line
+abbrev pub is_line_byte : ℕ → Bool
+is_line_byte b = not (eqb b 10)
+
+-- no byte ends a line
+abbrev pub HasNone : List ℕ → Type 0
+HasNone w = Pass is_line_byte w
+
+both : (v w : List ℕ) → HasNone v → HasNone w → HasNone (v ++ w)
+both v w p q = pass-append is_line_byte v w p q
+
+digit_none : (b : ℕ) → is_ascii_digit b ≡ true → is_line_byte b ≡ true
+digit_none b h = grind (arith, nat_tests)
+
+decimal_none : (n : ℕ) → n < 2 ^ 64 → HasNone (decimal n)
+decimal_none n lt = pass-more is_ascii_digit is_line_byte digit_none (decimal n) (digits_pass (decimal n) (digits_decimal own n lt))
+
+number_none : (n : ℕ) → n < 2 ^ 64 → HasNone (number n)
+number_none n lt = (refl, decimal_none n lt)
+
+glyph_none : (d : ℕ) → d < 16 → is_line_byte (digit_glyph false d) ≡ true
+glyph_none d lt = grind (arith, nat_tests)
+
+byte_none : (b : ℕ) → b < 256 → HasNone (escape_byte b)
+byte_none b lt = cases (is_plain b) refl where
+  cases : (p : Bool) → is_plain b ≡ p → HasNone (cond p (b ∷ []) (92 ∷ 120 ∷ hex_byte b))
+  cases true e = (grind (arith, nat_tests), tt)
+  cases false e = (refl, (refl, (glyph_none (b / 16) (omega arith), (glyph_none (b % 16) (omega arith), tt))))
+
+escape_none : (text : List ℕ) → IsText text → HasNone (escape text)
+escape_none [] fits = tt
+escape_none (b ∷ text) fits = both (escape_byte b) (escape text) (byte_none b fits.0) (escape_none text fits.1)
+
+text_none : (text : List ℕ) → IsText text → HasNone (field (escape text))
+text_none text fits = (refl, escape_none text fits)
+
+hex_none : (k n : ℕ) → HasNone (hex_digits k n)
+unfolding hex_digits
+hex_none zero n = tt
+hex_none (suc k) n = both (hex_digits k (n / 16)) (digit_glyph false (n % 16) ∷ []) (hex_none k (n / 16)) (glyph_none (n % 16) (omega arith), tt)
+
+dotted_none : (ip : ℕ) → HasNone (dotted ip)
+dotted_none ip =
+    both (decimal (ip / 16777216 % 256)) _ (decimal_none _ (omega arith)) (
+      refl,
+      both (decimal (ip / 65536 % 256)) _ (decimal_none _ (omega arith))
+          (refl, both (decimal (ip / 256 % 256)) _ (decimal_none _ (omega arith)) (refl, decimal_none (ip % 256) (omega arith))),
+    )
+
+ip_none : (ip : IpAddr) → HasNone (ip_text ip)
+ip_none (V4 ip) = dotted_none ip
+ip_none (V6 ip) = (refl, both (hex_digits 32 ip) (93 ∷ []) (hex_none 32 ip) (refl, tt))
+
+address_none : (a : SocketAddr) → IsAddress a → HasNone (field (address_text a))
+address_none a fits = (refl, both (ip_text a.ip) (58 ∷ decimal a.port) (ip_none a.ip) (refl, decimal_none a.port (omega (arith, fits.1))))
+
+maybe_ip_none : (ip : Option IpAddr) → HasNone (optional ip_text ip)
+maybe_ip_none None = (refl, (refl, tt))
+maybe_ip_none (Some ip) = (refl, ip_none ip)
+
+maybe_none : (n : Option ℕ) → Each IsNumber n → HasNone (optional decimal n)
+maybe_none None fits = (refl, (refl, tt))
+maybe_none (Some n) fits = number_none n fits
+
+length_none : (p : Option (List ℕ)) → Each IsPiece p → HasNone (length_field p)
+length_none p fits = maybe_none (option_map length p) (piece-length p fits)
+
+bit_none : (b : Bool) → HasNone (bit b)
+bit_none true = number_none 1 (omega arith)
+bit_none false = number_none 0 (omega arith)
+
+login_none : (w : LoginState) → HasNone (field (login_state_text w))
+login_none login.New = passes_true is_line_byte (field (login_state_text login.New)) refl
+login_none login.Pass = passes_true is_line_byte (field (login_state_text login.Pass)) refl
+login_none login.Out = passes_true is_line_byte (field (login_state_text login.Out)) refl
+login_none login.Cmd = passes_true is_line_byte (field (login_state_text login.Cmd)) refl
+
+command_word_none : (w : CommandWord) → HasNone (field (command_word_text w))
+command_word_none command_word.Retr = passes_true is_line_byte (field (command_word_text command_word.Retr)) refl
+command_word_none command_word.Stor = passes_true is_line_byte (field (command_word_text command_word.Stor)) refl
+command_word_none command_word.Appe = passes_true is_line_byte (field (command_word_text command_word.Appe)) refl
+command_word_none command_word.List = passes_true is_line_byte (field (command_word_text command_word.List)) refl
+command_word_none command_word.Nlst = passes_true is_line_byte (field (command_word_text command_word.Nlst)) refl
+command_word_none command_word.Mlsd = passes_true is_line_byte (field (command_word_text command_word.Mlsd)) refl
+
+kind_none : (k : SlotKind) → IsSlotKind k → HasNone (slot_kind_fields k)
+kind_none (kept.Waits port) fits = both (32 ∷ codes "waits") (number port) (passes_true is_line_byte (32 ∷ codes "waits") refl) (number_none port (omega (arith, fits)))
+kind_none (kept.HasLink n) fits = both (32 ∷ codes "link") (number n) (passes_true is_line_byte (32 ∷ codes "link") refl) (number_none n fits)
+
+lengths_none : (c : DataChanCmd) → HasPieces c → HasNone (command_lengths c)
+lengths_none c pieces = both (length_field (command_options c)) (length_field (path_of c)) (length_none (command_options c) pieces.0) (length_none (path_of c) pieces.1)
+
+fields_none : (x : StateLine) → IsStateLine x → HasNone (line_fields x)
+fields_none (says.Checkpoint events stopped) f =
+    both (32 ∷ 49 ∷ []) (number events ++ bit stopped) (refl, (refl, tt)) (both (number events) (bit stopped) (number_none events f) (bit_none stopped))
+fields_none (says.Used i) f = both (number i.lo) (number i.hi) (number_none i.lo f.0) (number_none i.hi f.1)
+fields_none (says.Record r) f =
+    both (number r.count) _ (number_none r.count (omega (arith, f.0)))
+    (both (number r.at) _ (number_none r.at f.1)
+    (both (optional ip_text r.ip) _ (maybe_ip_none r.ip)
+    (both (length_field r.user) _ (length_none r.user f.3) (text_none (bytes_or_none r.user) (piece-text r.user f.3)))))
+fields_none (says.Session s) f =
+    both (number s.session ++ _) _
+    (both (number s.session) _ (number_none s.session f.session)
+    (both (field (address_text s.raw)) _ (address_none s.raw f.raw)
+    (both (field (address_text s.local)) _ (address_none s.local f.local)
+    (both (field (ip_text s.client)) _ (refl, ip_none s.client) (number_none s.trace f.trace)))))
+    (both (field (login_state_text s.state) ++ _) _
+    (both (field (login_state_text s.state)) _ (login_none s.state)
+    (both (number s.active) _ (number_none s.active f.active)
+    (both (number s.offset) _ (number_none s.offset f.offset)
+    (both (number s.tickets) _ (number_none s.tickets f.tickets) (number_none s.notices f.notices)))))
+    (both (length_field s.user) _ (length_none s.user f.user)
+    (text_none (bytes_or_none s.user ++ s.cwd) (text-append (bytes_or_none s.user) s.cwd (piece-text s.user f.user) f.cwd.0))))
+fields_none (says.Slot l) f =
+    both (number l.session) _ (number_none l.session f.0) (both (number l.at) _ (number_none l.at f.1) (kind_none l.what f.2))
+fields_none (says.Queued q) f =
+    both (number q.session) _ (number_none q.session f.session)
+    (both (number q.nr) _ (number_none q.nr f.nr)
+    (both (number q.offset) _ (number_none q.offset f.offset)
+    (both (command_field q.command) _ (command_word_none (command_word_of q.command))
+    (both (command_lengths q.command) _ (lengths_none q.command f.command)
+    (text_none (command_parts q.command q.path) (parts-text q.command q.path f.command f.path.0))))))
+fields_none (says.Job j) f =
+    both (number j.job.ticket.session ++ _) _
+    (both (number j.job.ticket.session) _ (number_none j.job.ticket.session f.session)
+    (both (number j.job.ticket.nr) _ (number_none j.job.ticket.nr f.nr)
+    (both (number j.job.offset) _ (number_none j.job.offset f.offset)
+    (both (number j.job.done) _ (number_none j.job.done f.done)
+    (both (bit j.marked) _ (bit_none j.marked) (number_none j.job.number f.link))))))
+    (both (command_field j.job.command) _ (command_word_none (command_word_of j.job.command))
+    (both (number (length j.job.user)) _ (number_none (length j.job.user) f.user.1)
+    (both (command_lengths j.job.command) _ (lengths_none j.job.command f.command)
+    (text_none (j.job.user ++ command_parts j.job.command j.job.path)
+    (text-append j.job.user (command_parts j.job.command j.job.path) f.user.0 (parts-text j.job.command j.job.path f.command f.path.0))))))
+
+word_none : (w : LineWord) → HasNone (line_word_text w)
+word_none line_word.Checkpoint = passes_true is_line_byte (line_word_text line_word.Checkpoint) refl
+word_none line_word.Used = passes_true is_line_byte (line_word_text line_word.Used) refl
+word_none line_word.Record = passes_true is_line_byte (line_word_text line_word.Record) refl
+word_none line_word.Session = passes_true is_line_byte (line_word_text line_word.Session) refl
+word_none line_word.Slot = passes_true is_line_byte (line_word_text line_word.Slot) refl
+word_none line_word.Queued = passes_true is_line_byte (line_word_text line_word.Queued) refl
+word_none line_word.Job = passes_true is_line_byte (line_word_text line_word.Job) refl
+
+pub line_none : (x : StateLine) → IsStateLine x → HasNone (state_line x)
+line_none x fits = both (line_word_text (line_word_of x)) (line_fields x) (word_none (line_word_of x)) (fields_none x fits)

@@ -1,0 +1,8 @@
+use Rattle.std.proofs.Common.{◌≡◌, ◌++◌, take}
+use Rattle.std.specs.List.{flat_map}
+use Rattle.ftp_text.specs.declared.state_line.StateLine.TheVariants as says
+use Rattle.ftp_text.specs.StateText.{with_feed}
+use Rattle.ftp_text.proofs.state_encoding.put_jobs.Given as goal
+
+abbrev pub invariant-loop-line : goal.invariant-loop-line
+invariant-loop-line l = l.out.items ≡ l.initial.out.items ++ flat_map (λ x. with_feed (says.Job x)) (take l.line-index l.jobs)

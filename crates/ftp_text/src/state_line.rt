@@ -1,0 +1,365 @@
+//! Reading a line of a state.
+
+ghost use Rattle.std.specs.Prelude.{◌≡◌, ◌≢◌, ◌∷◌, IfOk, IsErrOf, Some};
+ghost use Rattle.ftp_text.specs.declared.fault.LineFault.TheVariants as fault;
+ghost use Rattle.ftp_text.specs.Reading.{Gives};
+ghost use Rattle.ftp_text.specs.Spelling.{IsStateLine, state_line};
+ghost use Rattle.ftp_text.specs.StateLineReading.{RecordFields, SessionFields, QueuedFields, JobFields, checkpoint_at, used_at, record_of, record_at, opening_at, progress_at, session_of, session_at, slot_kind_at, slot_at, queued_of, queued_at, run_at, job_of, job_at, line_behind, line_word_at, state_line_of};
+
+use crate::fault::LineFault;
+use crate::field::{
+    address, first_word, ip, literal, number, optional_ip, optional_number, port, small,
+    text_to_end, word_value,
+};
+use crate::state_command::{Lengths, command_in, lengths};
+use crate::state_piece::{bit, cut_at, cut_off, is_from_root};
+use crate::state_word::{CommandWord, LineWord, SlotWord, find_line_word, login_state};
+use ftp_base::{Bytes, IpAddr, SocketAddr};
+use ftp_hub::{JobLine, LoginState, QueuedLine, RecordLine, SessionLine, SlotKind, SlotLine};
+use ftp_switchboard::Interval;
+use ftp_transfer::{Job, Ticket};
+use std::alloc::Global;
+
+/// What a line of a state says.
+#[derive(Drop)]
+pub enum StateLine {
+    /// How many events there were, and whether one was a stop.
+    Checkpoint { events: u64, stopped: bool },
+    /// Numbers that were used.
+    Used(Interval),
+    Record(RecordLine),
+    Session(SessionLine),
+    Slot(SlotLine),
+    Queued(QueuedLine),
+    Job(JobLine),
+}
+
+// The number of a session, who it is with, to where, for whom, and its trace id.
+type Opening = (u64, (SocketAddr, (SocketAddr, (IpAddr, u64))));
+
+// How far a login is, when the session was active, its offset, and how many transfers and notices it had.
+type Progress = (LoginState, (u64, (u64, (u64, u64))));
+
+// The numbers of a session and of a transfer in it, its offset, what it moved, whether it is marked, and its link.
+type Run = (u64, (u64, (u64, (u64, (bool, u64)))));
+
+/// What the line says. Its line feed is no part of the line.
+///
+/// # Proved
+///
+/// - A line is read exactly where a line of a state is spelled so, each field in the range of its type (`found`, `bad`,
+///   `only`).
+pub fn read_state_line(alloc: Global, line: &[u8]) -> Result<StateLine, LineFault>
+    // What is read is spelled so, each byte of the line.
+    ensures found { IfOk result (λ x. (state_line x ≡ line.now) × IsStateLine x) }
+
+    // A line is bad only where nothing is spelled so.
+    ensures bad { IsErrOf result fault.Bad → (x : StateLine) → IsStateLine x → state_line x ≢ line.now }
+
+    // What is spelled so is read, unless memory runs out.
+    ensures only { (x : StateLine) → IsStateLine x → state_line x ≡ line.now → Gives (λ y. y) result (Some x) }
+{
+    line_in(alloc, line)
+}
+
+#[tactic(auto, unfolding(crate::specs::LineReading::state_line_of))]
+fn line_in(alloc: Global, line: &[u8]) -> Result<StateLine, LineFault>
+    ensures { Gives (λ x. x) result (state_line_of line.now) }
+{
+    let (word, rest) = line_word(line)?;
+    let (says, rest) = behind(alloc, word, rest)?;
+    if rest.is_empty() {
+        Ok(says)
+    } else {
+        Err(LineFault::Bad)
+    }
+}
+
+// The word at the front.
+#[tactic(auto, unfolding(crate::specs::Reading::word_value, crate::specs::Reading::word_at))]
+fn line_word(line: &[u8]) -> Result<(LineWord, &[u8]), LineFault>
+    ensures { Gives (λ x. (x.0, x.1.now)) result (line_word_at line.now) }
+{
+    let (text, rest) = first_word(line);
+    match find_line_word(text) {
+        Some(word) => Ok((word, rest)),
+        None => Err(LineFault::Bad),
+    }
+}
+
+// What stands behind the word.
+fn behind(alloc: Global, word: LineWord, bytes: &[u8]) -> Result<(StateLine, &[u8]), LineFault>
+    ensures { Gives (λ x. (x.0, x.1.now)) result (line_behind word bytes.now) }
+{
+    match word {
+        LineWord::Checkpoint => checkpoint(bytes),
+        LineWord::Used => used(bytes),
+        LineWord::Record => {
+            let (line, rest) = record(alloc, bytes)?;
+            Ok((StateLine::Record(line), rest))
+        }
+        LineWord::Session => {
+            let (line, rest) = session(alloc, bytes)?;
+            Ok((StateLine::Session(line), rest))
+        }
+        LineWord::Slot => slot(bytes),
+        LineWord::Queued => {
+            let (line, rest) = queued(alloc, bytes)?;
+            Ok((StateLine::Queued(line), rest))
+        }
+        LineWord::Job => {
+            let (line, rest) = job(alloc, bytes)?;
+            Ok((StateLine::Job(line), rest))
+        }
+    }
+}
+
+#[tactic(auto, unfolding(crate::specs::LineReading::checkpoint_at))]
+fn checkpoint(bytes: &[u8]) -> Result<(StateLine, &[u8]), LineFault>
+    ensures { Gives (λ x. (x.0, x.1.now)) result (checkpoint_at bytes.now) }
+{
+    let rest = literal(b" 1", bytes)?;
+    let (events, rest) = number(rest)?;
+    let (stopped, rest) = bit(rest)?;
+    Ok((StateLine::Checkpoint { events, stopped }, rest))
+}
+
+#[tactic(auto, unfolding(crate::specs::LineReading::used_at))]
+fn used(bytes: &[u8]) -> Result<(StateLine, &[u8]), LineFault>
+    ensures { Gives (λ x. (x.0, x.1.now)) result (used_at bytes.now) }
+{
+    let (lo, rest) = number(bytes)?;
+    let (hi, rest) = number(rest)?;
+    if lo > hi {
+        return Err(LineFault::Bad);
+    }
+    Ok((StateLine::Used(Interval { lo, hi }), rest))
+}
+
+#[tactic(auto, unfolding(crate::specs::LineReading::record_at))]
+fn record(alloc: Global, bytes: &[u8]) -> Result<(RecordLine, &[u8]), LineFault>
+    ensures { Gives (λ x. (x.0, x.1.now)) result (record_at bytes.now) }
+{
+    let (count, rest) = small(4_294_967_296, bytes)?;
+    let (at, rest) = number(rest)?;
+    let (ip, rest) = optional_ip(rest)?;
+    let (len, rest) = optional_number(rest)?;
+    let (text, rest) = text_to_end(alloc, rest)?;
+    let line = record_of(alloc, (count as u32, (at, ip)), len, text.as_slice())?;
+    Ok((line, rest))
+}
+
+// The record with this name.
+#[tactic(auto, unfolding(crate::specs::LineReading::record_of))]
+fn record_of(
+    alloc: Global,
+    fields: (u32, (u64, Option<IpAddr>)),
+    len: Option<u64>,
+    text: &[u8],
+) -> Result<RecordLine, LineFault>
+    ensures { Gives (λ x. x) result (record_of (fields.0, (fields.1.0, (fields.1.1, (len, text.now))))) }
+{
+    let (count, (at, ip)) = fields;
+    let (user, rest) = cut_off(alloc, len, text)?;
+    if !rest.is_empty() || ip.is_none() && user.is_none() {
+        return Err(LineFault::Bad);
+    }
+    Ok(RecordLine {
+        count,
+        at,
+        ip,
+        user,
+    })
+}
+
+#[tactic(auto, unfolding(crate::specs::LineReading::opening_at))]
+fn opening(bytes: &[u8]) -> Result<(Opening, &[u8]), LineFault>
+    ensures { Gives (λ x. (x.0, x.1.now)) result (opening_at bytes.now) }
+{
+    let (session, rest) = number(bytes)?;
+    let (raw, rest) = address(rest)?;
+    let (local, rest) = address(rest)?;
+    let (client, rest) = ip(rest)?;
+    let (trace, rest) = number(rest)?;
+    Ok(((session, (raw, (local, (client, trace)))), rest))
+}
+
+#[tactic(auto, unfolding(crate::specs::LineReading::progress_at))]
+fn progress(bytes: &[u8]) -> Result<(Progress, &[u8]), LineFault>
+    ensures { Gives (λ x. (x.0, x.1.now)) result (progress_at bytes.now) }
+{
+    let (state, rest) = login_state(bytes)?;
+    let (active, rest) = number(rest)?;
+    let (offset, rest) = number(rest)?;
+    let (tickets, rest) = number(rest)?;
+    let (notices, rest) = number(rest)?;
+    Ok(((state, (active, (offset, (tickets, notices)))), rest))
+}
+
+#[tactic(auto, unfolding(crate::specs::LineReading::session_at))]
+fn session(alloc: Global, bytes: &[u8]) -> Result<(SessionLine, &[u8]), LineFault>
+    ensures { Gives (λ x. (x.0, x.1.now)) result (session_at bytes.now) }
+{
+    let (opening, rest) = opening(bytes)?;
+    let (progress, rest) = progress(rest)?;
+    let (len, rest) = optional_number(rest)?;
+    let (text, rest) = text_to_end(alloc, rest)?;
+    let line = session_of(alloc, opening, progress, len, text.as_slice())?;
+    Ok((line, rest))
+}
+
+// The session with this name and directory.
+#[tactic(auto, unfolding(crate::specs::LineReading::session_of))]
+fn session_of(
+    alloc: Global,
+    opening: Opening,
+    progress: Progress,
+    len: Option<u64>,
+    text: &[u8],
+) -> Result<SessionLine, LineFault>
+    ensures { Gives (λ x. x) result (session_of (opening, (progress, (len, text.now)))) }
+{
+    let (user, cwd) = cut_off(alloc, len, text)?;
+    if !is_from_root(cwd) {
+        return Err(LineFault::Bad);
+    }
+    let cwd = Bytes::from_slice(alloc, cwd)?;
+    let (session, (raw, (local, (client, trace)))) = opening;
+    let (state, (active, (offset, (tickets, notices)))) = progress;
+    Ok(SessionLine {
+        session,
+        raw,
+        local,
+        client,
+        trace,
+        state,
+        active,
+        offset,
+        tickets,
+        notices,
+        user,
+        cwd,
+    })
+}
+
+#[tactic(auto, unfolding(crate::specs::LineReading::slot_kind_at))]
+fn slot_kind(bytes: &[u8]) -> Result<(SlotKind, &[u8]), LineFault>
+    ensures { Gives (λ x. (x.0, x.1.now)) result (slot_kind_at bytes.now) }
+{
+    let (word, rest) = word_value(bytes)?;
+    match word {
+        SlotWord::Waits => {
+            let (port, rest) = port(rest)?;
+            Ok((SlotKind::Waits { port }, rest))
+        }
+        SlotWord::Link => {
+            let (number, rest) = number(rest)?;
+            Ok((SlotKind::HasLink { number }, rest))
+        }
+    }
+}
+
+#[tactic(auto, unfolding(crate::specs::LineReading::slot_at))]
+fn slot(bytes: &[u8]) -> Result<(StateLine, &[u8]), LineFault>
+    ensures { Gives (λ x. (x.0, x.1.now)) result (slot_at bytes.now) }
+{
+    let (session, rest) = number(bytes)?;
+    let (at, rest) = number(rest)?;
+    let (what, rest) = slot_kind(rest)?;
+    Ok((StateLine::Slot(SlotLine { session, at, what }), rest))
+}
+
+#[tactic(auto, unfolding(crate::specs::LineReading::queued_at))]
+fn queued(alloc: Global, bytes: &[u8]) -> Result<(QueuedLine, &[u8]), LineFault>
+    ensures { Gives (λ x. (x.0, x.1.now)) result (queued_at bytes.now) }
+{
+    let (session, rest) = number(bytes)?;
+    let (nr, rest) = number(rest)?;
+    let (offset, rest) = number(rest)?;
+    let (word, rest) = word_value(rest)?;
+    let (lengths, rest) = lengths(rest)?;
+    let (text, rest) = text_to_end(alloc, rest)?;
+    let line = queued_of(
+        alloc,
+        (session, (nr, offset)),
+        word,
+        lengths,
+        text.as_slice(),
+    )?;
+    Ok((line, rest))
+}
+
+// The waiting transfer with this text.
+#[tactic(auto, unfolding(crate::specs::LineReading::queued_of))]
+fn queued_of(
+    alloc: Global,
+    fields: (u64, (u64, u64)),
+    word: CommandWord,
+    lengths: Lengths,
+    text: &[u8],
+) -> Result<QueuedLine, LineFault>
+    ensures { Gives (λ x. x) result (queued_of (fields.0, (fields.1.0, (fields.1.1, (word, (lengths, text.now)))))) }
+{
+    let (session, (nr, offset)) = fields;
+    let (command, path) = command_in(alloc, word, lengths, text)?;
+    Ok(QueuedLine {
+        session,
+        nr,
+        offset,
+        command,
+        path,
+    })
+}
+
+#[tactic(auto, unfolding(crate::specs::LineReading::run_at))]
+fn run(bytes: &[u8]) -> Result<(Run, &[u8]), LineFault>
+    ensures { Gives (λ x. (x.0, x.1.now)) result (run_at bytes.now) }
+{
+    let (session, rest) = number(bytes)?;
+    let (nr, rest) = number(rest)?;
+    let (offset, rest) = number(rest)?;
+    let (done, rest) = number(rest)?;
+    let (marked, rest) = bit(rest)?;
+    let (link, rest) = number(rest)?;
+    Ok(((session, (nr, (offset, (done, (marked, link))))), rest))
+}
+
+#[tactic(auto, unfolding(crate::specs::LineReading::job_at))]
+fn job(alloc: Global, bytes: &[u8]) -> Result<(JobLine, &[u8]), LineFault>
+    ensures { Gives (λ x. (x.0, x.1.now)) result (job_at bytes.now) }
+{
+    let (run, rest) = run(bytes)?;
+    let (word, rest) = word_value(rest)?;
+    let (len, rest) = number(rest)?;
+    let (lengths, rest) = lengths(rest)?;
+    let (text, rest) = text_to_end(alloc, rest)?;
+    let line = job_of(alloc, run, word, (len, lengths), text.as_slice())?;
+    Ok((line, rest))
+}
+
+// The running transfer with this text.
+#[tactic(auto, unfolding(crate::specs::LineReading::job_of))]
+fn job_of(
+    alloc: Global,
+    run: Run,
+    word: CommandWord,
+    lengths: (u64, Lengths),
+    text: &[u8],
+) -> Result<JobLine, LineFault>
+    ensures { Gives (λ x. x) result (job_of (run, (word, (lengths.0, (lengths.1, text.now))))) }
+{
+    let (user, rest) = cut_at(lengths.0, text)?;
+    let (command, path) = command_in(alloc, word, lengths.1, rest)?;
+    let user = Bytes::from_slice(alloc, user)?;
+    let (session, (nr, (offset, (done, (marked, number))))) = run;
+    let job = Job {
+        ticket: Ticket { session, nr },
+        user,
+        command,
+        path,
+        offset,
+        number,
+        done,
+    };
+    Ok(JobLine { job, marked })
+}
