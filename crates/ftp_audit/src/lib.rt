@@ -1,11 +1,11 @@
-//! What the entries of a journal tell: who moved what and how often users came and went, how many bytes each may store, and the log of a
-//! server with its counters.
+//! What a journal tells: who moved what and how often users came and went, how many bytes each may store, and the log of a server
+//! with its counters.
 //!
 //! Sums over any stretch of a right and acted log are those of what was decided and completed, though an audit looks at
 //! notifications alone; no user's files come to more bytes than the user's budget. Each control connection, login, transfer, change
 //! of a file and ending has one line of the log.
 //!
-//! Begin with `Audit` and `Quota`, and with `ServerLog`, `Tally` and specs/Lines.antt.
+//! Begin with `Audit` and `Quota`, and for the log with `ServerLog`, `Tally` and specs/Lines.antt.
 #![tactic(auto)]
 
 mod account;

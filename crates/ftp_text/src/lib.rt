@@ -1,9 +1,9 @@
-//! The lines of scripts and logs: their fields, and events, the set-up of a script and the entries of a log in them; a hub's state
-//! as a text, and read again; and readers and writers as sources and sinks of them.
+//! The lines of scripts, of logs and of a hub's state: their fields, and events, the set-up of a script, the entries of a log and a
+//! state in them; and readers and writers as sources and sinks of them.
 //!
 //! Each value has one spelling, so a field, a line or a state is read exactly where something is spelled so; a fault of a reader
-//! or a writer is counted once. Begin with `field`, `read_item`, `put_entry`, `read_log_line`, `Input` and specs/Fields.antt, and for
-//! states with `encode_state`, `decode_state` and specs/Grammar.antt.
+//! or a writer is counted once. Begin with `field`, `read_item`, `put_entry`, `read_log_line`, `Input` and specs/Fields.antt, and
+//! for states with `encode_state`, `decode_state` and specs/Grammar.antt.
 #![tactic(auto)]
 
 mod action;
