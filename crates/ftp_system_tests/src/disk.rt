@@ -295,7 +295,10 @@ fn a_listing_shows_the_mode_and_the_date(rt: HostRuntime) -> Result<(), Fail> {
         shown: *b"Nov 28  2020",
         modify: *b"20201128135709",
     };
-    assert_eq!(rt; infos[0].looks, Some(looks));
+    let [info, ..] = infos.as_slice() else {
+        return Err(Fail::from("nothing is listed"));
+    };
+    assert_eq!(rt; info.looks, Some(looks));
     fs::remove_dir_all(&rt, base.as_str())?;
     Ok(())
 }
