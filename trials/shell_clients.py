@@ -150,6 +150,7 @@ def terminal(program, first=""):
         "put of nothing": "lcd {own}\nput zero",
         "put of a big file": "lcd {own}\nput big.bin big2.bin",
         "put below": "lcd {own}\ncd sub/d2\nput s.txt",
+        "put under a name of the server's": "sunique\nlcd {own}\nput s.txt",
         "append": "append {own}/s.txt a.txt",
         "way down and up": "cd sub\ncdup\nls",
         "make a directory": "mkdir new",

@@ -99,6 +99,7 @@ whole-found word.Allo path found dated = tt
 whole-found word.Mode path found dated = tt
 whole-found word.Stru path found dated = tt
 whole-found word.Epsv path found dated = tt
+whole-found word.Stou path found dated = tt
 whole-found word.Clnt path found dated = tt
 whole-found word.Pbsz path found dated = tt
 whole-found word.Prot path found dated = tt

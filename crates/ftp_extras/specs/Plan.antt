@@ -164,7 +164,8 @@ protection_reply p =
 abbrev pub secured : Offers → Extra → Extra
 secured o x = if o.is_behind_tls then x else extra.Pass
 
--- what is done on a word that is about the session or the server; PBSZ and PROT are words where a proxy ends TLS
+-- what is done on a word that is about the session or the server: a STOU with a name is one without, as the server chooses the
+-- name (RFC 959, section 4.1.3); PBSZ and PROT are words where a proxy ends TLS
 abbrev pub session_extra : Offers → AskerView → ExtraWord → List ℕ → Extra
 session_extra o who word.Pwd p = directory_reply who
 session_extra o who word.Xpwd p = directory_reply who
@@ -179,6 +180,7 @@ session_extra o who word.Allo p = says_text (OneLine (codes "202") (codes "No st
 session_extra o who word.Mode p = only_one (codes "s") p
 session_extra o who word.Stru p = only_one (codes "f") p
 session_extra o who word.Epsv p = epsv_extra p
+session_extra o who word.Stou p = extra.As command.Stou
 session_extra o who word.Clnt p = tells code.CommandOkay (codes "Noted")
 session_extra o who word.Pbsz p = secured o (tells code.CommandOkay (codes "PBSZ=0"))
 session_extra o who word.Prot p = secured o (protection_reply p)

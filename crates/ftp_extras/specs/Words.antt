@@ -30,6 +30,7 @@ extra_word_text word.Allo = codes "allo"
 extra_word_text word.Mode = codes "mode"
 extra_word_text word.Stru = codes "stru"
 extra_word_text word.Epsv = codes "epsv"
+extra_word_text word.Stou = codes "stou"
 extra_word_text word.Clnt = codes "clnt"
 extra_word_text word.Pbsz = codes "pbsz"
 extra_word_text word.Prot = codes "prot"
@@ -39,7 +40,7 @@ abbrev pub extra_words : List ExtraWord
 extra_words =
     word.Pwd ∷ word.Xpwd ∷ word.Cdup ∷ word.Xcup ∷ word.Mkd ∷ word.Xmkd ∷ word.Rmd ∷ word.Xrmd ∷ word.Dele
     ∷ word.Rnfr ∷ word.Rnto ∷ word.Size ∷ word.Mdtm ∷ word.Mfmt ∷ word.Mlst ∷ word.Feat ∷ word.Opts ∷ word.Syst
-    ∷ word.Stat ∷ word.Help ∷ word.Allo ∷ word.Mode ∷ word.Stru ∷ word.Epsv ∷ word.Clnt ∷ word.Pbsz ∷ word.Prot ∷ []
+    ∷ word.Stat ∷ word.Help ∷ word.Allo ∷ word.Mode ∷ word.Stru ∷ word.Epsv ∷ word.Stou ∷ word.Clnt ∷ word.Pbsz ∷ word.Prot ∷ []
 
 -- the word that these bytes spell
 abbrev pub extra_word_of : List ℕ → Option ExtraWord

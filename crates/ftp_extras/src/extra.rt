@@ -22,7 +22,7 @@ pub struct Asker<'a> {
 /// What is done on the line of a command.
 #[derive(Debug, Drop)]
 pub enum Extra {
-    /// What the profile does.
+    /// What the profile does, also where it refuses the line.
     Pass,
     /// The event of a message of the control layer, whose reply is the hub's.
     Tell(ControlChanMsg),
@@ -47,7 +47,8 @@ pub trait Extras {
     ghost faults: { Self → ℕ };
 
     /// Says what is done on the line of a command. It hears each command but PASS, so that it knows which line follows
-    /// which.
+    /// which. A line that the profile refuses for its parameter, as `STOU name`, comes as `Command::Other` with what stands
+    /// before the first space.
     ///
     /// # Proved
     ///

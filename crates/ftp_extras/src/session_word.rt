@@ -214,6 +214,8 @@ pub(crate) fn session_extra(
         ExtraWord::Mode => only_one(alloc, b"s", parameter),
         ExtraWord::Stru => only_one(alloc, b"f", parameter),
         ExtraWord::Epsv => epsv_extra(alloc, parameter),
+        // The server chooses the name (RFC 959, section 4.1.3).
+        ExtraWord::Stou => Ok(Extra::As(Command::Stou)),
         ExtraWord::Clnt => tell(alloc, ReplyCode::CommandOkay, b"Noted"),
         ExtraWord::Pbsz if offers.is_behind_tls => tell(alloc, ReplyCode::CommandOkay, b"PBSZ=0"),
         ExtraWord::Prot if offers.is_behind_tls => protection_reply(alloc, parameter),

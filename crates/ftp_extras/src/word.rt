@@ -3,7 +3,7 @@
 ghost use Rattle.std.specs.Prelude.{◌≡◌};
 ghost use Rattle.ftp_extras.specs.Words.{extra_word_text, extra_word_of, is_open_word};
 
-/// A word that is no command's in the profile.
+/// A word that is no command's in the profile, and STOU, which is one there without a name alone.
 #[derive(Clone, Copy, Debug, PartialEq, Eq)]
 pub enum ExtraWord {
     Pwd,
@@ -30,12 +30,13 @@ pub enum ExtraWord {
     Mode,
     Stru,
     Epsv,
+    Stou,
     Clnt,
     Pbsz,
     Prot,
 }
 
-const WORDS: [ExtraWord; 27] = [
+const WORDS: [ExtraWord; 28] = [
     ExtraWord::Pwd,
     ExtraWord::Xpwd,
     ExtraWord::Cdup,
@@ -60,6 +61,7 @@ const WORDS: [ExtraWord; 27] = [
     ExtraWord::Mode,
     ExtraWord::Stru,
     ExtraWord::Epsv,
+    ExtraWord::Stou,
     ExtraWord::Clnt,
     ExtraWord::Pbsz,
     ExtraWord::Prot,
@@ -93,6 +95,7 @@ fn word_text(word: ExtraWord) -> &'static [u8]
         ExtraWord::Mode => b"mode",
         ExtraWord::Stru => b"stru",
         ExtraWord::Epsv => b"epsv",
+        ExtraWord::Stou => b"stou",
         ExtraWord::Clnt => b"clnt",
         ExtraWord::Pbsz => b"pbsz",
         ExtraWord::Prot => b"prot",

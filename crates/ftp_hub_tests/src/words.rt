@@ -25,7 +25,7 @@ const OFFERS: Offers = Offers {
 /// Lines of a client, and what it is sent behind the greeting.
 type Row<'a> = (&'a [u8], &'a [u8]);
 
-const ROWS: [Row<'static>; 6] = [
+const ROWS: [Row<'static>; 7] = [
     (
         b"PWD\r\nSYST\r\nUSER ann\r\nPASS x\r\nPWD\r\nCWD up\r\nXPWD\r\nCDUP\r\nPWD\r\n",
         b"530 Please authenticate\r\n215 UNIX Type: L8\r\n331 Password Required\r\n\
@@ -56,6 +56,13 @@ const ROWS: [Row<'static>; 6] = [
         b"USER ann\r\nPASS x\r\nPASV\r\nEPSV 1\r\nQUIT\r\n",
         b"331 Password Required\r\n230 User logged in, proceed\r\n227 Entering Passive Mode (10,0,0,9,195,80)\r\n\
           229 Entering Extended Passive Mode (|||50001|)\r\n221 Bye!\r\n",
+    ),
+    // A STOU with a name is one without; other commands still need their parameters, and a rename its RNFR right before.
+    (
+        b"STOU a\r\nUSER ann\r\nPASS x\r\nSTOU a\r\nSTOU\r\nRNFR up\r\nPASV x\r\nRNTO down\r\nRETR\r\nQUIT\r\n",
+        b"530 Please authenticate\r\n331 Password Required\r\n230 User logged in, proceed\r\n\
+          425 No data connection established\r\n425 No data connection established\r\n350 Ready for RNTO\r\n\
+          501 Invalid Parameter\r\n503 Use RNFR first\r\n501 Invalid Parameter\r\n221 Bye!\r\n",
     ),
     // What is not there is refused before any data connection.
     (

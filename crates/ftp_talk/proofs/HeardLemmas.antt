@@ -11,21 +11,22 @@ use Rattle.ftp_events.specs.declared.event.EventKind.{EventKind}
 use Rattle.ftp_events.specs.Login.{login_state, user_name}
 use Rattle.ftp_control.specs.declared.command.Command.{Command}
 use Rattle.ftp_control.specs.declared.line.LineError.{LineError}
+use Rattle.ftp_control.specs.declared.line.LineError.TheVariants as error
 use Rattle.ftp_control.specs.Line.{parsed}
 use Rattle.ftp_control.specs.Writing.{WritesFront}
 use Rattle.ftp_extras.specs.declared.extra.Extra.{Extra}
 use Rattle.ftp_extras.specs.declared.extra.Extra.TheVariants as extra
-use Rattle.ftp_extras.specs.Extra.{AskerView}
+use Rattle.ftp_extras.specs.Extra.{AskerView, gives_password}
 use Rattle.ftp_shared.specs.Desk.{DeskView}
 use Rattle.ftp_talk.specs.declared.control_session.ControlSession.{ControlSession}
 use Rattle.ftp_talk.specs.declared.halt.Halt.{Halt}
 use Rattle.ftp_talk.specs.declared.serving.Next.{Next}
-use Rattle.ftp_talk.specs.Commands.{Gives}
+use Rattle.ftp_talk.specs.Commands.{Gives, GivenBy}
 use Rattle.ftp_talk.specs.Ground.{ALine, Turn, Ground, history, lines_in}
-use Rattle.ftp_talk.specs.Parts.{HeardLine, MayDoSo, turns_of, IsHeard, GivesMore, asker_at, with_said, with_spoken, is_epsv_line, pieces_for, due_pieces}
+use Rattle.ftp_talk.specs.Parts.{HeardLine, MayDoSo, turns_of, IsHeard, GivesMore, heard_as, asker_at, with_said, with_spoken, is_epsv_line, pieces_for, due_pieces}
 use Rattle.ftp_talk.specs.Pieces.{Pieces, piece_delays, SaysPieces}
 use Rattle.ftp_talk.specs.Saying.{IsPaused}
-use Rattle.ftp_talk.specs.Speaking.{Knows, Speaking, Front, Spoken, Heard, Halted, Standing, IsCut, IsCutAt, IsHearing, Carries, HearsLines, asker_of, turn_of}
+use Rattle.ftp_talk.specs.Speaking.{Knows, Speaking, Front, Spoken, Heard, Halted, Standing, IsCut, IsCutAt, IsHearing, IsHeardAs, Carries, HearsLines, asker_of, turn_of}
 use Rattle.ftp_talk.specs.Talk.{greeting_of}
 use Rattle.ftp_talk.specs.Turns.{Due, LineDue, NothingDue, is_end, due, due_by, due_behind}
 use Rattle.ftp_talk.proofs.PieceLemmas.{delays-pieces, wrote-pieces, text-one, pieces-behind, pieces-longer, piece-front}
@@ -38,12 +39,12 @@ asker-same g state h knows = rw (knows.login, knows.name, knows.cwd) refl
 -- ---- what is said behind the replies
 
 -- a command that is carried out says nothing behind its replies
-pub still-carried : (c done : Command) (y : Extra) (pieces : Pieces) → Carries c y done → with_said y pieces ≡ pieces
-still-carried c done extra.Pass pieces h = refl
-still-carried c done (extra.As other) pieces h = refl
-still-carried c done extra.Epsv pieces h = refl
-still-carried c done (extra.Tell m) pieces h = absurd h
-still-carried c done (extra.Say bytes) pieces h = absurd h
+pub still-carried : (line : List ℕ) (done : Command) (y : Extra) (pieces : Pieces) → Carries line y done → with_said y pieces ≡ pieces
+still-carried line done extra.Pass pieces h = refl
+still-carried line done (extra.As other) pieces h = refl
+still-carried line done extra.Epsv pieces h = refl
+still-carried line done (extra.Tell m) pieces h = absurd h
+still-carried line done (extra.Say bytes) pieces h = absurd h
 
 -- neither does a message that is told
 pub still-told : (m : ControlChanMsg) (y : Extra) (pieces : Pieces) → y ≡ extra.Tell m → with_said y pieces ≡ pieces
@@ -78,7 +79,7 @@ longer-more x false old new before after w pieces h = longer-said x.extra old ne
 
 -- the turn of a line that was heard
 heard-turn : (g : Ground) (state : ControlSession) (ts : List Turn) (x : HeardLine) (k : EventKind) (earlier : List (ℕ × Reply)) (e : Entry) →
-    Knows g state (history g ts) → due ts ≡ LineDue → IsHearing state x → e.event.kind ≡ k → GivesMore g (history g ts) x.command x.extra k →
+    Knows g state (history g ts) → due ts ≡ LineDue → IsHearing state x → e.event.kind ≡ k → GivesMore g (history g ts) x.line x.extra k →
     IsHeard g ts x (turn_of (ALine x.line) earlier e)
 heard-turn g state ts x k earlier e knows stands h is gives =
     record {
@@ -90,7 +91,7 @@ heard-turn g state ts x k earlier e knows stands h is gives =
       who = h.who ∙ asker-same g state (history g ts) knows;
       beside = h.beside;
       whole = h.whole;
-      gives = subst (GivesMore g (history g ts) x.command x.extra) (sym is) gives;
+      gives = subst (GivesMore g (history g ts) x.line x.extra) (sym is) gives;
     }
 
 -- a line was heard and answered; what is due is this
@@ -99,7 +100,7 @@ pub heard-standing : (g : Ground) (state0 state : ControlSession) (edge0 edge : 
     (s : Standing LineDue g state0 edge0 desk0 sent0 hs (x.line ++ rest))
     (spoken : Spoken g state edge desk sent (turns_of s.parts) (due_pieces g s.parts) (ALine x.line) k d (is_epsv_line x.extra)) →
     IsHearing state0 x →
-    GivesMore g (history g (turns_of s.parts)) x.command x.extra k →
+    GivesMore g (history g (turns_of s.parts)) x.line x.extra k →
     Speaking g state edge desk sent1 (turn_of (ALine x.line) spoken.earlier spoken.entry ∷ turns_of s.parts)
     (with_spoken (Some x) (is_end spoken.entry.decision) (due_pieces g s.parts ++ pieces_for g (is_epsv_line x.extra) (turn_of (ALine x.line) spoken.earlier spoken.entry))) →
     due_by (ALine x.line) d ≡ new →
@@ -123,7 +124,7 @@ pub heard-spoken : {epsv : Bool} (g : Ground) (state0 state : ControlSession) (e
     Spoken g state edge desk sent (turns_of s.parts) (due_pieces g s.parts) (ALine x.line) k d epsv →
     is_epsv_line x.extra ≡ epsv →
     IsHearing state0 x →
-    GivesMore g (history g (turns_of s.parts)) x.command x.extra k →
+    GivesMore g (history g (turns_of s.parts)) x.line x.extra k →
     ((pieces : Pieces) → with_spoken (Some x) (is_end d) pieces ≡ pieces) →
     due_by (ALine x.line) d ≡ new →
     Standing new g state edge desk sent (x ∷ hs) rest
@@ -161,7 +162,7 @@ pub heard-said : {epsv : Bool} (g : Ground) (state0 state : ControlSession) (edg
     Spoken g state edge desk sent (turns_of s.parts) (due_pieces g s.parts) (ALine x.line) k d epsv →
     is_epsv_line x.extra ≡ epsv →
     IsHearing state0 x →
-    GivesMore g (history g (turns_of s.parts)) x.command x.extra k →
+    GivesMore g (history g (turns_of s.parts)) x.line x.extra k →
     x.extra ≡ extra.Say bytes →
     is_end d ≡ false →
     Writes sent sent1 bytes →
@@ -191,7 +192,7 @@ pub heard-cut : {epsv : Bool} (g : Ground) (state0 state : ControlSession) (edge
     Halted g state edge desk sent (turns_of s.parts) (due_pieces g s.parts) (ALine x.line) k epsv →
     is_epsv_line x.extra ≡ epsv →
     IsHearing state0 x →
-    GivesMore g (history g (turns_of s.parts)) x.command x.extra k →
+    GivesMore g (history g (turns_of s.parts)) x.line x.extra k →
     IsCutAt g state edge desk sent hs x
 heard-cut g state0 state edge0 edge desk0 desk sent0 sent x k hs rest s (inl halted) same hearing gives =
     inl (record { parts = s.parts; rest = x.line ++ rest; cut = s.cut; ruled = s.ruled; heard = s.heard; long = s.long; front = halted.0 })
@@ -218,7 +219,7 @@ pub heard-part : {epsv : Bool} (g : Ground) (state0 state : ControlSession) (edg
     Spoken g state edge desk sent (turns_of s.parts) (due_pieces g s.parts) (ALine x.line) k d epsv →
     is_epsv_line x.extra ≡ epsv →
     IsHearing state0 x →
-    GivesMore g (history g (turns_of s.parts)) x.command x.extra k →
+    GivesMore g (history g (turns_of s.parts)) x.line x.extra k →
     x.extra ≡ extra.Say bytes →
     is_end d ≡ false →
     WritesFront sent sent1 bytes →
@@ -252,17 +253,33 @@ heard-part g state0 state edge0 edge desk0 desk sent0 sent sent1 x bytes k d hs 
     }
 
 -- the event of a command that is carried out is the one of the line
-pub gives-carried : (g : Ground) (h : List Entry) (c done : Command) (y : Extra) (k : EventKind) → Carries c y done → Gives g h done k → GivesMore g h c y k
-gives-carried g h c done extra.Pass k is gives = subst (λ (x : Command). Gives g h x k) (sym is) gives
-gives-carried g h c done (extra.As other) k is gives = subst (λ (x : Command). Gives g h x k) (sym is) gives
-gives-carried g h c done extra.Epsv k is gives = subst (λ (x : Command). Gives g h x k) (sym is) gives
-gives-carried g h c done (extra.Tell m) k is gives = absurd is
-gives-carried g h c done (extra.Say bytes) k is gives = absurd is
+pub gives-carried : (g : Ground) (h : List Entry) (line : List ℕ) (done : Command) (y : Extra) (k : EventKind) → Carries line y done → Gives g h done k → GivesMore g h line y k
+gives-carried g h line done extra.Pass k is gives = subst (λ (r : Result Command LineError). GivenBy g h r k) (sym is) gives
+gives-carried g h line done (extra.As other) k is gives = subst (λ (x : Command). Gives g h x k) (sym is) gives
+gives-carried g h line done extra.Epsv k is gives = subst (λ (x : Command). Gives g h x k) (sym is) gives
+gives-carried g h line done (extra.Tell m) k is gives = absurd is
+gives-carried g h line done (extra.Say bytes) k is gives = absurd is
 
-pub gives-done : (g : Ground) (h : List Entry) (c : Command) (y z : Extra) (k : EventKind) → y ≡ z → GivesMore g h c z k → GivesMore g h c y k
-gives-done g h c y z k is gives = subst (λ (x : Extra). GivesMore g h c x k) (sym is) gives
+pub gives-done : (g : Ground) (h : List Entry) (line : List ℕ) (y z : Extra) (k : EventKind) → y ≡ z → GivesMore g h line z k → GivesMore g h line y k
+gives-done g h line y z k is gives = subst (λ (x : Extra). GivesMore g h line x k) (sym is) gives
+
+-- what was read of a line is as which command it is heard
+pub read-heard : (refused : Bool) (line : List ℕ) (c : Command) → gives_password c ≡ false → IsHeardAs refused line c → heard_as line (parsed line) ≡ Some c
+read-heard false line c unsecret read = ap (heard_as line) read ∙ ap (λ (b : Bool). cond b None (Some c)) unsecret
+read-heard true line c unsecret read = ap (heard_as line) read.0 ∙ ap Some (sym read.1)
 
 -- ---- what is due behind it
+
+-- behind a line that is heard a line is due
+pub heard-due : (line : List ℕ) (r : Result Command LineError) (c : Command) (d : Decision) → heard_as line r ≡ Some c → due_behind r d ≡ LineDue
+heard-due line (Ok given) c d e = by (gives_password given) refl e where
+  by : (b : Bool) → gives_password given ≡ b → cond b None (Some given) ≡ Some c → due_behind (Ok given) d ≡ LineDue
+  by true is e1 = absurd (cc)
+  by false is e1 = command-due given d is
+heard-due line (Err error.InvalidCommand) c d e = refl
+heard-due line (Err error.Utf8) c d e = absurd (cc)
+heard-due line (Err error.InvalidEol) c d e = absurd (cc)
+heard-due line (Err error.OutOfMemory) c d e = absurd (cc)
 
 -- nothing, where the session has ended
 pub heard-over : (line : List ℕ) (d : Decision) → is_end d ≡ true → due_by (ALine line) d ≡ NothingDue
@@ -271,8 +288,8 @@ heard-over line d over = ap (λ (b : Bool). cond b NothingDue (due_behind (parse
 -- a line, where it goes on
 pub heard-live : (state : ControlSession) (x : HeardLine) (d : Decision) → IsHearing state x → is_end d ≡ false → due_by (ALine x.line) d ≡ LineDue
 heard-live state x d h live =
-    ap (λ (b : Bool). cond b NothingDue (due_behind (parsed x.line) d)) live ∙ ap (λ (r : Result Command LineError). due_behind r d) h.parsed
-    ∙ command-due x.command d h.unsecret
+    ap (λ (b : Bool). cond b NothingDue (due_behind (parsed x.line) d)) live
+    ∙ heard-due x.line (parsed x.line) x.command d h.parsed
 
 -- ---- what was heard
 

@@ -1,6 +1,6 @@
 -- Without extras it is the talk.
 use Rattle.std.proofs.Common.{◌≡◌, ℕ, Bool, true, false, List, [], ◌∷◌, ◌++◌, Option, Some, None, refl, sym, ap, subst, ◌∙◌, arith, inl, inr}
-use Rattle.std.specs.Prelude.{⊤, Result, Ok}
+use Rattle.std.specs.Prelude.{⊤}
 use Rattle.std.specs.List.{AllByRecursion}
 use Rattle.ftp_base.specs.declared.reply.Reply.{Reply}
 use Rattle.ftp_base.specs.Edge.{EdgeView}
@@ -10,8 +10,6 @@ use Rattle.ftp_events.specs.declared.entry.Entry.{Entry}
 use Rattle.ftp_events.specs.declared.event.Answer.{Answer}
 use Rattle.ftp_events.specs.declared.event.EventKind.{EventKind}
 use Rattle.ftp_events.specs.declared.event.HubEvent.{HubEvent}
-use Rattle.ftp_control.specs.declared.command.Command.{Command}
-use Rattle.ftp_control.specs.declared.line.LineError.{LineError}
 use Rattle.ftp_control.specs.Line.{parsed}
 use Rattle.ftp_control.specs.Writing.{WritesFront}
 use Rattle.ftp_extras.specs.declared.extra.Extra.{Extra}
@@ -54,8 +52,7 @@ comes-plain g ts None t c plain = c.0
 comes-plain g ts (Some x) t c plain =
     let k = t.entry.event.kind in
     let h = history g ts in
-    let gives = subst (λ (y : Extra). GivesMore g h x.command y k) plain c.gives in
-    let given = subst (λ (r : Result Command LineError). GivenBy g h r k) (sym c.parsed) gives in
+    let given : GivenBy g h (parsed x.line) k = subst (λ (y : Extra). GivesMore g h x.line y k) plain c.gives in
     let comes : Comes g h LineDue (ALine x.line) k = (c.line, given) in
     subst (λ (d : Due). Comes g h d t.step k) (sym c.due) (subst (λ (s : Step). Comes g h LineDue s k) (sym c.step) comes)
 

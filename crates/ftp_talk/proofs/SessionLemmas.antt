@@ -179,7 +179,7 @@ internal-told g h c (extra.Say bytes) k told gives = (CommandChannelReply reply.
 
 internal-at : (g : Ground) (ts : List Turn) (h : Option HeardLine) (t : Turn) → ComesWith g ts h t → is_told_at h ≡ true → (m : ControlChanMsg) × (t.entry.event.kind ≡ kind.Internal g.session m)
 internal-at g ts None t c told = absurd (cc)
-internal-at g ts (Some x) t c told = internal-told g (history g ts) x.command x.extra t.entry.event.kind told c.gives
+internal-at g ts (Some x) t c told = internal-told g (history g ts) x.line x.extra t.entry.event.kind told c.gives
 
 -- one part more
 same-part : (g : Ground) (p : TalkPart) (ps : List TalkPart) → Parts g (p ∷ ps) → g.start.vouches ≡ true → AreVouched g (turns_of (p ∷ ps)) →

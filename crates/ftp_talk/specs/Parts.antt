@@ -11,20 +11,22 @@ use Rattle.ftp_events.specs.Board.{granted_port}
 use Rattle.ftp_events.specs.Login.{login_state, user_name}
 use Rattle.ftp_events.specs.Place.{cwd}
 use Rattle.ftp_control.specs.declared.command.Command.{Command}
-use Rattle.ftp_control.specs.declared.command.Command.TheVariants.{Pasv}
+use Rattle.ftp_control.specs.declared.command.Command.TheVariants.{Other, Pasv}
 use Rattle.ftp_control.specs.declared.line.LineError.{LineError}
+use Rattle.ftp_control.specs.declared.line.LineError.TheVariants.{InvalidCommand}
 use Rattle.ftp_control.specs.Line.{parsed}
+use Rattle.ftp_control.specs.Parameter.{first_word}
 use Rattle.ftp_control.specs.ControlLine.{IsLine}
 use Rattle.ftp_extras.specs.declared.extra.Extra.{Extra}
 use Rattle.ftp_extras.specs.declared.extra.Extra.TheVariants as extra
 use Rattle.ftp_extras.specs.Extra.{AskerView, gives_password, is_beside, IsWhole}
-use Rattle.ftp_talk.specs.Commands.{is_in, Gives}
+use Rattle.ftp_talk.specs.Commands.{is_in, Gives, GivenBy}
 use Rattle.ftp_talk.specs.Ground.{Step, ALine, Turn, Ground, history}
 use Rattle.ftp_talk.specs.Pieces.{Pieces, said_pieces}
 use Rattle.ftp_talk.specs.Turns.{LineDue, is_end, due, Comes}
 
--- a line on which the extras were asked: who asked, what was kept from the line before, its command, what was done, and what
--- was kept then
+-- a line on which the extras were asked: who asked, what was kept from the line before, the command as which it was heard,
+-- what was done, and what was kept then
 pub record HeardLine : Type 0 where
   pub who : AskerView
   pub before : Option (List ℕ)
@@ -33,7 +35,7 @@ pub record HeardLine : Type 0 where
   pub extra : Extra
   pub after : Option (List ℕ)
 
--- a turn, and what was heard where it stands for the line of a command that gives no password
+-- a turn, and what was heard where it stands for a line that is heard
 pub record TalkPart : Type 0 where
   pub turn : Turn
   pub heard : Option HeardLine
@@ -70,29 +72,37 @@ abbrev pub asker_at : List Entry → AskerView
 asker_at h = record { name = user_name h; is_in = is_in (login_state h); cwd = cwd h }
 
 -- the event of a line on which this is done
-abbrev pub GivesMore : Ground → List Entry → Command → Extra → EventKind → Type 0
-GivesMore g h c extra.Pass k = Gives g h c k
-GivesMore g h c (extra.Tell m) k = k ≡ kind.Internal g.session m
-GivesMore g h c (extra.Say bytes) k = k ≡ kind.Internal g.session (message.CommandChannelReply reply.None)
-GivesMore g h c (extra.As other) k = Gives g h other k
-GivesMore g h c extra.Epsv k = Gives g h Pasv k
+abbrev pub GivesMore : Ground → List Entry → List ℕ → Extra → EventKind → Type 0
+GivesMore g h line extra.Pass k = GivenBy g h (parsed line) k
+GivesMore g h line (extra.Tell m) k = k ≡ kind.Internal g.session m
+GivesMore g h line (extra.Say bytes) k = k ≡ kind.Internal g.session (message.CommandChannelReply reply.None)
+GivesMore g h line (extra.As other) k = Gives g h other k
+GivesMore g h line extra.Epsv k = Gives g h Pasv k
 
--- a turn for a line that was heard: it is the line of a command that gives no password, heard for who asks, and on it nothing
--- is done in place of a command of the profile, but that a transfer may be refused
+-- as which command a line is heard: as its own, where that gives no password; a line that the profile refuses for its parameter,
+-- as a word that is no command's, the one before its first space
+abbrev pub heard_as : List ℕ → Result Command LineError → Option Command
+heard_as line (Ok c) = if gives_password c then None else Some c
+heard_as line (Err InvalidCommand) = Some (Other (first_word line))
+heard_as line (Err e) = None
+
+-- a turn for a line that was heard: it is one that is heard as this command, which gives no password, for who asks, and on it
+-- nothing is done in place of a command of the profile, but that a transfer may be refused
 pub record IsHeard (g : Ground) (ts : List Turn) (x : HeardLine) (t : Turn) : Type 0 where
   pub step : t.step ≡ ALine x.line
   pub due : due ts ≡ LineDue
   pub line : IsLine x.line
-  pub parsed : parsed x.line ≡ Ok x.command
+  pub parsed : heard_as x.line (parsed x.line) ≡ Some x.command
   pub unsecret : gives_password x.command ≡ false
   pub who : x.who ≡ asker_at (history g ts)
   pub beside : is_beside x.command x.extra ≡ true
   pub whole : IsWhole x.extra
-  pub gives : GivesMore g (history g ts) x.command x.extra t.entry.event.kind
+  pub gives : GivesMore g (history g ts) x.line x.extra t.entry.event.kind
 
--- a line is heard where it is that of a command that gives no password
+-- a line is heard where it is that of a command that gives no password, or refused for its parameter
 abbrev pub is_heard_line : Result Command LineError → Bool
 is_heard_line (Ok c) = if gives_password c then false else true
+is_heard_line (Err InvalidCommand) = true
 is_heard_line (Err e) = false
 
 abbrev pub is_heard_step : Step → Bool

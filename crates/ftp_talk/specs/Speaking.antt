@@ -1,5 +1,5 @@
 -- What is kept while a talk goes on.
-use Rattle.std.specs.Prelude.{◌≡◌, ℕ, ◌+◌, ◌%◌, ◌^◌, ◌≤◌, ◌⊎◌, Bool, true, false, List, [], ◌∷◌, ◌++◌, Option, Some, None, IfSome, MatchOption, is_some, Ok}
+use Rattle.std.specs.Prelude.{◌≡◌, ℕ, ◌+◌, ◌%◌, ◌^◌, ◌≤◌, ◌⊎◌, Bool, true, false, List, [], ◌∷◌, ◌++◌, Option, Some, None, IfSome, MatchOption, is_some, Ok, Err}
 use Rattle.std.specs.Bool.{then_some}
 use Rattle.std.specs.List.{AllByRecursion}
 use Rattle.ftp_base.specs.declared.login.AuthAnswer.{AuthAnswer}
@@ -20,7 +20,9 @@ use Rattle.ftp_options.specs.Modes.{is_active_off}
 use Rattle.ftp_events.specs.declared.session.Login.TheVariants as login
 use Rattle.ftp_shared.specs.Outbox.{own_session}
 use Rattle.ftp_control.specs.declared.command.Command.{Command}
-use Rattle.ftp_control.specs.declared.command.Command.TheVariants.{Pasv}
+use Rattle.ftp_control.specs.declared.command.Command.TheVariants.{Other, Pasv}
+use Rattle.ftp_control.specs.declared.line.LineError.TheVariants.{InvalidCommand}
+use Rattle.ftp_control.specs.Parameter.{first_word}
 use Rattle.ftp_control.specs.Lines.{Rest}
 use Rattle.ftp_shared.specs.Desk.{DeskView, IsVouched, Appends, RisesBy}
 use Rattle.ftp_control.specs.ControlLine.{IsLine, IsLong}
@@ -43,7 +45,7 @@ use Rattle.ftp_talk.specs.Seen.{IsSeen, IsDrawn, IsAsked, missing, behind_asked,
 use Rattle.ftp_talk.specs.Talk.{Talk, TalkFront, IsInput, AreVouched, Shares, greeting_of, is_over, is_long_last}
 use Rattle.ftp_talk.specs.Saying.{IsPaused}
 use Rattle.ftp_talk.specs.Pieces.{Pieces, piece_text, piece_delays, SaysPieces}
-use Rattle.ftp_talk.specs.Parts.{HeardLine, TalkPart, turns_of, heard_in, MayDoSo, AreAllowed, kept_behind, Parts, pieces_for, due_pieces}
+use Rattle.ftp_talk.specs.Parts.{HeardLine, TalkPart, turns_of, heard_in, MayDoSo, AreAllowed, kept_behind, Parts, heard_as, pieces_for, due_pieces}
 use Rattle.ftp_talk.specs.Extended.{TalkHeard, TalkFrontHeard}
 
 -- what a state knows is what these entries tell
@@ -257,18 +259,23 @@ asker_of state = record { name = state.name; is_in = is_in state.login; cwd = st
 -- a line is heard of who asks
 pub record IsHearing (state : ControlSession) (x : HeardLine) : Type 0 where
   pub line : IsLine x.line
-  pub parsed : parsed x.line ≡ Ok x.command
+  pub parsed : heard_as x.line (parsed x.line) ≡ Some x.command
   pub unsecret : gives_password x.command ≡ false
   pub who : x.who ≡ asker_of state
   pub beside : is_beside x.command x.extra ≡ true
   pub whole : IsWhole x.extra
 
 -- on a line that was heard this command is carried out
-abbrev pub Carries : Command → Extra → Command → Type 0
-Carries c extra.Pass done = c ≡ done
-Carries c (extra.As other) done = other ≡ done
-Carries c extra.Epsv done = Pasv ≡ done
-Carries c _ done = ⊥
+abbrev pub Carries : List ℕ → Extra → Command → Type 0
+Carries line extra.Pass done = parsed line ≡ Ok done
+Carries line (extra.As other) done = other ≡ done
+Carries line extra.Epsv done = Pasv ≡ done
+Carries line _ done = ⊥
+
+-- what was read of a line: this command, or that it is refused for the parameter of this word
+abbrev pub IsHeardAs : Bool → List ℕ → Command → Type 0
+IsHeardAs false line c = parsed line ≡ Ok c
+IsHeardAs true line c = (parsed line ≡ Err InvalidCommand) × (c ≡ Other (first_word line))
 
 -- a line was cut short: before its turn, or in it
 abbrev pub IsCutAt : Ground → ControlSession → EdgeView → DeskView → Option (List ℕ) → List HeardLine → HeardLine → Type 0

@@ -157,11 +157,13 @@ pub fn serve_control<D: Desk, C: Control, E: Edge, A: Authenticator>(
 ///
 /// - What `serve_control` proves of a talk holds of the turns of this one, but for the events of the lines on which more was
 ///   done, and for what was said on them (`served`).
-/// - Each line of a command that gives no password was heard, with who asked as the entries before it tell, and with what was
-///   kept from the heard line before it; what was done on it is what the extras may do, and its event is the one that
-///   this gives: the command's own, that of the message, one without a reply, or that of the other command (`served`).
-/// - Nothing is done in place of a command of the profile, but that a transfer may be refused as the storage refuses; what
-///   is said is whole replies, behind the replies of its turn, and before those of any later one (`served`).
+/// - Each line of a command that gives no password was heard, and each that is refused for its parameter, as the word before its
+///   first space; with who asked as the entries before it tell, and with what was kept from the heard line before it. What was
+///   done on it is what the extras may do, and its event is the one that this gives: the line's own, that of the message, one
+///   without a reply, or that of the other command (`served`).
+/// - Nothing is done in place of a command of the profile, but that a transfer may be refused as the storage refuses, and that
+///   something may be done on a line that is refused for its parameter; what is said is whole replies, behind the replies of its
+///   turn, and before those of any later one (`served`).
 /// - For an EPSV a PASV is submitted; where its decision grants a port, the line of code 229 that shows this port is said in place
 ///   of the reply to the PASV, and else that reply (`served`).
 /// - Without extras it is the talk of the profile; with what was said on the lines left out, what was sent is the talk's;

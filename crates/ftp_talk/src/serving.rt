@@ -3,6 +3,7 @@
 ghost use Rattle.std.specs.Prelude.{◌≡◌, ◌≤◌, ◌++◌, [], ◌∷◌, ℕ, List, Option, true, false, IfOk, Ok, Err, unwrap_or, OnErr, IsErrOf};
 ghost use Rattle.ftp_base.specs.Outside.{HasRisen};
 ghost use Rattle.ftp_control.specs.declared.command.Command.TheVariants as command;
+ghost use Rattle.ftp_control.specs.declared.line.LineError.TheVariants.{InvalidCommand};
 ghost use Rattle.ftp_control.specs.Line.{parsed};
 ghost use Rattle.ftp_control.specs.ControlLine.{IsLine};
 ghost use Rattle.ftp_talk.specs.declared.halt.Halt.TheVariants.{Exhausted, Fault};
@@ -10,15 +11,15 @@ ghost use Rattle.ftp_talk.specs.Ground.{Ground, ALine};
 ghost use Rattle.ftp_talk.specs.Turns.{LineDue, AnswerDue};
 ghost use Rattle.ftp_extras.specs.Extra.{gives_password};
 ghost use Rattle.ftp_talk.specs.Commands.{is_in};
-ghost use Rattle.ftp_talk.specs.Parts.{HeardLine, AreAllowed, is_epsv_line};
-ghost use Rattle.ftp_talk.specs.Speaking.{IsCut, IsCutAt, IsHearing, Carries, HearsLines, Standing, due_at, IsAbout};
+ghost use Rattle.ftp_talk.specs.Parts.{HeardLine, AreAllowed, is_epsv_line, is_heard_line};
+ghost use Rattle.ftp_talk.specs.Speaking.{IsCut, IsCutAt, IsHearing, IsHeardAs, Carries, HearsLines, Standing, due_at, IsAbout};
 ghost use Rattle.ftp_talk.specs.Serving.{is_out, next_of, behind_refusal};
 
 use crate::control_session::{ControlSession, is_end};
 use crate::halt::Halt;
 use crate::saying::write_all;
 use ftp_base::{AuthAnswer, Authenticator, Bytes, Control, ControlChanMsg, Edge, Reply};
-use ftp_control::{Command, LineError, Password, parse_line};
+use ftp_control::{Command, LineError, Password, cut_word, parse_line};
 use ftp_events::{Decision, EventKind, Login};
 use ftp_extras::{Asker, Extra, Extras};
 use ftp_shared::Desk;
@@ -92,11 +93,11 @@ impl ControlSession {
     ) -> Result<Next, Halt>
         ensures served { IfOk result (λ next. (g : Ground) (hs : List HeardLine) (x : HeardLine) (rest : List ℕ) → IsAbout g D.vouches D.draws_next →
             Standing LineDue g self.old (E.view edge.old) (D.view desk.old) (C.sending control.old).sent hs (x.line ++ rest) →
-            IsHearing self.old x → Carries x.command x.extra command → is_epsv_line x.extra ≡ is_epsv →
+            IsHearing self.old x → Carries x.line x.extra command → is_epsv_line x.extra ≡ is_epsv →
             Standing (due_at next) g self.new (E.view edge.new) (D.view desk.new) (C.sending control.new).sent (x ∷ hs) rest) }
         ensures cut { OnErr result ((g : Ground) (hs : List HeardLine) (x : HeardLine) (rest : List ℕ) → IsAbout g D.vouches D.draws_next →
             Standing LineDue g self.old (E.view edge.old) (D.view desk.old) (C.sending control.old).sent hs (x.line ++ rest) →
-            IsHearing self.old x → Carries x.command x.extra command → is_epsv_line x.extra ≡ is_epsv →
+            IsHearing self.old x → Carries x.line x.extra command → is_epsv_line x.extra ≡ is_epsv →
             IsCutAt g self.new (E.view edge.new) (D.view desk.new) (C.sending control.new).sent hs x) }
         ensures left { C.left control.new ≡ C.left control.old }
         ensures fault_rose { IsErrOf result Fault → HasRisen (C.faults control.old) (C.faults control.new) }
@@ -187,7 +188,36 @@ impl ControlSession {
         }
     }
 
-    // Answers a line that is refused.
+    // Refuses a line for its parameter that was heard, and on which the extras do nothing.
+    fn refuse<D: Desk, C: Control, E: Edge>(
+        &mut self,
+        desk: &mut D,
+        control: &mut C,
+        edge: &mut E,
+    ) -> Result<Next, Halt>
+        ensures served { IfOk result (λ next. (g : Ground) (hs : List HeardLine) (x : HeardLine) (rest : List ℕ) → IsAbout g D.vouches D.draws_next →
+            Standing LineDue g self.old (E.view edge.old) (D.view desk.old) (C.sending control.old).sent hs (x.line ++ rest) →
+            IsHearing self.old x → x.extra ≡ Extra.Pass → parsed x.line ≡ Err InvalidCommand →
+            Standing (due_at next) g self.new (E.view edge.new) (D.view desk.new) (C.sending control.new).sent (x ∷ hs) rest) }
+        ensures cut { OnErr result ((g : Ground) (hs : List HeardLine) (x : HeardLine) (rest : List ℕ) → IsAbout g D.vouches D.draws_next →
+            Standing LineDue g self.old (E.view edge.old) (D.view desk.old) (C.sending control.old).sent hs (x.line ++ rest) →
+            IsHearing self.old x → x.extra ≡ Extra.Pass → parsed x.line ≡ Err InvalidCommand →
+            IsCutAt g self.new (E.view edge.new) (D.view desk.new) (C.sending control.new).sent hs x) }
+        ensures left { C.left control.new ≡ C.left control.old }
+        ensures fault_rose { IsErrOf result Fault → HasRisen (C.faults control.old) (C.faults control.new) }
+        ensures exhausted { IsErrOf result Exhausted → D.exhausts ≡ true }
+        ensures count { C.faults control.old ≤ C.faults control.new }
+    {
+        let Ok(kind) = self.refused_as(LineError::InvalidCommand) else {
+            return Err(Halt::Memory);
+        };
+        match self.submit_and_reply(desk, control, edge, kind) {
+            Ok(decision) => Ok(next_of(decision, Next::GoOn)),
+            Err(halt) => Err(halt),
+        }
+    }
+
+    // Answers a line that is refused and not heard.
     fn serve_refusal<D: Desk, C: Control, E: Edge>(
         &mut self,
         desk: &mut D,
@@ -197,11 +227,11 @@ impl ControlSession {
     ) -> Result<Next, Halt>
         ensures served { IfOk result (λ next. (g : Ground) (hs : List HeardLine) (line rest : List ℕ) → IsAbout g D.vouches D.draws_next →
             Standing LineDue g self.old (E.view edge.old) (D.view desk.old) (C.sending control.old).sent hs (line ++ rest) →
-            IsLine line → parsed line ≡ Err error →
+            IsLine line → parsed line ≡ Err error → is_heard_line (Err error) ≡ false →
             Standing (due_at next) g self.new (E.view edge.new) (D.view desk.new) (C.sending control.new).sent hs rest) }
         ensures cut { OnErr result ((g : Ground) (hs : List HeardLine) (line rest : List ℕ) → IsAbout g D.vouches D.draws_next →
             Standing LineDue g self.old (E.view edge.old) (D.view desk.old) (C.sending control.old).sent hs (line ++ rest) →
-            IsLine line → parsed line ≡ Err error →
+            IsLine line → parsed line ≡ Err error → is_heard_line (Err error) ≡ false →
             IsCut g self.new (E.view edge.new) (D.view desk.new) (C.sending control.new).sent hs) }
         ensures left { C.left control.new ≡ C.left control.old }
         ensures fault_rose { IsErrOf result Fault → HasRisen (C.faults control.old) (C.faults control.new) }
@@ -293,7 +323,8 @@ impl ControlSession {
         }
     }
 
-    // Serves the line of a command that gives no password, as the extras have it.
+    // Serves a line that is heard, as the extras have it: that of a command that gives no password, or one that is refused for its
+    // parameter.
     fn serve_heard<D: Desk, C: Control, E: Edge, X: Extras>(
         &mut self,
         desk: &mut D,
@@ -302,12 +333,13 @@ impl ControlSession {
         extras: &mut X,
         command: Command,
         line: &[u8],
+        is_refused: bool,
     ) -> Result<Next, Halt>
         requires unsecret { gives_password command ≡ false }
         ensures served { (g : Ground) (x0 : X) (hs : List HeardLine) (rest : List ℕ) → IsAbout g D.vouches D.draws_next →
             HearsLines (X.may x0) (X.pending x0) (X.may extras.old) (X.pending extras.old) hs →
             Standing LineDue g self.old (E.view edge.old) (D.view desk.old) (C.sending control.old).sent hs (line.now ++ rest) →
-            IsLine line.now → parsed line.now ≡ Ok command →
+            IsLine line.now → IsHeardAs is_refused line.now command →
             (hs1 : List HeardLine) × AreAllowed (X.may x0) (X.pending x0) hs1
             × IfOk result (λ next. Standing (due_at next) g self.new (E.view edge.new) (D.view desk.new) (C.sending control.new).sent hs1 rest
             × HearsLines (X.may x0) (X.pending x0) (X.may extras.new) (X.pending extras.new) hs1)
@@ -324,7 +356,13 @@ impl ControlSession {
             cwd: &self.cwd,
         };
         match extras.hear(asker, &command, line) {
-            Ok(Extra::Pass) => self.serve_command(desk, control, edge, command, false),
+            Ok(Extra::Pass) => {
+                if is_refused {
+                    self.refuse(desk, control, edge)
+                } else {
+                    self.serve_command(desk, control, edge, command, false)
+                }
+            }
             Ok(Extra::Tell(message)) => self.tell(desk, control, edge, message),
             Ok(Extra::Say(lines)) => self.say_lines(desk, control, edge, lines),
             Ok(Extra::As(other)) => self.serve_command(desk, control, edge, other, false),
@@ -361,7 +399,7 @@ impl ControlSession {
                 Command::Pass { password } => {
                     self.serve_password(desk, control, edge, auth, password)
                 }
-                command => self.serve_heard(desk, control, edge, extras, command, line),
+                command => self.serve_heard(desk, control, edge, extras, command, line, false),
             },
             Err(LineError::OutOfMemory) => Err(Halt::Memory),
             Err(LineError::Utf8) => self.serve_refusal(desk, control, edge, LineError::Utf8),
@@ -369,7 +407,12 @@ impl ControlSession {
                 self.serve_refusal(desk, control, edge, LineError::InvalidEol)
             }
             Err(LineError::InvalidCommand) => {
-                self.serve_refusal(desk, control, edge, LineError::InvalidCommand)
+                let (word, _) = cut_word(line);
+                let Ok(word) = Bytes::from_slice(self.alloc, word) else {
+                    return Err(Halt::Memory);
+                };
+                let command = Command::Other { word };
+                self.serve_heard(desk, control, edge, extras, command, line, true)
             }
         }
     }

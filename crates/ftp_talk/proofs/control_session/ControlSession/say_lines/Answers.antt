@@ -19,7 +19,7 @@ returns-then-is_end-clause-served g c = λ q hs x rest about s hearing says.
     let asking = asking-plain q c.args.self.now _ _ _ (turns_of s.parts) (due_pieces q s.parts) k s.speaking (ap Some s.speaking.known.session) (λ f. tt) (λ f. refl) refl refl in
     let d = c.in-Ok.decision in
     let spoken = c.in-Ok.ensures.spoke q (turns_of s.parts) (due_pieces q s.parts) (ALine x.line) about.0 asking in
-    let gives = gives-done q h x.command x.extra (Say c.args.lines) k says (ap (λ (n : ℕ). kind.Internal n m) s.speaking.known.session) in
+    let gives = gives-done q h x.line x.extra (Say c.args.lines) k says (ap (λ (n : ℕ). kind.Internal n m) s.speaking.known.session) in
     let over = sym c.is_end.ensures ∙ c.if-is_end.true in
     heard-spoken q _ _ _ _ _ _ _ _ _ x k d hs rest s spoken (ap is_epsv_line says) hearing gives
     (λ pieces. still-over x (is_end d) pieces over) (heard-over x.line d over)
@@ -32,7 +32,7 @@ returns-in-Ok-write_all-clause-served g c = λ q hs x rest about s hearing says.
     let asking = asking-plain q c.args.self.now _ _ _ (turns_of s.parts) (due_pieces q s.parts) k s.speaking (ap Some s.speaking.known.session) (λ f. tt) (λ f. refl) refl refl in
     let d = c.in-Ok.decision in
     let spoken = c.in-Ok.ensures.spoke q (turns_of s.parts) (due_pieces q s.parts) (ALine x.line) about.0 asking in
-    let gives = gives-done q h x.command x.extra (Say c.args.lines) k says (ap (λ (n : ℕ). kind.Internal n m) s.speaking.known.session) in
+    let gives = gives-done q h x.line x.extra (Say c.args.lines) k says (ap (λ (n : ℕ). kind.Internal n m) s.speaking.known.session) in
     let live = sym c.is_end.ensures ∙ c.if-is_end.false in
     heard-said q _ _ _ _ _ _ _ _ _ _ x c.args.lines k d hs rest s spoken (ap is_epsv_line says) hearing gives says live
     (rw c.as_slice.ensures at c.in-Ok-write_all.ensures.wrote) (heard-live c.args.self.now x d hearing live)
@@ -45,7 +45,7 @@ returns-in-Ok-clause-cut g c = λ q hs x rest about s hearing says.
     let asking = asking-plain q c.args.self.now _ _ _ (turns_of s.parts) (due_pieces q s.parts) k s.speaking (ap Some s.speaking.known.session) (λ f. tt) (λ f. refl) refl refl in
     let d = c.in-Ok.decision in
     let spoken = c.in-Ok.ensures.spoke q (turns_of s.parts) (due_pieces q s.parts) (ALine x.line) about.0 asking in
-    let gives = gives-done q h x.command x.extra (Say c.args.lines) k says (ap (λ (n : ℕ). kind.Internal n m) s.speaking.known.session) in
+    let gives = gives-done q h x.line x.extra (Say c.args.lines) k says (ap (λ (n : ℕ). kind.Internal n m) s.speaking.known.session) in
     let live = sym c.is_end.ensures ∙ c.if-is_end.false in
     inr (heard-part q _ _ _ _ _ _ _ _ _ x c.args.lines k d hs rest s spoken (ap is_epsv_line says) hearing gives says live
     (rw c.as_slice.ensures at c.in-Err-write_all.ensures.front))
@@ -56,5 +56,5 @@ returns-clause-cut g c = λ q hs x rest about s hearing says.
     let m = CommandChannelReply NoReply in
     let k = kind.Internal c.args.self.now.session m in
     let asking = asking-plain q c.args.self.now _ _ _ (turns_of s.parts) (due_pieces q s.parts) k s.speaking (ap Some s.speaking.known.session) (λ f. tt) (λ f. refl) refl refl in
-    let gives = gives-done q h x.command x.extra (Say c.args.lines) k says (ap (λ (n : ℕ). kind.Internal n m) s.speaking.known.session) in
+    let gives = gives-done q h x.line x.extra (Say c.args.lines) k says (ap (λ (n : ℕ). kind.Internal n m) s.speaking.known.session) in
     heard-cut q _ _ _ _ _ _ _ _ x k hs rest s (c.in-Err.ensures.halted q (turns_of s.parts) (due_pieces q s.parts) (ALine x.line) about.0 asking) (ap is_epsv_line says) hearing gives

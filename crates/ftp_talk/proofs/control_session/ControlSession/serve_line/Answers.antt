@@ -1,5 +1,6 @@
-use Rattle.std.proofs.Common.{List, sym, ap, ◌∙◌}
+use Rattle.std.proofs.Common.{List, refl, sym, ap, ◌∙◌}
 use Rattle.std.specs.Prelude.{Ok}
+use Rattle.ftp_control.specs.declared.command.Command.TheVariants.{Other}
 use Rattle.ftp_talk.specs.declared.serving.Next.{Next}
 use Rattle.ftp_talk.specs.Parts.{HeardLine, AreAllowed}
 use Rattle.ftp_talk.specs.Speaking.{Standing, IsCut, HearsLines, due_at}
@@ -38,8 +39,8 @@ returns-in-Err-Utf8-clause-served g c = λ q x0 hs rest about answers hears s is
     let H = HearsLines (g.X.Extras.may x0) (g.X.Extras.pending x0) (g.X.Extras.may c.args.extras.now) (g.X.Extras.pending c.args.extras.now) in
     let A = AreAllowed (g.X.Extras.may x0) (g.X.Extras.pending x0) in
     keep-heard P H A K c.serve_refusal.result hs hears.allowed hears
-    (if_ok-then c.serve_refusal.result (λ n f. f q hs c.args.line.now rest about s is_line same) c.serve_refusal.ensures.served)
-    (on_err-then c.serve_refusal.result (λ f. f q hs c.args.line.now rest about s is_line same) c.serve_refusal.ensures.cut)
+    (if_ok-then c.serve_refusal.result (λ n f. f q hs c.args.line.now rest about s is_line same refl) c.serve_refusal.ensures.served)
+    (on_err-then c.serve_refusal.result (λ f. f q hs c.args.line.now rest about s is_line same refl) c.serve_refusal.ensures.cut)
 
 pub returns-in-Err-InvalidEol-clause-served : goal.returns-in-Err-InvalidEol-clause-served
 returns-in-Err-InvalidEol-clause-served g c = λ q x0 hs rest about answers hears s is_line.
@@ -49,16 +50,19 @@ returns-in-Err-InvalidEol-clause-served g c = λ q x0 hs rest about answers hear
     let H = HearsLines (g.X.Extras.may x0) (g.X.Extras.pending x0) (g.X.Extras.may c.args.extras.now) (g.X.Extras.pending c.args.extras.now) in
     let A = AreAllowed (g.X.Extras.may x0) (g.X.Extras.pending x0) in
     keep-heard P H A K c.serve_refusal-in-Err-InvalidEol.result hs hears.allowed hears
-    (if_ok-then c.serve_refusal-in-Err-InvalidEol.result (λ n f. f q hs c.args.line.now rest about s is_line same) c.serve_refusal-in-Err-InvalidEol.ensures.served)
-    (on_err-then c.serve_refusal-in-Err-InvalidEol.result (λ f. f q hs c.args.line.now rest about s is_line same) c.serve_refusal-in-Err-InvalidEol.ensures.cut)
+    (if_ok-then c.serve_refusal-in-Err-InvalidEol.result (λ n f. f q hs c.args.line.now rest about s is_line same refl) c.serve_refusal-in-Err-InvalidEol.ensures.served)
+    (on_err-then c.serve_refusal-in-Err-InvalidEol.result (λ f. f q hs c.args.line.now rest about s is_line same refl) c.serve_refusal-in-Err-InvalidEol.ensures.cut)
 
-pub returns-in-Err-InvalidCommand-clause-served : goal.returns-in-Err-InvalidCommand-clause-served
-returns-in-Err-InvalidCommand-clause-served g c = λ q x0 hs rest about answers hears s is_line.
+pub returns-in-Ok-from_slice-clause-served : goal.returns-in-Ok-from_slice-clause-served
+returns-in-Ok-from_slice-clause-served g c = λ q x0 hs rest about answers hears s is_line.
     let same = sym (rw c.in-Err-InvalidCommand.field-0-is at c.in-Err-InvalidCommand.ensures) in
-    let P = λ (n : Next) (l : List HeardLine). Standing (due_at n) q c.serve_refusal-in-Err-InvalidCommand.new.self (g.E.Edge.view c.serve_refusal-in-Err-InvalidCommand.new.edge) (g.D.Desk.view c.serve_refusal-in-Err-InvalidCommand.new.desk) (g.C.Source.sending c.serve_refusal-in-Err-InvalidCommand.new.control).sent l rest in
-    let K = λ (l : List HeardLine). IsCut q c.serve_refusal-in-Err-InvalidCommand.new.self (g.E.Edge.view c.serve_refusal-in-Err-InvalidCommand.new.edge) (g.D.Desk.view c.serve_refusal-in-Err-InvalidCommand.new.desk) (g.C.Source.sending c.serve_refusal-in-Err-InvalidCommand.new.control).sent l in
-    let H = HearsLines (g.X.Extras.may x0) (g.X.Extras.pending x0) (g.X.Extras.may c.args.extras.now) (g.X.Extras.pending c.args.extras.now) in
-    let A = AreAllowed (g.X.Extras.may x0) (g.X.Extras.pending x0) in
-    keep-heard P H A K c.serve_refusal-in-Err-InvalidCommand.result hs hears.allowed hears
-    (if_ok-then c.serve_refusal-in-Err-InvalidCommand.result (λ n f. f q hs c.args.line.now rest about s is_line same) c.serve_refusal-in-Err-InvalidCommand.ensures.served)
-    (on_err-then c.serve_refusal-in-Err-InvalidCommand.result (λ f. f q hs c.args.line.now rest about s is_line same) c.serve_refusal-in-Err-InvalidCommand.ensures.cut)
+    let word = c.in-Ok-from_slice.ensures ∙ c.cut_word.ensures.word in
+    c.serve_heard-in-Err-InvalidCommand.ensures.served q x0 hs rest about hears s is_line (same, ap Other word)
+
+pub returns-in_default-from_slice-clause-served : goal.returns-in_default-from_slice-clause-served
+returns-in_default-from_slice-clause-served g c = λ q x0 hs rest about answers hears s is_line. (
+  hs,
+  hears.allowed,
+  tt,
+  cut-standing q c.args.self.now _ _ _ _ _ _ hs _ s (same_edge (g.E.Edge.view c.args.edge.now)) (same_desk (g.D.Desk.view c.args.desk.now)),
+)
