@@ -1,8 +1,10 @@
 """The cases on users, their homes and rights, on links and on names, which trials/gateway.py runs in each mode."""
 
+import contextlib
 import os
 import socket
 import time
+from pathlib import Path
 
 import wire
 from cases import body, holds, same
@@ -118,6 +120,41 @@ def time_of(session, name):
     began = time.monotonic()
     session.tell("PASS wrong", 530)
     return time.monotonic() - began
+
+
+def busy_threads(process):
+    """How many threads of a process run, or wait for a processor."""
+    states = []
+    for task in Path(f"/proc/{process.pid}/task").iterdir():
+        try:
+            states.append((task / "stat").read_text().rpartition(")")[2].split()[0])
+        except OSError:
+            pass  # it has ended
+    return states.count("R")
+
+
+def checks_passwords_with_half_of_the_processors(words, mode):
+    """While more log in than there are processors; one thread may be at other work."""
+    processors = len(os.sched_getaffinity(0))
+    rounds = SLOW_ROUNDS
+    while times_with(rounds, words, mode)[WRITER] < 0.1:
+        rounds *= 10
+    slow = hash_of(PASSWORD, rounds)
+    with Gateway(words, mode) as gateway:
+        users = [user_line(WRITER, gateway.home, secret=slow)]
+        with Gateway(words, mode, users=users) as other, contextlib.ExitStack() as stack:
+            sessions = [stack.enter_context(greeted(other)) for _ in range(2 * processors)]
+            for session in sessions:
+                session.tell(f"USER {WRITER}", 331)
+            for session in sessions:
+                session.control.sendall(f"PASS {PASSWORD}\r\n".encode())
+            busy = 0
+            for _ in range(30):
+                time.sleep(0.01)
+                busy = max(busy, busy_threads(other.process))
+            for session in sessions:
+                session.expect(230)
+    holds(0 < busy <= max(1, processors // 2) + 1, f"{busy} threads are busy at once")
 
 
 def locks_an_address(words, mode):
@@ -241,6 +278,7 @@ def keeps_a_session_to_its_login(words, mode):
 USERS = [
     lets_in_by_the_right_password_alone,
     takes_as_long_for_a_name_that_nobody_has,
+    checks_passwords_with_half_of_the_processors,
     locks_an_address,
     locks_a_name,
     locks_by_default,

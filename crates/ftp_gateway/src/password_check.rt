@@ -2,24 +2,37 @@
 
 use crate::current_users::UserSource;
 use ftp_base::{AuthAnswer, Authenticator, Bytes, IpAddr};
+use std::alloc::{AllocError, Global};
 use std::sync::{Mutex, Wait};
 
-/// Checks passwords against the users that count, one at a time, so that logins leave the other processors to transfers.
+/// Checks passwords against the users that count, few at a time, so that logins leave processors to transfers.
 #[derive(Drop)]
 pub struct PasswordCheck<R: Wait + Drop, S: UserSource + Drop> {
     rt: R,
     source: S,
-    turn: Mutex<()>,
+    // Whoever checks a password holds one of these, each login the one behind that of the login before.
+    turns: Vec<Mutex<()>>,
+    last: Mutex<usize>,
 }
 
 impl<R: Wait + Drop, S: UserSource + Drop> PasswordCheck<R, S> {
-    /// Checks against the users of this source.
-    pub fn new(rt: R, source: S) -> PasswordCheck<R, S> {
-        PasswordCheck {
+    /// Checks against the users of this source, at most so many passwords at a time, and at least one.
+    pub fn new(
+        rt: R,
+        alloc: Global,
+        source: S,
+        most: usize,
+    ) -> Result<PasswordCheck<R, S>, AllocError> {
+        let mut turns = Vec::new(alloc);
+        for _ in 0..most.max(1) {
+            turns.push(Mutex::new(()))?;
+        }
+        Ok(PasswordCheck {
             rt,
             source,
-            turn: Mutex::new(()),
-        }
+            turns,
+            last: Mutex::new(0),
+        })
     }
 }
 
@@ -36,7 +49,16 @@ impl<R: Wait + Drop, S: UserSource + Drop> Authenticator for PasswordCheck<R, S>
     // - A user is let in only where users whom the source gave have that answer for the name and the password; where there is no memory
     //   for them nobody is.
     fn check(&self, user: &Bytes, password: &Bytes, _source: IpAddr) -> AuthAnswer {
-        let _turn = self.turn.lock(&self.rt);
+        let at = {
+            let mut last = self.last.lock(&self.rt);
+            let behind = last.saturating_add(1);
+            *last = if behind < self.turns.len() { behind } else { 0 };
+            *last
+        };
+        let Some(turn) = self.turns.get(at) else {
+            return AuthAnswer::NotEntered;
+        };
+        let _turn = turn.lock(&self.rt);
         match self.source.users() {
             Ok(table) => table.users.verify(user.as_slice(), password.as_slice()),
             Err(_) => AuthAnswer::NotEntered,

@@ -27,6 +27,7 @@ use std::alloc::{AllocError, Global};
 use std::fs::File;
 use std::rt::Files;
 use std::sync::{Arc, Mutex, Wait};
+use std::thread;
 use std::time::Clock;
 
 /// How many entries may wait to be written: some hundred MB of them.
@@ -187,6 +188,11 @@ fn first_table<R: GatewayRuntime>(
     UserTable::new(rt, &system, alloc, users, &Budgets::none(alloc))
 }
 
+// How many passwords are checked at a time: logins leave half of the processors to transfers.
+fn most_checks<R: GatewayRuntime>(rt: &R) -> usize {
+    thread::available_parallelism(rt).map_or(1, |processors| processors.get() / 2)
+}
+
 /// The gateway that the configuration file at a path describes.
 pub fn prepare<R: GatewayRuntime>(rt: &R, path: &str) -> Result<Gateway<R>, Refusal> {
     let alloc = rt.alloc();
@@ -208,7 +214,7 @@ pub fn prepare<R: GatewayRuntime>(rt: &R, path: &str) -> Result<Gateway<R>, Refu
         offers: offers(&config, &options),
         whole_uploads: config.whole_uploads,
     };
-    let check = PasswordCheck::new(*rt, users.share()?);
+    let check = PasswordCheck::new(*rt, alloc, users.share()?, most_checks(rt))?;
     let waiting = shared(alloc, Mutex::new(Vec::new(alloc)))?;
     let control = control_of(
         rt,
