@@ -43,7 +43,7 @@ fn command_with(
 }
 
 /// The command that a text has, and the path behind it.
-#[tactic(auto, unfolding(crate::specs::LineReading::command_in))]
+#[tactic(auto, unfolding(crate::specs::StateLineReading::command_in))]
 pub(crate) fn command_in(
     alloc: Global,
     word: CommandWord,

@@ -62,7 +62,7 @@ pub fn read_state_line(alloc: Global, line: &[u8]) -> Result<StateLine, LineFaul
     line_in(alloc, line)
 }
 
-#[tactic(auto, unfolding(crate::specs::LineReading::state_line_of))]
+#[tactic(auto, unfolding(crate::specs::StateLineReading::state_line_of))]
 fn line_in(alloc: Global, line: &[u8]) -> Result<StateLine, LineFault>
     ensures { Gives (λ x. x) result (state_line_of line.now) }
 {
@@ -114,7 +114,7 @@ fn behind(alloc: Global, word: LineWord, bytes: &[u8]) -> Result<(StateLine, &[u
     }
 }
 
-#[tactic(auto, unfolding(crate::specs::LineReading::checkpoint_at))]
+#[tactic(auto, unfolding(crate::specs::StateLineReading::checkpoint_at))]
 fn checkpoint(bytes: &[u8]) -> Result<(StateLine, &[u8]), LineFault>
     ensures { Gives (λ x. (x.0, x.1.now)) result (checkpoint_at bytes.now) }
 {
@@ -124,7 +124,7 @@ fn checkpoint(bytes: &[u8]) -> Result<(StateLine, &[u8]), LineFault>
     Ok((StateLine::Checkpoint { events, stopped }, rest))
 }
 
-#[tactic(auto, unfolding(crate::specs::LineReading::used_at))]
+#[tactic(auto, unfolding(crate::specs::StateLineReading::used_at))]
 fn used(bytes: &[u8]) -> Result<(StateLine, &[u8]), LineFault>
     ensures { Gives (λ x. (x.0, x.1.now)) result (used_at bytes.now) }
 {
@@ -136,7 +136,7 @@ fn used(bytes: &[u8]) -> Result<(StateLine, &[u8]), LineFault>
     Ok((StateLine::Used(Interval { lo, hi }), rest))
 }
 
-#[tactic(auto, unfolding(crate::specs::LineReading::record_at))]
+#[tactic(auto, unfolding(crate::specs::StateLineReading::record_at))]
 fn record(alloc: Global, bytes: &[u8]) -> Result<(RecordLine, &[u8]), LineFault>
     ensures { Gives (λ x. (x.0, x.1.now)) result (record_at bytes.now) }
 {
@@ -150,7 +150,7 @@ fn record(alloc: Global, bytes: &[u8]) -> Result<(RecordLine, &[u8]), LineFault>
 }
 
 // The record with this name.
-#[tactic(auto, unfolding(crate::specs::LineReading::record_of))]
+#[tactic(auto, unfolding(crate::specs::StateLineReading::record_of))]
 fn record_of(
     alloc: Global,
     fields: (u32, (u64, Option<IpAddr>)),
@@ -172,7 +172,7 @@ fn record_of(
     })
 }
 
-#[tactic(auto, unfolding(crate::specs::LineReading::opening_at))]
+#[tactic(auto, unfolding(crate::specs::StateLineReading::opening_at))]
 fn opening(bytes: &[u8]) -> Result<(Opening, &[u8]), LineFault>
     ensures { Gives (λ x. (x.0, x.1.now)) result (opening_at bytes.now) }
 {
@@ -184,7 +184,7 @@ fn opening(bytes: &[u8]) -> Result<(Opening, &[u8]), LineFault>
     Ok(((session, (raw, (local, (client, trace)))), rest))
 }
 
-#[tactic(auto, unfolding(crate::specs::LineReading::progress_at))]
+#[tactic(auto, unfolding(crate::specs::StateLineReading::progress_at))]
 fn progress(bytes: &[u8]) -> Result<(Progress, &[u8]), LineFault>
     ensures { Gives (λ x. (x.0, x.1.now)) result (progress_at bytes.now) }
 {
@@ -196,7 +196,7 @@ fn progress(bytes: &[u8]) -> Result<(Progress, &[u8]), LineFault>
     Ok(((state, (active, (offset, (tickets, notices)))), rest))
 }
 
-#[tactic(auto, unfolding(crate::specs::LineReading::session_at))]
+#[tactic(auto, unfolding(crate::specs::StateLineReading::session_at))]
 fn session(alloc: Global, bytes: &[u8]) -> Result<(SessionLine, &[u8]), LineFault>
     ensures { Gives (λ x. (x.0, x.1.now)) result (session_at bytes.now) }
 {
@@ -209,7 +209,7 @@ fn session(alloc: Global, bytes: &[u8]) -> Result<(SessionLine, &[u8]), LineFaul
 }
 
 // The session with this name and directory.
-#[tactic(auto, unfolding(crate::specs::LineReading::session_of))]
+#[tactic(auto, unfolding(crate::specs::StateLineReading::session_of))]
 fn session_of(
     alloc: Global,
     opening: Opening,
@@ -242,7 +242,7 @@ fn session_of(
     })
 }
 
-#[tactic(auto, unfolding(crate::specs::LineReading::slot_kind_at))]
+#[tactic(auto, unfolding(crate::specs::StateLineReading::slot_kind_at))]
 fn slot_kind(bytes: &[u8]) -> Result<(SlotKind, &[u8]), LineFault>
     ensures { Gives (λ x. (x.0, x.1.now)) result (slot_kind_at bytes.now) }
 {
@@ -259,7 +259,7 @@ fn slot_kind(bytes: &[u8]) -> Result<(SlotKind, &[u8]), LineFault>
     }
 }
 
-#[tactic(auto, unfolding(crate::specs::LineReading::slot_at))]
+#[tactic(auto, unfolding(crate::specs::StateLineReading::slot_at))]
 fn slot(bytes: &[u8]) -> Result<(StateLine, &[u8]), LineFault>
     ensures { Gives (λ x. (x.0, x.1.now)) result (slot_at bytes.now) }
 {
@@ -269,7 +269,7 @@ fn slot(bytes: &[u8]) -> Result<(StateLine, &[u8]), LineFault>
     Ok((StateLine::Slot(SlotLine { session, at, what }), rest))
 }
 
-#[tactic(auto, unfolding(crate::specs::LineReading::queued_at))]
+#[tactic(auto, unfolding(crate::specs::StateLineReading::queued_at))]
 fn queued(alloc: Global, bytes: &[u8]) -> Result<(QueuedLine, &[u8]), LineFault>
     ensures { Gives (λ x. (x.0, x.1.now)) result (queued_at bytes.now) }
 {
@@ -290,7 +290,7 @@ fn queued(alloc: Global, bytes: &[u8]) -> Result<(QueuedLine, &[u8]), LineFault>
 }
 
 // The waiting transfer with this text.
-#[tactic(auto, unfolding(crate::specs::LineReading::queued_of))]
+#[tactic(auto, unfolding(crate::specs::StateLineReading::queued_of))]
 fn queued_of(
     alloc: Global,
     fields: (u64, (u64, u64)),
@@ -311,7 +311,7 @@ fn queued_of(
     })
 }
 
-#[tactic(auto, unfolding(crate::specs::LineReading::run_at))]
+#[tactic(auto, unfolding(crate::specs::StateLineReading::run_at))]
 fn run(bytes: &[u8]) -> Result<(Run, &[u8]), LineFault>
     ensures { Gives (λ x. (x.0, x.1.now)) result (run_at bytes.now) }
 {
@@ -324,7 +324,7 @@ fn run(bytes: &[u8]) -> Result<(Run, &[u8]), LineFault>
     Ok(((session, (nr, (offset, (done, (marked, link))))), rest))
 }
 
-#[tactic(auto, unfolding(crate::specs::LineReading::job_at))]
+#[tactic(auto, unfolding(crate::specs::StateLineReading::job_at))]
 fn job(alloc: Global, bytes: &[u8]) -> Result<(JobLine, &[u8]), LineFault>
     ensures { Gives (λ x. (x.0, x.1.now)) result (job_at bytes.now) }
 {
@@ -338,7 +338,7 @@ fn job(alloc: Global, bytes: &[u8]) -> Result<(JobLine, &[u8]), LineFault>
 }
 
 // The running transfer with this text.
-#[tactic(auto, unfolding(crate::specs::LineReading::job_of))]
+#[tactic(auto, unfolding(crate::specs::StateLineReading::job_of))]
 fn job_of(
     alloc: Global,
     run: Run,

@@ -22,7 +22,7 @@ pub(crate) fn cut_at(len: u64, text: &[u8]) -> Result<(&[u8], &[u8]), LineFault>
 }
 
 /// The same, or no bytes where there is no length.
-#[tactic(auto, unfolding(crate::specs::LineReading::cut_off))]
+#[tactic(auto, unfolding(crate::specs::StateLineReading::cut_off))]
 pub(crate) fn cut_off(
     alloc: Global,
     len: Option<u64>,
@@ -47,7 +47,7 @@ pub(crate) fn is_from_root(path: &[u8]) -> bool
 }
 
 /// 1 for yes, 0 for no.
-#[tactic(auto, unfolding(crate::specs::LineReading::bit_field))]
+#[tactic(auto, unfolding(crate::specs::StateLineReading::bit_field))]
 pub(crate) fn bit(bytes: &[u8]) -> Result<(bool, &[u8]), LineFault>
     ensures { Gives (λ x. (x.0, x.1.now)) result (bit_field bytes.now) }
 {
