@@ -70,9 +70,10 @@ fn replies_outlive_the_tail(rt: HostRuntime) -> Result<(), Fail> {
     let alloc = rt.alloc();
     let earlier = handed_late(&rt, alloc, pooled(alloc)?)?;
     // A name is answered with 331 (RFC 959, section 5.4).
-    let [(0, Reply::CodeAndMsg { code, msg: _ })] = earlier.as_slice() else {
+    let [(delay, Reply::CodeAndMsg { code, msg: _ })] = earlier.as_slice() else {
         return Err(Fail::from("no reply, or several"));
     };
+    assert_eq!(rt; *delay, 0);
     assert_eq!(rt; *code, ReplyCode::NeedPassword);
     Ok(())
 }
