@@ -15,6 +15,7 @@ amounts are small, to try the script.
 
 import argparse
 import contextlib
+import itertools
 import os
 import pwd
 import shutil
@@ -162,14 +163,21 @@ def retr(server, amounts):
     return rate(server, amounts, fetch_large)
 
 
-def stor(server, amounts):
+def stor(server, amounts, names=("stored",)):
+    """Of uploads to these names in turn."""
     data = bytes(range(256)) * (LENGTH // 256)
-    made = rate(server, amounts, lambda session: session.store("STOR stored", data))
-    stored = server.directory / "stored"
-    if stored.read_bytes() != data:
-        raise wire.Unexpected("other bytes are stored")
-    stored.unlink()
+    turns = itertools.cycle(names)
+    made = rate(server, amounts, lambda session: session.store(f"STOR {next(turns)}", data))
+    for name in names:
+        stored = server.directory / name
+        if stored.read_bytes() != data:
+            raise wire.Unexpected("other bytes are stored")
+        stored.unlink()
     return made
+
+
+def stor_anew(server, amounts):
+    return stor(server, amounts, [f"stored-{number}" for number in range(amounts.transfers)])
 
 
 def small(server, amounts):
@@ -223,10 +231,11 @@ class Figure:
 
 FIGURES = [
     Figure("RETR of 64 MiB, MB/s", retr, [("vsftpd", 0.8), ("pure-ftpd", 1)]),
-    Figure("STOR of 64 MiB, MB/s", stor, [("pure-ftpd", 1)]),
+    Figure("STOR of 64 MiB over a file, MB/s", stor, [("pure-ftpd", 1)]),
+    Figure("STOR of 64 MiB under a new name, MB/s", stor_anew, [("pure-ftpd", 1)]),
     Figure("RETR of 1 KiB with its PASV, a second", small, [("pure-ftpd", 1)]),
     Figure("whole sessions, a second", sessions, [("pure-ftpd", 1)]),
-    Figure(f"whole sessions of {CLIENTS} clients, a second", sessions_of_many),
+    Figure(f"whole sessions of {CLIENTS} clients, a second", sessions_of_many, [("pure-ftpd", 1)]),
     Figure("LIST of all names, seconds", listing, [("vsftpd", 2)], less=True),
 ]
 
