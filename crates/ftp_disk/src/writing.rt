@@ -26,7 +26,8 @@ pub(crate) fn check_reach(at: u64) -> Result<(), StoreError> {
     }
 }
 
-/// Cuts a file at a place, or fills it with zeros up to there, and goes to that place.
+/// Cuts a file at a place, or fills it with zeros up to there, and goes to that place. One that ends there is left alone, as ext4 writes
+/// out a file that was cut to nothing when it is closed.
 pub(crate) fn cut<R: Wait, S: FileSystem>(
     rt: &R,
     system: &S,
@@ -35,6 +36,9 @@ pub(crate) fn cut<R: Wait, S: FileSystem>(
     start: u64,
 ) -> Result<(), StoreError> {
     let len = go_to(file, SeekFrom::End(0))?;
+    if len == start {
+        return Ok(());
+    }
     let grant = budget.grant(rt, start.saturating_sub(len))?;
     if let Err(error) = system.set_len(file, len, start, &grant) {
         budget.give_back(rt, grant);
