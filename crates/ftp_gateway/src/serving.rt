@@ -188,9 +188,22 @@ fn first_table<R: GatewayRuntime>(
     UserTable::new(rt, &system, alloc, users, &Budgets::none(alloc))
 }
 
-// How many passwords are checked at a time: logins leave half of the processors to transfers.
-fn most_checks<R: GatewayRuntime>(rt: &R) -> usize {
-    thread::available_parallelism(rt).map_or(1, |processors| processors.get() / 2)
+// The check of passwords, by half of the processors at most, so that logins leave the others to transfers.
+fn check_by<R: GatewayRuntime>(
+    rt: &R,
+    users: &CurrentUsers<R>,
+) -> Result<PasswordCheck<R, CurrentUsers<R>>, AllocError> {
+    let most = thread::available_parallelism(rt).map_or(1, |processors| processors.get() / 2);
+    PasswordCheck::new(*rt, rt.alloc(), users.share()?, most)
+}
+
+// The logs and the metrics file of a configuration.
+fn open_records<R: GatewayRuntime>(
+    rt: &R,
+    config: &GatewayConfig,
+    options: &Options,
+) -> Result<Arc<Records<R>, Global>, Refusal> {
+    shared(rt.alloc(), Records::open(*rt, config, options)?)
 }
 
 /// The gateway that the configuration file at a path describes.
@@ -201,7 +214,7 @@ pub fn prepare<R: GatewayRuntime>(rt: &R, path: &str) -> Result<Gateway<R>, Refu
         options,
         users,
     } = read_setup(rt, path)?;
-    let records = shared(alloc, Records::open(*rt, &config, &options)?)?;
+    let records = open_records(rt, &config, &options)?;
     let table = first_table(rt, config.whole_uploads, users)?;
     let users = CurrentUsers::new(*rt, alloc, table)?;
     let activity = Activity::new(alloc)?;
@@ -214,7 +227,7 @@ pub fn prepare<R: GatewayRuntime>(rt: &R, path: &str) -> Result<Gateway<R>, Refu
         offers: offers(&config, &options),
         whole_uploads: config.whole_uploads,
     };
-    let check = PasswordCheck::new(*rt, alloc, users.share()?, most_checks(rt))?;
+    let check = check_by(rt, &users)?;
     let waiting = shared(alloc, Mutex::new(Vec::new(alloc)))?;
     let control = control_of(
         rt,
