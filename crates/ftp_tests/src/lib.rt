@@ -29,6 +29,4 @@ mod storage;
 #[cfg(test)]
 mod stuck;
 #[cfg(test)]
-mod switchboard;
-#[cfg(test)]
 mod transfers;
