@@ -2,11 +2,9 @@
 
 use crate::headline::run_all;
 use crate::values::{AUTH, CLIENT, CONNECT, PASV, pooled};
-use ftp_base::{
-    Bytes, DataChanCmd, IpAddr, LinkTable, MemoryLink, MemoryStorage, Reply, SocketAddr,
-};
-use ftp_events::{Action, Answer, Decision, EventKind, HubEvent, Log};
-use ftp_hub::{Hub, PrepareError, RunError, Twin, covers, run_events};
+use ftp_base::{Bytes, DataChanCmd, IpAddr, LinkTable, MemoryLink, MemoryStorage, SocketAddr};
+use ftp_events::{Decision, EventKind, HubEvent, Log};
+use ftp_hub::{Hub, RunError, covers, run_events};
 use ftp_transfer::Ticket;
 use std::alloc::{AllocError, Global};
 use std::test::Fail;
@@ -22,15 +20,6 @@ fn arrival(number: u64, ip: u32) -> EventKind {
             port: 1,
         },
         port: 50000,
-    }
-}
-
-/// The entry of an event without an answer, given twice.
-fn twice(hub: &mut Hub, event: HubEvent) -> Result<Twin, PrepareError> {
-    let answer = Answer::None;
-    match hub.prepare_twin(&event, &answer) {
-        Ok(room) => Ok(hub.step_twin(room, event, answer)),
-        Err(error) => Err(error),
     }
 }
 
@@ -107,40 +96,6 @@ fn a_client_takes_a_file_and_another_is_turned_away(rt: HostRuntime) -> Result<(
     }
     let sent = links.get(12).ok_or("no link")?.sent();
     assert_eq!(rt; sent, b"Hello".as_slice());
-    Ok(())
-}
-
-#[test]
-fn each_entry_is_given_twice_and_the_job_with_its_start(rt: HostRuntime) -> Result<(), Fail> {
-    let alloc = rt.alloc();
-    let mut hub = Hub::new(alloc, pooled(alloc)?);
-    let mut links = Vec::new(alloc);
-    for event in events(alloc)? {
-        let Twin { kept, told, job } = twice(&mut hub, event).ok().ok_or("not prepared")?;
-        assert_eq!(rt; told.decision, kept.decision);
-        let told = told.actions.as_slice();
-        let kept = kept.actions.as_slice();
-        assert_eq!(rt; told.len(), kept.len());
-        for pair in told.iter().zip(kept) {
-            if let (
-                Action::Reply {
-                    reply: Reply::CodeAndMsg { msg: told, .. },
-                    ..
-                },
-                Action::Reply {
-                    reply: Reply::CodeAndMsg { msg: kept, .. },
-                    ..
-                },
-            ) = pair
-            {
-                assert_eq!(rt; told.as_slice(), kept.as_slice());
-            }
-        }
-        if let Some(job) = job {
-            links.push(job.number)?;
-        }
-    }
-    assert_eq!(rt; links.as_slice(), [12].as_slice());
     Ok(())
 }
 

@@ -1,8 +1,8 @@
 //! The archive over a real directory, beside the one in memory.
 
-use crate::disk::{below, homes_within, is_same, make_base};
+use crate::disk::{below, is_same, make_base, storage_within};
 use ftp_base::{Bytes, MemoryStorage};
-use ftp_disk::{Below, Budget, DiskStorage};
+use ftp_disk::Budget;
 use ftp_extras::Archive;
 use std::alloc::{AllocError, Global};
 use std::test::Fail;
@@ -99,8 +99,7 @@ fn agree<A: Archive>(rt: &HostRuntime, base: &str, disk: &mut A) -> io::Result<O
 fn a_directory_is_changed_as_files_in_memory(rt: HostRuntime) -> Result<(), Fail> {
     let alloc = rt.alloc();
     let base = make_base(&rt, "archive")?;
-    let homes = homes_within(alloc, base.as_str(), &Budget::none())?;
-    let mut disk = DiskStorage::new(rt, alloc, Below::new(rt), homes);
+    let mut disk = storage_within(rt, alloc, base.as_str(), &Budget::none())?;
     let differs = agree(&rt, base.as_str(), &mut disk)?;
     assert!(rt; differs.is_none(), "{differs:?}");
     fs::remove_dir_all(&rt, base.as_str())?;
@@ -112,8 +111,7 @@ fn what_is_removed_or_replaced_gives_its_bytes_back(rt: HostRuntime) -> Result<(
     let alloc = rt.alloc();
     let base = make_base(&rt, "freed")?;
     let budget = Budget::new(alloc, 7, 0)?;
-    let homes = homes_within(alloc, base.as_str(), &budget)?;
-    let mut disk = DiskStorage::new(rt, alloc, Below::new(rt), homes);
+    let mut disk = storage_within(rt, alloc, base.as_str(), &budget)?;
     let put = "Ok(()) Ok(()) Err(Kind(PermanentFileNotAvailable))";
     let full =
         "Ok(()) Err(Kind(ExceededStorageAllocationError)) Err(Kind(PermanentFileNotAvailable))";
@@ -136,23 +134,27 @@ fn what_is_removed_or_replaced_gives_its_bytes_back(rt: HostRuntime) -> Result<(
     Ok(())
 }
 
+/// What an archive answers to a date of `/a` that there is and to one that there is not, and whether it tells the first.
+fn set_dates<A: Archive>(archive: &mut A, alloc: Global) -> Result<String, Fail> {
+    let ann = Bytes::from_slice(alloc, b"ann")?;
+    let path = Bytes::from_slice(alloc, b"/a")?;
+    let set = archive.set_modified(&ann, &path, &Bytes::from_slice(alloc, b"20240229235959")?);
+    let refused = archive.set_modified(&ann, &path, &Bytes::from_slice(alloc, b"20230229000000")?);
+    let is_told = archive.look(&ann, &path)?.modified == Some(*b"20240229235959");
+    Ok(format!(in alloc; "{set:?} {refused:?} {is_told}")?)
+}
+
 #[test]
 fn a_date_that_is_set_is_told(rt: HostRuntime) -> Result<(), Fail> {
     let alloc = rt.alloc();
     let base = make_base(&rt, "dated")?;
     fs::write(&rt, below(alloc, base.as_str(), "/home/a")?.as_str(), b"1")?;
-    let homes = homes_within(alloc, base.as_str(), &Budget::none())?;
-    let mut disk = DiskStorage::new(rt, alloc, Below::new(rt), homes);
-    let ann = Bytes::from_slice(alloc, b"ann")?;
-    let path = Bytes::from_slice(alloc, b"/a")?;
-    let leap_day = Bytes::from_slice(alloc, b"20240229235959")?;
-    let no_day = Bytes::from_slice(alloc, b"20230229000000")?;
-    let set = disk.set_modified(&ann, &path, &leap_day);
-    let refused = disk.set_modified(&ann, &path, &no_day);
-    let found = disk.look(&ann, &path)?;
-    let given = format!(in alloc; "{set:?} {refused:?}")?;
-    assert_eq!(rt; given.as_str(), "Ok(()) Err(Kind(CommandNotImplemented))");
-    assert_eq!(rt; found.modified, Some(*b"20240229235959"));
+    let mut disk = storage_within(rt, alloc, base.as_str(), &Budget::none())?;
+    let given = set_dates(&mut disk, alloc)?;
+    assert_eq!(rt;
+        given.as_str(),
+        "Ok(()) Err(Kind(CommandNotImplemented)) true"
+    );
     fs::remove_dir_all(&rt, base.as_str())?;
     Ok(())
 }

@@ -3,11 +3,11 @@
 use ftp_base::{Bytes, Looks, MemoryStorage, Storage};
 use ftp_disk::{Below, Budget, DiskStorage, Home, Homes, remove_leftovers, usage};
 use std::alloc::{AllocError, Global};
-use std::fs::{File, Permissions};
+use std::fs::{File, Files, Permissions};
 use std::os::unix::fs::{PermissionsExt, symlink};
-use std::sync::Arc;
+use std::sync::{Arc, Wait};
 use std::test::Fail;
-use std::time::{Duration, UNIX_EPOCH};
+use std::time::{Clock, Duration, UNIX_EPOCH};
 use std::{env, fs, io, process};
 
 /// A new directory for a test. In it stand `home`, which has a directory `d` with another one `e` in it, and a link to it.
@@ -52,18 +52,36 @@ pub(crate) fn homes_within(
     Ok(Arc::new(alloc, homes)?)
 }
 
-/// The same homes without a budget.
-fn homes(alloc: Global, base: &str) -> Result<Arc<Homes, Global>, AllocError> {
-    homes_within(alloc, base, &Budget::none())
+/// A storage over the homes of a base.
+pub(crate) fn storage_within<R: Files<File = File> + Clock + Wait + Copy + Drop>(
+    rt: R,
+    alloc: Global,
+    base: &str,
+    budget: &Budget,
+) -> Result<DiskStorage<R, Below<R>>, AllocError> {
+    let homes = homes_within(alloc, base, budget)?;
+    Ok(DiskStorage::new(rt, alloc, Below::new(rt), homes))
+}
+
+/// The same without a budget.
+fn storage<R: Files<File = File> + Clock + Wait + Copy + Drop>(
+    rt: R,
+    alloc: Global,
+    base: &str,
+) -> Result<DiskStorage<R, Below<R>>, AllocError> {
+    storage_within(rt, alloc, base, &Budget::none())
 }
 
 /// What is asked of a storage.
 #[derive(Clone, Copy)]
-struct Call {
-    kind: u64,
-    path: &'static str,
-    number: u8,
+pub(crate) struct Call {
+    pub(crate) kind: u64,
+    pub(crate) path: &'static str,
+    pub(crate) number: u8,
 }
+
+/// Which of two storages is called, the kind, path and number of the call, and the answer that is due.
+pub(crate) type Row = (bool, u64, &'static str, u8, &'static str);
 
 /// What a storage answers, as a text without modes and dates.
 fn answer<S: Storage>(
@@ -103,6 +121,28 @@ fn answer<S: Storage>(
             format!(in alloc; "{grown:?}")
         }
     }
+}
+
+/// The first answer of two storages that is not the one that is due, with its call.
+pub(crate) fn first_wrong<S: Storage>(
+    alloc: Global,
+    first: &mut S,
+    second: &mut S,
+    rows: &[Row],
+) -> Result<Option<String>, AllocError> {
+    for (is_first, kind, path, number, due) in rows {
+        let storage = if *is_first { &mut *first } else { &mut *second };
+        let call = Call {
+            kind: *kind,
+            path,
+            number: *number,
+        };
+        let given = answer(storage, alloc, "ann", call)?;
+        if given.as_str() != *due {
+            return Ok(Some(format!(in alloc; "{kind} {path} {number}: {given}")?));
+        }
+    }
+    Ok(None)
 }
 
 fn call_of(kind: u64, path: &'static str) -> Call {
@@ -155,7 +195,7 @@ fn lists_a_file(memory: &mut MemoryStorage, alloc: Global, call: Call) -> Result
 fn a_directory_answers_as_a_storage_in_memory(rt: HostRuntime) -> Result<(), Fail> {
     let alloc = rt.alloc();
     let base = make_base(&rt, "same")?;
-    let mut disk = DiskStorage::new(rt, alloc, Below::new(rt), homes(alloc, base.as_str())?);
+    let mut disk = storage(rt, alloc, base.as_str())?;
     let mut memory = MemoryStorage::new(alloc, u64::MAX, Vec::new(alloc));
     for dir in ["/d", "/d/e"] {
         memory.mkdir(Bytes::from_slice(alloc, dir.as_bytes())?)?;
@@ -187,7 +227,7 @@ fn links_strangers_and_readers_are_refused(rt: HostRuntime) -> Result<(), Fail> 
     for (to, link) in [("/etc/passwd", "/home/passwd"), ("/etc", "/home/d/etc")] {
         symlink(&rt, to, below(alloc, base.as_str(), link)?.as_str())?;
     }
-    let mut storage = DiskStorage::new(rt, alloc, Below::new(rt), homes(alloc, base.as_str())?);
+    let mut storage = storage(rt, alloc, base.as_str())?;
     let denied = "Err(Kind(PermissionDenied))";
     let missing = "Err(Kind(PermanentFileNotAvailable))";
     let only_d =
@@ -218,8 +258,8 @@ fn links_strangers_and_readers_are_refused(rt: HostRuntime) -> Result<(), Fail> 
 fn a_path_has_one_upload_at_a_time(rt: HostRuntime) -> Result<(), Fail> {
     let alloc = rt.alloc();
     let base = make_base(&rt, "busy")?;
-    let mut first = DiskStorage::new(rt, alloc, Below::new(rt), homes(alloc, base.as_str())?);
-    let mut second = DiskStorage::new(rt, alloc, Below::new(rt), homes(alloc, base.as_str())?);
+    let mut first = storage(rt, alloc, base.as_str())?;
+    let mut second = storage(rt, alloc, base.as_str())?;
     let begun = answer(&mut first, alloc, "ann", call_of(3, "/b"))?;
     let busy = answer(&mut second, alloc, "ann", call_of(3, "/b"))?;
     drop(first);
@@ -240,18 +280,15 @@ fn uploads_share_the_budget_of_a_home(rt: HostRuntime) -> Result<(), Fail> {
     let root = below(alloc, base.as_str(), "/home")?;
     fs::write(
         &rt,
-        below(alloc, root.as_str(), "/d/old")?.as_str(),
+        below(alloc, base.as_str(), "/home/d/old")?.as_str(),
         b"1234",
     )?;
-    let found = usage(&Below::new(rt), alloc, root.as_str())?;
-    let budget = Budget::new(alloc, 10, found)?;
-    let homes = homes_within(alloc, base.as_str(), &budget)?;
-    let theirs = Arc::try_clone(&homes)?;
-    let mut first = DiskStorage::new(rt, alloc, Below::new(rt), homes);
-    let mut second = DiskStorage::new(rt, alloc, Below::new(rt), theirs);
+    let budget = Budget::new(alloc, 10, usage(&Below::new(rt), alloc, root.as_str())?)?;
+    let mut first = storage_within(rt, alloc, base.as_str(), &budget)?;
+    let mut second = storage_within(rt, alloc, base.as_str(), &budget)?;
     let full = "Err(Kind(ExceededStorageAllocationError))";
-    // Each call appends three bytes, or cuts a file at a place or fills it up to there.
-    for (is_first, kind, path, number, due) in [
+    // Four of the ten bytes are taken. Each call appends three, or cuts a file at a place or fills it up to there.
+    let rows: [Row; 11] = [
         (true, 3, "/a", 0, "Ok(())"),
         (false, 3, "/b", 0, "Ok(())"),
         (true, 4, "/a", 1, "Ok(())"),
@@ -263,19 +300,22 @@ fn uploads_share_the_budget_of_a_home(rt: HostRuntime) -> Result<(), Fail> {
         (true, 4, "/a", 4, full),
         (true, 3, "/a", 1, "Ok(())"),
         (true, 4, "/a", 5, "Ok(())"),
-    ] {
-        let call = Call { kind, path, number };
-        let given = if is_first {
-            answer(&mut first, alloc, "ann", call)?
-        } else {
-            answer(&mut second, alloc, "ann", call)?
-        };
-        assert_eq!(rt; given.as_str(), due, "{kind} {path} {number}");
-    }
-    let left = usage(&Below::new(rt), alloc, root.as_str())?;
-    assert!(rt; found == 4 && left == 9, "{found} {left}");
+    ];
+    assert_eq!(rt; first_wrong(alloc, &mut first, &mut second, &rows)?, None);
+    assert_eq!(rt; usage(&Below::new(rt), alloc, root.as_str())?, 9);
     fs::remove_dir_all(&rt, base.as_str())?;
     Ok(())
+}
+
+/// How the first file of a directory looks.
+fn looks_in<S: Storage>(storage: &mut S, alloc: Global, dir: &[u8]) -> Result<Option<Looks>, Fail> {
+    let user = Bytes::from_slice(alloc, b"ann")?;
+    let path = Bytes::from_slice(alloc, dir)?;
+    let infos = storage.list(&user, &path)?;
+    let [info, ..] = infos.as_slice() else {
+        return Err(Fail::from("nothing is listed"));
+    };
+    Ok(info.looks)
 }
 
 #[test]
@@ -286,19 +326,13 @@ fn a_listing_shows_the_mode_and_the_date(rt: HostRuntime) -> Result<(), Fail> {
     file.set_permissions(Permissions::from_mode(0o640))?;
     // The 28th of November 2020, 13:57:09 UTC.
     file.set_modified(UNIX_EPOCH + Duration::from_secs(1_606_571_829))?;
-    let mut storage = DiskStorage::new(rt, alloc, Below::new(rt), homes(alloc, base.as_str())?);
-    let user = Bytes::from_slice(alloc, b"ann")?;
-    let path = Bytes::from_slice(alloc, b"/d")?;
-    let infos = storage.list(&user, &path)?;
     let looks = Looks {
         mode: *b"rw-r-----",
         shown: *b"Nov 28  2020",
         modify: *b"20201128135709",
     };
-    let [info, ..] = infos.as_slice() else {
-        return Err(Fail::from("nothing is listed"));
-    };
-    assert_eq!(rt; info.looks, Some(looks));
+    let mut storage = storage(rt, alloc, base.as_str())?;
+    assert_eq!(rt; looks_in(&mut storage, alloc, b"/d")?, Some(looks));
     fs::remove_dir_all(&rt, base.as_str())?;
     Ok(())
 }
@@ -310,7 +344,7 @@ fn a_name_of_two_lines_is_in_no_listing(rt: HostRuntime) -> Result<(), Fail> {
     for name in ["/home/d/e/a\nb", "/home/d/e/a\rb", "/home/d/e/ab"] {
         fs::write(&rt, below(alloc, base.as_str(), name)?.as_str(), b"1")?;
     }
-    let mut storage = DiskStorage::new(rt, alloc, Below::new(rt), homes(alloc, base.as_str())?);
+    let mut storage = storage(rt, alloc, base.as_str())?;
     let only_ab =
         "Ok([FileInfo { name: Bytes { items: [97, 98] }, meta: Meta { is_dir: false, len: 1 }, looks: None }])";
     let refused = "Err(Kind(FileNameNotAllowedError))";
@@ -338,6 +372,32 @@ fn upload<S: Storage>(storage: &mut S, alloc: Global, byte: u8) -> Result<String
     format!(in alloc; "{begun} {grown}")
 }
 
+/// What two storages answer to uploads of the same file at once, and what the file has meanwhile. The first upload ends with it.
+fn upload_twice<S: Storage + Drop>(
+    rt: &HostRuntime,
+    file: &str,
+    first: S,
+    second: &mut S,
+) -> io::Result<String> {
+    let mut first = first;
+    let begun = upload(&mut first, rt.alloc(), b'x')?;
+    let busy = upload(second, rt.alloc(), b'y')?;
+    let stands = fs::read_to_string(rt, file)?;
+    Ok(format!(in rt.alloc(); "{begun}, {busy}, {stands}")?)
+}
+
+/// What a storage answers to an upload that comes to its end, and to three bytes behind it, and what the file has then.
+fn upload_whole<S: Storage>(rt: &HostRuntime, file: &str, storage: &mut S) -> io::Result<String> {
+    let alloc = rt.alloc();
+    let begun = upload(storage, alloc, b'y')?;
+    let user = Bytes::from_slice(alloc, b"ann")?;
+    let path = Bytes::from_slice(alloc, b"/a")?;
+    let settled = storage.settle(&user, &path);
+    let grown = storage.append(&user, &path, b"zzz");
+    let after = fs::read_to_string(rt, file)?;
+    Ok(format!(in alloc; "{begun}, {settled:?} {grown:?} {after}")?)
+}
+
 #[test]
 fn a_whole_upload_takes_its_place_at_its_end(rt: HostRuntime) -> Result<(), Fail> {
     let alloc = rt.alloc();
@@ -347,55 +407,45 @@ fn a_whole_upload_takes_its_place_at_its_end(rt: HostRuntime) -> Result<(), Fail
     fs::write(&rt, file.as_str(), b"old")?;
     // It has room for two uploads of three, of which one takes the place of the other.
     let budget = Budget::new(alloc, 8, usage(&Below::new(rt), alloc, root.as_str())?)?;
-    let homes = homes_within(alloc, base.as_str(), &budget)?;
-    let theirs = Arc::try_clone(&homes)?;
-    let mut first = DiskStorage::new(rt, alloc, Below::new(rt), homes).whole_uploads(true);
-    let mut second = DiskStorage::new(rt, alloc, Below::new(rt), theirs).whole_uploads(true);
-    let begun = upload(&mut first, alloc, b'x')?;
-    let busy = upload(&mut second, alloc, b'y')?;
-    let stands = fs::read_to_string(&rt, file.as_str())?;
-    drop(first);
-    let left = usage(&Below::new(rt), alloc, root.as_str())?;
-    let again = upload(&mut second, alloc, b'y')?;
-    let user = Bytes::from_slice(alloc, b"ann")?;
-    let path = Bytes::from_slice(alloc, b"/a")?;
-    let settled = second.settle(&user, &path);
-    let grown = second.append(&user, &path, b"zzz");
-    let after = fs::read_to_string(&rt, file.as_str())?;
-    let given = format!(in alloc;
-        "{begun}, {busy}, {stands} {left}, {again}, {settled:?} {grown:?} {after}"
-    )?;
+    let first = storage_within(rt, alloc, base.as_str(), &budget)?.whole_uploads(true);
+    let mut second = storage_within(rt, alloc, base.as_str(), &budget)?.whole_uploads(true);
+    let busy = upload_twice(&rt, file.as_str(), first, &mut second)?;
     assert_eq!(rt;
-        given.as_str(),
-        "Ok(()) Ok(()), Err(Kind(TransientFileNotAvailable)) Err(Kind(TransientFileNotAvailable)), old 3, Ok(()) Ok(()), Ok(()) Ok(()) yyyzzz"
+        busy.as_str(),
+        "Ok(()) Ok(()), Err(Kind(TransientFileNotAvailable)) Err(Kind(TransientFileNotAvailable)), old"
     );
+    assert_eq!(rt; usage(&Below::new(rt), alloc, root.as_str())?, 3);
+    let after = upload_whole(&rt, file.as_str(), &mut second)?;
+    assert_eq!(rt; after.as_str(), "Ok(()) Ok(()), Ok(()) Ok(()) yyyzzz");
     fs::remove_dir_all(&rt, base.as_str())?;
     Ok(())
+}
+
+/// How many bytes a home of ann has with what killed uploads left in it, and without.
+fn cleared(rt: HostRuntime, homes: &Homes, root: &str) -> Result<(u64, u64), Fail> {
+    let alloc = rt.alloc();
+    let system = Below::new(rt);
+    let held = usage(&system, alloc, root)?;
+    if let Ok(home) = homes.find(&Bytes::from_slice(alloc, b"ann")?) {
+        remove_leftovers(&system, alloc, home)?;
+    }
+    Ok((held, usage(&system, alloc, root)?))
 }
 
 #[test]
 fn what_a_killed_upload_left_is_hidden_and_removed(rt: HostRuntime) -> Result<(), Fail> {
     let alloc = rt.alloc();
     let base = make_base(&rt, "left")?;
-    let root = below(alloc, base.as_str(), "/home")?;
-    let file = below(alloc, root.as_str(), "/d/e/.ftp-upload-a")?;
+    let file = below(alloc, base.as_str(), "/home/d/e/.ftp-upload-a")?;
     fs::write(&rt, file.as_str(), b"part")?;
-    let budget = Budget::none();
-    let homes = homes_within(alloc, base.as_str(), &budget)?;
-    let theirs = Arc::try_clone(&homes)?;
-    let mut storage = DiskStorage::new(rt, alloc, Below::new(rt), theirs);
+    let mut storage = storage(rt, alloc, base.as_str())?;
     let shown = answer(&mut storage, alloc, "ann", call_of(1, "/d/e"))?;
     let asked = answer(&mut storage, alloc, "ann", call_of(0, "/d/e/.ftp-upload-a"))?;
-    let held = usage(&Below::new(rt), alloc, root.as_str())?;
-    if let Ok(home) = homes.find(&Bytes::from_slice(alloc, b"ann")?) {
-        remove_leftovers(&Below::new(rt), alloc, home)?;
-    }
-    let left = usage(&Below::new(rt), alloc, root.as_str())?;
-    let given = format!(in alloc; "{shown} {asked} {held} {left}")?;
-    assert_eq!(rt;
-        given.as_str(),
-        "Ok([]) Err(Kind(FileNameNotAllowedError)) 4 0"
-    );
+    assert_eq!(rt; shown.as_str(), "Ok([])");
+    assert_eq!(rt; asked.as_str(), "Err(Kind(FileNameNotAllowedError))");
+    let homes = homes_within(alloc, base.as_str(), &Budget::none())?;
+    let root = below(alloc, base.as_str(), "/home")?;
+    assert_eq!(rt; cleared(rt, &homes, root.as_str())?, (4, 0));
     fs::remove_dir_all(&rt, base.as_str())?;
     Ok(())
 }

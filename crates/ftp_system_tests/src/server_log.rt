@@ -74,8 +74,8 @@ fn login(
     Ok(())
 }
 
-fn visit(alloc: Global) -> Result<Log, Fail> {
-    let mut log = Log::new(alloc);
+/// A connection, a login that fails and one that is let in.
+fn enter(alloc: Global, log: &mut Log) -> Result<(), Fail> {
     let raw = SocketAddr {
         ip: IpAddr::V4(0xc000_0205),
         port: 4000,
@@ -86,35 +86,18 @@ fn visit(alloc: Global) -> Result<Log, Fail> {
         local: raw,
         trace: 1,
     };
-    add(
-        &mut log,
-        0,
-        connect,
-        Answer::None,
-        Decision::Opened,
-        none(alloc),
-    )?;
+    add(log, 0, connect, Answer::None, Decision::Opened, none(alloc))?;
     let failed = Decision::LoginFailed {
         lock: None,
         delay: 0,
     };
-    login(
-        alloc,
-        &mut log,
-        10,
-        AuthAnswer::Refused,
-        failed,
-        none(alloc),
-    )?;
+    login(alloc, log, 10, AuthAnswer::Refused, failed, none(alloc))?;
     let came = told(alloc, Notice::Presence(PresenceEvent::LoggedIn))?;
-    login(
-        alloc,
-        &mut log,
-        30,
-        AuthAnswer::Good,
-        Decision::LoggedIn,
-        came,
-    )?;
+    login(alloc, log, 30, AuthAnswer::Good, Decision::LoggedIn, came)
+}
+
+/// An upload of five bytes begins.
+fn begin_upload(alloc: Global, log: &mut Log) -> Result<(), Fail> {
     let path = text(alloc, b"a b")?;
     let stor = EventKind::Transfer {
         session: 7,
@@ -126,7 +109,12 @@ fn visit(alloc: Global) -> Result<Log, Fail> {
         number: 11,
     })?;
     let queued = Decision::Queued { ticket: TICKET };
-    add(&mut log, 1000, stor, Answer::None, queued, starts)?;
+    add(log, 1000, stor, Answer::None, queued, starts)?;
+    Ok(())
+}
+
+/// It ends well.
+fn end_upload(alloc: Global, log: &mut Log) -> Result<(), Fail> {
     let path = text(alloc, b"/a b")?;
     let mut ends = told(alloc, Notice::Data(DataEvent::Put { path, bytes: 5 }))?;
     ends.push(Action::Completed {
@@ -139,7 +127,15 @@ fn visit(alloc: Global) -> Result<Log, Fail> {
         fault: None,
     });
     let end = EventKind::End { ticket: TICKET };
-    add(&mut log, 1250, end, written, Decision::Finished, ends)?;
+    add(log, 1250, end, written, Decision::Finished, ends)?;
+    Ok(())
+}
+
+fn visit(alloc: Global) -> Result<Log, Fail> {
+    let mut log = Log::new(alloc);
+    enter(alloc, &mut log)?;
+    begin_upload(alloc, &mut log)?;
+    end_upload(alloc, &mut log)?;
     let left = told(alloc, Notice::Presence(PresenceEvent::LoggedOut))?;
     let closed = EventKind::Closed { session: 7 };
     add(&mut log, 2000, closed, Answer::None, Decision::Closed, left)?;

@@ -1,17 +1,14 @@
 //! One storage for all transfers.
 
-use ftp_base::{
-    Bytes, ErrorKind, FEATURE_RESTART, FileInfo, MemoryStorage, Meta, Storage, StoreError,
-};
+use crate::disk::{Row, first_wrong};
+use ftp_base::{Bytes, ErrorKind, FEATURE_RESTART, MemoryStorage, Storage, StoreError};
 use ftp_system::{Depot, SharedDepot};
 use std::alloc::{AllocError, Global};
 use std::sync::Wait;
 use std::test::Fail;
 
-const HELLO: Meta = Meta {
-    is_dir: false,
-    len: 5,
-};
+/// The answer to a look at a file of three bytes.
+const FOUND: &str = "Ok(Meta { is_dir: false, len: 3 })";
 
 /// A depot of one empty storage, whose call of this number fails.
 fn depot<R: Wait + Drop + Copy>(
@@ -25,28 +22,18 @@ fn depot<R: Wait + Drop + Copy>(
 
 #[test]
 fn what_one_transfer_stores_another_finds(rt: HostRuntime) -> Result<(), Fail> {
-    let alloc = rt.alloc();
-    let depot = depot(rt, alloc, 99)?;
+    let depot = depot(rt, rt.alloc(), 99)?;
     let (mut one, mut two) = (depot.store()?, depot.store()?);
-    let ann = Bytes::from_slice(alloc, b"ann")?;
-    let path = Bytes::from_slice(alloc, b"/a")?;
-    let root = Bytes::from_slice(alloc, b"/")?;
-    assert_eq!(rt; one.begin(&ann, &path, 0), Ok(()));
-    assert_eq!(rt; one.append(&ann, &path, b"Hello"), Ok(()));
-    assert_eq!(rt; two.metadata(&ann, &path), Ok(HELLO));
-    let mut read = [0; 8];
-    assert_eq!(rt;
-        (two.read_at(&ann, &path, 1, &mut read), &read),
-        (Ok(4), b"ello\0\0\0\0")
-    );
-    let listed = two.list(&ann, &root)?;
-    assert_eq!(rt; listed.len(), 1);
-    let info = FileInfo {
-        name: Bytes::from_slice(alloc, b"a")?,
-        meta: HELLO,
-        looks: None,
-    };
-    assert_eq!(rt; listed[0], info);
+    let listed =
+        "Ok([FileInfo { name: Bytes { items: [97] }, meta: Meta { is_dir: false, len: 3 }, looks: None }])";
+    let rows: [Row; 5] = [
+        (true, 3, "/a", 0, "Ok(())"),
+        (true, 4, "/a", 7, "Ok(())"),
+        (false, 0, "/a", 0, FOUND),
+        (false, 2, "/a", 1, "Ok(2) [7, 7, 0, 0]"),
+        (false, 1, "/", 0, listed),
+    ];
+    assert_eq!(rt; first_wrong(rt.alloc(), &mut one, &mut two, &rows)?, None);
     assert_eq!(rt; two.features(), FEATURE_RESTART);
     Ok(())
 }
@@ -66,27 +53,24 @@ fn a_call_that_fails_or_is_refused_is_told(rt: HostRuntime) -> Result<(), Fail> 
 
 #[test]
 fn a_path_has_one_upload_at_a_time(rt: HostRuntime) -> Result<(), Fail> {
-    let alloc = rt.alloc();
-    let depot = depot(rt, alloc, 99)?;
+    let depot = depot(rt, rt.alloc(), 99)?;
     let (mut one, mut two) = (depot.store()?, depot.store()?);
-    let ann = Bytes::from_slice(alloc, b"ann")?;
-    let path = Bytes::from_slice(alloc, b"/a")?;
-    let other = Bytes::from_slice(alloc, b"/b")?;
-    let busy = StoreError::Kind(ErrorKind::TransientFileNotAvailable);
-    assert_eq!(rt; one.begin(&ann, &path, 0), Ok(()));
-    assert_eq!(rt; one.append(&ann, &path, b"Hello"), Ok(()));
-    assert_eq!(rt;
-        (two.begin(&ann, &path, 0), two.begin(&ann, &other, 0)),
-        (Err(busy), Ok(()))
-    );
     // What is there can be read meanwhile, and nothing was cut.
-    assert_eq!(rt; two.metadata(&ann, &path), Ok(HELLO));
+    let during: [Row; 5] = [
+        (true, 3, "/a", 0, "Ok(())"),
+        (true, 4, "/a", 7, "Ok(())"),
+        (false, 3, "/a", 0, "Err(Kind(TransientFileNotAvailable))"),
+        (false, 3, "/b", 0, "Ok(())"),
+        (false, 0, "/a", 0, FOUND),
+    ];
+    assert_eq!(rt; first_wrong(rt.alloc(), &mut one, &mut two, &during)?, None);
     // An upload is over where its transfer is, or begins another.
     drop(one);
     let mut three = depot.store()?;
+    let behind: [Row; 2] = [(false, 3, "/a", 0, "Ok(())"), (true, 3, "/b", 0, "Ok(())")];
     assert_eq!(rt;
-        (two.begin(&ann, &path, 0), three.begin(&ann, &other, 0)),
-        (Ok(()), Ok(()))
+        first_wrong(rt.alloc(), &mut three, &mut two, &behind)?,
+        None
     );
     Ok(())
 }
