@@ -70,7 +70,14 @@ fn login(
     let user = EventKind::User { session: 7, name };
     add(log, at, user, Answer::None, Decision::NeedPass, none(alloc))?;
     let auth = EventKind::AuthDone { session: 7, answer };
-    add(log, at + 10, auth, Answer::None, decision, actions)?;
+    add(
+        log,
+        at.saturating_add(10),
+        auth,
+        Answer::None,
+        decision,
+        actions,
+    )?;
     Ok(())
 }
 
