@@ -138,11 +138,11 @@ impl Checker {
     // Decides the event in this room, and compares.
     fn compare(
         &mut self,
-        room: Room,
+        room: Box<Room>,
         event: HubEvent,
         decision: Decision,
     ) -> Result<Option<Verdict>, AllocError>
-        requires { Fits room self.old.hub event }
+        requires { Fits room.value self.old.hub event }
         ensures compared { IfOk result (λ ended. Takes (says.Decision decision) ended (record self.old { event = Some event }) self.new) }
         ensures place { self.new.place ≡ self.old.place }
         ensures keeps { self.new.keeps ≡ self.old.keeps }

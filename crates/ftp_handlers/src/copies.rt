@@ -1,6 +1,6 @@
 //! Texts and actions that are written once, or twice so that each can be given to two.
 
-ghost use Rattle.std.specs.Prelude.{◌≡◌, ◌+◌, ◌<◌, ◌≤◌, Bool, IsTrue, true, false, [], ◌∷◌, ◌++◌, List, length, codes, IfOk, vec_len, vec_capacity, if◌then◌else◌};
+ghost use Rattle.std.specs.Prelude.{◌≡◌, ◌+◌, ◌<◌, ◌≤◌, Bool, IsTrue, true, false, [], ◌∷◌, ◌++◌, List, length, codes, IfOk, OnOk, vec_len, vec_capacity, if◌then◌else◌};
 ghost use Rattle.ftp_events.specs.Text.{passive_text, offset_text};
 ghost use Rattle.ftp_handlers.specs.Copies.{IsWide};
 
@@ -8,6 +8,7 @@ use ftp_base::Bytes;
 use ftp_events::{Action, Actions, wording, write_offset_text, write_passive_text};
 use std::alloc::{AllocError, Global};
 use std::marker::Model;
+use std::mem;
 
 /// A text's buffer, once or twice.
 #[derive(Drop)]
@@ -42,31 +43,43 @@ impl Text {
         }
     }
 
-    /// Takes memory for a text of so many bytes, where it is asked for.
-    pub fn with_room(
-        alloc: Global,
-        asked: bool,
-        width: usize,
-        twice: bool,
-    ) -> Result<Text, AllocError>
-        ensures items { IfOk result (λ text. text.items ≡ []) }
-        ensures room { IfOk result (λ text. IsTrue asked → IsWide width text) }
-        ensures twice { IfOk result (λ text. text.twice ≡ twice) }
+    /// Lets the letters go. The buffers stay.
+    pub fn clear(&mut self, twice: bool)
+        ensures items { self.new.items ≡ [] }
+        ensures twice { self.new.twice ≡ twice }
+    {
+        self.first.clear();
+        self.second.clear();
+        self.twice = twice;
+    }
+
+    /// Takes memory for a text of so many bytes, where it is asked for and there is no room yet.
+    pub fn make_room(&mut self, asked: bool, width: usize) -> Result<(), AllocError>
+        ensures items { self.new.items ≡ self.old.items }
+        ensures room { OnOk result (IsTrue asked → IsWide width self.new) }
+        ensures twice { self.new.twice ≡ self.old.twice }
     {
         if !asked {
-            return Ok(Text::blank(alloc, twice));
+            return Ok(());
         }
-        let first = Vec::with_capacity(alloc, width)?;
-        let second = if twice {
-            Vec::with_capacity(alloc, width)?
-        } else {
-            Vec::new(alloc)
-        };
-        Ok(Text {
-            first,
-            second,
-            twice,
-        })
+        self.first.reserve_exact(width)?;
+        if self.twice {
+            self.second.reserve_exact(width)?;
+        }
+        Ok(())
+    }
+
+    /// Takes over a text in the place of another, and copies it where it is to be there twice.
+    pub fn hold(&mut self, text: Bytes) -> Result<(), AllocError>
+        requires empty { self.old.items ≡ [] }
+        ensures items { OnOk result (self.new.items ≡ text) }
+        ensures twice { self.new.twice ≡ self.old.twice }
+    {
+        if self.twice {
+            self.second.extend_from_slice(text.as_slice())?;
+        }
+        self.first = text.into_vec();
+        Ok(())
     }
 
     /// Takes over a text, and copies it where it is to be there twice.
@@ -139,6 +152,16 @@ impl Text {
         }
     }
 
+    /// Takes the text out. The buffer of its copy stays.
+    pub fn take(&mut self, alloc: Global) -> Bytes
+        ensures text { result ≡ self.old.items }
+        ensures items { self.new.items ≡ [] }
+        ensures twice { self.new.twice ≡ self.old.twice }
+    {
+        self.second.clear();
+        Bytes::from_vec(mem::replace(&mut self.first, Vec::new(alloc)))
+    }
+
     /// A text and its copy, which is empty where the text is there once.
     pub fn from_both(first: Bytes, second: Bytes, twice: bool) -> Text
         requires same { second ≡ (if twice then first else []) }
@@ -196,6 +219,9 @@ pub(crate) struct ActionList {
     first: Vec<Action>,
     // Equal to the first where the actions are put in twice, and else empty.
     second: Vec<Action>,
+    // Empty lists of the length that the actions of most events of a kind have: each is given away with its actions.
+    fitting: Vec<Action>,
+    fitting_copy: Vec<Action>,
     twice: bool,
 }
 
@@ -207,27 +233,53 @@ impl Model for ActionList {
 
     ghost view = { λ l. record { items = l.first.items; places = (if l.twice then min (vec_capacity l.first) (vec_capacity l.second) else vec_capacity l.first); twice = l.twice } };
 
-    ghost invariant = { λ l. l.second.items ≡ (if l.twice then l.first.items else []) };
+    ghost invariant = { λ l. (l.second.items ≡ (if l.twice then l.first.items else [])) × (l.fitting.items ≡ []) × (l.fitting_copy.items ≡ []) };
 }
 
 impl ActionList {
-    /// Takes memory for so many actions.
-    pub fn with_places(alloc: Global, places: usize, twice: bool) -> Result<ActionList, AllocError>
-        ensures items { IfOk result (λ list. list.items ≡ []) }
-        ensures places { IfOk result (λ list. places ≤ list.places) }
-        ensures twice { IfOk result (λ list. list.twice ≡ twice) }
+    /// No actions, and no places.
+    pub fn blank(alloc: Global, twice: bool) -> ActionList
+        ensures items { result.items ≡ [] }
+        ensures twice { result.twice ≡ twice }
     {
-        let first = Vec::with_capacity(alloc, places)?;
-        let second = if twice {
-            Vec::with_capacity(alloc, places)?
-        } else {
-            Vec::new(alloc)
-        };
-        Ok(ActionList {
-            first,
-            second,
+        ActionList {
+            first: Vec::new(alloc),
+            second: Vec::new(alloc),
+            fitting: Vec::new(alloc),
+            fitting_copy: Vec::new(alloc),
             twice,
-        })
+        }
+    }
+
+    /// Lets the actions go. Their places stay.
+    pub fn clear(&mut self, twice: bool)
+        ensures items { self.new.items ≡ [] }
+        ensures twice { self.new.twice ≡ twice }
+    {
+        self.first.clear();
+        self.second.clear();
+        self.twice = twice;
+    }
+
+    /// Takes memory for so many actions, where there are fewer places, and for lists of the usual length.
+    pub fn make_places(
+        &mut self,
+        alloc: Global,
+        places: usize,
+        usual: usize,
+    ) -> Result<(), AllocError>
+        requires empty { self.old.items ≡ [] }
+        ensures items { self.new.items ≡ [] }
+        ensures places { OnOk result (places ≤ self.new.places) }
+        ensures twice { self.new.twice ≡ self.old.twice }
+    {
+        self.first.reserve_exact(places)?;
+        fit(alloc, &mut self.fitting, usual)?;
+        if self.twice {
+            self.second.reserve_exact(places)?;
+            fit(alloc, &mut self.fitting_copy, usual)?;
+        }
+        Ok(())
     }
 
     /// Says whether the actions are put in twice.
@@ -270,29 +322,55 @@ impl ActionList {
         self.first.as_slice()
     }
 
-    /// Gives the actions.
-    pub fn into_actions(self) -> Actions
-        ensures { result ≡ self.items }
+    /// Takes the actions out, in order.
+    pub fn take_actions(&mut self, alloc: Global) -> Actions
+        ensures actions { result ≡ self.old.items }
+        ensures twice { self.new.twice ≡ self.old.twice }
     {
-        let ActionList {
-            first,
-            second: _,
-            twice: _,
-        } = self;
-        Actions::from_vec(first)
+        self.second.clear();
+        take(alloc, &mut self.first, &mut self.fitting)
     }
 
-    /// Gives the actions twice.
-    pub fn into_both(self) -> (Actions, Actions)
-        requires { IsTrue self.twice }
-        ensures first { result.0 ≡ self.items }
-        ensures second { result.1 ≡ self.items }
+    /// Takes the actions out twice, in order.
+    pub fn take_both(&mut self, alloc: Global) -> (Actions, Actions)
+        requires { IsTrue self.old.twice }
+        ensures first { result.0 ≡ self.old.items }
+        ensures second { result.1 ≡ self.old.items }
+        ensures twice { self.new.twice ≡ self.old.twice }
     {
-        let ActionList {
-            first,
-            second,
-            twice: _,
-        } = self;
-        (Actions::from_vec(first), Actions::from_vec(second))
+        let first = take(alloc, &mut self.first, &mut self.fitting);
+        let second = take(alloc, &mut self.second, &mut self.fitting_copy);
+        (first, second)
     }
+}
+
+// Has a list in which so many actions have places, and no more.
+fn fit(alloc: Global, list: &mut Vec<Action>, places: usize) -> Result<(), AllocError>
+    requires { list.old.items ≡ [] }
+    ensures { list.new.items ≡ [] }
+{
+    if list.capacity() != places {
+        *list = Vec::with_capacity(alloc, places)?;
+    }
+    Ok(())
+}
+
+// Takes the actions out of a list: in one that fits them where it has places for them, and else as they are. It takes no memory.
+fn take(alloc: Global, list: &mut Vec<Action>, fitting: &mut Vec<Action>) -> Actions
+    requires { fitting.old.items ≡ [] }
+    ensures actions { result ≡ list.old.items }
+    ensures list { list.new.items ≡ [] }
+    ensures fitting { fitting.new.items ≡ [] }
+{
+    if list.is_empty() {
+        return Actions::from_vec(Vec::new(alloc));
+    }
+    if fitting.capacity() < list.len() {
+        return Actions::from_vec(mem::replace(list, Vec::new(alloc)));
+    }
+    match fitting.append(list) {
+        Ok(()) => {}
+        Err(_) => unreachable!(),
+    }
+    Actions::from_vec(mem::replace(fitting, Vec::new(alloc)))
 }

@@ -1,6 +1,6 @@
 //! Memory that is taken ahead of a step, and what the event needs in it.
 
-ghost use Rattle.std.specs.Prelude.{◌≡◌, ◌+◌, ◌*◌, ◌≤◌, ◌∷◌, ◌↔◌, true, [], IfOk, IfNone, IfSome, IsNone, IsTrue, None, Some, if◌then◌else◌};
+ghost use Rattle.std.specs.Prelude.{◌≡◌, ◌+◌, ◌*◌, ◌≤◌, ◌∷◌, ◌↔◌, true, [], IfOk, OnOk, IfNone, IfSome, IsNone, IsTrue, None, Some, if◌then◌else◌};
 ghost use Rattle.ftp_handlers.specs.Handlers.{can_drop, can_reply, places_for, width_for};
 ghost use Rattle.ftp_handlers.specs.Rooms.{IsReady, CanReply, CanTellDropped, HasCopy, actions_in, HasLeave, job_in, kept_in, leavers_in, most_actions, need_for, need_in, telling_in, twice_in};
 
@@ -33,7 +33,8 @@ pub enum Need {
     Piece(Ticket),
 }
 
-/// Memory for one event at one count of events. It is spent by the step, or let go.
+/// Memory for one event at one count of events. It is filled for one event after another.
+#[derive(Drop)]
 pub struct Room {
     pub(crate) alloc: Global,
     pub(crate) count: u64,
@@ -110,6 +111,8 @@ pub struct Extent {
     pub drops: bool,
     /// All is written twice.
     pub twice: bool,
+    /// How many actions most events of the kind have. Others have as many as they need.
+    pub usual: usize,
 }
 
 impl Extent {
@@ -159,48 +162,63 @@ impl Extent {
             width: width_for(kind, options),
             drops,
             twice,
+            usual: usual_places(kind),
         }
     }
 }
 
 impl Room {
-    /// Takes memory for the step on an event at a count of events, with places for the actions of all who leave.
+    /// A room for no event.
+    pub fn blank(alloc: Global) -> Room {
+        Room {
+            alloc,
+            count: 0,
+            need: Need::Nothing,
+            job: None,
+            kept: Text::blank(alloc, false),
+            path: Bytes::from_vec(Vec::new(alloc)),
+            pending: None,
+            telling: Telling::none(false),
+            leavers: Leavers::none(alloc, false),
+            text: Text::blank(alloc, false),
+            dropped: Text::blank(alloc, false),
+            actions: ActionList::blank(alloc, false),
+            used: false,
+            stops: false,
+        }
+    }
+
+    /// Takes memory for the step on an event at a count of events, with places for the actions of all who leave. Nothing
+    /// stays that the room held of another event.
     ///
     /// # Proved
     ///
-    /// - A new room is empty, has so many places and so much room for texts, and holds what was looked up for the event
-    ///   (four places or more) (`ready`, `places`, `letters`, `dropped`, `counted`, `kept`, `pending`, `job`, `need`,
-    ///   `used`).
-    pub fn new(
-        alloc: Global,
-        count: u64,
-        prepared: Prepared,
-        extent: Extent,
-    ) -> Result<Room, AllocError>
+    /// - A room that was filled is empty, has so many places and so much room for texts, and holds what was looked up for
+    ///   the event (four places or more) (`ready`, `places`, `letters`, `dropped`, `counted`, `kept`, `pending`, `job`,
+    ///   `need`, `used`).
+    #[inline(always)]
+    pub fn fill(&mut self, count: u64, prepared: Prepared, extent: Extent) -> Result<(), AllocError>
         requires places { most_actions ≤ extent.places }
         requires telling { prepared.telling.twice ≡ extent.twice }
         requires leavers { prepared.leavers.twice ≡ extent.twice }
-        ensures ready { IfOk result IsReady }
-        ensures places { IfOk result (λ room. extent.places ≤ room.places) }
-        ensures leave { IfOk result HasLeave }
-        ensures letters { IfOk result (λ room. IsTrue extent.replies → CanReply extent.width room) }
-        ensures dropped { IfOk result (λ room. IsTrue extent.drops → CanTellDropped room) }
-        ensures twice { IfOk result (λ room. twice_in room ≡ extent.twice) }
-        ensures counted { IfOk result (λ room. room.count ≡ count) }
-        ensures kept { IfOk result (λ room. kept_in room ≡ prepared.kept) }
-        ensures path { IfOk result (λ room. room.path ≡ prepared.path) }
-        ensures pending { IfOk result (λ room. room.pending ≡ prepared.pending) }
-        ensures telling { IfOk result (λ room. telling_in room ≡ prepared.telling.told) }
-        ensures leavers { IfOk result (λ room. leavers_in room ≡ prepared.leavers.items) }
-        ensures job { IfOk result (λ room. job_in room ≡ prepared.job) }
-        ensures need { IfOk result (λ room. need_in room ≡ need_for prepared.header prepared.piece prepared.job) }
-        ensures used { IfOk result (λ room. room.used ≡ prepared.used) }
-        ensures stops { IfOk result (λ room. room.stops ≡ prepared.stops) }
+        ensures ready { OnOk result (IsReady self.new) }
+        ensures places { OnOk result (extent.places ≤ self.new.places) }
+        ensures leave { OnOk result (HasLeave self.new) }
+        ensures letters { OnOk result (IsTrue extent.replies → CanReply extent.width self.new) }
+        ensures dropped { OnOk result (IsTrue extent.drops → CanTellDropped self.new) }
+        ensures twice { OnOk result (twice_in self.new ≡ extent.twice) }
+        ensures counted { OnOk result (self.new.count ≡ count) }
+        ensures kept { OnOk result (kept_in self.new ≡ prepared.kept) }
+        ensures path { OnOk result (self.new.path ≡ prepared.path) }
+        ensures pending { OnOk result (self.new.pending ≡ prepared.pending) }
+        ensures telling { OnOk result (telling_in self.new ≡ prepared.telling.told) }
+        ensures leavers { OnOk result (leavers_in self.new ≡ prepared.leavers.items) }
+        ensures job { OnOk result (job_in self.new ≡ prepared.job) }
+        ensures need { OnOk result (need_in self.new ≡ need_for prepared.header prepared.piece prepared.job) }
+        ensures used { OnOk result (self.new.used ≡ prepared.used) }
+        ensures stops { OnOk result (self.new.stops ≡ prepared.stops) }
     {
-        let text = Text::with_room(alloc, extent.replies, extent.width, extent.twice)?;
-        let dropped = Text::with_room(alloc, extent.drops, SHORT_TEXT, extent.twice)?;
         let places = places_with(extent.places, prepared.leavers.len())?;
-        let actions = ActionList::with_places(alloc, places, extent.twice)?;
         let Prepared {
             kept,
             path,
@@ -213,43 +231,23 @@ impl Room {
             piece,
             stops,
         } = prepared;
-        let kept = Text::of(alloc, kept, extent.twice)?;
-        Ok(Room {
-            alloc,
-            count,
-            need: need_for(header, piece, &job),
-            job,
-            kept,
-            path,
-            pending,
-            telling,
-            leavers,
-            text,
-            dropped,
-            actions,
-            used,
-            stops,
-        })
-    }
-
-    /// Lets the room go.
-    pub fn let_go(self) {
-        let Room {
-            alloc: _,
-            count: _,
-            need: _,
-            job: _,
-            kept: _,
-            path: _,
-            pending: _,
-            telling: _,
-            leavers: _,
-            text: _,
-            dropped: _,
-            actions: _,
-            used: _,
-            stops: _,
-        } = self;
+        self.kept.clear(extent.twice);
+        self.text.clear(extent.twice);
+        self.dropped.clear(extent.twice);
+        self.actions.clear(extent.twice);
+        self.telling = telling;
+        self.leavers = leavers;
+        self.count = count;
+        self.need = need_for(header, piece, &job);
+        self.job = job;
+        self.path = path;
+        self.pending = pending;
+        self.used = used;
+        self.stops = stops;
+        self.actions.make_places(self.alloc, places, extent.usual)?;
+        self.text.make_room(extent.replies, extent.width)?;
+        self.dropped.make_room(extent.drops, SHORT_TEXT)?;
+        self.kept.hold(kept)
     }
 
     /// The transfer that the event asks for.
@@ -281,58 +279,26 @@ impl Room {
         mem::replace(&mut self.job, None)
     }
 
-    /// The actions that were put in, in order.
+    /// Takes the actions out that were put in, in order.
     ///
     /// # Proved
     ///
     /// - What is put in comes out in order; where the room is for two, twice, and no handler makes it one for one (it
-    ///   has a place, and for a text the room) (also `Room::into_twin`: `first`, `second`; `command`, `ending`:
+    ///   has a place, and for a text the room) (also `Room::take_twin`: `first`, `second`; `command`, `ending`:
     ///   `twice`; `Room::reply`, `Room::advertise`, `Room::restart`, `Room::start`: `actions`, `same`).
-    pub fn into_actions(self) -> Actions
-        ensures { result ≡ actions_in self }
+    pub fn take_actions(&mut self) -> Actions
+        ensures { result ≡ actions_in self.old }
     {
-        let Room {
-            alloc: _,
-            count: _,
-            need: _,
-            job: _,
-            kept: _,
-            path: _,
-            pending: _,
-            telling: _,
-            leavers: _,
-            text: _,
-            dropped: _,
-            actions,
-            used: _,
-            stops: _,
-        } = self;
-        actions.into_actions()
+        self.actions.take_actions(self.alloc)
     }
 
-    /// The actions that were put in, in order, twice.
-    pub fn into_twin(self) -> (Actions, Actions)
-        requires { IsTrue (twice_in self) }
-        ensures first { result.0 ≡ actions_in self }
-        ensures second { result.1 ≡ actions_in self }
+    /// Takes the actions out that were put in, in order, twice.
+    pub fn take_twin(&mut self) -> (Actions, Actions)
+        requires { IsTrue (twice_in self.old) }
+        ensures first { result.0 ≡ actions_in self.old }
+        ensures second { result.1 ≡ actions_in self.old }
     {
-        let Room {
-            alloc: _,
-            count: _,
-            need: _,
-            job: _,
-            kept: _,
-            path: _,
-            pending: _,
-            telling: _,
-            leavers: _,
-            text: _,
-            dropped: _,
-            actions,
-            used: _,
-            stops: _,
-        } = self;
-        actions.into_both()
+        self.actions.take_both(self.alloc)
     }
 
     /// Takes out the name or the path that the event keeps or tells.
@@ -340,8 +306,7 @@ impl Room {
         ensures kept { result ≡ kept_in self.old }
         ensures same { self.new ≡ record self.old { kept = self.new.kept } }
     {
-        let (kept, _copy) = self.take_both();
-        kept
+        self.kept.take(self.alloc)
     }
 
     // Takes out the name or the path that the event keeps or tells, and its copy.
@@ -412,6 +377,34 @@ fn need_for(header: bool, piece: bool, job: &Option<Job>) -> Need
         Some(job) if piece => Need::Piece(job.ticket),
         Some(job) => Need::Run(job.ticket),
         None => Need::Nothing,
+    }
+}
+
+// How many actions most events of this kind have. No clause rests on it.
+fn usual_places(kind: &EventKind) -> usize {
+    match kind {
+        EventKind::Connect { .. }
+        | EventKind::Piece { .. }
+        | EventKind::Sweep
+        | EventKind::Scavenge
+        | EventKind::Shutdown => 0,
+        EventKind::User { .. }
+        | EventKind::Pass { .. }
+        | EventKind::Pasv { .. }
+        | EventKind::Port { .. }
+        | EventKind::Rest { .. }
+        | EventKind::Cwd { .. }
+        | EventKind::Abor { .. }
+        | EventKind::Proxied { .. }
+        | EventKind::DataIn { .. }
+        | EventKind::Accepted { .. }
+        | EventKind::SlotTick { .. } => 1,
+        EventKind::AuthDone { .. }
+        | EventKind::Transfer { .. }
+        | EventKind::Stou { .. }
+        | EventKind::Internal { .. }
+        | EventKind::Closed { .. } => 2,
+        EventKind::Quit { .. } | EventKind::IdleTick { .. } | EventKind::End { .. } => 3,
     }
 }
 

@@ -80,8 +80,8 @@ waiting_in hub k answer = option_and_then (λ v. v.pending) (subject_in hub k an
 
 -- the room is of this event and answer, and holds all twice, with copies of the event and of the transfers that it can start
 pub record FitsTwin (room : TwinRoom) (hub : Hub) (event : HubEvent) (answer : Answer) : Type 0 where
-  pub fits : Fits room.room hub event
-  pub twice : IsTrue (twice_in room.room)
-  pub copy : room.event ≡ event
-  pub asked : room.asked ≡ pending_for hub event.kind
-  pub waiting : room.waiting ≡ waiting_in hub event.kind answer
+  pub fits : Fits room.room.value hub event
+  pub twice : IsTrue (twice_in room.room.value)
+  pub copy : room.copies.value.event ≡ event
+  pub asked : room.copies.value.asked ≡ pending_for hub event.kind
+  pub waiting : room.copies.value.waiting ≡ waiting_in hub event.kind answer

@@ -5,7 +5,9 @@ ghost use Rattle.ftp_options.specs.Modes.{is_legacy};
 ghost use Rattle.ftp_lockout.specs.declared.key.LoginKey.{LoginKey};
 ghost use Rattle.ftp_handlers.specs.Handlers.{failures_in, policy_in};
 
+use crate::twin::Copies;
 use ftp_events::{Counters, Running, Session};
+use ftp_handlers::Room;
 use ftp_lockout::FailedLoginsCache;
 use ftp_options::{FailedLoginsPolicy, Options};
 use ftp_switchboard::{Numbers, Switchboard};
@@ -26,6 +28,9 @@ pub struct Hub {
     pub(crate) board: Switchboard,
     // There is a table where failed logins lock at all.
     pub(crate) failures: Option<FailedLoginsCache>,
+    // The room of the next event, and what is copied for it where its entry is given twice; none before the first.
+    pub(crate) spare: Option<Box<Room>>,
+    pub(crate) spare_copies: Option<Box<Copies>>,
     // Every session was ended, and no other is opened.
     pub(crate) stopped: bool,
     pub(crate) counters: Counters,
@@ -77,6 +82,8 @@ impl Hub {
             numbers: Numbers::new(alloc),
             board,
             failures,
+            spare: None,
+            spare_copies: None,
             stopped: false,
             counters: Counters::new(),
             count,

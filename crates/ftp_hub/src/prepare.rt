@@ -21,6 +21,7 @@ use ftp_events::{EventKind, HubEvent, Pending, Running, Session};
 use ftp_handlers::{Extent, Prepared, Room, copy_alone, copy_kept, copy_telling, fix_transfer};
 use ftp_transfer::{Job, Ticket};
 use std::alloc::{AllocError, Global};
+use std::mem;
 use thiserror::Error;
 
 /// Why a step cannot be prepared.
@@ -58,9 +59,9 @@ impl Hub {
     ///   `Hub::prepare_twin`: `exhausted`).
     /// - The room has the job that is to be run: that of the ticket, where it runs; says so, and gives it once; or it
     ///   says that a header is to be read (`job`, `fits`; also `Room::take_job`: `job`, `once`; `Room::need`).
-    pub fn prepare(&mut self, event: &HubEvent) -> Result<Room, PrepareError>
-        ensures fits { IfOk result (λ room. Fits room self.new event.now) }
-        ensures job { IfOk result (λ room. job_in room ≡ job_for self.new event.now.kind) }
+    pub fn prepare(&mut self, event: &HubEvent) -> Result<Box<Room>, PrepareError>
+        ensures fits { IfOk result (λ room. Fits room.value self.new event.now) }
+        ensures job { IfOk result (λ room. job_in room.value ≡ job_for self.new event.now.kind) }
         ensures same { SameAnswers self.old self.new }
         ensures exhausted { IsErrOf result PrepareError.Exhausted ↔ (count_of self.old ≡ 2 ^ 64 - 1) }
     {
@@ -72,12 +73,12 @@ impl Hub {
         &mut self,
         event: &HubEvent,
         twice: bool,
-    ) -> Result<Room, PrepareError>
-        ensures fits { IfOk result (λ room. Fits room self.new event.now) }
-        ensures job { IfOk result (λ room. job_in room ≡ job_for self.new event.now.kind) }
+    ) -> Result<Box<Room>, PrepareError>
+        ensures fits { IfOk result (λ room. Fits room.value self.new event.now) }
+        ensures job { IfOk result (λ room. job_in room.value ≡ job_for self.new event.now.kind) }
         ensures same { SameAnswers self.old self.new }
         ensures exhausted { IsErrOf result PrepareError.Exhausted ↔ (count_of self.old ≡ 2 ^ 64 - 1) }
-        ensures twice { IfOk result (λ room. twice_in room ≡ twice) }
+        ensures twice { IfOk result (λ room. twice_in room.value ≡ twice) }
     {
         if self.count == u64::MAX {
             return Err(PrepareError::Exhausted);
@@ -85,7 +86,10 @@ impl Hub {
         if self.make_places(&event.kind).is_err() {
             return Err(PrepareError::OutOfMemory);
         }
-        self.take_room(&event.kind, twice)
+        let spare = mem::replace(&mut self.spare, None);
+        let mut room = room_or_new(self.alloc, spare)?;
+        self.fill_room(&event.kind, twice, &mut room)?;
+        Ok(room)
     }
 
     /// Lets the room of a step go that is not taken.
@@ -93,10 +97,10 @@ impl Hub {
     /// # Proved
     ///
     /// - A room that is given back changes nothing.
-    pub fn give_back(&mut self, room: Room)
+    pub fn give_back(&mut self, room: Box<Room>)
         ensures { self.new ≡ self.old }
     {
-        room.let_go();
+        drop(room);
     }
 
     // Makes the places in the tables that an event of this kind can take.
@@ -166,24 +170,24 @@ impl Hub {
     }
 
     // Memory for the texts and the actions of an event, and what it keeps, asks for or runs.
-    fn take_room(&self, kind: &EventKind, twice: bool) -> Result<Room, PrepareError>
-        ensures ready { IfOk result IsReady }
-        ensures places { IfOk result (λ room. places_for kind.now ≤ room.places) }
-        ensures letters { IfOk result (λ room. IsTrue (can_reply kind.now) → CanReply (width_for self.now.options kind.now) room) }
-        ensures dropped { IfOk result (λ room. IsTrue (can_drop kind.now) → CanTellDropped room) }
-        ensures kept { IfOk result (λ room. kept_in room ≡ kept_for self.now kind.now) }
-        ensures pending { IfOk result (λ room. room.pending ≡ pending_for self.now kind.now) }
-        ensures job { IfOk result (λ room. job_in room ≡ job_for self.now kind.now) }
-        ensures need { IfOk result (λ room. need_in room ≡ need_for (is_some (header_for self.now kind.now)) (is_piece kind.now) (job_for self.now kind.now)) }
-        ensures counted { IfOk result (λ room. room.count ≡ self.now.count) }
-        ensures used { IfOk result (λ room. IsTrue (is_port kind.now) → room.used ≡ used_for self.now kind.now) }
-        ensures stops { IfOk result (λ room. IsTrue (is_abor kind.now) → room.stops ≡ stops_for self.now kind.now) }
+    fn fill_room(&self, kind: &EventKind, twice: bool, room: &mut Room) -> Result<(), PrepareError>
+        ensures ready { OnOk result (IsReady room.new) }
+        ensures places { OnOk result (places_for kind.now ≤ room.new.places) }
+        ensures letters { OnOk result (IsTrue (can_reply kind.now) → CanReply (width_for self.now.options kind.now) room.new) }
+        ensures dropped { OnOk result (IsTrue (can_drop kind.now) → CanTellDropped room.new) }
+        ensures kept { OnOk result (kept_in room.new ≡ kept_for self.now kind.now) }
+        ensures pending { OnOk result (room.new.pending ≡ pending_for self.now kind.now) }
+        ensures job { OnOk result (job_in room.new ≡ job_for self.now kind.now) }
+        ensures need { OnOk result (need_in room.new ≡ need_for (is_some (header_for self.now kind.now)) (is_piece kind.now) (job_for self.now kind.now)) }
+        ensures counted { OnOk result (room.new.count ≡ self.now.count) }
+        ensures used { OnOk result (IsTrue (is_port kind.now) → room.new.used ≡ used_for self.now kind.now) }
+        ensures stops { OnOk result (IsTrue (is_abor kind.now) → room.new.stops ≡ stops_for self.now kind.now) }
         ensures full { IfErr result (λ error. error ≡ PrepareError.OutOfMemory) }
-        ensures path { IfOk result (λ room. HasCopy room (path_for self.now kind.now)) }
-        ensures telling { IfOk result (λ room. telling_in room ≡ telling_for kind.now) }
-        ensures leavers { IfOk result (λ room. IsTrue (is_shutdown kind.now) → AreLeavers (map.get nat_eq self.now.sessions) (leavers_in room)) }
-        ensures leave { IfOk result HasLeave }
-        ensures twice { IfOk result (λ room. twice_in room ≡ twice) }
+        ensures path { OnOk result (HasCopy room.new (path_for self.now kind.now)) }
+        ensures telling { OnOk result (telling_in room.new ≡ telling_for kind.now) }
+        ensures leavers { OnOk result (IsTrue (is_shutdown kind.now) → AreLeavers (map.get nat_eq self.now.sessions) (leavers_in room.new)) }
+        ensures leave { OnOk result (HasLeave room.new) }
+        ensures twice { OnOk result (twice_in room.new ≡ twice) }
     {
         let named = self.named(kind);
         let kept = self.copy_kept(kind, named)?;
@@ -201,7 +205,7 @@ impl Hub {
             leavers: self.copy_leavers(kind, twice)?,
         };
         let extent = Extent::of(kind, &self.options, twice);
-        Ok(Room::new(self.alloc, self.count, prepared, extent)?)
+        Ok(room.fill(self.count, prepared, extent)?)
     }
 
     // The name or the path that an event keeps or tells.
@@ -306,6 +310,19 @@ impl Hub {
             ),
             _ => Ok(None),
         }
+    }
+}
+
+// The room of the last event, or a new one.
+fn room_or_new(alloc: Global, spare: Option<Box<Room>>) -> Result<Box<Room>, PrepareError>
+    ensures { IfErr result (λ error. error ≡ PrepareError.OutOfMemory) }
+{
+    if let Some(room) = spare {
+        return Ok(room);
+    }
+    match Box::new(alloc, Room::blank(alloc)) {
+        Ok(room) => Ok(room),
+        Err(_) => Err(PrepareError::OutOfMemory),
     }
 }
 

@@ -347,6 +347,8 @@ impl Hub {
             numbers,
             board,
             failures,
+            spare: None,
+            spare_copies: None,
             stopped,
             counters,
             count: events,

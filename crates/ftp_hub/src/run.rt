@@ -155,13 +155,13 @@ pub fn run_event<S: Storage, L: Link>(
 // Does what the room needs outside, and then runs the event.
 fn run_prepared<S: Storage, L: Link>(
     hub: &mut Hub,
-    room: Room,
+    room: Box<Room>,
     storage: &mut S,
     links: &mut LinkTable<L>,
     event: HubEvent,
 ) -> Entry
-    requires fits { Fits room hub.old event }
-    requires job { job_in room ≡ job_for hub.old event.kind }
+    requires fits { Fits room.value hub.old event }
+    requires job { job_in room.value ≡ job_for hub.old event.kind }
     requires covered { IsTrue (is_covered (is_linked links.old) event.kind) }
     ensures event { result.event ≡ event }
     ensures due { (log : List Entry) → Stands hub.old log →

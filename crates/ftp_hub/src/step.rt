@@ -69,8 +69,8 @@ impl Hub {
     ///   close its connection, and its number is used; one to the control port opens a session whose client is the
     ///   source and whose 227 shows the destination, where no other address is advertised, if the hub stands for the
     ///   log (`due`, `stands`; also `run_event`: `due`, `stands`).
-    pub fn step(&mut self, room: Room, event: HubEvent, answer: Answer) -> Entry
-        requires { Fits room self.old event }
+    pub fn step(&mut self, room: Box<Room>, event: HubEvent, answer: Answer) -> Entry
+        requires { Fits room.value self.old event }
         ensures event { result.event ≡ event }
         ensures answer { result.answer ≡ answer }
         ensures due { (log : List Entry) → Stands self.old log → result ≡ next_entry (options_of self.old) log event answer }
@@ -82,11 +82,13 @@ impl Hub {
     {
         let mut room = room;
         let decision = self.enter(&mut room, &event, answer);
+        let actions = room.take_actions();
+        self.spare = Some(room);
         Entry {
             event,
             answer,
             decision,
-            actions: room.into_actions(),
+            actions,
         }
     }
 

@@ -1,6 +1,6 @@
 //! A step whose entry is given twice: once to be kept, once to be told. All memory is taken before it.
 
-ghost use Rattle.std.specs.Prelude.{◌≡◌, ◌+◌, ◌-◌, ◌^◌, ◌↔◌, List, ◌∷◌, IfOk, IsErrOf, IsTrue, None};
+ghost use Rattle.std.specs.Prelude.{◌≡◌, ◌+◌, ◌-◌, ◌^◌, ◌↔◌, List, ◌∷◌, IfOk, OnOk, IsErrOf, IsTrue, None};
 ghost use Rattle.std.specs.Option.{option_and_then, option_map};
 ghost use Rattle.ftp_events.specs.declared.entry.Entry.{Entry};
 ghost use Rattle.ftp_events.specs.Counts.{Counted};
@@ -17,6 +17,7 @@ use ftp_events::{Action, Answer, Decision, Entry, EventKind, HubEvent, Pending};
 use ftp_handlers::{Need, Room};
 use ftp_transfer::{Job, Ticket};
 use std::alloc::{AllocError, Global};
+use std::mem;
 
 /// An entry twice, and the job that starts with it.
 #[derive(Drop)]
@@ -28,25 +29,57 @@ pub struct Twin {
 
 /// Memory for one event and both its entries, with copies of the event and of the transfers that it can start.
 pub struct TwinRoom {
-    pub(crate) room: Room,
-    pub(crate) event: HubEvent,
-    // The transfer that the event asks for, and the one that waits.
-    pub(crate) asked: Option<Pending>,
-    pub(crate) waiting: Option<Pending>,
+    pub(crate) room: Box<Room>,
+    pub(crate) copies: Box<Copies>,
+}
+
+// Stands where no event is copied.
+const NO_EVENT: HubEvent = HubEvent {
+    at: 0,
+    kind: EventKind::Sweep,
+};
+
+/// What is copied for the second entry and for the job.
+#[derive(Drop)]
+pub(crate) struct Copies {
+    pub event: HubEvent,
+    /// The transfer that the event asks for, and the one that waits.
+    pub asked: Option<Pending>,
+    pub waiting: Option<Pending>,
+}
+
+impl Copies {
+    // Copies of nothing.
+    fn blank() -> Copies {
+        Copies {
+            event: NO_EVENT,
+            asked: None,
+            waiting: None,
+        }
+    }
+
+    // Takes the copy of the event out.
+    fn take_event(&mut self) -> HubEvent
+        ensures event { result ≡ self.old.event }
+        ensures same { self.new ≡ record self.old { event = self.new.event } }
+    {
+        mem::replace(&mut self.event, NO_EVENT)
+    }
 }
 
 impl TwinRoom {
     /// What has to be done outside before the step.
     pub fn need(&self) -> Need
-        ensures { result ≡ need_in self.now.room }
+        ensures { result ≡ need_in self.now.room.value }
     {
         self.room.need()
     }
 
     /// The job of the transfer that is to be run. It is given once.
     pub fn take_job(&mut self) -> Option<Job>
-        ensures job { result ≡ job_in self.old.room }
-        ensures once { self.new ≡ record self.old { room = record self.old.room { job = None } } }
+        ensures job { result ≡ job_in self.old.room.value }
+        ensures once { self.new ≡ record self.old { room = self.new.room } }
+        ensures same { self.new.room.value ≡ record self.old.room.value { job = None } }
     {
         self.room.take_job()
     }
@@ -67,7 +100,7 @@ impl Hub {
         answer: &Answer,
     ) -> Result<TwinRoom, PrepareError>
         ensures fits { IfOk result (λ room. FitsTwin room self.new event.now answer.now) }
-        ensures job { IfOk result (λ room. job_in room.room ≡ job_for self.new event.now.kind) }
+        ensures job { IfOk result (λ room. job_in room.room.value ≡ job_for self.new event.now.kind) }
         ensures same { SameAnswers self.old self.new }
         ensures stands { (log : List Entry) → Stands self.old log → Stands self.new log }
         ensures exhausted { IsErrOf result PrepareError.Exhausted ↔ (count_of self.old ≡ 2 ^ 64 - 1) }
@@ -76,20 +109,13 @@ impl Hub {
             Ok(room) => room,
             Err(error) => return Err(error),
         };
-        match self.copy_for(event, answer, room.pending()) {
-            Ok(copies) => {
-                let Copies {
-                    event,
-                    asked,
-                    waiting,
-                } = copies;
-                Ok(TwinRoom {
-                    room,
-                    event,
-                    asked,
-                    waiting,
-                })
-            }
+        let spare = mem::replace(&mut self.spare_copies, None);
+        let mut copies = match copies_or_new(self.alloc, spare) {
+            Ok(copies) => copies,
+            Err(error) => return Err(error),
+        };
+        match self.copy_for(event, answer, room.pending(), &mut copies) {
+            Ok(()) => Ok(TwinRoom { room, copies }),
             Err(_) => {
                 self.give_back(room);
                 Err(PrepareError::OutOfMemory)
@@ -101,12 +127,8 @@ impl Hub {
     pub fn give_back_twin(&mut self, room: TwinRoom)
         ensures { self.new ≡ self.old }
     {
-        let TwinRoom {
-            room,
-            event: _,
-            asked: _,
-            waiting: _,
-        } = room;
+        let TwinRoom { room, copies } = room;
+        drop(copies);
         self.give_back(room);
     }
 
@@ -116,16 +138,16 @@ impl Hub {
         event: &HubEvent,
         answer: &Answer,
         asked: &Option<Pending>,
-    ) -> Result<Copies, AllocError>
-        ensures event { IfOk result (λ copies. copies.event ≡ event.now) }
-        ensures asked { IfOk result (λ copies. copies.asked ≡ asked.now) }
-        ensures waiting { IfOk result (λ copies. copies.waiting ≡ waiting_in self.now event.now.kind answer.now) }
+        copies: &mut Copies,
+    ) -> Result<(), AllocError>
+        ensures event { OnOk result (copies.new.event ≡ event.now) }
+        ensures asked { OnOk result (copies.new.asked ≡ asked.now) }
+        ensures waiting { OnOk result (copies.new.waiting ≡ waiting_in self.now event.now.kind answer.now) }
     {
-        Ok(Copies {
-            event: event.copy(self.alloc)?,
-            asked: copy_pending(self.alloc, asked)?,
-            waiting: self.copy_waiting(&event.kind, answer)?,
-        })
+        copies.event = event.copy(self.alloc)?;
+        copies.asked = copy_pending(self.alloc, asked)?;
+        copies.waiting = self.copy_waiting(&event.kind, answer)?;
+        Ok(())
     }
 
     /// Decides the event and changes the tables, and gives the entry twice. It takes no memory.
@@ -149,17 +171,15 @@ impl Hub {
         ensures refused { (log : List Entry) → Stands self.old log → IsTrue (is_refusal result.kept.decision) → SameTables self.old self.new }
         ensures counters { (log : List Entry) → Stands self.old log → Counted (options_of self.old) (past_of log) (counters_of self.old) → Counted (options_of self.old) (past_of (result.kept ∷ log)) (counters_of self.new) }
     {
-        let TwinRoom {
-            room,
-            event: copy,
-            asked,
-            waiting,
-        } = room;
+        let TwinRoom { room, copies } = room;
         let mut room = room;
+        let mut copies = copies;
         let decision = self.enter(&mut room, &event, answer);
-        let (actions, told) = room.into_twin();
-        let pending = can_start(decision, asked, waiting);
-        let job = start(first_start(actions.as_slice()), pending);
+        let (actions, told) = room.take_twin();
+        self.spare = Some(room);
+        let copy = copies.take_event();
+        let job = start(&mut copies, decision, actions.as_slice());
+        self.spare_copies = Some(copies);
         Twin {
             kept: Entry {
                 event,
@@ -176,13 +196,6 @@ impl Hub {
             job,
         }
     }
-}
-
-// What is copied for the second entry and for the job.
-struct Copies {
-    event: HubEvent,
-    asked: Option<Pending>,
-    waiting: Option<Pending>,
 }
 
 impl Hub {
@@ -226,6 +239,19 @@ impl Hub {
     }
 }
 
+// The box for the copies of the last event, or a new one.
+fn copies_or_new(alloc: Global, spare: Option<Box<Copies>>) -> Result<Box<Copies>, PrepareError>
+    ensures { IfErr result (λ error. error ≡ PrepareError.OutOfMemory) }
+{
+    if let Some(copies) = spare {
+        return Ok(copies);
+    }
+    match Box::new(alloc, Copies::blank()) {
+        Ok(copies) => Ok(copies),
+        Err(_) => Err(PrepareError::OutOfMemory),
+    }
+}
+
 // A copy of the transfer, where there is one.
 fn copy_pending(alloc: Global, pending: &Option<Pending>) -> Result<Option<Pending>, AllocError>
     ensures { IfOk result (λ copy. copy ≡ pending.now) }
@@ -242,20 +268,6 @@ fn copy_pending(alloc: Global, pending: &Option<Pending>) -> Result<Option<Pendi
     }
 }
 
-// The transfer that an entry can start: the one that it queues, or the one that waits.
-fn can_start(
-    decision: Decision,
-    asked: Option<Pending>,
-    waiting: Option<Pending>,
-) -> Option<Pending>
-    ensures { result ≡ can_start decision asked waiting }
-{
-    match decision {
-        Decision::Queued { ticket: _ } => asked,
-        _ => waiting,
-    }
-}
-
 // The ticket and the link of the first job that starts.
 fn first_start(actions: &[Action]) -> Option<(Ticket, u64)>
     ensures { result ≡ first_start actions.now }
@@ -268,12 +280,16 @@ fn first_start(actions: &[Action]) -> Option<(Ticket, u64)>
     None
 }
 
-// The job of the transfer, where one starts.
-fn start(at: Option<(Ticket, u64)>, pending: Option<Pending>) -> Option<Job>
-    ensures { result ≡ option_and_then (λ p. option_map (job_at p) at) pending }
+// The job that starts, where one does: of the transfer that the entry queues, or of the one that waits.
+fn start(copies: &mut Copies, decision: Decision, actions: &[Action]) -> Option<Job>
+    ensures { result ≡ option_and_then (λ p. option_map (job_at p) (first_start actions.now)) (can_start decision copies.old.asked copies.old.waiting) }
 {
+    let (ticket, number) = first_start(actions)?;
+    let pending = match decision {
+        Decision::Queued { ticket: _ } => mem::replace(&mut copies.asked, None),
+        _ => mem::replace(&mut copies.waiting, None),
+    };
     let pending = pending?;
-    let (ticket, number) = at?;
     Some(Job {
         ticket,
         user: pending.user,
