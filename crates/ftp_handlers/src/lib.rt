@@ -12,6 +12,7 @@ mod copies;
 pub mod cwd;
 pub mod end;
 mod endings;
+mod filling;
 mod fixed;
 mod idle_time;
 mod internal;
@@ -62,9 +63,10 @@ pub mod stou {
 
 pub use commands::command;
 pub use endings::ending;
+pub use filling::Prepared;
 pub use fixed::{copy_alone, copy_kept, fix_transfer};
 pub use idle_time::idle_tick;
 pub use leavers::Leavers;
-pub use room::{Extent, Need, Prepared, Room};
+pub use room::{Extent, Need, Room};
 pub use stops::stop;
 pub use telling::{Telling, Told, copy_telling};

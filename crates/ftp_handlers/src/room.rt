@@ -1,8 +1,8 @@
 //! Memory that is taken ahead of a step, and what the event needs in it.
 
-ghost use Rattle.std.specs.Prelude.{◌≡◌, ◌+◌, ◌*◌, ◌≤◌, ◌∷◌, ◌↔◌, true, [], IfOk, OnOk, IfNone, IfSome, IsNone, IsTrue, None, Some, if◌then◌else◌};
+ghost use Rattle.std.specs.Prelude.{◌≡◌, ◌≤◌, ◌∷◌, ◌↔◌, [], IfNone, IfSome, IsNone, IsTrue, None, Some, if◌then◌else◌};
 ghost use Rattle.ftp_handlers.specs.Handlers.{can_drop, can_reply, places_for, width_for};
-ghost use Rattle.ftp_handlers.specs.Rooms.{IsReady, CanReply, CanTellDropped, HasCopy, actions_in, HasLeave, job_in, kept_in, leavers_in, most_actions, need_for, need_in, telling_in, twice_in};
+ghost use Rattle.ftp_handlers.specs.Rooms.{actions_in, job_in, kept_in, leavers_in, most_actions, need_in, telling_in, twice_in};
 
 use crate::copies::{ActionList, Text};
 use crate::leavers::Leavers;
@@ -11,15 +11,15 @@ use ftp_base::Bytes;
 use ftp_events::{Action, Actions, EventKind, Pending};
 use ftp_options::{Options, PassiveHost};
 use ftp_transfer::{Job, Ticket};
-use std::alloc::{AllocError, Global};
+use std::alloc::Global;
 use std::marker::Model;
 use std::mem;
 
 /// No text of a reply is longer, in bytes, but for one that shows a host's name.
-const SHORT_TEXT: usize = 64;
+pub(crate) const SHORT_TEXT: usize = 64;
 
 /// No event has more actions for one session, but for QUIT, the end of an idle session and that of a job, which have one more.
-const MOST_ACTIONS: usize = 4;
+pub(crate) const MOST_ACTIONS: usize = 4;
 
 /// What has to be done outside before the step.
 #[derive(Clone, Copy, Debug, PartialEq, Eq)]
@@ -71,31 +71,6 @@ impl Model for Room {
     ghost view = { λ r. record { count = r.count; job = r.job; need = r.need; kept = r.kept; path = r.path; pending = r.pending; telling = r.telling.told; leavers = r.leavers.items; text = r.text; dropped = r.dropped; actions = r.actions.items; places = r.actions.places; twice = r.actions.twice; used = r.used; stops = r.stops } };
 
     ghost invariant = { λ r. (r.kept.twice ≡ r.actions.twice) × (r.text.twice ≡ r.actions.twice) × (r.dropped.twice ≡ r.actions.twice) × (r.telling.twice ≡ r.actions.twice) × (r.leavers.twice ≡ r.actions.twice) };
-}
-
-/// What is looked up for an event before its step.
-#[derive(Drop)]
-pub struct Prepared {
-    /// The name or the path that the event keeps or tells.
-    pub kept: Bytes,
-    /// Where all is written twice, the path of the job that ends.
-    pub path: Bytes,
-    /// The transfer that the event asks for.
-    pub pending: Option<Pending>,
-    /// What the event tells, where it is a message.
-    pub telling: Telling,
-    /// The sessions that a stop ends, in order.
-    pub leavers: Leavers,
-    /// The header of the connection that the event brings is to be read.
-    pub header: bool,
-    /// The job that is to be run.
-    pub job: Option<Job>,
-    /// The number that comes with the event was used before.
-    pub used: bool,
-    /// The event is a piece of that job.
-    pub piece: bool,
-    /// A job of the session that the event names runs, and is not to stop yet.
-    pub stops: bool,
 }
 
 /// What a room has memory for.
@@ -168,88 +143,6 @@ impl Extent {
 }
 
 impl Room {
-    /// A room for no event.
-    pub fn blank(alloc: Global) -> Room {
-        Room {
-            alloc,
-            count: 0,
-            need: Need::Nothing,
-            job: None,
-            kept: Text::blank(alloc, false),
-            path: Bytes::from_vec(Vec::new(alloc)),
-            pending: None,
-            telling: Telling::none(false),
-            leavers: Leavers::none(alloc, false),
-            text: Text::blank(alloc, false),
-            dropped: Text::blank(alloc, false),
-            actions: ActionList::blank(alloc, false),
-            used: false,
-            stops: false,
-        }
-    }
-
-    /// Takes memory for the step on an event at a count of events, with places for the actions of all who leave. Nothing
-    /// stays that the room held of another event.
-    ///
-    /// # Proved
-    ///
-    /// - A room that was filled is empty, has so many places and so much room for texts, and holds what was looked up for
-    ///   the event (four places or more) (`ready`, `places`, `letters`, `dropped`, `counted`, `kept`, `pending`, `job`,
-    ///   `need`, `used`).
-    #[inline(always)]
-    pub fn fill(&mut self, count: u64, prepared: Prepared, extent: Extent) -> Result<(), AllocError>
-        requires places { most_actions ≤ extent.places }
-        requires telling { prepared.telling.twice ≡ extent.twice }
-        requires leavers { prepared.leavers.twice ≡ extent.twice }
-        ensures ready { OnOk result (IsReady self.new) }
-        ensures places { OnOk result (extent.places ≤ self.new.places) }
-        ensures leave { OnOk result (HasLeave self.new) }
-        ensures letters { OnOk result (IsTrue extent.replies → CanReply extent.width self.new) }
-        ensures dropped { OnOk result (IsTrue extent.drops → CanTellDropped self.new) }
-        ensures twice { OnOk result (twice_in self.new ≡ extent.twice) }
-        ensures counted { OnOk result (self.new.count ≡ count) }
-        ensures kept { OnOk result (kept_in self.new ≡ prepared.kept) }
-        ensures path { OnOk result (self.new.path ≡ prepared.path) }
-        ensures pending { OnOk result (self.new.pending ≡ prepared.pending) }
-        ensures telling { OnOk result (telling_in self.new ≡ prepared.telling.told) }
-        ensures leavers { OnOk result (leavers_in self.new ≡ prepared.leavers.items) }
-        ensures job { OnOk result (job_in self.new ≡ prepared.job) }
-        ensures need { OnOk result (need_in self.new ≡ need_for prepared.header prepared.piece prepared.job) }
-        ensures used { OnOk result (self.new.used ≡ prepared.used) }
-        ensures stops { OnOk result (self.new.stops ≡ prepared.stops) }
-    {
-        let places = places_with(extent.places, prepared.leavers.len())?;
-        let Prepared {
-            kept,
-            path,
-            pending,
-            telling,
-            leavers,
-            header,
-            job,
-            used,
-            piece,
-            stops,
-        } = prepared;
-        self.kept.clear(extent.twice);
-        self.text.clear(extent.twice);
-        self.dropped.clear(extent.twice);
-        self.actions.clear(extent.twice);
-        self.telling = telling;
-        self.leavers = leavers;
-        self.count = count;
-        self.need = need_for(header, piece, &job);
-        self.job = job;
-        self.path = path;
-        self.pending = pending;
-        self.used = used;
-        self.stops = stops;
-        self.actions.make_places(self.alloc, places, extent.usual)?;
-        self.text.make_room(extent.replies, extent.width)?;
-        self.dropped.make_room(extent.drops, SHORT_TEXT)?;
-        self.kept.hold(kept)
-    }
-
     /// The transfer that the event asks for.
     pub fn pending(&self) -> &Option<Pending>
         ensures { result.now ≡ self.now.pending }
@@ -368,18 +261,6 @@ impl Room {
     }
 }
 
-// What has to be done outside before the step.
-fn need_for(header: bool, piece: bool, job: &Option<Job>) -> Need
-    ensures { result ≡ need_for header piece job.now }
-{
-    match job {
-        _ if header => Need::Header,
-        Some(job) if piece => Need::Piece(job.ticket),
-        Some(job) => Need::Run(job.ticket),
-        None => Need::Nothing,
-    }
-}
-
 // How many actions most events of this kind have. No clause rests on it.
 fn usual_places(kind: &EventKind) -> usize {
     match kind {
@@ -405,17 +286,6 @@ fn usual_places(kind: &EventKind) -> usize {
         | EventKind::Internal { .. }
         | EventKind::Closed { .. } => 2,
         EventKind::Quit { .. } | EventKind::IdleTick { .. } | EventKind::End { .. } => 3,
-    }
-}
-
-// How many actions have places, with those of all who leave.
-fn places_with(places: usize, leavers: usize) -> Result<usize, AllocError>
-    ensures { IfOk result (λ sum. sum ≡ places + most_actions * leavers) }
-{
-    let leaving = leavers.checked_mul(MOST_ACTIONS);
-    match leaving.and_then(|leaving| leaving.checked_add(places)) {
-        Some(sum) => Ok(sum),
-        None => Err(AllocError),
     }
 }
 

@@ -17,8 +17,8 @@ ghost use Rattle.ftp_hub.specs.Stands.{Fits, SameAnswers, count_of, named_in, ke
 use crate::hub::Hub;
 use crate::jobs::is_piece;
 use ftp_base::Bytes;
-use ftp_events::{EventKind, HubEvent, Pending, Running, Session};
-use ftp_handlers::{Extent, Prepared, Room, copy_alone, copy_kept, copy_telling, fix_transfer};
+use ftp_events::{EventKind, HubEvent, Running, Session};
+use ftp_handlers::{Extent, Prepared, Room, copy_alone, copy_kept, copy_telling};
 use ftp_transfer::{Job, Ticket};
 use std::alloc::{AllocError, Global};
 use std::mem;
@@ -191,13 +191,11 @@ impl Hub {
     {
         let named = self.named(kind);
         let kept = self.copy_kept(kind, named)?;
-        let pending = self.fix_transfer(kind, named, &kept)?;
+        self.ask(kind, named, &kept, room)?;
+        self.run(kind, twice, room)?;
         let prepared = Prepared {
             kept,
-            path: self.copy_path(kind, twice)?,
-            pending,
             header: self.needs_header(kind),
-            job: self.copy_job(kind)?,
             used: self.is_used(kind),
             piece: is_piece(kind),
             stops: self.can_stop(kind),
@@ -219,22 +217,54 @@ impl Hub {
         }
     }
 
-    // The transfer that an event asks for, with what the event keeps.
-    #[inline(always)]
-    fn fix_transfer(
+    // Puts the transfer that an event asks for into the room, with what the event keeps.
+    fn ask(
         &self,
         kind: &EventKind,
         named: Option<&Session>,
         kept: &Bytes,
-    ) -> Result<Option<Pending>, AllocError>
+        room: &mut Room,
+    ) -> Result<(), AllocError>
         requires session { option_copied named ≡ named_in self.now kind.now }
         requires kept { kept.now ≡ kept_for self.now kind.now }
-        ensures { IfOk result (λ pending. pending ≡ pending_for self.now kind.now) }
+        ensures pending { OnOk result (room.new.pending ≡ pending_for self.now kind.now) }
+        ensures same { room.new ≡ record room.old { pending = room.new.pending } }
     {
         match named {
-            Some(session) => fix_transfer(self.alloc, kind, kept, session),
-            None => Ok(None),
+            Some(session) => room.ask(kind, kept, session),
+            None => {
+                room.ask_nothing();
+                Ok(())
+            }
         }
+    }
+
+    // Puts the job that an event is the end or a piece of into the room, and its path where that is asked for.
+    fn run(&self, kind: &EventKind, asked: bool, room: &mut Room) -> Result<(), AllocError>
+        ensures job { OnOk result (job_in room.new ≡ job_for self.now kind.now) }
+        ensures path { OnOk result (IsTrue asked → room.new.path ≡ path_for self.now kind.now) }
+        ensures same { room.new ≡ record room.old { job = room.new.job; path = room.new.path } }
+    {
+        match kind {
+            EventKind::End { .. } | EventKind::Piece { .. } => self.run_job(kind, asked, room),
+            _ => {
+                room.run_nothing();
+                Ok(())
+            }
+        }
+    }
+
+    // Apart, so that an event of no job does not pay for it.
+    #[inline(never)]
+    fn run_job(&self, kind: &EventKind, asked: bool, room: &mut Room) -> Result<(), AllocError>
+        ensures job { OnOk result (job_in room.new ≡ job_for self.now kind.now) }
+        ensures path { OnOk result (IsTrue asked → room.new.path ≡ path_for self.now kind.now) }
+        ensures same { room.new ≡ record room.old { job = room.new.job; path = room.new.path } }
+    {
+        let path = self.copy_path(kind, asked)?;
+        let job = self.copy_job(kind)?;
+        room.run(job, path);
+        Ok(())
     }
 
     // The path of the job whose end the event may be, where it is asked for.

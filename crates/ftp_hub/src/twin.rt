@@ -1,6 +1,6 @@
 //! A step whose entry is given twice: once to be kept, once to be told. All memory is taken before it.
 
-ghost use Rattle.std.specs.Prelude.{◌≡◌, ◌+◌, ◌-◌, ◌^◌, ◌↔◌, List, ◌∷◌, IfOk, OnOk, IsErrOf, IsTrue, None};
+ghost use Rattle.std.specs.Prelude.{◌≡◌, ◌+◌, ◌-◌, ◌^◌, ◌↔◌, List, ◌∷◌, IfOk, OnOk, IsErrOf, IsTrue, None, Some};
 ghost use Rattle.std.specs.Option.{option_and_then, option_map};
 ghost use Rattle.ftp_events.specs.declared.entry.Entry.{Entry};
 ghost use Rattle.ftp_events.specs.Counts.{Counted};
@@ -145,9 +145,8 @@ impl Hub {
         ensures waiting { OnOk result (copies.new.waiting ≡ waiting_in self.now event.now.kind answer.now) }
     {
         copies.event = event.copy(self.alloc)?;
-        copies.asked = copy_pending(self.alloc, asked)?;
-        copies.waiting = self.copy_waiting(&event.kind, answer)?;
-        Ok(())
+        copy_pending(self.alloc, asked, &mut copies.asked)?;
+        self.copy_waiting(&event.kind, answer, &mut copies.waiting)
     }
 
     /// Decides the event and changes the tables, and gives the entry twice. It takes no memory.
@@ -225,16 +224,25 @@ impl Hub {
         }
     }
 
-    // A copy of the transfer that waits in the slot of the session that an event is about.
-    fn copy_waiting(&self, kind: &EventKind, answer: &Answer) -> Result<Option<Pending>, AllocError>
-        ensures { IfOk result (λ copy. copy ≡ waiting_in self.now kind.now answer.now) }
+    // Puts there a copy of the transfer that waits in the slot of the session that an event is about.
+    fn copy_waiting(
+        &self,
+        kind: &EventKind,
+        answer: &Answer,
+        to: &mut Option<Pending>,
+    ) -> Result<(), AllocError>
+        ensures { OnOk result (to.new ≡ waiting_in self.now kind.now answer.now) }
     {
         let Some(number) = self.concerned(kind, answer) else {
-            return Ok(None);
+            let_go(to);
+            return Ok(());
         };
         match self.sessions.get(&number) {
-            Some(session) => copy_pending(self.alloc, &session.pending),
-            None => Ok(None),
+            Some(session) => copy_pending(self.alloc, &session.pending, to),
+            None => {
+                let_go(to);
+                Ok(())
+            }
         }
     }
 }
@@ -252,20 +260,52 @@ fn copies_or_new(alloc: Global, spare: Option<Box<Copies>>) -> Result<Box<Copies
     }
 }
 
-// A copy of the transfer, where there is one.
-fn copy_pending(alloc: Global, pending: &Option<Pending>) -> Result<Option<Pending>, AllocError>
-    ensures { IfOk result (λ copy. copy ≡ pending.now) }
+// Puts there a copy of the transfer, where there is one, and nothing else.
+fn copy_pending(
+    alloc: Global,
+    pending: &Option<Pending>,
+    to: &mut Option<Pending>,
+) -> Result<(), AllocError>
+    ensures { OnOk result (to.new ≡ pending.now) }
 {
     match pending {
-        None => Ok(None),
-        Some(pending) => Ok(Some(Pending {
-            ticket: pending.ticket,
-            user: pending.user.copy(alloc)?,
-            command: pending.command.copy(alloc)?,
-            path: pending.path.copy(alloc)?,
-            offset: pending.offset,
-        })),
+        Some(pending) => put_copy(alloc, pending, to),
+        None => {
+            let_go(to);
+            Ok(())
+        }
     }
+}
+
+// Puts there a copy of the transfer. It stands apart, so that an event without one does not pay for it.
+#[inline(never)]
+fn put_copy(alloc: Global, pending: &Pending, to: &mut Option<Pending>) -> Result<(), AllocError>
+    ensures { OnOk result (to.new ≡ Some pending.now) }
+{
+    *to = Some(Pending {
+        ticket: pending.ticket,
+        user: pending.user.copy(alloc)?,
+        command: pending.command.copy(alloc)?,
+        path: pending.path.copy(alloc)?,
+        offset: pending.offset,
+    });
+    Ok(())
+}
+
+// Lets the transfer go that is there, if one is.
+fn let_go(to: &mut Option<Pending>)
+    ensures { to.new ≡ None }
+{
+    if to.is_some() {
+        drop_pending(to);
+    }
+}
+
+#[inline(never)]
+fn drop_pending(to: &mut Option<Pending>)
+    ensures { to.new ≡ None }
+{
+    *to = None;
 }
 
 // The ticket and the link of the first job that starts.
