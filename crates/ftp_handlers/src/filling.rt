@@ -141,6 +141,7 @@ impl Room {
         self.job = None;
     }
 
+    #[inline(always)]
     /// Takes memory for the step on an event at a count of events, with places for the actions of all who leave. Nothing
     /// stays that the room held of another event, but for the transfer that is asked for, the job and its path.
     ///
@@ -149,7 +150,6 @@ impl Room {
     /// - A room that was filled is empty, has so many places and so much room for texts, and holds what was looked up for
     ///   the event (four places or more) (`ready`, `places`, `letters`, `dropped`, `counted`, `kept`, `pending`, `job`,
     ///   `need`, `used`; also `Room::ask`: `pending`; `Room::run`: `job`, `path`).
-    #[inline(always)]
     pub fn fill(&mut self, count: u64, prepared: Prepared, extent: Extent) -> Result<(), AllocError>
         requires places { most_actions ≤ extent.places }
         requires telling { prepared.telling.twice ≡ extent.twice }
