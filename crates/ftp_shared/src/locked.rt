@@ -14,7 +14,7 @@ use crate::share::{Parts, StepShare};
 use ftp_events::{Answer, HubEvent, Log};
 use ftp_hub::{Hub, Twin, keep};
 use ftp_options::Options;
-use std::alloc::{AllocError, Global};
+use std::alloc::Global;
 use std::marker::Brand;
 use std::sync::ledger::{Book, Ledger, Share};
 
@@ -166,7 +166,7 @@ impl<L: Serving> Locked<L> {
         ensures same_parts { (self.new.parts.parts ≡ self.old.parts.parts) × (self.new.parts.count ≡ self.old.parts.count) }
     {
         let own = own_session(&event.kind);
-        Ok(self.take_step(share, event, answer, own)?)
+        self.take_step(share, event, answer, own)
     }
 
     // Adds the entry, and hands a session what it was sent.
@@ -176,7 +176,8 @@ impl<L: Serving> Locked<L> {
         event: HubEvent,
         answer: Answer,
         own: Option<u64>,
-    ) -> Result<Turn, AllocError>
+    ) -> Result<Turn, AppendError>
+        ensures only { IfErr result (λ e. e ≡ AppendError.OutOfMemory) }
         ensures next { IfOk result (λ t. IsNextAt L.options t.submitted.receipt event answer) }
         ensures rest { IfOk result (λ t. IsTurnOf L.options t own event answer) }
         ensures due { IfOk result (λ t. t.submitted.receipt.entry ≡ next_entry L.options self.old.journal.entries event answer) }

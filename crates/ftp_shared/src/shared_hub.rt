@@ -113,9 +113,11 @@ impl<L: Serving> SharedHub<L> {
         ensures same_share { OnErr result (share.new.count ≡ share.old.count) }
         ensures only { IfErr result (λ e. e ≡ AppendError.OutOfMemory) }
     {
-        let turn = self.lock.lock(rt).append_for(share, event, answer)?;
-        self.tell(rt, &turn.submitted.receipt);
-        Ok(turn)
+        let answered = self.lock.lock(rt).append_for(share, event, answer);
+        if let Ok(turn) = &answered {
+            self.tell(rt, &turn.submitted.receipt);
+        }
+        answered
     }
 
     /// Adds a piece of a job, of so many bytes, which moved before. Where the job goes on its share comes back, with these
