@@ -1,8 +1,9 @@
 -- What a hub keeps for the next event is no part of what it answers.
-use Rattle.std.proofs.Common.{◌≡◌, ◌∙◌, ap, List, nat_eq}
+use Rattle.std.proofs.Common.{◌≡◌, ◌∙◌, sym, ap, subst, List, nat_eq}
 use Rattle.std.specs.HashMap as map
-use Rattle.ftp_hub.proofs.Common.{Entry, Hub, Stands, failures_in, has, holder_at}
-use Rattle.ftp_hub.specs.Stands.{SameAnswers, SameTables}
+use Rattle.ftp_handlers.specs.Rooms.{RoomState}
+use Rattle.ftp_hub.proofs.Common.{Entry, Hub, HubEvent, Stands, failures_in, has, holder_at}
+use Rattle.ftp_hub.specs.Stands.{Fits, SameAnswers, SameTables}
 use Rattle.ftp_hub.proofs.Refusals.{stands-same}
 
 -- hubs that differ in it alone give the same answers
@@ -49,3 +50,30 @@ same-spared first old new same e =
       head = record { options = more.head.options ∙ same.head.options; count = more.head.count ∙ same.head.count; counters = more.head.counters ∙ same.head.counters };
       tables = tables-spared first old new same.tables e;
     }
+
+-- and a room fits them both
+pub fits-spared : (room : RoomState) (old new : Hub) (event : HubEvent) → new ≡ record old { spare = new.spare; spare_copies = new.spare_copies } → Fits room old event → Fits room new event
+fits-spared room old new event e fit =
+    subst (λ (h : Hub). Fits room h event) (sym e)
+    (record {
+      below = fit.below;
+      counted = fit.counted;
+      ready = fit.ready;
+      places = fit.places;
+      letters = fit.letters;
+      dropped = fit.dropped;
+      kept = fit.kept;
+      path = fit.path;
+      telling = fit.telling;
+      leavers = fit.leavers;
+      leave = fit.leave;
+      pending = fit.pending;
+      need = fit.need;
+      sessions = fit.sessions;
+      jobs = fit.jobs;
+      numbers = fit.numbers;
+      used = fit.used;
+      stops = fit.stops;
+      failures = fit.failures;
+      board = fit.board;
+    })
