@@ -36,7 +36,7 @@ returns-clause-job c log st =
     let acted : IsActed hub.options (e ∷ log) = subst (λ (o : Options). IsActed o (e ∷ log)) c.enter-decision.ensures.options stood.acted in
     let copies : Copies = c.args.room.copies.value in
     let lent : c.deref_mut-job.result.now ≡ record copies { event = c.take_event-copy.new.self.event } =
-      c.deref_mut-job.ensures.value ∙ c.take_event-copy.ensures.same ∙ ap (λ (x : Copies). record x { event = c.take_event-copy.new.self.event }) c.deref_mut-copy.ensures.value in
+    c.deref_mut-job.ensures.value ∙ c.take_event-copy.ensures.same ∙ ap (λ (x : Copies). record x { event = c.take_event-copy.new.self.event }) c.deref_mut-copy.ensures.value in
     c.start-job.ensures
     ∙ ap (λ (xs : List Action). option_and_then (λ p. option_map (job_at p) (first_start xs)) (can_start d c.deref_mut-job.result.now.asked c.deref_mut-job.result.now.waiting)) (c.as_slice.ensures ∙ taken)
     ∙ ap (λ (x : Copies). option_and_then (λ p. option_map (job_at p) (first_start e.actions)) (can_start d x.asked x.waiting)) lent
