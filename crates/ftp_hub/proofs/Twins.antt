@@ -45,6 +45,13 @@ none-after : {A B : Type 0} (f : A → Option B) → ((y : A) → f y ≡ None) 
 none-after f none None = refl
 none-after f none (Some y) = none y
 
+-- it is the same whether the transfer is looked at first, or what starts
+pub start-either : (x : Option Pending) (at : Option (Ticket × ℕ)) → option_and_then (λ a. option_map (λ p. job_at p a) x) at ≡ option_and_then (λ p. option_map (job_at p) at) x
+start-either None None = refl
+start-either None (Some a) = refl
+start-either (Some p) None = refl
+start-either (Some p) (Some a) = refl
+
 -- the first start is among the first actions, or else among the others
 first-append : (xs ys : List Action) → first_start (xs ++ ys) ≡ option_or (first_start xs) (first_start ys)
 first-append [] ys = refl

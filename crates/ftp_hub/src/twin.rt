@@ -322,7 +322,7 @@ fn first_start(actions: &[Action]) -> Option<(Ticket, u64)>
 
 // The job that starts, where one does: of the transfer that the entry queues, or of the one that waits.
 fn start(copies: &mut Copies, decision: Decision, actions: &[Action]) -> Option<Job>
-    ensures { result ≡ option_and_then (λ p. option_map (job_at p) (first_start actions.now)) (can_start decision copies.old.asked copies.old.waiting) }
+    ensures { result ≡ option_and_then (λ at. option_map (λ p. job_at p at) (can_start decision copies.old.asked copies.old.waiting)) (first_start actions.now) }
 {
     let (ticket, number) = first_start(actions)?;
     let pending = match decision {

@@ -6,7 +6,7 @@ use Rattle.ftp_handlers.specs.Rooms.{actions_in}
 use Rattle.ftp_hub.specs.Stands.{pending_for}
 use Rattle.ftp_hub.specs.Twin.{can_start, first_start, job_at, started_job}
 use Rattle.ftp_hub.proofs.Spares.{stands-spared, tables-spared}
-use Rattle.ftp_hub.proofs.Twins.{job-is}
+use Rattle.ftp_hub.proofs.Twins.{job-is, start-either}
 use Rattle.ftp_hub.proofs.hub.Hub.step_twin.Goals as goal
 
 -- the hub stands for the longer log, whatever it keeps for the next event
@@ -38,6 +38,7 @@ returns-clause-job c log st =
     let lent : c.deref_mut-job.result.now ≡ record copies { event = c.take_event-copy.new.self.event } =
     c.deref_mut-job.ensures.value ∙ c.take_event-copy.ensures.same ∙ ap (λ (x : Copies). record x { event = c.take_event-copy.new.self.event }) c.deref_mut-copy.ensures.value in
     c.start-job.ensures
+    ∙ start-either (can_start d c.deref_mut-job.result.now.asked c.deref_mut-job.result.now.waiting) (first_start c.as_slice.result.now)
     ∙ ap (λ (xs : List Action). option_and_then (λ p. option_map (job_at p) (first_start xs)) (can_start d c.deref_mut-job.result.now.asked c.deref_mut-job.result.now.waiting)) (c.as_slice.ensures ∙ taken)
     ∙ ap (λ (x : Copies). option_and_then (λ p. option_map (job_at p) (first_start e.actions)) (can_start d x.asked x.waiting)) lent
     ∙ ap (option_and_then (λ p. option_map (job_at p) (first_start e.actions)))
