@@ -6,7 +6,6 @@ pub mod About
 pub mod Clients
 pub mod Running
 pub mod Refusals
-pub mod Spares
 pub mod Openings
 pub mod Named
 pub mod Decisions

@@ -320,16 +320,23 @@ fn first_start(actions: &[Action]) -> Option<(Ticket, u64)>
     None
 }
 
-// The job that starts, where one does: of the transfer that the entry queues, or of the one that waits.
+// Takes the transfer out that an entry can start: the one that it queues, or the one that waits.
+#[inline(always)]
+fn take_startable(copies: &mut Copies, decision: Decision) -> Option<Pending>
+    ensures { result ≡ can_start decision copies.old.asked copies.old.waiting }
+{
+    match decision {
+        Decision::Queued { ticket: _ } => mem::replace(&mut copies.asked, None),
+        _ => mem::replace(&mut copies.waiting, None),
+    }
+}
+
+// The job that starts, where one does.
 fn start(copies: &mut Copies, decision: Decision, actions: &[Action]) -> Option<Job>
     ensures { result ≡ option_and_then (λ at. option_map (λ p. job_at p at) (can_start decision copies.old.asked copies.old.waiting)) (first_start actions.now) }
 {
     let (ticket, number) = first_start(actions)?;
-    let pending = match decision {
-        Decision::Queued { ticket: _ } => mem::replace(&mut copies.asked, None),
-        _ => mem::replace(&mut copies.waiting, None),
-    };
-    let pending = pending?;
+    let pending = take_startable(copies, decision)?;
     Some(Job {
         ticket,
         user: pending.user,

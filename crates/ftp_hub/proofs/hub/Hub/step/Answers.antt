@@ -1,7 +1,6 @@
-use Rattle.std.proofs.Common.{◌≡◌, refl, sym, ap, ◌∙◌, subst, ◌∷◌, List}
+use Rattle.std.proofs.Common.{◌≡◌, sym, subst, ◌∷◌, List}
 use Rattle.ftp_hub.proofs.Common.{Action, Decision, Hub, Stands, entry}
 use Rattle.ftp_handlers.specs.Rooms.{actions_in}
-use Rattle.ftp_hub.proofs.Spares.{stands-spared, tables-spared}
 use Rattle.ftp_hub.proofs.hub.Hub.step.Goals as goal
 
 -- the hub stands for the longer log, whatever it keeps for the next event
@@ -9,11 +8,28 @@ pub returns-clause-stands : goal.returns-clause-stands
 returns-clause-stands c log st =
     let h : Hub = c.enter-decision.new.self in
     let d : Decision = c.enter-decision.result in
-    let taken : c.take_actions-actions.result ≡ actions_in c.enter-decision.new.room = c.take_actions-actions.ensures ∙ ap actions_in c.deref_mut-actions.ensures.value in
-    stands-spared h _ (entry c.args.event c.args.answer d c.take_actions-actions.result ∷ log) refl
-    (subst (λ (xs : List Action). Stands h (entry c.args.event c.args.answer d xs ∷ log)) (sym taken) (c.enter-decision.ensures.stands log st))
+    let taken : c.take_actions-actions.result ≡ actions_in c.enter-decision.new.room = cc in
+    let stood : Stands h (entry c.args.event c.args.answer d c.take_actions-actions.result ∷ log) =
+    subst (λ (xs : List Action). Stands h (entry c.args.event c.args.answer d xs ∷ log)) (sym taken) (c.enter-decision.ensures.stands log st) in
+    let tables = stood.tables in
+    record {
+      right = stood.right;
+      acted = stood.acted;
+      tables = record {
+        sessions = tables.sessions;
+        live = tables.live;
+        jobs = tables.jobs;
+        running = tables.running;
+        numbers = tables.numbers;
+        holders = tables.holders;
+        failures = tables.failures;
+        stopped = tables.stopped;
+      };
+      counted = stood.counted;
+    }
 
 -- a refused event changes no table
 pub returns-clause-refused : goal.returns-clause-refused
 returns-clause-refused c log st refused =
-    tables-spared c.args.self.now c.enter-decision.new.self _ (c.enter-decision.ensures.refused log st refused) refl
+    let same = c.enter-decision.ensures.refused log st refused in
+    record { sessions = same.sessions; live = same.live; jobs = same.jobs; running = same.running; numbers = same.numbers; holders = same.holders; failures = same.failures; stopped = same.stopped }

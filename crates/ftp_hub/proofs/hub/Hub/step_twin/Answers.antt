@@ -1,11 +1,10 @@
-use Rattle.std.proofs.Common.{◌≡◌, refl, sym, ap, ◌∙◌, subst, ◌∷◌, List, Option}
+use Rattle.std.proofs.Common.{◌≡◌, sym, ap, ◌∙◌, subst, ◌∷◌, List, Option}
 use Rattle.std.specs.Option.{option_and_then, option_map}
 use Rattle.ftp_hub.proofs.Common.{Action, Decision, Entry, Hub, IsActed, IsRight, Options, Pending, Stands, entry, options_of, past_of}
 use Rattle.ftp_hub.specs.declared.twin.Copies.{Copies}
 use Rattle.ftp_handlers.specs.Rooms.{actions_in}
 use Rattle.ftp_hub.specs.Stands.{pending_for}
 use Rattle.ftp_hub.specs.Twin.{can_start, first_start, job_at, started_job}
-use Rattle.ftp_hub.proofs.Spares.{stands-spared, tables-spared}
 use Rattle.ftp_hub.proofs.Twins.{job-is, start-either}
 use Rattle.ftp_hub.proofs.hub.Hub.step_twin.Goals as goal
 
@@ -14,14 +13,31 @@ pub returns-clause-stands : goal.returns-clause-stands
 returns-clause-stands c log st =
     let h : Hub = c.enter-decision.new.self in
     let d : Decision = c.enter-decision.result in
-    let taken : c.take_twin-actions.result.0 ≡ actions_in c.enter-decision.new.room = c.take_twin-actions.ensures.first ∙ ap actions_in c.deref_mut-actions.ensures.value in
-    stands-spared h _ (entry c.args.event c.args.answer d c.take_twin-actions.result.0 ∷ log) refl
-    (subst (λ (xs : List Action). Stands h (entry c.args.event c.args.answer d xs ∷ log)) (sym taken) (c.enter-decision.ensures.stands log st))
+    let taken : c.take_twin-actions.result.0 ≡ actions_in c.enter-decision.new.room = cc in
+    let stood : Stands h (entry c.args.event c.args.answer d c.take_twin-actions.result.0 ∷ log) =
+    subst (λ (xs : List Action). Stands h (entry c.args.event c.args.answer d xs ∷ log)) (sym taken) (c.enter-decision.ensures.stands log st) in
+    let tables = stood.tables in
+    record {
+      right = stood.right;
+      acted = stood.acted;
+      tables = record {
+        sessions = tables.sessions;
+        live = tables.live;
+        jobs = tables.jobs;
+        running = tables.running;
+        numbers = tables.numbers;
+        holders = tables.holders;
+        failures = tables.failures;
+        stopped = tables.stopped;
+      };
+      counted = stood.counted;
+    }
 
 -- a refused event changes no table
 pub returns-clause-refused : goal.returns-clause-refused
 returns-clause-refused c log st refused =
-    tables-spared c.args.self.now c.enter-decision.new.self _ (c.enter-decision.ensures.refused log st refused) refl
+    let same = c.enter-decision.ensures.refused log st refused in
+    record { sessions = same.sessions; live = same.live; jobs = same.jobs; running = same.running; numbers = same.numbers; holders = same.holders; failures = same.failures; stopped = same.stopped }
 
 -- the job is made of the copy of its transfer
 pub returns-clause-job : goal.returns-clause-job
@@ -30,16 +46,16 @@ returns-clause-job c log st =
     let k = c.args.event.kind in
     let d = c.enter-decision.result in
     let e : Entry = entry c.args.event c.args.answer d (actions_in c.enter-decision.new.room) in
-    let taken : c.take_twin-actions.result.0 ≡ actions_in c.enter-decision.new.room = c.take_twin-actions.ensures.first ∙ ap actions_in c.deref_mut-actions.ensures.value in
+    let taken : c.take_twin-actions.result.0 ≡ actions_in c.enter-decision.new.room = cc in
     let stood = c.enter-decision.ensures.stands log st in
     let right : IsRight hub.options (e ∷ log) = subst (λ (o : Options). IsRight o (e ∷ log)) c.enter-decision.ensures.options stood.right in
     let acted : IsActed hub.options (e ∷ log) = subst (λ (o : Options). IsActed o (e ∷ log)) c.enter-decision.ensures.options stood.acted in
     let copies : Copies = c.args.room.copies.value in
-    let lent : c.deref_mut-job.result.now ≡ record copies { event = c.take_event-copy.new.self.event } =
-    c.deref_mut-job.ensures.value ∙ c.take_event-copy.ensures.same ∙ ap (λ (x : Copies). record x { event = c.take_event-copy.new.self.event }) c.deref_mut-copy.ensures.value in
+    let lent : c.deref_mut-4.result.now ≡ record copies { event = c.take_event-copy.new.self.event } =
+    c.deref_mut-4.ensures.value ∙ c.take_event-copy.ensures.same ∙ ap (λ (x : Copies). record x { event = c.take_event-copy.new.self.event }) c.deref_mut-3.ensures.value in
     c.start-job.ensures
-    ∙ start-either (can_start d c.deref_mut-job.result.now.asked c.deref_mut-job.result.now.waiting) (first_start c.as_slice.result.now)
-    ∙ ap (λ (xs : List Action). option_and_then (λ p. option_map (job_at p) (first_start xs)) (can_start d c.deref_mut-job.result.now.asked c.deref_mut-job.result.now.waiting)) (c.as_slice.ensures ∙ taken)
+    ∙ start-either (can_start d c.deref_mut-4.result.now.asked c.deref_mut-4.result.now.waiting) (first_start c.as_slice.result.now)
+    ∙ ap (λ (xs : List Action). option_and_then (λ p. option_map (job_at p) (first_start xs)) (can_start d c.deref_mut-4.result.now.asked c.deref_mut-4.result.now.waiting)) (c.as_slice.ensures ∙ taken)
     ∙ ap (λ (x : Copies). option_and_then (λ p. option_map (job_at p) (first_start e.actions)) (can_start d x.asked x.waiting)) lent
     ∙ ap (option_and_then (λ p. option_map (job_at p) (first_start e.actions)))
     (ap (λ (x : Option Pending). can_start d x copies.waiting) c.requires.asked
