@@ -1,6 +1,6 @@
 //! A step whose entry is given twice: once to be kept, once to be told. All memory is taken before it.
 
-ghost use Rattle.std.specs.Prelude.{◌≡◌, ◌+◌, ◌-◌, ◌^◌, ◌↔◌, List, ◌∷◌, IfOk, OnOk, IsErrOf, IsTrue, None, Some};
+ghost use Rattle.std.specs.Prelude.{◌≡◌, ◌+◌, ◌-◌, ◌^◌, ◌↔◌, List, ◌∷◌, IfErr, IfOk, OnOk, IsErrOf, IsTrue, None, Some};
 ghost use Rattle.std.specs.Option.{option_and_then, option_map};
 ghost use Rattle.ftp_events.specs.declared.entry.Entry.{Entry};
 ghost use Rattle.ftp_events.specs.Counts.{Counted};
