@@ -57,17 +57,14 @@ fn config_in(alloc: Global, table: &Table) -> Result<GatewayConfig, ConfigError>
     ensures refused { IfErr result (IsFaultIn (table_view table.now)) }
 {
     let proxy_control_port = port(table, Key::ProxyControlPort, 21)?;
+    // The texts come last, so that an error behind them has few of them to let go.
     Ok(GatewayConfig {
-        users_file: users_file(alloc, table)?,
-        listen: text_at(alloc, table, Key::Listen, b"0.0.0.0:21")?,
         mode: mode(table, proxy_control_port)?,
         proxy_control_port,
         tls_at_proxy: flag(table, Key::TlsAtProxy, false)?,
         pasv_min_port: port(table, Key::PasvMinPort, 20_000)?,
         pasv_max_port: port(table, Key::PasvMaxPort, 20_099)?,
-        pasv_address: maybe_text_at(alloc, table, Key::PasvAddress)?,
         port_enable: flag(table, Key::PortEnable, false)?,
-        banner: text_at(alloc, table, Key::Banner, b"FTP")?,
         idle_session_timeout: number(table, Key::IdleSessionTimeout, 1, MOST, 600)?,
         shutdown_grace: number(table, Key::ShutdownGrace, 1, MOST, 30)?,
         max_clients: number(table, Key::MaxClients, 1, MOST, 500)?,
@@ -76,6 +73,10 @@ fn config_in(alloc: Global, table: &Table) -> Result<GatewayConfig, ConfigError>
         lockout_failures: number(table, Key::LockoutFailures, 1, MOST, 5)?,
         lockout_forget: number(table, Key::LockoutForget, 1, MOST, 600)?,
         whole_uploads: flag(table, Key::WholeUploads, false)?,
+        users_file: users_file(alloc, table)?,
+        listen: text_at(alloc, table, Key::Listen, b"0.0.0.0:21")?,
+        banner: text_at(alloc, table, Key::Banner, b"FTP")?,
+        pasv_address: maybe_text_at(alloc, table, Key::PasvAddress)?,
         xferlog_file: maybe_text_at(alloc, table, Key::XferlogFile)?,
         log_file: maybe_text_at(alloc, table, Key::LogFile)?,
         metrics_file: maybe_text_at(alloc, table, Key::MetricsFile)?,

@@ -12,7 +12,7 @@ mod storage;
 
 use crate::apart::{begin_beside, finish, leave_off};
 use crate::file_system::FileSystem;
-use crate::home::Homes;
+use crate::home::{Home, Homes};
 use crate::listing::{list, meta_of};
 use crate::opened::{Access, Opened, Use};
 use crate::opening::{open_to_append, open_to_begin, open_to_read};
@@ -175,9 +175,19 @@ impl<R: Wait + Drop, S: FileSystem + Drop> DiskStorage<R, S> {
         let taken = self.take_open(user, path, Access::Read);
         let home = self.homes.find(user)?;
         match taken {
-            Some(opened) if opened.at == at => return Ok(Some(opened)),
-            _ => {}
+            Some(opened) if opened.at == at => Ok(Some(opened)),
+            _ => self.open_read(home, user, path, at),
         }
+    }
+
+    // A file that is opened to be read at a place; none past its end.
+    fn open_read(
+        &self,
+        home: &Home,
+        user: &Bytes,
+        path: &Bytes,
+        at: u64,
+    ) -> Result<Option<Opened<S::File>>, StoreError> {
         let place = home.place(self.alloc, path.as_slice())?;
         let by = Use::new(self.alloc, user, path, Access::Read)?;
         let (mut file, len) = open_to_read(&self.system, self.alloc, &place)?;

@@ -175,17 +175,18 @@ fn offers(config: &GatewayConfig, options: &Options) -> Offers
 
 // The users that were read first. Where uploads come whole, what earlier ones left in their homes is removed before their budgets are
 // counted.
-fn first_table<R: GatewayRuntime>(
+fn first_users<R: GatewayRuntime>(
     rt: &R,
     whole_uploads: bool,
     users: Users,
-) -> Result<UserTable, AllocError> {
+) -> Result<CurrentUsers<R>, AllocError> {
     let alloc = rt.alloc();
     let system = Below::new(*rt);
     if whole_uploads {
         clear_homes(&system, alloc, &users)?;
     }
-    UserTable::new(rt, &system, alloc, users, &Budgets::none(alloc))
+    let table = UserTable::new(rt, &system, alloc, users, &Budgets::none(alloc))?;
+    CurrentUsers::new(*rt, alloc, table)
 }
 
 // The check of passwords, by half of the processors at most, so that logins leave the others to transfers.
@@ -206,6 +207,51 @@ fn open_records<R: GatewayRuntime>(
     shared(rt.alloc(), Records::open(*rt, config, options)?)
 }
 
+// The storages of transfers, over the homes of the users that count.
+fn depot_of<R: GatewayRuntime>(
+    rt: &R,
+    config: &GatewayConfig,
+    options: &Options,
+    users: &CurrentUsers<R>,
+) -> Result<HomeDepot<R>, AllocError> {
+    Ok(HomeDepot {
+        rt: *rt,
+        alloc: rt.alloc(),
+        users: users.share()?,
+        offers: offers(config, options),
+        whole_uploads: config.whole_uploads,
+    })
+}
+
+// What counts transfers and logins, and what tells the counts at the control socket.
+#[derive(Drop)]
+struct Counting<R: Wait + Copy + Drop> {
+    control: ControlSocket<R>,
+    transfers: Activity,
+    logins: Activity,
+    waiting: Waiting,
+}
+
+fn counting<R: GatewayRuntime>(
+    rt: &R,
+    config: &GatewayConfig,
+    users: CurrentUsers<R>,
+    records: Arc<Records<R>, Global>,
+) -> Result<Counting<R>, Refusal> {
+    let alloc = rt.alloc();
+    let activity = Activity::new(alloc)?;
+    let transfers = activity.share()?;
+    let logins = activity.share()?;
+    let waiting = shared(alloc, Mutex::new(Vec::new(alloc)))?;
+    let theirs = Arc::try_clone(&waiting)?;
+    Ok(Counting {
+        control: control_of(rt, config, users, activity, records, theirs)?,
+        transfers,
+        logins,
+        waiting,
+    })
+}
+
 /// The gateway that the configuration file at a path describes.
 pub fn prepare<R: GatewayRuntime>(rt: &R, path: &str) -> Result<Gateway<R>, Refusal> {
     let alloc = rt.alloc();
@@ -215,28 +261,15 @@ pub fn prepare<R: GatewayRuntime>(rt: &R, path: &str) -> Result<Gateway<R>, Refu
         users,
     } = read_setup(rt, path)?;
     let records = open_records(rt, &config, &options)?;
-    let table = first_table(rt, config.whole_uploads, users)?;
-    let users = CurrentUsers::new(*rt, alloc, table)?;
-    let activity = Activity::new(alloc)?;
-    let transfers = activity.share()?;
-    let logins = activity.share()?;
-    let depot = HomeDepot {
-        rt: *rt,
-        alloc,
-        users: users.share()?,
-        offers: offers(&config, &options),
-        whole_uploads: config.whole_uploads,
-    };
+    let users = first_users(rt, config.whole_uploads, users)?;
+    let depot = depot_of(rt, &config, &options, &users)?;
     let check = check_by(rt, &users)?;
-    let waiting = shared(alloc, Mutex::new(Vec::new(alloc)))?;
-    let control = control_of(
-        rt,
-        &config,
-        users,
-        activity,
-        Arc::try_clone(&records)?,
-        Arc::try_clone(&waiting)?,
-    )?;
+    let Counting {
+        control,
+        transfers,
+        logins,
+        waiting,
+    } = counting(rt, &config, users, Arc::try_clone(&records)?)?;
     Ok(Gateway {
         plan: make_plan(alloc, &config, options)?,
         check,

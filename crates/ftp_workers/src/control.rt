@@ -66,6 +66,16 @@ impl<
         SocketControl::new(&self.rt, self.alloc, stream, patience, LIMIT).ok()
     }
 
+    // The words of a session, whose loop others can wake from now on. None where memory ran out, or the server has stopped.
+    fn enter_session(&mut self, session: u64, handle: ControlHandle) -> Option<D::Words> {
+        let words = self.state.depot.words().ok()?;
+        if self.state.handoff.enter(&self.rt, session, handle) {
+            Some(words)
+        } else {
+            None
+        }
+    }
+
     // Serves a control connection while others can wake its loop, and closes it then. Where it ends by the stop of the server, the
     // client is told so; one that comes behind a stop is not served.
     #[inline(never)]
@@ -80,10 +90,24 @@ impl<
     ) -> Option<ServeEnd>
         requires opening { is_opening opening.kind ≡ true }
     {
-        let mut words = self.state.depot.words().ok()?;
-        if !self.state.handoff.enter(&self.rt, session, handle) {
-            return None;
+        match self.enter_session(session, handle) {
+            Some(words) => self.talk_with(control, words, session, at, opening, answer),
+            None => None,
         }
+    }
+
+    fn talk_with<C: Control + Drop>(
+        &mut self,
+        control: C,
+        words: D::Words,
+        session: u64,
+        at: IpAddr,
+        opening: HubEvent,
+        answer: Answer,
+    ) -> Option<ServeEnd>
+        requires opening { is_opening opening.kind ≡ true }
+    {
+        let mut words = words;
         let mut control = Stoppable::new(self.rt, session, &self.state.handoff, control);
         // A connection may last, and moves no files.
         self.buffer = Vec::new(self.alloc);

@@ -1,6 +1,6 @@
 //! A connection that a proxy passed on.
 
-ghost use Rattle.std.specs.Prelude.{◌≡◌, true, false};
+ghost use Rattle.std.specs.Prelude.{◌≡◌, IfSome, true, false};
 ghost use Rattle.ftp_shared.specs.Outbox.{has_ticket};
 ghost use Rattle.ftp_workers.specs.Proxied.{leads_to_control};
 ghost use Rattle.ftp_talk.specs.Control.{is_opening};
@@ -48,41 +48,55 @@ impl<
     D: Depot + Drop,
     G: Gate + Drop,
 > Worker<R, H, A, N, D, G> {
-    // Reads the header of a connection, and serves its session or keeps it for a job.
-    #[inline(never)]
-    pub(crate) fn pass_on(&mut self, stream: net::TcpStream, raw: SocketAddr) {
-        if stream.set_nonblocking(true).is_err() {
-            return;
-        }
-        let stream = TcpStream::from_std(stream);
-        let number = self.state.hub.draw();
+    // Reads the header of a connection. None where it is closed at once.
+    fn read_header(
+        &mut self,
+        stream: net::TcpStream,
+        raw: SocketAddr,
+        number: u64,
+    ) -> Option<(HubEvent, Answer, PendingConnection)>
+        ensures opening { IfSome result (λ made. is_opening made.0.kind ≡ true) }
+        ensures unticketed { IfSome result (λ made. has_ticket made.0.kind ≡ false) }
+    {
+        stream.set_nonblocking(true).ok()?;
         let trace = self.trace();
-        let Ok(buffer) = Vec::from_elem(self.alloc, 0u8, HEADER_BUFFER) else {
-            return;
-        };
-        let link = SocketLink::new(self.rt, self.alloc, stream, LIMIT);
+        let buffer = Vec::from_elem(self.alloc, 0u8, HEADER_BUFFER).ok()?;
+        let link = SocketLink::new(self.rt, self.alloc, TcpStream::from_std(stream), LIMIT);
         let mut link = Gathered::new(link, buffer);
-        let Some((event, answer)) = answer_proxied(
+        let (event, answer) = answer_proxied(
             self.alloc,
             number,
             told_address(raw),
             trace,
             &mut link,
             &mut self.edge,
-        ) else {
+        )?;
+        let (link, _, ahead) = link.into_rest(self.alloc).ok()?;
+        let stream = link.into_stream();
+        Some((event, answer, PendingConnection { stream, ahead }))
+    }
+
+    // Reads the header of a connection, and serves its session or keeps it for a job.
+    #[inline(never)]
+    pub(crate) fn pass_on(&mut self, stream: net::TcpStream, raw: SocketAddr) {
+        let number = self.state.hub.draw();
+        let Some((event, answer, link)) = self.read_header(stream, raw, number) else {
             return;
-        };
-        let Ok((link, _, ahead)) = link.into_rest(self.alloc) else {
-            return;
-        };
-        let link = PendingConnection {
-            stream: link.into_stream(),
-            ahead,
         };
         if leads_to_control(self.state.options.mode, &answer) {
             self.enter_proxied(number, link, event, answer);
         } else {
             self.submit_connection(number, link, event, answer);
+        }
+    }
+
+    // The client that the header names, unless its session is one too many, which is told so.
+    fn admitted(&self, answer: &Answer, link: &mut PendingConnection) -> Option<IpAddr> {
+        let client = source_of(answer)?;
+        if self.state.enter(&self.rt, client, &mut link.stream) {
+            Some(client)
+        } else {
+            None
         }
     }
 
@@ -96,11 +110,8 @@ impl<
     )
         requires opening { is_opening event.kind ≡ true }
     {
-        let Some(client) = source_of(&answer) else {
-            return;
-        };
         let mut link = link;
-        if self.state.enter(&self.rt, client, &mut link.stream) {
+        if let Some(client) = self.admitted(&answer, &mut link) {
             self.serve_proxied(number, link, event, answer);
             self.state.exit(&self.rt, client);
         }
