@@ -1,44 +1,25 @@
 //! A caller that has an audit hear what happens on a hub.
 
+use crate::values::entry_of;
 use ftp_audit::Audit;
-use ftp_base::{AuthAnswer, Bytes, IpAddr, SocketAddr};
-use ftp_events::{Answer, EventKind, HubEvent};
+use ftp_events::Answer;
 use ftp_hub::Hub;
 use ftp_options::ServerBuilder;
-use std::alloc::Global;
 use std::test::Fail;
 
-/// Runs an event without an answer, and has the audit hear its entry.
-fn run(hub: &mut Hub, audit: &mut Audit, kind: EventKind) -> Result<(), Fail> {
-    let event = HubEvent { at: 0, kind };
-    let room = hub.prepare(&event).ok().ok_or("not prepared")?;
-    let entry = hub.step(room, event, Answer::None);
-    audit.take(&entry).ok().ok_or("not taken")?;
-    Ok(())
-}
-
-fn at(port: u16) -> SocketAddr {
-    let ip = IpAddr::V4(0x0a00_0001);
-    SocketAddr { ip, port }
-}
-
-/// A session that logs in and leaves.
-fn visit(alloc: Global, session: u64) -> Result<[EventKind; 5], Fail> {
-    let name = Bytes::from_slice(alloc, b"ann")?;
-    let answer = AuthAnswer::Good;
-    Ok([
-        EventKind::Connect {
-            session,
-            raw: at(4000),
-            local: at(21),
-            trace: session,
-        },
-        EventKind::User { session, name },
-        EventKind::Pass { session },
-        EventKind::AuthDone { session, answer },
-        EventKind::Quit { session },
-    ])
-}
+/// Two sessions that log in and leave, one behind the other.
+const VISITS: [&[u8]; 10] = [
+    b"0 connect 1 10.0.0.1:4000 10.0.0.1:21 1",
+    b"0 user 1 ann",
+    b"0 pass 1",
+    b"0 auth 1 good",
+    b"0 quit 1",
+    b"0 connect 2 10.0.0.1:4000 10.0.0.1:21 2",
+    b"0 user 2 ann",
+    b"0 pass 2",
+    b"0 auth 2 good",
+    b"0 quit 2",
+];
 
 #[test]
 fn an_audit_hears_what_happens_on_a_hub(rt: HostRuntime) -> Result<(), Fail> {
@@ -46,10 +27,9 @@ fn an_audit_hears_what_happens_on_a_hub(rt: HostRuntime) -> Result<(), Fail> {
     let built = ServerBuilder::new(alloc).build().ok().ok_or("not built")?;
     let mut hub = Hub::new(alloc, built.options);
     let mut audit = Audit::new(alloc);
-    for session in [1, 2] {
-        for kind in visit(alloc, session)? {
-            run(&mut hub, &mut audit, kind)?;
-        }
+    for line in VISITS {
+        let entry = entry_of(alloc, &mut hub, line, Answer::None)?;
+        audit.take(&entry).ok().ok_or("not taken")?;
     }
     let report = audit.report()?;
     assert_eq!(rt;

@@ -1,15 +1,13 @@
 //! What a hub counts, and what listeners hear.
 
-use crate::values::{AUTH, CLIENT, CONNECT, PASV};
+use crate::values::{events, links, storage};
 use ftp_base::{
-    Bytes, DataChanCmd, DataEvent, DataListener, EventMeta, IpAddr, LinkTable, MemoryLink,
-    MemoryStorage, PresenceEvent, PresenceListener, SocketAddr,
+    Bytes, DataChanCmd, DataEvent, DataListener, EventMeta, PresenceEvent, PresenceListener,
 };
-use ftp_events::{EventKind, HubEvent, Log, Status7, deliver};
+use ftp_events::{Log, Status7, deliver};
 use ftp_hub::{Hub, covers, run_events};
 use ftp_options::{Options, ServerBuilder};
-use ftp_transfer::Ticket;
-use std::alloc::{AllocError, Global};
+use std::alloc::Global;
 use std::test::Fail;
 
 /// All sessions share two ports, and entries are counted.
@@ -21,50 +19,23 @@ fn counted(alloc: Global) -> Result<Options, Fail> {
     Ok(builder.build().ok().ok_or("not built")?.options)
 }
 
-fn put(events: &mut Vec<HubEvent>, kind: EventKind) -> Result<(), AllocError> {
-    events.push(HubEvent { at: 0, kind })?;
-    Ok(())
-}
-
 /// A login, and the download of a file.
-fn download(alloc: Global) -> Result<Vec<HubEvent>, AllocError> {
-    let session = 1;
-    let name = Bytes::from_slice(alloc, b"ann")?;
-    let command = DataChanCmd::Retr {
-        path: Bytes::from_slice(alloc, b"a")?,
-    };
-    let raw = SocketAddr {
-        ip: IpAddr::V4(CLIENT),
-        port: 4001,
-    };
-    let ticket = Ticket { session, nr: 1 };
-    let mut events = Vec::new(alloc);
-    put(&mut events, CONNECT)?;
-    put(&mut events, EventKind::User { session, name })?;
-    put(&mut events, EventKind::Pass { session })?;
-    put(&mut events, AUTH)?;
-    put(&mut events, PASV)?;
-    put(&mut events, EventKind::Transfer { session, command })?;
-    put(
-        &mut events,
-        EventKind::DataIn {
-            number: 11,
-            raw,
-            port: 50000,
-        },
-    )?;
-    put(&mut events, EventKind::End { ticket })?;
-    Ok(events)
-}
+const DOWNLOAD: [&[u8]; 8] = [
+    b"0 connect 1 10.0.0.1:4000 10.0.0.9:21 1",
+    b"0 user 1 ann",
+    b"0 pass 1",
+    b"0 auth 1 good",
+    b"0 pasv 1 0 - -",
+    b"0 retr 1 a",
+    b"0 data 11 10.0.0.1:4001 50000",
+    b"0 end 1.1",
+];
 
-/// A hub to which the download has happened, of a file with five bytes, and its log.
+/// A hub to which the download has happened, and its log.
 fn downloaded(alloc: Global) -> Result<(Hub, Log), Fail> {
-    let events = download(alloc)?;
-    let mut storage = MemoryStorage::new(alloc, 5, Vec::new(alloc));
-    storage.put_file(Bytes::from_slice(alloc, b"/a")?, b"Hello".to_vec(alloc)?)?;
-    let mut links = LinkTable::new(alloc);
-    let link = MemoryLink::new(alloc, Vec::new(alloc), 65536, Vec::new(alloc));
-    links.insert(11, link).ok().ok_or("no link")?;
+    let events = events(alloc, DOWNLOAD.as_slice())?;
+    let mut storage = storage(alloc)?;
+    let mut links = links(alloc)?;
     if !covers(&links, &events) {
         return Err(Fail::from("a link is not found"));
     }

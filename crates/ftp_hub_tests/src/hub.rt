@@ -1,75 +1,34 @@
 //! Runs with ample memory, and at the end of the count of events.
 
 use crate::headline::run_all;
-use crate::values::{AUTH, CLIENT, CONNECT, PASV, pooled};
-use ftp_base::{Bytes, DataChanCmd, IpAddr, LinkTable, MemoryLink, MemoryStorage, SocketAddr};
+use crate::values::{events, links, pooled, storage};
+use ftp_base::{LinkTable, MemoryLink, MemoryStorage};
 use ftp_events::{Decision, EventKind, HubEvent, Log};
 use ftp_hub::{Hub, RunError, covers, run_events};
 use ftp_transfer::Ticket;
-use std::alloc::{AllocError, Global};
 use std::test::Fail;
 
 const TICKET: Ticket = Ticket { session: 1, nr: 1 };
 
-/// A data connection from an address.
-fn arrival(number: u64, ip: u32) -> EventKind {
-    EventKind::DataIn {
-        number,
-        raw: SocketAddr {
-            ip: IpAddr::V4(ip),
-            port: 1,
-        },
-        port: 50000,
-    }
-}
-
-fn put(events: &mut Vec<HubEvent>, kind: EventKind) -> Result<(), AllocError> {
-    events.push(HubEvent { at: 0, kind })?;
-    Ok(())
-}
-
 /// A login, the data connection of another client, and that of the own client, who takes a file.
-fn events(alloc: Global) -> Result<Vec<HubEvent>, AllocError> {
-    let session = 1;
-    let name = Bytes::from_slice(alloc, b"ann")?;
-    let path = Bytes::from_slice(alloc, b"a")?;
-    let command = DataChanCmd::Retr { path };
-    let mut events = Vec::new(alloc);
-    put(&mut events, CONNECT)?;
-    put(&mut events, EventKind::User { session, name })?;
-    put(&mut events, EventKind::Pass { session })?;
-    put(&mut events, AUTH)?;
-    put(&mut events, PASV)?;
-    put(&mut events, arrival(11, CLIENT + 1))?;
-    put(&mut events, arrival(12, CLIENT))?;
-    put(&mut events, EventKind::Transfer { session, command })?;
-    put(&mut events, EventKind::End { ticket: TICKET })?;
-    put(&mut events, EventKind::Closed { session })?;
-    Ok(events)
-}
-
-/// A storage with `Hello` under `/a`.
-fn storage(alloc: Global) -> Result<MemoryStorage, Fail> {
-    let mut storage = MemoryStorage::new(alloc, 5, Vec::new(alloc));
-    storage.put_file(Bytes::from_slice(alloc, b"/a")?, b"Hello".to_vec(alloc)?)?;
-    Ok(storage)
-}
-
-/// Links for two data connections, which give nothing.
-fn links(alloc: Global) -> Result<LinkTable<MemoryLink>, Fail> {
-    let mut links = LinkTable::new(alloc);
-    for number in [11, 12] {
-        let link = MemoryLink::new(alloc, Vec::new(alloc), 2, Vec::new(alloc));
-        links.insert(number, link).ok().ok_or("no link")?;
-    }
-    Ok(links)
-}
+const EVENTS: [&[u8]; 10] = [
+    b"0 connect 1 10.0.0.1:4000 10.0.0.9:21 1",
+    b"0 user 1 ann",
+    b"0 pass 1",
+    b"0 auth 1 good",
+    b"0 pasv 1 0 - -",
+    b"0 data 11 10.0.0.2:1 50000",
+    b"0 data 12 10.0.0.1:1 50000",
+    b"0 retr 1 a",
+    b"0 end 1.1",
+    b"0 closed 1",
+];
 
 #[test]
 fn a_client_takes_a_file_and_another_is_turned_away(rt: HostRuntime) -> Result<(), Fail> {
     let alloc = rt.alloc();
     let options = pooled(alloc)?;
-    let events = events(alloc)?;
+    let events = events(alloc, EVENTS.as_slice())?;
     let mut storage = storage(alloc)?;
     let mut links = links(alloc)?;
     if !covers(&links, &events) {
@@ -101,7 +60,7 @@ fn a_client_takes_a_file_and_another_is_turned_away(rt: HostRuntime) -> Result<(
 
 #[test]
 fn a_connection_without_a_link_is_not_covered(rt: HostRuntime) -> Result<(), Fail> {
-    let events = events(rt.alloc())?;
+    let events = events(rt.alloc(), EVENTS.as_slice())?;
     let links: LinkTable<MemoryLink> = LinkTable::new(rt.alloc());
     assert!(rt; !covers(&links, &events));
     Ok(())

@@ -1,89 +1,34 @@
 //! The part of a log that belongs to one client, run with nobody else there.
 
-use crate::values::{CLIENT, pooled};
-use ftp_base::{AuthAnswer, Bytes, IpAddr, SocketAddr};
-use ftp_events::{Answer, Decision, EventKind, HubEvent, Log, replies_of};
+use crate::values::{CLIENT, entry_of, pooled};
+use ftp_events::{Answer, Decision, Log, replies_of};
 use ftp_hub::{Hub, isolation};
-use std::alloc::Global;
 use std::test::Fail;
 
-const OTHER: u32 = CLIENT + 1;
-
-/// Runs an event without an answer, and adds its entry to the log.
-fn run(hub: &mut Hub, log: &mut Log, kind: EventKind) -> Result<(), Fail> {
-    let event = HubEvent { at: 0, kind };
-    log.make_room()?;
-    let room = hub.prepare(&event).ok().ok_or("not prepared")?;
-    log.push_reserved(hub.step(room, event, Answer::None));
-    Ok(())
-}
-
-/// A session of the client of an address logs in.
-fn log_in(
-    alloc: Global,
-    hub: &mut Hub,
-    log: &mut Log,
-    session: u64,
-    client: u32,
-) -> Result<(), Fail> {
-    let raw = SocketAddr {
-        ip: IpAddr::V4(client),
-        port: 4000,
-    };
-    let local = SocketAddr {
-        ip: IpAddr::V4(0x0a00_0009),
-        port: 21,
-    };
-    let trace = session;
-    let name = Bytes::from_slice(alloc, b"ann")?;
-    let answer = AuthAnswer::Good;
-    for kind in [
-        EventKind::Connect {
-            session,
-            raw,
-            local,
-            trace,
-        },
-        EventKind::User { session, name },
-        EventKind::Pass { session },
-        EventKind::AuthDone { session, answer },
-    ] {
-        run(hub, log, kind)?;
-    }
-    Ok(())
-}
-
-/// A PASV of a session.
-fn pasv(session: u64) -> EventKind {
-    EventKind::Pasv {
-        session,
-        word: 0,
-        lookup: None,
-        bound: None,
-    }
-}
-
-/// A data connection from an address.
-fn arrival(number: u64, client: u32) -> EventKind {
-    EventKind::DataIn {
-        number,
-        raw: SocketAddr {
-            ip: IpAddr::V4(client),
-            port: 1,
-        },
-        port: 50000,
-    }
-}
+/// Two clients log in, each takes a port, and a data connection of each comes to it.
+const BOTH: [&[u8]; 12] = [
+    b"0 connect 1 10.0.0.1:4000 10.0.0.9:21 1",
+    b"0 user 1 ann",
+    b"0 pass 1",
+    b"0 auth 1 good",
+    b"0 connect 2 10.0.0.2:4000 10.0.0.9:21 2",
+    b"0 user 2 ann",
+    b"0 pass 2",
+    b"0 auth 2 good",
+    b"0 pasv 1 0 - -",
+    b"0 pasv 2 0 - -",
+    b"0 data 11 10.0.0.2:1 50000",
+    b"0 data 12 10.0.0.1:1 50000",
+];
 
 #[test]
 fn a_client_is_served_as_with_nobody_else_there(rt: HostRuntime) -> Result<(), Fail> {
     let alloc = rt.alloc();
     let mut hub = Hub::new(alloc, pooled(alloc)?);
     let mut log = Log::new(alloc);
-    log_in(alloc, &mut hub, &mut log, 1, CLIENT)?;
-    log_in(alloc, &mut hub, &mut log, 2, OTHER)?;
-    for kind in [pasv(1), pasv(2), arrival(11, OTHER), arrival(12, CLIENT)] {
-        run(&mut hub, &mut log, kind)?;
+    for line in BOTH {
+        log.make_room()?;
+        log.push_reserved(entry_of(alloc, &mut hub, line, Answer::None)?);
     }
     let alone = isolation(alloc, pooled(alloc)?, &log, CLIENT)?;
     let decisions = [
@@ -98,6 +43,15 @@ fn a_client_is_served_as_with_nobody_else_there(rt: HostRuntime) -> Result<(), F
     for (entry, decision) in alone.as_slice().iter().zip(decisions) {
         assert_eq!(rt; entry.decision, decision);
     }
-    assert_eq!(rt; replies_of(alloc, &alone, 1)?.len(), 3);
+    // A name, a password and a PASV have their replies (RFC 959, section 5.4).
+    let replies = replies_of(alloc, &alone, 1)?;
+    assert_eq!(rt; replies.len(), 3);
+    for (reply, code) in replies
+        .as_slice()
+        .iter()
+        .zip([b"331".as_slice(), b"230", b"227"])
+    {
+        assert!(rt; reply.encode(alloc)?.as_slice().starts_with(code));
+    }
     Ok(())
 }

@@ -7,22 +7,13 @@ use crate::pieces::{move_two, settled_by};
 use crate::settled::{Told, settle_two, strange_receipt};
 use crate::shared_values::Stopped;
 use crate::threads::connect_two;
+use crate::values::pooled;
 use ftp_base::{Bytes, Reply, ReplyCode};
 use ftp_events::Decision;
-use ftp_options::{Options, ServerBuilder};
 use ftp_shared::{Notifier, SettleError};
 use ftp_transfer::Ticket;
-use std::alloc::Global;
 use std::test::Fail;
 use std::thread;
-
-/// All sessions share the ports 50000 and 50001.
-fn pooled(alloc: Global) -> Result<Options, Fail> {
-    let mut builder = ServerBuilder::new(alloc);
-    builder.pooled_listener_mode();
-    builder.passive_ports(50000, 50001);
-    Ok(builder.build().ok().ok_or("not built")?.options)
-}
 
 #[test]
 fn two_threads_make_one_journal(rt: HostRuntime) -> Result<(), Fail> {

@@ -1,12 +1,14 @@
-//! What several tests take: a client, its session 1, the PASV of it, pooled options, and a step of a hub.
+//! What several tests take: a client, its session 1, the PASV of it, pooled options, a step of a hub, events as a script has them,
+//! and a storage with links.
 
 ghost use Rattle.std.specs.Prelude.{◌≡◌, false, IfOk};
 ghost use Rattle.ftp_options.specs.Modes.{is_legacy};
 
-use ftp_base::{AuthAnswer, IpAddr, SocketAddr};
-use ftp_events::{Answer, Decision, EventKind, HubEvent};
+use ftp_base::{Bytes, IpAddr, LinkTable, MemoryLink, MemoryStorage, SocketAddr};
+use ftp_events::{Answer, Decision, Entry, EventKind, HubEvent};
 use ftp_hub::{Hub, PrepareError};
 use ftp_options::{Options, ServerBuilder};
+use ftp_text::read_event;
 use std::alloc::Global;
 use std::test::Fail;
 
@@ -24,11 +26,6 @@ pub const CONNECT: EventKind = EventKind::Connect {
         port: 21,
     },
     trace: 1,
-};
-
-pub const AUTH: EventKind = EventKind::AuthDone {
-    session: 1,
-    answer: AuthAnswer::Good,
 };
 
 pub const PASV: EventKind = EventKind::Pasv {
@@ -55,4 +52,41 @@ pub fn act(hub: &mut Hub, kind: EventKind, answer: Answer) -> Result<Decision, P
         Ok(room) => Ok(hub.step(room, event, answer).decision),
         Err(error) => Err(error),
     }
+}
+
+/// The event of a line of a script.
+pub fn event(alloc: Global, line: &[u8]) -> Result<HubEvent, Fail> {
+    Ok(read_event(alloc, line).ok().ok_or("no line of a script")?)
+}
+
+/// What happens on a hub by the line of a script.
+pub fn entry_of(alloc: Global, hub: &mut Hub, line: &[u8], answer: Answer) -> Result<Entry, Fail> {
+    let event = event(alloc, line)?;
+    let room = hub.prepare(&event).ok().ok_or("not prepared")?;
+    Ok(hub.step(room, event, answer))
+}
+
+pub fn events(alloc: Global, lines: &[&[u8]]) -> Result<Vec<HubEvent>, Fail> {
+    let mut events = Vec::new(alloc);
+    for line in lines {
+        events.push(event(alloc, line)?)?;
+    }
+    Ok(events)
+}
+
+/// A storage with `Hello` under `/a`.
+pub fn storage(alloc: Global) -> Result<MemoryStorage, Fail> {
+    let mut storage = MemoryStorage::new(alloc, 5, Vec::new(alloc));
+    storage.put_file(Bytes::from_slice(alloc, b"/a")?, b"Hello".to_vec(alloc)?)?;
+    Ok(storage)
+}
+
+/// Links for two data connections, which give nothing.
+pub fn links(alloc: Global) -> Result<LinkTable<MemoryLink>, Fail> {
+    let mut links = LinkTable::new(alloc);
+    for number in [11, 12] {
+        let link = MemoryLink::new(alloc, Vec::new(alloc), 2, Vec::new(alloc));
+        links.insert(number, link).ok().ok_or("no link")?;
+    }
+    Ok(links)
 }

@@ -116,7 +116,7 @@ fn answer<S: Storage>(
             format!(in alloc; "{begun:?}")
         }
         _ => {
-            let bytes = [call.number; 3];
+            let bytes = [call.number, call.number ^ 1, call.number ^ 2];
             let grown = storage.append(&user, &path, &bytes);
             format!(in alloc; "{grown:?}")
         }

@@ -30,7 +30,7 @@ fn what_one_transfer_stores_another_finds(rt: HostRuntime) -> Result<(), Fail> {
         (true, 3, "/a", 0, "Ok(())"),
         (true, 4, "/a", 7, "Ok(())"),
         (false, 0, "/a", 0, FOUND),
-        (false, 2, "/a", 1, "Ok(2) [7, 7, 0, 0]"),
+        (false, 2, "/a", 1, "Ok(2) [6, 5, 0, 0]"),
         (false, 1, "/", 0, listed),
     ];
     assert_eq!(rt; first_wrong(rt.alloc(), &mut one, &mut two, &rows)?, None);
