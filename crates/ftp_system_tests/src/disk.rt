@@ -416,7 +416,7 @@ fn a_whole_upload_takes_its_place_at_its_end(rt: HostRuntime) -> Result<(), Fail
     );
     assert_eq!(rt; usage(&Below::new(rt), alloc, root.as_str())?, 3);
     let after = upload_whole(&rt, file.as_str(), &mut second)?;
-    assert_eq!(rt; after.as_str(), "Ok(()) Ok(()), Ok(()) Ok(()) yyyzzz");
+    assert_eq!(rt; after.as_str(), "Ok(()) Ok(()), Ok(()) Ok(()) yx{zzz");
     fs::remove_dir_all(&rt, base.as_str())?;
     Ok(())
 }
