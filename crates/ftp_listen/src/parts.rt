@@ -28,6 +28,8 @@ pub(crate) struct ServerParts<A, N, D> {
     pub(crate) sinks: N,
     pub(crate) depot: D,
     pub(crate) feed: Option<Arc<JournalFeed, Global>>,
+    /// No gate holds a transfer back.
+    pub(crate) is_open: bool,
 }
 
 /// Anybody whom boxes hold.
@@ -63,10 +65,12 @@ impl<S: Storage + Drop> Parts<S> {
 }
 
 impl<D: Drop> Parts<D> {
-    /// Who asks for a shutdown, and all else, with a feed for the journal's entries where there is one.
+    /// Who asks for a shutdown, and all else, with a feed for the journal's entries where there is one, and whether no gate holds a
+    /// transfer back.
     pub(crate) fn open(
         self,
         feed: Option<Arc<JournalFeed, Global>>,
+        is_open: bool,
     ) -> (Box<dyn Indicator + Drop>, Boxed<D>) {
         let Parts {
             authenticator,
@@ -84,6 +88,7 @@ impl<D: Drop> Parts<D> {
             sinks,
             depot: storage,
             feed,
+            is_open,
         };
         (indicator, server_parts)
     }

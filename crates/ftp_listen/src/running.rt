@@ -49,6 +49,7 @@ pub(crate) fn new_state<
         sinks,
         depot,
         feed,
+        is_open,
     } = server_parts;
     let mut state = ServerState::new(
         alloc,
@@ -63,6 +64,9 @@ pub(crate) fn new_state<
     );
     if let Some(feed) = feed {
         state.feed_to(feed);
+    }
+    if is_open {
+        state.run_small_downloads();
     }
     match Arc::new(alloc, state) {
         Ok(state) => Ok(state),

@@ -161,7 +161,7 @@ impl<S: Storage + Send + Drop + 'static> Server<S> {
             parts,
             feed,
         } = server;
-        let (own, server_parts) = parts.open(feed);
+        let (own, server_parts) = parts.open(feed, false);
         drop(own);
         listen_boxed(
             rt,
@@ -195,7 +195,7 @@ impl<S: Storage + Send + Drop + 'static> Server<S> {
             parts,
             feed,
         } = server;
-        let (own, server_parts) = parts.open(feed);
+        let (own, server_parts) = parts.open(feed, true);
         drop(own);
         serve_one(rt, alloc, options, limits, every, server_parts, stream)
     }
@@ -321,7 +321,7 @@ where
             parts,
             feed,
         } = self;
-        let (indicator, server_parts) = parts.open(feed);
+        let (indicator, server_parts) = parts.open(feed, true);
         let mut indicator = indicator;
         let Ok(gate) = Arc::new(alloc, OpenGate) else {
             return Err(ServerError::OutOfMemory);

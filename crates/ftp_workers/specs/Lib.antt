@@ -1,5 +1,6 @@
 pub mod Carried
 pub mod Header
+pub mod Kept
 pub mod Listening
 pub mod OwnStorage
 pub mod Proxied

@@ -59,8 +59,8 @@ fn to_stop(entry: &Entry) -> Option<u64>
     }
 }
 
-// The link of the job that starts first.
-fn first_link(actions: &[Action]) -> Option<u64>
+/// The link of the job that starts first.
+pub(crate) fn first_link(actions: &[Action]) -> Option<u64>
     ensures { result ≡ first_link actions.now }
 {
     for action in actions {

@@ -3,11 +3,11 @@
 use crate::closing::{close_all, closes_any, not_taken};
 use crate::link_handle::LinkHandle;
 use crate::listening::{AcceptorHandle, Listening};
-use crate::running_job::{RunningJob, end_job, is_idle, start_job};
+use crate::running_job::{RunningJob, end_job, is_idle, keep_job, start_job, take_kept};
 use crate::task::Task;
 use crate::waiting_jobs::{JobProgress, ask_job, has_waiting_job, leave_wait, settled_by};
 use ftp_events::{Decision, Entry};
-use ftp_shared::Others;
+use ftp_shared::{JobShare, Others};
 use ftp_system::{ControlHandle, Queue};
 use indexmap::IndexMap;
 use mio::net::{TcpListener, TcpStream};
@@ -102,6 +102,18 @@ impl Handoff {
         start_job(&mut self.running.lock(rt), session, number, None)
     }
 
+    /// From now on the job on the link of this number runs, and the thread of its session is to run it. Where there is no room for it,
+    /// it never ends.
+    pub(crate) fn keep_job<R: Wait>(&self, rt: &R, number: u64, job: JobShare) {
+        let session = job.ticket().session;
+        let _ = keep_job(&mut self.running.lock(rt), session, number, job);
+    }
+
+    /// Takes the job that the thread of the session is to run, with the number of its link.
+    pub(crate) fn take_kept<R: Wait>(&self, rt: &R, session: u64) -> Option<(u64, JobShare)> {
+        take_kept(&mut self.running.lock(rt), session)
+    }
+
     /// From now on others can shut down the link of the session's job, unless there is no handle.
     pub(crate) fn begin_job<R: Wait>(&self, rt: &R, session: u64, number: u64, stream: &TcpStream) {
         if let Ok(handle) = LinkHandle::new(stream) {
@@ -186,6 +198,18 @@ impl Handoff {
         let mut others = others;
         for _ in 0..u64::MAX {
             match others.next() {
+                Some(session) => self.wake(rt, session),
+                None => return,
+            }
+        }
+    }
+
+    /// Wakes the loops of sessions that have replies waiting, but not that of this session.
+    pub(crate) fn wake_others<R: Wait>(&self, rt: &R, others: Others<'_>, own: u64) {
+        let mut others = others;
+        for _ in 0..u64::MAX {
+            match others.next() {
+                Some(session) if session == own => {}
                 Some(session) => self.wake(rt, session),
                 None => return,
             }

@@ -9,10 +9,12 @@ ghost use Rattle.ftp_workers.specs.OwnStorage.{RunsOnItsOwn, StopsOnItsOwn};
 use crate::event_sinks::EventSinks;
 use crate::handoff::PendingConnection;
 use crate::runtime::WorkerRuntime;
+use crate::server_state::ServerState;
 use crate::worker::Worker;
-use ftp_base::{Authenticator, Gate, Link};
+use ftp_base::{Authenticator, Edge, Gate, Link};
 use ftp_shared::{JobShare, JournalHub, Submitted, serve_job};
 use ftp_system::{Ahead, Depot, Gathered, LIMIT, SocketLink, gathering_buffer};
+use std::sync::Wait;
 
 impl<
     R: WorkerRuntime,
@@ -53,7 +55,13 @@ impl<
         let buffer = self.take_buffer();
         let link = SocketLink::new(self.rt, self.alloc, stream, LIMIT);
         let mut link = Gathered::new(Ahead::new(link, ahead), buffer);
-        let served = self.run_on_own_storage(job, &mut link);
+        let served = self.state.run_on_own_storage(
+            &self.rt,
+            &mut self.desk.pass,
+            &mut self.edge,
+            job,
+            &mut link,
+        );
         self.buffer = link.into_buffer();
         // Where its end was not taken the job never ends.
         if let Some(submitted) = served {
@@ -62,7 +70,15 @@ impl<
         // A job that starts with the end of this one is known before: the session is never without.
         self.state.handoff.end_job(&self.rt, session, number);
     }
+}
 
+impl<
+    H: JournalHub + Drop,
+    A: Authenticator + Drop,
+    N: EventSinks + Drop,
+    D: Depot + Drop,
+    G: Gate + Drop,
+> ServerState<H, A, N, D, G> {
     // Runs a job on its link, and on a storage of its own, which is gone before the job's session is woken. None where memory ran
     // out.
     //
@@ -70,7 +86,14 @@ impl<
     //
     // - A job of a server is run on a storage of the server's depot that had counted no fault before, and all holds of it that
     //   `serve_job` says of its last entry (`next`, `runs`, `stops`).
-    fn run_on_own_storage<K: Link>(&mut self, job: JobShare, link: &mut K) -> Option<Submitted>
+    pub(crate) fn run_on_own_storage<R: Wait, K: Link, E: Edge>(
+        &self,
+        rt: &R,
+        pass: &mut H::Pass,
+        edge: &mut E,
+        job: JobShare,
+        link: &mut K,
+    ) -> Option<Submitted>
         ensures next { IfSome result (λ s. IsLastOf H.options job s.receipt) }
         ensures runs { IfSome result (λ s. IfSome (outcome_in s.receipt.entry.answer) (λ outcome.
             RunsOnItsOwn (site (views D.Store.files D.Store.rule D.Store.faults D.Store.fault_limit D.Store.calls K.left K.sending K.faults K.fault_limit K.calls) D.Store.reads_take_memory K.takes_memory)
@@ -79,19 +102,19 @@ impl<
             StopsOnItsOwn (site (views D.Store.files D.Store.rule D.Store.faults D.Store.fault_limit D.Store.calls K.left K.sending K.faults K.fault_limit K.calls) D.Store.reads_take_memory K.takes_memory)
             job told link.old link.new)) }
     {
-        let mut storage = self.state.depot.store().ok()?;
-        let call = self.state.handoff.next_call();
+        let mut storage = self.depot.store().ok()?;
+        let call = self.handoff.next_call();
         serve_job(
-            &self.rt,
+            rt,
             self.alloc,
-            &self.state.hub,
-            &mut self.desk.pass,
+            &self.hub,
+            pass,
             job,
-            &*self.state.gate,
+            &*self.gate,
             call,
             &mut storage,
             link,
-            &mut self.edge,
+            edge,
         )
         .ok()
     }

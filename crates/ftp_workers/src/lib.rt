@@ -15,6 +15,7 @@ mod handoff;
 mod job;
 mod link_handle;
 mod listening;
+mod own_jobs;
 mod proxied;
 mod proxy_header;
 mod running_job;

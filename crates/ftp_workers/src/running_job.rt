@@ -1,11 +1,14 @@
 //! The jobs that run, as other threads see them.
 
 ghost use Rattle.std.specs.Prelude.{◌≡◌, ◌≢◌, ℕ, Some, None, true, false, not, is_some, nat_eq};
-ghost use Rattle.std.specs.Option.{option_map};
+ghost use Rattle.std.specs.Option.{option_and_then, option_map};
 ghost use Rattle.indexmap.specs.IndexMap.{get};
+ghost use Rattle.ftp_workers.specs.Kept.{kept_in, once_taken};
 
 use crate::link_handle::LinkHandle;
+use ftp_shared::JobShare;
 use indexmap::IndexMap;
+use std::mem;
 
 /// A job of a session, from its start to its end.
 #[derive(Drop)]
@@ -14,6 +17,8 @@ pub(crate) struct RunningJob {
     pub(crate) number: u64,
     /// What its link is shut down by, once a worker has it.
     pub(crate) handle: Option<LinkHandle>,
+    /// The job itself, until the thread of its session takes it.
+    pub(crate) kept: Option<JobShare>,
 }
 
 /// Says whether no job of the session runs.
@@ -34,7 +39,50 @@ pub(crate) fn start_job(
     ensures others { (other : ℕ) → other ≢ session → get nat_eq jobs.new other ≡ get nat_eq jobs.old other }
     ensures unchanged { result ≡ false → (s : ℕ) → get nat_eq jobs.new s ≡ get nat_eq jobs.old s }
 {
-    jobs.insert(session, RunningJob { number, handle }).is_ok()
+    let job = RunningJob {
+        number,
+        handle,
+        kept: None,
+    };
+    jobs.insert(session, job).is_ok()
+}
+
+/// From now on the job on this link runs, and is kept for the thread of its session, which has no other. Says whether there was room.
+pub(crate) fn keep_job(
+    jobs: &mut IndexMap<u64, RunningJob>,
+    session: u64,
+    number: u64,
+    job: JobShare,
+) -> bool
+    ensures started { result ≡ true → option_map (λ job. job.number) (get nat_eq jobs.new session) ≡ Some number }
+    ensures kept { result ≡ true → option_and_then kept_in (get nat_eq jobs.new session) ≡ Some (number, job) }
+    ensures others { (other : ℕ) → other ≢ session → get nat_eq jobs.new other ≡ get nat_eq jobs.old other }
+    ensures unchanged { result ≡ false → (s : ℕ) → get nat_eq jobs.new s ≡ get nat_eq jobs.old s }
+{
+    let job = RunningJob {
+        number,
+        handle: None,
+        kept: Some(job),
+    };
+    jobs.insert(session, job).is_ok()
+}
+
+/// The job that is kept for the thread of the session, and the number of its link. It runs on, and is kept no longer.
+pub(crate) fn take_kept(
+    jobs: &mut IndexMap<u64, RunningJob>,
+    session: u64,
+) -> Option<(u64, JobShare)>
+    ensures taken { result ≡ option_and_then kept_in (get nat_eq jobs.old session) }
+    ensures runs { get nat_eq jobs.new session ≡ option_map once_taken (get nat_eq jobs.old session) }
+    ensures others { (other : ℕ) → other ≢ session → get nat_eq jobs.new other ≡ get nat_eq jobs.old other }
+{
+    match jobs.get_mut(&session) {
+        Some(job) => match mem::replace(&mut job.kept, None) {
+            Some(kept) => Some((job.number, kept)),
+            None => None,
+        },
+        None => None,
+    }
 }
 
 /// The session's job on this link is over, and given back. One on another link runs on.

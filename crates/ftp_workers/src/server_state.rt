@@ -32,6 +32,8 @@ pub struct ServerState<
     pub(crate) limits: SessionLimits,
     pub(crate) counts: Mutex<SessionCounts>,
     pub(crate) gate: Arc<G, Global>,
+    // The threads of sessions run small downloads themselves.
+    pub(crate) runs_small: bool,
     ghost told: { options ≡ H.options },
 }
 
@@ -74,7 +76,14 @@ impl<
             limits,
             counts: Mutex::new(SessionCounts::new(alloc)),
             gate,
+            runs_small: false,
         }
+    }
+
+    /// Has the threads of sessions run small downloads themselves. It is called before any thread serves, and only where the gate lets
+    /// each transfer pass at once: a session does not hear its client meanwhile.
+    pub fn run_small_downloads(&mut self) {
+        self.runs_small = true;
     }
 
     /// Has each entry told to a feed too, once the hub is free. It is called before any thread serves.

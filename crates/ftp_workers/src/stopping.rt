@@ -1,33 +1,53 @@
-//! A control connection that ends with its server.
+//! A control connection that ends with its server, and whose thread runs small downloads.
 
 ghost use Rattle.std.specs.Prelude.{◌≡◌, true, false};
 
-use crate::handoff::Handoff;
-use ftp_base::{Control, Failed, Link, LinkFault, Source};
-use std::sync::Wait;
+use crate::event_sinks::EventSinks;
+use crate::own_jobs::OwnJobs;
+use crate::runtime::WorkerRuntime;
+use ftp_base::{Authenticator, Control, Failed, Gate, Link, LinkFault, Source};
+use ftp_shared::JournalHub;
+use ftp_system::Depot;
 
 /// What a client is told whose session ends with the server (RFC 959, section 4.2).
 pub(crate) const STOPPING: &[u8] = b"421 Server is stopping, closing control connection\r\n";
 
 /// A control connection that comes to its end, for who reads it, once the server is to stop and no job of its session runs
-/// or waits for its data connection.
+/// or waits for its data connection. Who waits for its lines runs the download first that was kept for its thread.
 #[derive(Drop)]
-pub(crate) struct Stoppable<'a, R: Wait + Drop, C: Control + Drop> {
-    rt: R,
-    session: u64,
-    handoff: &'a Handoff,
+pub(crate) struct Stoppable<
+    'a,
+    R: WorkerRuntime,
+    H: JournalHub + Drop,
+    A: Authenticator + Drop,
+    N: EventSinks + Drop,
+    D: Depot + Drop,
+    G: Gate + Drop,
+    C: Control + Drop,
+> {
+    own: OwnJobs<'a, R, H, A, N, D, G>,
     inner: C,
     is_stopped: bool,
 }
 
-impl<'a, R: Wait + Drop, C: Control + Drop> Stoppable<'a, R, C> {
-    pub(crate) fn new(rt: R, session: u64, handoff: &'a Handoff, inner: C) -> Stoppable<'a, R, C>
+impl<
+    'a,
+    R: WorkerRuntime,
+    H: JournalHub + Drop,
+    A: Authenticator + Drop,
+    N: EventSinks + Drop,
+    D: Depot + Drop,
+    G: Gate + Drop,
+    C: Control + Drop,
+> Stoppable<'a, R, H, A, N, D, G, C> {
+    pub(crate) fn new(
+        own: OwnJobs<'a, R, H, A, N, D, G>,
+        inner: C,
+    ) -> Stoppable<'a, R, H, A, N, D, G, C>
         ensures { result.is_stopped ≡ false }
     {
         Stoppable {
-            rt,
-            session,
-            handoff,
+            own,
             inner,
             is_stopped: false,
         }
@@ -47,13 +67,30 @@ impl<'a, R: Wait + Drop, C: Control + Drop> Stoppable<'a, R, C> {
         ensures inner { self.new.inner ≡ self.old.inner }
     {
         if !self.is_stopped {
-            self.is_stopped = self.handoff.is_to_end(&self.rt, self.session);
+            self.is_stopped = self.own.is_to_end();
         }
         self.is_stopped
     }
+
+    /// Its thread runs no job any more.
+    pub(crate) fn end_jobs(&mut self)
+        ensures stopped { self.new.is_stopped ≡ self.old.is_stopped }
+        ensures inner { self.new.inner ≡ self.old.inner }
+    {
+        self.own.leave();
+    }
 }
 
-impl<'a, R: Wait + Drop, C: Control + Drop> Source for Stoppable<'a, R, C> {
+impl<
+    'a,
+    R: WorkerRuntime,
+    H: JournalHub + Drop,
+    A: Authenticator + Drop,
+    N: EventSinks + Drop,
+    D: Depot + Drop,
+    G: Gate + Drop,
+    C: Control + Drop,
+> Source for Stoppable<'a, R, H, A, N, D, G, C> {
     ghost use Rattle.std.specs.Prelude.{true, None};
 
     ghost left = { λ _. None };
@@ -74,7 +111,16 @@ impl<'a, R: Wait + Drop, C: Control + Drop> Source for Stoppable<'a, R, C> {
     }
 }
 
-impl<'a, R: Wait + Drop, C: Control + Drop> Link for Stoppable<'a, R, C> {
+impl<
+    'a,
+    R: WorkerRuntime,
+    H: JournalHub + Drop,
+    A: Authenticator + Drop,
+    N: EventSinks + Drop,
+    D: Depot + Drop,
+    G: Gate + Drop,
+    C: Control + Drop,
+> Link for Stoppable<'a, R, H, A, N, D, G, C> {
     ghost use Rattle.std.specs.Prelude.{refl};
 
     ghost takes_memory = { C.takes_memory };
@@ -98,10 +144,23 @@ impl<'a, R: Wait + Drop, C: Control + Drop> Link for Stoppable<'a, R, C> {
     }
 }
 
-impl<'a, R: Wait + Drop, C: Control + Drop> Control for Stoppable<'a, R, C> {
+impl<
+    'a,
+    R: WorkerRuntime,
+    H: JournalHub + Drop,
+    A: Authenticator + Drop,
+    N: EventSinks + Drop,
+    D: Depot + Drop,
+    G: Gate + Drop,
+    C: Control + Drop,
+> Control for Stoppable<'a, R, H, A, N, D, G, C> {
     fn ready(&mut self, millis: u64) -> Result<bool, Failed> {
         if self.look() {
             return Ok(true);
+        }
+        // What came with the end of the job is said before the next line.
+        if self.own.run_kept() {
+            return Ok(false);
         }
         match self.inner.ready(millis) {
             Ok(is_ready) => Ok(self.look() || is_ready),

@@ -1,0 +1,179 @@
+//! Small downloads, which the thread of their session runs itself.
+
+use crate::carrying::first_link;
+use crate::event_sinks::EventSinks;
+use crate::handoff::PendingConnection;
+use crate::runtime::WorkerRuntime;
+use crate::server_state::ServerState;
+use crate::task::Task;
+use ftp_base::{Authenticator, DataChanCmd, Gate, Storage};
+use ftp_events::{Entry, EventKind};
+use ftp_shared::{JobShare, JournalHub, Submitted};
+use ftp_system::{Ahead, Depot, Gathered, LIMIT, SocketLink, SystemEdge};
+use std::mem;
+use std::sync::Wait;
+
+/// The longest file that the thread of a session sends, in bytes: its socket takes them at once, so the session is soon heard again.
+const SMALL: u64 = 4096;
+
+// Says whether the event asks for a download.
+fn is_download(kind: &EventKind) -> bool {
+    matches!(
+        kind,
+        EventKind::Transfer {
+            command: DataChanCmd::Retr { .. },
+            ..
+        }
+    )
+}
+
+impl<
+    H: JournalHub + Drop,
+    A: Authenticator + Drop,
+    N: EventSinks + Drop,
+    D: Depot + Drop,
+    G: Gate + Drop,
+> ServerState<H, A, N, D, G> {
+    /// Keeps the job of a small download that starts with an entry of its session for the thread of that session, which calls this.
+    /// Any other job is given back.
+    pub(crate) fn keep_small<R: Wait>(
+        &self,
+        rt: &R,
+        entry: &Entry,
+        job: Option<JobShare>,
+    ) -> Option<JobShare> {
+        let job = job?;
+        if !self.runs_small || !is_download(&entry.event.kind) || !self.is_small(&job) {
+            return Some(job);
+        }
+        match first_link(entry.actions.as_slice()) {
+            Some(number) => {
+                self.handoff.keep_job(rt, number, job);
+                None
+            }
+            None => Some(job),
+        }
+    }
+
+    // Says whether the job is about a small file, by a storage of this look.
+    fn is_small(&self, job: &JobShare) -> bool {
+        let (Ok(job), Ok(storage)) = (job.job(self.alloc), self.depot.store()) else {
+            return false;
+        };
+        let mut storage = storage;
+        match storage.metadata(&job.user, &job.path) {
+            Ok(meta) => !meta.is_dir && meta.len <= SMALL,
+            Err(_) => false,
+        }
+    }
+}
+
+/// What the thread of a session runs jobs with that were kept for it.
+#[derive(Drop)]
+pub(crate) struct OwnJobs<
+    'a,
+    R: WorkerRuntime,
+    H: JournalHub + Drop,
+    A: Authenticator + Drop,
+    N: EventSinks + Drop,
+    D: Depot + Drop,
+    G: Gate + Drop,
+> {
+    rt: R,
+    session: u64,
+    state: &'a ServerState<H, A, N, D, G>,
+    edge: SystemEdge<R>,
+    // None before the first job.
+    pass: Option<H::Pass>,
+}
+
+impl<
+    'a,
+    R: WorkerRuntime,
+    H: JournalHub + Drop,
+    A: Authenticator + Drop,
+    N: EventSinks + Drop,
+    D: Depot + Drop,
+    G: Gate + Drop,
+> OwnJobs<'a, R, H, A, N, D, G> {
+    pub(crate) fn new(
+        rt: R,
+        session: u64,
+        state: &'a ServerState<H, A, N, D, G>,
+        edge: SystemEdge<R>,
+    ) -> OwnJobs<'a, R, H, A, N, D, G> {
+        OwnJobs {
+            rt,
+            session,
+            state,
+            edge,
+            pass: None,
+        }
+    }
+
+    /// Says whether the session is to end with the server.
+    pub(crate) fn is_to_end(&self) -> bool {
+        self.state.handoff.is_to_end(&self.rt, self.session)
+    }
+
+    /// Runs the job that was kept, and says whether it did.
+    pub(crate) fn run_kept(&mut self) -> bool {
+        match self.state.handoff.take_kept(&self.rt, self.session) {
+            Some((number, job)) => self.run(number, job),
+            None => false,
+        }
+    }
+
+    // Runs a job on the link of this number, and says whether it did. One that is to stop is a worker's.
+    #[inline(never)]
+    fn run(&mut self, number: u64, job: JobShare) -> bool {
+        if self.pass.is_none() {
+            self.pass = self.state.share(&self.rt);
+        }
+        let pass = match &mut self.pass {
+            Some(pass) if !job.is_marked() => pass,
+            _ => {
+                let _ = self.state.handoff.put(&self.rt, Task::Job(number, job));
+                return false;
+            }
+        };
+        let Some(waiting) = self.state.handoff.take_link(&self.rt, number) else {
+            return false;
+        };
+        let PendingConnection { stream, ahead } = waiting;
+        let alloc = self.state.alloc;
+        let link = SocketLink::new(self.rt, alloc, stream, LIMIT);
+        // Nothing is gathered of one piece.
+        let mut link = Gathered::new(Ahead::new(link, ahead), Vec::new(alloc));
+        let served = self
+            .state
+            .run_on_own_storage(&self.rt, pass, &mut self.edge, job, &mut link);
+        drop(link);
+        // Where its end was not taken the job never ends.
+        if let Some(submitted) = served {
+            self.carry_out(submitted);
+        }
+        self.state.handoff.end_job(&self.rt, self.session, number);
+        true
+    }
+
+    // Does what the end of a job asks for. The loop of this session looks for its replies by itself.
+    fn carry_out(&self, submitted: Submitted) {
+        let others = submitted.others();
+        self.state
+            .handoff
+            .wake_others(&self.rt, others, self.session);
+        let Submitted { receipt, job } = submitted;
+        self.state.carry_out(&self.rt, &receipt.entry, job);
+    }
+
+    /// No job is run any more. One that is still kept is given to a worker.
+    pub(crate) fn leave(&mut self) {
+        if let Some((number, job)) = self.state.handoff.take_kept(&self.rt, self.session) {
+            let _ = self.state.handoff.put(&self.rt, Task::Job(number, job));
+        }
+        if let Some(pass) = mem::replace(&mut self.pass, None) {
+            self.state.take_back(&self.rt, pass);
+        }
+    }
+}
