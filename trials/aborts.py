@@ -9,6 +9,8 @@ from cases import body, holds, same
 # More than fits between a server and a client that does not read.
 LENGTH = 12 * 1024 * 1024
 WITHIN = 1
+# Within what time small things are done on a busy machine, and how long a connection may wait to be taken in, in seconds.
+SOON, TAKEN_IN = 5, 0.1
 # Telnet's commands: interpret as process, data mark (RFC 854).
 IAC, IP, DM = b"\xff", b"\xf4", b"\xf2"
 
@@ -103,9 +105,34 @@ def two_aborts(place, name):
         session.store(f"STOR {name}", b"")
 
 
+# What comes at once behind the line of a small download, and the replies to both behind the 150.
+BEHIND = [("NOOP", [200, 226]), ("ABOR", [226, 426]), ("QUIT", [221])]
+
+
+def small_downloads(place, name):
+    """Another line comes with that of the download: the file comes whole and soon, but where the line stops it."""
+    data = body(4096)
+    place.put(name, data)
+    for line, due in BEHIND:
+        with place.session() as session:
+            stream = session.link()
+            time.sleep(TAKEN_IN)
+            session.send(f"RETR {name}\r\n{line}\r\n".encode())
+            began = time.monotonic()
+            session.expect(150)
+            got = taken(stream)
+            codes = sorted(session.reply()[0] for _ in due)
+            took = time.monotonic() - began
+            holds(took < SOON, f"with {line} it took {took:.1f} seconds")
+            # An ABOR may find that the download has ended.
+            holds(codes in (due, [226, 226] if line == "ABOR" else due), f"with {line} it is answered {codes}")
+            same(got, data[: len(got)] if 426 in codes else data, f"what comes with {line}")
+
+
 def run(tally, mode, place, ways=WAYS):
     for send in ways:
         how = send.__name__.replace("_", " ")
         tally.case(f"{mode} abort of a download {how}", download, place, place.name(), send)
         tally.case(f"{mode} abort of an upload {how}", upload, place, place.name(), send)
     tally.case(f"{mode} two aborts", two_aborts, place, place.name())
+    tally.case(f"{mode} small downloads with another line", small_downloads, place, place.name())

@@ -8,6 +8,7 @@ import subprocess
 import threading
 import time
 
+import sessions
 import starting
 import wire
 from cases import body, holds, same
@@ -17,6 +18,7 @@ from programs import HOST, OPENING
 
 USAGE = 64
 # More than the buffers between a client and a server hold.
+SMALL = body(4096)
 LARGE = body(int(os.environ.get("GATEWAY_MIB", "20")) << 20)
 NO_COMMANDS = ["", "serve", "check", "stop", "reload", "status", "serve x y", "check x y", "start x", "SERVE x", "--help x", "--version --help"]
 WRONG_KEYS = [
@@ -239,6 +241,33 @@ def ends_behind_transfers_that_were_told_so(command, mode):
         same_tree(gateway.home, {"large": LARGE, "new": DATA})
 
 
+def ends_between_small_downloads(command, mode):
+    """A stop comes to sessions that download one small file after another: whoever was told 150 gets it, with its 226, and then 421."""
+    with Gateway(command, mode, keys={"shutdown_grace": 60}) as gateway:
+        (gateway.home / "small").write_bytes(SMALL)
+        opened, counts = [let_in(gateway) for _ in range(8)], [0] * 8
+
+        def fetch(i):
+            session = opened[i]
+            while session.ask("TYPE I")[0] == 200:
+                try:
+                    stream = session.link()
+                except (OSError, wire.Unexpected):
+                    return
+                if session.ask("RETR small")[0] != 150:
+                    return
+                same(wire.drained(stream), SMALL, "what comes")
+                session.expect(226)
+                counts[i] += 1
+
+        asking = threading.Timer(1, gateway.tells, ["stop"])
+        asking.start()
+        sessions.at_once(fetch, len(opened))
+        asking.join()
+        holds(min(counts) > 0, f"the sessions fetched {counts}")
+        holds(gateway.process.wait(5) == 0, f"it ends with {gateway.process.returncode}: {gateway.text()}")
+
+
 def is_greeted(gateway):
     try:
         return greeting(gateway) == 220
@@ -423,6 +452,7 @@ ENDS = [
     ends_at_once_without_work,
     ends_behind_its_transfers,
     ends_behind_transfers_that_were_told_so,
+    ends_between_small_downloads,
     ends_where_a_transfer_does_not,
     hears_others_beside_one_who_says_nothing,
     takes_in_users_anew,

@@ -3,7 +3,7 @@
 ghost use Rattle.std.specs.Prelude.{◌≡◌, ◌≢◌, ℕ, Some, None, true, false, not, is_some, nat_eq};
 ghost use Rattle.std.specs.Option.{option_and_then, option_map};
 ghost use Rattle.indexmap.specs.IndexMap.{get};
-ghost use Rattle.ftp_workers.specs.Kept.{kept_in, once_taken};
+ghost use Rattle.ftp_workers.specs.Kept.{kept_job, once_taken};
 
 use crate::link_handle::LinkHandle;
 use ftp_shared::JobShare;
@@ -55,7 +55,7 @@ pub(crate) fn keep_job(
     job: JobShare,
 ) -> bool
     ensures started { result ≡ true → option_map (λ job. job.number) (get nat_eq jobs.new session) ≡ Some number }
-    ensures kept { result ≡ true → option_and_then kept_in (get nat_eq jobs.new session) ≡ Some (number, job) }
+    ensures kept { result ≡ true → option_and_then kept_job (get nat_eq jobs.new session) ≡ Some (number, job) }
     ensures others { (other : ℕ) → other ≢ session → get nat_eq jobs.new other ≡ get nat_eq jobs.old other }
     ensures unchanged { result ≡ false → (s : ℕ) → get nat_eq jobs.new s ≡ get nat_eq jobs.old s }
 {
@@ -72,7 +72,7 @@ pub(crate) fn take_kept(
     jobs: &mut IndexMap<u64, RunningJob>,
     session: u64,
 ) -> Option<(u64, JobShare)>
-    ensures taken { result ≡ option_and_then kept_in (get nat_eq jobs.old session) }
+    ensures taken { result ≡ option_and_then kept_job (get nat_eq jobs.old session) }
     ensures runs { get nat_eq jobs.new session ≡ option_map once_taken (get nat_eq jobs.old session) }
     ensures others { (other : ℕ) → other ≢ session → get nat_eq jobs.new other ≡ get nat_eq jobs.old other }
 {

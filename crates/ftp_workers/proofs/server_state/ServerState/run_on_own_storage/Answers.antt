@@ -1,7 +1,7 @@
 use Rattle.ftp_shared.specs.declared.receipt.Submitted.{Submitted}
 use Rattle.ftp_shared.specs.Runs.{IsLastOf}
 use Rattle.ftp_workers.proofs.ResultLemmas.{if_ok-some}
-use Rattle.ftp_workers.proofs.job.ServerState.run_on_own_storage.Goals as goal
+use Rattle.ftp_workers.proofs.server_state.ServerState.run_on_own_storage.Goals as goal
 
 -- the last entry is what serving the job says
 pub returns-clause-next : goal.returns-clause-next
