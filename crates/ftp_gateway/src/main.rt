@@ -156,6 +156,7 @@ fn main(rt: HostRuntime) -> ExitCode {
     server.most_sessions(plan.limits.all);
     server.most_sessions_of_one(plan.limits.of_one);
     server.checkpoint_every(CHECKPOINT_EVERY);
+    server.run_small_downloads();
     if !records.is_empty() {
         server.feed_journal(journal);
     }

@@ -21,15 +21,16 @@ pub struct Parts<S: Drop> {
     pub storage: S,
 }
 
-/// What a server's threads share: who may log in, who is told, where the files are, and where the journal's entries go.
+/// What a server's threads share: who may log in, who is told, where the files are, where the journal's entries go, and who runs small
+/// downloads.
 #[derive(Drop)]
 pub(crate) struct ServerParts<A, N, D> {
     pub(crate) authenticator: A,
     pub(crate) sinks: N,
     pub(crate) depot: D,
     pub(crate) feed: Option<Arc<JournalFeed, Global>>,
-    /// No gate holds a transfer back.
-    pub(crate) is_open: bool,
+    /// The threads of sessions run small downloads.
+    pub(crate) runs_small: bool,
 }
 
 /// Anybody whom boxes hold.
@@ -65,12 +66,12 @@ impl<S: Storage + Drop> Parts<S> {
 }
 
 impl<D: Drop> Parts<D> {
-    /// Who asks for a shutdown, and all else, with a feed for the journal's entries where there is one, and whether no gate holds a
-    /// transfer back.
+    /// Who asks for a shutdown, and all else, with a feed for the journal's entries where there is one, and whether the threads of
+    /// sessions run small downloads.
     pub(crate) fn open(
         self,
         feed: Option<Arc<JournalFeed, Global>>,
-        is_open: bool,
+        runs_small: bool,
     ) -> (Box<dyn Indicator + Drop>, Boxed<D>) {
         let Parts {
             authenticator,
@@ -88,7 +89,7 @@ impl<D: Drop> Parts<D> {
             sinks,
             depot: storage,
             feed,
-            is_open,
+            runs_small,
         };
         (indicator, server_parts)
     }

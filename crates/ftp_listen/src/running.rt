@@ -49,7 +49,7 @@ pub(crate) fn new_state<
         sinks,
         depot,
         feed,
-        is_open,
+        runs_small,
     } = server_parts;
     let mut state = ServerState::new(
         alloc,
@@ -65,7 +65,7 @@ pub(crate) fn new_state<
     if let Some(feed) = feed {
         state.feed_to(feed);
     }
-    if is_open {
+    if runs_small {
         state.run_small_downloads();
     }
     match Arc::new(alloc, state) {

@@ -45,6 +45,8 @@ pub struct Server<S: Drop> {
     every: Option<u64>,
     parts: Parts<S>,
     feed: Option<Arc<JournalFeed, Global>>,
+    // The threads of sessions run small downloads.
+    runs_small: bool,
     ghost some: { every ≢ Some 0 },
 }
 
@@ -69,6 +71,7 @@ impl<S: Storage + Send + Drop + 'static> Server<S> {
             every: None,
             parts,
             feed: None,
+            runs_small: false,
         }
     }
 
@@ -83,6 +86,7 @@ impl<S: Storage + Send + Drop + 'static> Server<S> {
             every: None,
             parts,
             feed: None,
+            runs_small: false,
         }
     }
 
@@ -160,6 +164,7 @@ impl<S: Storage + Send + Drop + 'static> Server<S> {
             every,
             parts,
             feed,
+            runs_small: _,
         } = server;
         let (own, server_parts) = parts.open(feed, false);
         drop(own);
@@ -194,8 +199,9 @@ impl<S: Storage + Send + Drop + 'static> Server<S> {
             every,
             parts,
             feed,
+            runs_small,
         } = server;
-        let (own, server_parts) = parts.open(feed, true);
+        let (own, server_parts) = parts.open(feed, runs_small);
         drop(own);
         serve_one(rt, alloc, options, limits, every, server_parts, stream)
     }
@@ -213,6 +219,7 @@ impl<S: Storage + Send + Drop + 'static> Server<S> {
             every,
             parts,
             feed,
+            runs_small,
         } = self;
         let parts = parts.shared(rt, alloc)?;
         Ok(Server {
@@ -222,6 +229,7 @@ impl<S: Storage + Send + Drop + 'static> Server<S> {
             every,
             parts,
             feed,
+            runs_small,
         })
     }
 }
@@ -270,6 +278,16 @@ impl<S: Drop> Server<S> {
     {
         self.feed = Some(feed);
     }
+
+    /// Has the thread of each session run its small downloads itself, in place of another thread. `listen_with` does not, as the
+    /// caller's gate may hold a download back, and its session would not hear an ABOR meanwhile.
+    pub fn run_small_downloads(&mut self)
+        ensures limits { self.new.limits ≡ self.old.limits }
+        ensures every { self.new.every ≡ self.old.every }
+        ensures options { self.new.options ≡ self.old.options }
+    {
+        self.runs_small = true;
+    }
 }
 
 impl<D: Depot + Send + Sync + Drop + 'static> Server<D>
@@ -289,6 +307,7 @@ where
             every: None,
             parts,
             feed: None,
+            runs_small: false,
         }
     }
 
@@ -320,8 +339,9 @@ where
             every,
             parts,
             feed,
+            runs_small,
         } = self;
-        let (indicator, server_parts) = parts.open(feed, true);
+        let (indicator, server_parts) = parts.open(feed, runs_small);
         let mut indicator = indicator;
         let Ok(gate) = Arc::new(alloc, OpenGate) else {
             return Err(ServerError::OutOfMemory);

@@ -83,6 +83,7 @@ pub fn serve<R: ServerRuntime>(
     if let Some(feed) = feed {
         server.feed_journal(feed);
     }
+    server.run_small_downloads();
     server.listen(rt, address.as_bytes())
 }
 
