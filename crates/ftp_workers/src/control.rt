@@ -4,7 +4,6 @@ ghost use Rattle.std.specs.Prelude.{◌≡◌, ◌≤◌, ◌/◌, true};
 ghost use Rattle.ftp_talk.specs.Control.{is_opening};
 
 use crate::event_sinks::EventSinks;
-use crate::own_jobs::OwnJobs;
 use crate::runtime::WorkerRuntime;
 use crate::session_edge::SessionEdge;
 use crate::stopping::{STOPPING, Stoppable};
@@ -109,9 +108,7 @@ impl<
         requires opening { is_opening opening.kind ≡ true }
     {
         let mut words = words;
-        let clock = SystemEdge::new(self.rt, self.alloc, at, LIMIT);
-        let own = OwnJobs::new(self.rt, session, &*self.state, clock);
-        let mut control = Stoppable::new(own, control);
+        let mut control = Stoppable::new(self.rt, session, &*self.state, control);
         // A connection may last, and moves no files.
         self.buffer = Vec::new(self.alloc);
         let system = SystemEdge::new(self.rt, self.alloc, at, LIMIT);

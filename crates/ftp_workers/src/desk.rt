@@ -217,8 +217,7 @@ impl<
         if let Some(session) = entry.event.kind.named_session() {
             self.state.handoff.open_port(&self.rt, session, &entry);
         }
-        let job = self.state.keep_small(&self.rt, &entry, job);
-        self.state.carry_out(&self.rt, &entry, job);
+        self.state.carry_out_here(&self.rt, &entry, job);
         Ok(Told { earlier, entry })
     }
 

@@ -1,5 +1,8 @@
 //! Small downloads, which the thread of their session runs itself.
 
+ghost use Rattle.std.specs.Prelude.{◌≡◌, Some, IfSome, false};
+ghost use Rattle.ftp_workers.specs.Kept.{is_download};
+
 use crate::carrying::first_link;
 use crate::event_sinks::EventSinks;
 use crate::handoff::PendingConnection;
@@ -11,13 +14,16 @@ use ftp_events::{Entry, EventKind};
 use ftp_shared::{JobShare, JournalHub, Submitted};
 use ftp_system::{Ahead, Depot, Gathered, LIMIT, SocketLink, SystemEdge};
 use std::mem;
+use std::net::{IpAddr, Ipv4Addr};
 use std::sync::Wait;
 
 /// The longest file that the thread of a session sends, in bytes: its socket takes them at once, so the session is soon heard again.
 const SMALL: u64 = 4096;
 
 // Says whether the event asks for a download.
-fn is_download(kind: &EventKind) -> bool {
+fn is_download(kind: &EventKind) -> bool
+    ensures { result ≡ is_download kind.now }
+{
     matches!(
         kind,
         EventKind::Transfer {
@@ -34,15 +40,22 @@ impl<
     D: Depot + Drop,
     G: Gate + Drop,
 > ServerState<H, A, N, D, G> {
-    /// Keeps the job of a small download that starts with an entry of its session for the thread of that session, which calls this.
-    /// Any other job is given back.
-    pub(crate) fn keep_small<R: Wait>(
-        &self,
-        rt: &R,
-        entry: &Entry,
-        job: Option<JobShare>,
-    ) -> Option<JobShare> {
-        let job = job?;
+    /// Does what an entry asks for that the thread of its session submitted, which runs a small download itself that starts with it.
+    #[inline(never)]
+    pub(crate) fn carry_out_here<R: Wait>(&self, rt: &R, entry: &Entry, job: Option<JobShare>) {
+        let job = match job {
+            Some(job) => self.keep_small(rt, entry, job),
+            None => None,
+        };
+        self.carry_out(rt, entry, job);
+    }
+
+    // Keeps the job that starts with an entry where it is a small download. Any other is given back.
+    fn keep_small<R: Wait>(&self, rt: &R, entry: &Entry, job: JobShare) -> Option<JobShare>
+        ensures same { IfSome result (λ given. given ≡ job) }
+        ensures others { is_download entry.now.event.kind ≡ false → result ≡ Some job }
+        ensures off { self.now.runs_small ≡ false → result ≡ Some job }
+    {
         if !self.runs_small || !is_download(&entry.event.kind) || !self.is_small(&job) {
             return Some(job);
         }
@@ -82,7 +95,6 @@ pub(crate) struct OwnJobs<
     rt: R,
     session: u64,
     state: &'a ServerState<H, A, N, D, G>,
-    edge: SystemEdge<R>,
     // None before the first job.
     pass: Option<H::Pass>,
 }
@@ -100,13 +112,11 @@ impl<
         rt: R,
         session: u64,
         state: &'a ServerState<H, A, N, D, G>,
-        edge: SystemEdge<R>,
     ) -> OwnJobs<'a, R, H, A, N, D, G> {
         OwnJobs {
             rt,
             session,
             state,
-            edge,
             pass: None,
         }
     }
@@ -117,6 +127,7 @@ impl<
     }
 
     /// Runs the job that was kept, and says whether it did.
+    #[inline(never)]
     pub(crate) fn run_kept(&mut self) -> bool {
         match self.state.handoff.take_kept(&self.rt, self.session) {
             Some((number, job)) => self.run(number, job),
@@ -145,9 +156,11 @@ impl<
         let link = SocketLink::new(self.rt, alloc, stream, LIMIT);
         // Nothing is gathered of one piece.
         let mut link = Gathered::new(Ahead::new(link, ahead), Vec::new(alloc));
+        // It tells the time alone.
+        let mut edge = SystemEdge::new(self.rt, alloc, IpAddr::V4(Ipv4Addr::from_bits(0)), LIMIT);
         let served = self
             .state
-            .run_on_own_storage(&self.rt, pass, &mut self.edge, job, &mut link);
+            .run_on_own_storage(&self.rt, pass, &mut edge, job, &mut link);
         drop(link);
         // Where its end was not taken the job never ends.
         if let Some(submitted) = served {
@@ -168,6 +181,7 @@ impl<
     }
 
     /// No job is run any more. One that is still kept is given to a worker.
+    #[inline(never)]
     pub(crate) fn leave(&mut self) {
         if let Some((number, job)) = self.state.handoff.take_kept(&self.rt, self.session) {
             let _ = self.state.handoff.put(&self.rt, Task::Job(number, job));

@@ -5,6 +5,7 @@ ghost use Rattle.std.specs.Prelude.{◌≡◌, true, false};
 use crate::event_sinks::EventSinks;
 use crate::own_jobs::OwnJobs;
 use crate::runtime::WorkerRuntime;
+use crate::server_state::ServerState;
 use ftp_base::{Authenticator, Control, Failed, Gate, Link, LinkFault, Source};
 use ftp_shared::JournalHub;
 use ftp_system::Depot;
@@ -41,13 +42,15 @@ impl<
     C: Control + Drop,
 > Stoppable<'a, R, H, A, N, D, G, C> {
     pub(crate) fn new(
-        own: OwnJobs<'a, R, H, A, N, D, G>,
+        rt: R,
+        session: u64,
+        state: &'a ServerState<H, A, N, D, G>,
         inner: C,
     ) -> Stoppable<'a, R, H, A, N, D, G, C>
         ensures { result.is_stopped ≡ false }
     {
         Stoppable {
-            own,
+            own: OwnJobs::new(rt, session, state),
             inner,
             is_stopped: false,
         }
