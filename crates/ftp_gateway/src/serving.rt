@@ -232,7 +232,7 @@ struct Counting<R: Wait + Copy + Drop> {
     waiting: Waiting,
 }
 
-fn counting<R: GatewayRuntime>(
+fn make_counting<R: GatewayRuntime>(
     rt: &R,
     config: &GatewayConfig,
     users: CurrentUsers<R>,
@@ -269,7 +269,7 @@ pub fn prepare<R: GatewayRuntime>(rt: &R, path: &str) -> Result<Gateway<R>, Refu
         transfers,
         logins,
         waiting,
-    } = counting(rt, &config, users, Arc::try_clone(&records)?)?;
+    } = make_counting(rt, &config, users, Arc::try_clone(&records)?)?;
     Ok(Gateway {
         plan: make_plan(alloc, &config, options)?,
         check,
