@@ -2,10 +2,11 @@
 use Rattle.std.proofs.Common.{◌≡◌, ℕ, suc, Bool, true, false, cond, not, ◌∷◌, ◌+◌, ◌-◌, ◌<◌, ◌≤◌, List, [], ◌++◌, length, take, drop, refl, sym, ap, subst, ◌∙◌, arith, inl, inr}
 use Rattle.std.specs.List.{position_or_len}
 use Rattle.std.proofs.lemmas.Bool.{cases_lt}
-use Rattle.std.proofs.lemmas.List.{take-append-drop, drop-take, length-take, length-append, length-take-le, take-take, drop-drop}
+use Rattle.std.proofs.lemmas.List.{take-append-drop, drop-take, length-take, length-drop, length-append, length-take-le, drop-append-le, take-append-le, take_all, take-take, drop-drop}
 use Rattle.ftp_control.specs.Lines.{is_line_feed}
 use Rattle.ftp_control.proofs.LineLemmas.{length-bytes_in, pos_found, pos_none}
-use Rattle.ftp_control.specs.ControlLine.{IsLine, IsLong}
+use Rattle.ftp_control.specs.declared.control_line.Held.{Held}
+use Rattle.ftp_control.specs.ControlLine.{IsLine, IsLong, IsHeld, held_in}
 
 -- a place is within the text, or at its end
 pub position_or_len-le : (xs : List ℕ) → position_or_len is_line_feed xs ≤ length xs
@@ -84,3 +85,24 @@ long-append held more long =
             length-append held more,
           )
     ]
+
+-- a part of a buffer stays where the buffer becomes longer
+kept_longer : (xs ys : List ℕ) (start end : ℕ) → start ≤ end → end ≤ length xs → take (end - start) (drop start (xs ++ ys)) ≡ take (end - start) (drop start xs)
+kept_longer xs ys start end le within =
+    ap (take (end - start)) (drop-append-le start xs ys (omega arith))
+    ∙ take-append-le (end - start) (drop start xs) ys (omega (arith, length-drop start xs))
+
+-- what is held stays where the buffer is widened
+pub widened : (old new more : List ℕ) (n : ℕ) (held : Held) → IsHeld old held → length old ≤ n → new ≡ take n old ++ more →
+    IsHeld new held × (held_in new held ≡ held_in old held)
+widened old new more n held h fits is =
+    let longer : new ≡ old ++ more = is ∙ ap (λ (x : List ℕ). x ++ more) (take_all n old fits) in
+    let same : held_in new held ≡ held_in old held =
+    ap (λ (x : List ℕ). held_in x held) longer ∙ kept_longer old more held.span.start held.span.end h.0.0 h.0.1 in (
+      (
+        (h.0.0, omega (arith, h.0.1, ap length longer, length-append old more)),
+        h.1,
+        omega (arith, h.2, ap (position_or_len is_line_feed) same),
+      ),
+      same,
+    )

@@ -1,7 +1,7 @@
 -- Lines of a control connection: each ends at its first line feed, and has at most 8,192 bytes with it.
 use Rattle.std.specs.Prelude.{◌≡◌, ℕ, ◌+◌, ◌-◌, ◌<◌, ◌≤◌, ⊤, List, [], length, take}
 use Rattle.std.specs.List.{position_or_len}
-use Rattle.ftp_control.specs.Lines.{is_line_feed, bytes_in, IsWithin}
+use Rattle.ftp_control.specs.Lines.{is_line_feed, bytes_in, HasNoFeed, IsWithin}
 use Rattle.ftp_control.specs.declared.control_line.Held.{Held}
 use Rattle.ftp_control.specs.declared.control_line.Got.{Got}
 use Rattle.ftp_control.specs.declared.control_line.Got.TheVariants as got
@@ -34,9 +34,10 @@ abbrev pub line_in : List ℕ → Got → List ℕ
 line_in buffer (got.Line span) = bytes_in buffer span
 line_in buffer _ = []
 
--- a line that was found stands in the buffer; at the end, or before a line that is too long, what is held shows it
+-- a line that was found stands in the buffer; at the end, before a line that is too long, or in a full buffer, what is held shows it
 abbrev pub IsFound : List ℕ → Got → List ℕ → Type 0
 IsFound buffer (got.Line span) held = IsWithin buffer span × IsLine (bytes_in buffer span)
 IsFound buffer got.End held = RanOut held
 IsFound buffer got.Long held = IsLong held
+IsFound buffer got.Full held = HasNoFeed held × (length held ≡ length buffer)
 IsFound buffer got.Wait held = ⊤

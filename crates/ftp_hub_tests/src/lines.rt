@@ -126,6 +126,25 @@ fn long_word(alloc: Global, letters: usize) -> Result<Vec<u8>, AllocError> {
 }
 
 #[test]
+fn a_long_line_is_served_behind_a_short_one(rt: HostRuntime) -> Result<(), Fail> {
+    let done = b"200 Successfully did nothing\r\n";
+    let mut replies = Vec::from_slice(rt.alloc(), done)?;
+    replies.extend_from_slice(b"500 Command not implemented\r\n")?;
+    replies.extend_from_slice(done)?;
+    // A buffer has room for 512 bytes at first. The short line has six bytes, and the line end has two.
+    for letters in [503, 504, 505, 509, 510, 511, 8190] {
+        let mut lines = Vec::from_slice(rt.alloc(), b"NOOP\r\n")?;
+        lines.extend_from_slice(long_word(rt.alloc(), letters)?.as_slice())?;
+        compare(
+            &rt,
+            rt.alloc(),
+            (lines.as_slice(), replies.as_slice(), None),
+        )?;
+    }
+    Ok(())
+}
+
+#[test]
 fn the_longest_line_has_8192_bytes(rt: HostRuntime) -> Result<(), Fail> {
     // The line end has two of them.
     let longest = long_word(rt.alloc(), 8190)?;

@@ -23,8 +23,8 @@ use ftp_extras::{Extras, NoExtras};
 use ftp_shared::{AppendError, Desk};
 use std::alloc::Global;
 
-// A buffer in which any line fits, and one byte more.
-const BUFFER_SIZE: usize = 8193;
+// How many bytes the buffer has until a line is longer.
+const FIRST_SIZE: usize = 512;
 
 // The client: behind a proxy the one that the header names.
 fn client_of(raw: IpAddr, answer: &Answer) -> IpAddr
@@ -83,8 +83,8 @@ impl ControlSession {
 
 /// Serves a control connection: submits the opening, greets the client, and serves its lines to their end.
 ///
-/// A line has at most 8,192 bytes with its line feed. It reads into one buffer of 8,193 bytes, and waits for a second at
-/// most before it looks at the times of the session.
+/// A line has at most 8,192 bytes with its line feed. It reads into one buffer, of 512 bytes until a line is longer and of 8,193
+/// from then on, and waits for a second at most before it looks at the times of the session.
 ///
 /// # Proved
 ///
@@ -213,7 +213,11 @@ pub fn serve_control_with<D: Desk, C: Control, E: Edge, A: Authenticator, X: Ext
     let Ok(state) = ControlSession::open(alloc, desk.options(), peer) else {
         return ServeEnd::OutOfMemory;
     };
+    let Ok(buffer) = Vec::from_elem(alloc, 0u8, FIRST_SIZE) else {
+        return ServeEnd::OutOfMemory;
+    };
     let mut state = state;
+    let mut buffer = buffer;
     let told = match desk.submit(opening, answer) {
         Ok(told) => told,
         Err(AppendError::OutOfMemory) => return ServeEnd::OutOfMemory,
@@ -226,6 +230,5 @@ pub fn serve_control_with<D: Desk, C: Control, E: Edge, A: Authenticator, X: Ext
         state.leave(desk, edge);
         return end_by(Halt::from(failed));
     }
-    let mut buffer = [0u8; BUFFER_SIZE];
     serve_lines(&mut state, desk, control, edge, auth, extras, &mut buffer)
 }

@@ -11,7 +11,7 @@ ghost use Rattle.ftp_talk.specs.Speaking.{Talking, HearsLines, IsOf};
 use crate::control_session::ControlSession;
 use crate::serving::ServeEnd;
 use ftp_base::{Authenticator, Control, Edge};
-use ftp_control::{Got, Held, Span, next_control_line};
+use ftp_control::{Got, Held, Span, next_control_line, widen};
 use ftp_extras::Extras;
 use ftp_shared::Desk;
 
@@ -28,7 +28,7 @@ impl ControlSession {
         held: &mut Held,
     ) -> Option<ServeEnd>
         requires held { IsHeld buffer.old held.old }
-        requires room { length buffer.old ≡ 8193 }
+        requires room { length buffer.old ≤ 8193 }
         ensures goes_on { IfNone result ((g : Ground) (x0 : X) (hs : List HeardLine) → IsOf g D.vouches D.draws_next C.is_always_ready (A.may_answer auth.now) →
             HearsLines (X.may x0) (X.pending x0) (X.may extras.old) (X.pending extras.old) hs →
             Talking g self.old (E.view edge.old) (D.view desk.old) (C.sending control.old).sent hs (held_in buffer.old held.old) (C.left control.old) →
@@ -60,6 +60,7 @@ impl ControlSession {
                 let next = self.serve_long(desk, control, edge);
                 self.proceed(desk, control, edge, next)
             }
+            Ok(Got::Full) => None,
             Ok(Got::End) => Some(self.close(desk, control, edge)),
             Err(_) => {
                 self.leave(desk, edge);
@@ -69,7 +70,7 @@ impl ControlSession {
     }
 }
 
-// Serves the lines to their end, by way of a buffer in which any line fits.
+// Serves the lines to their end, by way of a buffer that becomes one into which any line fits once a line is longer.
 pub(crate) fn serve_lines<D: Desk, C: Control, E: Edge, A: Authenticator, X: Extras>(
     state: &mut ControlSession,
     desk: &mut D,
@@ -77,9 +78,9 @@ pub(crate) fn serve_lines<D: Desk, C: Control, E: Edge, A: Authenticator, X: Ext
     edge: &mut E,
     auth: &A,
     extras: &mut X,
-    buffer: &mut [u8],
+    buffer: &mut Vec<u8>,
 ) -> ServeEnd
-    requires room { length buffer.old ≡ 8193 }
+    requires room { length buffer.old.items ≤ 8193 }
     ensures ended { (g : Ground) → IsOf g D.vouches D.draws_next C.is_always_ready (A.may_answer auth.now) →
         Talking g state.old (E.view edge.old) (D.view desk.old) (C.sending control.old).sent [] [] (C.left control.old) →
         OutcomeWith (X.may extras.old) (X.pending extras.old) result g (E.view edge.new) (D.view desk.new) (C.sending control.new).sent }
@@ -94,7 +95,12 @@ pub(crate) fn serve_lines<D: Desk, C: Control, E: Edge, A: Authenticator, X: Ext
         scanned: 0,
     };
     for _ in 0..u64::MAX {
-        if let Some(end) = state.serve_next(desk, control, edge, auth, extras, buffer, &mut held) {
+        if widen(buffer, held).is_err() {
+            state.leave(desk, edge);
+            return ServeEnd::OutOfMemory;
+        }
+        let bytes = buffer.as_mut_slice();
+        if let Some(end) = state.serve_next(desk, control, edge, auth, extras, bytes, &mut held) {
             return end;
         }
     }

@@ -1,9 +1,16 @@
-use Rattle.std.proofs.Common.{◌∙◌, arith}
+use Rattle.std.proofs.Common.{◌≡◌, ◌∙◌, ℕ, List, ◌++◌, length, take, drop, ap, sym, subst, arith}
+use Rattle.std.proofs.lemmas.List.{take-append-le, take_all}
+use Rattle.ftp_control.specs.ControlLine.{IsHeld, held_in}
+use Rattle.ftp_talk.specs.Speaking.{Talking}
 use Rattle.ftp_talk.proofs.ServeLemmas.{cut-standing, same_edge, same_desk}
 use Rattle.ftp_talk.proofs.serve.serve_lines.Goals as goal
 
-pub returns-clause-ended : goal.returns-clause-ended
-returns-clause-ended g c = λ q is first.
+-- what was written to all of a buffer is the buffer afterwards
+written_back : (n : ℕ) (xs ys : List ℕ) → length xs ≡ n → take n (xs ++ ys) ≡ xs
+written_back n xs ys len = take-append-le n xs ys (omega (arith, len)) ∙ take_all n xs (omega (arith, len))
+
+pub returns-then-is_err-clause-ended : goal.returns-then-is_err-clause-ended
+returns-then-is_err-clause-ended g c = λ q is first.
     let t = c.loop.invariant.talking q is first in (
       t.0,
       t.1.allowed,
@@ -11,18 +18,42 @@ returns-clause-ended g c = λ q is first.
           (cut-standing q c.loop.state _ _ _ _ _ _ t.0 _ t.2.standing (same_edge (g.E.Edge.view c.loop.edge)) (same_desk (g.D.Desk.view c.loop.desk))),
     )
 
+pub returns-clause-ended : goal.returns-clause-ended
+returns-clause-ended g c = λ q is first.
+    let t = c.loop.invariant.talking q is first in (
+      t.0,
+      t.1.allowed,
+      c.leave-2.ensures q t.0 (g.C.Source.sending c.loop.control).sent is.about
+          (cut-standing q c.loop.state _ _ _ _ _ _ t.0 _ t.2.standing (same_edge (g.E.Edge.view c.loop.edge)) (same_desk (g.D.Desk.view c.loop.desk))),
+    )
+
 pub returns-in-Some-clause-ended : goal.returns-in-Some-clause-ended
 returns-in-Some-clause-ended g c = λ q is first.
     let t = c.loop.invariant.talking q is first in
-    c.in-Some.ensures.ended q c.args.extras.now t.0 is t.1 t.2
+    let before : held_in c.as_mut_slice-bytes.result.now c.loop.held ≡ held_in c.loop.buffer.items c.loop.held =
+    ap (λ (x : List ℕ). held_in x c.loop.held) c.as_mut_slice-bytes.ensures.value ∙ c.widen.ensures.same in
+    c.in-Some.ensures.ended q c.args.extras.now t.0 is t.1
+    (subst (λ (x : List ℕ). Talking q c.loop.state (g.E.Edge.view c.loop.edge) (g.D.Desk.view c.loop.desk) (g.C.Source.sending c.loop.control).sent t.0 x (g.C.Source.left c.loop.control)) (sym before) t.2)
 
 pub loop-preserved : goal.loop-preserved
-loop-preserved g c = record {
-  held = c.serve_next.ensures.held;
-  len = c.serve_next.ensures.len ∙ c.loop.invariant.len;
-  talking = λ q is first.
-      let t = c.loop.invariant.talking q is first in
-      c.in_default.ensures.goes_on q c.args.extras.now t.0 is t.1 t.2;
-  count = omega arith;
-  extras_count = omega arith;
-}
+loop-preserved g c =
+    let back =
+    written_back c.widen.new.buffer.len c.serve_next.new.buffer (drop (length c.serve_next.new.buffer) c.widen.new.buffer.items)
+    (c.serve_next.ensures.len ∙ c.as_mut_slice-bytes.ensures.len) in
+    let before : held_in c.as_mut_slice-bytes.result.now c.loop.held ≡ held_in c.loop.buffer.items c.loop.held =
+    ap (λ (x : List ℕ). held_in x c.loop.held) c.as_mut_slice-bytes.ensures.value ∙ c.widen.ensures.same in
+    record {
+      held = subst (λ (x : List ℕ). IsHeld x c.serve_next.new.held) (sym back) c.serve_next.ensures.held;
+      room = omega (arith, ap length back, c.serve_next.ensures.len, ap length c.as_mut_slice-bytes.ensures.value, c.widen.ensures.room);
+      talking = λ q is first.
+          let t = c.loop.invariant.talking q is first in
+          let next =
+          c.in_default.ensures.goes_on q c.args.extras.now t.0 is t.1
+          (subst (λ (x : List ℕ). Talking q c.loop.state (g.E.Edge.view c.loop.edge) (g.D.Desk.view c.loop.desk) (g.C.Source.sending c.loop.control).sent t.0 x (g.C.Source.left c.loop.control)) (sym before) t.2) in (
+            next.0,
+            next.1,
+            subst (λ (x : List ℕ). Talking q c.serve_next.new.self (g.E.Edge.view c.serve_next.new.edge) (g.D.Desk.view c.serve_next.new.desk) (g.C.Source.sending c.serve_next.new.control).sent next.0 (held_in x c.serve_next.new.held) (g.C.Source.left c.serve_next.new.control)) (sym back) next.2,
+          );
+      count = omega arith;
+      extras_count = omega arith;
+    }

@@ -1,4 +1,4 @@
-use Rattle.std.proofs.Common.{[], ap, ◌∙◌}
+use Rattle.std.proofs.Common.{[], ap, ◌∙◌, refl}
 use Rattle.std.specs.Prelude.{Ok}
 use Rattle.ftp_control.specs.Lines.{bytes_in}
 use Rattle.ftp_control.specs.ControlLine.{held_in}
@@ -117,6 +117,15 @@ returns-in-Ok-Long-clause-write_fault g c = λ e.
 
 pub returns-in-Ok-Long-clause-exhausted : goal.returns-in-Ok-Long-clause-exhausted
 returns-in-Ok-Long-clause-exhausted g c = λ e. said-either c.serve_long-next.ensures.exhausted (c.proceed-in-Ok-Long.ensures.exhausted e)
+
+pub returns-in-Ok-Full-clause-goes_on : goal.returns-in-Ok-Full-clause-goes_on
+returns-in-Ok-Full-clause-goes_on g c = λ q x0 hs is hears t0.
+    let held = held_in c.args.buffer.now c.args.held.now in
+    let held1 = held_in c.next_control_line.new.buffer c.next_control_line.new.held in
+    let told = rw c.in-Ok-Full.field-0-is at c.in-Ok-Full.ensures.told in
+    let t = talking-sent q c.args.self.now (g.E.Edge.view c.args.edge.now) (g.D.Desk.view c.args.desk.now) (g.C.Source.sending c.args.control.now).sent (g.C.Source.sending c.next_control_line.new.control).sent hs held (g.C.Source.left c.args.control.now) c.next_control_line.ensures.sent t0 in
+    let st = standing-line q c.args.self.now _ _ _ hs [] held held1 (g.C.Source.left c.args.control.now) (g.C.Source.left c.next_control_line.new.control) t told in
+    (hs, hears, talking-on q _ _ _ _ hs held1 st.0 (g.C.Source.left c.next_control_line.new.control) _ st.1 st.2 refl)
 
 pub returns-in-Ok-End-clause-ended : goal.returns-in-Ok-End-clause-ended
 returns-in-Ok-End-clause-ended g c = λ q x0 hs is hears t0.
