@@ -214,6 +214,21 @@ def plain_largest(place, name):
         session.store(f"STOR {name}", b"")
 
 
+def plain_replaced_download(place, name):
+    """A download sends the file as it was when it began, also if another takes its place meanwhile."""
+    data = body(LARGEST)
+    with place.session() as session, place.session() as other:
+        session.store(f"STOR {name}", data)
+        stream = session.link()
+        session.tell(f"RETR {name}", 150)
+        got = stream.recv(1)
+        other.store(f"STOR {name}", place.bytes)
+        got += wire.drained(stream)
+        session.expect(226)
+        same(got, data, "those of the file that was replaced")
+        same(session.fetch(f"RETR {name}"), place.bytes, "those of the file in its place")
+
+
 def plain_two_transfers(place, name):
     """While a transfer runs lines are answered, a second one waits for the end of the first, and a third is refused."""
     place.put(name, place.bytes)
@@ -256,7 +271,7 @@ PLAIN = [
     plain_two_transfers,
 ]
 # Those of a storage in memory.
-IN_MEMORY = [plain_largest]
+IN_MEMORY = [plain_largest, plain_replaced_download]
 
 
 def run(tally, mode, place, more=IN_MEMORY):

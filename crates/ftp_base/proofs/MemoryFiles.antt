@@ -131,7 +131,7 @@ pub item_of-directory : (node : Node) → node.is_dir ≡ true → item_of node 
 item_of-directory node e = rw e refl
 
 -- a file's node
-pub item_of-file : (node : Node) → node.is_dir ≡ false → item_of node ≡ File node.bytes.items
+pub item_of-file : (node : Node) → node.is_dir ≡ false → item_of node ≡ File node.bytes
 item_of-file node e = rw e refl
 
 -- a state of a storage in memory
@@ -150,7 +150,7 @@ insert_again files path i there =
 
 -- a node that is written with what it was changes nothing
 pub files_of-same : (nodes : Nodes) (path : List ℕ) (node w : Node) → lookup (at_path path) nodes ≡ Some node →
-    w.is_dir ≡ node.is_dir → w.bytes.items ≡ node.bytes.items → files_of (set_value (at_path path) nodes w) ≡ files_of nodes
+    w.is_dir ≡ node.is_dir → w.bytes ≡ node.bytes → files_of (set_value (at_path path) nodes w) ≡ files_of nodes
 files_of-same nodes path node w found kind bytes =
     let same : item_of w ≡ item_of node = rw (kind, bytes) refl in
     let some : IsSome (lookup (at_path path) nodes) = rw found refl in
@@ -173,17 +173,17 @@ contents_apart files path there =
 
 -- the node of a path that is no directory is a file's
 pub file_there : (nodes : Nodes) (path : List ℕ) (node : Node) → bytes_eq path root ≡ false → item (files_of nodes) path ≢ Some Directory →
-    lookup (at_path path) nodes ≡ Some node → (node.is_dir ≡ false) × (old_bytes (files_of nodes) path ≡ node.bytes.items)
+    lookup (at_path path) nodes ≡ Some node → (node.is_dir ≡ false) × (old_bytes (files_of nodes) path ≡ node.bytes)
 file_there nodes path node other file found =
     let stands = item-found nodes path (Some node) other found in
-    elim node.is_dir as (λ b. node.is_dir ≡ b → (b ≡ false) × (old_bytes (files_of nodes) path ≡ node.bytes.items)) [
+    elim node.is_dir as (λ b. node.is_dir ≡ b → (b ≡ false) × (old_bytes (files_of nodes) path ≡ node.bytes)) [
       | true ↦ λ e. absurd (file (stands ∙ ap Some (item_of-directory node e)))
       | false ↦ λ e. (refl, rw (stands, item_of-file node e) refl)
     ] refl
 
 -- a file's node that is written is a file that is put
 pub files_of-file : (nodes : Nodes) (path bytes : List ℕ) (node w : Node) → lookup (at_path path) nodes ≡ Some node → node.is_dir ≡ false →
-    w.is_dir ≡ node.is_dir → w.bytes.items ≡ bytes → files_of (set_value (at_path path) nodes w) ≡ with_file (files_of nodes) path bytes
+    w.is_dir ≡ node.is_dir → w.bytes ≡ bytes → files_of (set_value (at_path path) nodes w) ≡ with_file (files_of nodes) path bytes
 files_of-file nodes path bytes node w found file kind e =
     let some : IsSome (lookup (at_path path) nodes) = rw found refl in
     files_of-set_value nodes path w some ∙ ap (map.insert (files_of nodes) path) (item_of-file w (kind ∙ file) ∙ ap File e)

@@ -46,7 +46,7 @@ state_code =
 
 -- what a node is
 abbrev pub item_of : Node → Item
-item_of node = if node.is_dir then Directory else File node.bytes.items
+item_of node = if node.is_dir then Directory else File node.bytes
 
 -- the items of nodes under their paths
 abbrev pub items : List (Vec ℕ Global × Node) → List (List ℕ × Item)

@@ -1,6 +1,6 @@
 //! The calls of an object in memory, and which of them fail.
 
-ghost use Rattle.std.specs.Prelude.{◌≡◌, ◌==◌, ◌≤◌, ℕ, true, false, length, is_some, IfSome, IsTrue, Contains, IsPermutation};
+ghost use Rattle.std.specs.Prelude.{◌≡◌, ◌==◌, ◌≤◌, ◌↔◌, ℕ, true, false, [], length, is_some, IfSome, IsTrue, Contains, IsPermutation};
 ghost use Rattle.std.specs.List.{list_any};
 ghost use Rattle.std.specs.List.Sorted.{IsSortedByKey};
 ghost use Rattle.std.specs.Ordering.{nat_cmp};
@@ -74,6 +74,13 @@ impl<T: FailingCall> Calls<T> {
             faults: 0,
             failing,
         }
+    }
+
+    /// Says whether a call is to fail.
+    pub fn may_fail(&self) -> bool
+        ensures { result ≡ false ↔ (self.now.failing ≡ []) }
+    {
+        !self.failing.is_empty()
     }
 
     /// The call that comes next, where it fails.

@@ -8,6 +8,7 @@ mod stored_files;
 use crate::bytes::Bytes;
 use crate::calls::Calls;
 use crate::error_kind::ErrorKind;
+use crate::file_bytes::FileBytes;
 use crate::path::{is_root, parent_of};
 use crate::storage::{FileInfo, Meta, StoreError};
 use listing::{infos_of, places_in};
@@ -20,7 +21,7 @@ pub use stored_files::StoredFiles;
 #[derive(Drop)]
 pub(crate) struct Node {
     pub(crate) is_dir: bool,
-    pub(crate) bytes: Vec<u8>,
+    pub(crate) bytes: FileBytes,
 }
 
 impl Node {
@@ -31,10 +32,10 @@ impl Node {
     /// Cuts the bytes at a place, or fills them with zeros up to there.
     fn cut(&mut self, start: usize) -> Result<(), AllocError>
         ensures kind { self.new.is_dir ≡ self.old.is_dir }
-        ensures begun { OnOk result (self.new.bytes.items ≡ cut self.old.bytes.items start) }
-        ensures unchanged { OnErr result (self.new.bytes.items ≡ self.old.bytes.items) }
+        ensures begun { OnOk result (self.new.bytes ≡ cut self.old.bytes start) }
+        ensures unchanged { OnErr result (self.new.bytes ≡ self.old.bytes) }
     {
-        self.bytes.resize(start, 0)
+        self.bytes.cut(start)
     }
 
     /// What is told of the node.
@@ -52,22 +53,22 @@ impl Node {
     }
 
     /// An equal node.
-    fn copy(&self, alloc: Global) -> Result<Node, AllocError>
+    fn share(&self) -> Result<Node, AllocError>
         ensures { IfOk result (λ copy. item_of copy ≡ item_of self.now) }
     {
         Ok(Node {
             is_dir: self.is_dir,
-            bytes: Vec::from_slice(alloc, self.bytes.as_slice())?,
+            bytes: self.bytes.share()?,
         })
     }
 
     /// Puts bytes at the end.
     fn grow(&mut self, bytes: &[u8]) -> Result<(), AllocError>
         ensures kind { self.new.is_dir ≡ self.old.is_dir }
-        ensures grown { OnOk result (self.new.bytes.items ≡ self.old.bytes.items ++ bytes.now) }
-        ensures unchanged { OnErr result (self.new.bytes.items ≡ self.old.bytes.items) }
+        ensures grown { OnOk result (self.new.bytes ≡ self.old.bytes ++ bytes.now) }
+        ensures unchanged { OnErr result (self.new.bytes ≡ self.old.bytes) }
     {
-        self.bytes.extend_from_slice(bytes)
+        self.bytes.grow(bytes)
     }
 }
 
@@ -87,7 +88,7 @@ pub struct MemoryStorage {
 #[derive(Clone, Copy)]
 pub(crate) enum Standing<'a> {
     Directory,
-    File(&'a [u8]),
+    File(&'a FileBytes),
 }
 
 impl Model for MemoryStorage {
@@ -150,7 +151,7 @@ impl MemoryStorage {
         }
         let node = Node {
             is_dir: true,
-            bytes: Vec::new(self.alloc),
+            bytes: FileBytes::new(self.alloc, Vec::new(self.alloc))?,
         };
         self.put(path.as_slice(), node)?;
         Ok(())
@@ -168,7 +169,7 @@ impl MemoryStorage {
         }
         let node = Node {
             is_dir: false,
-            bytes,
+            bytes: FileBytes::new(self.alloc, bytes)?,
         };
         self.put(path.as_slice(), node)?;
         Ok(())
@@ -211,7 +212,7 @@ impl MemoryStorage {
         if node.is_dir {
             Some(Standing::Directory)
         } else {
-            Some(Standing::File(node.bytes.as_slice()))
+            Some(Standing::File(&node.bytes))
         }
     }
 
@@ -245,7 +246,8 @@ impl MemoryStorage {
         let Some(Standing::File(bytes)) = self.find(path) else {
             return Some(ErrorKind::PermanentFileNotAvailable);
         };
-        if self.max_file < bytes.len() as u64 || self.max_file - (bytes.len() as u64) < len as u64 {
+        let had = bytes.as_slice().len() as u64;
+        if self.max_file < had || self.max_file - had < len as u64 {
             return Some(ErrorKind::ExceededStorageAllocationError);
         }
         None
@@ -272,11 +274,12 @@ impl MemoryStorage {
         }
         let mut bytes = Vec::new(self.alloc);
         bytes.resize(start as usize, 0)?;
+        let file = FileBytes::new(self.alloc, bytes)?;
         self.put(
             path,
             Node {
                 is_dir: false,
-                bytes,
+                bytes: file,
             },
         )
     }

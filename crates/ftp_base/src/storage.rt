@@ -4,16 +4,17 @@
 //! it refuses; no call changes the rule but a begin that goes well, and the rule says how. A call that fails, finds no memory
 //! or is refused leaves the storage as it was.
 
-ghost use Rattle.std.specs.Prelude.{◌≡◌, ℕ, ◌+◌, ◌-◌, ◌^◌, ◌<◌, ◌≤◌, Bool, true, length, Option, None, IfSome, IsSomeAnd, IfOk, OnOk, OnErr, IsErrOf};
+ghost use Rattle.std.specs.Prelude.{◌≡◌, ℕ, ◌+◌, ◌-◌, ◌^◌, ◌<◌, ◌≤◌, Bool, true, [], length, Option, None, Some, IsSome, IfSome, IsSomeAnd, IfOk, OnOk, OnErr, IsErrOf};
 ghost use Rattle.ftp_base.specs.declared.storage.StoreError.TheVariants.{OutOfMemory};
 ghost use Rattle.ftp_base.specs.Calls.{Calls, AllWell, OneMore};
 ghost use Rattle.ftp_base.specs.Kept.{CountsOn, StorageKept};
 ghost use Rattle.ftp_base.specs.Memory.{StorageMet};
 ghost use Rattle.ftp_base.specs.Outside.{HasRisen};
-ghost use Rattle.ftp_base.specs.Storage.{Files, Rule, meaning_of, Metadata, Listing, ReadAt, Begin, Append, Answers, WentThrough, once_begun, item, meta_of, listing, ReadsFile, Begins, Grows};
+ghost use Rattle.ftp_base.specs.Storage.{Files, Rule, contents, meaning_of, Metadata, Listing, ReadAt, Begin, Append, Answers, WentThrough, once_begun, item, meta_of, listing, ReadsFile, Begins, Grows};
 
 use crate::bytes::Bytes;
 use crate::error_kind::ErrorKind;
+use crate::file_bytes::FileBytes;
 use std::alloc::AllocError;
 
 /// Transfers can begin at a restart offset.
@@ -145,6 +146,21 @@ pub trait Storage {
         ensures takes_memory { IsErrOf result StoreError.OutOfMemory → reads_take_memory ≡ true }
         ensures unchanged { files self.new ≡ files self.old }
         ensures storage_kept { StorageKept rule faults fault_limit self.old self.new };
+
+    /// Lends a file as it is now, to be read without further calls. None where the storage does not lend it.
+    ///
+    /// # Proved
+    ///
+    /// - What is lent are the bytes of the file at the path, of which no read is refused, and of a storage of which no call is to
+    ///   fail, where it tells that (`lent`, `unrefused`, `none_listed`).
+    fn lend(&self, user: &Bytes, path: &Bytes) -> Option<FileBytes>
+        ensures lent { IfSome result (λ bytes. IfSome (files self.now) (λ f. contents f path.now ≡ Some bytes)) }
+        ensures unrefused { IsSome result → (at : ℕ) → meaning_of (rule self.now) (files self.now) (ReadAt user.now path.now at) ≡ None }
+        ensures none_listed { IsSome result → IfSome (calls self.now) (λ c. c.failing ≡ []) }
+    {
+        let _ = (user, path);
+        None
+    }
 
     /// Cuts a file at a place, or fills it with zeros up to there; an absent file counts as empty.
     ///

@@ -1,10 +1,10 @@
 //! One storage for all transfers.
 
-ghost use Rattle.std.specs.Prelude.{◌≡◌};
+ghost use Rattle.std.specs.Prelude.{◌≡◌, ◌+◌, ◌^◌, ◌<◌, ◌≤◌, true, length, IfOk, IsErrOf};
 
 use crate::depot::Depot;
 use crate::uploads::Uploads;
-use ftp_base::{Bytes, ErrorKind, FileInfo, Meta, Storage, StoreError};
+use ftp_base::{Bytes, ErrorKind, FileBytes, FileInfo, Meta, Storage, StoreError};
 use ftp_extras::NoExtras;
 use std::alloc::{AllocError, Global};
 use std::sync::{Arc, Mutex, Wait};
@@ -49,6 +49,7 @@ impl<R: Wait + Copy + Drop, S: Storage + Drop> Depot for SharedDepot<R, S> {
             files,
             uploads,
             own: None,
+            loan: None,
             features: self.features,
             faults: 0,
         })
@@ -59,7 +60,8 @@ impl<R: Wait + Copy + Drop, S: Storage + Drop> Depot for SharedDepot<R, S> {
     }
 }
 
-/// The storage of a `SharedDepot`, for one transfer. The lock is taken for each call. Once it is dropped, its upload is over.
+/// The storage of a `SharedDepot`, for one transfer. The lock is taken for each call, but a file that the storage lends is read
+/// as it was at the first read. Once it is dropped, its upload is over.
 pub struct SharedStorage<R: Wait + Drop, S: Storage + Drop> {
     rt: R,
     alloc: Global,
@@ -67,8 +69,34 @@ pub struct SharedStorage<R: Wait + Drop, S: Storage + Drop> {
     uploads: Arc<Mutex<Uploads>, Global>,
     // The path to which this one's upload writes.
     own: Option<Bytes>,
+    // The file that this one reads, where it was lent.
+    loan: Option<Loan>,
     features: u32,
     faults: u64,
+}
+
+/// A file that was lent, with who reads it.
+#[derive(Drop)]
+struct Loan {
+    user: Bytes,
+    path: Bytes,
+    bytes: FileBytes,
+}
+
+impl Loan {
+    fn new(alloc: Global, user: &Bytes, path: &Bytes, bytes: FileBytes) -> Result<Loan, AllocError>
+        ensures { IfOk result (λ loan. loan.bytes ≡ bytes) }
+    {
+        Ok(Loan {
+            user: user.copy(alloc)?,
+            path: path.copy(alloc)?,
+            bytes,
+        })
+    }
+
+    fn is_of(&self, user: &Bytes, path: &Bytes) -> bool {
+        self.user == *user && self.path == *path
+    }
 }
 
 impl<R: Wait + Drop, S: Storage + Drop> Drop for SharedStorage<R, S> {
@@ -80,6 +108,7 @@ impl<R: Wait + Drop, S: Storage + Drop> Drop for SharedStorage<R, S> {
             files: _,
             uploads: _,
             own: _,
+            loan: _,
             features: _,
             faults: _,
         } = self;
@@ -99,6 +128,30 @@ impl<R: Wait + Drop, S: Storage + Drop> SharedStorage<R, S> {
             self.own = Some(own);
         }
         Ok(is_free)
+    }
+
+    // Reads under the lock, which a file that the storage lends needs no more afterwards.
+    fn read_locked(
+        &mut self,
+        user: &Bytes,
+        path: &Bytes,
+        at: u64,
+        out: &mut [u8],
+    ) -> Result<usize, StoreError>
+        ensures within { IfOk result (λ n. n ≤ length out.new) }
+        ensures in_range { IfOk result (λ n. at + n < 2 ^ 64) }
+        ensures takes_memory { IsErrOf result StoreError.OutOfMemory → S.reads_take_memory ≡ true }
+        ensures features { self.new.features ≡ self.old.features }
+        ensures faults { self.new.faults ≡ self.old.faults }
+    {
+        let mut files = self.files.lock(&self.rt);
+        let Some(bytes) = files.lend(user, path) else {
+            return files.read_at(user, path, at, out);
+        };
+        drop(files);
+        let n = bytes.read_at(at, out);
+        self.loan = Loan::new(self.alloc, user, path, bytes).ok();
+        Ok(n)
     }
 
     // The upload that began last is over.
@@ -152,7 +205,12 @@ impl<R: Wait + Drop, S: Storage + Drop> Storage for SharedStorage<R, S> {
         at: u64,
         out: &mut [u8],
     ) -> Result<usize, StoreError> {
-        let read = self.files.lock(&self.rt).read_at(user, path, at, out);
+        if let Some(loan) = &self.loan {
+            if loan.is_of(user, path) {
+                return Ok(loan.bytes.read_at(at, out));
+            }
+        }
+        let read = self.read_locked(user, path, at, out);
         if let Err(StoreError::Failed) = &read {
             self.faults = self.faults.saturating_add(1);
         }
@@ -160,6 +218,7 @@ impl<R: Wait + Drop, S: Storage + Drop> Storage for SharedStorage<R, S> {
     }
 
     fn begin(&mut self, user: &Bytes, path: &Bytes, start: u64) -> Result<(), StoreError> {
+        self.loan = None;
         if !self.begin_upload(path)? {
             return Err(StoreError::Kind(ErrorKind::TransientFileNotAvailable));
         }
@@ -174,6 +233,7 @@ impl<R: Wait + Drop, S: Storage + Drop> Storage for SharedStorage<R, S> {
     }
 
     fn append(&mut self, user: &Bytes, path: &Bytes, bytes: &[u8]) -> Result<(), StoreError> {
+        self.loan = None;
         let grown = self.files.lock(&self.rt).append(user, path, bytes);
         if let Err(StoreError::Failed) = &grown {
             self.faults = self.faults.saturating_add(1);

@@ -39,6 +39,44 @@ fn what_one_transfer_stores_another_finds(rt: HostRuntime) -> Result<(), Fail> {
 }
 
 #[test]
+fn a_transfer_reads_a_file_as_it_was_at_its_first_read(rt: HostRuntime) -> Result<(), Fail> {
+    let alloc = rt.alloc();
+    // A storage of which no call is to fail lends its files.
+    let storage = MemoryStorage::new(alloc, u64::MAX, Vec::new(alloc));
+    let depot = SharedDepot::new(rt, alloc, storage)?;
+    let (mut one, mut two) = (depot.store()?, depot.store()?);
+    let changed: [Row; 9] = [
+        (true, 3, "/a", 0, "Ok(())"),
+        (true, 4, "/a", 7, "Ok(())"),
+        (false, 2, "/a", 0, "Ok(3) [7, 6, 5, 0]"),
+        (true, 3, "/a", 1, "Ok(())"),
+        (true, 4, "/a", 9, "Ok(())"),
+        (false, 2, "/a", 1, "Ok(2) [6, 5, 0, 0]"),
+        (false, 2, "/a", 3, "Ok(0) [0, 0, 0, 0]"),
+        (
+            false,
+            2,
+            "/b",
+            0,
+            "Err(Kind(PermanentFileNotAvailable)) [0, 0, 0, 0]",
+        ),
+        // Whoever writes reads what it wrote.
+        (true, 2, "/a", 0, "Ok(4) [7, 9, 8, 11]"),
+    ];
+    assert_eq!(rt; first_wrong(alloc, &mut one, &mut two, &changed)?, None);
+    // So does a transfer that begins later, and one whose own write was the last.
+    let mut three = depot.store()?;
+    let behind: [Row; 4] = [
+        (true, 2, "/a", 1, "Ok(3) [9, 8, 11, 0]"),
+        (true, 4, "/a", 1, "Ok(())"),
+        (true, 2, "/a", 4, "Ok(3) [1, 0, 3, 0]"),
+        (false, 2, "/a", 0, "Ok(3) [7, 6, 5, 0]"),
+    ];
+    assert_eq!(rt; first_wrong(alloc, &mut three, &mut two, &behind)?, None);
+    Ok(())
+}
+
+#[test]
 fn a_call_that_fails_or_is_refused_is_told(rt: HostRuntime) -> Result<(), Fail> {
     let alloc = rt.alloc();
     let mut one = depot(rt, alloc, 1)?.store()?;

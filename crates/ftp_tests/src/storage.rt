@@ -51,6 +51,43 @@ fn a_listing_shows_the_children_in_their_order(rt: HostRuntime) -> Result<(), Fa
 }
 
 #[test]
+fn a_file_that_is_lent_stays_as_it_is(rt: HostRuntime) -> Result<(), Fail> {
+    let alloc = rt.alloc();
+    let user = Bytes::from_slice(alloc, b"user")?;
+    let path = Bytes::from_slice(alloc, b"/x")?;
+    let mut storage = tree(alloc)?;
+    let before = storage.lend(&user, &path);
+    storage.append(&user, &path, b"yz")?;
+    let behind = storage.lend(&user, &path);
+    storage.begin(&user, &path, 0)?;
+    for (lent, bytes) in [(before, b"x".as_slice()), (behind, b"xyz")] {
+        assert_eq!(rt; lent.as_ref().map(|lent| lent.as_slice()), Some(bytes));
+    }
+    Ok(())
+}
+
+#[test]
+fn a_directory_is_not_lent_nor_a_file_where_a_call_is_to_fail(rt: HostRuntime) -> Result<(), Fail> {
+    let alloc = rt.alloc();
+    let mut failing = MemoryStorage::new(alloc, 9, [5].to_vec(alloc)?);
+    failing.put_file(Bytes::from_slice(alloc, b"/x")?, b"x".to_vec(alloc)?)?;
+    let user = Bytes::from_slice(alloc, b"user")?;
+    for (storage, path) in [
+        (tree(alloc)?, b"/".as_slice()),
+        (tree(alloc)?, b"/d"),
+        (tree(alloc)?, b"/none"),
+        (failing, b"/x"),
+    ] {
+        assert!(rt;
+            storage
+                .lend(&user, &Bytes::from_slice(alloc, path)?)
+                .is_none()
+        );
+    }
+    Ok(())
+}
+
+#[test]
 fn files_come_in_byte_order_of_their_paths(rt: HostRuntime) -> Result<(), Fail> {
     let storage = tree(rt.alloc())?;
     let mut files = storage.files();

@@ -88,13 +88,14 @@ fn moved_nodes(
 {
     let mut moved = BTreeMap::new(alloc);
     for (path, node) in nodes.iter() {
-        put_moved(&mut moved, path.as_slice(), node, from, to)?;
+        put_moved(alloc, &mut moved, path.as_slice(), node, from, to)?;
     }
     Ok(moved)
 }
 
 /// Puts a copy of what stands at a path where it stands once another path is moved.
 fn put_moved(
+    alloc: Global,
     moved: &mut BTreeMap<Vec<u8>, Node>,
     path: &[u8],
     node: &Node,
@@ -106,9 +107,8 @@ fn put_moved(
     if path == to {
         return Ok(());
     }
-    let alloc = *node.bytes.allocator();
     let path = moved_path(alloc, path, from, to)?;
-    let node = node.copy(alloc)?;
+    let node = node.share()?;
     moved.insert(path, node)?;
     Ok(())
 }

@@ -1,22 +1,23 @@
 //! The calls that a storage in memory answers.
 
-ghost use Rattle.std.specs.Prelude.{◌≡◌, ◌+◌, ◌^◌, ◌<◌, ◌≤◌, length};
+ghost use Rattle.std.specs.Prelude.{◌≡◌};
 ghost use Rattle.ftp_base.specs.MemoryStorage.{standing_item};
-ghost use Rattle.ftp_base.specs.Storage.{meta_of, ReadsFrom};
+ghost use Rattle.ftp_base.specs.Storage.{meta_of};
 
 use super::{MemoryStorage, Standing};
 use crate::bytes::Bytes;
 use crate::error_kind::ErrorKind;
+use crate::file_bytes::FileBytes;
 use crate::storage::{FEATURE_RESTART, FileInfo, Meta, Storage, StoreError};
 
 impl Storage for MemoryStorage {
-    ghost use Rattle.std.specs.Prelude.{◌≡◌, ◌+◌, ◌^◌, ◌<◌, ◌≤◌, length, Some, IsSomeAnd, false, IsOk, IfOk, OnOk, OnErr, IsErrOf};
+    ghost use Rattle.std.specs.Prelude.{◌≡◌, ℕ, ◌+◌, ◌^◌, ◌<◌, ◌≤◌, [], length, Some, None, IsSome, IfSome, IsSomeAnd, false, IsOk, IfOk, OnOk, OnErr, IsErrOf};
     ghost use Rattle.ftp_base.specs.Calls.{NoneFailed};
     ghost use Rattle.ftp_base.specs.Kept.{StorageKept};
     ghost use Rattle.ftp_base.specs.Memory.{StorageMet};
     ghost use Rattle.ftp_base.specs.MemoryStorage.{Counts, memory_meaning, storage_rule, storage_faults, storage_limit};
     ghost use Rattle.ftp_base.specs.Outside.{HasRisen};
-    ghost use Rattle.ftp_base.specs.Storage.{Metadata, Listing, ReadAt, Begin, Append, Answers, once_begun, item, meta_of, listing, with_file, old_bytes, cut, ReadsFile, Grows};
+    ghost use Rattle.ftp_base.specs.Storage.{Metadata, Listing, ReadAt, Begin, Append, Answers, once_begun, contents, item, meta_of, listing, with_file, old_bytes, cut, ReadsFile, Grows};
 
     ghost abilities = { λ _. 1 };
 
@@ -94,8 +95,24 @@ impl Storage for MemoryStorage {
         let _ = user;
         self.count()?;
         match self.find(path.as_slice()) {
-            Some(Standing::File(bytes)) => Ok(copy_from(bytes, at, out)),
+            Some(Standing::File(bytes)) => Ok(bytes.read_at(at, out)),
             _ => Err(StoreError::Kind(ErrorKind::PermanentFileNotAvailable)),
+        }
+    }
+
+    // A storage of which calls are to fail lends nothing: each of its reads is counted.
+    fn lend(&self, user: &Bytes, path: &Bytes) -> Option<FileBytes>
+        ensures lent { IfSome result (λ bytes. contents self.now.files path.now ≡ Some bytes) }
+        ensures unrefused { IsSome result → (at : ℕ) → memory_meaning self.now.files self.now.max_file (ReadAt user.now path.now at) ≡ None }
+        ensures none_listed { IsSome result → self.now.calls.failing ≡ [] }
+    {
+        let _ = user;
+        if self.calls.may_fail() {
+            return None;
+        }
+        match self.find(path.as_slice()) {
+            Some(Standing::File(bytes)) => bytes.share().ok(),
+            _ => None,
         }
     }
 
@@ -157,23 +174,7 @@ pub(super) fn meta_at(standing: Standing<'_>) -> Meta
         },
         Standing::File(bytes) => Meta {
             is_dir: false,
-            len: bytes.len() as u64,
+            len: bytes.as_slice().len() as u64,
         },
     }
-}
-
-/// Copies what a file has from a place on to the front of `out`, and says how many bytes.
-fn copy_from(bytes: &[u8], at: u64, out: &mut [u8]) -> usize
-    ensures within { result ≤ length out.new }
-    ensures in_range { at + result < 2 ^ 64 }
-    ensures read { ReadsFrom at result out.new bytes.now }
-{
-    let len = bytes.len() as u64;
-    if at >= len {
-        return 0;
-    }
-    let rest = &bytes[at as usize..];
-    let n = rest.len().min(out.len());
-    out[..n].copy_from_slice(&rest[..n]);
-    n
 }

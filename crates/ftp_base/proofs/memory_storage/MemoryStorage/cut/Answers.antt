@@ -16,7 +16,7 @@ pub returns-in-Some-clause-begun : goal.returns-in-Some-clause-begun
 returns-in-Some-clause-begun c =
     let file : item (files_of c.self.inside.nodes.entries) c.args.path.now ≢ Some Directory = rw (← c.self.view_is) at c.requires.file in
     let there = file_there c.self.inside.nodes.entries c.args.path.now c.in-Some.node.now c.requires.other file (sym c.in-Some.ensures.value) in
-    let bytes : c.cut.new.self.bytes.items ≡ cut (old_bytes (files_of c.self.inside.nodes.entries) c.args.path.now) c.args.start =
+    let bytes : c.cut.new.self.bytes ≡ cut (old_bytes (files_of c.self.inside.nodes.entries) c.args.path.now) c.args.start =
     c.in_ok-cut.ensures.begun ∙ ap (λ (had : List ℕ). cut had c.args.start) (sym there.1)
     in
     let files =
@@ -29,4 +29,4 @@ pub returns-clause-begun : goal.returns-clause-begun
 returns-clause-begun c =
     let none = nothing_there c.self.inside.nodes.entries c.args.path.now c.requires.other (sym c.in_default.ensures.value) in
     let bytes = rw (c.new-bytes.ensures.items, c.new-bytes.ensures.len) at c.in_ok-resize.ensures.items in
-    rw (← c.self.view_is, none) (rw (c.get_mut.follows.holds-at-none, bytes) at c.put.ensures.stored)
+    rw (← c.self.view_is, none) (rw (c.get_mut.follows.holds-at-none, c.in_ok-file.ensures, bytes) at c.put.ensures.stored)

@@ -1,5 +1,4 @@
 use Rattle.std.proofs.Common.{◌∙◌, sym, ap, Some, None}
-use Rattle.ftp_base.specs.Storage.{File}
 use Rattle.ftp_base.proofs.MemoryFiles.{item-found, item_of-directory, item_of-file}
 use Rattle.ftp_base.proofs.memory_storage.MemoryStorage.find.Goals as goal
 
@@ -20,4 +19,4 @@ returns-else-node c =
     rw (← c.self.view_is)
     (sym
     (item-found c.self.inside.nodes.entries c.args.path.now (Some c.in_ok-node.node.now) (sym c.is_root.ensures ∙ c.if-is_root.false) (sym c.in_ok-node.ensures.value)
-    ∙ ap Some (item_of-file c.in_ok-node.node.now c.if-node.false ∙ ap File (sym c.as_slice.ensures.value))))
+    ∙ ap Some (item_of-file c.in_ok-node.node.now c.if-node.false)))

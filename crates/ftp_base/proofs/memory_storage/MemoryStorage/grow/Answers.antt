@@ -23,7 +23,7 @@ returns-clause-grown c =
     let file : IsSome (contents (files_of c.self.inside.nodes.entries) c.args.path.now) = rw (← c.self.view_is) at c.requires.file in
     let apart = contents_apart (files_of c.self.inside.nodes.entries) c.args.path.now file in
     let there = file_there c.self.inside.nodes.entries c.args.path.now c.in-Some.node.now apart.0 apart.1 (sym c.in-Some.ensures.value) in
-    let bytes : c.grow.new.self.bytes.items ≡ old_bytes (files_of c.self.inside.nodes.entries) c.args.path.now ++ c.args.bytes.now =
+    let bytes : c.grow.new.self.bytes ≡ old_bytes (files_of c.self.inside.nodes.entries) c.args.path.now ++ c.args.bytes.now =
     c.in_ok-grow.ensures.grown ∙ ap (λ (had : List ℕ). had ++ c.args.bytes.now) (sym there.1)
     in
     let files =
