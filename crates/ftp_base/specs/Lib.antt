@@ -1,5 +1,6 @@
 pub mod Net
 pub mod Reply
+pub mod ReplyText
 pub mod Message
 pub mod Listener
 pub mod Login

@@ -4,6 +4,7 @@ ghost use Rattle.std.specs.Prelude.{◌≡◌, IfOk};
 ghost use Rattle.ftp_base.specs.Reply.{code_text, encoding};
 
 use crate::bytes::Bytes;
+use crate::reply_text::ReplyText;
 use std::alloc::{AllocError, Global};
 
 /// The three digits of a reply, by their meaning.
@@ -100,7 +101,7 @@ impl ReplyCode {
 pub enum Reply {
     /// Nothing is said.
     None,
-    CodeAndMsg { code: ReplyCode, msg: Bytes },
+    CodeAndMsg { code: ReplyCode, msg: ReplyText },
 }
 
 impl Reply {

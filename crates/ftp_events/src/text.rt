@@ -10,7 +10,7 @@ ghost use Rattle.ftp_base.specs.declared.net.IpAddr.TheVariants.{V4};
 ghost use Rattle.ftp_options.specs.declared.host.PassiveHost.TheVariants.{Dns};
 
 use crate::wording;
-use ftp_base::{Bytes, ControlChanMsg, ErrorKind, Reply, ReplyCode};
+use ftp_base::{Bytes, ControlChanMsg, ErrorKind, Reply, ReplyCode, ReplyText};
 use ftp_options::PassiveHost;
 use itoa::Buffer;
 use std::alloc::{AllocError, Global};
@@ -33,10 +33,15 @@ pub fn reply_of(alloc: Global, message: &ControlChanMsg) -> Result<Reply, AllocE
         ControlChanMsg::ExitControlLoop
         | ControlChanMsg::SecureControlChannel
         | ControlChanMsg::PlaintextControlChannel => return Ok(Reply::None),
-        ControlChanMsg::MkDirSuccess { path } => (ReplyCode::DirCreated, path.as_slice()),
-        _ => words_of(message),
+        ControlChanMsg::MkDirSuccess { path } => (
+            ReplyCode::DirCreated,
+            ReplyText::from_bytes(path.copy(alloc)?),
+        ),
+        _ => {
+            let (code, words) = words_of(message);
+            (code, ReplyText::from_static(words))
+        }
     };
-    let msg = Bytes::from_slice(alloc, msg)?;
     Ok(Reply::CodeAndMsg { code, msg })
 }
 
@@ -150,7 +155,7 @@ pub fn make_pasv_reply(
     write_passive_text(&mut text, shown, port);
     Ok(Reply::CodeAndMsg {
         code: ReplyCode::EnteringPassiveMode,
-        msg: Bytes::from_vec(text),
+        msg: ReplyText::from_vec(text),
     })
 }
 
@@ -164,7 +169,7 @@ fn unresolved(alloc: Global, name: &Bytes) -> Result<Reply, AllocError>
     text.extend_from_slice(b"'")?;
     Ok(Reply::CodeAndMsg {
         code: ReplyCode::CantOpenDataConnection,
-        msg: Bytes::from_vec(text),
+        msg: ReplyText::from_vec(text),
     })
 }
 

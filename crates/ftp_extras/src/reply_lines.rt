@@ -6,7 +6,7 @@ ghost use Rattle.ftp_extras.specs.ReplyLines.{OneLine, ManyLines, line_with_end,
 ghost use Rattle.ftp_extras.specs.Extra.{says_text, tells};
 
 use crate::extra::Extra;
-use ftp_base::{Bytes, ControlChanMsg, Reply, ReplyCode};
+use ftp_base::{Bytes, ControlChanMsg, Reply, ReplyCode, ReplyText};
 use std::alloc::{AllocError, Global};
 
 /// Puts a line at the end of a text.
@@ -71,6 +71,6 @@ pub fn put_epsv_reply(text: &mut Vec<u8>, port: u16) -> Result<(), AllocError>
 pub(crate) fn tell(alloc: Global, code: ReplyCode, text: &[u8]) -> Result<Extra, AllocError>
     ensures { IfOk result (λ x. x ≡ tells code text.now) }
 {
-    let msg = Bytes::from_slice(alloc, text)?;
+    let msg = ReplyText::from_bytes(Bytes::from_slice(alloc, text)?);
     Ok(Extra::Tell(ControlChanMsg::CommandChannelReply(Reply::CodeAndMsg { code, msg })))
 }

@@ -99,20 +99,6 @@ impl Text {
         })
     }
 
-    /// Writes words.
-    pub fn write(&mut self, words: &[u8])
-        requires empty { self.old.items ≡ [] }
-        requires wide { IsWide 64 self.old }
-        requires short { length words.now ≤ 64 }
-        ensures items { self.new.items ≡ words.now }
-        ensures twice { self.new.twice ≡ self.old.twice }
-    {
-        put(&mut self.first, words);
-        if self.twice {
-            put(&mut self.second, words);
-        }
-    }
-
     /// Writes that a name was not looked up.
     pub fn write_unresolved(&mut self, name: &[u8])
         requires empty { self.old.items ≡ [] }

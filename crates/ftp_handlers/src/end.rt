@@ -118,7 +118,7 @@ fn moved(
     number: u64,
     what: DataEvent,
     copy: DataEvent,
-    text: &[u8],
+    text: &'static [u8],
     room: &mut Room,
 )
     requires places { HasPlaces 2 room.old }

@@ -11,7 +11,9 @@ ghost use Rattle.ftp_handlers.specs.Rooms.{CanReply, CanTellDropped, HasPlace, H
 
 use crate::copies::Text;
 use crate::room::Room;
-use ftp_base::{Bytes, DataEvent, EventMeta, Notice, PresenceEvent, Reply, ReplyCode, TraceId};
+use ftp_base::{
+    Bytes, DataEvent, EventMeta, Notice, PresenceEvent, Reply, ReplyCode, ReplyText, TraceId,
+};
 use ftp_events::{Action, Pending, Slot};
 use ftp_transfer::Ticket;
 use std::mem;
@@ -138,10 +140,28 @@ impl Room {
         ensures len { len_in self.new ≡ len_in self.old + 1 }
         ensures same { self.new ≡ record self.old { actions = self.new.actions; dropped = self.new.dropped } }
     {
-        self.dropped.write(b"Datachannel unexpectedly closed");
-        let none = Text::blank(self.alloc, self.actions.is_twice());
-        let text = mem::replace(&mut self.dropped, none);
-        self.say(session, 0, ReplyCode::ConnectionClosed, text);
+        self.speak(
+            session,
+            0,
+            ReplyCode::ConnectionClosed,
+            b"Datachannel unexpectedly closed",
+        );
+    }
+
+    // Sends words of the program as a reply.
+    fn speak(&mut self, session: u64, delay: u32, code: ReplyCode, words: &'static [u8])
+        requires { HasPlace self.old }
+        ensures actions { actions_in self.new ≡ actions_in self.old ++ action.Reply session delay (reply.CodeAndMsg code words.now) ∷ [] }
+        ensures len { len_in self.new ≡ len_in self.old + 1 }
+        ensures same { self.new ≡ record self.old { actions = self.new.actions } }
+    {
+        let action = reply_action(session, delay, code, ReplyText::from_static(words));
+        if self.actions.is_twice() {
+            let copy = reply_action(session, delay, code, ReplyText::from_static(words));
+            self.actions.push_twice(action, copy);
+        } else {
+            self.actions.push_once(action);
+        }
     }
 
     /// Tells listeners that the user whom the event tells is here or gone.
@@ -257,7 +277,7 @@ impl Room {
     }
 
     /// Sends a reply at once; its text has at most 64 bytes.
-    pub fn reply(&mut self, session: u64, code: ReplyCode, words: &[u8])
+    pub fn reply(&mut self, session: u64, code: ReplyCode, words: &'static [u8])
         requires place { HasPlace self.old }
         requires empty { self.old.text.items ≡ [] }
         requires room { CanReply 64 self.old }
@@ -270,7 +290,7 @@ impl Room {
     }
 
     /// Sends a reply after a delay in milliseconds; its text has at most 64 bytes.
-    pub fn reply_late(&mut self, session: u64, delay: u32, code: ReplyCode, words: &[u8])
+    pub fn reply_late(&mut self, session: u64, delay: u32, code: ReplyCode, words: &'static [u8])
         requires place { HasPlace self.old }
         requires empty { self.old.text.items ≡ [] }
         requires room { CanReply 64 self.old }
@@ -279,8 +299,7 @@ impl Room {
         ensures len { len_in self.new ≡ len_in self.old + 1 }
         ensures same { self.new ≡ record self.old { actions = self.new.actions; text = self.new.text } }
     {
-        self.text.write(words);
-        self.send(session, delay, code);
+        self.speak(session, delay, code, words);
     }
 
     /// Sends what the event keeps as a reply.
@@ -353,9 +372,9 @@ impl Room {
         ensures same { self.new ≡ record self.old { actions = self.new.actions } }
     {
         let (msg, copy) = text.into_both();
-        let action = reply_action(session, delay, code, msg);
+        let action = reply_action(session, delay, code, ReplyText::from_bytes(msg));
         if self.actions.is_twice() {
-            let copy = reply_action(session, delay, code, copy);
+            let copy = reply_action(session, delay, code, ReplyText::from_bytes(copy));
             self.actions.push_twice(action, copy);
         } else {
             self.actions.push_once(action);
@@ -384,7 +403,7 @@ fn copy_plain(action: &Action) -> Action
 }
 
 // A reply that is sent after a delay.
-fn reply_action(session: u64, delay: u32, code: ReplyCode, msg: Bytes) -> Action
+fn reply_action(session: u64, delay: u32, code: ReplyCode, msg: ReplyText) -> Action
     ensures { result ≡ action.Reply session delay (reply.CodeAndMsg code msg) }
 {
     Action::Reply {

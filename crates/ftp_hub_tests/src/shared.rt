@@ -8,7 +8,7 @@ use crate::settled::{Told, settle_two, strange_receipt};
 use crate::shared_values::Stopped;
 use crate::threads::connect_two;
 use crate::values::pooled;
-use ftp_base::{Bytes, Reply, ReplyCode};
+use ftp_base::{Bytes, Reply, ReplyCode, ReplyText};
 use ftp_events::Decision;
 use ftp_shared::{Notifier, SettleError};
 use ftp_transfer::Ticket;
@@ -130,7 +130,7 @@ fn a_session_is_handed_what_others_sent_it(rt: HostRuntime) -> Result<(), Fail> 
     assert_eq!(rt; woken, Some(1));
     let sent = Reply::CodeAndMsg {
         code: ReplyCode::ClosingDataConnection,
-        msg: Bytes::from_slice(alloc, b"Successfully sent")?,
+        msg: ReplyText::from_bytes(Bytes::from_slice(alloc, b"Successfully sent")?),
     };
     assert_eq!(rt; earlier.as_slice().len(), 1);
     let (delay, reply) = earlier.as_slice().first().ok_or("no reply")?;

@@ -1,7 +1,8 @@
 //! What is printed: replies, numbers, paths and times.
 
 use ftp_base::{
-    Bytes, ControlChanMsg, IpAddr, Meta, PortAllocationError, Reply, ReplyCode, SocketAddr, TraceId,
+    Bytes, ControlChanMsg, IpAddr, Meta, PortAllocationError, Reply, ReplyCode, ReplyText,
+    SocketAddr, TraceId,
 };
 use ftp_events::{make_pasv_reply, port_target, reply_of};
 use ftp_options::PassiveHost;
@@ -12,7 +13,7 @@ use std::test::Fail;
 fn a_reply_ends_in_cr_lf(rt: HostRuntime) -> Result<(), Fail> {
     let reply = Reply::CodeAndMsg {
         code: ReplyCode::NeedPassword,
-        msg: Bytes::from_slice(rt.alloc(), b"Password Required")?,
+        msg: ReplyText::from_static(b"Password Required"),
     };
     assert_eq!(rt;
         reply.encode(rt.alloc())?.as_slice(),

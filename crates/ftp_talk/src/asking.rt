@@ -16,7 +16,7 @@ ghost use Rattle.ftp_talk.specs.Seen.{IsAsked, missing, behind_asked, failed_in}
 ghost use Rattle.ftp_talk.specs.Speaking.{Knows, IsGround, SameEdge, Asked, IsPort, IsMade, target_for};
 
 use crate::control_session::ControlSession;
-use ftp_base::{Bytes, ControlChanMsg, Edge, ErrorKind, Reply, ReplyCode, SocketAddr};
+use ftp_base::{Bytes, ControlChanMsg, Edge, ErrorKind, Reply, ReplyCode, ReplyText, SocketAddr};
 use ftp_control::{Command, LineError};
 use ftp_events::{EventKind, Login, port_target};
 use ftp_shared::Desk;
@@ -68,7 +68,7 @@ impl ControlSession {
         ensures kind { IfOk result (λ k. k ≡ told_as self.now.session code text.now) }
         ensures unticketed { IfOk result (λ k. has_ticket k ≡ false) }
     {
-        let msg = Bytes::from_slice(self.alloc, text)?;
+        let msg = ReplyText::from_bytes(Bytes::from_slice(self.alloc, text)?);
         Ok(EventKind::Internal {
             session: self.session,
             message: ControlChanMsg::CommandChannelReply(Reply::CodeAndMsg { code, msg }),

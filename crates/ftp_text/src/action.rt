@@ -9,7 +9,7 @@ use crate::fault::LineFault;
 use crate::field::{literal, number, small, text_to_end, ticket, word, word_value};
 use crate::notice::notify;
 use crate::word::Word;
-use ftp_base::Reply;
+use ftp_base::{Reply, ReplyText};
 use ftp_events::Action;
 use ftp_transfer::Ticket;
 use std::alloc::Global;
@@ -142,6 +142,7 @@ fn reply(alloc: Global, bytes: &[u8]) -> Result<(Action, &[u8]), LineFault>
     let (delay, rest) = small(4_294_967_296, rest)?;
     let (code, rest) = word_value(rest)?;
     let (msg, rest) = text_to_end(alloc, rest)?;
+    let msg = ReplyText::from_bytes(msg);
     let action = Action::Reply {
         session,
         delay: delay as u32,

@@ -12,7 +12,7 @@ use crate::fault::LineFault;
 use crate::field::{number, text_to_end, word_value};
 use crate::word::Word;
 use crate::writing::{put_error_kind, put_field, put_number, put_text, put_text_field};
-use ftp_base::{Bytes, ControlChanMsg, Reply, ReplyCode};
+use ftp_base::{Bytes, ControlChanMsg, Reply, ReplyCode, ReplyText};
 use std::alloc::{AllocError, Global};
 
 /// The word of a message.
@@ -143,6 +143,7 @@ fn given_reply(alloc: Global, bytes: &[u8]) -> Result<(ControlChanMsg, &[u8]), L
 {
     let (code, rest) = word_value(bytes)?;
     let (msg, rest) = text_to_end(alloc, rest)?;
+    let msg = ReplyText::from_bytes(msg);
     let reply = Reply::CodeAndMsg { code, msg };
     Ok((ControlChanMsg::CommandChannelReply(reply), rest))
 }
@@ -187,7 +188,7 @@ fn put_paths(out: &mut Vec<u8>, old_path: &Bytes, new_path: &Bytes) -> Result<()
     put_text(out, new_path.as_slice())
 }
 
-fn put_reply(out: &mut Vec<u8>, code: ReplyCode, msg: &Bytes) -> Result<(), AllocError>
+fn put_reply(out: &mut Vec<u8>, code: ReplyCode, msg: &ReplyText) -> Result<(), AllocError>
     ensures { OnOk result (out.new.items ≡ out.old.items ++ message_fields (message.CommandChannelReply (reply.CodeAndMsg code msg.now))) }
 {
     put_field(out, MessageWord::Reply.text())?;
