@@ -1,5 +1,6 @@
 pub mod Tables
 pub mod Numbers
+pub mod Digits
 pub mod CallsLemmas
 pub mod CallsMade
 pub mod Files

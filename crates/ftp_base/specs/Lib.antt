@@ -1,4 +1,5 @@
 pub mod Net
+pub mod Decimal
 pub mod Reply
 pub mod ReplyText
 pub mod Message

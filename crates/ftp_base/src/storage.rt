@@ -158,7 +158,8 @@ pub trait Storage {
         ensures unrefused { IsSome result → (at : ℕ) → meaning_of (rule self.now) (files self.now) (ReadAt user.now path.now at) ≡ None }
         ensures none_listed { IsSome result → IfSome (calls self.now) (λ c. c.failing ≡ []) }
     {
-        let _ = (user, path);
+        let _ = user;
+        let _ = path;
         None
     }
 

@@ -5,7 +5,6 @@ use Rattle.std.specs.List.{AllByRecursion, list_all, slice_split, onto_first, jo
 use Rattle.std.specs.Char.{is_ascii_digit}
 use Rattle.std.specs.Result.{result_ok}
 use Rattle.std.specs.Str.{bytes_eq}
-use Rattle.std.specs.Str.Parse.{digits_value}
 use Rattle.std.proofs.lemmas.Bool.{and_parts, eqb-true}
 use Rattle.std.proofs.lemmas.Bool.Decides.{nat_tests}
 use Rattle.std.proofs.lemmas.List.Elements.{All-cons, All-nil}
@@ -20,7 +19,9 @@ use Rattle.ftp_config.specs.declared.user.Credential.TheVariants.{Any, Disabled,
 use Rattle.ftp_config.specs.declared.user.PasswordHash.{PasswordHash}
 use Rattle.ftp_config.specs.declared.user.Rights.{Rights}
 use Rattle.ftp_config.specs.declared.user.Rights.TheVariants.{ReadWrite, ReadOnly}
-use Rattle.ftp_config.specs.Number.{is_decimal, number_of, rounds_of}
+use Rattle.ftp_base.specs.Decimal.{decimal_below}
+use Rattle.ftp_base.proofs.Digits.{decimal_below-digits}
+use Rattle.ftp_config.specs.Number.{rounds_of}
 use Rattle.ftp_config.specs.Home.{is_home, spelled_home}
 use Rattle.ftp_config.specs.Line.{is_byte, is_scheme, hash_with, hash_of_parts, hash_of, credential_of, rights_of, budget_size, user_with, user_of_fields, spelled_user}
 use Rattle.ftp_config.specs.Grammar.{HasNone, IsHash, IsCredential, IsRights, IsBudget, IsLineOf, LinesAreSpelled}
@@ -91,21 +92,11 @@ hash_of_parts-some text (a ∷ b ∷ c ∷ d ∷ e ∷ f ∷ parts) hash joined 
 hash-spelled : (text : List ℕ) (hash : PasswordHash) → hash_of text ≡ Some hash → IsHash text hash
 hash-spelled text hash e = hash_of_parts-some text (slice_split (is_byte 36) text) hash (join_with_byte-slice_split 36 text) e
 
-both-parts : (b c : Bool) (x y : ℕ) → cond (b && c) (Some x) None ≡ Some y → (b ≡ true) × (x ≡ y)
-both-parts true true x y e = (refl, cc e)
-both-parts true false x y e = absurd (cc e)
-both-parts false c x y e = absurd (cc e)
-
-number-digits : (bytes : List ℕ) (n : ℕ) → number_of bytes ≡ Some n → list_all is_ascii_digit bytes ≡ true
-number-digits bytes n e =
-    let decimal' = both-parts (is_decimal bytes) (nat_lt (digits_value 10 bytes) (2 ^ 64)) (digits_value 10 bytes) n e in
-    (and_parts _ _ (and_parts _ _ decimal'.0).0).1
-
 rounds-digits : (bytes : List ℕ) (n : ℕ) → rounds_of bytes ≡ Some n → list_all is_ascii_digit bytes ≡ true
-rounds-digits bytes n e = by (number_of bytes) refl e where
-  by : (o : Option ℕ) → number_of bytes ≡ o → option_and_then (λ m. cond (nat_lt 0 m && nat_lt m (2 ^ 32)) (Some m) None) o ≡ Some n → list_all is_ascii_digit bytes ≡ true
+rounds-digits bytes n e = by (decimal_below (2 ^ 64) bytes) refl e where
+  by : (o : Option ℕ) → decimal_below (2 ^ 64) bytes ≡ o → option_and_then (λ m. cond (nat_lt 0 m && nat_lt m (2 ^ 32)) (Some m) None) o ≡ Some n → list_all is_ascii_digit bytes ≡ true
   by None is e = absurd (cc e)
-  by (Some m) is e = number-digits bytes m is
+  by (Some m) is e = decimal_below-digits bytes (2 ^ 64) m is
 
 hash-read : (text : List ℕ) (hash : PasswordHash) → IsHash text hash → hash_of text ≡ Some hash
 unfolding hash_of_parts hash_with

@@ -13,12 +13,13 @@ use Rattle.std.proofs.lemmas.List.Splits.{slice_split_at, slice_split_none}
 use Rattle.std.proofs.lemmas.Slice.Eq.{bytes_eq-Decides}
 use Rattle.hex.specs.Hex.{IsBytes, is_hex_digit, encode_lower}
 use Rattle.hex.proofs.HexLemmas.{decode_of-ok, decode_of-encode_lower, decode_sized-encode_lower}
+use Rattle.ftp_base.specs.Decimal.{is_decimal, decimal_below}
+use Rattle.ftp_base.proofs.Digits.{own}
 use Rattle.ftp_base.specs.declared.login.AuthAnswer.TheVariants.{Good}
 use Rattle.ftp_config.specs.Pbkdf2.{derived_key}
-use Rattle.ftp_config.specs.Number.{is_decimal, number_of, rounds_of}
+use Rattle.ftp_config.specs.Number.{rounds_of}
 use Rattle.ftp_config.specs.Line.{is_byte, hash_text, hash_with, hash_of_parts, hash_of, credential_of}
 use Rattle.ftp_config.specs.Verdict.{answer_of, hash_by}
-use Rattle.ftp_config.proofs.Digits.{own}
 
 -- ---- no dollar stands in hexadecimal or decimal digits
 
@@ -64,7 +65,7 @@ rounds_of-decimal : (n : ℕ) → 0 < n → n < 2 ^ 32 → rounds_of (decimal n)
 rounds_of-decimal n some small =
     let fits : n < 2 ^ 64 = omega arith in
     let value : digits_value 10 (decimal n) ≡ n = digits_value-decimal own n fits in
-    let number : number_of (decimal n) ≡ Some n =
+    let number : decimal_below (2 ^ 64) (decimal n) ≡ Some n =
     both (is_decimal (decimal n)) (nat_lt (digits_value 10 (decimal n)) (2 ^ 64)) (digits_value 10 (decimal n)) (is_decimal-decimal n some fits) (rw value (lt-ltb n (2 ^ 64) fits))
     ∙ ap Some value in
     ap (option_and_then (λ m. cond (nat_lt 0 m && nat_lt m (2 ^ 32)) (Some m) None)) number ∙ both (nat_lt 0 n) (nat_lt n (2 ^ 32)) n (lt-ltb 0 n some) (lt-ltb n (2 ^ 32) small)

@@ -1,6 +1,5 @@
 pub mod BitLemmas
 pub mod CodeLemmas
-pub mod Digits
 pub mod PartLemmas
 pub mod UsersNameLemmas
 pub mod LineLemmas

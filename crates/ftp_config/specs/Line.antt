@@ -11,7 +11,8 @@ use Rattle.ftp_config.specs.declared.user.Credential.TheVariants as credential
 use Rattle.ftp_config.specs.declared.user.PasswordHash.{PasswordHash}
 use Rattle.ftp_config.specs.declared.user.Rights.{Rights}
 use Rattle.ftp_config.specs.declared.user.Rights.TheVariants as rights
-use Rattle.ftp_config.specs.Number.{number_of, rounds_of}
+use Rattle.ftp_base.specs.Decimal.{decimal_below}
+use Rattle.ftp_config.specs.Number.{rounds_of}
 use Rattle.ftp_config.specs.Home.{spelled_home}
 
 infixl 10 ◌>>=◌
@@ -86,7 +87,7 @@ abbrev pub budget_size : List ℕ → Option ℕ
 budget_size text =
     option_and_then
     (λ n. let size = n * unit_size (last_byte text) in if nat_lt size (2 ^ 64) then Some size else None)
-    (number_of (without_unit text))
+    (decimal_below (2 ^ 64) (without_unit text))
 
 -- ---- the line
 

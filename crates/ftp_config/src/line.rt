@@ -6,10 +6,10 @@ ghost use Rattle.hex.specs.Hex.{decode_of, decode_sized};
 ghost use Rattle.ftp_config.specs.Line.{hash_with, is_scheme, hash_of_parts, hash_of, credential_of, rights_of, last_byte, unit_size, without_unit, budget_size, user_with, user_of_fields, spelled_user};
 
 use crate::home::Home;
-use crate::number::{number_of, rounds_of};
+use crate::number::rounds_of;
 use crate::parts::parts;
 use crate::user::{Credential, PasswordHash, Rights, User};
-use ftp_base::Bytes;
+use ftp_base::{Bytes, decimal_in};
 use hex::FromHexError;
 use std::alloc::{AllocError, Global};
 
@@ -133,7 +133,7 @@ fn without_unit(text: &[u8]) -> &[u8]
 fn budget_size(text: &[u8]) -> Option<u64>
     ensures { result ≡ budget_size text.now }
 {
-    let n = number_of(without_unit(text))?;
+    let n = decimal_in(without_unit(text))?;
     n.checked_mul(unit_size(text))
 }
 

@@ -1,11 +1,11 @@
 -- What the text of a PROXY line says: its words, between single spaces, name the protocol, two addresses and two ports.
-use Rattle.std.specs.Prelude.{ℕ, ◌==◌, ◌&&◌, ◌||◌, not, nat_lt, nat_le, Bool, false, List, [], ◌∷◌, length, get_or, codes, is_some, Option, Some, None, Result, Err, if◌then◌else◌}
+use Rattle.std.specs.Prelude.{ℕ, ◌==◌, ◌&&◌, ◌||◌, nat_le, Bool, false, List, [], ◌∷◌, length, codes, is_some, Option, Some, None, Result, Err, if◌then◌else◌}
 use Rattle.std.specs.List.{slice_split, list_all}
 use Rattle.std.specs.Str.{bytes_eq}
-use Rattle.std.specs.Char.{is_ascii_digit, is_ascii_hexdigit}
-use Rattle.std.specs.Str.Parse.{digits_value}
+use Rattle.std.specs.Char.{is_ascii_hexdigit}
 use Rattle.std.specs.Int.{w32, from_be_bytes}
 use Rattle.std.specs.Option.{ok_or, option_map_or}
+use Rattle.ftp_base.specs.Decimal.{decimal_below}
 use Rattle.ftp_base.specs.declared.net.IpAddr.TheVariants.{V4}
 use Rattle.ftp_base.specs.declared.net.SocketAddr.{SocketAddr}
 use Rattle.ftp_proxy.specs.declared.header.ProxyHeader.{ProxyHeader}
@@ -27,22 +27,14 @@ abbrev pub four : {A : Type 0} → List A → Option (A × A × A × A)
 four (a ∷ b ∷ c ∷ d ∷ []) = Some (a, b, c, d)
 four _ = None
 
--- decimal digits, of which a zero leads no other
-abbrev pub is_decimal : List ℕ → Bool
-is_decimal text = not (length text == 0) && list_all is_ascii_digit text && (not (get_or text 0 0 == 48) || length text == 1)
-
--- the number below a limit that a text spells
-abbrev pub number_of : ℕ → List ℕ → Option ℕ
-number_of limit text = let n = digits_value 10 text in if is_decimal text && nat_lt n limit then Some n else None
-
 -- the address of version 4 that a text spells: four numbers of a byte, joined by dots
 abbrev pub ipv4_of : List ℕ → Option ℕ
 ipv4_of text = do
   parts ← four (pieces 46 text)
-  a ← number_of 256 parts.0
-  b ← number_of 256 parts.1
-  c ← number_of 256 parts.2
-  d ← number_of 256 parts.3
+  a ← decimal_below 256 parts.0
+  b ← decimal_below 256 parts.1
+  c ← decimal_below 256 parts.2
+  d ← decimal_below 256 parts.3
   Some (from_be_bytes w32 (a ∷ b ∷ c ∷ d ∷ []))
 
 -- whether a byte can stand in an address of version 6: a hexadecimal digit of either case, a colon or a dot
@@ -57,7 +49,7 @@ is_ipv6 text = nat_le 2 (length text) && nat_le (length text) 45 && list_all is_
 abbrev pub endpoint_of : List ℕ → List ℕ → Option SocketAddr
 endpoint_of address number = do
   ip ← ipv4_of address
-  port ← number_of 65536 number
+  port ← decimal_below 65536 number
   Some (record { ip = V4 ip; port = port })
 
 -- the header of these fields: both addresses of version 4, then both ports
@@ -71,7 +63,7 @@ tcp4_of fields = do
 -- whether these fields are both addresses of version 6, then both ports
 abbrev pub is_tcp6 : List (List ℕ) → Bool
 is_tcp6 fields =
-    option_map_or (λ parts. is_ipv6 parts.0 && is_ipv6 parts.1 && is_some (number_of 65536 parts.2) && is_some (number_of 65536 parts.3))
+    option_map_or (λ parts. is_ipv6 parts.0 && is_ipv6 parts.1 && is_some (decimal_below 65536 parts.2) && is_some (decimal_below 65536 parts.3))
     (four fields) false
 
 -- what the fields say under the name of a protocol

@@ -3,7 +3,8 @@
 ghost use Rattle.std.specs.Prelude.{◌≡◌, [], List, ℕ, IsErrOf};
 ghost use Rattle.std.specs.List.{list_all};
 ghost use Rattle.std.specs.Option.{option_map, option_map_or};
-ghost use Rattle.ftp_proxy.specs.Header.{pieces, number_of, ipv4_of, endpoint_of, is_ipv6_byte, is_ipv6, tcp4_of, is_tcp6, header_outcome, protocol_outcome};
+ghost use Rattle.ftp_base.specs.Decimal.{decimal_below};
+ghost use Rattle.ftp_proxy.specs.Header.{pieces, ipv4_of, endpoint_of, is_ipv6_byte, is_ipv6, tcp4_of, is_tcp6, header_outcome, protocol_outcome};
 
 use crate::error::{ProxyError, ReadError};
 use crate::number::number;
@@ -95,14 +96,14 @@ fn ipv4(text: &[u8]) -> Option<IpAddr>
 }
 
 fn octet(text: &[u8]) -> Option<u8>
-    ensures { result ≡ number_of 256 text.now }
+    ensures { result ≡ decimal_below 256 text.now }
 {
     let n = number(text, 256)?;
     Some(n as u8)
 }
 
 fn port(text: &[u8]) -> Option<u16>
-    ensures { result ≡ number_of 65536 text.now }
+    ensures { result ≡ decimal_below 65536 text.now }
 {
     let n = number(text, 65536)?;
     Some(n as u16)

@@ -4,33 +4,21 @@ ghost use Rattle.std.specs.Prelude.{◌≡◌, ◌<◌, ◌≤◌, nat_lt, true,
 ghost use Rattle.std.specs.List.{list_all};
 ghost use Rattle.std.specs.Char.{is_ascii_digit};
 ghost use Rattle.std.specs.Str.Parse.{digits_value};
-ghost use Rattle.ftp_proxy.specs.Header.{is_decimal, number_of};
+ghost use Rattle.ftp_base.specs.Decimal.{decimal_below};
+
+use ftp_base::is_decimal;
 
 /// The number below the limit that the text spells, without a leading zero.
 pub fn number(text: &[u8], limit: u32) -> Option<u32>
     requires some { 1 ≤ limit }
     requires small { limit ≤ 65536 }
-    ensures number { result ≡ number_of limit text.now }
+    ensures number { result ≡ decimal_below limit text.now }
     ensures below { IfSome result (λ n. n < limit) }
 {
     if !is_decimal(text) {
         return None;
     }
     value_below(text, limit)
-}
-
-// Says whether all are digits, of which a zero leads no other.
-fn is_decimal(text: &[u8]) -> bool
-    ensures decimal { result ≡ is_decimal text.now }
-    ensures digits { result ≡ true → list_all is_ascii_digit text.now ≡ true }
-{
-    !text.is_empty() && are_digits(text) && (text[0] != b'0' || text.len() == 1)
-}
-
-fn are_digits(text: &[u8]) -> bool
-    ensures { result ≡ list_all is_ascii_digit text.now }
-{
-    text.iter().all(|b| b.is_ascii_digit())
 }
 
 /// The value of decimal digits, where it is below the limit, which is at most 65536.

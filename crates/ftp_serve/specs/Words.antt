@@ -5,7 +5,7 @@ use Rattle.std.specs.Prelude.{◌≡◌, ℕ, ◌^◌, ◌≤◌, IsSomeAnd, Lis
 use Rattle.std.specs.Str.{bytes_eq}
 use Rattle.ftp_options.specs.declared.options.ListenerMode.{ListenerMode}
 use Rattle.ftp_options.specs.declared.options.ListenerMode.TheVariants.{Legacy, Pooled, Proxy}
-use Rattle.ftp_proxy.specs.Header.{number_of}
+use Rattle.ftp_base.specs.Decimal.{decimal_below}
 use Rattle.ftp_serve.specs.declared.command.Command.{Command}
 use Rattle.ftp_serve.specs.declared.service.Service.{Service}
 use Rattle.ftp_serve.specs.declared.command.Command.TheVariants.{Help, Version, Serve}
@@ -17,7 +17,7 @@ command_of word =
 
 -- a word is a port in decimal digits, of which a zero leads no other
 abbrev pub IsPort : List ℕ → ℕ → Type 0
-IsPort word port = number_of 65536 word ≡ Some port
+IsPort word port = decimal_below 65536 word ≡ Some port
 
 -- a word names a mode; behind a proxy it has the control port behind a colon
 abbrev pub IsMode : List ℕ → ListenerMode → Type 0
@@ -27,7 +27,7 @@ IsMode word (Proxy port) = (digits : List ℕ) × (word ≡ codes "proxy:" ++ di
 
 -- a word is a number from 1 on, in decimal digits, of which a zero leads no other
 abbrev pub IsCount : List ℕ → ℕ → Type 0
-IsCount word n = (number_of (2 ^ 64) word ≡ Some n) × (1 ≤ n)
+IsCount word n = (decimal_below (2 ^ 64) word ≡ Some n) × (1 ≤ n)
 
 -- a word is so many, where there is one
 abbrev pub IsEvery : Option (List ℕ) → Option ℕ → Type 0

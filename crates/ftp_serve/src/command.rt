@@ -6,8 +6,8 @@ ghost use Rattle.ftp_serve.specs.declared.command.Command.{Command};
 ghost use Rattle.ftp_serve.specs.declared.service.Service.{Service};
 ghost use Rattle.ftp_serve.specs.Words.{Asks, AsksService, IsCount, IsMode, command_of};
 
-use crate::number::number_of;
 use crate::service::Service;
+use ftp_base::decimal_in;
 use ftp_options::ListenerMode;
 use ftp_system::port_of;
 
@@ -105,7 +105,7 @@ fn count_of(word: &[u8]) -> Option<u64>
     ensures none { IsNone result → (n : ℕ) → IsCount word.now n → ⊥ }
     ensures some { IfSome result (λ n. 1 ≤ n) }
 {
-    match number_of(word) {
+    match decimal_in(word) {
         Some(n) if 1 <= n => Some(n),
         _ => None,
     }

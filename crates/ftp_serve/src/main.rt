@@ -10,7 +10,6 @@
 ghost use Rattle.std.specs.Prelude.{◌≡◌, ◌∷◌, ℕ, List, map, string_bytes, codes, IfSome, IsNone};
 
 mod command;
-mod number;
 mod recording;
 mod service;
 mod serving;

@@ -1,22 +1,10 @@
 -- Texts with digits behind a colon.
-use Rattle.std.proofs.Common.{◌≡◌, ℕ, ◌+◌, ◌-◌, ◌<◌, ◌≤◌, ◌&&◌, ◌||◌, not, nat_lt, suc, Bool, true, false, true≢false, List, ◌∷◌, ◌++◌, length, get_or, take, drop, Some, None, if◌then◌else◌, refl, sym, ap, ap₂, ◌∙◌, lt_of_not-le, length-append, take-append-drop, drop-cons, get_or-append-add, arith}
+use Rattle.std.proofs.Common.{◌≡◌, ℕ, ◌+◌, ◌-◌, ◌<◌, ◌≤◌, suc, true, false, true≢false, List, ◌∷◌, ◌++◌, length, get_or, take, drop, Some, None, sym, ap, ap₂, ◌∙◌, lt_of_not-le, length-append, take-append-drop, drop-cons, get_or-append-add, arith}
 use Rattle.std.specs.Prelude.{◌==◌}
 use Rattle.std.specs.List.{list_all}
 use Rattle.std.specs.Char.{is_ascii_digit}
-use Rattle.std.specs.Str.Parse.{digits_value}
 use Rattle.std.proofs.Math.Seq.{get_or-append_seam, take-append_seam, drop-append-add}
 use Rattle.ftp_proxy.proofs.Numbers.{digit_in_range}
-use Rattle.ftp_proxy.specs.Header.{number_of}
-
--- a number is written in digits
-pub number-digits : (text : List ℕ) (limit n : ℕ) → number_of limit text ≡ Some n → list_all is_ascii_digit text ≡ true
-number-digits text limit n e = by (length text == 0) (list_all is_ascii_digit text) e where
-  by : (empty digits : Bool) →
-      (if (not empty && digits && (not (get_or text 0 0 == 48) || length text == 1)) && nat_lt (digits_value 10 text) limit then Some (digits_value 10 text) else None) ≡ Some n →
-      digits ≡ true
-  by empty true found = refl
-  by true false found = absurd (cc found)
-  by false false found = absurd (cc found)
 
 -- nothing is no number
 pub no-number : (n : ℕ) → None ≡ Some n → ⊥

@@ -9,7 +9,7 @@ use Rattle.std.specs.Net.Grammar.{IsIpv4Text, IsIpv6Text}
 use Rattle.ftp_base.specs.declared.net.IpAddr.{IpAddr}
 use Rattle.ftp_base.specs.declared.net.IpAddr.TheVariants.{V4, V6}
 use Rattle.ftp_base.specs.declared.net.SocketAddr.{SocketAddr}
-use Rattle.ftp_proxy.specs.Header.{number_of}
+use Rattle.ftp_base.specs.Decimal.{decimal_below}
 
 -- the text writes this address, one of version 6 between brackets
 abbrev pub IsHostText : List ℕ → IpAddr → Type 0
@@ -23,4 +23,4 @@ pub record IsBindText (text : List ℕ) (at : SocketAddr) : Type 0 where
   pub digits : List ℕ
   pub spelled : text ≡ host ++ (codes ":" ++ digits)
   pub address : IsHostText host at.ip
-  pub number : number_of 65536 digits ≡ Some at.port
+  pub number : decimal_below 65536 digits ≡ Some at.port

@@ -1,14 +1,12 @@
 //! Where a server listens, as a text says it.
 
-ghost use Rattle.std.specs.Prelude.{◌≡◌, ◌≢◌, ℕ, ◌-◌, ◌<◌, ◌≤◌, ◌==◌, ◌++◌, true, false, List, length, get_or, codes, IfSome, IsNone, MatchOption};
-ghost use Rattle.std.specs.List.{list_all};
-ghost use Rattle.std.specs.Char.{is_ascii_digit};
+ghost use Rattle.std.specs.Prelude.{◌≡◌, ◌≢◌, ℕ, ◌-◌, ◌<◌, ◌≤◌, ◌==◌, ◌++◌, false, List, length, get_or, codes, IfSome, IsNone, MatchOption};
 ghost use Rattle.ftp_base.specs.declared.net.IpAddr.{IpAddr};
 ghost use Rattle.ftp_base.specs.declared.net.SocketAddr.{SocketAddr};
 ghost use Rattle.ftp_system.specs.Listen.{IsHostText, IsBindText};
-ghost use Rattle.ftp_proxy.specs.Header.{is_decimal, number_of};
+ghost use Rattle.ftp_base.specs.Decimal.{decimal_below};
 
-use ftp_base::{IpAddr, SocketAddr};
+use ftp_base::{IpAddr, SocketAddr, is_decimal};
 use ftp_proxy::value_below;
 use std::net::{Ipv4Addr, Ipv6Addr};
 
@@ -48,26 +46,13 @@ fn behind_last_colon(text: &[u8]) -> usize
 
 /// The port that decimal digits write, of which a zero leads no other.
 pub fn port_of(text: &[u8]) -> Option<u16>
-    ensures number { result ≡ number_of 65536 text.now }
+    ensures number { result ≡ decimal_below 65536 text.now }
 {
     if !is_decimal(text) {
         return None;
     }
     let port = value_below(text, 65536)?;
     Some(port as u16)
-}
-
-fn is_decimal(text: &[u8]) -> bool
-    ensures decimal { result ≡ is_decimal text.now }
-    ensures digits { result ≡ true → list_all is_ascii_digit text.now ≡ true }
-{
-    !text.is_empty() && are_digits(text) && (text[0] != b'0' || text.len() == 1)
-}
-
-fn are_digits(text: &[u8]) -> bool
-    ensures { result ≡ list_all is_ascii_digit text.now }
-{
-    text.iter().all(|b| b.is_ascii_digit())
 }
 
 // The address that the text writes.

@@ -1,20 +1,21 @@
 use Rattle.std.proofs.Common.{◌≡◌, ◌-◌, ◌<◌, Some, length, take, drop, refl, sym, ◌∙◌, subst, arith}
 use Rattle.std.proofs.lemmas.List.{take_rest}
 use Rattle.ftp_system.specs.Listen.{IsHostText}
-use Rattle.ftp_proxy.specs.Header.{number_of}
-use Rattle.ftp_system.proofs.Colons.{no-number, number-digits, behind-colon, cut-colon, join-colon}
+use Rattle.ftp_base.specs.Decimal.{decimal_below}
+use Rattle.ftp_base.proofs.Digits.{decimal_below-digits}
+use Rattle.ftp_system.proofs.Colons.{no-number, behind-colon, cut-colon, join-colon}
 use Rattle.ftp_system.proofs.listen.bind_address.Goals as goal
 
 pub returns-then-behind-eq0-clause-none : goal.returns-then-behind-eq0-clause-none
 returns-then-behind-eq0-clause-none c none at w =
     let found = c.behind_last_colon-behind.ensures in
-    let place = behind-colon c.args.text.now w.host w.digits c.behind_last_colon-behind.result w.spelled (number-digits w.digits 65536 at.port w.number) found.within found.colon found.last in
+    let place = behind-colon c.args.text.now w.host w.digits c.behind_last_colon-behind.result w.spelled (decimal_below-digits w.digits 65536 at.port w.number) found.within found.colon found.last in
     absurd (omega (arith, place, c.if-behind-eq0.true))
 
 pub returns-in_err-ip-clause-none : goal.returns-in_err-ip-clause-none
 returns-in_err-ip-clause-none c none at w =
     let found = c.behind_last_colon-behind.ensures in
-    let place = behind-colon c.args.text.now w.host w.digits c.behind_last_colon-behind.result w.spelled (number-digits w.digits 65536 at.port w.number) found.within found.colon found.last in
+    let place = behind-colon c.args.text.now w.host w.digits c.behind_last_colon-behind.result w.spelled (decimal_below-digits w.digits 65536 at.port w.number) found.within found.colon found.last in
     let parts = cut-colon c.args.text.now w.host w.digits c.behind_last_colon-behind.result w.spelled place in
     c.in_err-ip.ensures.none refl at.ip (subst (λ h. IsHostText h at.ip) parts.0 w.address)
 
@@ -23,9 +24,9 @@ returns-in_err-port-clause-none c none at w =
     let text = c.args.text.now in
     let behind = c.behind_last_colon-behind.result in
     let found = c.behind_last_colon-behind.ensures in
-    let place = behind-colon text w.host w.digits behind w.spelled (number-digits w.digits 65536 at.port w.number) found.within found.colon found.last in
+    let place = behind-colon text w.host w.digits behind w.spelled (decimal_below-digits w.digits 65536 at.port w.number) found.within found.colon found.last in
     let parts = cut-colon text w.host w.digits behind w.spelled place in
-    let number : number_of 65536 (take (length text - behind) (drop behind text)) ≡ Some at.port = rw take_rest (subst (λ d. number_of 65536 d ≡ Some at.port) parts.1 w.number) in
+    let number : decimal_below 65536 (take (length text - behind) (drop behind text)) ≡ Some at.port = rw take_rest (subst (λ d. decimal_below 65536 d ≡ Some at.port) parts.1 w.number) in
     no-number at.port (c.in_err-port.ensures.number ∙ number)
 
 pub returns-clause-written : goal.returns-clause-written

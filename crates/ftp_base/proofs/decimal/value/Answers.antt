@@ -1,7 +1,7 @@
 use Rattle.std.proofs.Common.{Err, subst}
 use Rattle.std.specs.Str.Parse.{ParsesUnsigned}
-use Rattle.ftp_serve.proofs.Digits.{digits-text, none-fits}
-use Rattle.ftp_serve.proofs.number.value.Goals as goal
+use Rattle.ftp_base.proofs.Digits.{digits-text, none-fits}
+use Rattle.ftp_base.proofs.decimal.value.Goals as goal
 
 pub returns-in_default : goal.returns-in_default
 returns-in_default c = absurd (c.in_default.ensures.cases.0 (digits-text c.args.digits.now c.requires.digits))

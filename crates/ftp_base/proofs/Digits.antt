@@ -1,6 +1,6 @@
 -- Numbers in decimal digits, as std reads them.
-use Rattle.std.proofs.Common.{◌≡◌, ℕ, ◌^◌, ◌<◌, ◌≤◌, Bool, true, false, ◌&&◌, List, [], ◌∷◌, length, Err, Some, None, refl, inl, inr, arith}
-use Rattle.std.specs.Prelude.{nat_lt, if◌then◌else◌}
+use Rattle.std.proofs.Common.{◌≡◌, ℕ, ◌^◌, ◌<◌, ◌≤◌, Bool, true, false, ◌&&◌, ◌||◌, not, List, [], ◌∷◌, length, get_or, Err, Some, None, refl, inl, inr, arith}
+use Rattle.std.specs.Prelude.{◌==◌, nat_lt, if◌then◌else◌}
 use Rattle.std.specs.List.{list_all}
 use Rattle.std.specs.Char.{is_ascii_digit, digit_value}
 use Rattle.std.specs.Str.{IsUtf8}
@@ -10,6 +10,7 @@ use Rattle.std.proofs.lemmas.Bool.Decides.{nat_tests}
 use Rattle.std.proofs.lemmas.Fmt.{IsAscii-from_digits}
 use Rattle.std.proofs.lemmas.Str.{IsUtf8-from_ascii}
 use Rattle.std.proofs.lemmas.Str.Parse.{IsNumeralModel, numerals_by_value, tells_digits, parse_digits}
+use Rattle.ftp_base.specs.Decimal.{decimal_below}
 
 pub own : IsNumeralModel (AllDigits 10) (digits_value 10)
 own = numerals_by_value (AllDigits 10) tells_digits
@@ -44,3 +45,13 @@ none-fits bytes e h some parses =
         | inl less ↦ absurd (never less)
         | inr le ↦ le
       ]
+
+-- a number is written in digits
+pub decimal_below-digits : (bytes : List ℕ) (limit n : ℕ) → decimal_below limit bytes ≡ Some n → list_all is_ascii_digit bytes ≡ true
+decimal_below-digits bytes limit n e = by (length bytes == 0) (list_all is_ascii_digit bytes) e where
+  by : (empty digits : Bool) →
+      (if (not empty && digits && (not (get_or bytes 0 0 == 48) || length bytes == 1)) && nat_lt (digits_value 10 bytes) limit then Some (digits_value 10 bytes) else None) ≡ Some n →
+      digits ≡ true
+  by empty true found = refl
+  by true false found = absurd (cc found)
+  by false false found = absurd (cc found)
