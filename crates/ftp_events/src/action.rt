@@ -64,7 +64,7 @@ impl PartialEq for Actions {
     ghost laws = { partial_equiv_from_equiv (lists_equiv laws-law) };
 
     fn eq(&self, other: &Actions) -> bool {
-        self.items.as_slice() == other.items.as_slice()
+        self.items == other.items
     }
 }
 
