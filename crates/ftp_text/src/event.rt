@@ -125,7 +125,8 @@ fn made<V, F: FnOnce(V) -> EventKind>(read: (V, &[u8]), make: F) -> (EventKind, 
     ensures { F.post make read.entry.0 result.0 × (result.1.now ≡ read.entry.1.now) }
 {
     let (values, rest) = read;
-    (make(values), rest)
+    let kind = make(values);
+    (kind, rest)
 }
 
 // The transfer of a session, by the command on what was read.
