@@ -120,13 +120,12 @@ fn on_dir(alloc: Global, bytes: &[u8]) -> Result<((u64, Option<Bytes>), &[u8]), 
 }
 
 // The kind that is made of what was read.
-fn made<V, F: FnOnce(V) -> EventKind>(read: (V, &[u8]), make: F) -> (EventKind, &[u8])
+fn made<V, K, F: FnOnce(V) -> K>(read: (V, &[u8]), make: F) -> (K, &[u8])
     requires { F.IsAlwaysCallable make }
     ensures { F.post make read.entry.0 result.0 × (result.1.now ≡ read.entry.1.now) }
 {
     let (values, rest) = read;
-    let kind = make(values);
-    (kind, rest)
+    (make(values), rest)
 }
 
 // The transfer of a session, by the command on what was read.
