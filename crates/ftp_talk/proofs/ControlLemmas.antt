@@ -1,5 +1,5 @@
 -- The begin of a talk.
-use Rattle.std.proofs.Common.{◌≡◌, ℕ, ◌≤◌, true, false, List, [], ◌∷◌, ◌++◌, Option, Some, None, refl, sym, ap, subst, arith, inr}
+use Rattle.std.proofs.Common.{◌≡◌, ℕ, ◌≤◌, true, false, List, [], ◌∷◌, ◌++◌, Option, Some, None, refl, sym, ap, subst, ◌∙◌, arith, inl, inr}
 use Rattle.std.specs.Prelude.{IfSome}
 use Rattle.std.proofs.lemmas.List.{append-nil}
 use Rattle.ftp_base.specs.declared.reply.Reply.{Reply}
@@ -25,7 +25,7 @@ use Rattle.ftp_talk.specs.Ground.{Start, Ground}
 use Rattle.ftp_talk.specs.Seen.{IsSeen}
 use Rattle.ftp_talk.specs.Talk.{IsInput}
 use Rattle.ftp_talk.specs.Speaking.{Begins, Knows, Keeps, IsCut, Talking, OutcomeHeard}
-use Rattle.ftp_talk.specs.Control.{peer_of, ground_of, is_opened}
+use Rattle.ftp_talk.specs.Control.{peer_of, ground_of, is_opened, is_fault, HasOpened, IsUnopened}
 use Rattle.ftp_talk.specs.ControlWith.{IsServedWith, ServesWith}
 use Rattle.ftp_talk.specs.Extended.{OutcomeWith}
 use Rattle.ftp_talk.specs.Parts.{HeardLine, MayDoSo, AreAllowed}
@@ -176,3 +176,20 @@ ends-with may first end.ReadFault g edge desk sent hs allowed h = (hs, allowed, 
 ends-with may first end.WriteFault g edge desk sent hs allowed h = (hs, allowed, h)
 ends-with may first end.OutOfMemory g edge desk sent hs allowed h = (hs, allowed, h)
 ends-with may first end.Exhausted g edge desk sent hs allowed h = (hs, allowed, h)
+
+-- an end without a session is one of serving
+pub serves-unopened : (may : MayDoSo) (first : Option (List ℕ)) (x : ServeEnd) (opening : HubEvent) (a : Answer) (start : Start) (desk : DeskView) →
+    IsUnopened x opening a start desk → ServesWith may first x opening a start start.edge desk start.sent
+serves-unopened may first (end.Refused d) opening a start desk h = h
+serves-unopened may first end.OutOfMemory opening a start desk h = inl h
+serves-unopened may first end.Exhausted opening a start desk h = inl h
+serves-unopened may first _ opening a start desk h = absurd h
+
+-- the peer is that of the entry's event
+pub named-open : (opening : HubEvent) (a : Answer) (start : Start) (state : ControlSession) (desk : DeskView) (h : HasOpened opening a start state desk) →
+    peer_of h.entry.event.kind a ≡ Some h.peer
+named-open opening a start state desk h = ap (λ (x : HubEvent). peer_of x.kind a) h.submitted.event ∙ h.named
+
+-- an end that is no fault is neither
+pub no-fault : (x : ServeEnd) → is_fault x ≡ false → (x ≡ end.ReadFault → ⊥) × (x ≡ end.WriteFault → ⊥)
+no-fault x sound = (λ e. absurd (cc (sound, e)), λ e. absurd (cc (sound, e)))

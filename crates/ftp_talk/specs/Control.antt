@@ -1,5 +1,5 @@
 -- How serving a control connection ends.
-use Rattle.std.specs.Prelude.{◌≡◌, ℕ, ◌⊎◌, Bool, true, false, List, ◌∷◌, Option, Some, None, Ok, IfSome}
+use Rattle.std.specs.Prelude.{◌≡◌, ℕ, ◌≤◌, ◌⊎◌, Bool, true, false, List, ◌∷◌, Option, Some, None, Ok, IfSome}
 use Rattle.ftp_base.specs.declared.reply.Reply.{Reply}
 use Rattle.ftp_base.specs.declared.net.IpAddr.{IpAddr}
 use Rattle.ftp_base.specs.Edge.{EdgeView}
@@ -11,12 +11,13 @@ use Rattle.ftp_events.specs.declared.event.Answer.TheVariants.{Header}
 use Rattle.ftp_events.specs.declared.event.EventKind.{EventKind}
 use Rattle.ftp_events.specs.declared.event.EventKind.TheVariants as kind
 use Rattle.ftp_events.specs.declared.event.HubEvent.{HubEvent}
-use Rattle.ftp_shared.specs.Desk.{DeskView, IsVouched, RisesBy}
+use Rattle.ftp_shared.specs.Desk.{DeskView, IsVouched, Appends, RisesBy}
+use Rattle.ftp_talk.specs.declared.control_session.ControlSession.{ControlSession}
 use Rattle.ftp_talk.specs.declared.control_session.Peer.{Peer}
 use Rattle.ftp_talk.specs.declared.serving.ServeEnd.{ServeEnd}
 use Rattle.ftp_talk.specs.declared.serving.ServeEnd.TheVariants as end
 use Rattle.ftp_talk.specs.Ground.{Start, Ground}
-use Rattle.ftp_talk.specs.Speaking.{Outcome}
+use Rattle.ftp_talk.specs.Speaking.{Begins, Outcome}
 
 -- the client: behind a proxy the one that the header names
 abbrev pub client_of : IpAddr → Answer → IpAddr
@@ -51,6 +52,21 @@ pub record IsSubmitted (opening : HubEvent) (a : Answer) (start : Start) (e : En
   pub earlier : List (ℕ × Reply)
   pub vouched : start.vouches ≡ true → IsVouched start.desk.options earlier e
 
+-- the opening was decided as opened; what the session knows at first, and how the desk stands behind it
+pub record HasOpened (opening : HubEvent) (a : Answer) (start : Start) (state : ControlSession) (desk : DeskView) : Type 0 where
+  pub entry : Entry
+  pub peer : Peer
+  pub submitted : IsSubmitted opening a start entry
+  pub decision : entry.decision ≡ Opened
+  pub named : peer_of opening.kind a ≡ Some peer
+  pub begins : Begins state peer start.desk.options
+  pub appended : IfSome start.desk.journal (λ J. Appends J start.desk desk submitted.earlier entry)
+  pub share : RisesBy 1 start.desk.share desk.share
+  pub options : desk.options ≡ start.desk.options
+  pub files : desk.files ≡ start.desk.files
+  pub count : start.desk.faults ≤ desk.faults
+  pub unrefused : desk.refused ≡ start.desk.refused
+
 -- the opening was decided so and not as opened; nothing else was submitted, and nothing was sent
 pub record IsRefused (d : Decision) (opening : HubEvent) (a : Answer) (start : Start) (desk : DeskView) (sent : Option (List ℕ)) : Type 0 where
   pub entry : Entry
@@ -74,6 +90,13 @@ pub record IsServedTo (e : ServeEnd) (opening : HubEvent) (a : Answer) (start : 
 pub record IsIdle (start : Start) (desk : DeskView) (sent : Option (List ℕ)) : Type 0 where
   pub journal : desk.journal ≡ start.desk.journal
   pub unsent : sent ≡ start.sent
+
+-- how serving ended where no session was opened
+abbrev pub IsUnopened : ServeEnd → HubEvent → Answer → Start → DeskView → Type 0
+IsUnopened (end.Refused d) opening a start desk = IsRefused d opening a start desk start.sent
+IsUnopened end.OutOfMemory opening a start desk = IsIdle start desk start.sent
+IsUnopened end.Exhausted opening a start desk = IsIdle start desk start.sent
+IsUnopened _ opening a start desk = ⊥
 
 -- how serving ended
 abbrev pub Serves : ServeEnd → HubEvent → Answer → Start → EdgeView → DeskView → Option (List ℕ) → Type 0

@@ -1,14 +1,14 @@
 //! Serving a control connection, from the opening of its session on.
 
-ghost use Rattle.std.specs.Prelude.{◌≡◌, ◌-◌, ◌^◌, ◌<◌, ◌≤◌, ◌∷◌, List, true, false, OnOk, OnErr, IsErrOf};
+ghost use Rattle.std.specs.Prelude.{◌≡◌, ◌-◌, ◌^◌, ◌<◌, ◌≤◌, ◌∷◌, List, true, false, IfOk, IfErr, OnOk, OnErr, IsErrOf};
 ghost use Rattle.ftp_base.specs.declared.fault.Failed.TheVariants.{Fault};
 ghost use Rattle.ftp_base.specs.Outside.{HasRisen, Writes};
 ghost use Rattle.ftp_events.specs.declared.entry.Entry.{Entry};
 ghost use Rattle.ftp_control.specs.Writing.{WritesFront};
 ghost use Rattle.ftp_talk.specs.Saying.{greeting_line};
-ghost use Rattle.ftp_talk.specs.Ground.{Ground};
+ghost use Rattle.ftp_talk.specs.Ground.{Ground, Start};
 ghost use Rattle.ftp_talk.specs.Speaking.{Knows};
-ghost use Rattle.ftp_talk.specs.Control.{client_of, peer_of, is_opening, is_opened, is_fault, Serves};
+ghost use Rattle.ftp_talk.specs.Control.{client_of, peer_of, is_opening, is_opened, is_fault, HasOpened, IsUnopened, Serves};
 ghost use Rattle.ftp_talk.specs.ControlWith.{ServesWith};
 
 use crate::control_session::{ControlSession, Peer};
@@ -207,28 +207,48 @@ pub fn serve_control_with<D: Desk, C: Control, E: Edge, A: Authenticator, X: Ext
     ensures count { C.faults control.old ≤ C.faults control.new }
     ensures extras_count { X.faults extras.old ≤ X.faults extras.new }
 {
-    let Some(peer) = peer_of(&opening.kind, &answer) else {
-        unreachable!()
-    };
-    let Ok(state) = ControlSession::open(alloc, desk.options(), peer) else {
-        return ServeEnd::OutOfMemory;
-    };
     let Ok(buffer) = Vec::from_elem(alloc, 0u8, FIRST_SIZE) else {
         return ServeEnd::OutOfMemory;
     };
-    let mut state = state;
     let mut buffer = buffer;
-    let told = match desk.submit(opening, answer) {
-        Ok(told) => told,
-        Err(AppendError::OutOfMemory) => return ServeEnd::OutOfMemory,
-        Err(AppendError::Exhausted) => return ServeEnd::Exhausted,
+    let mut state = match open_session(alloc, desk, opening, answer) {
+        Ok(state) => state,
+        Err(end) => return end,
     };
-    if !is_opened(told.entry.decision) {
-        return ServeEnd::Refused(told.entry.decision);
-    }
     if let Err(failed) = state.greet(control, &desk.options().greeting) {
         state.leave(desk, edge);
         return end_by(Halt::from(failed));
     }
     serve_lines(&mut state, desk, control, edge, auth, extras, &mut buffer)
+}
+
+// Submits the opening of a session, and gives the session where it was opened. It keeps a frame of its own.
+#[inline(never)]
+fn open_session<D: Desk>(
+    alloc: Global,
+    desk: &mut D,
+    opening: HubEvent,
+    answer: Answer,
+) -> Result<ControlSession, ServeEnd>
+    requires opening { is_opening opening.kind ≡ true }
+    ensures opened { IfOk result (λ state. (start : Start) → HasOpened opening answer (record start { desk = D.view desk.old; vouches = D.vouches }) state (D.view desk.new)) }
+    ensures unopened { IfErr result (λ end. (start : Start) → IsUnopened end opening answer (record start { desk = D.view desk.old; vouches = D.vouches }) (D.view desk.new)) }
+    ensures unbroken { IfErr result (λ end. is_fault end ≡ false) }
+    ensures exhausted { IsErrOf result ServeEnd.Exhausted → D.exhausts ≡ true }
+{
+    let Some(peer) = peer_of(&opening.kind, &answer) else {
+        unreachable!()
+    };
+    let Ok(state) = ControlSession::open(alloc, desk.options(), peer) else {
+        return Err(ServeEnd::OutOfMemory);
+    };
+    let told = match desk.submit(opening, answer) {
+        Ok(told) => told,
+        Err(AppendError::OutOfMemory) => return Err(ServeEnd::OutOfMemory),
+        Err(AppendError::Exhausted) => return Err(ServeEnd::Exhausted),
+    };
+    if !is_opened(told.entry.decision) {
+        return Err(ServeEnd::Refused(told.entry.decision));
+    }
+    Ok(state)
 }

@@ -1,2 +1,3 @@
 mod CarriedLemmas
 mod ResultLemmas
+mod TellingLemmas

@@ -4,3 +4,4 @@ pub mod Kept
 pub mod Listening
 pub mod OwnStorage
 pub mod Proxied
+pub mod Telling

@@ -8,6 +8,7 @@ ghost use Rattle.ftp_shared.specs.Outbox.{has_ticket};
 ghost use Rattle.ftp_shared.specs.Desk.{IsVouched, MaySay, RisesBy};
 ghost use Rattle.ftp_shared.specs.Next.{IsTurnAt};
 ghost use Rattle.ftp_workers.specs.Listening.{may_end_wait};
+ghost use Rattle.ftp_workers.specs.Telling.{IsTelling};
 
 use crate::event_sinks::EventSinks;
 use crate::server_state::ServerState;
@@ -101,34 +102,38 @@ impl<
         Ok(())
     }
 
-    // Has an event of this thread's session decided. Where memory runs out, that is counted, and the connection that came with
-    // the event is closed.
-    fn submit_turn(&mut self, event: HubEvent, answer: Answer) -> Result<Turn, AppendError>
-        requires unticketed { has_ticket event.kind ≡ false }
-        ensures next { IfOk result (λ t. IsTurnAt H.options t event answer) }
-        ensures share { H.counts ≡ true → OnOk result (H.made self.new.pass ≡ H.made self.old.pass + 1) }
-        ensures same_share { OnErr result (H.made self.new.pass ≡ H.made self.old.pass) }
-        ensures kept_share { H.made self.old.pass ≤ H.made self.new.pass }
-        ensures once { H.made self.new.pass ≤ H.made self.old.pass + 1 }
+    // Does what the entry of a turn asks for, and tells the session of it. Where there is none, that is counted, and the connection
+    // that came with its event is closed. It keeps a frame of its own.
+    #[inline(never)]
+    fn tell(
+        &mut self,
+        turn: Result<Turn, AppendError>,
+        link: Option<u64>,
+    ) -> Result<Told, AppendError>
+        ensures told { IsTelling turn result }
+        ensures pass { self.new.pass ≡ self.old.pass }
         ensures faults { self.new.faults ≡ self.old.faults }
         ensures unrefused { OnOk result (self.new.refused ≡ self.old.refused) }
         ensures refused_rose { OnErr result (HasRisen self.old.refused self.new.refused) }
         ensures refusals { self.old.refused ≤ self.new.refused }
-        ensures exhausted { IsErrOf result AppendError.Exhausted → H.exhausts ≡ true }
     {
-        let link = event.kind.link_number();
-        let turn = self
-            .state
-            .hub
-            .submit_for(&self.rt, &mut self.pass, event, answer);
-        match turn {
-            Ok(turn) => Ok(turn),
+        let turn = match turn {
+            Ok(turn) => turn,
             Err(error) => {
                 self.state.handoff.forget(&self.rt, link);
                 self.refused = self.refused.saturating_add(1);
-                Err(error)
+                return Err(error);
             }
+        };
+        self.state.handoff.wake_all(&self.rt, turn.others());
+        let Turn { earlier, submitted } = turn;
+        let Submitted { receipt, job } = submitted;
+        let Receipt { place: _, entry } = receipt;
+        if let Some(session) = entry.event.kind.named_session() {
+            self.state.handoff.open_port(&self.rt, session, &entry);
         }
+        self.state.carry_out_here(&self.rt, &entry, job);
+        Ok(Told { earlier, entry })
     }
 
     // Asks a storage for a directory.
@@ -209,16 +214,12 @@ impl<
         ensures exhausted { IsErrOf result AppendError.Exhausted → H.exhausts ≡ true }
     {
         self.accept_before(&event);
-        let turn = self.submit_turn(event, answer)?;
-        self.state.handoff.wake_all(&self.rt, turn.others());
-        let Turn { earlier, submitted } = turn;
-        let Submitted { receipt, job } = submitted;
-        let Receipt { place: _, entry } = receipt;
-        if let Some(session) = entry.event.kind.named_session() {
-            self.state.handoff.open_port(&self.rt, session, &entry);
-        }
-        self.state.carry_out_here(&self.rt, &entry, job);
-        Ok(Told { earlier, entry })
+        let link = event.kind.link_number();
+        let turn = self
+            .state
+            .hub
+            .submit_for(&self.rt, &mut self.pass, event, answer);
+        self.tell(turn, link)
     }
 
     fn draw(&mut self) -> u64 {

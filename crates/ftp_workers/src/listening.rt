@@ -204,6 +204,7 @@ impl<
 
     /// Takes in the connection that has come to the port of a session, where the event may close the port: who has
     /// connected is not to be reset.
+    #[inline(never)]
     pub(crate) fn accept_before(&mut self, event: &HubEvent)
         ensures share { H.made self.old.pass ≤ H.made self.new.pass }
         ensures once { H.made self.new.pass ≤ H.made self.old.pass + 1 }

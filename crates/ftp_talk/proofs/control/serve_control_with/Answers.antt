@@ -1,51 +1,19 @@
-use Rattle.std.proofs.Common.{[], ◌∷◌, ap, subst, sym, ◌∙◌, refl}
+use Rattle.std.proofs.Common.{[], ◌∷◌, subst, sym, ◌∙◌, refl}
 use Rattle.ftp_base.specs.Outside.{Writes}
 use Rattle.ftp_options.specs.declared.options.Options.{Options}
-use Rattle.ftp_events.specs.declared.event.HubEvent.{HubEvent}
 use Rattle.ftp_control.specs.Writing.{WritesFront}
 use Rattle.ftp_talk.specs.Saying.{greeting_line}
 use Rattle.ftp_talk.specs.Ground.{Start}
-use Rattle.ftp_talk.specs.Control.{peer_of, ground_of, IsSubmitted}
+use Rattle.ftp_talk.specs.Control.{ground_of}
 use Rattle.ftp_talk.proofs.EndLemmas.{ends-front}
-use Rattle.ftp_talk.proofs.ControlLemmas.{opened-is, knows-open, journal-open, begin-talking, begin-cut, ends-with, serves-with}
+use Rattle.ftp_talk.proofs.ControlLemmas.{knows-open, named-open, begin-talking, begin-cut, ends-with, serves-with, serves-unopened, no-fault}
 use Rattle.ftp_talk.proofs.control.serve_control_with.Goals as goal
-
-pub returns-then-not-is_opened-clause-served : goal.returns-then-not-is_opened-clause-served
-returns-then-not-is_opened-clause-served g c =
-    let e = c.in-Ok-submit.told.entry in
-    let desk = g.D.Desk.view c.args.desk.now in
-    let desk1 = g.D.Desk.view c.submit.new.self in
-    let start : Start = record {
-      edge = g.E.Edge.view c.args.edge.now;
-      desk = desk;
-      input = g.C.Source.left c.args.control.now;
-      sent = (g.C.Source.sending c.args.control.now).sent;
-      answers = g.A.Authenticator.may_answer c.args.auth.now;
-      ready = g.C.Control.is_always_ready;
-      vouches = g.D.Desk.vouches;
-      draws_next = g.D.Desk.draws_next;
-    } in
-    let k = c.in-Ok-submit.ensures in
-    let submitted : IsSubmitted c.args.opening c.args.answer start e = record { event = k.event; answer = k.answer; earlier = c.in-Ok-submit.told.earlier; vouched = k.vouched } in
-    record {
-      entry = e;
-      submitted = submitted;
-      decision = refl;
-      unopened = sym c.is_opened.ensures ∙ c.if-not-is_opened.true;
-      grew = journal-open desk.journal e desk desk1 c.in-Ok-submit.told.earlier k.appended;
-      share = k.share;
-      unsent = refl;
-    }
 
 pub returns-in-Err-clause-served : goal.returns-in-Err-clause-served
 returns-in-Err-clause-served g c =
-    let e = c.in-Ok-submit.told.entry in
-    let peer = c.in-Some.peer in
-    let desk = g.D.Desk.view c.args.desk.now in
-    let desk1 = g.D.Desk.view c.submit.new.self in
     let start : Start = record {
       edge = g.E.Edge.view c.args.edge.now;
-      desk = desk;
+      desk = g.D.Desk.view c.args.desk.now;
       input = g.C.Source.left c.args.control.now;
       sent = (g.C.Source.sending c.args.control.now).sent;
       answers = g.A.Authenticator.may_answer c.args.auth.now;
@@ -53,39 +21,54 @@ returns-in-Err-clause-served g c =
       vouches = g.D.Desk.vouches;
       draws_next = g.D.Desk.draws_next;
     } in
-    let k = c.in-Ok-submit.ensures in
-    let submitted : IsSubmitted c.args.opening c.args.answer start e = record { event = k.event; answer = k.answer; earlier = c.in-Ok-submit.told.earlier; vouched = k.vouched } in
-    let opened = opened-is e.decision (sym c.is_opened.ensures ∙ c.if-not-is_opened.false) in
-    let named = sym c.peer_of.ensures ∙ c.in-Some.is in
-    let named1 = ap (λ (x : HubEvent). peer_of x.kind c.args.answer) k.event ∙ named in
-    let ground = ground_of e peer start in
-    let begins = rw c.options.ensures.told at c.in-Ok.ensures in
-    let knows = c.greet.ensures.known ground (e ∷ []) (knows-open e peer start c.in-Ok.state opened begins) in
-    let live = c.greet.ensures.over ∙ begins.live in
+    serves-unopened (g.X.Extras.may c.args.extras.now) (g.X.Extras.pending c.args.extras.now) c.in-Err.end c.args.opening c.args.answer start (g.D.Desk.view c.open_session.new.desk) (c.in-Err.ensures.unopened start)
+
+pub returns-in-Err-clause-read_fault : goal.returns-in-Err-clause-read_fault
+returns-in-Err-clause-read_fault g c = λ e. absurd ((no-fault c.in-Err.end c.in-Err.ensures.unbroken).0 e)
+
+pub returns-in-Err-clause-write_fault : goal.returns-in-Err-clause-write_fault
+returns-in-Err-clause-write_fault g c = λ e. absurd ((no-fault c.in-Err.end c.in-Err.ensures.unbroken).1 e)
+
+pub returns-in-Err-greet-clause-served : goal.returns-in-Err-greet-clause-served
+returns-in-Err-greet-clause-served g c =
+    let start : Start = record {
+      edge = g.E.Edge.view c.args.edge.now;
+      desk = g.D.Desk.view c.args.desk.now;
+      input = g.C.Source.left c.args.control.now;
+      sent = (g.C.Source.sending c.args.control.now).sent;
+      answers = g.A.Authenticator.may_answer c.args.auth.now;
+      ready = g.C.Control.is_always_ready;
+      vouches = g.D.Desk.vouches;
+      draws_next = g.D.Desk.draws_next;
+    } in
+    let desk1 = g.D.Desk.view c.open_session.new.desk in
+    let state = c.in-Ok-open_session.state in
+    let h = c.in-Ok-open_session.ensures.opened start in
+    let ground = ground_of h.entry h.peer start in
+    let named = named-open c.args.opening c.args.answer start state desk1 h in
+    let knows = c.greet.ensures.known ground (h.entry ∷ []) (knows-open h.entry h.peer start state h.decision h.begins) in
+    let live = c.greet.ensures.over ∙ h.begins.live in
     let sent1 = (g.C.Source.sending c.greet.new.link).sent in
-    let front = subst (λ (o : Options). WritesFront start.sent sent1 (greeting_line o.greeting)) (c.options-2.ensures.told ∙ k.options) c.in-Err.ensures.front in
-    let cut = begin-cut e peer c.args.answer start desk1 c.in-Ok-submit.told.earlier c.greet.new.self sent1 opened named1 k.appended k.share k.options k.count k.unrefused knows.session live front in
-    serves-with (g.X.Extras.may c.args.extras.now) (g.X.Extras.pending c.args.extras.now) c.end_by.result c.args.opening c.args.answer start (g.E.Edge.view c.leave.new.edge) (g.D.Desk.view c.leave.new.desk) sent1
+    let front = subst (λ (o : Options). WritesFront start.sent sent1 (greeting_line o.greeting)) (c.options.ensures.told ∙ h.options) c.in-Err-greet.ensures.front in
+    let cut = begin-cut h.entry h.peer c.args.answer start desk1 h.submitted.earlier c.greet.new.self sent1 h.decision named h.appended h.share h.options h.count h.unrefused knows.session live front in
+    let edge2 = g.E.Edge.view c.leave.new.edge in
+    let desk2 = g.D.Desk.view c.leave.new.desk in
+    serves-with (g.X.Extras.may c.args.extras.now) (g.X.Extras.pending c.args.extras.now) c.end_by.result c.args.opening c.args.answer start edge2 desk2 sent1
     (record {
-      entry = e;
-      peer = peer;
-      submitted = submitted;
-      decision = opened;
-      named = named;
-      outcome = ends-with (g.X.Extras.may c.args.extras.now) (g.X.Extras.pending c.args.extras.now) c.end_by.result ground (g.E.Edge.view c.leave.new.edge) (g.D.Desk.view c.leave.new.desk) sent1 [] tt
-          (rw c.end_by.ensures (ends-front c.from.result ground (g.E.Edge.view c.leave.new.edge) (g.D.Desk.view c.leave.new.desk) sent1 []
-          (c.leave.ensures ground [] sent1 (refl, refl) cut)));
+      entry = h.entry;
+      peer = h.peer;
+      submitted = h.submitted;
+      decision = h.decision;
+      named = h.named;
+      outcome = ends-with (g.X.Extras.may c.args.extras.now) (g.X.Extras.pending c.args.extras.now) c.end_by.result ground edge2 desk2 sent1 [] tt
+          (rw c.end_by.ensures (ends-front c.from.result ground edge2 desk2 sent1 [] (c.leave.ensures ground [] sent1 (refl, refl) cut)));
     })
 
 pub returns-clause-served : goal.returns-clause-served
 returns-clause-served g c =
-    let e = c.in-Ok-submit.told.entry in
-    let peer = c.in-Some.peer in
-    let desk = g.D.Desk.view c.args.desk.now in
-    let desk1 = g.D.Desk.view c.submit.new.self in
     let start : Start = record {
       edge = g.E.Edge.view c.args.edge.now;
-      desk = desk;
+      desk = g.D.Desk.view c.args.desk.now;
       input = g.C.Source.left c.args.control.now;
       sent = (g.C.Source.sending c.args.control.now).sent;
       answers = g.A.Authenticator.may_answer c.args.auth.now;
@@ -93,25 +76,23 @@ returns-clause-served g c =
       vouches = g.D.Desk.vouches;
       draws_next = g.D.Desk.draws_next;
     } in
-    let k = c.in-Ok-submit.ensures in
-    let submitted : IsSubmitted c.args.opening c.args.answer start e = record { event = k.event; answer = k.answer; earlier = c.in-Ok-submit.told.earlier; vouched = k.vouched } in
-    let opened = opened-is e.decision (sym c.is_opened.ensures ∙ c.if-not-is_opened.false) in
-    let named = sym c.peer_of.ensures ∙ c.in-Some.is in
-    let named1 = ap (λ (x : HubEvent). peer_of x.kind c.args.answer) k.event ∙ named in
-    let ground = ground_of e peer start in
-    let begins = rw c.options.ensures.told at c.in-Ok.ensures in
-    let knows = c.greet.ensures.known ground (e ∷ []) (knows-open e peer start c.in-Ok.state opened begins) in
-    let live = c.greet.ensures.over ∙ begins.live in
+    let desk1 = g.D.Desk.view c.open_session.new.desk in
+    let state = c.in-Ok-open_session.state in
+    let h = c.in-Ok-open_session.ensures.opened start in
+    let ground = ground_of h.entry h.peer start in
+    let named = named-open c.args.opening c.args.answer start state desk1 h in
+    let knows = c.greet.ensures.known ground (h.entry ∷ []) (knows-open h.entry h.peer start state h.decision h.begins) in
+    let live = c.greet.ensures.over ∙ h.begins.live in
     let sent1 = (g.C.Source.sending c.greet.new.link).sent in
-    let wrote = subst (λ (o : Options). Writes start.sent sent1 (greeting_line o.greeting)) (c.options-2.ensures.told ∙ k.options) c.in_default-greet.ensures.wrote in
-    let talking = begin-talking e peer c.args.answer start desk1 c.in-Ok-submit.told.earlier c.greet.new.self sent1 (g.C.Source.left c.greet.new.link)
-    opened named1 k.appended k.share k.options k.files k.count k.unrefused knows live wrote c.greet.ensures.left in
+    let wrote = subst (λ (o : Options). Writes start.sent sent1 (greeting_line o.greeting)) (c.options.ensures.told ∙ h.options) c.in_default-greet.ensures.wrote in
+    let talking = begin-talking h.entry h.peer c.args.answer start desk1 h.submitted.earlier c.greet.new.self sent1 (g.C.Source.left c.greet.new.link)
+    h.decision named h.appended h.share h.options h.files h.count h.unrefused knows live wrote c.greet.ensures.left in
     serves-with (g.X.Extras.may c.args.extras.now) (g.X.Extras.pending c.args.extras.now) c.serve_lines.result c.args.opening c.args.answer start (g.E.Edge.view c.serve_lines.new.edge) (g.D.Desk.view c.serve_lines.new.desk) (g.C.Source.sending c.serve_lines.new.control).sent
     (record {
-      entry = e;
-      peer = peer;
-      submitted = submitted;
-      decision = opened;
-      named = named;
+      entry = h.entry;
+      peer = h.peer;
+      submitted = h.submitted;
+      decision = h.decision;
+      named = h.named;
       outcome = c.serve_lines.ensures.ended ground (record { about = (refl, refl); ready = refl; answers = refl }) talking;
     })
