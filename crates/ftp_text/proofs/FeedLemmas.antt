@@ -1,11 +1,9 @@
 -- No line of a printed log has a line feed within it.
-use Rattle.std.proofs.Common.{◌≡◌, ℕ, zero, suc, ◌+◌, ◌*◌, ◌/◌, ◌%◌, ◌^◌, ◌<◌, ◌≤◌, ◌&&◌, Bool, true, false, not, cond, List, [], ◌∷◌, ◌++◌, length, Option, Some, None, refl, sym, ap, subst, ◌∙◌, append_assoc, arith, inl, inr}
+use Rattle.std.proofs.Common.{◌≡◌, ℕ, zero, suc, ◌+◌, ◌/◌, ◌%◌, ◌^◌, ◌<◌, ◌≤◌, Bool, true, false, List, [], ◌∷◌, ◌++◌, length, Option, Some, None, refl, sym, subst, arith, inl, inr}
 use Rattle.std.specs.Prelude.{codes, Result, Ok, Err}
-use Rattle.std.specs.Char.{is_ascii_digit}
 use Rattle.std.specs.Fmt.{decimal, digits, digit_glyph}
 use Rattle.std.proofs.lemmas.Bool.{cases_lt}
-use Rattle.std.proofs.lemmas.Bool.Decides.{nat_tests}
-use Rattle.std.proofs.lemmas.Fmt.{digits_decimal, hex_one_digit}
+use Rattle.std.proofs.lemmas.Fmt.{hex_one_digit}
 use Rattle.ftp_base.specs.declared.command.DataChanCmd.TheVariants as command
 use Rattle.ftp_base.specs.declared.error_kind.ErrorKind.{ErrorKind}
 use Rattle.ftp_base.specs.declared.error_kind.ErrorKind.TheVariants as error
@@ -17,9 +15,6 @@ use Rattle.ftp_base.specs.declared.login.LockState.{LockState}
 use Rattle.ftp_base.specs.declared.login.LockState.TheVariants as lock
 use Rattle.ftp_base.specs.declared.message.ControlChanMsg.{ControlChanMsg}
 use Rattle.ftp_base.specs.declared.message.ControlChanMsg.TheVariants as message
-use Rattle.ftp_base.specs.declared.net.IpAddr.{IpAddr}
-use Rattle.ftp_base.specs.declared.net.IpAddr.TheVariants.{V4, V6}
-use Rattle.ftp_base.specs.declared.net.SocketAddr.{SocketAddr}
 use Rattle.ftp_base.specs.declared.notice.Notice.{Notice}
 use Rattle.ftp_base.specs.declared.notice.Notice.TheVariants as notice
 use Rattle.ftp_base.specs.declared.notice.DataEvent.TheVariants.{Got, Put, Deleted, MadeDir, RemovedDir, Renamed}
@@ -55,85 +50,27 @@ use Rattle.ftp_events.specs.declared.event.Answer.TheVariants as answer
 use Rattle.ftp_events.specs.declared.event.EventKind.{EventKind}
 use Rattle.ftp_events.specs.declared.event.EventKind.TheVariants as event_kind
 use Rattle.ftp_events.specs.declared.event.HubEvent.{HubEvent}
-use Rattle.ftp_control.specs.Lines.{is_line_feed}
-use Rattle.ftp_text.specs.Fields.{field, number, hex_byte, hex_digits, dotted, ip_text, address_text, is_plain, escape_byte, escape, optional, optional_text, ticket, answer_text as said_text, kind_text, refusal_text, fault_text, proxy_error_text, IsText, IsIp, IsAddress, IsNumber, Each}
+use Rattle.ftp_text.specs.Fields.{field, number, dotted, address_text, escape, optional, ticket, answer_text as said_text, kind_text, refusal_text, fault_text, proxy_error_text, IsText, IsNumber, Each}
 use Rattle.ftp_text.specs.Forms.{Shape, Number, Port, Address, Ticket, Answer as Said, Refusal, HexWord, MaybeIp, MaybePort, MaybeNumber, Form, Nothing, Last, Text, MaybeText, Message, ◌▸◌, Value, spelled, Fits, Values, all_spelled, AllFit}
 use Rattle.ftp_text.specs.Message.{message_fields, IsMessage}
-use Rattle.ftp_text.proofs.Exact.{Pass, digits_pass, passes_true}
-use Rattle.ftp_text.proofs.Lists.{pass-append, pass-more}
+use Rattle.ftp_text.proofs.Exact.{passes_true}
 use Rattle.ftp_text.proofs.Names.{name_fits}
-use Rattle.ftp_text.proofs.Numerals.{own}
 use Rattle.ftp_text.proofs.TraceLemmas.{digits-push}
 use Rattle.ftp_text.specs.declared.setup.Item.{Item}
 use Rattle.ftp_text.specs.declared.setup.Item.TheVariants as item
 use Rattle.ftp_text.specs.declared.event_word.EventWord.{EventWord}
 use Rattle.ftp_text.specs.declared.event_word.EventWord.TheVariants as event_word
 use Rattle.ftp_text.specs.Events.{event_word_text, form, told, told_text, kind_fields, event_line, IsEvent}
-use Rattle.ftp_text.specs.Options.{mode_text, host_text, active_text, block_text, policy_text, lockout_text, restart_text, listening_fields, rule_fields, IsMode, IsHost, IsPolicy, IsListening, AreRules}
+use Rattle.ftp_text.specs.Options.{mode_text, host_text, active_text, block_text, lockout_text, restart_text, listening_fields, rule_fields, IsMode, IsHost, IsPolicy}
 use Rattle.ftp_text.specs.Setup.{item_line, IsItem}
-use Rattle.ftp_text.specs.Printing.{lock_text, decision_text, decision_fields, header_fields, result_text, outcome_fields, notice_text, notice_bytes, first_path, second_path, notify_fields, reply_fields, delivered_text, action_fields}
+use Rattle.ftp_text.specs.Printing.{lock_text, decision_text, decision_fields, header_fields, result_text, outcome_fields, notice_text, notice_bytes, first_path, second_path, notify_fields, delivered_text, action_fields}
 use Rattle.ftp_text.specs.declared.line.LogLine.{LogLine}
 use Rattle.ftp_text.specs.declared.line.LogLine.TheVariants as says
-use Rattle.ftp_text.specs.LogLines.{answer_text, decided_text, log_line, IsAnswer, IsDecision, IsAction, IsNotice, IsMeta, IsTicket, is_options, IsLogLine}
+use Rattle.ftp_text.specs.LogLines.{answer_text, decided_text, log_line, IsAnswer, IsDecision, IsAction, is_options, IsLogLine}
 use Rattle.ftp_text.proofs.NoticeLemmas.{in-range}
-
--- the byte ends no line
-abbrev pub is_line_byte : ℕ → Bool
-is_line_byte b = not (is_line_feed b)
-
--- no byte ends a line
-abbrev pub HasNone : List ℕ → Type 0
-HasNone w = Pass is_line_byte w
-
-both : (v w : List ℕ) → HasNone v → HasNone w → HasNone (v ++ w)
-both v w p q = pass-append is_line_byte v w p q
+use Rattle.ftp_text.proofs.FieldFeeds.{is_line_byte, HasNone, both, decimal_none, number_none, glyph_none, escape_none, text_none, hex_none, dotted_none, address_none}
 
 -- ---- fields
-
-digit_none : (b : ℕ) → is_ascii_digit b ≡ true → is_line_byte b ≡ true
-digit_none b h = grind (arith, nat_tests)
-
-decimal_none : (n : ℕ) → n < 2 ^ 64 → HasNone (decimal n)
-decimal_none n lt = pass-more is_ascii_digit is_line_byte digit_none (decimal n) (digits_pass (decimal n) (digits_decimal own n lt))
-
-number_none : (n : ℕ) → n < 2 ^ 64 → HasNone (number n)
-number_none n lt = (refl, decimal_none n lt)
-
-glyph_none : (d : ℕ) → d < 16 → is_line_byte (digit_glyph false d) ≡ true
-glyph_none d lt = grind (arith, nat_tests)
-
-byte_none : (b : ℕ) → b < 256 → HasNone (escape_byte b)
-byte_none b lt = cases (is_plain b) refl where
-  cases : (p : Bool) → is_plain b ≡ p → HasNone (cond p (b ∷ []) (92 ∷ 120 ∷ hex_byte b))
-  cases true e = (grind (arith, nat_tests), tt)
-  cases false e = (refl, (refl, (glyph_none (b / 16) (omega arith), (glyph_none (b % 16) (omega arith), tt))))
-
-escape_none : (text : List ℕ) → IsText text → HasNone (escape text)
-escape_none [] fits = tt
-escape_none (b ∷ text) fits = both (escape_byte b) (escape text) (byte_none b fits.0) (escape_none text fits.1)
-
-text_none : (text : List ℕ) → IsText text → HasNone (field (escape text))
-text_none text fits = (refl, escape_none text fits)
-
-hex_none : (k n : ℕ) → HasNone (hex_digits k n)
-unfolding hex_digits
-hex_none zero n = tt
-hex_none (suc k) n = both (hex_digits k (n / 16)) (digit_glyph false (n % 16) ∷ []) (hex_none k (n / 16)) (glyph_none (n % 16) (omega arith), tt)
-
-dotted_none : (ip : ℕ) → HasNone (dotted ip)
-dotted_none ip =
-    both (decimal (ip / 16777216 % 256)) _ (decimal_none _ (omega arith)) (
-      refl,
-      both (decimal (ip / 65536 % 256)) _ (decimal_none _ (omega arith))
-          (refl, both (decimal (ip / 256 % 256)) _ (decimal_none _ (omega arith)) (refl, decimal_none (ip % 256) (omega arith))),
-    )
-
-ip_none : (ip : IpAddr) → HasNone (ip_text ip)
-ip_none (V4 ip) = dotted_none ip
-ip_none (V6 ip) = (refl, both (hex_digits 32 ip) (93 ∷ []) (hex_none 32 ip) (refl, tt))
-
-address_none : (a : SocketAddr) → IsAddress a → HasNone (field (address_text a))
-address_none a fits = (refl, both (ip_text a.ip) (58 ∷ decimal a.port) (ip_none a.ip) (refl, decimal_none a.port (omega (arith, fits.1))))
 
 ticket_none : (session nr : ℕ) → IsNumber session → IsNumber nr → HasNone (ticket session nr)
 ticket_none session nr s n = both (number session) (46 ∷ decimal nr) (number_none session s) (refl, decimal_none nr n)

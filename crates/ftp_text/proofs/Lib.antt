@@ -6,6 +6,7 @@ pub mod NoticeLemmas
 pub mod ActionLemmas
 pub mod LineLemmas
 pub mod PlaceLemmas
+pub mod FieldFeeds
 pub mod FeedLemmas
 pub mod PrintedLemmas
 pub mod EventLemmas

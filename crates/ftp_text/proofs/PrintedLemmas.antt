@@ -13,7 +13,8 @@ use Rattle.ftp_text.specs.declared.line.LogLine.{LogLine}
 use Rattle.ftp_text.specs.LogLines.{log_line, IsLogLine}
 use Rattle.ftp_text.specs.LogText.{lines_of, text_of, options_line, IsLog, IsFront, line_size, ComesNext, IsPrintOf, IsPrinted, IsFirstBad, HasFirstBad}
 use Rattle.ftp_text.proofs.LineLemmas.{log_line-injective}
-use Rattle.ftp_text.proofs.FeedLemmas.{HasNone, is_line_byte, line_none}
+use Rattle.ftp_text.proofs.FieldFeeds.{HasNone, is_line_byte}
+use Rattle.ftp_text.proofs.FeedLemmas.{line_none}
 use Rattle.ftp_text.proofs.PlaceLemmas.{lines-text}
 
 -- ---- lists

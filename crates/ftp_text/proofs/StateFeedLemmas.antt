@@ -1,20 +1,13 @@
 -- No line of a state has a line feed within it.
-use Rattle.std.proofs.Common.{◌≡◌, ℕ, zero, suc, ◌/◌, ◌%◌, ◌^◌, ◌<◌, Bool, true, false, not, cond, eqb, List, [], ◌∷◌, ◌++◌, length, Option, Some, None, refl, arith}
+use Rattle.std.proofs.Common.{ℕ, Bool, true, false, List, [], ◌∷◌, ◌++◌, length, Option, Some, None, refl, arith}
 use Rattle.std.specs.Prelude.{codes}
-use Rattle.std.specs.Char.{is_ascii_digit}
-use Rattle.std.specs.Fmt.{decimal, digit_glyph}
+use Rattle.std.specs.Fmt.{decimal}
 use Rattle.std.specs.Option.{option_map}
-use Rattle.std.proofs.lemmas.Bool.Decides.{nat_tests}
-use Rattle.std.proofs.lemmas.Fmt.{digits_decimal}
 use Rattle.ftp_base.specs.declared.net.IpAddr.{IpAddr}
-use Rattle.ftp_base.specs.declared.net.IpAddr.TheVariants.{V4, V6}
-use Rattle.ftp_base.specs.declared.net.SocketAddr.{SocketAddr}
 use Rattle.ftp_base.specs.declared.command.DataChanCmd.{DataChanCmd}
 use Rattle.ftp_base.specs.Command.{path_of}
-use Rattle.ftp_text.specs.Fields.{field, number, hex_byte, hex_digits, dotted, ip_text, address_text, is_plain, escape_byte, escape, optional, Each, IsText, IsAddress, IsNumber}
-use Rattle.ftp_text.proofs.Exact.{Pass, digits_pass, passes_true}
-use Rattle.ftp_text.proofs.Lists.{pass-append, pass-more}
-use Rattle.ftp_text.proofs.Numerals.{own}
+use Rattle.ftp_text.specs.Fields.{field, number, ip_text, address_text, optional, Each, IsNumber}
+use Rattle.ftp_text.proofs.Exact.{Pass, passes_true}
 use Rattle.ftp_hub.specs.declared.state.LoginState.{LoginState}
 use Rattle.ftp_hub.specs.declared.state.LoginState.TheVariants as login
 use Rattle.ftp_hub.specs.declared.state.SlotKind.{SlotKind}
@@ -27,62 +20,7 @@ use Rattle.ftp_text.specs.declared.state_word.LineWord.{LineWord}
 use Rattle.ftp_text.specs.declared.state_word.LineWord.TheVariants as line_word
 use Rattle.ftp_text.specs.Spelling.{line_word_text, login_state_text, command_word_text, command_word_of, bit, bytes_or_none, length_field, slot_kind_fields, command_options, command_lengths, command_parts, command_field, line_fields, line_word_of, state_line, IsPiece, HasPieces, IsSlotKind, IsStateLine}
 use Rattle.ftp_text.proofs.Pieces.{text-append, piece-length, piece-text, parts-text}
-
--- the byte ends no line
-abbrev pub is_line_byte : ℕ → Bool
-is_line_byte b = not (eqb b 10)
-
--- no byte ends a line
-abbrev pub HasNone : List ℕ → Type 0
-HasNone w = Pass is_line_byte w
-
-both : (v w : List ℕ) → HasNone v → HasNone w → HasNone (v ++ w)
-both v w p q = pass-append is_line_byte v w p q
-
-digit_none : (b : ℕ) → is_ascii_digit b ≡ true → is_line_byte b ≡ true
-digit_none b h = grind (arith, nat_tests)
-
-decimal_none : (n : ℕ) → n < 2 ^ 64 → HasNone (decimal n)
-decimal_none n lt = pass-more is_ascii_digit is_line_byte digit_none (decimal n) (digits_pass (decimal n) (digits_decimal own n lt))
-
-number_none : (n : ℕ) → n < 2 ^ 64 → HasNone (number n)
-number_none n lt = (refl, decimal_none n lt)
-
-glyph_none : (d : ℕ) → d < 16 → is_line_byte (digit_glyph false d) ≡ true
-glyph_none d lt = grind (arith, nat_tests)
-
-byte_none : (b : ℕ) → b < 256 → HasNone (escape_byte b)
-byte_none b lt = cases (is_plain b) refl where
-  cases : (p : Bool) → is_plain b ≡ p → HasNone (cond p (b ∷ []) (92 ∷ 120 ∷ hex_byte b))
-  cases true e = (grind (arith, nat_tests), tt)
-  cases false e = (refl, (refl, (glyph_none (b / 16) (omega arith), (glyph_none (b % 16) (omega arith), tt))))
-
-escape_none : (text : List ℕ) → IsText text → HasNone (escape text)
-escape_none [] fits = tt
-escape_none (b ∷ text) fits = both (escape_byte b) (escape text) (byte_none b fits.0) (escape_none text fits.1)
-
-text_none : (text : List ℕ) → IsText text → HasNone (field (escape text))
-text_none text fits = (refl, escape_none text fits)
-
-hex_none : (k n : ℕ) → HasNone (hex_digits k n)
-unfolding hex_digits
-hex_none zero n = tt
-hex_none (suc k) n = both (hex_digits k (n / 16)) (digit_glyph false (n % 16) ∷ []) (hex_none k (n / 16)) (glyph_none (n % 16) (omega arith), tt)
-
-dotted_none : (ip : ℕ) → HasNone (dotted ip)
-dotted_none ip =
-    both (decimal (ip / 16777216 % 256)) _ (decimal_none _ (omega arith)) (
-      refl,
-      both (decimal (ip / 65536 % 256)) _ (decimal_none _ (omega arith))
-          (refl, both (decimal (ip / 256 % 256)) _ (decimal_none _ (omega arith)) (refl, decimal_none (ip % 256) (omega arith))),
-    )
-
-ip_none : (ip : IpAddr) → HasNone (ip_text ip)
-ip_none (V4 ip) = dotted_none ip
-ip_none (V6 ip) = (refl, both (hex_digits 32 ip) (93 ∷ []) (hex_none 32 ip) (refl, tt))
-
-address_none : (a : SocketAddr) → IsAddress a → HasNone (field (address_text a))
-address_none a fits = (refl, both (ip_text a.ip) (58 ∷ decimal a.port) (ip_none a.ip) (refl, decimal_none a.port (omega (arith, fits.1))))
+use Rattle.ftp_text.proofs.FieldFeeds.{is_line_byte, HasNone, both, number_none, text_none, ip_none, address_none}
 
 maybe_ip_none : (ip : Option IpAddr) → HasNone (optional ip_text ip)
 maybe_ip_none None = (refl, (refl, tt))

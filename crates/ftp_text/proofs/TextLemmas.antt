@@ -6,7 +6,8 @@ use Rattle.memchr.specs.Find.{IsFirstByte, is_byte}
 use Rattle.ftp_text.specs.declared.state_line.StateLine.{StateLine}
 use Rattle.ftp_text.specs.Spelling.{state_line, IsStateLine}
 use Rattle.ftp_text.specs.StateText.{state_text, before_first, lines_in}
-use Rattle.ftp_text.proofs.StateFeedLemmas.{is_line_byte, HasNone, line_none}
+use Rattle.ftp_text.proofs.FieldFeeds.{is_line_byte, HasNone}
+use Rattle.ftp_text.proofs.StateFeedLemmas.{line_none}
 
 -- the bytes up to a line feed are the first line
 pub lines-split : (bytes : List ℕ) (i : ℕ) → i < length bytes → ((k : ℕ) → k < i → eqb (get_or bytes k 0) 10 ≡ false) → eqb (get_or bytes i 0) 10 ≡ true →
