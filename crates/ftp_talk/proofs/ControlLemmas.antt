@@ -1,10 +1,12 @@
 -- The begin of a talk.
-use Rattle.std.proofs.Common.{◌≡◌, ℕ, ◌≤◌, true, false, List, [], ◌∷◌, ◌++◌, Option, Some, None, refl, sym, ap, subst, ◌∙◌, arith, inl, inr}
+use Rattle.std.proofs.Common.{◌≡◌, ℕ, ◌-◌, ◌^◌, ◌<◌, ◌≤◌, true, false, List, [], ◌∷◌, ◌++◌, Option, Some, None, refl, sym, ap, subst, ◌∙◌, arith, inl, inr}
 use Rattle.std.specs.Prelude.{IfSome}
 use Rattle.std.proofs.lemmas.List.{append-nil}
 use Rattle.ftp_base.specs.declared.reply.Reply.{Reply}
 use Rattle.ftp_base.specs.Edge.{EdgeView}
-use Rattle.ftp_base.specs.Outside.{Writes}
+use Rattle.ftp_base.specs.declared.fault.Failed.{Failed}
+use Rattle.ftp_base.specs.declared.fault.Failed.TheVariants.{Fault, Memory}
+use Rattle.ftp_base.specs.Outside.{HasRisen, Writes}
 use Rattle.ftp_events.specs.declared.decision.Decision.{Decision}
 use Rattle.ftp_events.specs.declared.decision.Decision.TheVariants.{Opened}
 use Rattle.ftp_events.specs.declared.entry.Entry.{Entry}
@@ -22,9 +24,10 @@ use Rattle.ftp_talk.specs.declared.control_session.ControlSession.{ControlSessio
 use Rattle.ftp_talk.specs.declared.serving.ServeEnd.{ServeEnd}
 use Rattle.ftp_talk.specs.declared.serving.ServeEnd.TheVariants as end
 use Rattle.ftp_talk.specs.Ground.{Start, Ground}
+use Rattle.ftp_talk.specs.Halts.{halt_by}
 use Rattle.ftp_talk.specs.Seen.{IsSeen}
 use Rattle.ftp_talk.specs.Talk.{IsInput}
-use Rattle.ftp_talk.specs.Speaking.{Begins, Knows, Keeps, IsCut, Talking, OutcomeHeard}
+use Rattle.ftp_talk.specs.Speaking.{Begins, Knows, Keeps, IsCut, Talking, OutcomeHeard, end_by}
 use Rattle.ftp_talk.specs.Control.{peer_of, ground_of, is_opened, is_fault, HasOpened, IsUnopened}
 use Rattle.ftp_talk.specs.ControlWith.{IsServedWith, ServesWith}
 use Rattle.ftp_talk.specs.Extended.{OutcomeWith}
@@ -193,3 +196,19 @@ named-open opening a start state desk h = ap (λ (x : HubEvent). peer_of x.kind 
 -- an end that is no fault is neither
 pub no-fault : (x : ServeEnd) → is_fault x ≡ false → (x ≡ end.ReadFault → ⊥) × (x ≡ end.WriteFault → ⊥)
 no-fault x sound = (λ e. absurd (cc (sound, e)), λ e. absurd (cc (sound, e)))
+
+-- a halt by a failed write, and no other, is an end by a fault
+pub halt-ends : (f : Failed) (x : ServeEnd) → x ≡ end_by (halt_by f) → (x ≡ end.WriteFault → f ≡ Fault) × (x ≡ end.ReadFault → ⊥) × (x ≡ end.Exhausted → ⊥)
+halt-ends Fault x is = (λ e. refl, λ e. absurd (cc (is, e)), λ e. absurd (cc (is, e)))
+halt-ends Memory x is = (λ e. absurd (cc (is, e)), λ e. absurd (cc (is, e)), λ e. absurd (cc (is, e)))
+
+-- and none where no fault was counted
+pub halt-sound : (f : Failed) (x : ServeEnd) (old new : ℕ) → x ≡ end_by (halt_by f) → (f ≡ Fault → HasRisen old new) → new ≡ old → old < 2 ^ 64 - 1 → is_fault x ≡ false
+halt-sound Fault x old new is rose same below = let risen = rose refl below in absurd (omega (arith, risen, same))
+halt-sound Memory x old new is rose same below = ap is_fault is
+
+-- an end by a fault only where one was counted
+pub end-sound : (x : ServeEnd) (old mid new : ℕ) → old ≤ mid → mid ≤ new → (x ≡ end.ReadFault → HasRisen mid new) → (x ≡ end.WriteFault → HasRisen mid new) → new ≡ old → old < 2 ^ 64 - 1 → is_fault x ≡ false
+end-sound end.ReadFault old mid new first then read write same below = let risen = read refl (omega (arith, first, then, same, below)) in absurd (omega (arith, risen, first, same))
+end-sound end.WriteFault old mid new first then read write same below = let risen = write refl (omega (arith, first, then, same, below)) in absurd (omega (arith, risen, first, same))
+end-sound _ old mid new first then read write same below = refl

@@ -1,12 +1,13 @@
-use Rattle.std.proofs.Common.{[], ◌∷◌, subst, sym, ◌∙◌, refl}
+use Rattle.std.proofs.Common.{[], ◌∷◌, ap, subst, ◌∙◌, refl, Err}
 use Rattle.ftp_base.specs.Outside.{Writes}
 use Rattle.ftp_options.specs.declared.options.Options.{Options}
 use Rattle.ftp_control.specs.Writing.{WritesFront}
 use Rattle.ftp_talk.specs.Saying.{greeting_line}
 use Rattle.ftp_talk.specs.Ground.{Start}
 use Rattle.ftp_talk.specs.Control.{ground_of}
+use Rattle.ftp_talk.specs.Speaking.{end_by}
 use Rattle.ftp_talk.proofs.EndLemmas.{ends-front}
-use Rattle.ftp_talk.proofs.ControlLemmas.{knows-open, named-open, begin-talking, begin-cut, ends-with, serves-with, serves-unopened, no-fault}
+use Rattle.ftp_talk.proofs.ControlLemmas.{knows-open, named-open, begin-talking, begin-cut, ends-with, serves-with, serves-unopened, no-fault, halt-ends, halt-sound, end-sound}
 use Rattle.ftp_talk.proofs.control.serve_control_with.Goals as goal
 
 pub returns-in-Err-clause-served : goal.returns-in-Err-clause-served
@@ -63,6 +64,28 @@ returns-in-Err-greet-clause-served g c =
       outcome = ends-with (g.X.Extras.may c.args.extras.now) (g.X.Extras.pending c.args.extras.now) c.end_by.result ground edge2 desk2 sent1 [] tt
           (rw c.end_by.ensures (ends-front c.from.result ground edge2 desk2 sent1 [] (c.leave.ensures ground [] sent1 (refl, refl) cut)));
     })
+
+pub returns-in-Err-greet-clause-read_fault : goal.returns-in-Err-greet-clause-read_fault
+returns-in-Err-greet-clause-read_fault g c = λ e.
+    absurd ((halt-ends c.in-Err-greet.failed c.end_by.result (c.end_by.ensures ∙ ap end_by c.from.ensures)).1 e)
+
+pub returns-in-Err-greet-clause-write_fault : goal.returns-in-Err-greet-clause-write_fault
+returns-in-Err-greet-clause-write_fault g c = λ e.
+    c.in-Err-greet.ensures.fault_rose (ap Err ((halt-ends c.in-Err-greet.failed c.end_by.result (c.end_by.ensures ∙ ap end_by c.from.ensures)).0 e))
+
+pub returns-in-Err-greet-clause-exhausted : goal.returns-in-Err-greet-clause-exhausted
+returns-in-Err-greet-clause-exhausted g c = λ e.
+    absurd ((halt-ends c.in-Err-greet.failed c.end_by.result (c.end_by.ensures ∙ ap end_by c.from.ensures)).2 e)
+
+pub returns-in-Err-greet-clause-complete : goal.returns-in-Err-greet-clause-complete
+returns-in-Err-greet-clause-complete g c =
+    halt-sound c.in-Err-greet.failed c.end_by.result (g.C.Source.faults c.args.control.now) (g.C.Source.faults c.greet.new.link)
+    (c.end_by.ensures ∙ ap end_by c.from.ensures) (λ e. c.in-Err-greet.ensures.fault_rose (ap Err e))
+
+pub returns-clause-complete : goal.returns-clause-complete
+returns-clause-complete g c =
+    end-sound c.serve_lines.result (g.C.Source.faults c.args.control.now) (g.C.Source.faults c.greet.new.link) (g.C.Source.faults c.serve_lines.new.control)
+    c.greet.ensures.count c.serve_lines.ensures.count c.serve_lines.ensures.read_fault c.serve_lines.ensures.write_fault
 
 pub returns-clause-served : goal.returns-clause-served
 returns-clause-served g c =
