@@ -4,10 +4,10 @@ use Rattle.std.specs.Prelude.{Result, Ok, Err, IfOk, OnOk, OnErr, IsErrOf}
 use Rattle.ftp_shared.specs.declared.append_error.AppendError.{AppendError}
 use Rattle.ftp_shared.specs.declared.desk.Told.{Told}
 use Rattle.ftp_shared.specs.declared.receipt.Turn.{Turn}
-use Rattle.ftp_workers.specs.Telling.{told_of, IsTelling}
+use Rattle.ftp_workers.specs.Telling.{telling_of, IsTelling}
 
 pub if_ok-told : (turn : Result Turn AppendError) (told : Result Told AppendError) (P : Turn → Type 0) (Q : Told → Type 0) →
-    IsTelling turn told → ((t : Turn) → P t → Q (told_of t)) → IfOk turn P → IfOk told Q
+    IsTelling turn told → ((t : Turn) → P t → Q (telling_of t)) → IfOk turn P → IfOk told Q
 if_ok-told (Ok t) told P Q is f h = subst (λ (x : Result Told AppendError). IfOk x Q) (sym is) (f t h)
 if_ok-told (Err e) told P Q is f h = subst (λ (x : Result Told AppendError). IfOk x Q) (sym is) tt
 
