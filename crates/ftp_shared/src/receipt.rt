@@ -217,7 +217,8 @@ impl<'a> Others<'a> {
         ensures found { IfSome result (λ s. self.old ≡ s ∷ self.new) }
     {
         while self.next < self.actions.len() {
-            let found = waits(self.own, &self.actions[self.next]);
+            let actions = self.actions;
+            let found = waits(self.own, &actions[self.next]);
             self.next += 1;
             if found.is_some() {
                 return found;
