@@ -18,7 +18,8 @@ use Rattle.ftp_text.specs.declared.line.LogLine.TheVariants as says
 use Rattle.ftp_text.specs.LogLines.{log_line, IsLogLine}
 use Rattle.ftp_text.specs.LogText.{says_of, opening, lines_of, text_of, IsLog, IsFront, ComesNext, IsFirstBad}
 use Rattle.ftp_text.specs.Settings.{settings_in}
-use Rattle.ftp_text.proofs.FeedLemmas.{is_line_byte, line_none}
+use Rattle.ftp_text.proofs.FieldFeeds.{is_line_byte}
+use Rattle.ftp_text.proofs.FeedLemmas.{line_none}
 use Rattle.ftp_text.proofs.PrintedLemmas.{one_bad, text-cons}
 use Rattle.ftp_check_log.specs.declared.verdict.Verdict.{Verdict}
 use Rattle.ftp_check_log.specs.declared.verdict.Verdict.TheVariants as verdict

@@ -16,7 +16,7 @@ use Rattle.ftp_events.specs.declared.entry.Entry.{Entry}
 use Rattle.ftp_hub.specs.declared.state.HubState.{HubState}
 use Rattle.ftp_text.specs.declared.setup.Item.{Item}
 use Rattle.ftp_text.proofs.Exact.{run_length}
-use Rattle.ftp_text.proofs.StateFeedLemmas.{HasNone, is_line_byte}
+use Rattle.ftp_text.proofs.FieldFeeds.{HasNone, is_line_byte}
 use Rattle.ftp_script_run.specs.declared.resumed.Resumed.{Resumed}
 use Rattle.ftp_script_run.specs.declared.run.Run.{Run}
 use Rattle.ftp_script_run.specs.declared.status.Status.{Status}

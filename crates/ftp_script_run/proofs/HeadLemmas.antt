@@ -15,7 +15,7 @@ use Rattle.ftp_text.specs.declared.setup.Item.TheVariants as item
 use Rattle.ftp_text.specs.Setup.{IsItem, IsItemOf}
 use Rattle.ftp_text.proofs.Exact.{Pass}
 use Rattle.ftp_text.specs.StateText.{lines_in}
-use Rattle.ftp_text.proofs.StateFeedLemmas.{HasNone, is_line_byte}
+use Rattle.ftp_text.proofs.FieldFeeds.{HasNone, is_line_byte}
 use Rattle.ftp_text.proofs.TextLemmas.{lines-line}
 use Rattle.ftp_script_run.specs.declared.head.Head.{Head}
 use Rattle.ftp_script_run.specs.Resumed.{AreOfOptions, AreOptionsLines, FindsHead, HasLines, IsOptionsLine, KeepsLines, ReadsHead, ReadsLine, bar, sets_options, with_feeds}
