@@ -61,7 +61,7 @@ pub(crate) fn new_state<
         depot,
         gate,
         acceptor,
-    );
+    )?;
     if let Some(feed) = feed {
         state.feed_to(feed);
     }

@@ -4,7 +4,9 @@ ghost use Rattle.std.specs.Prelude.{◌≡◌, ◌≤◌, ◌/◌, true};
 ghost use Rattle.ftp_talk.specs.Control.{is_opening};
 
 use crate::event_sinks::EventSinks;
+use crate::handoff::Handoff;
 use crate::runtime::WorkerRuntime;
+use crate::server_state::ServerState;
 use crate::session_edge::SessionEdge;
 use crate::stopping::{STOPPING, Stoppable};
 use crate::worker::Worker;
@@ -13,7 +15,9 @@ use ftp_events::{Answer, EventKind, HubEvent};
 use ftp_shared::JournalHub;
 use ftp_system::{ControlHandle, Depot, LIMIT, SocketControl, SystemEdge, told_address};
 use ftp_talk::{ServeEnd, serve_control_with};
+use std::alloc::Global;
 use std::net::{IpAddr, SocketAddr, TcpStream};
+use std::sync::Arc;
 
 // How often an idle control connection is looked at, in milliseconds: four times in its idle time, but not more often
 // than once in a second, and once in a minute at least; once in ten seconds where its passive port waits a few seconds only.
@@ -66,11 +70,24 @@ impl<
         SocketControl::new(&self.rt, self.alloc, stream, patience, LIMIT).ok()
     }
 
-    // The words of a session, whose loop others can wake from now on. None where memory ran out, or the server has stopped.
-    fn enter_session(&mut self, session: u64, handle: ControlHandle) -> Option<D::Words> {
+    // The words of a session, whose loop others can wake from now on, with the shares that its control connection and its edge have
+    // of what all threads use. None where memory ran out, or the server has stopped.
+    fn enter_session(
+        &mut self,
+        session: u64,
+        handle: ControlHandle,
+    ) -> Option<
+        (
+            D::Words,
+            Arc<ServerState<H, A, N, D, G>, Global>,
+            Arc<Handoff, Global>,
+        ),
+    > {
+        let state = Arc::try_clone(&self.state).ok()?;
+        let handoff = Arc::try_clone(&self.state.handoff).ok()?;
         let words = self.state.depot.words().ok()?;
         if self.state.handoff.enter(&self.rt, session, handle) {
-            Some(words)
+            Some((words, state, handoff))
         } else {
             None
         }
@@ -91,7 +108,9 @@ impl<
         requires opening { is_opening opening.kind ≡ true }
     {
         match self.enter_session(session, handle) {
-            Some(words) => self.talk_with(control, words, session, at, opening, answer),
+            Some((words, state, handoff)) => {
+                self.talk_with(control, words, state, handoff, session, at, opening, answer)
+            }
             None => None,
         }
     }
@@ -100,6 +119,8 @@ impl<
         &mut self,
         control: C,
         words: D::Words,
+        state: Arc<ServerState<H, A, N, D, G>, Global>,
+        handoff: Arc<Handoff, Global>,
         session: u64,
         at: IpAddr,
         opening: HubEvent,
@@ -108,11 +129,11 @@ impl<
         requires opening { is_opening opening.kind ≡ true }
     {
         let mut words = words;
-        let mut control = Stoppable::new(self.rt, session, &*self.state, control);
+        let mut control = Stoppable::new(self.rt, session, state, control);
         // A connection may last, and moves no files.
         self.buffer = Vec::new(self.alloc);
         let system = SystemEdge::new(self.rt, self.alloc, at, LIMIT);
-        let mut edge = SessionEdge::new(self.rt, self.alloc, session, &self.state.handoff, system);
+        let mut edge = SessionEdge::new(self.rt, self.alloc, session, handoff, system);
         let end = if control.look() {
             None
         } else {

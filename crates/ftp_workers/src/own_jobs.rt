@@ -13,9 +13,10 @@ use ftp_base::{Authenticator, DataChanCmd, Gate, Storage};
 use ftp_events::{Entry, EventKind};
 use ftp_shared::{JobShare, JournalHub, Submitted};
 use ftp_system::{Ahead, Depot, Gathered, LIMIT, SocketLink, SystemEdge};
+use std::alloc::Global;
 use std::mem;
 use std::net::{IpAddr, Ipv4Addr};
-use std::sync::Wait;
+use std::sync::{Arc, Wait};
 
 /// The longest file that the thread of a session sends, in bytes: its socket takes them at once, so the session is soon heard again.
 const SMALL: u64 = 4096;
@@ -84,7 +85,6 @@ impl<
 /// What the thread of a session runs jobs with that were kept for it.
 #[derive(Drop)]
 pub(crate) struct OwnJobs<
-    'a,
     R: WorkerRuntime,
     H: JournalHub + Drop,
     A: Authenticator + Drop,
@@ -94,25 +94,24 @@ pub(crate) struct OwnJobs<
 > {
     rt: R,
     session: u64,
-    state: &'a ServerState<H, A, N, D, G>,
+    state: Arc<ServerState<H, A, N, D, G>, Global>,
     // None before the first job.
     pass: Option<H::Pass>,
 }
 
 impl<
-    'a,
     R: WorkerRuntime,
     H: JournalHub + Drop,
     A: Authenticator + Drop,
     N: EventSinks + Drop,
     D: Depot + Drop,
     G: Gate + Drop,
-> OwnJobs<'a, R, H, A, N, D, G> {
+> OwnJobs<R, H, A, N, D, G> {
     pub(crate) fn new(
         rt: R,
         session: u64,
-        state: &'a ServerState<H, A, N, D, G>,
-    ) -> OwnJobs<'a, R, H, A, N, D, G> {
+        state: Arc<ServerState<H, A, N, D, G>, Global>,
+    ) -> OwnJobs<R, H, A, N, D, G> {
         OwnJobs {
             rt,
             session,

@@ -10,7 +10,7 @@ use ftp_base::{Authenticator, Gate};
 use ftp_options::Options;
 use ftp_shared::{JournalFeed, JournalHub};
 use ftp_system::{Depot, SessionCounts, SessionLimits};
-use std::alloc::Global;
+use std::alloc::{AllocError, Global};
 use std::sync::{Arc, Mutex};
 
 /// The hub of a server, and all that its threads use beside it.
@@ -25,7 +25,7 @@ pub struct ServerState<
     pub(crate) alloc: Global,
     pub(crate) options: Options,
     pub(crate) hub: H,
-    pub(crate) handoff: Handoff,
+    pub(crate) handoff: Arc<Handoff, Global>,
     pub(crate) authenticator: A,
     pub(crate) sinks: Mutex<N>,
     pub(crate) depot: D,
@@ -62,14 +62,17 @@ impl<
         depot: D,
         gate: Arc<G, Global>,
         acceptor: AcceptorHandle,
-    ) -> ServerState<H, A, N, D, G>
+    ) -> Result<ServerState<H, A, N, D, G>, AllocError>
         requires options { options ≡ H.options }
     {
-        ServerState {
+        let Ok(handoff) = Arc::new(alloc, Handoff::new(alloc, acceptor)) else {
+            return Err(AllocError);
+        };
+        Ok(ServerState {
             alloc,
             options,
             hub,
-            handoff: Handoff::new(alloc, acceptor),
+            handoff,
             authenticator,
             sinks: Mutex::new(sinks),
             depot,
@@ -77,7 +80,7 @@ impl<
             counts: Mutex::new(SessionCounts::new(alloc)),
             gate,
             runs_small: false,
-        }
+        })
     }
 
     /// Has the threads of sessions run small downloads themselves. It is called before any thread serves, and only where the gate lets

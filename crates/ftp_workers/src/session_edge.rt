@@ -10,30 +10,30 @@ use ftp_system::SystemEdge;
 use std::alloc::Global;
 use std::net::Net;
 use std::random::RandomSource;
-use std::sync::Wait;
+use std::sync::{Arc, Wait};
 use std::time::Clock;
 
 /// The system's edge, for one session: the connections that it makes wait for their jobs, and the ports that it binds
 /// for their entries.
 #[derive(Drop)]
-pub(crate) struct SessionEdge<'a, R: Net + Wait + Clock + RandomSource + Copy + Drop> {
+pub(crate) struct SessionEdge<R: Net + Wait + Clock + RandomSource + Copy + Drop> {
     rt: R,
     alloc: Global,
     session: u64,
-    handoff: &'a Handoff,
+    handoff: Arc<Handoff, Global>,
     system: SystemEdge<R>,
     faults: u64,
     paused: u64,
 }
 
-impl<'a, R: Net + Wait + Clock + RandomSource + Copy + Drop> SessionEdge<'a, R> {
+impl<R: Net + Wait + Clock + RandomSource + Copy + Drop> SessionEdge<R> {
     pub(crate) fn new(
         rt: R,
         alloc: Global,
         session: u64,
-        handoff: &'a Handoff,
+        handoff: Arc<Handoff, Global>,
         system: SystemEdge<R>,
-    ) -> SessionEdge<'a, R> {
+    ) -> SessionEdge<R> {
         SessionEdge {
             rt,
             alloc,
@@ -94,7 +94,7 @@ impl<'a, R: Net + Wait + Clock + RandomSource + Copy + Drop> SessionEdge<'a, R> 
     }
 }
 
-impl<'a, R: Net + Wait + Clock + RandomSource + Copy + Drop> Edge for SessionEdge<'a, R> {
+impl<R: Net + Wait + Clock + RandomSource + Copy + Drop> Edge for SessionEdge<R> {
     ghost view = { λ s. record { feed = None; meaning = system_meaning; faults = s.faults; paused = s.paused } };
 
     fn now(&mut self) -> u64 {

@@ -9,6 +9,8 @@ use crate::server_state::ServerState;
 use ftp_base::{Authenticator, Control, Failed, Gate, Link, LinkFault, Source};
 use ftp_shared::JournalHub;
 use ftp_system::Depot;
+use std::alloc::Global;
+use std::sync::Arc;
 
 /// What a client is told whose session ends with the server (RFC 959, section 4.2).
 pub(crate) const STOPPING: &[u8] = b"421 Server is stopping, closing control connection\r\n";
@@ -17,7 +19,6 @@ pub(crate) const STOPPING: &[u8] = b"421 Server is stopping, closing control con
 /// or waits for its data connection. Who waits for its lines runs the download first that was kept for its thread.
 #[derive(Drop)]
 pub(crate) struct Stoppable<
-    'a,
     R: WorkerRuntime,
     H: JournalHub + Drop,
     A: Authenticator + Drop,
@@ -26,13 +27,12 @@ pub(crate) struct Stoppable<
     G: Gate + Drop,
     C: Control + Drop,
 > {
-    own: OwnJobs<'a, R, H, A, N, D, G>,
+    own: OwnJobs<R, H, A, N, D, G>,
     inner: C,
     is_stopped: bool,
 }
 
 impl<
-    'a,
     R: WorkerRuntime,
     H: JournalHub + Drop,
     A: Authenticator + Drop,
@@ -40,13 +40,13 @@ impl<
     D: Depot + Drop,
     G: Gate + Drop,
     C: Control + Drop,
-> Stoppable<'a, R, H, A, N, D, G, C> {
+> Stoppable<R, H, A, N, D, G, C> {
     pub(crate) fn new(
         rt: R,
         session: u64,
-        state: &'a ServerState<H, A, N, D, G>,
+        state: Arc<ServerState<H, A, N, D, G>, Global>,
         inner: C,
-    ) -> Stoppable<'a, R, H, A, N, D, G, C>
+    ) -> Stoppable<R, H, A, N, D, G, C>
         ensures { result.is_stopped ≡ false }
     {
         Stoppable {
@@ -85,7 +85,6 @@ impl<
 }
 
 impl<
-    'a,
     R: WorkerRuntime,
     H: JournalHub + Drop,
     A: Authenticator + Drop,
@@ -93,7 +92,7 @@ impl<
     D: Depot + Drop,
     G: Gate + Drop,
     C: Control + Drop,
-> Source for Stoppable<'a, R, H, A, N, D, G, C> {
+> Source for Stoppable<R, H, A, N, D, G, C> {
     ghost use Rattle.std.specs.Prelude.{true, None};
 
     ghost left = { λ _. None };
@@ -115,7 +114,6 @@ impl<
 }
 
 impl<
-    'a,
     R: WorkerRuntime,
     H: JournalHub + Drop,
     A: Authenticator + Drop,
@@ -123,7 +121,7 @@ impl<
     D: Depot + Drop,
     G: Gate + Drop,
     C: Control + Drop,
-> Link for Stoppable<'a, R, H, A, N, D, G, C> {
+> Link for Stoppable<R, H, A, N, D, G, C> {
     ghost use Rattle.std.specs.Prelude.{refl};
 
     ghost takes_memory = { C.takes_memory };
@@ -148,7 +146,6 @@ impl<
 }
 
 impl<
-    'a,
     R: WorkerRuntime,
     H: JournalHub + Drop,
     A: Authenticator + Drop,
@@ -156,7 +153,7 @@ impl<
     D: Depot + Drop,
     G: Gate + Drop,
     C: Control + Drop,
-> Control for Stoppable<'a, R, H, A, N, D, G, C> {
+> Control for Stoppable<R, H, A, N, D, G, C> {
     fn ready(&mut self, millis: u64) -> Result<bool, Failed> {
         if self.look() {
             return Ok(true);
