@@ -19,6 +19,6 @@ err_of-told (Err x) told e is same = subst (λ (y : AppendError). IsErrOf {T = T
   err-same x e a b = cc (a, b)
 
 -- what an assumption gives of a turn is given under it
-pub on_ok-given : (turn : Result Turn AppendError) {A P : Type 0} → (A → OnOk turn P) → OnOk turn (A → P)
-on_ok-given (Ok t) h = h
-on_ok-given (Err e) h = tt
+pub on_ok-given : (turn : Result Turn AppendError) (A P : Type 0) → (A → OnOk turn P) → OnOk turn (A → P)
+on_ok-given (Ok t) A P h = h
+on_ok-given (Err e) A P h = tt

@@ -38,7 +38,7 @@ returns-clause-share g c =
     c.tell.ensures.told
     (λ t one. rises-told counts 1 (made c.args.self.now.pass) (made c.tell.new.self.pass)
     (λ on. let step = one on in omega (arith, step, c.accept_before.ensures.share, ap made c.tell.ensures.pass)))
-    (on_ok-given c.submit_for-turn.result c.submit_for-turn.ensures.share)
+    (on_ok-given c.submit_for-turn.result (counts ≡ true) (made c.submit_for-turn.new.pass ≡ made c.accept_before.new.self.pass + 1) c.submit_for-turn.ensures.share)
 
 pub returns-clause-alone : goal.returns-clause-alone
 returns-clause-alone g c = λ on quiet.
