@@ -7,7 +7,7 @@ use crate::client::Client;
 use ftp_base::{AuthAnswer, IpAddr, MemoryEdge, MemoryStorage, SameAnswer, SocketAddr};
 use ftp_events::{Answer, EventKind, HubEvent};
 use ftp_options::{Options, ServerBuilder};
-use ftp_shared::{Serving, SoloDesk};
+use ftp_shared::{Desk, Serving, SoloDesk};
 use ftp_talk::{ServeEnd, serve_control};
 use std::alloc::{AllocError, Global};
 use std::marker::Brand;
@@ -80,6 +80,27 @@ fn opening() -> HubEvent
     }
 }
 
+/// Serves the client to its end over a desk.
+fn serve_over<D: Desk>(alloc: Global, desk: &mut D, client: &mut Client) -> ServeEnd {
+    let mut edge = MemoryEdge::new(
+        Vec::new(alloc),
+        Vec::new(alloc),
+        Vec::new(alloc),
+        Vec::new(alloc),
+        Vec::new(alloc),
+    );
+    let everybody = SameAnswer(AuthAnswer::Good);
+    serve_control(
+        alloc,
+        desk,
+        client,
+        &mut edge,
+        &everybody,
+        opening(),
+        Answer::None,
+    )
+}
+
 /// Serves the client to its end over a desk by itself, and says how many lines it was sent.
 fn serve<L: Serving>(
     alloc: Global,
@@ -95,24 +116,8 @@ fn serve<L: Serving>(
     let (steps, parts) = blank.open::<L>();
     let storage = MemoryStorage::new(alloc, 0, Vec::new(alloc));
     let mut desk = SoloDesk::new(alloc, options, storage, steps, parts, 2);
-    let mut edge = MemoryEdge::new(
-        Vec::new(alloc),
-        Vec::new(alloc),
-        Vec::new(alloc),
-        Vec::new(alloc),
-        Vec::new(alloc),
-    );
     let mut client = client;
-    let everybody = SameAnswer(AuthAnswer::Good);
-    let end = serve_control(
-        alloc,
-        &mut desk,
-        &mut client,
-        &mut edge,
-        &everybody,
-        opening(),
-        Answer::None,
-    );
+    let end = serve_over(alloc, &mut desk, &mut client);
     match end {
         ServeEnd::Ended => Ok(client.lines()),
         stopped => Err(TalkError::Stopped(stopped)),

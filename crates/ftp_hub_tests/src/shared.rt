@@ -61,11 +61,14 @@ fn replies_outlive_the_tail(rt: HostRuntime) -> Result<(), Fail> {
     let alloc = rt.alloc();
     let earlier = handed_late(&rt, alloc, pooled(alloc)?)?;
     // A name is answered with 331 (RFC 959, section 5.4).
-    let [(delay, Reply::CodeAndMsg { code, msg: _ })] = earlier.as_slice() else {
-        return Err(Fail::from("no reply, or several"));
+    let sent = Reply::CodeAndMsg {
+        code: ReplyCode::NeedPassword,
+        msg: ReplyText::from_static(b"Password Required"),
     };
+    assert_eq!(rt; earlier.as_slice().len(), 1);
+    let (delay, reply) = earlier.as_slice().first().ok_or("no reply")?;
     assert_eq!(rt; *delay, 0);
-    assert_eq!(rt; *code, ReplyCode::NeedPassword);
+    assert_eq!(rt; *reply, sent);
     Ok(())
 }
 

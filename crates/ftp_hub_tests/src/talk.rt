@@ -2,12 +2,11 @@
 
 ghost use Rattle.std.specs.Prelude.{◌≡◌, ◌≤◌};
 
-use crate::talk_values::{OnlyAnn, edge, opening, pooled, storage};
+use crate::talk_values::{edge, pooled, serve_over, storage};
 use ftp_base::{Bytes, MemoryEdge, MemoryLink, MemoryStorage};
-use ftp_events::Answer;
 use ftp_options::Options;
 use ftp_shared::{JobShare, Serving, SoloDesk};
-use ftp_talk::{ServeEnd, serve_control};
+use ftp_talk::ServeEnd;
 use std::alloc::{AllocError, Global};
 use std::marker::Brand;
 use std::sync::ledger::Blank;
@@ -52,15 +51,7 @@ fn serve_shared<L: Serving>(
     let mut desk = SoloDesk::new(alloc, options, storage, steps, parts, 2);
     let mut edge = edge;
     let mut link = link;
-    let end = serve_control(
-        alloc,
-        &mut desk,
-        &mut link,
-        &mut edge,
-        &OnlyAnn,
-        opening(),
-        Answer::None,
-    );
+    let end = serve_over(alloc, &mut desk, &mut link, &mut edge);
     let job = desk.take_job();
     Talked { end, link, job }
 }

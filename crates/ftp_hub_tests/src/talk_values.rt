@@ -3,9 +3,13 @@
 ghost use Rattle.std.specs.Prelude.{◌≡◌, true};
 ghost use Rattle.ftp_talk.specs.Control.{is_opening};
 
-use ftp_base::{AuthAnswer, Authenticator, Bytes, IpAddr, MemoryEdge, MemoryStorage, SocketAddr};
-use ftp_events::{EventKind, HubEvent};
+use ftp_base::{
+    AuthAnswer, Authenticator, Bytes, Control, IpAddr, MemoryEdge, MemoryStorage, SocketAddr,
+};
+use ftp_events::{Answer, EventKind, HubEvent};
 use ftp_options::{ActivePassiveMode, Options, ServerBuilder};
+use ftp_shared::Desk;
+use ftp_talk::{ServeEnd, serve_control};
 use std::alloc::{AllocError, Global};
 use std::test::Fail;
 
@@ -28,6 +32,24 @@ pub fn opening() -> HubEvent
             trace: 1,
         },
     }
+}
+
+/// The talk on a connection, over a desk.
+pub fn serve_over<D: Desk, C: Control>(
+    alloc: Global,
+    desk: &mut D,
+    control: &mut C,
+    edge: &mut MemoryEdge,
+) -> ServeEnd {
+    serve_control(
+        alloc,
+        desk,
+        control,
+        edge,
+        &OnlyAnn,
+        opening(),
+        Answer::None,
+    )
 }
 
 /// Lets in `ann` with the password `x`, from 10.0.0.1.

@@ -4,12 +4,11 @@ ghost use Rattle.std.specs.Prelude.{◌≡◌};
 
 use crate::counting::{CountingDesk, Counts};
 use crate::late::LateControl;
-use crate::talk_values::{OnlyAnn, edge, opening, pooled, storage};
+use crate::talk_values::{edge, pooled, serve_over, storage};
 use ftp_base::{MemoryEdge, MemoryStorage};
-use ftp_events::Answer;
 use ftp_options::Options;
 use ftp_shared::{Serving, SoloDesk};
-use ftp_talk::{ServeEnd, serve_control};
+use ftp_talk::ServeEnd;
 use std::alloc::Global;
 use std::marker::Brand;
 use std::sync::ledger::Blank;
@@ -32,15 +31,7 @@ fn serve<L: Serving>(
     let (steps, parts) = blank.open::<L>();
     let desk = SoloDesk::new(alloc, options, storage, steps, parts, 2);
     let mut desk = CountingDesk::new(desk);
-    let end = serve_control(
-        alloc,
-        &mut desk,
-        control,
-        edge,
-        &OnlyAnn,
-        opening(),
-        Answer::None,
-    );
+    let end = serve_over(alloc, &mut desk, control, edge);
     (end, desk.counts())
 }
 

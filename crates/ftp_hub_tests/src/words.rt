@@ -5,9 +5,9 @@ ghost use Rattle.std.specs.Prelude.{◌≡◌};
 use crate::talk_values::{OnlyAnn, edge, opening, pooled, storage};
 use ftp_base::{MemoryEdge, MemoryLink, MemoryStorage};
 use ftp_events::Answer;
-use ftp_extras::{FileExtras, Offers};
+use ftp_extras::{Extras, FileExtras, Offers};
 use ftp_options::Options;
-use ftp_shared::{Serving, SoloDesk};
+use ftp_shared::{Desk, Serving, SoloDesk};
 use ftp_talk::{ServeEnd, serve_control_with};
 use std::alloc::Global;
 use std::marker::Brand;
@@ -71,6 +71,26 @@ const ROWS: [Row<'static>; 7] = [
     ),
 ];
 
+/// The talk on a connection with words about files, over a desk.
+fn serve_over<D: Desk, X: Extras>(
+    alloc: Global,
+    desk: &mut D,
+    link: &mut MemoryLink,
+    edge: &mut MemoryEdge,
+    extras: &mut X,
+) -> ServeEnd {
+    serve_control_with(
+        alloc,
+        desk,
+        link,
+        edge,
+        &OnlyAnn,
+        extras,
+        opening(),
+        Answer::None,
+    )
+}
+
 /// The talk on a connection with words about files, over a desk of this server: what was sent, and how it ended.
 fn serve_shared<L: Serving>(
     alloc: Global,
@@ -91,16 +111,7 @@ fn serve_shared<L: Serving>(
     let mut edge = edge;
     let mut link = link;
     let mut extras = extras;
-    let end = serve_control_with(
-        alloc,
-        &mut desk,
-        &mut link,
-        &mut edge,
-        &OnlyAnn,
-        &mut extras,
-        opening(),
-        Answer::None,
-    );
+    let end = serve_over(alloc, &mut desk, &mut link, &mut edge, &mut extras);
     (end, link)
 }
 
