@@ -2,7 +2,7 @@
 
 use crate::activity::Activity;
 use crate::current_users::{CurrentUsers, UserSource};
-use crate::records::Records;
+use crate::records::RecordFiles;
 use crate::refusal::{Refusal, reason};
 use crate::setup::read_users;
 use crate::user_table::UserTable;
@@ -28,7 +28,7 @@ pub struct Duties<R: Wait + Copy + Drop> {
     pub users_file: Bytes,
     pub users: CurrentUsers<R>,
     pub activity: Activity,
-    pub records: Arc<Records<R>, Global>,
+    pub records: Arc<RecordFiles<R>, Global>,
 }
 
 impl<R: Wait + Files<File = File> + Clock + AllocGlobal + Copy + Drop> Duties<R> {

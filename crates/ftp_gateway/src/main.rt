@@ -151,7 +151,7 @@ fn main(rt: HostRuntime) -> ExitCode {
         storage: gateway.depot,
     };
     let plan = gateway.plan;
-    let (records, feed) = (&*gateway.records, &gateway.feed);
+    let (records, feed) = (&gateway.records, &gateway.feed);
     let mut server = Server::over(rt.alloc(), plan.options, parts);
     server.most_sessions(plan.limits.all);
     server.most_sessions_of_one(plan.limits.of_one);

@@ -4,12 +4,12 @@ use ftp_audit::Tally;
 use ftp_events::Entry;
 use ftp_hub::PrepareError;
 use ftp_options::Options;
-use std::alloc::Global;
+use std::alloc::{AllocError, Global};
 use std::rt::Files;
 use std::sync::{Mutex, Wait};
-use std::{fs, io};
+use std::{fs, io, mem};
 
-/// What is counted so far, and the file where it is told.
+/// The file where counts are told, and their text as it is now.
 #[derive(Drop)]
 pub struct MetricsFile<R: Wait + Drop> {
     rt: R,
@@ -17,7 +17,7 @@ pub struct MetricsFile<R: Wait + Drop> {
     path: String,
     // Where the next one is written, before it takes the place of the last.
     beside: String,
-    tally: Mutex<Tally>,
+    text: Mutex<Vec<u8>>,
 }
 
 impl<R: Wait + Drop> MetricsFile<R> {
@@ -26,30 +26,71 @@ impl<R: Wait + Drop> MetricsFile<R> {
         self.path.as_str()
     }
 
-    /// Counts the next entry.
-    pub fn take(&self, entry: &Entry) -> Result<(), PrepareError> {
-        self.tally.lock(&self.rt).take(entry)
+    // This is the text from now on; that of before is given for it.
+    fn tell(&self, text: &mut Vec<u8>) {
+        mem::swap(&mut *self.text.lock(&self.rt), text);
     }
 }
 
 impl<R: Wait + Files + AllocGlobal + Copy + Drop> MetricsFile<R> {
-    /// The counts of a server with these options, at a path. Nothing was counted, and nothing is written yet.
-    pub fn new(rt: R, path: &str, options: Options) -> io::Result<MetricsFile<R>> {
+    /// A file at a path. Nothing is told, and nothing is written yet.
+    pub fn new(rt: R, path: &str) -> io::Result<MetricsFile<R>> {
         let alloc = rt.alloc();
         Ok(MetricsFile {
             rt,
             alloc,
             path: String::from_str(alloc, path)?,
             beside: format!(in alloc; "{path}.new")?,
-            tally: Mutex::new(Tally::new(alloc, options)),
+            text: Mutex::new(Vec::new(alloc)),
         })
     }
 
     /// Writes the file anew. Whoever reads it finds the counts whole, those from before or those of now.
     pub fn write(&self) -> io::Result<()> {
-        let mut text = Vec::new(self.alloc);
-        self.tally.lock(&self.rt).put(&mut text)?;
+        let text = Vec::from_slice(self.alloc, self.text.lock(&self.rt).as_slice())?;
         fs::write(&self.rt, self.beside.as_str(), text.as_slice())?;
         fs::rename(&self.rt, self.beside.as_str(), self.path.as_str())
+    }
+}
+
+/// What is counted so far.
+#[derive(Drop)]
+pub struct RunningCounts {
+    tally: Tally,
+    // A text that was told before.
+    text: Vec<u8>,
+}
+
+impl RunningCounts {
+    /// Nothing was counted of a server with these options, and that is told.
+    pub fn new<R: Wait + Drop>(
+        alloc: Global,
+        options: Options,
+        file: &MetricsFile<R>,
+    ) -> Result<RunningCounts, AllocError> {
+        let mut counts = RunningCounts {
+            tally: Tally::new(alloc, options),
+            text: Vec::new(alloc),
+        };
+        counts.tell(file)?;
+        Ok(counts)
+    }
+
+    /// Counts the next entry, and tells it.
+    pub fn take<R: Wait + Drop>(
+        &mut self,
+        entry: &Entry,
+        file: &MetricsFile<R>,
+    ) -> Result<(), PrepareError> {
+        self.tally.take(entry)?;
+        self.tell(file)?;
+        Ok(())
+    }
+
+    fn tell<R: Wait + Drop>(&mut self, file: &MetricsFile<R>) -> Result<(), AllocError> {
+        self.text.clear();
+        self.tally.put(&mut self.text)?;
+        file.tell(&mut self.text);
+        Ok(())
     }
 }

@@ -1,7 +1,7 @@
 //! What a gateway writes of its journal.
 
 use crate::log_file::LogFile;
-use crate::metrics_file::MetricsFile;
+use crate::metrics_file::{MetricsFile, RunningCounts};
 use crate::refusal::Refusal;
 use ftp_audit::LogForm;
 use ftp_base::Bytes;
@@ -11,15 +11,24 @@ use ftp_options::{Options, ServerError};
 use std::alloc::{AllocError, Global};
 use std::fs::File;
 use std::rt::Files;
-use std::sync::Wait;
+use std::sync::{Arc, Mutex, Wait};
 use std::time::{Clock, Duration};
 
-/// The logs and the counts of a journal, each in a file.
+/// The files of a journal: its logs, and its counts.
 #[derive(Drop)]
-pub struct Records<R: Wait + Drop> {
+pub struct RecordFiles<R: Wait + Drop> {
     alloc: Global,
     logs: Vec<LogFile<R>>,
     metrics: Option<MetricsFile<R>>,
+}
+
+/// What the entries of a journal tell, and the files where it is written, which others may share.
+#[derive(Drop)]
+pub struct Records<R: Wait + Drop> {
+    rt: R,
+    files: Arc<RecordFiles<R>, Global>,
+    // What is counted, where that is told.
+    counts: Option<Mutex<RunningCounts>>,
 }
 
 // A time in milliseconds.
@@ -51,20 +60,29 @@ fn unwritable(alloc: Global, path: &[u8]) -> Refusal {
 impl<R: Wait + Drop> Records<R> {
     /// Whether nothing is written.
     pub fn is_empty(&self) -> bool {
-        self.logs.is_empty() && self.metrics.is_none()
+        self.files.logs.is_empty() && self.files.metrics.is_none()
+    }
+
+    /// The files, for one more who has them.
+    pub fn files(&self) -> Result<Arc<RecordFiles<R>, Global>, Refusal> {
+        match Arc::try_clone(&self.files) {
+            Ok(files) => Ok(files),
+            Err(_) => Err(Refusal::OutOfMemory),
+        }
     }
 
     /// Writes what the next entry tells, wherever it can be written, and says where it cannot.
     pub fn take(&self, entry: &Entry) -> Result<(), Refusal> {
+        let files = &*self.files;
         let mut told = Ok(());
-        for log in &self.logs {
+        for log in &files.logs {
             if log.take(entry).is_err() {
-                told = Err(unwritable(self.alloc, log.path().as_bytes()));
+                told = Err(unwritable(files.alloc, log.path().as_bytes()));
             }
         }
-        if let Some(metrics) = &self.metrics {
-            if metrics.take(entry).is_err() {
-                told = Err(unwritable(self.alloc, metrics.path().as_bytes()));
+        if let (Some(counts), Some(metrics)) = (&self.counts, &files.metrics) {
+            if counts.lock(&self.rt).take(entry, metrics).is_err() {
+                told = Err(unwritable(files.alloc, metrics.path().as_bytes()));
             }
         }
         told
@@ -72,20 +90,50 @@ impl<R: Wait + Drop> Records<R> {
 }
 
 impl<R: Wait + Files<File = File> + Clock + AllocGlobal + Copy + Drop> Records<R> {
-    /// Opens the files that a configuration names, for the journal of a server with these options.
+    /// Opens the files that a configuration names, for the journal of a server with these options, and writes the first counts.
     pub fn open(rt: R, config: &GatewayConfig, options: &Options) -> Result<Records<R>, Refusal> {
         let alloc = rt.alloc();
-        let mut records = Records {
+        let files = RecordFiles::open(rt, config)?;
+        let counts = match &files.metrics {
+            Some(metrics) => Some(Mutex::new(RunningCounts::new(
+                alloc,
+                options.copy(alloc)?,
+                metrics,
+            )?)),
+            None => None,
+        };
+        files.write_metrics()?;
+        match Arc::new(alloc, files) {
+            Ok(files) => Ok(Records { rt, files, counts }),
+            Err(_) => Err(Refusal::OutOfMemory),
+        }
+    }
+
+    /// The server has ended so: the last counts are written, and it is said where one of both failed.
+    pub fn end(&self, served: Result<(), ServerError>) -> Result<(), Refusal> {
+        let counted = self.files.write_metrics();
+        match served {
+            Ok(()) => counted,
+            Err(error) => Err(Refusal::Server(error)),
+        }
+    }
+}
+
+impl<R: Wait + Files<File = File> + Clock + AllocGlobal + Copy + Drop> RecordFiles<R> {
+    // Opens the files that a configuration names.
+    fn open(rt: R, config: &GatewayConfig) -> Result<RecordFiles<R>, Refusal> {
+        let alloc = rt.alloc();
+        let mut files = RecordFiles {
             alloc,
             logs: Vec::new(alloc),
             metrics: None,
         };
-        records.add_log(rt, &config.log_file, LogForm::Own)?;
-        records.add_log(rt, &config.xferlog_file, LogForm::Xferlog)?;
+        files.add_log(rt, &config.log_file, LogForm::Own)?;
+        files.add_log(rt, &config.xferlog_file, LogForm::Xferlog)?;
         if let Some(path) = &config.metrics_file {
-            records.count_in(rt, path, options.copy(alloc)?)?;
+            files.tell_in(rt, path)?;
         }
-        Ok(records)
+        Ok(files)
     }
 
     // Has a log written too, where a path is named.
@@ -106,17 +154,19 @@ impl<R: Wait + Files<File = File> + Clock + AllocGlobal + Copy + Drop> Records<R
         }
     }
 
-    // Has counts written too, and writes the first.
-    fn count_in(&mut self, rt: R, path: &Bytes, options: Options) -> Result<(), Refusal> {
+    // Has counts written too.
+    fn tell_in(&mut self, rt: R, path: &Bytes) -> Result<(), Refusal> {
         let made = match path_text(path) {
-            Some(text) => MetricsFile::new(rt, text, options).ok(),
+            Some(text) => MetricsFile::new(rt, text).ok(),
             None => None,
         };
         match made {
-            Some(metrics) => self.metrics = Some(metrics),
-            None => return Err(unwritable(self.alloc, path.as_slice())),
+            Some(metrics) => {
+                self.metrics = Some(metrics);
+                Ok(())
+            }
+            None => Err(unwritable(self.alloc, path.as_slice())),
         }
-        self.write_metrics()
     }
 
     /// Has each log go on in the file that stands at its path then.
@@ -137,15 +187,6 @@ impl<R: Wait + Files<File = File> + Clock + AllocGlobal + Copy + Drop> Records<R
         match metrics.write() {
             Ok(()) => Ok(()),
             Err(_) => Err(unwritable(self.alloc, metrics.path().as_bytes())),
-        }
-    }
-
-    /// The server has ended so: the last counts are written, and it is said where one of both failed.
-    pub fn end(&self, served: Result<(), ServerError>) -> Result<(), Refusal> {
-        let counted = self.write_metrics();
-        match served {
-            Ok(()) => counted,
-            Err(error) => Err(Refusal::Server(error)),
         }
     }
 }

@@ -11,7 +11,7 @@ use crate::current_users::{CurrentUsers, UserSource};
 use crate::duties::Duties;
 use crate::homes::clear_homes;
 use crate::password_check::PasswordCheck;
-use crate::records::Records;
+use crate::records::{RecordFiles, Records};
 use crate::refusal::Refusal;
 use crate::setup::{Setup, read_setup};
 use crate::user_table::UserTable;
@@ -104,7 +104,7 @@ pub struct Gateway<R: Wait + Copy + Drop> {
     pub control: ControlSocket<R>,
     pub transfers: Activity,
     pub logins: Activity,
-    pub records: Arc<Records<R>, Global>,
+    pub records: Records<R>,
     pub feed: Arc<JournalFeed, Global>,
     /// They are told by its end, behind which nothing is written any more.
     pub waiting: Waiting,
@@ -124,7 +124,7 @@ fn control_of<R: GatewayRuntime>(
     config: &GatewayConfig,
     users: CurrentUsers<R>,
     activity: Activity,
-    records: Arc<Records<R>, Global>,
+    records: Arc<RecordFiles<R>, Global>,
     waiting: Waiting,
 ) -> Result<ControlSocket<R>, Refusal> {
     let alloc = rt.alloc();
@@ -198,15 +198,6 @@ fn check_by<R: GatewayRuntime>(
     PasswordCheck::new(*rt, rt.alloc(), users.share()?, most)
 }
 
-// The logs and the metrics file of a configuration.
-fn open_records<R: GatewayRuntime>(
-    rt: &R,
-    config: &GatewayConfig,
-    options: &Options,
-) -> Result<Arc<Records<R>, Global>, Refusal> {
-    shared(rt.alloc(), Records::open(*rt, config, options)?)
-}
-
 // The storages of transfers, over the homes of the users that count.
 fn depot_of<R: GatewayRuntime>(
     rt: &R,
@@ -236,7 +227,7 @@ fn make_counting<R: GatewayRuntime>(
     rt: &R,
     config: &GatewayConfig,
     users: CurrentUsers<R>,
-    records: Arc<Records<R>, Global>,
+    records: Arc<RecordFiles<R>, Global>,
 ) -> Result<Counting<R>, Refusal> {
     let alloc = rt.alloc();
     let activity = Activity::new(alloc)?;
@@ -260,7 +251,7 @@ pub fn prepare<R: GatewayRuntime>(rt: &R, path: &str) -> Result<Gateway<R>, Refu
         options,
         users,
     } = read_setup(rt, path)?;
-    let records = open_records(rt, &config, &options)?;
+    let records = Records::open(*rt, &config, &options)?;
     let users = first_users(rt, config.whole_uploads, users)?;
     let depot = depot_of(rt, &config, &options, &users)?;
     let check = check_by(rt, &users)?;
@@ -269,7 +260,7 @@ pub fn prepare<R: GatewayRuntime>(rt: &R, path: &str) -> Result<Gateway<R>, Refu
         transfers,
         logins,
         waiting,
-    } = make_counting(rt, &config, users, Arc::try_clone(&records)?)?;
+    } = make_counting(rt, &config, users, records.files()?)?;
     Ok(Gateway {
         plan: make_plan(alloc, &config, options)?,
         check,
