@@ -5,29 +5,27 @@ use Rattle.ftp_lockout.specs.declared.cache.Failures.{Failures}
 use Rattle.ftp_lockout.specs.Places.{AreInKeyOrder, place_in, records_in}
 use Rattle.ftp_lockout.proofs.Records.{recorded-gap, recorded-taken, order-remove, of_same, of_unchanged}
 use Rattle.ftp_lockout.proofs.cache.let_in.Goals as goal
+use Rattle.ftp_lockout.proofs.cache.let_in.Goals.{In_default}
+
+-- a key that stands nowhere has no failures
+not_recorded : (c : In_default) → recorded (records_in c.args.blocks.now.items) (key_lent c.args.key) ≡ None
+not_recorded c = recorded-gap (records_in c.args.blocks.now.items) _ (key_lent c.args.key) (rw c.deref.ensures.value at c.in_default.ensures.absent)
 
 pub returns-in_default-clause-locked : goal.returns-in_default-clause-locked
-returns-in_default-clause-locked c =
-    let gap = rw c.deref.ensures.value at c.in_default.ensures.absent in
-    ap (is_locked c.args.policy c.args.at) (sym (recorded-gap (records_in c.args.blocks.now.items) _ (key_lent c.args.key) gap))
+returns-in_default-clause-locked c = ap (is_locked c.args.policy c.args.at) (sym (not_recorded c))
 
 pub returns-in_default-clause-removed : goal.returns-in_default-clause-removed
 returns-in_default-clause-removed c = λ other.
-    let gap = rw c.deref.ensures.value at c.in_default.ensures.absent in
-    let none = recorded-gap (records_in c.args.blocks.now.items) _ (key_lent c.args.key) gap in
     of_unchanged (let_in c.args.policy c.args.at) (records_in c.args.blocks.now.items) (key_lent c.args.key) other
-    (ap (let_in c.args.policy c.args.at) none ∙ sym none)
+    (ap (let_in c.args.policy c.args.at) (not_recorded c) ∙ sym (not_recorded c))
 
 pub returns-then-locks-clause-removed : goal.returns-then-locks-clause-removed
 returns-then-locks-clause-removed c = λ other.
-    let old = records_in c.args.blocks.now.items in
-    let key = key_lent c.args.key in
-    let f = c.failures_at.result in
     let is_at = rw c.deref.ensures.value at c.in-Ok.ensures.found in
-    let found = rw c.deref-2.ensures.value at (c.failures_at.ensures key (rw c.deref-2.ensures.value is_at)) in
-    let locked : is_locked c.args.policy c.args.at (Some f) ≡ true = sym c.locks.ensures ∙ c.if-locks.true in
-    of_unchanged (let_in c.args.policy c.args.at) old key other
-    (ap (let_in c.args.policy c.args.at) found ∙ ap (λ (b : Bool). cond b (Some f) None) locked ∙ sym found)
+    let found = rw c.deref-2.ensures.value at (c.failures_at.ensures (key_lent c.args.key) (rw c.deref-2.ensures.value is_at)) in
+    let locked : is_locked c.args.policy c.args.at (Some c.failures_at.result) ≡ true = sym c.locks.ensures ∙ c.if-locks.true in
+    of_unchanged (let_in c.args.policy c.args.at) (records_in c.args.blocks.now.items) (key_lent c.args.key) other
+    (ap (let_in c.args.policy c.args.at) found ∙ ap (λ (b : Bool). cond b (Some c.failures_at.result) None) locked ∙ sym found)
 
 pub returns-clause-removed : goal.returns-clause-removed
 returns-clause-removed c = λ other.
