@@ -31,56 +31,35 @@ and_true false b h = absurd cc
 test_equal : (a b : ℕ) → eqb a b ≡ true → a ≡ b
 test_equal a b h = grind (arith, nat_tests)
 
+-- a number and every other one
+or_else : (P : ℕ → Type 0) (f n : ℕ) → P n → ((f ≡ n → ⊥) → P f) → P f
+or_else P f n p other = elim (cases_eq f n) [ inl e ↦ subst P (sym e) p | inr ne ↦ other ne ]
+
+no_family : (f : ℕ) → is_some (addresses_len f) ≡ true → (f ≡ 0 → ⊥) → (f ≡ 17 → ⊥) → (f ≡ 18 → ⊥) → (f ≡ 33 → ⊥) → (f ≡ 34 → ⊥) → (f ≡ 49 → ⊥) → (f ≡ 50 → ⊥) → ⊥
+no_family f known n0 n17 n18 n33 n34 n49 n50 =
+    let e0 : eqb f 0 ≡ false = grind (arith, nat_tests) in
+    let e17 : eqb f 17 ≡ false = grind (arith, nat_tests) in
+    let e18 : eqb f 18 ≡ false = grind (arith, nat_tests) in
+    let e33 : eqb f 33 ≡ false = grind (arith, nat_tests) in
+    let e34 : eqb f 34 ≡ false = grind (arith, nat_tests) in
+    let e49 : eqb f 49 ≡ false = grind (arith, nat_tests) in
+    let e50 : eqb f 50 ≡ false = grind (arith, nat_tests) in
+    let none : is_some (addresses_len f) ≡ false = rw (e0, e17, e18, e33, e34, e49, e50) refl in
+    absurd cc
+
 -- each family that there is
 by_family_byte : (P : ℕ → Type 0) (f : ℕ) → is_some (addresses_len f) ≡ true → P 0 → P 17 → P 18 → P 33 → P 34 → P 49 → P 50 → P f
 by_family_byte P f known p0 p17 p18 p33 p34 p49 p50 =
-    elim (cases_eq f 0) [
-      | inl e ↦ subst P (sym e) p0
-      | inr n0 ↦
-          elim (cases_eq f 17) [
-            | inl e ↦ subst P (sym e) p17
-            | inr n17 ↦
-                elim (cases_eq f 18) [
-                  | inl e ↦ subst P (sym e) p18
-                  | inr n18 ↦
-                      elim (cases_eq f 33) [
-                        | inl e ↦ subst P (sym e) p33
-                        | inr n33 ↦
-                            elim (cases_eq f 34) [
-                              | inl e ↦ subst P (sym e) p34
-                              | inr n34 ↦
-                                  elim (cases_eq f 49) [
-                                    | inl e ↦ subst P (sym e) p49
-                                    | inr n49 ↦
-                                        elim (cases_eq f 50) [ inl e ↦ subst P (sym e) p50 | inr n50 ↦ absurd (unknown f known n0 n17 n18 n33 n34 n49 n50) ]
-                                  ]
-                            ]
-                      ]
-                ]
-          ]
-    ] where
-      unknown : (f : ℕ) → is_some (addresses_len f) ≡ true → (f ≡ 0 → ⊥) → (f ≡ 17 → ⊥) → (f ≡ 18 → ⊥) → (f ≡ 33 → ⊥) → (f ≡ 34 → ⊥) → (f ≡ 49 → ⊥) → (f ≡ 50 → ⊥) → ⊥
-      unknown f known n0 n17 n18 n33 n34 n49 n50 =
-          let e0 : eqb f 0 ≡ false = grind (arith, nat_tests) in
-          let e17 : eqb f 17 ≡ false = grind (arith, nat_tests) in
-          let e18 : eqb f 18 ≡ false = grind (arith, nat_tests) in
-          let e33 : eqb f 33 ≡ false = grind (arith, nat_tests) in
-          let e34 : eqb f 34 ≡ false = grind (arith, nat_tests) in
-          let e49 : eqb f 49 ≡ false = grind (arith, nat_tests) in
-          let e50 : eqb f 50 ≡ false = grind (arith, nat_tests) in
-          let none : is_some (addresses_len f) ≡ false = rw (e0, e17, e18, e33, e34, e49, e50) refl in
-          absurd cc
+    or_else P f 0 p0 (λ n0. or_else P f 17 p17 (λ n17. or_else P f 18 p18 (λ n18. or_else P f 33 p33 (λ n33.
+    or_else P f 34 p34 (λ n34. or_else P f 49 p49 (λ n49. or_else P f 50 p50 (λ n50. absurd (no_family f known n0 n17 n18 n33 n34 n49 n50))))))))
 
 -- a stream or datagrams of a family
 by_kind : (P : ℕ → Type 0) (family f : ℕ) → is_family family f ≡ true → P (16 * family + 1) → P (16 * family + 2) → P f
 by_kind P family f is p q =
-    elim (cases_eq f (16 * family + 1)) [
-      | inl e ↦ subst P (sym e) p
-      | inr ne ↦
-          let first : eqb f (16 * family + 1) ≡ false = grind (arith, nat_tests) in
-          let second : eqb f (16 * family + 2) ≡ true = sym (ap (λ (b : Bool). b || eqb f (16 * family + 2)) first) ∙ is in
-          subst P (sym (test_equal f (16 * family + 2) second)) q
-    ]
+    or_else P f (16 * family + 1) p (λ ne.
+    let first : eqb f (16 * family + 1) ≡ false = grind (arith, nat_tests) in
+    let second : eqb f (16 * family + 2) ≡ true = sym (ap (λ (b : Bool). b || eqb f (16 * family + 2)) first) ∙ is in
+    subst P (sym (test_equal f (16 * family + 2) second)) q)
 
 -- ---- the body by command and family, which are two bytes
 
@@ -107,36 +86,33 @@ number_below bytes i small = omega (arith, small i, small (i + 1))
 below_4 : (bytes : List ℕ) → IsBytes bytes → from_be_bytes w32 bytes < 2 ^ 32
 below_4 bytes small = omega (arith, small 0, small 1, small 2, small 3)
 
+-- two addresses of so many bytes, and two ports behind them
+cut_pair : (n : ℕ) (block : List ℕ) → take (n + (n + 4)) block ≡ take n block ++ (take n (drop n block) ++ (take 2 (drop (n + n) block) ++ take 2 (drop (n + n + 2) block)))
+cut_pair n block =
+    take-add n (n + 4) block
+    ∙ ap (λ (x : List ℕ). take n block ++ x) (take-add n 4 (drop n block))
+    ∙ ap (λ (x : List ℕ). take n block ++ (take n (drop n block) ++ take 4 x)) (drop-drop n n block)
+    ∙ ap (λ (x : List ℕ). take n block ++ (take n (drop n block) ++ x)) (take-add 2 2 (drop (n + n) block))
+    ∙ ap (λ (x : List ℕ). take n block ++ (take n (drop n block) ++ (take 2 (drop (n + n) block) ++ take 2 x))) (drop-drop 2 (n + n) block)
+
 pair4_sound : (block : List ℕ) → 12 ≤ length block → IsBytes block → (pair_bytes (pair4 block) ≡ take 12 block) × PairFits (pair4 block)
 pair4_sound block long small =
-    let a = be_bytes_4 (take 4 block) _ (omega (arith, length-take 4 block)) (IsBytes-take 4 block small) refl in
-    let b = be_bytes_4 (take 4 (drop 4 block)) _ (omega (arith, length-take 4 (drop 4 block), length-drop 4 block)) (IsBytes-take 4 (drop 4 block) (IsBytes-drop 4 block small)) refl in
-    let p = two_at block 8 (omega arith) small in
-    let q = two_at block 10 (omega arith) small in
-    let cut : take 12 block ≡ take 4 block ++ (take 4 (drop 4 block) ++ (take 2 (drop 8 block) ++ take 2 (drop 10 block))) =
-    take-add 4 8 block
-    ∙ ap (λ (x : List ℕ). take 4 block ++ x) (take-add 4 4 (drop 4 block))
-    ∙ ap (λ (x : List ℕ). take 4 block ++ (take 4 (drop 4 block) ++ take 4 x)) (drop-drop 4 4 block)
-    ∙ ap (λ (x : List ℕ). take 4 block ++ (take 4 (drop 4 block) ++ x)) (take-add 2 2 (drop 8 block))
-    ∙ ap (λ (x : List ℕ). take 4 block ++ (take 4 (drop 4 block) ++ (take 2 (drop 8 block) ++ take 2 x))) (drop-drop 2 8 block) in (
-      (λ i. a i ++ (b i ++ (p i ++ q i))) ∙ sym cut,
-      (below_4 (take 4 block) (IsBytes-take 4 block small), below_4 (take 4 (drop 4 block)) (IsBytes-take 4 (drop 4 block) (IsBytes-drop 4 block small)), number_below block 8 small, number_below block 10 small),
+    let front = IsBytes-take 4 block small in
+    let back = IsBytes-take 4 (drop 4 block) (IsBytes-drop 4 block small) in
+    let a = be_bytes_4 (take 4 block) _ (omega (arith, length-take 4 block)) front refl in
+    let b = be_bytes_4 (take 4 (drop 4 block)) _ (omega (arith, length-take 4 (drop 4 block), length-drop 4 block)) back refl in (
+      (λ i. a i ++ (b i ++ (two_at block 8 (omega arith) small i ++ two_at block 10 (omega arith) small i))) ∙ sym (cut_pair 4 block),
+      (below_4 (take 4 block) front, below_4 (take 4 (drop 4 block)) back, number_below block 8 small, number_below block 10 small),
     )
 
 pair6_sound : (block : List ℕ) → 36 ≤ length block → IsBytes block → (pair_bytes (pair6 block) ≡ take 36 block) × PairFits (pair6 block)
 pair6_sound block long small =
-    let a = be_bytes_16 (take 16 block) (omega (arith, length-take 16 block)) (IsBytes-take 16 block small) in
-    let b = be_bytes_16 (take 16 (drop 16 block)) (omega (arith, length-take 16 (drop 16 block), length-drop 16 block)) (IsBytes-take 16 (drop 16 block) (IsBytes-drop 16 block small)) in
-    let p = two_at block 32 (omega arith) small in
-    let q = two_at block 34 (omega arith) small in
-    let cut : take 36 block ≡ take 16 block ++ (take 16 (drop 16 block) ++ (take 2 (drop 32 block) ++ take 2 (drop 34 block))) =
-    take-add 16 20 block
-    ∙ ap (λ (x : List ℕ). take 16 block ++ x) (take-add 16 4 (drop 16 block))
-    ∙ ap (λ (x : List ℕ). take 16 block ++ (take 16 (drop 16 block) ++ take 4 x)) (drop-drop 16 16 block)
-    ∙ ap (λ (x : List ℕ). take 16 block ++ (take 16 (drop 16 block) ++ x)) (take-add 2 2 (drop 32 block))
-    ∙ ap (λ (x : List ℕ). take 16 block ++ (take 16 (drop 16 block) ++ (take 2 (drop 32 block) ++ take 2 x))) (drop-drop 2 32 block) in (
-      (λ i. a i ++ (b i ++ (p i ++ q i))) ∙ sym cut,
-      (below_16 (take 16 block) (IsBytes-take 16 block small), below_16 (take 16 (drop 16 block)) (IsBytes-take 16 (drop 16 block) (IsBytes-drop 16 block small)), number_below block 32 small, number_below block 34 small),
+    let front = IsBytes-take 16 block small in
+    let back = IsBytes-take 16 (drop 16 block) (IsBytes-drop 16 block small) in
+    let a = be_bytes_16 (take 16 block) (omega (arith, length-take 16 block)) front in
+    let b = be_bytes_16 (take 16 (drop 16 block)) (omega (arith, length-take 16 (drop 16 block), length-drop 16 block)) back in (
+      (λ i. a i ++ (b i ++ (two_at block 32 (omega arith) small i ++ two_at block 34 (omega arith) small i))) ∙ sym (cut_pair 16 block),
+      (below_16 (take 16 block) front, below_16 (take 16 (drop 16 block)) back, number_below block 32 small, number_below block 34 small),
     )
 
 -- both ends are read again, whatever follows
@@ -149,16 +125,14 @@ pair4_again : (pair : SocketAddrPair) (rest : List ℕ) → not (is_v6 pair.sour
 pair4_again pair rest v w fits = by pair.source.ip pair.destination.ip pair.source.port pair.destination.port v w fits where
   by : (a b : IpAddr) (p q : ℕ) → not (is_v6 a) ≡ true → not (is_v6 b) ≡ true → PairFits (record { source = record { ip = a; port = p }; destination = record { ip = b; port = q } }) →
       IsPairAgain (record { source = record { ip = a; port = p }; destination = record { ip = b; port = q } }) 12 pair4 rest
-  by (V4 a) (V4 b) p q v w fits =
-      let ea = from_be_bytes-to_be_bytes_4 a fits.0 in
-      let eb = from_be_bytes-to_be_bytes_4 b fits.1 in
-      let ep = from_be_bytes-to_be_bytes_2 p fits.2 in
-      let eq = from_be_bytes-to_be_bytes_2 q fits.3 in
-      record {
-        back = λ i. record { source = record { ip = V4 (ea i); port = ep i }; destination = record { ip = V4 (eb i); port = eq i } };
-        behind = refl;
-        long = omega arith;
-      }
+  by (V4 a) (V4 b) p q v w fits = record {
+    back = λ i. record {
+      source = record { ip = V4 (from_be_bytes-to_be_bytes_4 a fits.0 i); port = from_be_bytes-to_be_bytes_2 p fits.2 i };
+      destination = record { ip = V4 (from_be_bytes-to_be_bytes_4 b fits.1 i); port = from_be_bytes-to_be_bytes_2 q fits.3 i };
+    };
+    behind = refl;
+    long = omega arith;
+  }
   by (V6 a) b p q v w fits = absurd cc
   by (V4 a) (V6 b) p q v w fits = absurd cc
 
@@ -166,16 +140,14 @@ pair6_again : (pair : SocketAddrPair) (rest : List ℕ) → is_v6 pair.source.ip
 pair6_again pair rest v w fits = by pair.source.ip pair.destination.ip pair.source.port pair.destination.port v w fits where
   by : (a b : IpAddr) (p q : ℕ) → is_v6 a ≡ true → is_v6 b ≡ true → PairFits (record { source = record { ip = a; port = p }; destination = record { ip = b; port = q } }) →
       IsPairAgain (record { source = record { ip = a; port = p }; destination = record { ip = b; port = q } }) 36 pair6 rest
-  by (V6 a) (V6 b) p q v w fits =
-      let ea = from_be_bytes-to_be_bytes_16 a fits.0 in
-      let eb = from_be_bytes-to_be_bytes_16 b fits.1 in
-      let ep = from_be_bytes-to_be_bytes_2 p fits.2 in
-      let eq = from_be_bytes-to_be_bytes_2 q fits.3 in
-      record {
-        back = λ i. record { source = record { ip = V6 (ea i); port = ep i }; destination = record { ip = V6 (eb i); port = eq i } };
-        behind = refl;
-        long = omega arith;
-      }
+  by (V6 a) (V6 b) p q v w fits = record {
+    back = λ i. record {
+      source = record { ip = V6 (from_be_bytes-to_be_bytes_16 a fits.0 i); port = from_be_bytes-to_be_bytes_2 p fits.2 i };
+      destination = record { ip = V6 (from_be_bytes-to_be_bytes_16 b fits.1 i); port = from_be_bytes-to_be_bytes_2 q fits.3 i };
+    };
+    behind = refl;
+    long = omega arith;
+  }
   by (V4 a) b p q v w fits = absurd cc
   by (V6 a) (V4 b) p q v w fits = absurd cc
 
@@ -193,6 +165,14 @@ fields_behind : (f : List Field → Body) (len : ℕ) (block : List ℕ) (fields
 fields_behind f len block fields behind short =
     ap (λ (x : List ℕ). mapped f (fields_at (length x) len x)) behind
     ∙ ap (mapped f) (fields_again fields (length (fields_bytes fields)) len (omega arith) short)
+
+-- addresses and the fields behind them
+pair_again : (make : SocketAddrPair → List Field → Body) (len : ℕ) (read : List ℕ → SocketAddrPair) (pair : SocketAddrPair) (fields : List Field) →
+    IsPairAgain pair len read (fields_bytes fields) → length (pair_bytes pair ++ fields_bytes fields) < 2 ^ 16 →
+    mapped (make (read (pair_bytes pair ++ fields_bytes fields))) (fields_of len (pair_bytes pair ++ fields_bytes fields)) ≡ Ok (make pair fields)
+pair_again make len read pair fields again short =
+    fields_behind (make (read (pair_bytes pair ++ fields_bytes fields))) len (pair_bytes pair ++ fields_bytes fields) fields again.behind (omega (arith, again.long, short))
+    ∙ ap (λ (x : SocketAddrPair). Ok (make x fields)) again.back
 
 unix_again : (source destination : List ℕ) (fields : List Field) → length source ≡ 108 → length destination ≡ 108 → length (source ++ (destination ++ fields_bytes fields)) < 2 ^ 16 →
     unix (source ++ (destination ++ fields_bytes fields)) ≡ Ok (Unix source destination fields)
@@ -213,9 +193,7 @@ body_again family (Inet pair fields) agrees short fits =
     let is = and_true (is_family 1 family) (not (is_v6 pair.source.ip) && not (is_v6 pair.destination.ip)) agrees in
     let both = and_true (not (is_v6 pair.source.ip)) (not (is_v6 pair.destination.ip)) is.1 in
     let p = pair4_again pair (fields_bytes fields) both.0 both.1 fits in
-    let back : inet (pair_bytes pair ++ fields_bytes fields) ≡ Ok (Inet pair fields) =
-    fields_behind (λ fs. Inet (pair4 (pair_bytes pair ++ fields_bytes fields)) fs) 12 (pair_bytes pair ++ fields_bytes fields) fields p.behind (omega (arith, p.long))
-    ∙ ap (λ (x : SocketAddrPair). Ok (Inet x fields)) p.back in
+    let back = pair_again (λ x fs. Inet x fs) 12 pair4 pair fields p short in
     by_kind (λ f. IsAgain 33 f (Inet pair fields)) 1 family is.0
     (record { command = refl; family = refl; long = omega (arith, p.long); back = back })
     (record { command = refl; family = refl; long = omega (arith, p.long); back = back })
@@ -223,9 +201,7 @@ body_again family (Inet6 pair fields) agrees short fits =
     let is = and_true (is_family 2 family) (is_v6 pair.source.ip && is_v6 pair.destination.ip) agrees in
     let both = and_true (is_v6 pair.source.ip) (is_v6 pair.destination.ip) is.1 in
     let p = pair6_again pair (fields_bytes fields) both.0 both.1 fits in
-    let back : inet6 (pair_bytes pair ++ fields_bytes fields) ≡ Ok (Inet6 pair fields) =
-    fields_behind (λ fs. Inet6 (pair6 (pair_bytes pair ++ fields_bytes fields)) fs) 36 (pair_bytes pair ++ fields_bytes fields) fields p.behind (omega (arith, p.long))
-    ∙ ap (λ (x : SocketAddrPair). Ok (Inet6 x fields)) p.back in
+    let back = pair_again (λ x fs. Inet6 x fs) 36 pair6 pair fields p short in
     by_kind (λ f. IsAgain 33 f (Inet6 pair fields)) 2 family is.0
     (record { command = refl; family = refl; long = omega (arith, p.long); back = back })
     (record { command = refl; family = refl; long = omega (arith, p.long); back = back })
@@ -249,40 +225,35 @@ pub record IsSound (c f : ℕ) (block : List ℕ) (body : Body) : Type 0 where
   pub spelled : block_of body ≡ block
   pub numbers : NumbersFit body
 
+-- the fields that were read stand behind the addresses
+sound_by_fields : (f len : ℕ) (make : List Field → Body) (block : List ℕ) (body : Body) → IsBytes block → mapped make (fields_of len block) ≡ Ok body →
+    ((fields : List Field) → fields_bytes fields ≡ drop len block → IsSound 33 f block (make fields)) → IsSound 33 f block body
+sound_by_fields f len make block body small e each =
+    let m = mapped_fine make (fields_of len block) body e in
+    subst (λ (b : Body). IsSound 33 f block b) m.2
+    (each m.0 (fields_sound (length (drop len block)) len (drop len block) m.0 (omega arith) (IsBytes-drop len block small) m.1))
+
+-- the addresses, and the fields behind them, are the block
+front_and_rest : (len : ℕ) (front rest block : List ℕ) → front ≡ take len block → rest ≡ drop len block → front ++ rest ≡ block
+front_and_rest len front rest block a b = ap (λ (x : List ℕ). front ++ x) b ∙ ap (λ (x : List ℕ). x ++ drop len block) a ∙ take-append-drop len block
+
 inet_sound : (f : ℕ) (block : List ℕ) (body : Body) → is_family 1 f ≡ true → 12 ≤ length block → IsBytes block → inet block ≡ Ok body → IsSound 33 f block body
 inet_sound f block body is long small e =
-    let m = mapped_fine (λ (fields : List Field). Inet (pair4 block) fields) (fields_of 12 block) body e in
     let p = pair4_sound block long small in
-    let behind = fields_sound (length (drop 12 block)) 12 (drop 12 block) m.0 (omega arith) (IsBytes-drop 12 block small) m.1 in
-    subst (λ (b : Body). IsSound 33 f block b) m.2
-    (record {
-      command = refl;
-      agrees = ap (λ (b : Bool). b && true) is;
-      spelled = ap (λ (x : List ℕ). pair_bytes (pair4 block) ++ x) behind ∙ ap (λ (x : List ℕ). x ++ drop 12 block) p.0 ∙ take-append-drop 12 block;
-      numbers = p.1;
-    })
+    sound_by_fields f 12 (λ fields. Inet (pair4 block) fields) block body small e (λ fields behind.
+    record { command = refl; agrees = ap (λ (b : Bool). b && true) is; spelled = front_and_rest 12 (pair_bytes (pair4 block)) (fields_bytes fields) block p.0 behind; numbers = p.1 })
 
 inet6_sound : (f : ℕ) (block : List ℕ) (body : Body) → is_family 2 f ≡ true → 36 ≤ length block → IsBytes block → inet6 block ≡ Ok body → IsSound 33 f block body
 inet6_sound f block body is long small e =
-    let m = mapped_fine (λ (fields : List Field). Inet6 (pair6 block) fields) (fields_of 36 block) body e in
     let p = pair6_sound block long small in
-    let behind = fields_sound (length (drop 36 block)) 36 (drop 36 block) m.0 (omega arith) (IsBytes-drop 36 block small) m.1 in
-    subst (λ (b : Body). IsSound 33 f block b) m.2
-    (record {
-      command = refl;
-      agrees = ap (λ (b : Bool). b && true) is;
-      spelled = ap (λ (x : List ℕ). pair_bytes (pair6 block) ++ x) behind ∙ ap (λ (x : List ℕ). x ++ drop 36 block) p.0 ∙ take-append-drop 36 block;
-      numbers = p.1;
-    })
+    sound_by_fields f 36 (λ fields. Inet6 (pair6 block) fields) block body small e (λ fields behind.
+    record { command = refl; agrees = ap (λ (b : Bool). b && true) is; spelled = front_and_rest 36 (pair_bytes (pair6 block)) (fields_bytes fields) block p.0 behind; numbers = p.1 })
 
 unix_sound : (f : ℕ) (block : List ℕ) (body : Body) → is_family 3 f ≡ true → 216 ≤ length block → IsBytes block → unix block ≡ Ok body → IsSound 33 f block body
 unix_sound f block body is long small e =
-    let m = mapped_fine (λ (fields : List Field). Unix (take 108 block) (take 108 (drop 108 block)) fields) (fields_of 216 block) body e in
-    let behind = fields_sound (length (drop 216 block)) 216 (drop 216 block) m.0 (omega arith) (IsBytes-drop 216 block small) m.1 in
     let s : eqb (length (take 108 block)) 108 ≡ true = let n = length-take 108 block in grind (arith, nat_tests) in
     let d : eqb (length (take 108 (drop 108 block))) 108 ≡ true = let n = length-take 108 (drop 108 block) in let k = length-drop 108 block in grind (arith, nat_tests) in
-    subst (λ (b : Body). IsSound 33 f block b) m.2
-    (record {
+    sound_by_fields f 216 (λ fields. Unix (take 108 block) (take 108 (drop 108 block)) fields) block body small e (λ fields behind. record {
       command = refl;
       agrees = rw (is, s, d) refl;
       spelled =
@@ -327,31 +298,27 @@ body_sound c f block body command known long small e =
 
 -- ---- the body as it is read, in two parts
 
+-- what stands within the front of a block stands in the block
+number_front : (x y : List ℕ) (i : ℕ) → i + 2 ≤ length x → number_at (x ++ y) i ≡ number_at x i
+number_front x y i le =
+    let a = get_or_append_left x y 0 i (omega arith) in
+    let b = get_or_append_left x y 0 (i + 1) (omega arith) in
+    λ j. from_be_bytes w16 (a j ∷ b j ∷ [])
+
+second_front : (n : ℕ) (x y : List ℕ) → n + n ≤ length x → take n (drop n (x ++ y)) ≡ take n (drop n x)
+second_front n x y le = ap (take n) (drop-append-le n x y (omega arith)) ∙ take-append-le n (drop n x) y (omega (arith, length-drop n x))
+
 pair4_front : (x y : List ℕ) → length x ≡ 12 → pair4 (x ++ y) ≡ pair4 x
-pair4_front x y l =
-    let a = take-append-le 4 x y (omega arith) in
-    let b : take 4 (drop 4 (x ++ y)) ≡ take 4 (drop 4 x) = ap (take 4) (drop-append-le 4 x y (omega arith)) ∙ take-append-le 4 (drop 4 x) y (omega (arith, length-drop 4 x)) in
-    let p8 = get_or_append_left x y 0 8 (omega arith) in
-    let p9 = get_or_append_left x y 0 9 (omega arith) in
-    let p10 = get_or_append_left x y 0 10 (omega arith) in
-    let p11 = get_or_append_left x y 0 11 (omega arith) in
-    λ i. record {
-      source = record { ip = V4 (from_be_bytes w32 (a i)); port = from_be_bytes w16 (p8 i ∷ p9 i ∷ []) };
-      destination = record { ip = V4 (from_be_bytes w32 (b i)); port = from_be_bytes w16 (p10 i ∷ p11 i ∷ []) };
-    }
+pair4_front x y l = λ i. record {
+  source = record { ip = V4 (from_be_bytes w32 (take-append-le 4 x y (omega arith) i)); port = number_front x y 8 (omega arith) i };
+  destination = record { ip = V4 (from_be_bytes w32 (second_front 4 x y (omega arith) i)); port = number_front x y 10 (omega arith) i };
+}
 
 pair6_front : (x y : List ℕ) → length x ≡ 36 → pair6 (x ++ y) ≡ pair6 x
-pair6_front x y l =
-    let a = take-append-le 16 x y (omega arith) in
-    let b : take 16 (drop 16 (x ++ y)) ≡ take 16 (drop 16 x) = ap (take 16) (drop-append-le 16 x y (omega arith)) ∙ take-append-le 16 (drop 16 x) y (omega (arith, length-drop 16 x)) in
-    let p32 = get_or_append_left x y 0 32 (omega arith) in
-    let p33 = get_or_append_left x y 0 33 (omega arith) in
-    let p34 = get_or_append_left x y 0 34 (omega arith) in
-    let p35 = get_or_append_left x y 0 35 (omega arith) in
-    λ i. record {
-      source = record { ip = V6 (from_be_bytes w128 (a i)); port = from_be_bytes w16 (p32 i ∷ p33 i ∷ []) };
-      destination = record { ip = V6 (from_be_bytes w128 (b i)); port = from_be_bytes w16 (p34 i ∷ p35 i ∷ []) };
-    }
+pair6_front x y l = λ i. record {
+  source = record { ip = V6 (from_be_bytes w128 (take-append-le 16 x y (omega arith) i)); port = number_front x y 32 (omega arith) i };
+  destination = record { ip = V6 (from_be_bytes w128 (second_front 16 x y (omega arith) i)); port = number_front x y 34 (omega arith) i };
+}
 
 pub inet_joins : (x : List ℕ) → length x ≡ 12 → (y : List ℕ) → inet (x ++ y) ≡ mapped (λ fs. Inet (pair4 x) fs) (fields_at (length y) 12 y)
 inet_joins x l y =

@@ -4,6 +4,7 @@ pub mod FieldsReading
 pub mod HeaderLemmas
 pub mod ReadLemmas
 pub mod BodyLemmas
+mod PartLemmas
 pub mod OutcomeLemmas
 pub mod HeaderLaws
 pub mod LineLemmas
