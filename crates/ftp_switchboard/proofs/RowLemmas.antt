@@ -201,28 +201,33 @@ module _ (pairs : List (ℕ × ℕ)) (place : ℕ) (below : place < length pairs
 
 module _ (lo hi : ℕ) (words words' : List ℕ) (pairs pairs' : List (ℕ × ℕ)) (is : AreAlike lo hi words pairs) (p s place : ℕ) (inside : (lo ≤ p) × (p ≤ hi))
     (others : (i : ℕ) → i ≢ p - lo → bit_of words' i ≡ bit_of words i) (width : length words' ≡ length words) where
+  -- The bits where the port is set anew, to a session or to none.
+  bits-edited : (owner : Option ℕ) → bit_of words' (p - lo) ≡ cond (is_some owner) 1 0 →
+      ((q : ℕ) → session_of pairs' q ≡ cond (nat_eq p q) owner (session_of pairs q)) →
+      (j : ℕ) → lo + j ≤ hi → bit_of words' j ≡ cond (is_some (session_of pairs' (lo + j))) 1 0
+  bits-edited owner bit edited j within =
+      let sessions : session_of pairs' (lo + j) ≡ cond (nat_eq p (lo + j)) owner (session_of pairs (lo + j)) = edited (lo + j) in
+      elim (cases_eq j (p - lo)) [
+        | inl here ↦ (
+            let at : bit_of words' j ≡ cond (is_some owner) 1 0 = ap (bit_of words') here ∙ bit in
+            let port : p ≡ lo + j = omega arith in
+            grind (arith, nat_tests, at, port, sessions)
+            )
+        | inr apart ↦ (
+            let at : bit_of words' j ≡ bit_of words j = others j apart in
+            let port : p ≢ lo + j = λ same. apart (omega arith) in
+            let before : bit_of words j ≡ cond (is_some (session_of pairs (lo + j))) 1 0 = is.bits j within in
+            grind (arith, nat_tests, at, port, sessions, before)
+            )
+      ]
+
   -- A row with a port put in is a row.
   pub is_row-put : IsPlace pairs p place → session_of pairs p ≡ None →
       bit_of words' (p - lo) ≡ 1 → pairs' ≡ insert pairs place (p, s) → AreAlike lo hi words' pairs'
   is_row-put is_place free bit edit =
       record {
         width = width ∙ is.width;
-        bits = λ j within. (
-            let sessions : session_of pairs' (lo + j) ≡ cond (nat_eq p (lo + j)) (Some s) (session_of pairs (lo + j)) =
-            rw edit (session_of-insert pairs p s place is.ascends is_place free (lo + j)) in
-            elim (cases_eq j (p - lo)) [
-              | inl here ↦ (
-                  let at : bit_of words' j ≡ 1 = ap (bit_of words') here ∙ bit in
-                  let port : p ≡ lo + j = omega arith in
-                  grind (arith, nat_tests, at, port, sessions)
-                  )
-              | inr apart ↦ (
-                  let at : bit_of words' j ≡ bit_of words j = others j apart in
-                  let port : p ≢ lo + j = λ same. apart (omega arith) in
-                  let before : bit_of words j ≡ cond (is_some (session_of pairs (lo + j))) 1 0 = is.bits j within in
-                  grind (arith, nat_tests, at, port, sessions, before)
-                  )
-            ]);
+        bits = bits-edited (Some s) bit (λ q. rw edit (session_of-insert pairs p s place is.ascends is_place free q));
         ascends = rw edit (ascends-insert pairs p s place is.ascends is_place free);
         inside = rw edit (ports-insert pairs p s place is.ascends is_place free (λ q. (lo ≤ q) × (q ≤ hi)) inside is.inside);
       }
@@ -233,22 +238,7 @@ module _ (lo hi : ℕ) (words words' : List ℕ) (pairs pairs' : List (ℕ × �
   is_row-take below at bit edit =
       record {
         width = width ∙ is.width;
-        bits = λ j within. (
-            let sessions : session_of pairs' (lo + j) ≡ cond (nat_eq p (lo + j)) None (session_of pairs (lo + j)) =
-            rw edit (session_of-remove pairs place p is.ascends below at (lo + j)) in
-            elim (cases_eq j (p - lo)) [
-              | inl here ↦ (
-                  let at : bit_of words' j ≡ 0 = ap (bit_of words') here ∙ bit in
-                  let port : p ≡ lo + j = omega arith in
-                  grind (arith, nat_tests, at, port, sessions)
-                  )
-              | inr apart ↦ (
-                  let at : bit_of words' j ≡ bit_of words j = others j apart in
-                  let port : p ≢ lo + j = λ same. apart (omega arith) in
-                  let before : bit_of words j ≡ cond (is_some (session_of pairs (lo + j))) 1 0 = is.bits j within in
-                  grind (arith, nat_tests, at, port, sessions, before)
-                  )
-            ]);
+        bits = bits-edited None bit (λ q. rw edit (session_of-remove pairs place p is.ascends below at q));
         ascends = rw edit (ascends-remove pairs place below is.ascends);
         inside = rw edit (ports-remove pairs place below (λ q. (lo ≤ q) × (q ≤ hi)) is.inside);
       }
