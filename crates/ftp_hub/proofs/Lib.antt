@@ -14,6 +14,7 @@ pub mod Sweeps
 pub mod Stops
 pub mod Counting
 pub mod Ascending
+mod KeyLemmas
 pub mod Leaving
 pub mod Commands
 pub mod RowCases
