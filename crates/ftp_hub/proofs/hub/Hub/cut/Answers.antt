@@ -16,10 +16,6 @@ use Rattle.ftp_hub.proofs.Named.{serves-named}
 use Rattle.ftp_hub.proofs.Ends.{by_telling, cut-due, cut-passes, jobs-finished, running-finished, serves-lost}
 use Rattle.ftp_hub.proofs.hub.Hub.cut.Goals as goal
 
--- what is known of a job that is there
-runs-so : (P : Running → Type 0) (x : Option Running) (job : Running) → x ≡ Some job → IsSomeAnd x P → P job
-runs-so P x job e h = subst (λ (y : Option Running). IsSomeAnd y P) e h
-
 -- a session that has ended
 pub returns-in-None-clause-serves : goal.returns-in-None-clause-serves
 returns-in-None-clause-serves c log st =
@@ -28,7 +24,7 @@ returns-in-None-clause-serves c log st =
     let a : Answer = c.args.answer in
     let job : Running = c.in-Some.job in
     let there : map.get nat_eq c.args.self.now.jobs t.session ≡ Some job = sym c.take.ensures.value ∙ c.in-Some.is in
-    let known = runs-so (λ r. (r.job.ticket ≡ t) × (r.marked ≡ true)) (map.get nat_eq c.args.self.now.jobs t.session) job there c.requires.runs in
+    let known = subst (λ (x : Option Running). IsSomeAnd x (λ (r : Running). (r.job.ticket ≡ t) × (r.marked ≡ true))) there c.requires.runs in
     let told = c.requires.of_this_event in
     let done =
     c.cut.ensures.actions
@@ -58,7 +54,7 @@ returns-in-Some-get_mut-clause-serves c log st =
     let jobs : Jobs = c.args.self.now.jobs in
     let told = c.requires.of_this_event in
     let there_job : map.get nat_eq jobs s ≡ Some job = sym c.take.ensures.value ∙ c.in-Some.is in
-    let known = runs-so (λ r. (r.job.ticket ≡ t) × (r.marked ≡ true)) (map.get nat_eq jobs s) job there_job c.requires.runs in
+    let known = subst (λ (x : Option Running). IsSomeAnd x (λ (r : Running). (r.job.ticket ≡ t) × (r.marked ≡ true))) there_job c.requires.runs in
     let there : map.get nat_eq c.args.self.now.sessions s ≡ Some v = sym c.in-Some-get_mut.ensures.value in
     let lent = c.get_mut.follows.holds c.cut-in-Some-get_mut.new.session in
     let acts =

@@ -18,10 +18,6 @@ use Rattle.ftp_hub.proofs.Named.{few-counts, serves-named}
 use Rattle.ftp_hub.proofs.Ends.{by_telling, finish-due, finished-passes, jobs-finished, running-finished, serves-lost}
 use Rattle.ftp_hub.proofs.hub.Hub.finish.Goals as goal
 
--- what is known of a job that is there
-runs-so : (P : Running → Type 0) (x : Option Running) (job : Running) → x ≡ Some job → IsSomeAnd x P → P job
-runs-so P x job e h = subst (λ (y : Option Running). IsSomeAnd y P) e h
-
 -- a session that has ended
 pub returns-in-None-clause-serves : goal.returns-in-None-clause-serves
 returns-in-None-clause-serves c log st =
@@ -31,7 +27,7 @@ returns-in-None-clause-serves c log st =
     let a : Answer = Done c.args.outcome in
     let job : Running = c.in-Some.job in
     let there : map.get nat_eq c.args.self.now.jobs t.session ≡ Some job = sym c.take.ensures.value ∙ c.in-Some.is in
-    let known = runs-so (λ r. (r.job.ticket ≡ t) × (r.marked ≡ false) × (can_end r.job c.args.outcome ≡ true)) (map.get nat_eq c.args.self.now.jobs t.session) job there c.requires.runs in
+    let known = subst (λ (x : Option Running). IsSomeAnd x (λ (r : Running). (r.job.ticket ≡ t) × (r.marked ≡ false) × (can_end r.job c.args.outcome ≡ true))) there c.requires.runs in
     let told = c.requires.of_this_event in
     let done = c.complete.ensures.actions ∙ ap (λ xs. xs ++ action.Completed t false ∷ []) c.requires.fits.ready.actions in
     serves-lost c.args.self.now _ log c.args.event.now a decision.Finished _ t job _ st finished-passes told there (sym c.in-None.ensures.value)
@@ -57,7 +53,7 @@ returns-in-Some-get_mut-clause-serves c log st =
     let jobs : Jobs = c.args.self.now.jobs in
     let told = c.requires.of_this_event in
     let there_job : map.get nat_eq jobs s ≡ Some job = sym c.take.ensures.value ∙ c.in-Some.is in
-    let known = runs-so (λ r. (r.job.ticket ≡ t) × (r.marked ≡ false) × (can_end r.job c.args.outcome ≡ true)) (map.get nat_eq jobs s) job there_job c.requires.runs in
+    let known = subst (λ (x : Option Running). IsSomeAnd x (λ (r : Running). (r.job.ticket ≡ t) × (r.marked ≡ false) × (can_end r.job c.args.outcome ≡ true))) there_job c.requires.runs in
     let there : map.get nat_eq c.args.self.now.sessions s ≡ Some v = sym c.in-Some-get_mut.ensures.value in
     let few : IsFew v = few-counts c.args.self.now log s v st c.requires.fits.below (sym (st.tables.sessions s) ∙ there) in
     let lent = c.get_mut.follows.holds c.finish.new.session in

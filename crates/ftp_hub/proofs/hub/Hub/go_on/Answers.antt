@@ -19,10 +19,6 @@ use Rattle.ftp_hub.proofs.Running.{running-none}
 use Rattle.ftp_hub.proofs.Ends.{move-due, moved-passes, serves-lost}
 use Rattle.ftp_hub.proofs.hub.Hub.go_on.Goals as goal
 
--- what is known of a job that is there
-runs-so : (P : Running → Type 0) (x : Option Running) (job : Running) → x ≡ Some job → IsSomeAnd x P → P job
-runs-so P x job e h = subst (λ (y : Option Running). IsSomeAnd y P) e h
-
 -- a session that has ended
 pub returns-in_default-get_mut-clause-serves : goal.returns-in_default-get_mut-clause-serves
 returns-in_default-get_mut-clause-serves c log st =
@@ -33,7 +29,7 @@ returns-in_default-get_mut-clause-serves c log st =
     let job : Running = c.in-Some.running.now in
     let is = c.requires.of_this_event in
     let there : map.get nat_eq jobs s ≡ Some job = sym c.get_mut.ensures.value ∙ ap option_copied_mut c.in-Some.is in
-    let known = runs-so (λ r. (r.job.ticket ≡ t) × (r.marked ≡ false) × (can_move r.job c.args.bytes ≡ true)) (map.get nat_eq jobs s) job there c.requires.runs in
+    let known = subst (λ (x : Option Running). IsSomeAnd x (λ (r : Running). (r.job.ticket ≡ t) × (r.marked ≡ false) × (can_move r.job c.args.bytes ≡ true))) there c.requires.runs in
     let none : map.get nat_eq c.args.self.now.sessions s ≡ None = sym c.in_default-get_mut.ensures.value in
     let lent = c.get_mut.follows.holds (raise c.args.bytes job) in
     serves-lost c.args.self.now _ log c.args.event.now a decision.Moved [] t job (Some (raise c.args.bytes job)) st moved-passes (ap job_ticket is) there none
@@ -59,7 +55,7 @@ returns-in-Some-get_mut-clause-serves c log st =
     let v : Session = c.in-Some-get_mut.session.now in
     let is = c.requires.of_this_event in
     let there_job : map.get nat_eq jobs s ≡ Some job = sym c.get_mut.ensures.value ∙ ap option_copied_mut c.in-Some.is in
-    let known = runs-so (λ r. (r.job.ticket ≡ t) × (r.marked ≡ false) × (can_move r.job c.args.bytes ≡ true)) (map.get nat_eq jobs s) job there_job c.requires.runs in
+    let known = subst (λ (x : Option Running). IsSomeAnd x (λ (r : Running). (r.job.ticket ≡ t) × (r.marked ≡ false) × (can_move r.job c.args.bytes ≡ true))) there_job c.requires.runs in
     let there : map.get nat_eq c.args.self.now.sessions s ≡ Some v = sym c.in-Some-get_mut.ensures.value in
     let after : Session = record v { active_at = at } in
     let lent_job = c.get_mut.follows.holds (raise c.args.bytes job) in
