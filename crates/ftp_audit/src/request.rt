@@ -9,14 +9,16 @@ ghost use Rattle.ftp_events.specs.Log.{job_ticket};
 ghost use Rattle.ftp_events.specs.Login.{logged_user};
 ghost use Rattle.ftp_events.specs.Slot.{asked_command, queued_by};
 ghost use Rattle.ftp_events.specs.Statuses.{word_of};
-ghost use Rattle.ftp_events.specs.Transfer.{command_path, listed_path, same_ticket};
+ghost use Rattle.ftp_events.specs.Transfer.{command_path, same_ticket};
 ghost use Rattle.ftp_laws.specs.Pieces.{moved_by};
 ghost use Rattle.ftp_audit.specs.Requests.{begun_at, more_moved, request_acted, request_of, with_more};
 ghost use Rattle.ftp_audit.specs.Tickets.{request_at};
 
 use crate::guest::Guest;
 use ftp_base::{Bytes, DataChanCmd, IpAddr};
-use ftp_events::{Action, Answer, CommandWord, Decision, Entry, EventKind, Login, unique_name};
+use ftp_events::{
+    Action, Answer, CommandWord, Decision, Entry, EventKind, Login, command_path, unique_name,
+};
 use ftp_transfer::{Ticket, join_path};
 use std::alloc::{AllocError, Global};
 use std::collections::HashMap;
@@ -90,29 +92,6 @@ fn logged_user(alloc: Global, guest: &Guest) -> Result<Bytes, AllocError>
     match (guest.login, &guest.name) {
         (Login::LoggedIn, Some(name)) => name.copy(alloc),
         _ => Bytes::from_slice(alloc, b"unknown"),
-    }
-}
-
-// The path of a command.
-fn command_path(alloc: Global, cwd: &Bytes, command: &DataChanCmd) -> Result<Bytes, AllocError>
-    ensures { IfOk result (λ path. path ≡ command_path cwd.now command.now) }
-{
-    match command {
-        DataChanCmd::Retr { path } | DataChanCmd::Stor { path } | DataChanCmd::Appe { path } => {
-            join_path(alloc, cwd, path)
-        }
-        DataChanCmd::List { path, .. } | DataChanCmd::Nlst { path } | DataChanCmd::Mlsd { path } =>
-            listed_path(alloc, cwd, path),
-    }
-}
-
-// The path of a listing.
-fn listed_path(alloc: Global, cwd: &Bytes, path: &Option<Bytes>) -> Result<Bytes, AllocError>
-    ensures { IfOk result (λ listed. listed ≡ listed_path cwd.now path.now) }
-{
-    match path {
-        Some(path) if path.as_slice() != b".".as_slice() => join_path(alloc, cwd, path),
-        _ => cwd.copy(alloc),
     }
 }
 

@@ -12,9 +12,9 @@ ghost use Rattle.ftp_check_log.specs.Evidence.{IsEvidence, IsOnlyEvidence, Tells
 ghost use Rattle.ftp_check_log.specs.Grants.{AreHeld, IsLastGrant};
 
 use crate::grants::{Grant, first_release, last_grants, places_of};
-use crate::reading::{client_before, is_stopped, target};
+use crate::reading::{client_before, is_stopped};
 use ftp_base::{IpAddr, SocketAddr};
-use ftp_events::{Decision, Entry, Log};
+use ftp_events::{Decision, Entry, Log, target};
 use ftp_options::Options;
 use ftp_text::writing::{put, put_number, put_optional_number};
 use std::alloc::{AllocError, Global};

@@ -12,9 +12,9 @@ ghost use Rattle.ftp_events.specs.Words.{is_number};
 ghost use Rattle.ftp_check_log.specs.Evidence.{past_at, holder_before, IsFreeSince};
 ghost use Rattle.ftp_check_log.specs.Grants.{IsLastGrant};
 
-use crate::reading::{client_in, ends_hold, is_refusal, opened_session, target};
+use crate::reading::{client_in, opened_session};
 use ftp_base::{IpAddr, SocketAddr};
-use ftp_events::{Decision, Entry};
+use ftp_events::{Decision, Entry, ends_hold, target};
 use ftp_options::Options;
 use std::alloc::{AllocError, Global};
 use std::collections::BTreeMap;
@@ -164,7 +164,7 @@ pub(crate) fn first_release(
 fn ends(options: &Options, entry: &Entry, session: u64, to: SocketAddr) -> bool
     ensures { result ≡ (not (is_refusal entry.now.decision) && (comes_to options.now entry.now to.ip to.port || ends_hold entry.now session)) }
 {
-    if is_refusal(entry.decision) {
+    if entry.decision.is_refusal() {
         return false;
     }
     match target(options, &entry.event.kind, entry.answer) {

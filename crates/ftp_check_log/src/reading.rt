@@ -2,13 +2,11 @@
 
 ghost use Rattle.std.specs.Prelude.{◌≡◌, reverse};
 ghost use Rattle.std.specs.Option.{option_and_then, option_map};
-ghost use Rattle.ftp_events.specs.Board.{target, ends_hold};
-ghost use Rattle.ftp_events.specs.Log.{is_refusal, is_stopped, past_of};
+ghost use Rattle.ftp_events.specs.Log.{is_stopped, past_of};
 ghost use Rattle.ftp_events.specs.Opening.{opened_number, opening_by, opener};
 
-use ftp_base::{IpAddr, SocketAddr};
+use ftp_base::IpAddr;
 use ftp_events::{Answer, Decision, Entry, EventKind};
-use ftp_options::Options;
 
 /// Says whether every session was ended by these entries.
 pub(crate) fn is_stopped(before: &[Entry]) -> bool
@@ -69,41 +67,4 @@ pub(crate) fn client_in(kind: &EventKind, answer: Answer) -> Option<IpAddr>
         (EventKind::Proxied { .. }, Answer::Header(Ok(line))) => Some(line.source.ip),
         _ => None,
     }
-}
-
-/// The client and the port of a data connection.
-pub(crate) fn target(options: &Options, kind: &EventKind, answer: Answer) -> Option<SocketAddr>
-    ensures { option_map (λ a. record { client = a.ip; port = a.port }) result ≡ target options.now kind.now answer }
-{
-    match (kind, answer) {
-        (EventKind::DataIn { raw, port, .. }, _) => Some(SocketAddr {
-            ip: raw.ip,
-            port: *port,
-        }),
-        (EventKind::Proxied { .. }, Answer::Header(Ok(line)))
-            if !options.mode.is_control_port(line.destination.port) => Some(SocketAddr {
-            ip: line.source.ip,
-            port: line.destination.port,
-        }),
-        _ => None,
-    }
-}
-
-/// Says whether the entry ends a hold of the session.
-pub(crate) fn ends_hold(entry: &Entry, session: u64) -> bool
-    ensures { result ≡ ends_hold entry.now session }
-{
-    entry.decision.is_stop()
-        || (entry.event.kind.named_session() == Some(session)
-            && entry.decision.slot_move().gives_up())
-}
-
-/// Says whether the decision is one of the four refusals.
-pub(crate) fn is_refusal(decision: Decision) -> bool
-    ensures { result ≡ is_refusal decision }
-{
-    matches!(
-        decision,
-        Decision::UnknownNumber | Decision::UsedNumber | Decision::Misplaced | Decision::NotExpected
-    )
 }

@@ -20,7 +20,6 @@ use crate::counting::{
 };
 use crate::decision::{Decision, Life};
 use crate::event::Answer;
-use crate::questions::is_refusal;
 use crate::status::{CommandWord, Ended, Status7};
 use crate::tallies::{Files, PerCommand, PerStatus};
 use ftp_base::DataChanCmd;
@@ -220,7 +219,7 @@ impl Counters {
             Counted options.now (entry_of event answer decision actions.now ∷ past) self.new }
         ensures refused { is_refusal decision ≡ true → self.new ≡ self.old }
     {
-        if !options.collect_metrics || is_refusal(decision) {
+        if !options.collect_metrics || decision.is_refusal() {
             return;
         }
         self.count(answer, decision, actions, ended);

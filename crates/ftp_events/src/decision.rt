@@ -2,6 +2,7 @@
 
 ghost use Rattle.std.specs.Prelude.{◌≡◌};
 ghost use Rattle.ftp_events.specs.Classes.{life, is_stop, slot_move, gives_up};
+ghost use Rattle.ftp_events.specs.Log.{is_refusal};
 
 use ftp_base::{ErrorKind, LockState};
 use ftp_proxy::ProxyError;
@@ -145,6 +146,19 @@ impl Decision {
         }
     }
 
+    /// Says whether it is one of the four refusals, of which nothing is done.
+    pub fn is_refusal(self) -> bool
+        ensures { result ≡ is_refusal self }
+    {
+        matches!(
+            self,
+            Decision::UnknownNumber
+                | Decision::UsedNumber
+                | Decision::Misplaced
+                | Decision::NotExpected
+        )
+    }
+
     /// Says whether it ends every live session.
     pub fn is_stop(self) -> bool
         ensures { result ≡ is_stop self }
@@ -157,8 +171,8 @@ impl Decision {
     /// # Proved
     ///
     /// - What a decision does to the slot of its session, whether that gives up a hold, whether a session begins, goes
-    ///   on or ends by it, and whether every session ends (also `SlotMove::gives_up`; `Decision::life`;
-    ///   `Decision::is_stop`).
+    ///   on or ends by it, whether every session ends, and what is refused (also `SlotMove::gives_up`;
+    ///   `Decision::life`; `Decision::is_stop`; `Decision::is_refusal`).
     pub fn slot_move(self) -> SlotMove
         ensures { result ≡ slot_move self }
     {

@@ -2,8 +2,9 @@
 
 ghost use Rattle.std.specs.Prelude.{◌≡◌, false, IfOk};
 ghost use Rattle.ftp_events.specs.Covers.{link_number};
-ghost use Rattle.ftp_events.specs.Log.{named_session, has_text};
+ghost use Rattle.ftp_events.specs.Log.{named_session, new_number, has_text};
 
+use crate::decision::Decision;
 use ftp_base::{AuthAnswer, Bytes, ControlChanMsg, DataChanCmd, ErrorKind, SocketAddr};
 use ftp_proxy::{ProxyError, ProxyHeader};
 use ftp_transfer::{Outcome, Ticket};
@@ -149,11 +150,29 @@ pub enum Answer {
 }
 
 impl EventKind {
+    /// The number that comes as new: that of a PORT where its connection is taken.
+    pub fn new_number(&self, decision: Decision) -> Option<u64>
+        ensures { result ≡ new_number self.now decision }
+    {
+        match self {
+            EventKind::Connect { session, .. } => Some(*session),
+            EventKind::Proxied { number, .. }
+            | EventKind::DataIn { number, .. }
+            | EventKind::Accepted { number, .. } => Some(*number),
+            EventKind::Port { number, .. } => match decision {
+                Decision::PortOk => *number,
+                _ => None,
+            },
+            _ => None,
+        }
+    }
+
     /// The session that the event or its ticket names.
     ///
     /// # Proved
     ///
-    /// - The session that an event names, and the connection that comes with it (also `EventKind::link_number`).
+    /// - The session that an event names, the connection that comes with it, and the number that comes as new (also
+    ///   `EventKind::link_number`; `EventKind::new_number`).
     pub fn named_session(&self) -> Option<u64>
         ensures { result ≡ named_session self.now }
     {

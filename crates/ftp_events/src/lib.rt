@@ -13,6 +13,7 @@ mod delivery;
 mod entry;
 mod event;
 mod log;
+mod paths;
 mod port_text;
 mod questions;
 mod session;
@@ -28,8 +29,9 @@ pub use delivery::deliver;
 pub use entry::Entry;
 pub use event::{Answer, EventKind, HubEvent};
 pub use log::Log;
+pub use paths::command_path;
 pub use port_text::port_target;
-pub use questions::{holder_of, replies_of};
+pub use questions::{ends_hold, holder_of, replies_of, target};
 pub use session::{Login, Opening, Pending, Running, Session, Slot};
 pub use status::{CommandWord, Ended, Status7};
 pub use text::{

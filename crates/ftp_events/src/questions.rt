@@ -26,8 +26,8 @@ use std::alloc::{AllocError, Global};
 ///
 /// # Proved
 ///
-/// - Who holds a port for a client, from the log alone; the replies that a session was sent, the oldest first (also
-///   `replies_of`).
+/// - Who holds a port for a client, from the log alone, what ends a hold, and where a data connection comes to; the
+///   replies that a session was sent, the oldest first (also `ends_hold`; `target`; `replies_of`).
 pub fn holder_of(options: &Options, log: &Log, source: u32, port: u16) -> Option<u64>
     ensures { result ≡ holder options.now (past_of log.now.entries) (V4 source) port }
 {
@@ -100,7 +100,7 @@ fn holder_after(
     requires { held ≡ holder options.now (past_of (reverse before.now)) client port }
     ensures { result ≡ holder options.now (past_of (e.now ∷ reverse before.now)) client port }
 {
-    if is_refusal(e.decision) {
+    if e.decision.is_refusal() {
         return held;
     }
     if gives_hold(options, before, e, client, port) {
@@ -217,8 +217,8 @@ fn comes_to(options: &Options, e: &Entry, client: IpAddr, port: u16) -> bool
     }
 }
 
-// The client and the port of a data connection.
-fn target(options: &Options, kind: &EventKind, answer: Answer) -> Option<SocketAddr>
+/// The client and the port of a data connection that the event brings.
+pub fn target(options: &Options, kind: &EventKind, answer: Answer) -> Option<SocketAddr>
     ensures { option_map (λ a. record { client = a.ip; port = a.port }) result ≡ target options.now kind.now answer }
 {
     match (kind, answer) {
@@ -235,20 +235,10 @@ fn target(options: &Options, kind: &EventKind, answer: Answer) -> Option<SocketA
     }
 }
 
-// Says whether the entry ends a hold of the session.
-fn ends_hold(e: &Entry, session: u64) -> bool
+/// Says whether the entry ends a hold of the session.
+pub fn ends_hold(e: &Entry, session: u64) -> bool
     ensures { result ≡ ends_hold e.now session }
 {
     e.decision.is_stop()
         || (e.event.kind.named_session() == Some(session) && e.decision.slot_move().gives_up())
-}
-
-/// Says whether the decision is one of the four refusals.
-pub(crate) fn is_refusal(decision: Decision) -> bool
-    ensures { result ≡ is_refusal decision }
-{
-    matches!(
-        decision,
-        Decision::UnknownNumber | Decision::UsedNumber | Decision::Misplaced | Decision::NotExpected
-    )
 }

@@ -2,11 +2,11 @@
 
 ghost use Rattle.std.specs.Prelude.{◌≡◌, ◌<◌, [], Option, IfOk, unwrap_or, codes};
 ghost use Rattle.ftp_events.specs.Login.{logged_user};
-ghost use Rattle.ftp_events.specs.Transfer.{command_offset, command_path, listed_path, pending_of};
+ghost use Rattle.ftp_events.specs.Transfer.{command_offset, command_path, pending_of};
 ghost use Rattle.ftp_handlers.specs.Handlers.{asked_for, kept_alone, kept_by, next_ticket};
 
 use ftp_base::{Bytes, DataChanCmd};
-use ftp_events::{EventKind, Login, Pending, Session, unique_name};
+use ftp_events::{EventKind, Login, Pending, Session, command_path, unique_name};
 use ftp_transfer::{Ticket, join_path};
 use std::alloc::{AllocError, Global};
 
@@ -124,29 +124,6 @@ fn pending_of(
         path,
         offset,
     })
-}
-
-// The path of a command in a directory; the listings take the directory itself for no path or `.`.
-fn command_path(alloc: Global, cwd: &Bytes, command: &DataChanCmd) -> Result<Bytes, AllocError>
-    ensures { IfOk result (λ path. path ≡ command_path cwd.now command.now) }
-{
-    match command {
-        DataChanCmd::Retr { path } | DataChanCmd::Stor { path } | DataChanCmd::Appe { path } => {
-            join_path(alloc, cwd, path)
-        }
-        DataChanCmd::List { path, .. } | DataChanCmd::Nlst { path } | DataChanCmd::Mlsd { path } =>
-            listed_path(alloc, cwd, path),
-    }
-}
-
-// The path of a listing.
-fn listed_path(alloc: Global, cwd: &Bytes, path: &Option<Bytes>) -> Result<Bytes, AllocError>
-    ensures { IfOk result (λ listed. listed ≡ listed_path cwd.now path.now) }
-{
-    match path {
-        Some(path) if path.as_slice() != b".".as_slice() => join_path(alloc, cwd, path),
-        _ => cwd.copy(alloc),
-    }
 }
 
 // The offset of a command: RETR and STOR begin at the session's.

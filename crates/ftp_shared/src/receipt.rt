@@ -63,6 +63,13 @@ impl JobShare {
         self.job.ticket
     }
 
+    /// The number of its link.
+    pub fn link(&self) -> u64
+        ensures { result ≡ self.now.number }
+    {
+        self.job.number
+    }
+
     /// How many bytes of it were told.
     pub fn done(&self) -> u64
         ensures { result ≡ self.now.done }
