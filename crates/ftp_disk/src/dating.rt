@@ -1,12 +1,11 @@
 //! When files were changed, as 14 digits (RFC 3659, section 2.3) and as seconds since 1970.
 
-ghost use Rattle.std.specs.Prelude.{◌≡◌, ◌+◌, ◌<◌, true, length, pos, IfSome};
-ghost use Rattle.std.specs.Char.{is_ascii_digit};
-ghost use Rattle.std.specs.List.{list_all};
+ghost use Rattle.std.specs.Prelude.{◌≡◌, true, length, pos, IfSome};
 ghost use Rattle.ftp_places.specs.Moment.{IsDateAt, moment_of, time_val};
 ghost use Rattle.ftp_places.specs.declared.date.Date.{Date};
-ghost use Rattle.ftp_extras.specs.Moment.{two_digits, is_in_span, is_moment};
+ghost use Rattle.ftp_extras.specs.Moment.{is_moment};
 
+use ftp_extras::is_moment;
 use ftp_places::{date_at, moment_of, time_val};
 use std::fs::Metadata;
 use std::io;
@@ -16,41 +15,6 @@ const DAYS_TO_1970: u64 = 719_528;
 
 /// How many days of a year that has no leap day are before each month.
 const DAYS_BEFORE: [u64; 12] = [0, 31, 59, 90, 120, 151, 181, 212, 243, 273, 304, 334];
-
-fn are_digits(bytes: &[u8]) -> bool
-    ensures { result ≡ list_all is_ascii_digit bytes.now }
-{
-    bytes.iter().all(|b| b.is_ascii_digit())
-}
-
-// The number of the two digits at a place.
-fn two_digits(at: &[u8], i: usize) -> u32
-    requires { i + 1 < length at.now }
-    ensures { result ≡ two_digits at.now i }
-{
-    let tens = u32::from(at[i].saturating_sub(b'0'));
-    let ones = u32::from(at[i + 1].saturating_sub(b'0'));
-    tens * 10 + ones
-}
-
-fn is_in_span(low: u32, high: u32, n: u32) -> bool
-    ensures { result ≡ is_in_span low high n }
-{
-    n >= low && n <= high
-}
-
-// Whether the bytes are 14 digits that name a moment.
-fn is_moment(at: &[u8]) -> bool
-    ensures { result ≡ is_moment at.now }
-{
-    at.len() == 14
-        && are_digits(at)
-        && is_in_span(1, 12, two_digits(at, 4))
-        && is_in_span(1, 31, two_digits(at, 6))
-        && is_in_span(0, 23, two_digits(at, 8))
-        && is_in_span(0, 59, two_digits(at, 10))
-        && is_in_span(0, 60, two_digits(at, 12))
-}
 
 /// When what a system tells of was last changed.
 pub(crate) fn modified_told(answer: &io::Result<Metadata>) -> Option<[u8; 14]>

@@ -20,6 +20,7 @@ pub use archive::{Archive, Found, Request, Response};
 pub use extra::{Asker, Extra, Extras, NoExtras};
 pub use file_extras::FileExtras;
 pub use laws::{renames_follow_looks, words_wait_for_login};
+pub use moment::is_moment;
 pub use plan::Offers;
 pub use reply_lines::put_epsv_reply;
 pub use word::ExtraWord;

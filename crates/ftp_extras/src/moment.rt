@@ -28,7 +28,11 @@ fn is_in_span(low: u32, high: u32, n: u32) -> bool
 }
 
 /// Says whether the bytes are 14 digits that name a moment.
-pub(crate) fn is_moment(at: &[u8]) -> bool
+///
+/// # Proved
+///
+/// - They name a moment where the definition says so (`is_moment` in `ftp_extras/specs/Moment.antt`).
+pub fn is_moment(at: &[u8]) -> bool
     ensures { result ≡ is_moment at.now }
 {
     at.len() == 14
