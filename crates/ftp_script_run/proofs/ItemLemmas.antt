@@ -1,7 +1,6 @@
 -- What one more item changes of what the items ask for.
-use Rattle.std.proofs.Common.{◌≡◌, ℕ, ◌*◌, Bool, true, false, cond, ◌||◌, List, [], ◌∷◌, ◌++◌, Option, Some, None, is_some, refl, ap, ◌∙◌, nat_eq}
+use Rattle.std.proofs.Common.{◌≡◌, ℕ, Bool, true, false, cond, ◌||◌, List, [], ◌∷◌, ◌++◌, Option, Some, None, is_some, refl, ap, ◌∙◌, nat_eq}
 use Rattle.std.specs.List.{list_any}
-use Rattle.std.specs.Option.{option_or}
 use Rattle.std.specs.Prelude.{filter_map, fold}
 use Rattle.std.specs.Ordering.{nat_cmp, eq_by_cmp}
 use Rattle.std.specs.Cmp.{nat_cmp_total, unsigned_tied}
@@ -12,18 +11,13 @@ use Rattle.std.proofs.lemmas.List.Elements.{filter_map-append}
 use Rattle.std.proofs.lemmas.List.Sums.{fold-append}
 use Rattle.ftp_base.specs.declared.fault.LinkFault.{LinkFault}
 use Rattle.ftp_base.specs.Memory.{LinkState}
-use Rattle.ftp_options.specs.declared.host.PassiveHost.{PassiveHost}
-use Rattle.ftp_options.specs.declared.lockout.FailedLoginsPolicy.{FailedLoginsPolicy}
-use Rattle.ftp_options.specs.declared.options.ActivePassiveMode.{ActivePassiveMode}
-use Rattle.ftp_options.specs.declared.options.ListenerMode.{ListenerMode}
 use Rattle.ftp_options.specs.Builder.{defaults}
-use Rattle.ftp_options.specs.Settings.{Settings}
 use Rattle.ftp_text.specs.declared.setup.Item.{Item}
 use Rattle.ftp_text.specs.declared.setup.Item.TheVariants as item
 use Rattle.ftp_audit.specs.Book.{Book}
 use Rattle.ftp_audit.specs.Quota.{with_budget, IsUnused}
 use Rattle.ftp_script_run.specs.Script.{says, has_link}
-use Rattle.ftp_script_run.specs.Items.{event_in, events_in, features_of, options_in, new_link, link_in, links_in}
+use Rattle.ftp_script_run.specs.Items.{event_in, events_in, options_in, new_link, link_in, links_in}
 use Rattle.ftp_script_run.specs.SetUp.{StorageState, has_event, new_storage, unlimited, set_up, storage_in}
 
 -- ---- events
@@ -45,19 +39,6 @@ options_in-other (item.Quota default ∷ items) i none = options_in-other items 
 options_in-other (item.Budget bytes user ∷ items) i none = options_in-other items i none
 options_in-other (item.Link n chunk fails bytes ∷ items) i none = options_in-other items i none
 options_in-other (item.Event e ∷ items) i none = options_in-other items i none
-
--- the rules of an options line, on a builder on which is set who listens
-pub options_in-line : (mode : ListenerMode) (lo hi : ℕ) (host : PassiveHost) (active : ActivePassiveMode) (idle : ℕ) (lockout : Option FailedLoginsPolicy) (restart : Bool) (listens rules : Settings) →
-    listens ≡ record defaults { mode = mode; lo = lo; hi = hi } →
-    rules ≡ record listens { host = host; active_passive = active; idle_ms = idle * 1000; lockout = option_or lockout listens.lockout; features = features_of restart } →
-    rules ≡ options_in (item.Options mode lo hi host active idle lockout restart ∷ [])
-options_in-line mode lo hi host active idle lockout restart listens rules set more =
-    more
-    ∙ ap (λ (s : Settings). record s { host = host; active_passive = active; idle_ms = idle * 1000; lockout = option_or lockout s.lockout; features = features_of restart }) set
-    ∙ ap (λ (l : Option FailedLoginsPolicy). record defaults { mode = mode; lo = lo; hi = hi; host = host; active_passive = active; idle_ms = idle * 1000; lockout = l; features = features_of restart }) (or-none lockout) where
-      or-none : {X : Type 0} (o : Option X) → option_or o None ≡ o
-      or-none None = refl
-      or-none (Some x) = refl
 
 -- what is set and what happened, where nothing was said
 pub record IsUnsaid (items : List Item) : Type 0 where

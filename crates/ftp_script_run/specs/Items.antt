@@ -1,5 +1,5 @@
 -- What the items of a script ask for: events, options and links.
-use Rattle.std.specs.Prelude.{ℕ, ◌*◌, Bool, true, false, List, [], ◌∷◌, filter_map, Option, Some, None}
+use Rattle.std.specs.Prelude.{ℕ, false, List, [], ◌∷◌, filter_map, Option, Some, None}
 use Rattle.std.specs.FinMap as map
 use Rattle.ftp_base.specs.declared.fault.LinkFault.{LinkFault}
 use Rattle.ftp_base.specs.LinkTable.{Numbered}
@@ -9,6 +9,7 @@ use Rattle.ftp_options.specs.Settings.{Settings}
 use Rattle.ftp_events.specs.declared.event.HubEvent.{HubEvent}
 use Rattle.ftp_text.specs.declared.setup.Item.{Item}
 use Rattle.ftp_text.specs.declared.setup.Item.TheVariants as item
+use Rattle.ftp_text.specs.Settings.{settings_in}
 
 -- the event of an item
 abbrev pub event_in : Item → Option HubEvent
@@ -19,25 +20,11 @@ event_in _ = None
 abbrev pub events_in : List Item → List HubEvent
 events_in items = filter_map event_in items
 
--- what the storage can do: transfers can begin at a restart offset, or nothing more
-abbrev pub features_of : Bool → ℕ
-features_of true = 1
-features_of false = 0
-
--- the settings that an options line asks for, whose idle time is in seconds; else those of a builder on which nothing was set
+-- the settings that the first options line asks for; else those of a builder on which nothing was set
 abbrev pub options_in : List Item → Settings
 options_in [] = defaults
 options_in (item.Options mode lo hi host active idle lockout restart ∷ items) =
-    record defaults {
-      mode = mode;
-      lo = lo;
-      hi = hi;
-      host = host;
-      active_passive = active;
-      idle_ms = idle * 1000;
-      lockout = lockout;
-      features = features_of restart;
-    }
+    settings_in (Some (item.Options mode lo hi host active idle lockout restart))
 options_in (_ ∷ items) = options_in items
 
 -- a link that gives these bytes, on which no call was made, and of whose calls these fail

@@ -1,21 +1,20 @@
 //! A run of a script, item by item.
 
-ghost use Rattle.std.specs.Prelude.{◌≡◌, ◌⊎◌, ◌≤◌, ◌<◌, ◌*◌, ◌∷◌, ◌++◌, [], List, true, None, IfOk, IfErr, OnOk, OnErr, IsErrOf};
-ghost use Rattle.std.specs.Option.{option_or};
+ghost use Rattle.std.specs.Prelude.{◌≡◌, ◌⊎◌, ◌≤◌, ◌<◌, ◌∷◌, ◌++◌, [], List, true, None, IfOk, IfErr, OnOk, OnErr, IsErrOf};
 ghost use Rattle.ftp_base.specs.declared.fault.Failed.TheVariants.{Fault, Memory};
 ghost use Rattle.ftp_base.specs.Outside.{HasRisen, Writes};
 ghost use Rattle.ftp_events.specs.declared.entry.Entry.{Entry};
 ghost use Rattle.ftp_control.specs.Writing.{WritesFront};
 ghost use Rattle.ftp_text.specs.declared.setup.Item.{Item};
 ghost use Rattle.ftp_text.specs.declared.setup.Item.TheVariants as item;
-ghost use Rattle.ftp_script_run.specs.Items.{event_in, features_of};
+ghost use Rattle.ftp_script_run.specs.Items.{event_in};
 ghost use Rattle.ftp_script_run.specs.Left.{end_lines};
 ghost use Rattle.ftp_script_run.specs.declared.command.Ending.TheVariants as ending;
 ghost use Rattle.ftp_script_run.specs.Outcome.{log_lines, bad_line, Ends, EndsPart};
 ghost use Rattle.ftp_audit.specs.Heard.{HasHeard};
 ghost use Rattle.ftp_script_run.specs.Runs.{Before, Keeps, MayCome, MayTake, Takes, IsTaken, IsPartlyTaken};
 ghost use Rattle.ftp_script_run.specs.Audited.{IsNoted};
-ghost use Rattle.ftp_options.specs.Builder.{refusal, settings_of};
+ghost use Rattle.ftp_options.specs.Builder.{settings_of};
 ghost use Rattle.ftp_hub.specs.Runs.{is_linked};
 ghost use Rattle.ftp_hub.specs.declared.state.StateError.{StateError};
 ghost use Rattle.ftp_hub.specs.Refused.{HasCause, IsFirstRefusal};
@@ -30,16 +29,13 @@ use crate::fitting::look_at;
 use crate::printing::{print_bad_line, print_entry, print_files, print_links};
 use ftp_audit::{Audit, Quota};
 use ftp_base::{
-    Bytes, FEATURE_RESTART, Failed, InsertError, LinkFault, LinkTable, MemoryLink, MemoryStorage,
-    Sink, StoreError,
+    Bytes, Failed, InsertError, LinkFault, LinkTable, MemoryLink, MemoryStorage, Sink, StoreError,
 };
 use ftp_control::write_all;
 use ftp_events::{Entry, HubEvent};
 use ftp_hub::{Hub, HubState, StateError, run_event};
-use ftp_options::{
-    ActivePassiveMode, FailedLoginsPolicy, ListenerMode, Options, PassiveHost, ServerBuilder,
-};
-use ftp_text::{FailingCalls, Item, encode_state};
+use ftp_options::Options;
+use ftp_text::{FailingCalls, Item, default_options, encode_state, options_in};
 use std::alloc::Global;
 
 /// The hub, the storage with its budgets, and the links. Of events and entries nothing is kept here.
@@ -58,7 +54,7 @@ impl Run {
     pub fn new(alloc: Global) -> Run
         ensures { Keeps None result [] [] }
     {
-        let hub = Hub::new(alloc, built(ServerBuilder::new(alloc)));
+        let hub = Hub::new(alloc, default_options(alloc));
         let storage = Quota::transparent(MemoryStorage::new(alloc, MAX_FILE, Vec::new(alloc)));
         Run {
             alloc,
@@ -103,20 +99,8 @@ impl Run {
     {
         match item {
             Item::Skip => Ok(()),
-            Item::Options {
-                mode,
-                lo,
-                hi,
-                host,
-                active,
-                idle,
-                lockout,
-                restart,
-            } => {
-                let mut builder = ServerBuilder::new(self.alloc);
-                set_listening(&mut builder, mode, lo, hi);
-                set_rules(&mut builder, host, active, idle, lockout, restart);
-                self.start(builder);
+            Item::Options { .. } => {
+                self.start(options_in(self.alloc, item));
                 Ok(())
             }
             Item::Storage { max, fails } => {
@@ -190,15 +174,14 @@ impl Run {
         self.links.has(number)
     }
 
-    // Makes the hub anew, as the builder says.
-    fn start(&mut self, builder: ServerBuilder)
-        requires { refusal builder ≡ None }
+    // Makes the hub anew, under these options.
+    fn start(&mut self, options: Options)
         ensures fresh { Stands self.new.hub [] }
         ensures count { count_of self.new.hub ≡ 0 }
-        ensures set { settings_of (options_of self.new.hub) ≡ builder.settings }
+        ensures set { settings_of (options_of self.new.hub) ≡ settings_of options }
         ensures others { self.new ≡ record self.old { hub = self.new.hub } }
     {
-        self.hub = Hub::new(self.alloc, built(builder));
+        self.hub = Hub::new(self.alloc, options);
     }
 
     // Makes the storage, which has no files yet.
@@ -371,63 +354,4 @@ fn want_of_memory(error: StoreError) -> Failed
         StoreError::OutOfMemory => Failed::Memory,
         StoreError::Kind(_) | StoreError::Failed => unreachable!(),
     }
-}
-
-// The options that the builder gives.
-fn built(builder: ServerBuilder) -> Options
-    requires { refusal builder ≡ None }
-    ensures { settings_of result ≡ builder.settings }
-{
-    match builder.build() {
-        Ok(built) => built.options,
-        Err(_) => unreachable!(),
-    }
-}
-
-// Sets who listens, on a builder on which no mode was set.
-fn set_listening(builder: &mut ServerBuilder, mode: ListenerMode, lo: u16, hi: u16)
-    requires { builder.old.settings.mode ≡ ListenerMode.Legacy }
-    ensures { builder.new ≡ record builder.old { settings = record builder.old.settings { mode = mode; lo = lo; hi = hi } } }
-{
-    match mode {
-        ListenerMode::Legacy => {}
-        ListenerMode::Pooled => builder.pooled_listener_mode(),
-        ListenerMode::Proxy { control_port } => builder.proxy_protocol_mode(control_port),
-    }
-    builder.passive_ports(lo, hi);
-}
-
-// Sets what else the sessions go by. The idle time is in seconds.
-fn set_rules(
-    builder: &mut ServerBuilder,
-    host: PassiveHost,
-    active: ActivePassiveMode,
-    idle: u32,
-    lockout: Option<FailedLoginsPolicy>,
-    restart: bool,
-)
-    ensures { builder.new ≡ record builder.old {
-      settings = record builder.old.settings {
-        host = host;
-        active_passive = active;
-        idle_ms = idle * 1000;
-        lockout = option_or lockout builder.old.settings.lockout;
-        features = features_of restart;
-      };
-    } }
-{
-    builder.passive_host(host);
-    builder.active_passive_mode(active);
-    builder.idle_session_timeout(u64::from(idle));
-    if let Some(policy) = lockout {
-        builder.failed_logins_policy(policy);
-    }
-    builder.storage_features(features(restart));
-}
-
-// What the storage can do, where transfers can begin at a restart offset or not.
-fn features(restart: bool) -> u32
-    ensures { result ≡ features_of restart }
-{
-    if restart { FEATURE_RESTART } else { 0 }
 }

@@ -1,10 +1,9 @@
-use Rattle.std.proofs.Common.{◌∙◌, [], ap, refl, sym, subst}
+use Rattle.std.proofs.Common.{◌∙◌, [], Some, ap, refl, sym, subst}
 use Rattle.std.proofs.lemmas.Bool.{not-true}
-use Rattle.ftp_options.specs.Settings.{Draft}
 use Rattle.ftp_text.specs.declared.setup.Item.{Item}
+use Rattle.ftp_text.specs.Settings.{settings_in}
 use Rattle.ftp_script_run.specs.Runs.{Takes, outside}
 use Rattle.ftp_script_run.proofs.Written.{on_ok-then}
-use Rattle.ftp_script_run.proofs.ItemLemmas.{options_in-line}
 use Rattle.ftp_script_run.proofs.RunLemmas.{keeps-options, keeps-options-at, keeps-skip}
 use Rattle.ftp_script_run.proofs.run.Run.set_up.Goals as goal
 
@@ -42,14 +41,10 @@ returns-in-Options-clause-took c =
     let run = c.args.self.now in
     let later = c.start.new.self in
     let i = c.in-Options in
-    let set =
-    options_in-line i.mode i.lo i.hi i.host i.active i.idle i.lockout i.restart _ _
-    (ap (λ (d : Draft _). d.settings) c.set_listening.ensures ∙ ap (λ (d : Draft _). record d.settings { mode = i.mode; lo = i.lo; hi = i.hi }) c.new-builder.ensures)
-    (ap (λ (d : Draft _). d.settings) c.set_rules.ensures) in
     subst (λ (i : Item). Takes run i later []) (sym c.in-Options.is)
     (λ before items log kept may.
     keeps-options-at before run later items log i.mode i.lo i.hi i.host i.active i.idle i.lockout i.restart
     (keeps-options run later items log _ refl refl (λ n. refl) refl (not-true _ may.stands)
-    (c.start.ensures.set ∙ set)
+    (c.start.ensures.set ∙ c.options_in.ensures ∙ ap (λ (i : Item). settings_in (Some i)) c.in-Options.is)
     c.start.ensures.fresh c.start.ensures.count (ap outside c.start.ensures.others))
     may.goes_on kept)
