@@ -4,10 +4,10 @@ ghost use Rattle.std.specs.Prelude.{◌≡◌, ◌≤◌};
 
 use crate::listening::{AcceptPoll, Door, ListeningSockets};
 use crate::spawning::spawn_wanted;
-use ftp_base::{Authenticator, Gate, Spawner};
+use ftp_base::Spawner;
 use ftp_shared::JournalHub;
 use ftp_system::{Depot, ServerRuntime};
-use ftp_workers::{EventSinks, ServerDesk, ServerState};
+use ftp_workers::{DeskOf, Services, SharedServices, StateOf};
 use mio::Token;
 use mio::net::TcpStream;
 use std::alloc::Global;
@@ -34,17 +34,10 @@ const SCAVENGE: u64 = 60_000;
 
 /// Accepts connections, and starts threads for them.
 #[derive(Drop)]
-pub(crate) struct Acceptor<
-    R: ServerRuntime,
-    H: JournalHub + Drop,
-    A: Authenticator + Drop,
-    N: EventSinks + Drop,
-    D: Depot + Drop,
-    G: Gate + Drop,
-> {
+pub(crate) struct Acceptor<R: ServerRuntime, H: JournalHub + Drop, S: Services> {
     rt: R,
-    state: Arc<ServerState<H, A, N, D, G>, Global>,
-    desk: ServerDesk<R, H, A, N, D, G>,
+    state: Arc<StateOf<H, S>, Global>,
+    desk: DeskOf<R, H, S>,
     // All connections to the control port come from a proxy.
     is_behind_proxy: bool,
     // Sockets whose accept failed, by their tokens, and from when on they are looked at again.
@@ -57,28 +50,16 @@ pub(crate) struct Acceptor<
     owed: u64,
 }
 
-impl<
-    R: ServerRuntime,
-    H: JournalHub + Send + Sync + Drop + 'static,
-    A: Authenticator + Send + Sync + Drop + 'static,
-    N: EventSinks + Send + Drop + 'static,
-    D: Depot + Send + Sync + Drop + 'static,
-    G: Gate + Send + Sync + Drop + 'static,
-> Acceptor<R, H, A, N, D, G>
-where
-    H::Pass: Send + 'static,
-    D::Store: Send + 'static,
-    D::Words: Send + 'static,
-{
+impl<R: ServerRuntime, H: JournalHub + Drop, S: Services> Acceptor<R, H, S> {
     /// No connection has come yet, at this moment in milliseconds.
     pub(crate) fn new(
         rt: R,
         alloc: Global,
-        state: Arc<ServerState<H, A, N, D, G>, Global>,
-        desk: ServerDesk<R, H, A, N, D, G>,
+        state: Arc<StateOf<H, S>, Global>,
+        desk: DeskOf<R, H, S>,
         is_behind_proxy: bool,
         at: u64,
-    ) -> Acceptor<R, H, A, N, D, G> {
+    ) -> Acceptor<R, H, S> {
         Acceptor {
             rt,
             state,
@@ -159,13 +140,6 @@ where
         }
     }
 
-    /// Starts the threads that are wanted. One that is not started is asked for again later.
-    pub(crate) fn spawn_wanted<P: Spawner>(&mut self, spawner: &mut P)
-        ensures count { P.faults spawner.old ≤ P.faults spawner.new }
-    {
-        self.owed = spawn_wanted(&self.rt, &self.state, spawner, self.owed);
-    }
-
     /// Does what is due from time to time.
     pub(crate) fn run_timers(&mut self, at: u64) {
         if at.saturating_sub(self.closed) >= LISTENERS {
@@ -205,5 +179,23 @@ where
     /// From now on threads end once they have nothing to do.
     pub(crate) fn close(&self) {
         self.state.close(&self.rt);
+    }
+}
+
+impl<R: ServerRuntime, H: JournalHub + Send + Sync + Drop + 'static, S: SharedServices> Acceptor<
+    R,
+    H,
+    S,
+>
+where
+    H::Pass: Send + 'static,
+    <S::Depot as Depot>::Store: Send + 'static,
+    <S::Depot as Depot>::Words: Send + 'static,
+{
+    /// Starts the threads that are wanted. One that is not started is asked for again later.
+    pub(crate) fn spawn_wanted<P: Spawner>(&mut self, spawner: &mut P)
+        ensures count { P.faults spawner.old ≤ P.faults spawner.new }
+    {
+        self.owed = spawn_wanted::<R, H, S, P>(&self.rt, &self.state, spawner, self.owed);
     }
 }

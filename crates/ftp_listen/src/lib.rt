@@ -15,5 +15,6 @@ mod single;
 mod spawning;
 
 pub use parts::Parts;
+pub use place::listen_address;
 pub use prebound::PreboundListener;
 pub use server::Server;

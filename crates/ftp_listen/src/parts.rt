@@ -1,11 +1,12 @@
 //! What a server is made with, beside its options.
 
-use ftp_base::{Authenticator, DataListener, PresenceListener, Storage};
+use ftp_base::{Authenticator, DataListener, Gate, PresenceListener, Storage};
 use ftp_options::Indicator;
 use ftp_shared::JournalFeed;
-use ftp_system::SharedDepot;
-use ftp_workers::Listeners;
+use ftp_system::{Depot, SessionLimits, SharedDepot};
+use ftp_workers::{EventSinks, Listeners, Services, SharedServices};
 use std::alloc::{AllocError, Global};
+use std::marker::PhantomData;
 use std::sync::{Arc, Wait};
 
 /// Who may log in, who is told, who asks for a shutdown, and the files.
@@ -21,23 +22,50 @@ pub struct Parts<S: Drop> {
     pub storage: S,
 }
 
-/// What a server's threads share: who may log in, who is told, where the files are, where the journal's entries go, and who runs small
-/// downloads.
+/// What a server's threads share beside its hub.
 #[derive(Drop)]
-pub(crate) struct ServerParts<A, N, D> {
-    pub(crate) authenticator: A,
-    pub(crate) sinks: N,
-    pub(crate) depot: D,
+pub(crate) struct ServerParts<S: Services> {
+    pub(crate) authenticator: S::Authenticator,
+    pub(crate) sinks: S::Sinks,
+    pub(crate) depot: S::Depot,
+    pub(crate) gate: Arc<S::Gate, Global>,
+    /// How many sessions there may be.
+    pub(crate) limits: SessionLimits,
+    /// Where the journal's entries go.
     pub(crate) feed: Option<Arc<JournalFeed, Global>>,
     /// The threads of sessions run small downloads.
     pub(crate) runs_small: bool,
 }
 
-/// Anybody whom boxes hold.
-pub(crate) type Boxed<D> = ServerParts<
+/// Names services by a type for each. No value of it is made.
+pub(crate) struct ServicesOf<A, N, D, G> {
+    authenticator: PhantomData<A>,
+    sinks: PhantomData<N>,
+    depot: PhantomData<D>,
+    gate: PhantomData<G>,
+}
+
+impl<
+    A: Authenticator + Send + Sync + Drop + 'static,
+    N: EventSinks + Send + Drop + 'static,
+    D: Depot + Send + Sync + Drop + 'static,
+    G: Gate + Send + Sync + Drop + 'static,
+> SharedServices for ServicesOf<A, N, D, G> {
+    type Authenticator = A;
+
+    type Sinks = N;
+
+    type Depot = D;
+
+    type Gate = G;
+}
+
+/// Anybody whom boxes hold, beside a depot and a gate.
+pub(crate) type BoxedServices<D, G> = ServicesOf<
     Box<dyn Authenticator + Send + Sync + Drop>,
     Listeners<Box<dyn DataListener + Send + Drop>, Box<dyn PresenceListener + Send + Drop>>,
     D,
+    G,
 >;
 
 impl<S: Storage + Drop> Parts<S> {
@@ -65,14 +93,16 @@ impl<S: Storage + Drop> Parts<S> {
     }
 }
 
-impl<D: Drop> Parts<D> {
-    /// Who asks for a shutdown, and all else, with a feed for the journal's entries where there is one, and whether the threads of
-    /// sessions run small downloads.
-    pub(crate) fn open(
+impl<D: Depot + Send + Sync + Drop + 'static> Parts<D> {
+    /// Who asks for a shutdown, and all else, with a gate, the limits, a feed for the journal's entries where there is one, and
+    /// whether the threads of sessions run small downloads.
+    pub(crate) fn open<G: Gate + Send + Sync + Drop + 'static>(
         self,
+        gate: Arc<G, Global>,
+        limits: SessionLimits,
         feed: Option<Arc<JournalFeed, Global>>,
         runs_small: bool,
-    ) -> (Box<dyn Indicator + Drop>, Boxed<D>) {
+    ) -> (Box<dyn Indicator + Drop>, ServerParts<BoxedServices<D, G>>) {
         let Parts {
             authenticator,
             data_listener,
@@ -88,6 +118,8 @@ impl<D: Drop> Parts<D> {
             authenticator,
             sinks,
             depot: storage,
+            gate,
+            limits,
             feed,
             runs_small,
         };

@@ -10,8 +10,12 @@ use ftp_base::SocketAddr;
 use ftp_options::{ListenerMode, Options, ServerError};
 use ftp_system::{Doors, Front, bind_address};
 
-/// The address that the text writes, where a server of this mode can listen there.
-pub(crate) fn place_of(text: &[u8], mode: ListenerMode) -> Result<SocketAddr, ServerError>
+/// The address that a text such as `127.0.0.1:21` writes, if a server of this mode can listen there on a machine that has it.
+///
+/// # Proved
+///
+/// - A text is refused exactly where `Server::listen` refuses it (`written`, `address`, `ipv6`, `only`).
+pub fn listen_address(text: &[u8], mode: ListenerMode) -> Result<SocketAddr, ServerError>
     ensures written { IfOk result (IsBindText text.now) }
     ensures address { IsErrOf result ServerError.Address ↔ WritesNone text.now }
     ensures ipv6 { IsErrOf result ServerError.Ipv6OutsideLegacy ↔ (WritesV6 text.now × (is_legacy mode ≡ false)) }

@@ -8,11 +8,11 @@ use crate::acceptor::Acceptor;
 use crate::listening::{AcceptPoll, ListeningSockets};
 use crate::parts::ServerParts;
 use crate::spawning::spawn_worker;
-use ftp_base::{Authenticator, Gate, Spawner};
+use ftp_base::Spawner;
 use ftp_options::{Indicator, Options, ServerError, Shutdown};
 use ftp_shared::{CutHub, JournalHub, Serving, SharedHub};
-use ftp_system::{Depot, Doors, Front, ServerRuntime, SessionLimits};
-use ftp_workers::{AcceptorHandle, EventSinks, ServerDesk, ServerState};
+use ftp_system::{Depot, Doors, Front, ServerRuntime};
+use ftp_workers::{AcceptorHandle, ServerDesk, ServerState, Services, SharedServices, StateOf};
 use std::alloc::{AllocError, Global};
 use std::sync::Arc;
 use std::sync::ledger::Blank;
@@ -27,27 +27,21 @@ const TURN: u64 = 100;
 const DRAINING_TURN: u64 = 10;
 
 /// A server to which nothing has happened.
-pub(crate) fn new_state<
-    H: JournalHub + Drop,
-    A: Authenticator + Drop,
-    N: EventSinks + Drop,
-    D: Depot + Drop,
-    G: Gate + Drop,
->(
+pub(crate) fn new_state<H: JournalHub + Drop, S: Services>(
     alloc: Global,
     options: Options,
-    limits: SessionLimits,
     hub: H,
-    server_parts: ServerParts<A, N, D>,
-    gate: Arc<G, Global>,
+    server_parts: ServerParts<S>,
     acceptor: AcceptorHandle,
-) -> Result<Arc<ServerState<H, A, N, D, G>, Global>, AllocError>
+) -> Result<Arc<StateOf<H, S>, Global>, AllocError>
     requires options { options ≡ H.options }
 {
     let ServerParts {
         authenticator,
         sinks,
         depot,
+        gate,
+        limits,
         feed,
         runs_small,
     } = server_parts;
@@ -78,16 +72,13 @@ pub(crate) fn new_state<
 fn accept_until_shutdown<
     R: ServerRuntime,
     H: JournalHub + Send + Sync + Drop + 'static,
-    A: Authenticator + Send + Sync + Drop + 'static,
-    N: EventSinks + Send + Drop + 'static,
-    D: Depot + Send + Sync + Drop + 'static,
-    G: Gate + Send + Sync + Drop + 'static,
+    S: SharedServices,
     P: Spawner,
     F: Front,
     I: Indicator,
 >(
     rt: &R,
-    acceptor: &mut Acceptor<R, H, A, N, D, G>,
+    acceptor: &mut Acceptor<R, H, S>,
     poll: &mut AcceptPoll,
     sockets: &ListeningSockets,
     spawner: &mut P,
@@ -96,8 +87,8 @@ fn accept_until_shutdown<
 ) -> (u64, Shutdown)
 where
     H::Pass: Send + 'static,
-    D::Store: Send + 'static,
-    D::Words: Send + 'static,
+    <S::Depot as Depot>::Store: Send + 'static,
+    <S::Depot as Depot>::Words: Send + 'static,
     ensures asked { I.asked indicator.old ≡ None → I.asked indicator.new ≡ Some (result.0, result.1.grace_ms) }
     ensures has_asked { IsSome (I.asked indicator.new) }
     ensures spawner { P.faults spawner.old ≤ P.faults spawner.new }
@@ -121,15 +112,12 @@ where
 fn drain<
     R: ServerRuntime,
     H: JournalHub + Send + Sync + Drop + 'static,
-    A: Authenticator + Send + Sync + Drop + 'static,
-    N: EventSinks + Send + Drop + 'static,
-    D: Depot + Send + Sync + Drop + 'static,
-    G: Gate + Send + Sync + Drop + 'static,
+    S: SharedServices,
     P: Spawner,
     F: Front,
 >(
     rt: &R,
-    acceptor: &mut Acceptor<R, H, A, N, D, G>,
+    acceptor: &mut Acceptor<R, H, S>,
     poll: &mut AcceptPoll,
     sockets: &ListeningSockets,
     spawner: &mut P,
@@ -138,8 +126,8 @@ fn drain<
 ) -> Result<(), ServerError>
 where
     H::Pass: Send + 'static,
-    D::Store: Send + 'static,
-    D::Words: Send + 'static,
+    <S::Depot as Depot>::Store: Send + 'static,
+    <S::Depot as Depot>::Words: Send + 'static,
     ensures shutdown { IsErrOf result ServerError.Shutdown → asked.0 + asked.1.grace_ms < F.latest front.new }
     ensures only { IfErr result (λ e. e ≡ ServerError.Shutdown) }
     ensures spawner { P.faults spawner.old ≤ P.faults spawner.new }
@@ -173,10 +161,7 @@ where
 pub(crate) fn run_server<
     L: Serving + Send + Sync + 'static,
     R: ServerRuntime,
-    A: Authenticator + Send + Sync + Drop + 'static,
-    N: EventSinks + Send + Drop + 'static,
-    D: Depot + Send + Sync + Drop + 'static,
-    G: Gate + Send + Sync + Drop + 'static,
+    S: SharedServices,
     P: Spawner,
     F: Front,
     I: Indicator,
@@ -184,19 +169,17 @@ pub(crate) fn run_server<
     rt: &R,
     alloc: Global,
     options: Options,
-    limits: SessionLimits,
     every: Option<u64>,
     blank: Blank,
-    server_parts: ServerParts<A, N, D>,
-    gate: Arc<G, Global>,
+    server_parts: ServerParts<S>,
     doors: Doors,
     spawner: &mut P,
     front: &mut F,
     indicator: &mut I,
 ) -> Result<(), ServerError>
 where
-    D::Store: Send + 'static,
-    D::Words: Send + 'static,
+    <S::Depot as Depot>::Store: Send + 'static,
+    <S::Depot as Depot>::Words: Send + 'static,
     requires name { blank.name ≡ L.name }
     requires parts { blank.parts ≡ L.parts }
     requires all { blank.parts ≡ PARTS }
@@ -213,14 +196,12 @@ where
         return Err(ServerError::OutOfMemory);
     };
     match every {
-        Some(every) => run_over(
+        Some(every) => run_over::<R, CutHub<L>, S, P, F, I>(
             rt,
             alloc,
             told,
-            limits,
             CutHub::<L>::new(alloc, options, every),
             server_parts,
-            gate,
             doors,
             spawner,
             front,
@@ -228,14 +209,12 @@ where
         ),
         None => {
             let (steps, parts) = blank.open::<L>();
-            run_over(
+            run_over::<R, SharedHub<L>, S, P, F, I>(
                 rt,
                 alloc,
                 told,
-                limits,
                 SharedHub::new(alloc, options, steps, parts, PARTS),
                 server_parts,
-                gate,
                 doors,
                 spawner,
                 front,
@@ -249,10 +228,7 @@ where
 fn run_over<
     R: ServerRuntime,
     H: JournalHub + Send + Sync + Drop + 'static,
-    A: Authenticator + Send + Sync + Drop + 'static,
-    N: EventSinks + Send + Drop + 'static,
-    D: Depot + Send + Sync + Drop + 'static,
-    G: Gate + Send + Sync + Drop + 'static,
+    S: SharedServices,
     P: Spawner,
     F: Front,
     I: Indicator,
@@ -260,10 +236,8 @@ fn run_over<
     rt: &R,
     alloc: Global,
     options: Options,
-    limits: SessionLimits,
     hub: H,
-    server_parts: ServerParts<A, N, D>,
-    gate: Arc<G, Global>,
+    server_parts: ServerParts<S>,
     doors: Doors,
     spawner: &mut P,
     front: &mut F,
@@ -271,8 +245,8 @@ fn run_over<
 ) -> Result<(), ServerError>
 where
     H::Pass: Send + 'static,
-    D::Store: Send + 'static,
-    D::Words: Send + 'static,
+    <S::Depot as Depot>::Store: Send + 'static,
+    <S::Depot as Depot>::Words: Send + 'static,
     requires options { options ≡ H.options }
     ensures ok { OnOk result (IsSome (I.asked indicator.new)) }
     ensures listener { IsErrOf result ServerError.Listener → HasRisen (P.faults spawner.old) (P.faults spawner.new) }
@@ -285,26 +259,25 @@ where
     let Ok((poll, sockets, acceptor)) = AcceptPoll::over(rt, alloc, doors) else {
         return Err(ServerError::OutOfMemory);
     };
-    let Ok(state) = new_state::<H, A, N, D, G>(
-        alloc,
-        options,
-        limits,
-        hub,
-        server_parts,
-        gate,
-        acceptor,
-    ) else {
+    let Ok(state) = new_state::<H, S>(alloc, options, hub, server_parts, acceptor) else {
         return Err(ServerError::OutOfMemory);
     };
     let (Some(pass), Ok(theirs)) = (state.share(rt), Arc::try_clone(&state)) else {
         return Err(ServerError::OutOfMemory);
     };
-    if !spawn_worker(rt, &state, spawner) {
+    if !spawn_worker::<R, H, S, P>(rt, &state, spawner) {
         return Err(ServerError::Listener);
     }
     let desk = ServerDesk::new(*rt, theirs, pass);
     let mut poll = poll;
-    let mut acceptor = Acceptor::new(*rt, alloc, state, desk, is_behind_proxy, front.now());
+    let mut acceptor = Acceptor::<R, H, S>::new(
+        *rt,
+        alloc,
+        state,
+        desk,
+        is_behind_proxy,
+        front.now(),
+    );
     let asked = accept_until_shutdown(
         rt,
         &mut acceptor,

@@ -7,17 +7,17 @@ ghost use Rattle.ftp_listen.specs.Causes.{WritesNone, WritesV6, IsPastGrace, is_
 
 mod settings;
 
-use crate::parts::{Boxed, Parts, ServerParts};
-use crate::place::{doors_at, place_of};
+use crate::parts::{BoxedServices, Parts, ServerParts};
+use crate::place::{doors_at, listen_address};
 use crate::running::{PARTS, run_server};
 use crate::single::serve_one;
-use ftp_base::{Authenticator, Gate, SocketAddr, Spawner, Storage};
+use ftp_base::{Gate, SocketAddr, Spawner, Storage};
 use ftp_options::{Built, Indicator, Options, ServerError};
 use ftp_shared::JournalFeed;
 use ftp_system::{
     Depot, Front, OpenGate, ServerRuntime, SessionLimits, SharedDepot, SystemFront, SystemThreads,
 };
-use ftp_workers::EventSinks;
+use ftp_workers::SharedServices;
 use std::alloc::{AllocError, Global};
 use std::marker::Brand;
 use std::net::TcpStream;
@@ -106,7 +106,7 @@ impl<S: Storage + Send + Drop + 'static> Server<S> {
         ensures ipv6 { IsErrOf result ServerError.Ipv6OutsideLegacy ↔ (WritesV6 bind_address.now × (is_legacy self.options.mode ≡ false)) }
         ensures only { IfErr result (λ e. is_of_listening e ≡ true) }
     {
-        let at = match place_of(bind_address, self.options.mode) {
+        let at = match listen_address(bind_address, self.options.mode) {
             Ok(at) => at,
             Err(error) => return Err(error),
         };
@@ -152,7 +152,7 @@ impl<S: Storage + Send + Drop + 'static> Server<S> {
         ensures has_asked { IsErrOf result ServerError.Shutdown → IsSome (⟦<Box<dyn Indicator + Drop> as Indicator>⟧.asked indicator.new) }
         ensures only { IfErr result (λ e. is_of_listening e ≡ true) }
     {
-        let at = match place_of(bind_address, self.options.mode) {
+        let at = match listen_address(bind_address, self.options.mode) {
             Ok(at) => at,
             Err(error) => return Err(error),
         };
@@ -168,17 +168,15 @@ impl<S: Storage + Send + Drop + 'static> Server<S> {
             feed,
             runs_small: _,
         } = server;
-        let (own, server_parts) = parts.open(feed, false);
+        let (own, server_parts) = parts.open(gate, limits, feed, false);
         drop(own);
         listen_boxed(
             rt,
             alloc,
             options,
-            limits,
             every,
             server_parts,
             at,
-            gate,
             spawner,
             front,
             indicator,
@@ -203,9 +201,12 @@ impl<S: Storage + Send + Drop + 'static> Server<S> {
             feed,
             runs_small,
         } = server;
-        let (own, server_parts) = parts.open(feed, runs_small);
+        let Ok(gate) = Arc::new(alloc, OpenGate) else {
+            return Err(ServerError::OutOfMemory);
+        };
+        let (own, server_parts) = parts.open(gate, limits, feed, runs_small);
         drop(own);
-        serve_one(rt, alloc, options, limits, every, server_parts, stream)
+        serve_one(rt, alloc, options, every, server_parts, stream)
     }
 
     // The same server, over a depot of its storage.
@@ -267,7 +268,7 @@ where
         ensures ipv6 { IsErrOf result ServerError.Ipv6OutsideLegacy ↔ (WritesV6 bind_address.now × (is_legacy self.options.mode ≡ false)) }
         ensures only { IfErr result (λ e. is_of_listening e ≡ true) }
     {
-        let at = match place_of(bind_address, self.options.mode) {
+        let at = match listen_address(bind_address, self.options.mode) {
             Ok(at) => at,
             Err(error) => return Err(error),
         };
@@ -287,20 +288,18 @@ where
             feed,
             runs_small,
         } = self;
-        let (indicator, server_parts) = parts.open(feed, runs_small);
-        let mut indicator = indicator;
         let Ok(gate) = Arc::new(alloc, OpenGate) else {
             return Err(ServerError::OutOfMemory);
         };
-        listen_at(
+        let (indicator, server_parts) = parts.open(gate, limits, feed, runs_small);
+        let mut indicator = indicator;
+        listen_at::<R, BoxedServices<D, OpenGate>, _, _, _>(
             rt,
             alloc,
             options,
-            limits,
             every,
             server_parts,
             at,
-            gate,
             &mut SystemThreads::new(),
             &mut SystemFront::new(*rt, alloc),
             &mut indicator,
@@ -320,11 +319,9 @@ fn listen_boxed<
     rt: &R,
     alloc: Global,
     options: Options,
-    limits: SessionLimits,
     every: Option<u64>,
-    server_parts: Boxed<SharedDepot<R, S>>,
+    server_parts: ServerParts<BoxedServices<SharedDepot<R, S>, G>>,
     at: SocketAddr,
-    gate: Arc<G, Global>,
     spawner: &mut P,
     front: &mut F,
     indicator: &mut I,
@@ -337,15 +334,13 @@ fn listen_boxed<
     ensures has_asked { IsErrOf result ServerError.Shutdown → IsSome (I.asked indicator.new) }
     ensures only { IfErr result (λ e. is_of_running e ≡ true) }
 {
-    listen_at(
+    listen_at::<R, BoxedServices<SharedDepot<R, S>, G>, P, F, I>(
         rt,
         alloc,
         options,
-        limits,
         every,
         server_parts,
         at,
-        gate,
         spawner,
         front,
         indicator,
@@ -353,31 +348,20 @@ fn listen_boxed<
 }
 
 // Listens at an address, until the indicator asks for a shutdown and all transfers are over.
-fn listen_at<
-    R: ServerRuntime,
-    A: Authenticator + Send + Sync + Drop + 'static,
-    N: EventSinks + Send + Drop + 'static,
-    D: Depot + Send + Sync + Drop + 'static,
-    G: Gate + Send + Sync + Drop + 'static,
-    P: Spawner,
-    F: Front,
-    I: Indicator,
->(
+fn listen_at<R: ServerRuntime, S: SharedServices, P: Spawner, F: Front, I: Indicator>(
     rt: &R,
     alloc: Global,
     options: Options,
-    limits: SessionLimits,
     every: Option<u64>,
-    server_parts: ServerParts<A, N, D>,
+    server_parts: ServerParts<S>,
     at: SocketAddr,
-    gate: Arc<G, Global>,
     spawner: &mut P,
     front: &mut F,
     indicator: &mut I,
 ) -> Result<(), ServerError>
 where
-    D::Store: Send + 'static,
-    D::Words: Send + 'static,
+    <S::Depot as Depot>::Store: Send + 'static,
+    <S::Depot as Depot>::Words: Send + 'static,
     requires some { every ≢ Some 0 }
     ensures ok { OnOk result (IsSome (I.asked indicator.new)) }
     ensures io { IsErrOf result ServerError.Io → HasRisen (F.faults front.old) (F.faults front.new) }
@@ -390,15 +374,13 @@ where
         Ok(doors) => doors,
         Err(error) => return Err(error),
     };
-    run_server::<Brand, R, A, N, D, G, P, F, I>(
+    run_server::<Brand, R, S, P, F, I>(
         rt,
         alloc,
         options,
-        limits,
         every,
         Blank::new(PARTS),
         server_parts,
-        gate,
         doors,
         spawner,
         front,

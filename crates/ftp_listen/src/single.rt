@@ -5,17 +5,14 @@ ghost use Rattle.ftp_options.specs.Builder.{settings_of};
 ghost use Rattle.ftp_options.specs.Modes.{is_legacy};
 
 use crate::listening::AcceptPoll;
-use crate::parts::{Boxed, ServerParts};
+use crate::parts::{BoxedServices, ServerParts};
 use crate::running::{PARTS, new_state};
 use crate::spawning::spawn_wanted;
-use ftp_base::{Authenticator, Gate};
 use ftp_options::{ListenerMode, Options, ServerError};
 use ftp_shared::{CutHub, JournalHub, Serving, SharedHub};
-use ftp_system::{
-    Depot, Front, OpenGate, ServerRuntime, SessionLimits, SystemFront, SystemThreads,
-};
+use ftp_system::{Depot, Front, OpenGate, ServerRuntime, SystemFront, SystemThreads};
 use ftp_talk::ServeEnd;
-use ftp_workers::{EventSinks, ServerDesk, ServerState, Worker};
+use ftp_workers::{DeskOf, ServerDesk, Services, SharedServices, StateOf, Worker};
 use std::alloc::Global;
 use std::marker::Brand;
 use std::net::{SocketAddr, TcpStream};
@@ -50,23 +47,16 @@ fn in_legacy_mode(options: Options) -> Options
 }
 
 // Serves a connection that came from there to its end.
-fn served<
-    R: ServerRuntime,
-    H: JournalHub + Drop,
-    A: Authenticator + Drop,
-    N: EventSinks + Drop,
-    D: Depot + Drop,
-    G: Gate + Drop,
->(
+fn served<R: ServerRuntime, H: JournalHub + Drop, S: Services>(
     rt: &R,
-    state: Arc<ServerState<H, A, N, D, G>, Global>,
+    state: Arc<StateOf<H, S>, Global>,
     pass: H::Pass,
     stream: TcpStream,
     raw: SocketAddr,
 ) -> Result<(), ServerError>
     ensures only { IfErr result (λ e. (e ≡ ServerError.Io) ⊎ (e ≡ ServerError.OutOfMemory)) }
 {
-    let Ok(worker) = Worker::new(*rt, state, pass) else {
+    let Ok(worker) = Worker::<R, H, S>::new(*rt, state, pass) else {
         return Err(ServerError::OutOfMemory);
     };
     let mut worker = worker;
@@ -80,32 +70,25 @@ fn served<
 }
 
 // Starts the threads that are wanted and takes data connections in, until the connection is over and all transfers are.
-fn spawn_on<
-    R: ServerRuntime,
-    H: JournalHub + Send + Sync + Drop + 'static,
-    A: Authenticator + Send + Sync + Drop + 'static,
-    N: EventSinks + Send + Drop + 'static,
-    D: Depot + Send + Sync + Drop + 'static,
-    G: Gate + Send + Sync + Drop + 'static,
->(
+fn spawn_on<R: ServerRuntime, H: JournalHub + Send + Sync + Drop + 'static, S: SharedServices>(
     rt: &R,
     alloc: Global,
-    state: &Arc<ServerState<H, A, N, D, G>, Global>,
-    desk: ServerDesk<R, H, A, N, D, G>,
+    state: &Arc<StateOf<H, S>, Global>,
+    desk: DeskOf<R, H, S>,
     poll: &mut AcceptPoll,
     is_over: &AtomicBool,
 )
 where
     H::Pass: Send + 'static,
-    D::Store: Send + 'static,
-    D::Words: Send + 'static,
+    <S::Depot as Depot>::Store: Send + 'static,
+    <S::Depot as Depot>::Words: Send + 'static,
 {
     let mut desk = desk;
     let mut front = SystemFront::new(*rt, alloc);
     let mut threads = SystemThreads::new();
     let mut owed = 0;
     for _ in rt.forever() {
-        owed = spawn_wanted(rt, state, &mut threads, owed);
+        owed = spawn_wanted::<R, H, S, _>(rt, state, &mut threads, owed);
         if is_over.load(Ordering::SeqCst) && state.drained(rt) {
             return;
         }
@@ -123,26 +106,19 @@ where
 }
 
 // Serves a connection with a hub of its own, which keeps its whole journal or a checkpoint and a tail.
-fn serve_inside<
-    L: Serving + Send + Sync + 'static,
-    R: ServerRuntime,
-    A: Authenticator + Send + Sync + Drop + 'static,
-    N: EventSinks + Send + Drop + 'static,
-    D: Depot + Send + Sync + Drop + 'static,
->(
+fn serve_inside<L: Serving + Send + Sync + 'static, R: ServerRuntime, S: SharedServices>(
     rt: &R,
     alloc: Global,
     options: Options,
-    limits: SessionLimits,
     every: Option<u64>,
     blank: Blank,
-    server_parts: ServerParts<A, N, D>,
+    server_parts: ServerParts<S>,
     stream: TcpStream,
     raw: SocketAddr,
 ) -> Result<(), ServerError>
 where
-    D::Store: Send + 'static,
-    D::Words: Send + 'static,
+    <S::Depot as Depot>::Store: Send + 'static,
+    <S::Depot as Depot>::Words: Send + 'static,
     requires name { blank.name ≡ L.name }
     requires parts { blank.parts ≡ L.parts }
     requires all { blank.parts ≡ PARTS }
@@ -156,58 +132,40 @@ where
     match every {
         Some(every) => {
             let hub = CutHub::<L>::new(alloc, options, every);
-            serve_over(rt, alloc, told, limits, hub, server_parts, stream, raw)
+            serve_over(rt, alloc, told, hub, server_parts, stream, raw)
         }
         None => {
             let (steps, parts) = blank.open::<L>();
             let hub = SharedHub::new(alloc, options, steps, parts, PARTS);
-            serve_over(rt, alloc, told, limits, hub, server_parts, stream, raw)
+            serve_over(rt, alloc, told, hub, server_parts, stream, raw)
         }
     }
 }
 
 // Serves a connection over a hub of its own.
-fn serve_over<
-    R: ServerRuntime,
-    H: JournalHub + Send + Sync + Drop + 'static,
-    A: Authenticator + Send + Sync + Drop + 'static,
-    N: EventSinks + Send + Drop + 'static,
-    D: Depot + Send + Sync + Drop + 'static,
->(
+fn serve_over<R: ServerRuntime, H: JournalHub + Send + Sync + Drop + 'static, S: SharedServices>(
     rt: &R,
     alloc: Global,
     options: Options,
-    limits: SessionLimits,
     hub: H,
-    server_parts: ServerParts<A, N, D>,
+    server_parts: ServerParts<S>,
     stream: TcpStream,
     raw: SocketAddr,
 ) -> Result<(), ServerError>
 where
     H::Pass: Send + 'static,
-    D::Store: Send + 'static,
-    D::Words: Send + 'static,
+    <S::Depot as Depot>::Store: Send + 'static,
+    <S::Depot as Depot>::Words: Send + 'static,
     requires options { options ≡ H.options }
     ensures only { IfErr result (λ e. (e ≡ ServerError.Io) ⊎ (e ≡ ServerError.OutOfMemory)) }
 {
-    let (Ok((poll, acceptor)), Ok(gate)) = (
-        AcceptPoll::inside(rt, alloc),
-        Arc::new(alloc, OpenGate),
-    ) else {
+    let Ok((poll, acceptor)) = AcceptPoll::inside(rt, alloc) else {
         return Err(ServerError::OutOfMemory);
     };
     let Ok(waker) = Arc::try_clone(&acceptor.waker) else {
         return Err(ServerError::OutOfMemory);
     };
-    let Ok(state) = new_state::<H, A, N, D, OpenGate>(
-        alloc,
-        options,
-        limits,
-        hub,
-        server_parts,
-        gate,
-        acceptor,
-    ) else {
+    let Ok(state) = new_state::<H, S>(alloc, options, hub, server_parts, acceptor) else {
         return Err(ServerError::OutOfMemory);
     };
     let (Some(pass), Ok(theirs)) = (state.share(rt), Arc::try_clone(&state)) else {
@@ -224,12 +182,12 @@ where
     let (end, ()) = thread::join(
         rt,
         move || {
-            let end = served(rt, theirs, pass, stream, raw);
+            let end = served::<R, H, S>(rt, theirs, pass, stream, raw);
             is_over.store(true, Ordering::SeqCst);
             let _ = bell.wake();
             end
         },
-        || spawn_on(rt, alloc, &state, desk, &mut poll, is_over),
+        || spawn_on::<R, H, S>(rt, alloc, &state, desk, &mut poll, is_over),
     );
     state.close(rt);
     end
@@ -240,9 +198,8 @@ pub(crate) fn serve_one<R: ServerRuntime, D: Depot + Send + Sync + Drop + 'stati
     rt: &R,
     alloc: Global,
     options: Options,
-    limits: SessionLimits,
     every: Option<u64>,
-    server_parts: Boxed<D>,
+    server_parts: ServerParts<BoxedServices<D, OpenGate>>,
     stream: TcpStream,
 ) -> Result<(), ServerError>
 where
@@ -256,11 +213,10 @@ where
         return Ok(());
     };
     let options = in_legacy_mode(options);
-    serve_inside::<Brand, R, _, _, D>(
+    serve_inside::<Brand, R, BoxedServices<D, OpenGate>>(
         rt,
         alloc,
         options,
-        limits,
         every,
         Blank::new(PARTS),
         server_parts,

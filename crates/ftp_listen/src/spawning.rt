@@ -3,10 +3,10 @@
 ghost use Rattle.std.specs.Prelude.{◌≡◌, ◌≤◌, false};
 ghost use Rattle.ftp_base.specs.Outside.{HasRisen};
 
-use ftp_base::{Authenticator, Gate, Spawner};
+use ftp_base::Spawner;
 use ftp_shared::JournalHub;
 use ftp_system::{Depot, ServerRuntime, start};
-use ftp_workers::{EventSinks, ServerState, work};
+use ftp_workers::{SharedServices, StateOf, work};
 use std::alloc::Global;
 use std::sync::Arc;
 
@@ -15,16 +15,13 @@ use std::sync::Arc;
 pub(crate) fn spawn_worker<
     R: ServerRuntime,
     H: JournalHub + Send + Sync + Drop + 'static,
-    A: Authenticator + Send + Sync + Drop + 'static,
-    N: EventSinks + Send + Drop + 'static,
-    D: Depot + Send + Sync + Drop + 'static,
-    G: Gate + Send + Sync + Drop + 'static,
+    S: SharedServices,
     P: Spawner,
->(rt: &R, state: &Arc<ServerState<H, A, N, D, G>, Global>, spawner: &mut P) -> bool
+>(rt: &R, state: &Arc<StateOf<H, S>, Global>, spawner: &mut P) -> bool
 where
     H::Pass: Send + 'static,
-    D::Store: Send + 'static,
-    D::Words: Send + 'static,
+    <S::Depot as Depot>::Store: Send + 'static,
+    <S::Depot as Depot>::Words: Send + 'static,
     ensures fault_rose { result ≡ false → HasRisen (P.faults spawner.old) (P.faults spawner.new) }
     ensures count { P.faults spawner.old ≤ P.faults spawner.new }
 {
@@ -36,28 +33,25 @@ where
         return true;
     };
     let rt = *rt;
-    start(&rt, spawner, move || work(rt, theirs, pass)).is_none()
+    start(&rt, spawner, move || work::<R, H, S>(rt, theirs, pass)).is_none()
 }
 
 /// Starts the threads that are wanted and those still missing from before, and says how many are missing then.
 pub(crate) fn spawn_wanted<
     R: ServerRuntime,
     H: JournalHub + Send + Sync + Drop + 'static,
-    A: Authenticator + Send + Sync + Drop + 'static,
-    N: EventSinks + Send + Drop + 'static,
-    D: Depot + Send + Sync + Drop + 'static,
-    G: Gate + Send + Sync + Drop + 'static,
+    S: SharedServices,
     P: Spawner,
->(rt: &R, state: &Arc<ServerState<H, A, N, D, G>, Global>, spawner: &mut P, owed: u64) -> u64
+>(rt: &R, state: &Arc<StateOf<H, S>, Global>, spawner: &mut P, owed: u64) -> u64
 where
     H::Pass: Send + 'static,
-    D::Store: Send + 'static,
-    D::Words: Send + 'static,
+    <S::Depot as Depot>::Store: Send + 'static,
+    <S::Depot as Depot>::Words: Send + 'static,
     ensures count { P.faults spawner.old ≤ P.faults spawner.new }
 {
     let wanted = owed.saturating_add(state.wanted());
     for started in 0..wanted {
-        if !spawn_worker(rt, state, spawner) {
+        if !spawn_worker::<R, H, S, P>(rt, state, spawner) {
             return wanted - started;
         }
     }

@@ -1,10 +1,8 @@
 -- What one action more asks for.
 use Rattle.std.proofs.Common.{◌≡◌, refl, sym, ◌∙◌, ap, ℕ, ◌+◌, ◌<◌, Bool, true, false, ◌||◌, cond, List, take, drop, length, get_or, Option, None}
-use Rattle.std.proofs.lemmas.List.{at_drop_more}
 use Rattle.std.proofs.lemmas.List.Folds.{list_any_more}
-use Rattle.std.specs.Option.{option_or}
 use Rattle.ftp_events.specs.declared.action.Action.{Action}
-use Rattle.ftp_workers.specs.Carried.{closes, first_link, is_closed, link_of}
+use Rattle.ftp_workers.specs.Carried.{closes, is_closed}
 
 -- what two tests take out in turn, either takes out
 taken-twice : {T : Type 0} (x y : Bool) (first : Option T) → cond y None (cond x None first) ≡ cond (x || y) None first
@@ -28,12 +26,3 @@ closed-more actions i a n first mid last lt is before now =
     ∙ ap (cond (closes n a) None) before
     ∙ taken-twice (is_closed (take i actions) n) (closes n a) first
     ∙ ap (λ b. cond b None first) (sym cut)
-
--- where the next action starts no job, those behind it say which starts first
-pub first_link-next :
-    (actions : List Action) (i : ℕ) (a : Action) →
-    i < length actions →
-    a ≡ get_or actions i a →
-    first_link (drop i actions) ≡ option_or (link_of a) (first_link (drop (i + 1) actions))
-first_link-next actions i a lt is =
-    at_drop_more first_link actions i a lt ∙ ap (λ x. option_or (link_of x) (first_link (drop (i + 1) actions))) (sym is)

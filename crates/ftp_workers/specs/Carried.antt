@@ -1,12 +1,10 @@
 -- What an entry asks of its server.
 --   is_closed actions n    an action closes the connection of this number
---   first_link actions     the link of the job that starts first
 --   settled_by action        the job that waits no longer behind the action
 --   to_stop e              the session whose job is to stop
 --   not_taken e            the connection that came with the event and was not taken
 use Rattle.std.specs.Prelude.{ℕ, Bool, true, false, ◌==◌, List, [], ◌∷◌, Option, Some, None, if◌then◌else◌}
 use Rattle.std.specs.List.{list_any}
-use Rattle.std.specs.Option.{option_or}
 use Rattle.ftp_events.specs.declared.action.Action.{Action}
 use Rattle.ftp_events.specs.declared.action.Action.TheVariants.{Cancelled, Close, Notify, Start}
 use Rattle.ftp_events.specs.declared.decision.Decision.{Decision}
@@ -34,16 +32,6 @@ is_closed actions n = list_any (closes n) actions
 abbrev pub is_notice : Action → Bool
 is_notice (Notify session meta what) = true
 is_notice _ = false
-
--- the link of the job that an action starts
-abbrev pub link_of : Action → Option ℕ
-link_of (Start ticket number) = Some number
-link_of _ = None
-
--- the link of the job that starts first
-abbrev pub first_link : List Action → Option ℕ
-first_link [] = None
-first_link (a ∷ actions) = option_or (link_of a) (first_link actions)
 
 -- the job that waits no longer behind the action: it starts, or is given up
 abbrev pub settled_by : Action → Option Ticket

@@ -2,7 +2,7 @@
 
 ghost use Rattle.std.specs.Prelude.{◌≡◌};
 ghost use Rattle.std.specs.List.{list_any};
-ghost use Rattle.ftp_workers.specs.Carried.{first_link, is_notice, link_of, to_stop};
+ghost use Rattle.ftp_workers.specs.Carried.{is_notice, to_stop};
 
 use crate::event_sinks::EventSinks;
 use crate::handoff::Handoff;
@@ -25,7 +25,7 @@ impl<
     /// tells the listeners.
     pub(crate) fn carry_out<R: Wait>(&self, rt: &R, entry: &Entry, job: Option<JobShare>) {
         if let Some(job) = job {
-            self.handoff.start(rt, entry, job);
+            self.handoff.start(rt, job);
         }
         self.handoff.follow_jobs(rt, entry);
         if let Some(session) = to_stop(entry) {
@@ -39,12 +39,11 @@ impl<
 }
 
 impl Handoff {
-    // Gives a worker the job that starts with the entry. Where there is no room for it, it never ends.
-    fn start<R: Wait>(&self, rt: &R, entry: &Entry, job: JobShare) {
-        if let Some(number) = first_link(entry.actions.as_slice()) {
-            if self.start_job(rt, job.ticket().session, number) {
-                let _ = self.put(rt, Task::Job(number, job));
-            }
+    // Gives a worker the job that starts with an entry. Where there is no room for it, it never ends.
+    fn start<R: Wait>(&self, rt: &R, job: JobShare) {
+        let number = job.link();
+        if self.start_job(rt, job.ticket().session, number) {
+            let _ = self.put(rt, Task::Job(number, job));
         }
     }
 }
@@ -55,29 +54,6 @@ fn to_stop(entry: &Entry) -> Option<u64>
 {
     match entry.decision {
         Decision::Aborting => entry.event.kind.named_session(),
-        _ => None,
-    }
-}
-
-/// The link of the job that starts first.
-pub(crate) fn first_link(actions: &[Action]) -> Option<u64>
-    ensures { result ≡ first_link actions.now }
-{
-    for action in actions {
-        let found = link_of(action);
-        if found.is_some() {
-            return found;
-        }
-    }
-    None
-}
-
-// The link of the job that the action starts.
-fn link_of(action: &Action) -> Option<u64>
-    ensures { result ≡ link_of action.now }
-{
-    match action {
-        Action::Start { number, .. } => Some(*number),
         _ => None,
     }
 }

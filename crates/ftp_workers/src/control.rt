@@ -3,14 +3,14 @@
 ghost use Rattle.std.specs.Prelude.{◌≡◌, ◌≤◌, ◌/◌, true};
 ghost use Rattle.ftp_talk.specs.Control.{is_opening};
 
-use crate::event_sinks::EventSinks;
 use crate::handoff::Handoff;
 use crate::runtime::WorkerRuntime;
-use crate::server_state::ServerState;
+use crate::server_state::StateOf;
+use crate::services::Services;
 use crate::session_edge::SessionEdge;
 use crate::stopping::{STOPPING, Stoppable};
 use crate::worker::Worker;
-use ftp_base::{Authenticator, Control, Edge, Gate, Link};
+use ftp_base::{Control, Edge, Link};
 use ftp_events::{Answer, EventKind, HubEvent};
 use ftp_shared::JournalHub;
 use ftp_system::{ControlHandle, Depot, LIMIT, SocketControl, SystemEdge, told_address};
@@ -30,14 +30,7 @@ fn patience(idle_ms: u64, is_legacy: bool) -> u64
     (idle_ms / 4).max(1000).min(most)
 }
 
-impl<
-    R: WorkerRuntime,
-    H: JournalHub + Drop,
-    A: Authenticator + Drop,
-    N: EventSinks + Drop,
-    D: Depot + Drop,
-    G: Gate + Drop,
-> Worker<R, H, A, N, D, G> {
+impl<R: WorkerRuntime, H: JournalHub + Drop, S: Services> Worker<R, H, S> {
     /// Serves a control connection to its end. None where its socket could not be set up.
     #[inline(never)]
     pub fn serve(&mut self, stream: TcpStream, raw: SocketAddr) -> Option<ServeEnd> {
@@ -78,8 +71,8 @@ impl<
         handle: ControlHandle,
     ) -> Option<
         (
-            D::Words,
-            Arc<ServerState<H, A, N, D, G>, Global>,
+            <S::Depot as Depot>::Words,
+            Arc<StateOf<H, S>, Global>,
             Arc<Handoff, Global>,
         ),
     > {
@@ -118,8 +111,8 @@ impl<
     fn talk_with<C: Control + Drop>(
         &mut self,
         control: C,
-        words: D::Words,
-        state: Arc<ServerState<H, A, N, D, G>, Global>,
+        words: <S::Depot as Depot>::Words,
+        state: Arc<StateOf<H, S>, Global>,
         handoff: Arc<Handoff, Global>,
         session: u64,
         at: IpAddr,
@@ -129,7 +122,7 @@ impl<
         requires opening { is_opening opening.kind ≡ true }
     {
         let mut words = words;
-        let mut control = Stoppable::new(self.rt, session, state, control);
+        let mut control = Stoppable::<R, H, S, C>::new(self.rt, session, state, control);
         // A connection may last, and moves no files.
         self.buffer = Vec::new(self.alloc);
         let system = SystemEdge::new(self.rt, self.alloc, at, LIMIT);

@@ -12,6 +12,7 @@ ghost use Rattle.ftp_workers.specs.Telling.{IsTelling};
 
 use crate::event_sinks::EventSinks;
 use crate::server_state::ServerState;
+use crate::services::Services;
 use ftp_base::{Authenticator, Bytes, ErrorKind, Gate, Storage, StoreError};
 use ftp_events::{Answer, HubEvent};
 use ftp_options::Options;
@@ -38,6 +39,16 @@ pub struct ServerDesk<
     pub(crate) faults: u64,
     pub(crate) refused: u64,
 }
+
+/// The desk of a server with these services.
+pub type DeskOf<R, H, S> = ServerDesk<
+    R,
+    H,
+    <S as Services>::Authenticator,
+    <S as Services>::Sinks,
+    <S as Services>::Depot,
+    <S as Services>::Gate,
+>;
 
 impl<
     R: Wait + Drop,

@@ -10,20 +10,14 @@ use crate::event_sinks::EventSinks;
 use crate::handoff::PendingConnection;
 use crate::runtime::WorkerRuntime;
 use crate::server_state::ServerState;
+use crate::services::Services;
 use crate::worker::Worker;
 use ftp_base::{Authenticator, Edge, Gate, Link};
 use ftp_shared::{JobShare, JournalHub, Submitted, serve_job};
 use ftp_system::{Ahead, Depot, Gathered, LIMIT, SocketLink, gathering_buffer};
 use std::sync::Wait;
 
-impl<
-    R: WorkerRuntime,
-    H: JournalHub + Drop,
-    A: Authenticator + Drop,
-    N: EventSinks + Drop,
-    D: Depot + Drop,
-    G: Gate + Drop,
-> Worker<R, H, A, N, D, G> {
+impl<R: WorkerRuntime, H: JournalHub + Drop, S: Services> Worker<R, H, S> {
     // The buffer for the next link, which is empty where there is no memory for it.
     fn take_buffer(&mut self) -> Vec<u8> {
         let none = Vec::new(self.alloc);

@@ -3,11 +3,11 @@
 ghost use Rattle.std.specs.Prelude.{◌≡◌, Some, IfSome, false};
 ghost use Rattle.ftp_workers.specs.Kept.{is_download};
 
-use crate::carrying::first_link;
 use crate::event_sinks::EventSinks;
 use crate::handoff::PendingConnection;
 use crate::runtime::WorkerRuntime;
-use crate::server_state::ServerState;
+use crate::server_state::{ServerState, StateOf};
+use crate::services::Services;
 use crate::task::Task;
 use ftp_base::{Authenticator, DataChanCmd, Gate, Storage};
 use ftp_events::{Entry, EventKind};
@@ -60,13 +60,8 @@ impl<
         if !self.runs_small || !is_download(&entry.event.kind) || !self.is_small(&job) {
             return Some(job);
         }
-        match first_link(entry.actions.as_slice()) {
-            Some(number) => {
-                self.handoff.keep_job(rt, number, job);
-                None
-            }
-            None => Some(job),
-        }
+        self.handoff.keep_job(rt, job.link(), job);
+        None
     }
 
     // Says whether the job is about a small file, by a storage of this look.
@@ -84,34 +79,16 @@ impl<
 
 /// What the thread of a session runs jobs with that were kept for it.
 #[derive(Drop)]
-pub(crate) struct OwnJobs<
-    R: WorkerRuntime,
-    H: JournalHub + Drop,
-    A: Authenticator + Drop,
-    N: EventSinks + Drop,
-    D: Depot + Drop,
-    G: Gate + Drop,
-> {
+pub(crate) struct OwnJobs<R: WorkerRuntime, H: JournalHub + Drop, S: Services> {
     rt: R,
     session: u64,
-    state: Arc<ServerState<H, A, N, D, G>, Global>,
+    state: Arc<StateOf<H, S>, Global>,
     // None before the first job.
     pass: Option<H::Pass>,
 }
 
-impl<
-    R: WorkerRuntime,
-    H: JournalHub + Drop,
-    A: Authenticator + Drop,
-    N: EventSinks + Drop,
-    D: Depot + Drop,
-    G: Gate + Drop,
-> OwnJobs<R, H, A, N, D, G> {
-    pub(crate) fn new(
-        rt: R,
-        session: u64,
-        state: Arc<ServerState<H, A, N, D, G>, Global>,
-    ) -> OwnJobs<R, H, A, N, D, G> {
+impl<R: WorkerRuntime, H: JournalHub + Drop, S: Services> OwnJobs<R, H, S> {
+    pub(crate) fn new(rt: R, session: u64, state: Arc<StateOf<H, S>, Global>) -> OwnJobs<R, H, S> {
         OwnJobs {
             rt,
             session,

@@ -5,16 +5,16 @@ ghost use Rattle.ftp_shared.specs.Outbox.{has_ticket};
 ghost use Rattle.ftp_workers.specs.Proxied.{leads_to_control};
 ghost use Rattle.ftp_talk.specs.Control.{is_opening};
 
-use crate::event_sinks::EventSinks;
 use crate::handoff::PendingConnection;
 use crate::proxy_header::answer_proxied;
 use crate::runtime::WorkerRuntime;
+use crate::services::Services;
 use crate::worker::Worker;
-use ftp_base::{Authenticator, Edge, Gate};
+use ftp_base::Edge;
 use ftp_events::{Answer, HubEvent};
 use ftp_options::ListenerMode;
 use ftp_shared::JournalHub;
-use ftp_system::{Ahead, Depot, Gathered, LIMIT, SocketLink, std_address, told_address};
+use ftp_system::{Ahead, Gathered, LIMIT, SocketLink, std_address, told_address};
 use mio::net::TcpStream;
 use std::net;
 use std::net::{IpAddr, SocketAddr};
@@ -40,14 +40,7 @@ fn source_of(answer: &Answer) -> Option<IpAddr> {
     }
 }
 
-impl<
-    R: WorkerRuntime,
-    H: JournalHub + Drop,
-    A: Authenticator + Drop,
-    N: EventSinks + Drop,
-    D: Depot + Drop,
-    G: Gate + Drop,
-> Worker<R, H, A, N, D, G> {
+impl<R: WorkerRuntime, H: JournalHub + Drop, S: Services> Worker<R, H, S> {
     // Reads the header of a connection. None where it is closed at once.
     fn read_header(
         &mut self,

@@ -6,6 +6,7 @@ ghost use Rattle.ftp_options.specs.declared.options.Options.{Options};
 use crate::event_sinks::EventSinks;
 use crate::handoff::Handoff;
 use crate::listening::AcceptorHandle;
+use crate::services::Services;
 use ftp_base::{Authenticator, Gate};
 use ftp_options::Options;
 use ftp_shared::{JournalFeed, JournalHub};
@@ -37,6 +38,15 @@ pub struct ServerState<
     ghost told: { options ≡ H.options },
 }
 
+/// What the threads of a server share that has these services.
+pub type StateOf<H, S> = ServerState<
+    H,
+    <S as Services>::Authenticator,
+    <S as Services>::Sinks,
+    <S as Services>::Depot,
+    <S as Services>::Gate,
+>;
+
 impl<
     H: JournalHub + Drop,
     A: Authenticator + Drop,
@@ -47,6 +57,7 @@ impl<
     /// A fresh hub, and what its threads will share; no thread serves it yet.
     ///
     /// The thread that accepts connections also starts threads: it is told where one more is wanted.
+    /// Its error is that memory ran out.
     ///
     /// # Proved
     ///

@@ -2,13 +2,12 @@
 
 ghost use Rattle.std.specs.Prelude.{◌≡◌, true, false};
 
-use crate::event_sinks::EventSinks;
 use crate::own_jobs::OwnJobs;
 use crate::runtime::WorkerRuntime;
-use crate::server_state::ServerState;
-use ftp_base::{Authenticator, Control, Failed, Gate, Link, LinkFault, Source};
+use crate::server_state::StateOf;
+use crate::services::Services;
+use ftp_base::{Control, Failed, Link, LinkFault, Source};
 use ftp_shared::JournalHub;
-use ftp_system::Depot;
 use std::alloc::Global;
 use std::sync::Arc;
 
@@ -21,36 +20,25 @@ pub(crate) const STOPPING: &[u8] = b"421 Server is stopping, closing control con
 pub(crate) struct Stoppable<
     R: WorkerRuntime,
     H: JournalHub + Drop,
-    A: Authenticator + Drop,
-    N: EventSinks + Drop,
-    D: Depot + Drop,
-    G: Gate + Drop,
+    S: Services,
     C: Control + Drop,
 > {
-    own: OwnJobs<R, H, A, N, D, G>,
+    own: OwnJobs<R, H, S>,
     inner: C,
     is_stopped: bool,
 }
 
-impl<
-    R: WorkerRuntime,
-    H: JournalHub + Drop,
-    A: Authenticator + Drop,
-    N: EventSinks + Drop,
-    D: Depot + Drop,
-    G: Gate + Drop,
-    C: Control + Drop,
-> Stoppable<R, H, A, N, D, G, C> {
+impl<R: WorkerRuntime, H: JournalHub + Drop, S: Services, C: Control + Drop> Stoppable<R, H, S, C> {
     pub(crate) fn new(
         rt: R,
         session: u64,
-        state: Arc<ServerState<H, A, N, D, G>, Global>,
+        state: Arc<StateOf<H, S>, Global>,
         inner: C,
-    ) -> Stoppable<R, H, A, N, D, G, C>
+    ) -> Stoppable<R, H, S, C>
         ensures { result.is_stopped ≡ false }
     {
         Stoppable {
-            own: OwnJobs::new(rt, session, state),
+            own: OwnJobs::<R, H, S>::new(rt, session, state),
             inner,
             is_stopped: false,
         }
@@ -84,15 +72,8 @@ impl<
     }
 }
 
-impl<
-    R: WorkerRuntime,
-    H: JournalHub + Drop,
-    A: Authenticator + Drop,
-    N: EventSinks + Drop,
-    D: Depot + Drop,
-    G: Gate + Drop,
-    C: Control + Drop,
-> Source for Stoppable<R, H, A, N, D, G, C> {
+impl<R: WorkerRuntime, H: JournalHub + Drop, S: Services, C: Control + Drop> Source
+    for Stoppable<R, H, S, C> {
     ghost use Rattle.std.specs.Prelude.{true, None};
 
     ghost left = { λ _. None };
@@ -113,15 +94,8 @@ impl<
     }
 }
 
-impl<
-    R: WorkerRuntime,
-    H: JournalHub + Drop,
-    A: Authenticator + Drop,
-    N: EventSinks + Drop,
-    D: Depot + Drop,
-    G: Gate + Drop,
-    C: Control + Drop,
-> Link for Stoppable<R, H, A, N, D, G, C> {
+impl<R: WorkerRuntime, H: JournalHub + Drop, S: Services, C: Control + Drop> Link
+    for Stoppable<R, H, S, C> {
     ghost use Rattle.std.specs.Prelude.{refl};
 
     ghost takes_memory = { C.takes_memory };
@@ -145,15 +119,8 @@ impl<
     }
 }
 
-impl<
-    R: WorkerRuntime,
-    H: JournalHub + Drop,
-    A: Authenticator + Drop,
-    N: EventSinks + Drop,
-    D: Depot + Drop,
-    G: Gate + Drop,
-    C: Control + Drop,
-> Control for Stoppable<R, H, A, N, D, G, C> {
+impl<R: WorkerRuntime, H: JournalHub + Drop, S: Services, C: Control + Drop> Control
+    for Stoppable<R, H, S, C> {
     fn ready(&mut self, millis: u64) -> Result<bool, Failed> {
         if self.look() {
             return Ok(true);

@@ -1,50 +1,35 @@
 //! A thread of a server.
 
-use crate::desk::ServerDesk;
-use crate::event_sinks::EventSinks;
+use crate::desk::{DeskOf, ServerDesk};
 use crate::runtime::WorkerRuntime;
-use crate::server_state::ServerState;
+use crate::server_state::StateOf;
+use crate::services::Services;
 use crate::task::Task;
-use ftp_base::{Authenticator, Gate};
 use ftp_shared::JournalHub;
-use ftp_system::{Depot, LIMIT, SystemEdge};
+use ftp_system::{LIMIT, SystemEdge};
 use std::alloc::{AllocError, Global};
 use std::net::{IpAddr, Ipv4Addr};
 use std::sync::Arc;
 
 /// A thread that does one task after another, with what it keeps from task to task.
 #[derive(Drop)]
-pub struct Worker<
-    R: WorkerRuntime,
-    H: JournalHub + Drop,
-    A: Authenticator + Drop,
-    N: EventSinks + Drop,
-    D: Depot + Drop,
-    G: Gate + Drop,
-> {
+pub struct Worker<R: WorkerRuntime, H: JournalHub + Drop, S: Services> {
     pub(crate) rt: R,
     pub(crate) alloc: Global,
-    pub(crate) state: Arc<ServerState<H, A, N, D, G>, Global>,
-    pub(crate) desk: ServerDesk<R, H, A, N, D, G>,
+    pub(crate) state: Arc<StateOf<H, S>, Global>,
+    pub(crate) desk: DeskOf<R, H, S>,
     pub(crate) edge: SystemEdge<R>,
     // Where the pieces of transfers are gathered; empty before the first transfer, and after a control connection.
     pub(crate) buffer: Vec<u8>,
 }
 
-impl<
-    R: WorkerRuntime,
-    H: JournalHub + Drop,
-    A: Authenticator + Drop,
-    N: EventSinks + Drop,
-    D: Depot + Drop,
-    G: Gate + Drop,
-> Worker<R, H, A, N, D, G> {
+impl<R: WorkerRuntime, H: JournalHub + Drop, S: Services> Worker<R, H, S> {
     /// A thread that has done nothing yet.
     pub fn new(
         rt: R,
-        state: Arc<ServerState<H, A, N, D, G>, Global>,
+        state: Arc<StateOf<H, S>, Global>,
         pass: H::Pass,
-    ) -> Result<Worker<R, H, A, N, D, G>, AllocError> {
+    ) -> Result<Worker<R, H, S>, AllocError> {
         let theirs = Arc::try_clone(&state)?;
         let alloc = state.alloc;
         Ok(Worker {
@@ -95,15 +80,12 @@ impl<
 }
 
 /// What a thread of a server does, with its pass, until no more tasks come or it has rested for long.
-pub fn work<
-    R: WorkerRuntime,
-    H: JournalHub + Drop,
-    A: Authenticator + Drop,
-    N: EventSinks + Drop,
-    D: Depot + Drop,
-    G: Gate + Drop,
->(rt: R, state: Arc<ServerState<H, A, N, D, G>, Global>, pass: H::Pass) {
-    if let Some(worker) = new_worker(rt, state, pass) {
+pub fn work<R: WorkerRuntime, H: JournalHub + Drop, S: Services>(
+    rt: R,
+    state: Arc<StateOf<H, S>, Global>,
+    pass: H::Pass,
+) {
+    if let Some(worker) = new_worker::<R, H, S>(rt, state, pass) {
         let mut worker = worker;
         worker.work();
         Box::into_inner(worker).leave();
@@ -112,19 +94,12 @@ pub fn work<
 
 // A worker outside the stack of its thread, none without memory. It keeps a frame of its own.
 #[inline(never)]
-fn new_worker<
-    R: WorkerRuntime,
-    H: JournalHub + Drop,
-    A: Authenticator + Drop,
-    N: EventSinks + Drop,
-    D: Depot + Drop,
-    G: Gate + Drop,
->(
+fn new_worker<R: WorkerRuntime, H: JournalHub + Drop, S: Services>(
     rt: R,
-    state: Arc<ServerState<H, A, N, D, G>, Global>,
+    state: Arc<StateOf<H, S>, Global>,
     pass: H::Pass,
-) -> Option<Box<Worker<R, H, A, N, D, G>>> {
+) -> Option<Box<Worker<R, H, S>>> {
     let alloc = state.alloc;
-    let worker = Worker::new(rt, state, pass).ok()?;
+    let worker = Worker::<R, H, S>::new(rt, state, pass).ok()?;
     Box::new(alloc, worker).ok()
 }

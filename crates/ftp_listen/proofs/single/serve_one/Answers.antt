@@ -7,22 +7,33 @@ use Rattle.ftp_listen.specs.contracts.single.serve_one.dyn-3 as presence
 use Rattle.ftp_listen.proofs.single.serve_one.Goals as goal
 
 -- a box may go to another thread, and be shared, where whatever it holds may; `search` does not find the table of what it may hold
-pub serve_inside-requires-send-A : goal.serve_inside-requires-send-A
-serve_inside-requires-send-A g c κs within =
+pub serve_inside-requires-send-S-Authenticator : goal.serve_inside-requires-send-S-Authenticator
+serve_inside-requires-send-S-Authenticator g c κs within =
     let slots = authenticator.slots g.row.R g.row.D g.row.D-Store g.row.D-Words in
     let box = dyn_box_send (Vt slots g.dyn-1.0) (ghosts_of slots g.dyn-1.0 g.dyn-1.1) g.dyn-1.2 (search sendable) in
     search (sendable, crosses) depth 40
 
-pub serve_inside-requires-sync-A : goal.serve_inside-requires-sync-A
-serve_inside-requires-sync-A g c κs within =
+pub serve_inside-requires-sync-S-Authenticator : goal.serve_inside-requires-sync-S-Authenticator
+serve_inside-requires-sync-S-Authenticator g c κs within =
     let slots = authenticator.slots g.row.R g.row.D g.row.D-Store g.row.D-Words in
     let box = dyn_box_sync (Vt slots g.dyn-1.0) (ghosts_of slots g.dyn-1.0 g.dyn-1.1) g.dyn-1.3 (search sendable) in
     search (sendable, crosses) depth 40
 
-pub serve_inside-requires-send-N : goal.serve_inside-requires-send-N
-serve_inside-requires-send-N g c κs within =
+pub serve_inside-requires-send-S-Sinks : goal.serve_inside-requires-send-S-Sinks
+serve_inside-requires-send-S-Sinks g c κs within =
     let slots = incoming.slots g.row.R g.row.D g.row.D-Store g.row.D-Words in
     let others = presence.slots g.row.R g.row.D g.row.D-Store g.row.D-Words in
+    let box = dyn_box_send (Vt slots g.dyn-2.0) (ghosts_of slots g.dyn-2.0 g.dyn-2.1) g.dyn-2.2 (search sendable) in
+    let other = dyn_box_send (Vt others g.dyn-3.0) (ghosts_of others g.dyn-3.0 g.dyn-3.1) g.dyn-3.2 (search sendable) in
+    search (sendable, crosses) depth 40
+
+-- and so may the name of all services together
+pub serve_inside-requires-send-S : goal.serve_inside-requires-send-S
+serve_inside-requires-send-S g c κs within =
+    let first = authenticator.slots g.row.R g.row.D g.row.D-Store g.row.D-Words in
+    let slots = incoming.slots g.row.R g.row.D g.row.D-Store g.row.D-Words in
+    let others = presence.slots g.row.R g.row.D g.row.D-Store g.row.D-Words in
+    let own = dyn_box_send (Vt first g.dyn-1.0) (ghosts_of first g.dyn-1.0 g.dyn-1.1) g.dyn-1.2 (search sendable) in
     let box = dyn_box_send (Vt slots g.dyn-2.0) (ghosts_of slots g.dyn-2.0 g.dyn-2.1) g.dyn-2.2 (search sendable) in
     let other = dyn_box_send (Vt others g.dyn-3.0) (ghosts_of others g.dyn-3.0 g.dyn-3.1) g.dyn-3.2 (search sendable) in
     search (sendable, crosses) depth 40

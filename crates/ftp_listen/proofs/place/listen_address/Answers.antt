@@ -1,7 +1,7 @@
 use Rattle.std.proofs.Common.{◌≡◌, ◌∙◌, true, false, true≢false, refl, sym}
 use Rattle.ftp_listen.proofs.VersionLemmas.{one-version}
-use Rattle.ftp_listen.proofs.place.place_of.Goals as goal
-use Rattle.ftp_listen.proofs.place.place_of.Goals.{else-is_v6-via-then-is_v6+else-not-is_legacy, else-is_v6-via-else-is_v6}
+use Rattle.ftp_listen.proofs.place.listen_address.Goals as goal
+use Rattle.ftp_listen.proofs.place.listen_address.Goals.{else-is_v6-via-then-is_v6+else-not-is_legacy, else-is_v6-via-else-is_v6}
 
 pub returns-in_default-clause-address : goal.returns-in_default-clause-address
 returns-in_default-clause-address c = (λ is. c.in_default.ensures.none refl, λ none. refl)
