@@ -18,7 +18,6 @@ mod log_file;
 mod metrics_file;
 mod password_check;
 mod passwords;
-mod place;
 mod recording;
 mod records;
 mod refusal;

@@ -1,7 +1,8 @@
 //! The options of a gateway.
 
-ghost use Rattle.std.specs.Prelude.{◌≡◌, ◌≤◌, ◌<◌, IfOk, IsErrOf, OnOk};
+ghost use Rattle.std.specs.Prelude.{◌≡◌, ◌≤◌, ◌<◌, true, false, IfOk, IsErrOf, OnOk};
 ghost use Rattle.ftp_options.specs.Builder.{settings_of};
+ghost use Rattle.ftp_options.specs.Modes.{is_proxy};
 ghost use Rattle.ftp_gateway.specs.Sets.{AreSettingsOf, commands_of, lockout_of, HasHost};
 
 use ftp_base::Bytes;
@@ -78,4 +79,12 @@ pub fn options(alloc: Global, config: &GatewayConfig) -> Result<Options, ServerE
         Ok(built) => Ok(built.options),
         Err(error) => Err(error),
     }
+}
+
+/// Whether TLS can end where a configuration says: at a proxy before the gateway, or nowhere.
+pub fn can_end_tls(config: &GatewayConfig) -> bool
+    ensures proxy { config.now.tls_at_proxy ≡ true → result ≡ is_proxy config.now.mode }
+    ensures nowhere { config.now.tls_at_proxy ≡ false → result ≡ true }
+{
+    !config.tls_at_proxy || config.mode.is_proxy()
 }

@@ -1,10 +1,10 @@
 //! What a gateway is started with: its two files, and what they name.
 
-use crate::place::{can_end_tls, check_listen};
 use crate::refusal::Refusal;
-use crate::settings::options;
+use crate::settings::{can_end_tls, options};
 use ftp_base::Bytes;
 use ftp_config::{GatewayConfig, Users, read_config};
+use ftp_listen::listen_address;
 use ftp_options::Options;
 use std::alloc::Global;
 use std::fs;
@@ -48,8 +48,8 @@ fn options_of(alloc: Global, config: &GatewayConfig) -> Result<Options, Refusal>
     if !can_end_tls(config) {
         return Err(Refusal::TlsWithoutProxy);
     }
-    match check_listen(config.listen.as_slice(), config.mode) {
-        Ok(()) => Ok(options),
+    match listen_address(config.listen.as_slice(), config.mode) {
+        Ok(_) => Ok(options),
         Err(error) => Err(Refusal::Server(error)),
     }
 }
