@@ -16,6 +16,7 @@ use Rattle.ftp_base.specs.MemoryStorage.{MemoryState, item_of, items, files_of}
 use Rattle.std.specs.Str.{bytes_eq}
 use Rattle.ftp_base.specs.Storage.{Item, Directory, File, Files, root, item, contents, old_bytes, with_file, bytes_of}
 use Rattle.ftp_base.proofs.Files.{paths_apart}
+use Rattle.ftp_base.proofs.Sorted.{shadows, swaps}
 
 -- nodes under their paths
 abbrev pub Nodes : Type 0
@@ -45,15 +46,6 @@ tied a b e = paths_apart a b ((Equal-is (slice_cmp nat_cmp a b)).0 e)
 -- a path ties with itself
 itself : (a : List ℕ) → eq_by_cmp (slice_cmp nat_cmp) a a ≡ true
 itself a = (eq_by_cmp_equiv nat_list_cmp_total).refl a
-
-shadows : {A : Type 0} (b : Bool) (x y z : A) → cond b x z ≡ cond b x (cond b y z)
-shadows true x y z = refl
-shadows false x y z = refl
-
-swaps : {A : Type 0} (a b : Bool) (x y z : A) → (a ≡ true → b ≡ true → ⊥) → cond a x (cond b y z) ≡ cond b y (cond a x z)
-swaps true true x y z apart = absurd (apart refl refl)
-swaps true false x y z apart = refl
-swaps false b x y z apart = refl
 
 not_both : (q a b : List ℕ) → eq_by_cmp (slice_cmp nat_cmp) b a ≡ false → eq_by_cmp (slice_cmp nat_cmp) q a ≡ true → eq_by_cmp (slice_cmp nat_cmp) q b ≡ true → ⊥
 not_both q a b apart same same' =
@@ -127,11 +119,11 @@ pub item-found : (nodes : Nodes) (path : List ℕ) (o : Option Node) → bytes_e
 item-found nodes path o other found = rw other (get-files_of nodes path ∙ ap (option_map item_of) found)
 
 -- a directory's node
-pub item_of-directory : (node : Node) → node.is_dir ≡ true → item_of node ≡ Directory
+item_of-directory : (node : Node) → node.is_dir ≡ true → item_of node ≡ Directory
 item_of-directory node e = rw e refl
 
 -- a file's node
-pub item_of-file : (node : Node) → node.is_dir ≡ false → item_of node ≡ File node.bytes
+item_of-file : (node : Node) → node.is_dir ≡ false → item_of node ≡ File node.bytes
 item_of-file node e = rw e refl
 
 -- a state of a storage in memory
@@ -149,7 +141,7 @@ insert_again files path i there =
     ] refl)
 
 -- a node that is written with what it was changes nothing
-pub files_of-same : (nodes : Nodes) (path : List ℕ) (node w : Node) → lookup (at_path path) nodes ≡ Some node →
+files_of-same : (nodes : Nodes) (path : List ℕ) (node w : Node) → lookup (at_path path) nodes ≡ Some node →
     w.is_dir ≡ node.is_dir → w.bytes ≡ node.bytes → files_of (set_value (at_path path) nodes w) ≡ files_of nodes
 files_of-same nodes path node w found kind bytes =
     let same : item_of w ≡ item_of node = rw (kind, bytes) refl in
@@ -172,7 +164,7 @@ contents_apart files path there =
     )
 
 -- the node of a path that is no directory is a file's
-pub file_there : (nodes : Nodes) (path : List ℕ) (node : Node) → bytes_eq path root ≡ false → item (files_of nodes) path ≢ Some Directory →
+file_there : (nodes : Nodes) (path : List ℕ) (node : Node) → bytes_eq path root ≡ false → item (files_of nodes) path ≢ Some Directory →
     lookup (at_path path) nodes ≡ Some node → (node.is_dir ≡ false) × (old_bytes (files_of nodes) path ≡ node.bytes)
 file_there nodes path node other file found =
     let stands = item-found nodes path (Some node) other found in
@@ -182,11 +174,28 @@ file_there nodes path node other file found =
     ] refl
 
 -- a file's node that is written is a file that is put
-pub files_of-file : (nodes : Nodes) (path bytes : List ℕ) (node w : Node) → lookup (at_path path) nodes ≡ Some node → node.is_dir ≡ false →
+files_of-file : (nodes : Nodes) (path bytes : List ℕ) (node w : Node) → lookup (at_path path) nodes ≡ Some node → node.is_dir ≡ false →
     w.is_dir ≡ node.is_dir → w.bytes ≡ bytes → files_of (set_value (at_path path) nodes w) ≡ with_file (files_of nodes) path bytes
 files_of-file nodes path bytes node w found file kind e =
     let some : IsSome (lookup (at_path path) nodes) = rw found refl in
     files_of-set_value nodes path w some ∙ ap (map.insert (files_of nodes) path) (item_of-file w (kind ∙ file) ∙ ap File e)
+
+-- a node that is written with what it was leaves the state
+pub state-same : (nodes written : Nodes) (path : List ℕ) (node w : Node) (max_file : ℕ) (calls : Calls ℕ) →
+    written ≡ set_value (at_path path) nodes w → Some node ≡ lookup (at_path path) nodes → w.is_dir ≡ node.is_dir → w.bytes ≡ node.bytes →
+    state (files_of written) max_file calls ≡ state (files_of nodes) max_file calls
+state-same nodes written path node w max_file calls is found kind bytes =
+    ap (λ (f : Files). state f max_file calls) (ap files_of is ∙ files_of-same nodes path node w (sym found) kind bytes)
+
+-- a file whose bytes are edited at a path is put there
+pub state-edited : (edit : List ℕ → List ℕ) (nodes written : Nodes) (path : List ℕ) (node w : Node) (max_file : ℕ) (calls : Calls ℕ) →
+    written ≡ set_value (at_path path) nodes w → Some node ≡ lookup (at_path path) nodes → bytes_eq path root ≡ false → item (files_of nodes) path ≢ Some Directory →
+    w.is_dir ≡ node.is_dir → w.bytes ≡ edit node.bytes →
+    state (files_of written) max_file calls ≡ state (with_file (files_of nodes) path (edit (old_bytes (files_of nodes) path))) max_file calls
+state-edited edit nodes written path node w max_file calls is found other file kind bytes =
+    let there = file_there nodes path node other file (sym found) in
+    ap (λ (f : Files). state f max_file calls)
+    (ap files_of is ∙ files_of-file nodes path (edit (old_bytes (files_of nodes) path)) node w (sym found) there.0 kind (bytes ∙ ap edit (sym there.1)))
 
 -- nothing stands where there is no node
 pub nothing_there : (nodes : Nodes) (path : List ℕ) → bytes_eq path root ≡ false → lookup (at_path path) nodes ≡ None → old_bytes (files_of nodes) path ≡ []

@@ -1,16 +1,21 @@
 //! Moves of at most a chunk of bytes.
 
-ghost use Rattle.std.specs.Prelude.{◌≡◌, ◌++◌, min, length, take, drop, IfOk, OnErr};
+ghost use Rattle.std.specs.Prelude.{◌≡◌, ◌+◌, ◌≤◌, ◌++◌, min, length, take, drop, IfOk, OnErr};
 
 use std::alloc::AllocError;
 
-/// Copies bytes from the front of `left` to the front of `out`, as many as fit into both and the chunk.
-pub fn copy_chunk(left: &[u8], chunk: u32, out: &mut [u8]) -> usize
-    ensures moved { result ≡ min chunk (min (length out.old) (length left.now)) }
-    ensures front { take result out.new ≡ take result left.now }
+/// Copies bytes from a place on to the front of `out`, as many as fit into it and the chunk, and moves the place behind
+/// them.
+pub fn read_chunk(bytes: &[u8], at: &mut usize, chunk: u32, out: &mut [u8]) -> usize
+    requires { at.old ≤ length bytes.now }
+    ensures moved { result ≡ min chunk (min (length out.old) (length (drop at.old bytes.now))) }
+    ensures front { take result out.new ≡ take result (drop at.old bytes.now) }
+    ensures behind { at.new ≡ at.old + result }
 {
+    let left = &bytes[*at..];
     let n = left.len().min(out.len()).min(chunk as usize);
     out[..n].copy_from_slice(&left[..n]);
+    *at += n;
     n
 }
 

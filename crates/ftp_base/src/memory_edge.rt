@@ -77,11 +77,13 @@ impl MemoryEdge {
         self.paused
     }
 
-    // Counts a call that failed.
-    fn count_fault(&mut self)
-        ensures { self.new ≡ record self.old { faults = one_more self.old.faults } }
+    // Counts a call that failed, if this one did.
+    fn count_unless(&mut self, went_well: bool)
+        ensures { self.new ≡ record self.old { faults = if went_well then self.old.faults else one_more self.old.faults } }
     {
-        self.faults = self.faults.saturating_add(1);
+        if !went_well {
+            self.faults = self.faults.saturating_add(1);
+        }
     }
 }
 
@@ -92,20 +94,14 @@ impl Edge for MemoryEdge {
         ensures next { result ≡ next_number self.old.feed.moments }
         ensures taken { self.new ≡ record self.old { feed = behind_moment self.old.feed } }
     {
-        match self.moments.next() {
-            Some(at) => at,
-            None => 0,
-        }
+        self.moments.next().unwrap_or(0)
     }
 
     fn word(&mut self) -> u128
         ensures next { result ≡ next_number self.old.feed.words }
         ensures taken { self.new ≡ record self.old { feed = behind_word self.old.feed } }
     {
-        match self.words.next() {
-            Some(word) => word,
-            None => 0,
-        }
+        self.words.next().unwrap_or(0)
     }
 
     fn lookup(&mut self, _name: &Bytes) -> Option<u32>
@@ -114,13 +110,9 @@ impl Edge for MemoryEdge {
         ensures unpaused { self.new.paused ≡ self.old.paused }
         ensures fault_counted { self.new.faults ≡ (if is_none result then one_more self.old.faults else self.old.faults) }
     {
-        match self.lookups.next() {
-            Some(Some(ip)) => Some(ip),
-            _ => {
-                self.count_fault();
-                None
-            }
-        }
+        let found = self.lookups.next().flatten();
+        self.count_unless(found.is_some());
+        found
     }
 
     fn bind(&mut self, _lo: u16, _hi: u16) -> Option<u16>
@@ -129,13 +121,9 @@ impl Edge for MemoryEdge {
         ensures unpaused { self.new.paused ≡ self.old.paused }
         ensures fault_counted { self.new.faults ≡ (if is_none result then one_more self.old.faults else self.old.faults) }
     {
-        match self.ports.next() {
-            Some(Some(port)) => Some(port),
-            _ => {
-                self.count_fault();
-                None
-            }
-        }
+        let bound = self.ports.next().flatten();
+        self.count_unless(bound.is_some());
+        bound
     }
 
     fn connect(&mut self, _to: SocketAddr, _number: u64) -> bool
@@ -144,13 +132,9 @@ impl Edge for MemoryEdge {
         ensures unpaused { self.new.paused ≡ self.old.paused }
         ensures fault_counted { self.new.faults ≡ (if result then self.old.faults else one_more self.old.faults) }
     {
-        match self.connects.next() {
-            Some(true) => true,
-            _ => {
-                self.count_fault();
-                false
-            }
-        }
+        let made = self.connects.next().unwrap_or(false);
+        self.count_unless(made);
+        made
     }
 
     fn pause(&mut self, millis: u64)

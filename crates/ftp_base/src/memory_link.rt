@@ -9,7 +9,7 @@ ghost use Rattle.ftp_base.specs.Memory.{link_left, link_sending, link_faults, li
 ghost use Rattle.ftp_base.specs.Outside.{HasRisen, ReadsFront, Sending};
 
 use crate::calls::Calls;
-use crate::chunk::{append_chunk, copy_chunk};
+use crate::chunk::{append_chunk, read_chunk};
 use crate::fault::{Failed, LinkFault};
 use crate::outside::{Link, Source};
 use std::alloc::Global;
@@ -131,10 +131,7 @@ impl Source for MemoryLink {
             return Err(Failed::Fault);
         }
         self.calls.count_call();
-        let left = &self.bytes.as_slice()[self.at..];
-        let n = copy_chunk(left, self.chunk, out);
-        self.at += n;
-        Ok(n)
+        Ok(read_chunk(self.bytes.as_slice(), &mut self.at, self.chunk, out))
     }
 }
 

@@ -8,7 +8,7 @@ ghost use Rattle.ftp_base.specs.Memory.{faults_of, fails_next, fault_limit};
 ghost use Rattle.ftp_base.specs.Outside.{HasRisen, ReadsFront};
 
 use crate::calls::Calls;
-use crate::chunk::copy_chunk;
+use crate::chunk::read_chunk;
 use crate::fault::Failed;
 use crate::outside::Source;
 use std::marker::Model;
@@ -87,9 +87,6 @@ impl Source for MemorySource {
             return Err(Failed::Fault);
         }
         self.calls.count_call();
-        let left = &self.bytes.as_slice()[self.at..];
-        let n = copy_chunk(left, self.chunk, out);
-        self.at += n;
-        Ok(n)
+        Ok(read_chunk(self.bytes.as_slice(), &mut self.at, self.chunk, out))
     }
 }

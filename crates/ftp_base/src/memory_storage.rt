@@ -10,7 +10,7 @@ use crate::calls::Calls;
 use crate::error_kind::ErrorKind;
 use crate::file_bytes::FileBytes;
 use crate::path::{is_root, parent_of};
-use crate::storage::{FileInfo, Meta, StoreError};
+use crate::storage::{FileInfo, StoreError};
 use listing::{infos_of, places_in};
 use std::alloc::{AllocError, Global};
 use std::collections::BTreeMap;
@@ -26,8 +26,8 @@ pub(crate) struct Node {
 
 impl Node {
     ghost use Rattle.std.specs.Prelude.{◌≡◌, ◌++◌, IfOk, OnOk, OnErr};
-    ghost use Rattle.ftp_base.specs.Storage.{cut, meta_of};
-    ghost use Rattle.ftp_base.specs.MemoryStorage.{item_of};
+    ghost use Rattle.ftp_base.specs.Storage.{cut};
+    ghost use Rattle.ftp_base.specs.MemoryStorage.{item_of, standing_item};
 
     /// Cuts the bytes at a place, or fills them with zeros up to there.
     fn cut(&mut self, start: usize) -> Result<(), AllocError>
@@ -38,17 +38,14 @@ impl Node {
         self.bytes.cut(start)
     }
 
-    /// What is told of the node.
-    fn meta(&self) -> Meta
-        ensures { result ≡ meta_of (item_of self.now) }
+    /// What stands where the node does.
+    fn standing(&self) -> Standing<'_>
+        ensures { standing_item result ≡ item_of self.now }
     {
-        Meta {
-            is_dir: self.is_dir,
-            len: if self.is_dir {
-                0
-            } else {
-                self.bytes.as_slice().len() as u64
-            },
+        if self.is_dir {
+            Standing::Directory
+        } else {
+            Standing::File(&self.bytes)
         }
     }
 
@@ -209,11 +206,7 @@ impl MemoryStorage {
             return Some(Standing::Directory);
         }
         let node = self.nodes.get(path)?;
-        if node.is_dir {
-            Some(Standing::Directory)
-        } else {
-            Some(Standing::File(&node.bytes))
-        }
+        Some(node.standing())
     }
 
     /// How a file is refused that would have so many bytes.

@@ -10,6 +10,7 @@ ghost use Rattle.ftp_base.specs.MemoryStorage.{NoneBetween, files_of, front, pla
 ghost use Rattle.ftp_base.specs.Storage.{name, children, info_of};
 
 use super::Node;
+use super::storage::meta_at;
 use crate::bytes::Bytes;
 use crate::path::{is_child, is_root, name_of};
 use crate::storage::{FileInfo, Meta};
@@ -38,7 +39,7 @@ pub(crate) fn places_in(
         }
         if is_child(dir, path.as_slice()) {
             let place = place_of(alloc, path.as_slice())?;
-            places.insert(place, node.meta())?;
+            places.insert(place, meta_at(node.standing()))?;
         }
         from = next_after(alloc, dir, path.as_slice())?;
     }

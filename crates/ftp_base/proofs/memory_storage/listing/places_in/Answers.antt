@@ -48,8 +48,8 @@ loop-path-preserved c =
             let child : is_child c.args.dir.now c.in-Some.path.now.items ≡ true = rw (← c.as_slice-in-Some-3.ensures.value) (sym c.is_child.ensures ∙ w.if-is_child.true) in
             ap (λ (m : BTreeMap (Vec ℕ Global × Vec ℕ Global) Meta). placed m.entries) w.places-is
             ∙ ap placed w.in_ok-insert.ensures.entries
-            ∙ placed-insert_entry c.loop-path.places.entries w.in_ok-place.place w.meta.result
-            ∙ rw (w.in_ok-place.ensures.0, w.in_ok-place.ensures.1, w.as_slice-then-is_child.ensures.value, w.meta.ensures, c.loop-path.invariant.0)
+            ∙ placed-insert_entry c.loop-path.places.entries w.in_ok-place.place w.meta_at.result
+            ∙ rw (w.in_ok-place.ensures.0, w.in_ok-place.ensures.1, w.as_slice-then-is_child.ensures.value, (w.meta_at.ensures ∙ ap meta_of w.standing.ensures), c.loop-path.invariant.0)
             (sym (map.entries-insert place_total (children_before (files_of c.args.nodes.now.entries) c.args.dir.now c.loop-path.from.items) (name c.in-Some.path.now.items, c.in-Some.path.now.items) (meta_of (item_of c.in-Some.node.now))))
             ∙ ap map.entries
             (sym
