@@ -9,7 +9,8 @@ use Rattle.std.specs.declared.cmp.Ordering.TheVariants.{Less, Equal, Greater}
 use Rattle.std.specs.Cmp.Lexicographic.{slice_cmp, nat_list_cmp_total}
 use Rattle.std.proofs.lemmas.Map.Text.{is_eq-slice_cmp}
 use Rattle.ftp_options.specs.Site.{upper, handler_of, with_handler, FindsOneMore}
-use Rattle.ftp_options.proofs.Tables.{comparisons_climb, lookup-found, lookup-gap, insert-gap, rises-entry, lookup-entry}
+use Rattle.ftp_base.proofs.Sorted.{comparisons_climb}
+use Rattle.ftp_options.proofs.Tables.{lookup-found, lookup-gap, insert-gap, rises-entry, lookup-entry}
 
 abbrev pub Sites : Type 0 → Type 0
 Sites H = List (List ℕ × H)

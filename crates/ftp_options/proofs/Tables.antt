@@ -1,109 +1,34 @@
 -- Entries whose keys rise: what a binary search finds among them, and an entry more in its place.
-use Rattle.std.proofs.Common.{◌≡◌, ℕ, zero, suc, ◌<◌, ◌≤◌, Bool, true, false, cond, List, [], ◌∷◌, length, get_or, Some, None, refl, sym, ap, ◌∙◌, arith, inl, inr}
+use Rattle.std.proofs.Common.{◌≡◌, ℕ, zero, suc, ◌<◌, Bool, true, false, cond, List, [], ◌∷◌, length, get_or, Some, None, refl, sym, ap, ◌∙◌, arith}
 use Rattle.std.specs.List.{insert, AllByRecursion, AllWithin}
-use Rattle.std.specs.List.Sorted.{IsStrictlySortedBy, IsNonDecreasingBy}
 use Rattle.std.specs.Map.{lookup, keys_of}
 use Rattle.std.specs.BTreeMap.{insert_entry}
-use Rattle.std.specs.Ordering.{eq_by_cmp, is_eq, ordering_index, ordering_reverse, match_ordering}
-use Rattle.std.specs.Cmp.{IsTotalOrder, Equal-is, alike_right, tied_back}
+use Rattle.std.specs.Ordering.{eq_by_cmp, is_eq, ordering_reverse, match_ordering}
+use Rattle.std.specs.Cmp.{IsTotalOrder, alike_right, tied_back}
 use Rattle.std.specs.declared.cmp.Ordering.{Ordering}
 use Rattle.std.specs.declared.cmp.Ordering.TheVariants.{Less, Equal, Greater}
-use Rattle.std.proofs.lemmas.Bool.{cases_lt}
-
--- ---- keys
-
--- no key rises
-pub none_rises : {K : Type 0} (R : K → K → Ordering) → IsStrictlySortedBy R []
-unfolding IsStrictlySortedBy
-none_rises R = tt
-
-once : {A : Type 0} (b : Bool) (x y z : A) → cond b x z ≡ cond b x (cond b y z)
-once true x y z = refl
-once false x y z = refl
-
-swaps : {A : Type 0} (a b : Bool) (x y z : A) → (a ≡ true → b ≡ true → ⊥) → cond a x (cond b y z) ≡ cond b y (cond a x z)
-swaps true true x y z apart = absurd (apart refl refl)
-swaps true false x y z apart = refl
-swaps false b x y z apart = refl
+use Rattle.ftp_base.proofs.Sorted.{shadows, swaps, apart, Rises, rises-head, rises-tail, rises-cons, all-get_or, none_rises}
 
 all-imply : {K : Type 0} {P Q : K → Type 0} → ((k : K) → P k → Q k) → (ks : List K) → AllByRecursion P ks → AllByRecursion Q ks
 all-imply each [] all = tt
 all-imply each (k ∷ ks) all = (each k all.0, all-imply each ks all.1)
 
 module _ {K : Type 0} {R : K → K → Ordering} (o : IsTotalOrder R) where
-  -- a key is not at two places
-  apart : (q k l : K) → R k l ≡ Less → eq_by_cmp R q k ≡ true → eq_by_cmp R q l ≡ true → ⊥
-  apart q k l less here there =
-      let e : R q k ≡ Equal = (Equal-is (R q k)).0 here in
-      let f : R q l ≡ Equal = (Equal-is (R q l)).0 there in
-      let g : R q l ≡ R k l = o.congr q k l e in
-      cc
-
   -- keys that tie are one to each other key
   same : (q k l : K) → R k l ≡ Equal → eq_by_cmp R q k ≡ eq_by_cmp R q l
   same q k l tie = ap is_eq (alike_right o k l q tie)
 
-  -- a higher key compares no lower
-  climbs : (k l x : K) → R k l ≡ Less → ordering_index (R k x) ≤ ordering_index (R l x)
-  climbs k l x less = by (R k x) refl where
-    back : R x l ≡ Less → R l x ≡ Greater
-    back lower = o.antisymm l x ∙ ap ordering_reverse lower
-
-    by : (c : Ordering) → R k x ≡ c → ordering_index c ≤ ordering_index (R l x)
-    by Less below = omega arith
-    by Equal tie =
-        let g : R l x ≡ Greater = back (sym (o.congr k x l tie) ∙ less) in
-        rw g (omega arith)
-    by Greater above =
-        let lower : R x k ≡ Less = o.antisymm x k ∙ ap ordering_reverse above in
-        let g : R l x ≡ Greater = back (o.trans x k l lower less) in
-        rw g (omega arith)
-
   -- ---- entries
 
   module _ {X : Type 0} where
-    -- the keys rise
-    abbrev pub Rises : List (K × X) → Type 0
-    Rises es = IsStrictlySortedBy R (keys_of es)
-
-    rises-head : (e : K × X) (es : List (K × X)) → Rises (e ∷ es) → AllByRecursion (λ y. R e.0 y ≡ Less) (keys_of es)
-    unfolding IsStrictlySortedBy
-    rises-head e es rises = rises.0
-
-    rises-tail : (e : K × X) (es : List (K × X)) → Rises (e ∷ es) → Rises es
-    unfolding IsStrictlySortedBy
-    rises-tail e es rises = rises.1
-
-    rises-cons : (e : K × X) (es : List (K × X)) → AllByRecursion (λ y. R e.0 y ≡ Less) (keys_of es) → Rises es → Rises (e ∷ es)
-    unfolding IsStrictlySortedBy
-    rises-cons e es head tail = (head, tail)
-
-    all-get_or : (P : K → Type 0) (es : List (K × X)) (i : ℕ) (d : K × X) → AllByRecursion P (keys_of es) → i < length es → P (get_or es i d).0
-    all-get_or P [] i d all lt = absurd (omega arith)
-    all-get_or P (e ∷ es) zero d all lt = all.0
-    all-get_or P (e ∷ es) (suc i) d all lt = all-get_or P es i d all.1 (omega arith)
-
-    rises-at : (es : List (K × X)) (i j : ℕ) (d : K × X) → Rises es → i < j → j < length es → R (get_or es i d).0 (get_or es j d).0 ≡ Less
-    rises-at [] i j d rises less lt = absurd (omega arith)
-    rises-at (e ∷ es) i zero d rises less lt = absurd (omega arith)
-    rises-at (e ∷ es) zero (suc j) d rises less lt = all-get_or (λ y. R e.0 y ≡ Less) es j d (rises-head e es rises) (omega arith)
-    rises-at (e ∷ es) (suc i) (suc j) d rises less lt = rises-at es i j d (rises-tail e es rises) (omega arith) (omega arith)
-
-    -- the keys compare to another key no lower from one place to the next
-    pub comparisons_climb : (es : List (K × X)) (k : K) → Rises es → IsNonDecreasingBy (λ e. ordering_index (R e.0 k)) es
-    comparisons_climb es k rises i j d le lt = elim (cases_lt i j) [
-      | inl less ↦ climbs (get_or es i d).0 (get_or es j d).0 k (rises-at es i j d rises less lt)
-      | inr ge ↦ (let same : i ≡ j = omega arith in rw same (omega arith))
-    ]
-
     -- a key at a place has the value there
-    pub lookup-found : (es : List (K × X)) (i : ℕ) (k : K) (d : K × X) → Rises es → i < length es → R (get_or es i d).0 k ≡ Equal → lookup (eq_by_cmp R k) es ≡ Some (get_or es i d).1
+    pub lookup-found : (es : List (K × X)) (i : ℕ) (k : K) (d : K × X) → Rises o es → i < length es → R (get_or es i d).0 k ≡ Equal → lookup (eq_by_cmp R k) es ≡ Some (get_or es i d).1
     lookup-found [] i k d rises lt tie = absurd (omega arith)
     lookup-found (e ∷ es) zero k d rises lt tie = ap (λ (b : Bool). cond b (Some e.1) (lookup (eq_by_cmp R k) es)) (ap is_eq (tied_back o e.0 k tie))
-    lookup-found (e ∷ es) (suc i) k d rises lt tie = by (eq_by_cmp R k e.0) refl (lookup-found es i k d (rises-tail e es rises) (omega arith) tie) where
+    lookup-found (e ∷ es) (suc i) k d rises lt tie = by (eq_by_cmp R k e.0) refl (lookup-found es i k d (rises-tail o e es rises) (omega arith) tie) where
       by : (b : Bool) → eq_by_cmp R k e.0 ≡ b → lookup (eq_by_cmp R k) es ≡ Some (get_or es i d).1 → cond b (Some e.1) (lookup (eq_by_cmp R k) es) ≡ Some (get_or es i d).1
       by true there rest =
-          absurd (apart k e.0 (get_or es i d).0 (all-get_or (λ y. R e.0 y ≡ Less) es i d (rises-head e es rises) (omega arith)) there (ap is_eq (tied_back o (get_or es i d).0 k tie)))
+          absurd (apart o k e.0 (get_or es i d).0 (all-get_or o (λ y. R e.0 y ≡ Less) es i d (rises-head o e es rises) (omega arith)) there (ap is_eq (tied_back o (get_or es i d).0 k tie)))
       by false other rest = rest
 
     -- ---- a key between its neighbours
@@ -152,13 +77,13 @@ module _ {K : Type 0} {R : K → K → Ordering} (o : IsTotalOrder R) where
       by Greater rest = (all.0, rest)
 
     -- the keys rise with an entry more
-    pub rises-entry : (es : List (K × X)) (k : K) (v : X) → Rises es → Rises (insert_entry R es k v)
-    rises-entry [] k v rises = rises-cons (k, v) [] tt (none_rises R)
-    rises-entry (e ∷ es) k v rises = by (R k e.0) refl (rises-entry es k v (rises-tail e es rises)) where
-      by : (r : Ordering) → R k e.0 ≡ r → Rises (insert_entry R es k v) → Rises (match_ordering r ((k, v) ∷ e ∷ es) ((e.0, v) ∷ es) (e ∷ insert_entry R es k v))
-      by Less less rest = rises-cons (k, v) (e ∷ es) (less, all-imply (λ y up. o.trans k e.0 y less up) (keys_of es) (rises-head e es rises)) rises
-      by Equal tie rest = rises-cons (e.0, v) es (rises-head e es rises) (rises-tail e es rises)
-      by Greater more rest = rises-cons e (insert_entry R es k v) (all-entry (λ y. R e.0 y ≡ Less) es k v (o.antisymm e.0 k ∙ ap ordering_reverse more) (rises-head e es rises)) rest
+    pub rises-entry : (es : List (K × X)) (k : K) (v : X) → Rises o es → Rises o (insert_entry R es k v)
+    rises-entry [] k v rises = rises-cons o (k, v) [] tt (none_rises R)
+    rises-entry (e ∷ es) k v rises = by (R k e.0) refl (rises-entry es k v (rises-tail o e es rises)) where
+      by : (r : Ordering) → R k e.0 ≡ r → Rises o (insert_entry R es k v) → Rises o (match_ordering r ((k, v) ∷ e ∷ es) ((e.0, v) ∷ es) (e ∷ insert_entry R es k v))
+      by Less less rest = rises-cons o (k, v) (e ∷ es) (less, all-imply (λ y up. o.trans k e.0 y less up) (keys_of es) (rises-head o e es rises)) rises
+      by Equal tie rest = rises-cons o (e.0, v) es (rises-head o e es rises) (rises-tail o e es rises)
+      by Greater more rest = rises-cons o e (insert_entry R es k v) (all-entry (λ y. R e.0 y ≡ Less) es k v (o.antisymm e.0 k ∙ ap ordering_reverse more) (rises-head o e es rises)) rest
 
     -- under its key stands the new value, and under each other key what stood there
     pub lookup-entry : (es : List (K × X)) (k : K) (v : X) (q : K) → lookup (eq_by_cmp R q) (insert_entry R es k v) ≡ cond (eq_by_cmp R q k) (Some v) (lookup (eq_by_cmp R q) es)
@@ -171,9 +96,9 @@ module _ {K : Type 0} {R : K → K → Ordering} (o : IsTotalOrder R) where
       by Less less rest = refl
       by Equal tie rest =
           ap (λ (b : Bool). cond b (Some v) (lookup (eq_by_cmp R q) es)) (sym (same q k e.0 tie))
-          ∙ once (eq_by_cmp R q k) (Some v) (Some e.1) (lookup (eq_by_cmp R q) es)
+          ∙ shadows (eq_by_cmp R q k) (Some v) (Some e.1) (lookup (eq_by_cmp R q) es)
           ∙ ap (λ (b : Bool). cond (eq_by_cmp R q k) (Some v) (cond b (Some e.1) (lookup (eq_by_cmp R q) es))) (same q k e.0 tie)
       by Greater more rest =
           ap (cond (eq_by_cmp R q e.0) (Some e.1)) rest
           ∙ swaps (eq_by_cmp R q e.0) (eq_by_cmp R q k) (Some e.1) (Some v) (lookup (eq_by_cmp R q) es)
-          (apart q e.0 k (o.antisymm e.0 k ∙ ap ordering_reverse more))
+          (apart o q e.0 k (o.antisymm e.0 k ∙ ap ordering_reverse more))
