@@ -63,6 +63,6 @@ pub use path::{is_below, parent_of};
 pub use port_error::PortAllocationError;
 pub use reply::{Reply, ReplyCode};
 pub use reply_text::ReplyText;
-pub use storage::{FEATURE_RESTART, FileInfo, Looks, Meta, Storage, StoreError};
+pub use storage::{FEATURE_RESTART, FileInfo, Looks, Meta, Storage, StoreError, count_failed};
 pub use trace::TraceId;
 pub use worker::{Gate, Spawner};

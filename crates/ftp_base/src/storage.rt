@@ -66,6 +66,18 @@ impl From<AllocError> for StoreError {
     }
 }
 
+/// An answer as it is, with a fault more where its call failed. At its last value the count stands still.
+pub fn count_failed<T>(faults: &mut u64, answer: Result<T, StoreError>) -> Result<T, StoreError>
+    ensures same { result ≡ answer }
+    ensures fault_rose { IsErrOf answer StoreError.Failed → HasRisen faults.old faults.new }
+    ensures count { faults.old ≤ faults.new }
+{
+    if let Err(StoreError::Failed) = &answer {
+        *faults = faults.saturating_add(1);
+    }
+    answer
+}
+
 /// Keeps the files that transfers read and write.
 pub trait Storage {
     // What the storage can do, a set of bits.
