@@ -16,7 +16,8 @@ use Rattle.ftp_lockout.specs.declared.cache.Failures.{Failures}
 use Rattle.ftp_lockout.specs.declared.key.LoginKey.{LoginKey}
 use Rattle.ftp_lockout.specs.Keys.{key_cmp}
 use Rattle.ftp_lockout.specs.Places.{AreBlocks, AreInKeyOrder, AreRoomy, IsAt, IsBlock, IsGapFor, records_in}
-use Rattle.ftp_lockout.proofs.Tables.{all-get, rises-head, rises-tail, rises-cons}
+use Rattle.ftp_base.proofs.Sorted.{rises-head, rises-tail, rises-cons}
+use Rattle.ftp_lockout.proofs.Tables.{all-get}
 use Rattle.ftp_lockout.proofs.Records.{Records, keys_total, none_in_order}
 
 -- ---- lists
@@ -336,35 +337,29 @@ module _ {Z : Type 0} where
 
   -- ---- edits
 
-  pub records-set : (bs : Blocks Z) (b : ℕ) (v w : Vec (LoginKey × Failures) Z) (i : ℕ) (e : LoginKey × Failures) → slice_get bs b ≡ Some v → i < length v.items → w.items ≡ set v.items i e →
-      records_in (set bs b w) ≡ set (records_in bs) (length (records_in (take b bs)) + i) e
-  records-set bs b v w i e got lt is =
+  -- one of a block, where it edits the same of a list that the block stands in, is one of all records
+  records-edited : (bs : Blocks Z) (b : ℕ) (v w : Vec (LoginKey × Failures) Z) (i : ℕ) (edit : Records → ℕ → Records) → slice_get bs b ≡ Some v → w.items ≡ edit v.items i →
+      ((p s : Records) → edit (p ++ (v.items ++ s)) (length p + i) ≡ p ++ (edit v.items i ++ s)) →
+      records_in (set bs b w) ≡ edit (records_in bs) (length (records_in (take b bs)) + i)
+  records-edited bs b v w i edit got is within =
       let P = records_in (take b bs) in
       let S = records_in (drop (suc b) bs) in
       parted-set bs b w (get-short bs b v got)
       ∙ ap (λ (x : Records). P ++ (x ++ S)) is
-      ∙ sym (set-middle P v.items S i e lt)
-      ∙ ap (λ (x : Records). set x (length P + i) e) (sym (parted_at bs b v got))
+      ∙ sym (within P S)
+      ∙ ap (λ (x : Records). edit x (length P + i)) (sym (parted_at bs b v got))
+
+  pub records-set : (bs : Blocks Z) (b : ℕ) (v w : Vec (LoginKey × Failures) Z) (i : ℕ) (e : LoginKey × Failures) → slice_get bs b ≡ Some v → i < length v.items → w.items ≡ set v.items i e →
+      records_in (set bs b w) ≡ set (records_in bs) (length (records_in (take b bs)) + i) e
+  records-set bs b v w i e got lt is = records-edited bs b v w i (λ x n. set x n e) got is (λ p s. set-middle p v.items s i e lt)
 
   pub records-insert : (bs : Blocks Z) (b : ℕ) (v w : Vec (LoginKey × Failures) Z) (i : ℕ) (e : LoginKey × Failures) → slice_get bs b ≡ Some v → i ≤ length v.items → w.items ≡ insert v.items i e →
       records_in (set bs b w) ≡ insert (records_in bs) (length (records_in (take b bs)) + i) e
-  records-insert bs b v w i e got le is =
-      let P = records_in (take b bs) in
-      let S = records_in (drop (suc b) bs) in
-      parted-set bs b w (get-short bs b v got)
-      ∙ ap (λ (x : Records). P ++ (x ++ S)) is
-      ∙ sym (insert-middle P v.items S i e le)
-      ∙ ap (λ (x : Records). insert x (length P + i) e) (sym (parted_at bs b v got))
+  records-insert bs b v w i e got le is = records-edited bs b v w i (λ x n. insert x n e) got is (λ p s. insert-middle p v.items s i e le)
 
   pub records-remove : (bs : Blocks Z) (b : ℕ) (v w : Vec (LoginKey × Failures) Z) (i : ℕ) → slice_get bs b ≡ Some v → i < length v.items → w.items ≡ remove v.items i →
       records_in (set bs b w) ≡ remove (records_in bs) (length (records_in (take b bs)) + i)
-  records-remove bs b v w i got lt is =
-      let P = records_in (take b bs) in
-      let S = records_in (drop (suc b) bs) in
-      parted-set bs b w (get-short bs b v got)
-      ∙ ap (λ (x : Records). P ++ (x ++ S)) is
-      ∙ sym (remove-middle P v.items S i lt)
-      ∙ ap (λ (x : Records). remove x (length P + i)) (sym (parted_at bs b v got))
+  records-remove bs b v w i got lt is = records-edited bs b v w i remove got is (λ p s. remove-middle p v.items s i lt)
 
   -- without a block of one record
   pub records-removed : (bs : Blocks Z) (b : ℕ) (v : Vec (LoginKey × Failures) Z) (i : ℕ) → slice_get bs b ≡ Some v → length v.items ≡ 1 → i < length v.items →

@@ -17,7 +17,8 @@ use Rattle.ftp_lockout.specs.declared.key.LoginKey.{LoginKey}
 use Rattle.ftp_lockout.specs.Keys.{key_cmp, same_key}
 use Rattle.ftp_lockout.specs.Failures.{recorded, is_expired, swept}
 use Rattle.ftp_lockout.specs.Places.{AreInKeyOrder, IsAt, IsGapFor}
-use Rattle.ftp_lockout.proofs.Tables.{get_or-get, get-within, keys-set, lookup-set, lookup-remove, lookup-insert, lookup-same, lookup-found, lookup-gap, rises-insert, rises-remove, rises-filter, rises-cons, comparisons_climb}
+use Rattle.ftp_base.proofs.Sorted.{rises-cons, none_rises, comparisons_climb}
+use Rattle.ftp_lockout.proofs.Tables.{get_or-get, get-within, keys-set, lookup-set, lookup-remove, lookup-insert, lookup-same, lookup-found, lookup-gap, rises-insert, rises-remove, rises-filter}
 
 abbrev pub Records : Type 0
 Records = List (LoginKey × Failures)
@@ -30,8 +31,7 @@ keys_total =
     (on_total (λ (k : LoginKey). k.name) nat_list_cmp_total)
 
 pub none_in_order : AreInKeyOrder []
-unfolding IsStrictlySortedBy
-none_in_order = tt
+none_in_order = none_rises key_cmp
 
 pub one_in_order : (e : LoginKey × Failures) → AreInKeyOrder (e ∷ [])
 one_in_order e = rises-cons keys_total e [] tt none_in_order

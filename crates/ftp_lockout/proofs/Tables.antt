@@ -3,24 +3,15 @@ use Rattle.std.proofs.Common.{◌≡◌, ℕ, zero, suc, ◌<◌, ◌≤◌, Boo
 use Rattle.std.proofs.Math.ListN.{set}
 use Rattle.std.specs.Prelude.{slice_get, filter}
 use Rattle.std.specs.List.{insert, remove, AllByRecursion}
-use Rattle.std.specs.List.Sorted.{IsStrictlySortedBy, IsNonDecreasingBy}
 use Rattle.std.specs.Map.{lookup, keys_of}
-use Rattle.std.specs.Ordering.{eq_by_cmp, is_eq, ordering_index, ordering_reverse}
-use Rattle.std.specs.Cmp.{IsTotalOrder, Equal-is, tied_back}
+use Rattle.std.specs.Ordering.{eq_by_cmp, is_eq, ordering_reverse}
+use Rattle.std.specs.Cmp.{IsTotalOrder, tied_back}
 use Rattle.std.specs.declared.cmp.Ordering.{Ordering}
-use Rattle.std.specs.declared.cmp.Ordering.TheVariants.{Less, Equal, Greater}
+use Rattle.std.specs.declared.cmp.Ordering.TheVariants.{Less, Equal}
 use Rattle.std.proofs.lemmas.Bool.{cases_lt}
+use Rattle.ftp_base.proofs.Sorted.{shadows, swaps, apart, none_rises, Rises, rises-head, rises-tail, rises-cons}
 
 -- ---- lists
-
-shadows : {A : Type 0} (b : Bool) (x y z : A) → cond b x z ≡ cond b x (cond b y z)
-shadows true x y z = refl
-shadows false x y z = refl
-
-swaps : {A : Type 0} (a b : Bool) (x y z : A) → (a ≡ true → b ≡ true → ⊥) → cond a x (cond b y z) ≡ cond b y (cond a x z)
-swaps true true x y z apart = absurd (apart refl refl)
-swaps true false x y z apart = refl
-swaps false b x y z apart = refl
 
 -- what is got at a place is what stands there
 pub get_or-get : {A : Type 0} (xs : List A) (i : ℕ) (x d : A) → slice_get xs i ≡ Some x → get_or xs i d ≡ x
@@ -34,37 +25,6 @@ get-within [] i x got = cc
 get-within (y ∷ xs) zero x got = omega arith
 get-within (y ∷ xs) (suc i) x got = let lt = get-within xs i x got in omega arith
 
--- ---- keys
-
-no_key_rises : {K : Type 0} (R : K → K → Ordering) → IsStrictlySortedBy R []
-unfolding IsStrictlySortedBy
-no_key_rises R = tt
-
-module _ {K : Type 0} {R : K → K → Ordering} (o : IsTotalOrder R) where
-  -- a key is not at two places
-  apart : (q k l : K) → R k l ≡ Less → eq_by_cmp R q k ≡ true → eq_by_cmp R q l ≡ true → ⊥
-  apart q k l less here there =
-      let e : R q k ≡ Equal = (Equal-is (R q k)).0 here in
-      let f : R q l ≡ Equal = (Equal-is (R q l)).0 there in
-      let g : R q l ≡ R k l = o.congr q k l e in
-      cc
-
-  -- a higher key compares no lower
-  climbs : (k l x : K) → R k l ≡ Less → ordering_index (R k x) ≤ ordering_index (R l x)
-  climbs k l x less = by (R k x) refl where
-    back : R x l ≡ Less → R l x ≡ Greater
-    back lower = o.antisymm l x ∙ ap ordering_reverse lower
-
-    by : (c : Ordering) → R k x ≡ c → ordering_index c ≤ ordering_index (R l x)
-    by Less below = omega arith
-    by Equal tie =
-        let g : R l x ≡ Greater = back (sym (o.congr k x l tie) ∙ less) in
-        rw g (omega arith)
-    by Greater above =
-        let lower : R x k ≡ Less = o.antisymm x k ∙ ap ordering_reverse above in
-        let g : R l x ≡ Greater = back (o.trans x k l lower less) in
-        rw g (omega arith)
-
 -- ---- records
 
 module _ {K X : Type 0} where
@@ -72,11 +32,6 @@ module _ {K X : Type 0} where
   all-get P [] i r all got = cc
   all-get P (e ∷ es) zero r all got = let here : e ≡ r = cc in subst (λ (x : K × X). P x.0) here all.0
   all-get P (e ∷ es) (suc i) r all got = all-get P es i r all.1 got
-
-  all-get_or : (P : K → Type 0) (es : List (K × X)) (i : ℕ) (d : K × X) → AllByRecursion P (keys_of es) → i < length es → P (get_or es i d).0
-  all-get_or P [] i d all lt = absurd (omega arith)
-  all-get_or P (e ∷ es) zero d all lt = all.0
-  all-get_or P (e ∷ es) (suc i) d all lt = all-get_or P es i d all.1 (omega arith)
 
   all-from_get : (P : K → Type 0) (es : List (K × X)) → ((i : ℕ) (r : K × X) → slice_get es i ≡ Some r → P r.0) → AllByRecursion P (keys_of es)
   all-from_get P [] each = tt
@@ -106,22 +61,6 @@ module _ {K X : Type 0} where
   keys-set (e ∷ es) (suc i) r v got = ap (λ (ks : List K). e.0 ∷ ks) (keys-set es i r v got)
 
   module _ {R : K → K → Ordering} (o : IsTotalOrder R) where
-    -- the keys rise
-    abbrev Rises : List (K × X) → Type 0
-    Rises es = IsStrictlySortedBy R (keys_of es)
-
-    pub rises-head : (e : K × X) (es : List (K × X)) → Rises (e ∷ es) → AllByRecursion (λ y. R e.0 y ≡ Less) (keys_of es)
-    unfolding IsStrictlySortedBy
-    rises-head e es rises = rises.0
-
-    pub rises-tail : (e : K × X) (es : List (K × X)) → Rises (e ∷ es) → Rises es
-    unfolding IsStrictlySortedBy
-    rises-tail e es rises = rises.1
-
-    pub rises-cons : (e : K × X) (es : List (K × X)) → AllByRecursion (λ y. R e.0 y ≡ Less) (keys_of es) → Rises es → Rises (e ∷ es)
-    unfolding IsStrictlySortedBy
-    rises-cons e es head tail = (head, tail)
-
     lookup-above : (es : List (K × X)) (q k : K) → AllByRecursion (λ y. R k y ≡ Less) (keys_of es) → eq_by_cmp R q k ≡ true → lookup (eq_by_cmp R q) es ≡ None
     lookup-above [] q k all here = refl
     lookup-above (e ∷ es) q k all here = by (eq_by_cmp R q e.0) refl (lookup-above es q k all.1 here) where
@@ -130,7 +69,7 @@ module _ {K X : Type 0} where
       by false other rest = rest
 
     -- another record under the key at a place
-    pub lookup-set : (es : List (K × X)) (i : ℕ) (r : K × X) (v : X) (q : K) → Rises es → slice_get es i ≡ Some r →
+    pub lookup-set : (es : List (K × X)) (i : ℕ) (r : K × X) (v : X) (q : K) → Rises o es → slice_get es i ≡ Some r →
         lookup (eq_by_cmp R q) (set es i (r.0, v)) ≡ cond (eq_by_cmp R q r.0) (Some v) (lookup (eq_by_cmp R q) es)
     lookup-set [] i r v q rises got = cc
     lookup-set (e ∷ es) zero r v q rises got =
@@ -138,24 +77,24 @@ module _ {K X : Type 0} where
         shadows (eq_by_cmp R q r.0) (Some v) (Some e.1) (lookup (eq_by_cmp R q) es)
         ∙ ap (λ (x : K × X). cond (eq_by_cmp R q r.0) (Some v) (cond (eq_by_cmp R q x.0) (Some e.1) (lookup (eq_by_cmp R q) es))) (sym here)
     lookup-set (e ∷ es) (suc i) r v q rises got =
-        ap (cond (eq_by_cmp R q e.0) (Some e.1)) (lookup-set es i r v q (rises-tail e es rises) got)
+        ap (cond (eq_by_cmp R q e.0) (Some e.1)) (lookup-set es i r v q (rises-tail o e es rises) got)
         ∙ swaps (eq_by_cmp R q e.0) (eq_by_cmp R q r.0) (Some e.1) (Some v) (lookup (eq_by_cmp R q) es)
-        (apart o q e.0 r.0 (all-get (λ y. R e.0 y ≡ Less) es i r (rises-head e es rises) got))
+        (apart o q e.0 r.0 (all-get (λ y. R e.0 y ≡ Less) es i r (rises-head o e es rises) got))
 
     -- without the record at a place
-    pub lookup-remove : (es : List (K × X)) (i : ℕ) (r : K × X) (q : K) → Rises es → slice_get es i ≡ Some r →
+    pub lookup-remove : (es : List (K × X)) (i : ℕ) (r : K × X) (q : K) → Rises o es → slice_get es i ≡ Some r →
         lookup (eq_by_cmp R q) (remove es i) ≡ cond (eq_by_cmp R q r.0) None (lookup (eq_by_cmp R q) es)
     lookup-remove [] i r q rises got = cc
     lookup-remove (e ∷ es) zero r q rises got =
         let here : e ≡ r = cc in
         by (eq_by_cmp R q e.0) refl ∙ ap (λ (x : K × X). cond (eq_by_cmp R q x.0) None (cond (eq_by_cmp R q e.0) (Some e.1) (lookup (eq_by_cmp R q) es))) here where
           by : (b : Bool) → eq_by_cmp R q e.0 ≡ b → lookup (eq_by_cmp R q) es ≡ cond b None (cond b (Some e.1) (lookup (eq_by_cmp R q) es))
-          by true same = lookup-above es q e.0 (rises-head e es rises) same
+          by true same = lookup-above es q e.0 (rises-head o e es rises) same
           by false other = refl
     lookup-remove (e ∷ es) (suc i) r q rises got =
-        ap (cond (eq_by_cmp R q e.0) (Some e.1)) (lookup-remove es i r q (rises-tail e es rises) got)
+        ap (cond (eq_by_cmp R q e.0) (Some e.1)) (lookup-remove es i r q (rises-tail o e es rises) got)
         ∙ swaps (eq_by_cmp R q e.0) (eq_by_cmp R q r.0) (Some e.1) None (lookup (eq_by_cmp R q) es)
-        (apart o q e.0 r.0 (all-get (λ y. R e.0 y ≡ Less) es i r (rises-head e es rises) got))
+        (apart o q e.0 r.0 (all-get (λ y. R e.0 y ≡ Less) es i r (rises-head o e es rises) got))
 
     -- a record more, with lower keys before it
     pub lookup-insert : (es : List (K × X)) (i : ℕ) (k : K) (v : X) (q : K) →
@@ -167,29 +106,29 @@ module _ {K X : Type 0} where
         ap (cond (eq_by_cmp R q e.0) (Some e.1)) (lookup-insert es i k v q (λ j r lt got. lower (suc j) r (omega arith) got))
         ∙ swaps (eq_by_cmp R q e.0) (eq_by_cmp R q k) (Some e.1) (Some v) (lookup (eq_by_cmp R q) es) (apart o q e.0 k (lower 0 e (omega arith) refl))
 
-    pub rises-insert : (es : List (K × X)) (i : ℕ) (k : K) (v : X) → Rises es →
+    pub rises-insert : (es : List (K × X)) (i : ℕ) (k : K) (v : X) → Rises o es →
         ((j : ℕ) (r : K × X) → j < i → slice_get es j ≡ Some r → R r.0 k ≡ Less) →
         ((j : ℕ) (r : K × X) → i ≤ j → slice_get es j ≡ Some r → R k r.0 ≡ Less) →
-        Rises (insert es i (k, v))
+        Rises o (insert es i (k, v))
     rises-insert es zero k v rises lower higher =
-        rises-cons (k, v) es (all-from_get (λ y. R k y ≡ Less) es (λ j r got. higher j r (omega arith) got)) rises
-    rises-insert [] (suc i) k v rises lower higher = rises-cons (k, v) [] tt (no_key_rises R)
+        rises-cons o (k, v) es (all-from_get (λ y. R k y ≡ Less) es (λ j r got. higher j r (omega arith) got)) rises
+    rises-insert [] (suc i) k v rises lower higher = rises-cons o (k, v) [] tt (none_rises R)
     rises-insert (e ∷ es) (suc i) k v rises lower higher =
-        rises-cons e (insert es i (k, v)) (all-insert (λ y. R e.0 y ≡ Less) es i k v (rises-head e es rises) (lower 0 e (omega arith) refl))
-        (rises-insert es i k v (rises-tail e es rises) (λ j r lt got. lower (suc j) r (omega arith) got) (λ j r le got. higher (suc j) r (omega arith) got))
+        rises-cons o e (insert es i (k, v)) (all-insert (λ y. R e.0 y ≡ Less) es i k v (rises-head o e es rises) (lower 0 e (omega arith) refl))
+        (rises-insert es i k v (rises-tail o e es rises) (λ j r lt got. lower (suc j) r (omega arith) got) (λ j r le got. higher (suc j) r (omega arith) got))
 
-    pub rises-remove : (es : List (K × X)) (i : ℕ) → Rises es → Rises (remove es i)
-    rises-remove [] zero rises = (no_key_rises R)
-    rises-remove [] (suc i) rises = (no_key_rises R)
-    rises-remove (e ∷ es) zero rises = rises-tail e es rises
+    pub rises-remove : (es : List (K × X)) (i : ℕ) → Rises o es → Rises o (remove es i)
+    rises-remove [] zero rises = none_rises R
+    rises-remove [] (suc i) rises = none_rises R
+    rises-remove (e ∷ es) zero rises = rises-tail o e es rises
     rises-remove (e ∷ es) (suc i) rises =
-        rises-cons e (remove es i) (all-remove (λ y. R e.0 y ≡ Less) es i (rises-head e es rises)) (rises-remove es i (rises-tail e es rises))
+        rises-cons o e (remove es i) (all-remove (λ y. R e.0 y ≡ Less) es i (rises-head o e es rises)) (rises-remove es i (rises-tail o e es rises))
 
-    pub rises-filter : (p : K × X → Bool) (es : List (K × X)) → Rises es → Rises (filter p es)
-    rises-filter p [] rises = (no_key_rises R)
-    rises-filter p (e ∷ es) rises = by (p e) (rises-filter p es (rises-tail e es rises)) where
-      by : (b : Bool) → Rises (filter p es) → Rises (cond b (e ∷ filter p es) (filter p es))
-      by true rest = rises-cons e (filter p es) (all-filter (λ y. R e.0 y ≡ Less) p es (rises-head e es rises)) rest
+    pub rises-filter : (p : K × X → Bool) (es : List (K × X)) → Rises o es → Rises o (filter p es)
+    rises-filter p [] rises = none_rises R
+    rises-filter p (e ∷ es) rises = by (p e) (rises-filter p es (rises-tail o e es rises)) where
+      by : (b : Bool) → Rises o (filter p es) → Rises o (cond b (e ∷ filter p es) (filter p es))
+      by true rest = rises-cons o e (filter p es) (all-filter (λ y. R e.0 y ≡ Less) p es (rises-head o e es rises)) rest
       by false rest = rest
 
     -- keys that tie have the same record
@@ -200,16 +139,16 @@ module _ {K X : Type 0} where
         ∙ ap (λ (r : Ordering). cond (is_eq r) (Some e.1) (lookup (eq_by_cmp R k) es)) (o.congr q k e.0 tie)
 
     -- a key at a place has the record there
-    pub lookup-found : (es : List (K × X)) (i : ℕ) (r : K × X) (k : K) → Rises es → slice_get es i ≡ Some r → R r.0 k ≡ Equal → lookup (eq_by_cmp R k) es ≡ Some r.1
+    pub lookup-found : (es : List (K × X)) (i : ℕ) (r : K × X) (k : K) → Rises o es → slice_get es i ≡ Some r → R r.0 k ≡ Equal → lookup (eq_by_cmp R k) es ≡ Some r.1
     lookup-found [] i r k rises got tie = cc
     lookup-found (e ∷ es) zero r k rises got tie =
         let here : e ≡ r = cc in
         let same : eq_by_cmp R k r.0 ≡ true = ap is_eq (tied_back o r.0 k tie) in
         ap (λ (x : K × X). cond (eq_by_cmp R k x.0) (Some x.1) (lookup (eq_by_cmp R k) es)) here ∙ ap (λ (b : Bool). cond b (Some r.1) (lookup (eq_by_cmp R k) es)) same
-    lookup-found (e ∷ es) (suc i) r k rises got tie = by (eq_by_cmp R k e.0) refl (lookup-found es i r k (rises-tail e es rises) got tie) where
+    lookup-found (e ∷ es) (suc i) r k rises got tie = by (eq_by_cmp R k e.0) refl (lookup-found es i r k (rises-tail o e es rises) got tie) where
       by : (b : Bool) → eq_by_cmp R k e.0 ≡ b → lookup (eq_by_cmp R k) es ≡ Some r.1 → cond b (Some e.1) (lookup (eq_by_cmp R k) es) ≡ Some r.1
       by true there rest =
-          absurd (apart o k e.0 r.0 (all-get (λ y. R e.0 y ≡ Less) es i r (rises-head e es rises) got) there (ap is_eq (tied_back o r.0 k tie)))
+          absurd (apart o k e.0 r.0 (all-get (λ y. R e.0 y ≡ Less) es i r (rises-head o e es rises) got) there (ap is_eq (tied_back o r.0 k tie)))
       by false other rest = rest
 
     -- a key between its neighbours has no record
@@ -225,15 +164,3 @@ module _ {K X : Type 0} where
           none : (xs : List (K × X)) → ((j : ℕ) (r : K × X) → slice_get xs j ≡ Some r → eq_by_cmp R k r.0 ≡ false) → lookup (eq_by_cmp R k) xs ≡ None
           none [] each = refl
           none (x ∷ xs) each = ap (λ (b : Bool). cond b (Some x.1) (lookup (eq_by_cmp R k) xs)) (each 0 x refl) ∙ none xs (λ j r got. each (suc j) r got)
-
-    rises-at : (es : List (K × X)) (i j : ℕ) (d : K × X) → Rises es → i < j → j < length es → R (get_or es i d).0 (get_or es j d).0 ≡ Less
-    rises-at [] i j d rises less lt = absurd (omega arith)
-    rises-at (e ∷ es) i zero d rises less lt = absurd (omega arith)
-    rises-at (e ∷ es) zero (suc j) d rises less lt = all-get_or (λ y. R e.0 y ≡ Less) es j d (rises-head e es rises) (omega arith)
-    rises-at (e ∷ es) (suc i) (suc j) d rises less lt = rises-at es i j d (rises-tail e es rises) (omega arith) (omega arith)
-
-    pub comparisons_climb : (es : List (K × X)) (x : K) → Rises es → IsNonDecreasingBy (λ e. ordering_index (R e.0 x)) es
-    comparisons_climb es x rises i j d le lt = elim (cases_lt i j) [
-      | inl less ↦ climbs o (get_or es i d).0 (get_or es j d).0 x (rises-at es i j d rises less lt)
-      | inr ge ↦ (let same : i ≡ j = omega arith in rw same (omega arith))
-    ]
