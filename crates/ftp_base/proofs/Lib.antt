@@ -1,4 +1,5 @@
 pub mod Sorted
+pub mod Named
 pub mod Tables
 pub mod Numbers
 pub mod Digits
