@@ -16,10 +16,6 @@ module _ {T : Type 0} (number : T → ℕ) where
       let here : list_any (λ f. number f == n) xs ≡ true = list_any_at (λ f. number f == n) xs listed.0 call listed.1 (ap (λ x. number x == n) listed.2 ∙ same) in
       absurd (cc (sym here ∙ none))
 
-  -- no call was made
-  pub NoneFailed-same : (c : Calls T) → NoneFailed number c c
-  NoneFailed-same c = record { made = omega arith; faults = refl; failing = refl; none = λ call listed above. above }
-
   -- a call that is not listed goes well
   pub NoneFailed-call : (c : Calls T) → fails_next_by number c ≡ false → NoneFailed number c (after_call c)
   NoneFailed-call c well =
@@ -76,11 +72,6 @@ module _ {T : Type 0} (number : T → ℕ) where
         none = λ call listed above.
             next.none call (subst (λ xs. Contains xs call) (sym first.failing) listed) (first.none call listed above);
       }
-
-  -- no call was made, where calls are told
-  pub AllWell-same : (a : Option (Calls T)) → AllWell number a a
-  AllWell-same None = tt
-  AllWell-same (Some c) = NoneFailed-same c
 
   -- more calls went well, where calls are told
   pub AllWell-more : (a b c : Option (Calls T)) → AllWell number a b → AllWell number b c → AllWell number a c
