@@ -1,11 +1,11 @@
 -- Worked examples of endings, of messages and of a stop: what the definitions say of whole scripts, by computing.
-use Rattle.std.specs.Prelude.{ℕ, ◌≡◌, ◌++◌, refl, true, false, codes, [], ◌∷◌}
+use Rattle.std.specs.Prelude.{ℕ, ◌≡◌, ◌++◌, refl, false, codes, [], ◌∷◌}
 use Rattle.ftp_base.specs.declared.command.DataChanCmd.TheVariants.{Retr}
 use Rattle.ftp_base.specs.declared.error_kind.ErrorKind.TheVariants as error
 use Rattle.ftp_base.specs.declared.message.ControlChanMsg.TheVariants as message
 use Rattle.ftp_base.specs.declared.notice.Notice.TheVariants.{Presence, Data}
 use Rattle.ftp_base.specs.declared.notice.PresenceEvent.TheVariants as presence
-use Rattle.ftp_base.specs.declared.notice.DataEvent.TheVariants.{Got, MadeDir, Renamed}
+use Rattle.ftp_base.specs.declared.notice.DataEvent.TheVariants.{MadeDir, Renamed}
 use Rattle.ftp_base.specs.declared.reply.Reply.TheVariants.{CodeAndMsg}
 use Rattle.ftp_base.specs.declared.reply.ReplyCode.TheVariants as code
 use Rattle.ftp_transfer.specs.declared.job.Completion.TheVariants.{Sent}
@@ -13,7 +13,7 @@ use Rattle.ftp_events.specs.declared.action.Action.{Action}
 use Rattle.ftp_events.specs.declared.action.Action.TheVariants as action
 use Rattle.ftp_events.specs.declared.decision.Decision.TheVariants as decision
 use Rattle.ftp_events.specs.declared.event.EventKind.TheVariants as kind
-use Rattle.ftp_events.proofs.Script.{Event, everything, ticket, ended, addr, two_ports, one_port, proxied_ports, header, proxied, opened, event, login, pasv, told_after, decided_after, say, data_in, a1, a2}
+use Rattle.ftp_events.proofs.Script.{everything, ticket, ended, addr, two_ports, one_port, proxied_ports, header, proxied, opened, event, login, pasv, told_after, decided_after, say, data_in, a1, a2, second_notice}
 
 -- ann's session 1 is told to have gone, as its notice of this number
 abbrev gone : ℕ → Action
@@ -50,7 +50,7 @@ renaming_and_aborting : told_after 4 one_port
     (login 1 a1 ++ event 1 (kind.Internal 1 (message.RenameSuccess (codes "/a") (codes "/b"))) ∷ pasv 1 0 ∷ event 1 (kind.Abor 1) ∷ event 1 (kind.Abor 1) ∷ pasv 1 0 ∷ [])
     ≡ ((
       decision.Told,
-      action.Notify 1 (record { username = codes "ann"; trace_id = record { 0 = 1 }; sequence_number = 2 }) (Data (Renamed (codes "/a") (codes "/b")))
+      second_notice (Data (Renamed (codes "/a") (codes "/b")))
           ∷ say 1 code.FileActionOkay (codes "Renamed") ∷ [],
     )
     ∷ (decision.Granted 50000, say 1 code.EnteringPassiveMode (codes "Entering Passive Mode (10,0,0,9,195,80)") ∷ [])

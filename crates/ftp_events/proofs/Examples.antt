@@ -1,5 +1,5 @@
 -- Worked examples, each by computation.
-use Rattle.std.specs.Prelude.{ℕ, ◌≡◌, ◌++◌, refl, true, false, List, [], ◌∷◌, map, reverse, codes, Option, Some, None, Err}
+use Rattle.std.specs.Prelude.{ℕ, ◌≡◌, ◌++◌, refl, false, List, [], ◌∷◌, map, reverse, codes, Option, Some, None, Err}
 use Rattle.ftp_base.specs.declared.login.AuthAnswer.{AuthAnswer}
 use Rattle.ftp_base.specs.declared.login.AuthAnswer.TheVariants.{Good, Refused}
 use Rattle.ftp_base.specs.declared.login.LockState.TheVariants.{MaxFailuresReached, AlreadyLocked}
@@ -7,7 +7,7 @@ use Rattle.ftp_lockout.specs.Keys.{key_cmp}
 use Rattle.ftp_base.specs.declared.error_kind.ErrorKind.TheVariants as error
 use Rattle.ftp_base.specs.declared.command.DataChanCmd.TheVariants.{Retr, Stor}
 use Rattle.ftp_base.specs.declared.notice.DataEvent.TheVariants.{Got, Put}
-use Rattle.ftp_base.specs.declared.notice.Notice.TheVariants.{Presence, Data}
+use Rattle.ftp_base.specs.declared.notice.Notice.TheVariants.{Presence}
 use Rattle.ftp_base.specs.declared.notice.PresenceEvent.TheVariants as presence
 use Rattle.ftp_base.specs.declared.reply.ReplyCode.TheVariants as code
 use Rattle.ftp_proxy.specs.declared.error.ProxyError.TheVariants as fault
@@ -18,7 +18,7 @@ use Rattle.ftp_events.specs.declared.action.Action.TheVariants as action
 use Rattle.ftp_transfer.specs.declared.job.Completion.TheVariants.{Sent, Written}
 use Rattle.ftp_events.specs.Fate.{Fate, CompletedAt, CancelledAt, AwaitsConnection, AwaitsItsEnd, AwaitsEarlierEnd, fate}
 use Rattle.ftp_events.specs.Right.{log_of}
-use Rattle.ftp_events.proofs.Script.{Event, everything, ticket, ended, addr, two_ports, one_port, all_ports, proxied_ports, own_ports, locking, named_host, both_modes, header, proxied, opened, event, login, pasv, told_after, decided_after, say, data_in, a1, a2}
+use Rattle.ftp_events.proofs.Script.{Event, everything, ticket, ended, addr, two_ports, one_port, all_ports, proxied_ports, own_ports, locking, named_host, both_modes, header, proxied, opened, event, login, pasv, told_after, decided_after, say, data_in, a1, a2, second_notice, finished}
 
 -- the login itself
 a_login : told_after 0 two_ports (login 1 a1)
@@ -163,7 +163,7 @@ connections_made = refl
 ending_frees : told_after 8 one_port
     (login 1 a1 ++ login 2 a1 ++ pasv 1 0 ∷ event 2 (kind.Closed 1) ∷ pasv 2 0 ∷ event 2 (kind.Closed 1) ∷ [])
     ≡ ((decision.Granted 50000, say 1 code.EnteringPassiveMode (codes "Entering Passive Mode (10,0,0,9,195,80)") ∷ [])
-    ∷ (decision.Closed, action.Notify 1 (record { username = codes "ann"; trace_id = record { 0 = 1 }; sequence_number = 2 }) (Presence presence.LoggedOut) ∷ action.Close 1 ∷ [])
+    ∷ (decision.Closed, second_notice (Presence presence.LoggedOut) ∷ action.Close 1 ∷ [])
     ∷ (decision.Granted 50000, say 2 code.EnteringPassiveMode (codes "Entering Passive Mode (10,0,0,9,195,80)") ∷ [])
     ∷ (decision.UnknownNumber, []) ∷ [])
 unfolding everything
@@ -175,7 +175,7 @@ quitting_ends : told_after 8 one_port
     ≡ ((decision.Granted 50000, say 1 code.EnteringPassiveMode (codes "Entering Passive Mode (10,0,0,9,195,80)") ∷ [])
     ∷ (
       decision.Quit,
-      action.Notify 1 (record { username = codes "ann"; trace_id = record { 0 = 1 }; sequence_number = 2 }) (Presence presence.LoggedOut)
+      second_notice (Presence presence.LoggedOut)
           ∷ say 1 code.ClosingControlConnection (codes "Bye!") ∷ action.Close 1 ∷ [],
     )
     ∷ (decision.Granted 50000, say 2 code.EnteringPassiveMode (codes "Entering Passive Mode (10,0,0,9,195,80)") ∷ [])
@@ -199,7 +199,7 @@ quitting_cancels : told_after 6 two_ports
     ≡ ((
       decision.Quit,
       action.Cancelled (ticket 1 1)
-          ∷ action.Notify 1 (record { username = codes "ann"; trace_id = record { 0 = 1 }; sequence_number = 2 }) (Presence presence.LoggedOut)
+          ∷ second_notice (Presence presence.LoggedOut)
           ∷ say 1 code.ClosingControlConnection (codes "Bye!") ∷ action.Close 1 ∷ [],
     )
     ∷ (decision.Turned, action.Close 11 ∷ []) ∷ [])
@@ -220,12 +220,7 @@ download : told_after 5 two_ports
     (login 1 a1 ++ pasv 1 0 ∷ event 1 (kind.Transfer 1 (Retr (codes "a.txt"))) ∷ data_in 11 (addr a1 4001) 50000 ∷ ended 1 1 Sent 5 ∷ [])
     ≡ ((decision.Queued (ticket 1 1), say 1 code.FileStatusOkay (codes "Sending data") ∷ [])
     ∷ (decision.Attached 1, action.Start (ticket 1 1) 11 ∷ [])
-    ∷ (
-      decision.Finished,
-      action.Completed (ticket 1 1) true
-          ∷ action.Notify 1 (record { username = codes "ann"; trace_id = record { 0 = 1 }; sequence_number = 2 }) (Data (Got (codes "/a.txt") 5))
-          ∷ say 1 code.ClosingDataConnection (codes "Successfully sent") ∷ [],
-    ) ∷ [])
+    ∷ finished (Got (codes "/a.txt") 5) (codes "Successfully sent") [] ∷ [])
 unfolding everything
 download = refl
 
@@ -243,12 +238,7 @@ two_transfers : told_after 7 two_ports
     ∷ (decision.Granted 50000, say 1 code.EnteringPassiveMode (codes "Entering Passive Mode (10,0,0,9,195,80)") ∷ [])
     ∷ (decision.Queued (ticket 1 2), say 1 code.FileStatusOkay (codes "Ready to receive data") ∷ [])
     ∷ (decision.Attached 1, [])
-    ∷ (
-      decision.Finished,
-      action.Completed (ticket 1 1) true
-          ∷ action.Notify 1 (record { username = codes "ann"; trace_id = record { 0 = 1 }; sequence_number = 2 }) (Data (Got (codes "/a") 5))
-          ∷ say 1 code.ClosingDataConnection (codes "Successfully sent") ∷ action.Start (ticket 1 2) 12 ∷ [],
-    ) ∷ [])
+    ∷ finished (Got (codes "/a") 5) (codes "Successfully sent") (action.Start (ticket 1 2) 12 ∷ []) ∷ [])
 unfolding everything
 two_transfers = refl
 
@@ -263,7 +253,7 @@ cancelled_and_lost : told_after 6 two_ports
     )
     ∷ (decision.Queued (ticket 1 2), say 1 code.FileStatusOkay (codes "Sending data") ∷ [])
     ∷ (decision.Attached 1, action.Start (ticket 1 2) 11 ∷ [])
-    ∷ (decision.Closed, action.Notify 1 (record { username = codes "ann"; trace_id = record { 0 = 1 }; sequence_number = 2 }) (Presence presence.LoggedOut) ∷ action.Close 1 ∷ [])
+    ∷ (decision.Closed, second_notice (Presence presence.LoggedOut) ∷ action.Close 1 ∷ [])
     ∷ (decision.Finished, action.Completed (ticket 1 2) false ∷ [])
     ∷ (decision.UnknownNumber, []) ∷ [])
 unfolding everything
@@ -279,12 +269,7 @@ upload_in_a_directory : told_after 4 two_ports
     ∷ (decision.Queued (ticket 1 1), say 1 code.FileStatusOkay (codes "Ready to receive data") ∷ [])
     ∷ (decision.CwdOk, say 1 code.FileActionOkay (codes "Successfully changed working directory") ∷ [])
     ∷ (decision.Attached 1, action.Start (ticket 1 1) 11 ∷ [])
-    ∷ (
-      decision.Finished,
-      action.Completed (ticket 1 1) true
-          ∷ action.Notify 1 (record { username = codes "ann"; trace_id = record { 0 = 1 }; sequence_number = 2 }) (Data (Put (codes "/up/n") 2))
-          ∷ say 1 code.ClosingDataConnection (codes "File successfully written") ∷ [],
-    ) ∷ [])
+    ∷ finished (Put (codes "/up/n") 2) (codes "File successfully written") [] ∷ [])
 unfolding everything
 upload_in_a_directory = refl
 

@@ -1,7 +1,6 @@
 -- Worked examples of transfers in pieces: what the definitions say of whole scripts, by computing.
-use Rattle.std.specs.Prelude.{ℕ, ◌≡◌, ◌++◌, refl, true, false, codes, List, [], ◌∷◌, Some}
+use Rattle.std.specs.Prelude.{◌≡◌, ◌++◌, refl, codes, List, [], ◌∷◌}
 use Rattle.ftp_base.specs.declared.command.DataChanCmd.TheVariants.{Retr}
-use Rattle.ftp_base.specs.declared.notice.Notice.TheVariants.{Data}
 use Rattle.ftp_base.specs.declared.notice.DataEvent.TheVariants.{Got}
 use Rattle.ftp_base.specs.declared.reply.ReplyCode.TheVariants as code
 use Rattle.ftp_transfer.specs.declared.job.Completion.TheVariants.{Sent}
@@ -9,9 +8,7 @@ use Rattle.ftp_events.specs.declared.action.Action.TheVariants as action
 use Rattle.ftp_events.specs.declared.decision.Decision.TheVariants as decision
 use Rattle.ftp_events.specs.declared.event.Answer.TheVariants as answer
 use Rattle.ftp_events.specs.declared.event.EventKind.TheVariants as kind
-use Rattle.ftp_events.specs.Fate.{Fate, CompletedAt, CancelledAt, AwaitsItsEnd, fate}
-use Rattle.ftp_events.specs.Right.{log_of}
-use Rattle.ftp_events.proofs.Script.{Event, everything, ticket, done, ended, piece, addr, two_ports, event, login, pasv, told_after, decided_after, say, data_in, a1}
+use Rattle.ftp_events.proofs.Script.{Event, everything, ticket, done, ended, piece, addr, two_ports, event, login, pasv, told_after, decided_after, say, data_in, a1, finished}
 
 -- a login, a PASV, a RETR and its connection
 abbrev begun : List Event
@@ -34,12 +31,7 @@ aborted = refl
 to_its_end : told_after 7 two_ports
     (begun ++ piece 1 1 (answer.Moved 5) ∷ piece 1 1 (done Sent 5) ∷ [])
     ≡ ((decision.Moved, [])
-    ∷ (
-      decision.Finished,
-      action.Completed (ticket 1 1) true
-          ∷ action.Notify 1 (record { username = codes "ann"; trace_id = record { 0 = 1 }; sequence_number = 2 }) (Data (Got (codes "/a") 5))
-          ∷ say 1 code.ClosingDataConnection (codes "Successfully sent") ∷ [],
-    ) ∷ [])
+    ∷ finished (Got (codes "/a") 5) (codes "Successfully sent") [] ∷ [])
 unfolding everything
 to_its_end = refl
 

@@ -1,5 +1,5 @@
 -- A small script language for the examples.
-use Rattle.std.specs.Prelude.{ℕ, ◌≡◌, ◌≤◌, false, Some, ◌+◌, ◌*◌, List, [], ◌∷◌, map, reverse, drop, codes, None, Result, Ok}
+use Rattle.std.specs.Prelude.{ℕ, ◌≡◌, ◌≤◌, true, false, Some, ◌+◌, ◌*◌, List, [], ◌∷◌, map, reverse, drop, codes, None, Result, Ok}
 use Rattle.std.proofs.Common.{lit≤}
 use Rattle.ftp_base.specs.declared.net.IpAddr.{IpAddr}
 use Rattle.ftp_base.specs.declared.net.IpAddr.TheVariants.{V4}
@@ -7,6 +7,10 @@ use Rattle.ftp_base.specs.declared.net.SocketAddr.{SocketAddr}
 use Rattle.ftp_base.specs.declared.login.AuthAnswer.TheVariants.{Good}
 use Rattle.ftp_base.specs.declared.reply.Reply.TheVariants.{CodeAndMsg}
 use Rattle.ftp_base.specs.declared.reply.ReplyCode.{ReplyCode}
+use Rattle.ftp_base.specs.declared.reply.ReplyCode.TheVariants as code
+use Rattle.ftp_base.specs.declared.notice.DataEvent.{DataEvent}
+use Rattle.ftp_base.specs.declared.notice.Notice.{Notice}
+use Rattle.ftp_base.specs.declared.notice.Notice.TheVariants.{Data}
 use Rattle.ftp_options.specs.declared.options.Options.{Options}
 use Rattle.ftp_proxy.specs.declared.error.ProxyError.{ProxyError}
 use Rattle.ftp_proxy.specs.declared.header.ProxyHeader.{ProxyHeader}
@@ -26,6 +30,7 @@ use Rattle.ftp_events.specs.declared.event.EventKind.TheVariants as kind
 use Rattle.ftp_events.specs.declared.event.Answer.{Answer}
 use Rattle.ftp_events.specs.declared.event.Answer.TheVariants as answer
 use Rattle.ftp_events.specs.declared.decision.Decision.{Decision}
+use Rattle.ftp_events.specs.declared.decision.Decision.TheVariants.{Finished}
 use Rattle.ftp_events.specs.declared.action.Action.{Action}
 use Rattle.ftp_events.specs.declared.action.Action.TheVariants as action
 use Rattle.ftp_events.specs.Decide.{decide}
@@ -158,6 +163,15 @@ decided_after n o events = drop n (reverse (map (λ e. e.decision) (log_of o (re
 -- a reply without delay
 abbrev pub say : ℕ → ReplyCode → List ℕ → Action
 say s c text = action.Reply s 0 (CodeAndMsg c text)
+
+-- the second notification about session 1
+abbrev pub second_notice : Notice → Action
+second_notice what = action.Notify 1 (record { username = codes "ann"; trace_id = record { 0 = 1 }; sequence_number = 2 }) what
+
+-- the end of the first transfer of session 1, of which client and listeners are told, and what follows it
+abbrev pub finished : DataEvent → List ℕ → List Action → Decision × List Action
+finished what text rest =
+    (Finished, action.Completed (ticket 1 1) true ∷ second_notice (Data what) ∷ say 1 code.ClosingDataConnection text ∷ rest)
 
 -- two clients
 abbrev pub a1 : IpAddr

@@ -3,9 +3,8 @@
 ghost use Rattle.std.specs.Prelude.{◌≡◌, [], ◌∷◌, ◌++◌, false, map, filter_map, reverse, OnOk, IfOk, if◌then◌else◌};
 ghost use Rattle.std.specs.Option.{option_map};
 ghost use Rattle.ftp_base.specs.declared.net.IpAddr.TheVariants.{V4};
-ghost use Rattle.ftp_events.specs.declared.decision.Decision.TheVariants.{Opened};
 ghost use Rattle.ftp_events.specs.Words.{is_number};
-ghost use Rattle.ftp_events.specs.Log.{past_of, is_refusal, new_number};
+ghost use Rattle.ftp_events.specs.Log.{past_of, is_refusal};
 ghost use Rattle.ftp_events.specs.Opening.{opened_number, opening_by, opener};
 ghost use Rattle.ftp_events.specs.Board.{target, comes_to, is_client, gives_hold, ends_hold, holder};
 ghost use Rattle.ftp_events.specs.Right.{reply_to, replies};
@@ -160,20 +159,7 @@ fn opens(e: &Entry, session: u64) -> bool
     ensures { result ≡ (if is_refusal e.now.decision then false else is_number (opened_number e.now.event.kind e.now.decision) session) }
 {
     match e.decision {
-        Decision::Opened => is_carried(&e.event.kind, session),
-        _ => false,
-    }
-}
-
-// Says whether the event carries the number as new.
-fn is_carried(kind: &EventKind, n: u64) -> bool
-    ensures { result ≡ is_number (new_number kind.now Opened) n }
-{
-    match kind {
-        EventKind::Connect { session, .. } => *session == n,
-        EventKind::Proxied { number, .. }
-        | EventKind::DataIn { number, .. }
-        | EventKind::Accepted { number, .. } => *number == n,
+        Decision::Opened => e.event.kind.new_number(e.decision) == Some(session),
         _ => false,
     }
 }
