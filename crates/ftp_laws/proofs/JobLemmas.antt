@@ -4,11 +4,10 @@ use Rattle.std.specs.Prelude.{◌⊎◌, ◌==◌, count_by, is_some}
 use Rattle.std.specs.Option.{option_and_then, option_or}
 use Rattle.ftp_events.specs.declared.decision.SlotMove.TheVariants.{Links, Queues, Finishes}
 use Rattle.ftp_events.specs.declared.decision.Decision.TheVariants as decision
-use Rattle.ftp_events.specs.declared.session.Slot.TheVariants.{Empty, Waits, Linked}
 use Rattle.ftp_events.specs.Slot.{startable, started_by}
 use Rattle.ftp_events.specs.Classes.{is_stop}
 use Rattle.ftp_events.specs.History.{Nobody, One, All}
-use Rattle.ftp_laws.proofs.Common.{SlotMove, slot_move, moved, starts_by, Options, Running, Ticket, Decision, Entry, EventKind, Pending, Session, Slot, is_number, is_refusal, past_of, job_ticket, named_session, new_number, subject, concerns, opens, history, Lane, with_link, lane_after, queued_in, lane, session, running_job, due, acts_of, completions, stays, slot_of, pending_in, start_acts, starting, IsRight, IsActed}
+use Rattle.ftp_laws.proofs.Common.{SlotMove, slot_move, moved, starts_by, Options, Running, Ticket, Decision, Entry, EventKind, Pending, Session, is_number, is_refusal, past_of, job_ticket, named_session, new_number, subject, concerns, opens, history, Lane, with_link, lane_after, queued_in, lane, session, running_job, due, acts_of, completions, stays, slot_of, pending_in, start_acts, starting, IsRight, IsActed}
 use Rattle.ftp_laws.proofs.SubjectLemmas.{by_subject, concerned, one-concerns, one-own, named-one, not-all, other-plain, stop-all}
 use Rattle.ftp_laws.proofs.StopLemmas.{running-stopped}
 use Rattle.ftp_laws.specs.Jobs.{starts_for, completes_for, started_count, completed_count, is_cut, cuts_for, cut_count}
@@ -20,7 +19,7 @@ use Rattle.ftp_laws.proofs.PortLemmas.{opened-nobody}
 use Rattle.ftp_laws.proofs.LaneLemmas.{IsBare, ended-empty, named-concern}
 use Rattle.ftp_laws.proofs.RunningLemmas.{runs-started, running-after, unused-idle}
 use Rattle.ftp_laws.proofs.CountLemmas.{IsOnTransfers, IsOnStarts, started_in, count-cuttings, count-completions, count-drop_acts, count-about, count-starts, count-nobody}
-use Rattle.ftp_laws.proofs.LinkLemmas.{starting-told}
+use Rattle.ftp_laws.proofs.LinkLemmas.{startable-is, starting-told}
 use Rattle.ftp_laws.proofs.BalanceLemmas.{one, finishes, no-completion, IsFit, cut-known}
 use Rattle.ftp_laws.proofs.PartLemmas.{count-stop-idle}
 use Rattle.ftp_laws.proofs.AccountLemmas.{entry-fit}
@@ -37,23 +36,13 @@ starts_for-on-starts s =
 pub completes_for-on-transfers : (s q : ℕ) → IsOnTransfers q (completes_for s)
 completes_for-on-transfers s q = record { closes = λ m. refl; notifies = λ meta what. refl; replies = λ delay r. refl }
 
--- a job that can start is the only one
-startable-idle :
-    (slot : Slot) (pending : Option Pending) (running : Option Running) (j : Running) →
-    startable slot pending running ≡ Some j → running ≡ None
-startable-idle (Linked n) (Some p) None j e = refl
-startable-idle (Linked n) (Some p) (Some i) j e = cc
-startable-idle (Linked n) None running j e = cc
-startable-idle Empty pending running j e = cc
-startable-idle (Waits port) pending running j e = cc
-
 -- a job that starts and does not follow another is the only one
 pub started-idle :
     (m : SlotMove) (number : Option ℕ) (queued : Option Pending) (l : Lane) (j : Running) →
     finishes m ≡ false →
     starts_by m number queued l ≡ Some j → l.running ≡ None
-started-idle Links number queued l j f e = startable-idle (with_link l.slot number) l.pending l.running j e
-started-idle (Queues t) number queued l j f e = startable-idle l.slot queued l.running j e
+started-idle Links number queued l j f e = (startable-is (with_link l.slot number) l.pending l.running j e).idle
+started-idle (Queues t) number queued l j f e = (startable-is l.slot queued l.running j e).idle
 started-idle m number queued l j f e = cc
 
 -- a job that starts runs then

@@ -52,27 +52,21 @@ with_link-brings m None (Waits port) n a h = cc
 with_link-brings m number Empty n a h = cc
 with_link-brings m number (Linked x) n a h = inl h
 
--- a job starts on the link of its slot
-pub startable-link :
-    (slot : Slot) (pending : Option Pending) (running : Option Running) (j : Running) →
-    startable slot pending running ≡ Some j →
-    link_in slot ≡ Some j.job.number
-startable-link (Linked n) (Some p) None j e = ap (λ (x : Option Running). option_map_or (λ y. Some y.job.number) x None) e
-startable-link (Linked n) (Some p) (Some i) j e = cc
-startable-link (Linked n) None running j e = cc
-startable-link Empty pending running j e = cc
-startable-link (Waits port) pending running j e = cc
+-- a job that can start, by its slot and the job that runs: it has the slot's link and leaves none, and it is the only one
+pub record IsStart (slot : Slot) (pending : Option Pending) (running : Option Running) (j : Running) : Type 0 where
+  pub link : link_in slot ≡ Some j.job.number
+  pub leaves : link_in (lane_of slot pending running).slot ≡ None
+  pub idle : running ≡ None
 
--- a job that starts leaves no link
-pub startable-leaves :
+pub startable-is :
     (slot : Slot) (pending : Option Pending) (running : Option Running) (j : Running) →
-    startable slot pending running ≡ Some j →
-    link_in (lane_of slot pending running).slot ≡ None
-startable-leaves (Linked n) (Some p) None j e = refl
-startable-leaves (Linked n) (Some p) (Some i) j e = cc
-startable-leaves (Linked n) None running j e = cc
-startable-leaves Empty pending running j e = cc
-startable-leaves (Waits port) pending running j e = cc
+    startable slot pending running ≡ Some j → IsStart slot pending running j
+startable-is (Linked n) (Some p) None j e =
+    record { link = ap (λ (x : Option Running). option_map_or (λ y. Some y.job.number) x None) e; leaves = refl; idle = refl }
+startable-is (Linked n) (Some p) (Some i) j e = cc
+startable-is (Linked n) None running j e = cc
+startable-is Empty pending running j e = cc
+startable-is (Waits port) pending running j e = cc
 
 -- a link that is left was there
 pub lane_of-link :
@@ -98,9 +92,9 @@ pub started-brings :
     (m : SlotMove) (number : Option ℕ) (queued : Option Pending) (l : Lane) (j : Running) →
     starts_by m number queued l ≡ Some j →
     Brings m number l.slot j.job.number
-started-brings Links number queued l j e = with_link-brings Links number l.slot j.job.number refl (startable-link (with_link l.slot number) l.pending l.running j e)
-started-brings (Queues ticket) number queued l j e = inl (startable-link l.slot queued l.running j e)
-started-brings Finishes number queued l j e = inl (startable-link l.slot l.pending None j e)
+started-brings Links number queued l j e = with_link-brings Links number l.slot j.job.number refl (startable-is (with_link l.slot number) l.pending l.running j e).link
+started-brings (Queues ticket) number queued l j e = inl (startable-is l.slot queued l.running j e).link
+started-brings Finishes number queued l j e = inl (startable-is l.slot l.pending None j e).link
 started-brings m number queued l j e = cc
 
 -- where a job starts no link is left
@@ -108,9 +102,9 @@ pub started-leaves :
     (m : SlotMove) (number : Option ℕ) (queued : Option Pending) (l : Lane) (j : Running) →
     starts_by m number queued l ≡ Some j →
     link_in (moved m number queued l).slot ≡ None
-started-leaves Links number queued l j e = startable-leaves (with_link l.slot number) l.pending l.running j e
-started-leaves (Queues ticket) number queued l j e = startable-leaves l.slot queued l.running j e
-started-leaves Finishes number queued l j e = startable-leaves l.slot l.pending None j e
+started-leaves Links number queued l j e = (startable-is (with_link l.slot number) l.pending l.running j e).leaves
+started-leaves (Queues ticket) number queued l j e = (startable-is l.slot queued l.running j e).leaves
+started-leaves Finishes number queued l j e = (startable-is l.slot l.pending None j e).leaves
 started-leaves m number queued l j e = cc
 
 -- the link that a PORT leaves alone is the one that comes

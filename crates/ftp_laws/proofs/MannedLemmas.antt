@@ -106,7 +106,7 @@ failed-checking o past at (kind.AuthDone s said) answer lock delay e =
 failed-checking o past at k answer lock delay e = grind arith
 
 -- a session that an entry names and concerns
-own-view :
+pub own-view :
     (o : Options) (past : List Entry) (e : Entry) (n s : ℕ) (u v : Session) →
     e.decision ≡ due o past e.event.at e.event.kind e.answer → concerns o past e s ≡ true →
     named_session e.event.kind ≡ Some n → session o past n ≡ Some u → session o past s ≡ Some v → u ≡ v

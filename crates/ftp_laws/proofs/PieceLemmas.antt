@@ -456,59 +456,46 @@ record IsNew (o : Options) (log : List Entry) (t : Ticket) (l : Lane) : Type 0 w
   idle : is_running t l.running ≡ true → ⊥
   unsettled : 1 ≤ settle_count t log → ⊥
 
--- one that waits is
-waiting-new :
-    (o : Options) (log : List Entry) (t : Ticket) (p : Pending) (s : ℕ) → IsRight o log → IsActed o log → t.session ≡ s →
-    (lane (history o (past_of log) s)).pending ≡ Some p → p.ticket ≡ t →
-    IsNew o log t (lane (history o (past_of log) s))
-waiting-new o log t p s r a own there same =
-    record {
-      idle = λ runs. omega (arith, balance, all.once, ap one runs, ap one pends);
-      unsettled = λ settled. omega (arith, balance, all.once, ap one pends, settled);
-    }
-  where
-    l : Lane
-    l = lane (history o (past_of log) s)
+-- by what is known of all transfers
+module _ (o : Options) (log : List Entry) (t : Ticket) (s : ℕ) (r : IsRight o log) (a : IsActed o log) (own : t.session ≡ s) where
+  abbrev l : Lane
+  l = lane (history o (past_of log) s)
 
-    all : IsAccounted o (past_of log) t (settle_count t log) (queue_count t log)
-    all = accounted o log t r a
+  all : IsAccounted o (past_of log) t (settle_count t log) (queue_count t log)
+  all = accounted o log t r a
 
-    balance : carried t l + settle_count t log ≡ queue_count t log
-    balance = subst (λ (q : ℕ). carried t (lane (history o (past_of log) q)) + settle_count t log ≡ queue_count t log) own all.balance
+  balance : carried t l + settle_count t log ≡ queue_count t log
+  balance = subst (λ (q : ℕ). carried t (lane (history o (past_of log) q)) + settle_count t log ≡ queue_count t log) own all.balance
 
-    pends : is_pending t l.pending ≡ true
-    pends =
-        ap (is_pending t) there
-        ∙ ap (λ (u : Ticket). same_ticket u t) same ∙ same_ticket-refl t
+  -- one that waits is
+  waiting-new : (p : Pending) → l.pending ≡ Some p → p.ticket ≡ t → IsNew o log t l
+  waiting-new p there same =
+      record {
+        idle = λ runs. omega (arith, balance, all.once, ap one runs, ap one pends);
+        unsettled = λ settled. omega (arith, balance, all.once, ap one pends, settled);
+      }
+    where
+      pends : is_pending t l.pending ≡ true
+      pends =
+          ap (is_pending t) there
+          ∙ ap (λ (u : Ticket). same_ticket u t) same ∙ same_ticket-refl t
 
--- so is the next of a session
-next-new :
-    (o : Options) (log : List Entry) (t : Ticket) (s : ℕ) → IsRight o log → IsActed o log → t.session ≡ s →
-    ticket_count (history o (past_of log) s) < t.nr →
-    IsNew o log t (lane (history o (past_of log) s))
-next-new o log t s r a own more =
-    record {
-      idle = λ runs. omega (arith, balance, none, ap one runs);
-      unsettled = λ settled. omega (arith, balance, none, settled);
-    }
-  where
-    l : Lane
-    l = lane (history o (past_of log) s)
+  -- so is the next of a session
+  next-new : ticket_count (history o (past_of log) s) < t.nr → IsNew o log t l
+  next-new more =
+      record {
+        idle = λ runs. omega (arith, balance, none, ap one runs);
+        unsettled = λ settled. omega (arith, balance, none, settled);
+      }
+    where
+      by_number : (queue_count t log ≡ 0) ⊎ (t.nr ≤ ticket_count (history o (past_of log) t.session)) → queue_count t log ≡ 0
+      by_number (inl x) = x
+      by_number (inr x) =
+          let few : t.nr ≤ ticket_count (history o (past_of log) s) = subst (λ (q : ℕ). t.nr ≤ ticket_count (history o (past_of log) q)) own x in
+          absurd (omega (arith, few, more))
 
-    all : IsAccounted o (past_of log) t (settle_count t log) (queue_count t log)
-    all = accounted o log t r a
-
-    balance : carried t l + settle_count t log ≡ queue_count t log
-    balance = subst (λ (q : ℕ). carried t (lane (history o (past_of log) q)) + settle_count t log ≡ queue_count t log) own all.balance
-
-    by_number : (queue_count t log ≡ 0) ⊎ (t.nr ≤ ticket_count (history o (past_of log) t.session)) → queue_count t log ≡ 0
-    by_number (inl x) = x
-    by_number (inr x) =
-        let few : t.nr ≤ ticket_count (history o (past_of log) s) = subst (λ (q : ℕ). t.nr ≤ ticket_count (history o (past_of log) q)) own x in
-        absurd (omega (arith, few, more))
-
-    none : queue_count t log ≡ 0
-    none = by_number all.numbered
+      none : queue_count t log ≡ 0
+      none = by_number all.numbered
 
 -- so no ABOR was to stop it
 new-unaborted :
@@ -583,7 +570,7 @@ marked-own o log e s comes acted n c h r known = by_origin (runs-after (slot_mov
         ∙ sym (unaborted t m e log (aborted ∙ goes) ∙ new-unaborted o log t m s comes.right acted own new)
 
     from : is_aborting e.decision ≡ false → StartsFrom l.pending was.0 ⊎ ((u : Ticket) × (slot_move e.decision ≡ Queues u) × StartsFrom queued was.0) → r.marked ≡ was_aborted t m (e ∷ log)
-    from goes (inl x) = starts goes x.unmarked (waiting-new o log t x.from s comes.right acted own x.there (sym x.ticket ∙ ticket))
+    from goes (inl x) = starts goes x.unmarked (waiting-new o log t s comes.right acted own x.from x.there (sym x.ticket ∙ ticket))
     from goes (inr x) =
         let f : StartsFrom queued was.0 = x.2 in
         let last = (queues-last o past e s x.0 comes.fit c x.1).1 f.from f.there in

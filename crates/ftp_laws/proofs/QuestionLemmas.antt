@@ -68,19 +68,23 @@ session-told o past s v known = told-by s (history o past s) (is_live (history o
 
 -- of an entry after a past
 module _ (o : Options) (past : List Entry) (e : Entry) where
-  -- an entry that neither opens nor concerns a session is not in its history
-  pub history-other :
-      (s : ℕ) →
-      opens e s ≡ false → concerns o past e s ≡ false →
-      history o (e ∷ past) s ≡ history o past s
-  history-other s n c = rw (n, c) refl
+  -- that opens no session s
+  module _ (s : ℕ) (n : opens e s ≡ false) where
+    -- one that does not concern the session is not in its history
+    pub history-other : concerns o past e s ≡ false → history o (e ∷ past) s ≡ history o past s
+    history-other c = rw (n, c) refl
 
-  -- one that concerns it is
-  pub history-own :
-      (s : ℕ) →
-      opens e s ≡ false → concerns o past e s ≡ true →
-      history o (e ∷ past) s ≡ e ∷ history o past s
-  history-own s n c = rw (n, c) refl
+    -- one that concerns it is
+    pub history-own : concerns o past e s ≡ true → history o (e ∷ past) s ≡ e ∷ history o past s
+    history-own c = rw (n, c) refl
+
+    -- what an entry neither opens nor concerns stays
+    pub session-other : concerns o past e s ≡ false → session o (e ∷ past) s ≡ session o past s
+    session-other c = rw (n, c) refl
+
+    -- nor does the job that runs change
+    pub running-other : concerns o past e s ≡ false → running_job o (e ∷ past) s ≡ running_job o past s
+    running-other c = ap (λ h. (lane h).running) (history-other c)
 
   -- a session that is opened has the empty lane
   pub lane-opened : (s : ℕ) → opens e s ≡ true → lane (history o (e ∷ past) s) ≡ empty_lane
@@ -88,20 +92,6 @@ module _ (o : Options) (past : List Entry) (e : Entry) where
       let start : history o (e ∷ past) s ≡ e ∷ [] = rw n refl in
       let bare : lane (e ∷ []) ≡ empty_lane = rw (opened-is e.event.kind e.decision s n) refl in
       ap lane start ∙ bare
-
-  -- what an entry neither opens nor concerns stays
-  pub session-other :
-      (s : ℕ) →
-      opens e s ≡ false → concerns o past e s ≡ false →
-      session o (e ∷ past) s ≡ session o past s
-  session-other s n c = rw (n, c) refl
-
-  -- nor does the job that runs change
-  pub running-other :
-      (s : ℕ) →
-      opens e s ≡ false → concerns o past e s ≡ false →
-      running_job o (e ∷ past) s ≡ running_job o past s
-  running-other s n c = ap (λ h. (lane h).running) (history-other s n c)
 
   -- the session after an entry is said from the entry and the session before it
   pub session-own :

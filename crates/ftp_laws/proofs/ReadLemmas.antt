@@ -16,7 +16,7 @@ use Rattle.ftp_events.specs.LoginRows.{auth_row}
 use Rattle.ftp_events.specs.CommandRows.{if_logged_in, address_row, command_row, own_failures}
 use Rattle.ftp_events.specs.Text.{port_target}
 use Rattle.ftp_events.specs.EndRows.{end_row, piece_row}
-use Rattle.ftp_events.specs.Decide.{if_live, is_at_work, around, can_stop, is_stoppable}
+use Rattle.ftp_events.specs.Decide.{if_live, around, can_stop, is_stoppable}
 use Rattle.ftp_events.specs.Log.{is_stopped}
 use Rattle.ftp_events.specs.Lockout.{failures}
 use Rattle.ftp_events.specs.Acts.{session_acts}
@@ -95,31 +95,18 @@ rows-same o P K (Some s) f g sessions same = rw (sessions s refl) (go (session o
     go None x = refl
     go (Some v) x = same s v refl x
 
--- the session that an event names is at work in both pasts or in neither
-work-same :
-    (o : Options) (P K : List Entry) (k : EventKind) →
+-- of the job of the session that an event names, a test says the same in both pasts
+job-same :
+    (test : Option Running → Bool) (o : Options) (P K : List Entry) (k : EventKind) →
     ((s : ℕ) → named_session k ≡ Some s → running_job o K s ≡ running_job o P s) →
-    is_at_work o K k ≡ is_at_work o P k
-work-same o P K k jobs = go (named_session k) refl
+    option_map_or (λ s. test (running_job o K s)) (named_session k) false ≡ option_map_or (λ s. test (running_job o P s)) (named_session k) false
+job-same test o P K k jobs = go (named_session k) refl
   where
     go :
         (n : Option ℕ) → named_session k ≡ n →
-        option_map_or (λ s. is_some (running_job o K s)) n false ≡ option_map_or (λ s. is_some (running_job o P s)) n false
+        option_map_or (λ s. test (running_job o K s)) n false ≡ option_map_or (λ s. test (running_job o P s)) n false
     go None x = refl
-    go (Some s) x = ap (λ (j : Option Running). is_some j) (jobs s x)
-
--- and a job of it can be stopped in both or in neither
-stop-same :
-    (o : Options) (P K : List Entry) (k : EventKind) →
-    ((s : ℕ) → named_session k ≡ Some s → running_job o K s ≡ running_job o P s) →
-    can_stop o K k ≡ can_stop o P k
-stop-same o P K k jobs = go (named_session k) refl
-  where
-    go :
-        (n : Option ℕ) → named_session k ≡ n →
-        option_map_or (λ s. is_stoppable (running_job o K s)) n false ≡ option_map_or (λ s. is_stoppable (running_job o P s)) n false
-    go None x = refl
-    go (Some s) x = ap is_stoppable (jobs s x)
+    go (Some s) x = ap test (jobs s x)
 
 -- the same is decided on the event in both pasts
 pub due-same :
@@ -152,8 +139,8 @@ due-same o P K at k answer reads =
       holders = λ p. reads.holders s v n x p i;
       failures = failures o P;
       used = is_used P;
-      runs = work-same o P K k reads.jobs i;
-      can_stop = stop-same o P K k reads.jobs i;
+      runs = job-same (λ j. is_some j) o P K k reads.jobs i;
+      can_stop = job-same is_stoppable o P K k reads.jobs i;
       at = at;
     }) k v)
 
