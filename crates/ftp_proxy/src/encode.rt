@@ -1,6 +1,6 @@
 //! The bytes of a header.
 
-ghost use Rattle.std.specs.Prelude.{◌≡◌, ◌↔◌, ℕ, ◌+◌, ◌^◌, ◌<◌, ◌≤◌, ◌++◌, List, false, length, OnOk, IfOk, IsErrOf};
+ghost use Rattle.std.specs.Prelude.{◌≡◌, ◌↔◌, ℕ, ◌+◌, ◌^◌, ◌<◌, ◌≤◌, ◌++◌, List, true, false, Some, length, OnOk, IfOk, IsErrOf};
 ghost use Rattle.ftp_proxy.specs.V2Header.{command_of, suits, ip_bytes, pair_bytes, field_bytes, fields_bytes, block_of, IpFits, PairFits, NumbersFit, IsHeader, IsWrittenAs};
 ghost use Rattle.ftp_proxy.specs.V2Header.{in_two_bytes};
 ghost use Rattle.ftp_proxy.specs.declared.v2_error.Encode2Error.TheVariants.{TooLong, Mismatch};
@@ -38,6 +38,18 @@ pub fn encode2(alloc: Global, header: &Header2) -> Result<Bytes, Encode2Error>
     if !suits(header.family, &header.body) {
         return Err(Encode2Error::Mismatch);
     }
+    match written(alloc, header, len) {
+        Ok(bytes) => Ok(bytes),
+        Err(_) => Err(Encode2Error::OutOfMemory),
+    }
+}
+
+// The bytes of a header, whose block has so many.
+fn written(alloc: Global, header: &Header2, len: u16) -> Result<Bytes, AllocError>
+    requires len { in_two_bytes (length (block_of header.now.body)) ≡ Some len }
+    requires suits { suits header.now.family header.now.body ≡ true }
+    ensures { IfOk result (λ bytes. IsHeader bytes header.now) }
+{
     let mut bytes = Vec::with_capacity(alloc, HEAD + usize::from(len))?;
     bytes.extend_from_slice(&SIGNATURE)?;
     bytes.push(command_of(&header.body))?;

@@ -28,7 +28,9 @@ pub fn fields(alloc: Global, place: usize, bytes: &[u8]) -> Result<Fields, Proxy
         let (field, after) = rest.split_at(len);
         let value = Bytes::from_slice(alloc, &field[FRONT..])?;
         let kind = field[0];
-        fields.push(Field { kind, value })?;
+        let Ok(()) = fields.push(Field { kind, value }) else {
+            return Err(Proxy2Error::OutOfMemory);
+        };
         rest = after;
     }
     Ok(Fields::from_vec(fields))

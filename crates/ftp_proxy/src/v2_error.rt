@@ -1,6 +1,6 @@
 //! Why a header is none, and why one has no bytes.
 
-use std::alloc::{AllocError, AllocFailed};
+use std::alloc::AllocError;
 
 /// Why no header of version 2 was read: the first cause from the left.
 #[derive(Clone, Copy, Debug, PartialEq, Eq)]
@@ -33,17 +33,6 @@ impl From<AllocError> for Proxy2Error {
     }
 }
 
-impl<T: Drop> From<AllocFailed<T>> for Proxy2Error {
-    ghost use Rattle.std.specs.Prelude.{◌≡◌};
-    ghost use Rattle.ftp_proxy.specs.declared.v2_error.Proxy2Error.TheVariants.{OutOfMemory};
-
-    ghost from_gives = { λ _ e. e ≡ OutOfMemory };
-
-    fn from(_: AllocFailed<T>) -> Proxy2Error {
-        Proxy2Error::OutOfMemory
-    }
-}
-
 /// Why a header has no bytes.
 #[derive(Clone, Copy, Debug, PartialEq, Eq)]
 pub enum Encode2Error {
@@ -52,26 +41,4 @@ pub enum Encode2Error {
     /// The body is not of the family that the header names, or a Unix name has not 108 bytes.
     Mismatch,
     OutOfMemory,
-}
-
-impl From<AllocError> for Encode2Error {
-    ghost use Rattle.std.specs.Prelude.{◌≡◌};
-    ghost use Rattle.ftp_proxy.specs.declared.v2_error.Encode2Error.TheVariants.{OutOfMemory};
-
-    ghost from_gives = { λ _ e. e ≡ OutOfMemory };
-
-    fn from(_: AllocError) -> Encode2Error {
-        Encode2Error::OutOfMemory
-    }
-}
-
-impl<T: Drop> From<AllocFailed<T>> for Encode2Error {
-    ghost use Rattle.std.specs.Prelude.{◌≡◌};
-    ghost use Rattle.ftp_proxy.specs.declared.v2_error.Encode2Error.TheVariants.{OutOfMemory};
-
-    ghost from_gives = { λ _ e. e ≡ OutOfMemory };
-
-    fn from(_: AllocFailed<T>) -> Encode2Error {
-        Encode2Error::OutOfMemory
-    }
 }

@@ -24,7 +24,7 @@ loop-rest-preserved c =
     let w = whole_some c.loop-rest.rest.now c.in-Some.len whole in
     let field : field_with (get_or c.split_at.result.0.now 0 0) c.in_ok-value.value ≡ field_of c.loop-rest.rest.now =
     ap (field_with (get_or c.split_at.result.0.now 0 0)) c.in_ok-value.ensures ∙ ap cut_field c.split_at.ensures.front ∙ cut_field_is c.loop-rest.rest.now c.in-Some.len whole in
-    let items = c.in_ok-push.ensures.items ∙ ap (λ (f : Field). c.loop-rest.fields.items ++ f ∷ []) field in
+    let items = c.in-Ok.ensures.items ∙ ap (λ (f : Field). c.loop-rest.fields.items ++ f ∷ []) field in
     let moved = goes_on c.loop-rest.fields.items (c.args.place + (length c.args.bytes.now - length c.loop-rest.rest.now)) c.loop-rest.rest.now c.in-Some.len _ some whole c.loop-rest.invariant.reading in
     let short = length-drop c.in-Some.len c.loop-rest.rest.now in
     let place : c.args.place + (length c.args.bytes.now - length c.loop-rest.rest.now) + c.in-Some.len ≡ c.args.place + (length c.args.bytes.now - length (drop c.in-Some.len c.loop-rest.rest.now)) =

@@ -1,10 +1,10 @@
 use Rattle.std.proofs.Common.{refl}
 use Rattle.ftp_proxy.proofs.HeaderLemmas.{header_made}
-use Rattle.ftp_proxy.proofs.encode.encode2.Goals as goal
+use Rattle.ftp_proxy.proofs.encode.written.Goals as goal
 
-pub returns-clause-spelled : goal.returns-clause-spelled
-returns-clause-spelled c =
-    header_made c.args.header.now c.in-Some.len c.from_vec.result (cc) (cc) c.in_ok-put_body.ensures.fit
+pub returns : goal.returns
+returns c =
+    header_made c.args.header.now c.args.len c.from_vec.result c.requires.len c.requires.suits c.in_ok-put_body.ensures.fit
     (rw (
       c.from_vec.ensures,
       c.in_ok-put_body.ensures.added,
