@@ -10,7 +10,7 @@ ghost use Rattle.ftp_events.specs.CommandRows.{abor_row, if_logged_in};
 ghost use Rattle.ftp_events.specs.Slot.{waiting_port};
 ghost use Rattle.ftp_events.specs.Session.{session_after};
 ghost use Rattle.ftp_events.specs.Acts.{session_acts};
-ghost use Rattle.ftp_handlers.specs.Rooms.{IsReady, CanReply, CanTellDropped, actions_in, twice_in};
+ghost use Rattle.ftp_handlers.specs.Rooms.{IsReady, actions_in, twice_in};
 ghost use Rattle.ftp_handlers.specs.Handlers.{is_abor, goes_on, number_of, held_after};
 
 use crate::closed::release;
@@ -33,8 +33,6 @@ pub fn handle(
 ) -> Decision
     requires of_this_event { IsTrue (is_abor args.now) }
     requires room { IsReady room.old }
-    requires letters { CanReply 64 room.old }
-    requires dropped { CanTellDropped room.old }
     ensures goes_on { IsTrue (goes_on result) }
     ensures decision { result ≡ if_logged_in session.old (abor_row room.old.stops session.old) }
     ensures session { (answer : Answer) (job : Option Running) → session.new ≡ session_after at args.now answer result 0 job session.old }

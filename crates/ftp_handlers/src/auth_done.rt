@@ -16,7 +16,7 @@ ghost use Rattle.ftp_events.specs.LoginRows.{answer_row, auth_row, password_row}
 ghost use Rattle.ftp_events.specs.Session.{session_after};
 ghost use Rattle.ftp_events.specs.Acts.{session_acts};
 ghost use Rattle.ftp_events.specs.Words.{◌⇒◌∣◌};
-ghost use Rattle.ftp_handlers.specs.Rooms.{IsReady, CanReply, actions_in, kept_in, twice_in};
+ghost use Rattle.ftp_handlers.specs.Rooms.{IsReady, actions_in, kept_in, twice_in};
 ghost use Rattle.ftp_handlers.specs.Handlers.{is_auth, goes_on, number_of, kept_by, said_of, notices_of, failures_in, failures_left, policy_in, login_decision, CanCount, HasSpare};
 
 use crate::room::Room;
@@ -49,7 +49,6 @@ pub(crate) fn handle(
 ) -> Decision
     requires of_this_event { IsTrue (is_auth args.now) }
     requires room { IsReady room.old }
-    requires letters { CanReply 64 room.old }
     requires kept { kept_in room.old ≡ kept_by args.now session.old }
     requires count { CanCount failures.old options.now }
     ensures goes_on { IsTrue (goes_on result) }

@@ -12,8 +12,8 @@ ghost use Rattle.ftp_events.specs.CommandRows.{command_row};
 ghost use Rattle.ftp_events.specs.Slot.{waiting_port};
 ghost use Rattle.ftp_events.specs.Session.{session_after};
 ghost use Rattle.ftp_events.specs.Acts.{session_acts};
-ghost use Rattle.ftp_handlers.specs.Rooms.{IsReady, CanReply, CanTellDropped, actions_in, kept_in, telling_in, twice_in};
-ghost use Rattle.ftp_handlers.specs.Handlers.{can_drop, can_reply, is_auth, is_command, is_pasv, goes_on, number_of, kept_by, notices_of, surroundings, telling_for, failures_in, failures_left, policy_in, width_for, CanCount, HasRange, HasRoomFor, held_after};
+ghost use Rattle.ftp_handlers.specs.Rooms.{IsReady, CanReply, actions_in, kept_in, telling_in, twice_in};
+ghost use Rattle.ftp_handlers.specs.Handlers.{can_reply, is_auth, is_command, is_pasv, goes_on, number_of, kept_by, notices_of, surroundings, telling_for, failures_in, failures_left, policy_in, width_for, CanCount, HasRange, HasRoomFor, held_after};
 
 use crate::room::Room;
 use crate::{abor, auth_done, cwd, internal, pass, pasv, port, rest, slot_tick, user};
@@ -44,7 +44,6 @@ pub fn command(
     requires of_this_event { IsTrue (is_command args.now) }
     requires room { IsReady room.old }
     requires letters { IsTrue (can_reply args.now) → CanReply (width_for options.now args.now) room.old }
-    requires dropped { IsTrue (can_drop args.now) → CanTellDropped room.old }
     requires kept { kept_in room.old ≡ kept_by args.now session.old }
     requires telling { telling_in room.old ≡ telling_for args.now }
     requires count { IsTrue (is_auth args.now) → CanCount failures.old options.now }

@@ -6,7 +6,7 @@ ghost use Rattle.ftp_events.specs.declared.event.Answer.{Answer};
 ghost use Rattle.ftp_events.specs.CommandRows.{if_logged_in, cwd_row};
 ghost use Rattle.ftp_events.specs.Session.{session_after};
 ghost use Rattle.ftp_events.specs.Acts.{session_acts};
-ghost use Rattle.ftp_handlers.specs.Rooms.{IsReady, CanReply, actions_in, kept_in, twice_in};
+ghost use Rattle.ftp_handlers.specs.Rooms.{IsReady, actions_in, kept_in, twice_in};
 ghost use Rattle.ftp_handlers.specs.Handlers.{is_cwd, goes_on, number_of, refusal_of, kept_by};
 
 use crate::login::ask_for_login;
@@ -27,7 +27,6 @@ pub fn handle(
 ) -> Decision
     requires of_this_event { IsTrue (is_cwd args.now) }
     requires room { IsReady room.old }
-    requires letters { CanReply 64 room.old }
     requires kept { kept_in room.old ≡ kept_by args.now session.old }
     ensures goes_on { IsTrue (goes_on result) }
     ensures decision { result ≡ if_logged_in session.old (cwd_row (refusal_of args.now)) }

@@ -1,6 +1,6 @@
 //! The ends of transfers (RFC 959, section 5.4).
 
-ghost use Rattle.std.specs.Prelude.{◌≡◌, ◌+◌, ◌<◌, ◌≤◌, ◌^◌, [], ◌∷◌, ◌++◌, length, codes, IsTrue, true, Some};
+ghost use Rattle.std.specs.Prelude.{◌≡◌, ◌+◌, ◌<◌, ◌^◌, [], ◌∷◌, ◌++◌, codes, IsTrue, true, Some};
 ghost use Rattle.ftp_base.specs.declared.notice.Notice.TheVariants.{Data};
 ghost use Rattle.ftp_base.specs.declared.reply.Reply.TheVariants as reply;
 ghost use Rattle.ftp_base.specs.declared.reply.ReplyCode.TheVariants as code;
@@ -10,7 +10,7 @@ ghost use Rattle.ftp_events.specs.declared.event.Answer.TheVariants.{Done};
 ghost use Rattle.ftp_events.specs.declared.event.EventKind.TheVariants.{End};
 ghost use Rattle.ftp_events.specs.Acts.{cuttings, notice_and_reply};
 ghost use Rattle.ftp_events.specs.Login.{logged_user};
-ghost use Rattle.ftp_handlers.specs.Rooms.{IsReady, CanReply, CanTellDropped, HasCopy, HasPlace, HasPlaces, actions_in, kept_in, len_in, twice_in};
+ghost use Rattle.ftp_handlers.specs.Rooms.{IsReady, HasCopy, HasPlace, HasPlaces, actions_in, kept_in, len_in, twice_in};
 ghost use Rattle.ftp_handlers.specs.Handlers.{with_end};
 
 use crate::room::Room;
@@ -24,8 +24,7 @@ use ftp_transfer::{Completion, Outcome};
 /// # Proved
 ///
 /// - The end of a transfer whose session is live: its restart offset and notices, what is told, and slot and waiting
-///   transfer as before, if the room is ready, has room for a reply, and has the name of the user (`session`,
-///   `actions`, `slot`, `pending`).
+///   transfer as before, if the room is ready and has the name of the user (`session`, `actions`, `slot`, `pending`).
 pub fn deliver(
     session: &mut Session,
     job: Running,
@@ -35,7 +34,6 @@ pub fn deliver(
     options: &Options,
 )
     requires room { IsReady room.old }
-    requires letters { CanReply 64 room.old }
     requires kept { kept_in room.old ≡ logged_user session.old.login session.old.name }
     requires path { HasCopy room.old job.job.path }
     ensures session { session.old.notices + 1 < 2 ^ 64 → session.new ≡ with_end at (End job.job.ticket) (Done outcome) session.old }
@@ -91,12 +89,10 @@ pub fn deliver(
 /// # Proved
 ///
 /// - A transfer that is cut: the session is at work at that moment, and is told 426 and then 226, the link between them
-///   closed, if the room is ready, with five places, and has room for both replies (`session`, `actions`).
+///   closed, if the room is ready, with five places (`session`, `actions`).
 pub fn cut(session: &mut Session, job: &Running, room: &mut Room, at: u64)
     requires room { IsReady room.old }
     requires places { HasPlaces 5 room.old }
-    requires letters { CanReply 64 room.old }
-    requires dropped { CanTellDropped room.old }
     ensures session { session.new ≡ record session.old { active_at = at } }
     ensures actions { actions_in room.new ≡ cuttings job.now.job.ticket.session true (Some job.now) ++ action.Reply job.now.job.ticket.session 0 (reply.CodeAndMsg code.ClosingDataConnection (codes "Closed data channel")) ∷ [] }
     ensures place { HasPlace room.new }
@@ -122,9 +118,6 @@ fn moved(
     room: &mut Room,
 )
     requires places { HasPlaces 2 room.old }
-    requires empty { room.old.text.items ≡ [] }
-    requires letters { CanReply 64 room.old }
-    requires short { length text.now ≤ 64 }
     requires equal { IsTrue (twice_in room.old) → copy ≡ what }
     ensures session { session.old.notices + 1 < 2 ^ 64 → session.new ≡ record session.old { offset = 0; notices = session.old.notices + 1 } }
     ensures actions { session.old.notices + 1 < 2 ^ 64 → actions_in room.new ≡ actions_in room.old ++ action.Notify number (record { username = kept_in room.old; trace_id = record { 0 = session.old.opening.trace }; sequence_number = session.old.notices + 1 }) (Data what) ∷ action.Reply number 0 (reply.CodeAndMsg code.ClosingDataConnection text.now) ∷ [] }

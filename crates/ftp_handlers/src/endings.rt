@@ -9,8 +9,8 @@ ghost use Rattle.ftp_events.specs.Acts.{session_acts};
 ghost use Rattle.ftp_events.specs.Classes.{is_ending};
 ghost use Rattle.ftp_events.specs.CommandRows.{Around, command_row};
 ghost use Rattle.ftp_events.specs.Slot.{waiting_port};
-ghost use Rattle.ftp_handlers.specs.Rooms.{CanReply, IsReady, actions_in, kept_in, twice_in};
-ghost use Rattle.ftp_handlers.specs.Handlers.{can_reply, ends_session, held_after, kept_by, number_of, places_for};
+ghost use Rattle.ftp_handlers.specs.Rooms.{IsReady, actions_in, kept_in, twice_in};
+ghost use Rattle.ftp_handlers.specs.Handlers.{ends_session, held_after, kept_by, number_of, places_for};
 
 use crate::room::Room;
 use crate::{closed, quit, timed_out};
@@ -30,7 +30,6 @@ pub fn ending(
     requires of_this_event { IsTrue (ends_session args.now) }
     requires room { IsReady room.old }
     requires places { places_for args.now ≤ room.old.places }
-    requires letters { IsTrue (can_reply args.now) → CanReply 64 room.old }
     requires kept { kept_in room.old ≡ kept_by args.now session.old }
     ensures ends { IsTrue (is_ending result) }
     ensures decision { (around : Around) → IsTrue (is_ending (command_row options.now around args.now session.old)) → result ≡ command_row options.now around args.now session.old }

@@ -6,7 +6,7 @@ ghost use Rattle.ftp_events.specs.declared.event.Answer.{Answer};
 ghost use Rattle.ftp_events.specs.LoginRows.{pass_row};
 ghost use Rattle.ftp_events.specs.Session.{session_after};
 ghost use Rattle.ftp_events.specs.Acts.{session_acts};
-ghost use Rattle.ftp_handlers.specs.Rooms.{IsReady, CanReply, actions_in, twice_in};
+ghost use Rattle.ftp_handlers.specs.Rooms.{IsReady, actions_in, twice_in};
 ghost use Rattle.ftp_handlers.specs.Handlers.{is_pass, goes_on, number_of};
 
 use crate::room::Room;
@@ -20,11 +20,10 @@ use ftp_switchboard::Switchboard;
 /// # Proved
 ///
 /// - PASS, PASV, PORT, REST and CWD: the decision of the row, the session afterwards, the actions, and who holds which
-///   port; the session goes on, if the event is of this word, the room is ready, has room for a reply and keeps what
-///   the event needs, and for a PASV or PORT it has room for a reply on a transfer that is dropped; where sessions
-///   share the ports, the board has the range, and for a PASV room (`decision`, `session`, `actions`, `board`,
-///   `goes_on`; also `rest::handle`, `cwd::handle`; also `pasv::handle`, `port::handle`: `decision`, `session`,
-///   `actions`, `holders`, `alone`, `range`, `goes_on`).
+///   port; the session goes on, if the event is of this word, the room is ready, keeps what the event needs, and for a
+///   PASV or REST has room for a reply; where sessions share the ports, the board has the range, and for a PASV room
+///   (`decision`, `session`, `actions`, `board`, `goes_on`; also `rest::handle`, `cwd::handle`; also `pasv::handle`,
+///   `port::handle`: `decision`, `session`, `actions`, `holders`, `alone`, `range`, `goes_on`).
 pub fn handle(
     session: &mut Session,
     args: &EventKind,
@@ -35,7 +34,6 @@ pub fn handle(
 ) -> Decision
     requires of_this_event { IsTrue (is_pass args.now) }
     requires room { IsReady room.old }
-    requires letters { CanReply 64 room.old }
     ensures goes_on { IsTrue (goes_on result) }
     ensures decision { result ≡ pass_row session.old.login }
     ensures session { (answer : Answer) (job : Option Running) → session.new ≡ session_after at args.now answer result 0 job session.old }

@@ -21,7 +21,7 @@ ghost use Rattle.ftp_events.specs.Reply.{lookup_of, passive_reply, unshown};
 ghost use Rattle.ftp_events.specs.Slot.{waiting_port};
 ghost use Rattle.ftp_events.specs.Session.{session_after};
 ghost use Rattle.ftp_events.specs.Acts.{reply_acts, session_acts};
-ghost use Rattle.ftp_handlers.specs.Rooms.{IsReady, CanReply, CanTellDropped, HasPlace, actions_in, twice_in};
+ghost use Rattle.ftp_handlers.specs.Rooms.{IsReady, CanReply, HasPlace, actions_in, twice_in};
 ghost use Rattle.ftp_handlers.specs.Handlers.{is_pasv, goes_on, number_of, notices_of, word_of, bound_of, held_for, held_after, held_with, passive_width, width_for, HasRange, HasRoomFor};
 
 use crate::login::ask_for_login;
@@ -53,7 +53,6 @@ pub fn handle(
     requires of_this_event { IsTrue (is_pasv args.now) }
     requires room { IsReady room.old }
     requires letters { CanReply (width_for options.now args.now) room.old }
-    requires dropped { CanTellDropped room.old }
     requires range { is_legacy options.now.mode ≡ false → HasRange board.old options.now }
     requires board_room { is_legacy options.now.mode ≡ false → HasRoomFor board.old session.old }
     requires looks { looks.old ≤ u64.MAX - 1059 }
@@ -104,7 +103,6 @@ fn take_bound(
     requires of_this_event { IsTrue (is_pasv args.now) }
     requires room { IsReady room.old }
     requires letters { CanReply (width_for options.now args.now) room.old }
-    requires dropped { CanTellDropped room.old }
     ensures goes_on { IsTrue (goes_on result) }
     ensures decision { result ≡ bound_row options.now session.old (lookup_of args.now) (bound_of args.now) }
     ensures session { (answer : Answer) (job : Option Running) → session.new ≡ session_after at args.now answer result (notices_of args.now result answer) job session.old }
@@ -146,7 +144,6 @@ fn take_free(
     requires of_this_event { IsTrue (is_pasv args.now) }
     requires room { IsReady room.old }
     requires letters { CanReply (width_for options.now args.now) room.old }
-    requires dropped { CanTellDropped room.old }
     requires board_room { HasRoomFor board.old session.old }
     requires looks { looks.old ≤ u64.MAX - 1059 }
     ensures goes_on { IsTrue (goes_on result) }
@@ -222,7 +219,6 @@ fn grant(
     requires looked_up { lacks_lookup options.now.host (lookup_of args.now) ≡ false }
     requires room { IsReady room.old }
     requires letters { CanReply (width_for options.now args.now) room.old }
-    requires dropped { CanTellDropped room.old }
     ensures decision { result ≡ decision.Granted port }
     ensures session { session.new ≡ record session.old { slot = Waits port; slot_at = at; pending = None } }
     ensures actions { (answer : Answer) (job : Option Running) → actions_in room.new ≡ session_acts options.now (number_of args.now) args.now answer result job (Some session.old) }
@@ -273,7 +269,6 @@ fn tell_passive(
 // Tells the client that there is no port for it.
 fn tell_full(number: u64, room: &mut Room) -> Decision
     requires room { IsReady room.old }
-    requires letters { CanReply 64 room.old }
     ensures decision { result ≡ decision.Full }
     ensures actions { actions_in room.new ≡ action.Reply number 0 (reply.CodeAndMsg code.CantOpenDataConnection (codes "Could not allocate passive port")) ∷ [] }
     ensures twice { twice_in room.new ≡ twice_in room.old }
@@ -312,7 +307,6 @@ fn tell_unresolved(
 // Tells the client that no socket was bound for it.
 fn tell_no_socket(number: u64, room: &mut Room) -> Decision
     requires room { IsReady room.old }
-    requires letters { CanReply 64 room.old }
     ensures decision { result ≡ decision.NoSocket }
     ensures actions { actions_in room.new ≡ action.Reply number 0 (reply.CodeAndMsg code.CantOpenDataConnection (codes "No data connection established")) ∷ [] }
     ensures twice { twice_in room.new ≡ twice_in room.old }
@@ -324,8 +318,6 @@ fn tell_no_socket(number: u64, room: &mut Room) -> Decision
 // Tells the client that there is no connection.
 fn tell_none(number: u64, room: &mut Room)
     requires place { HasPlace room.old }
-    requires empty { room.old.text.items ≡ [] }
-    requires letters { CanReply 64 room.old }
     ensures actions { actions_in room.new ≡ actions_in room.old ++ action.Reply number 0 (reply.CodeAndMsg code.CantOpenDataConnection (codes "No data connection established")) ∷ [] }
     ensures same { room.new ≡ record room.old { actions = room.new.actions; text = room.new.text } }
 {

@@ -15,7 +15,7 @@ ghost use Rattle.ftp_events.specs.CommandRows.{if_logged_in, port_row};
 ghost use Rattle.ftp_events.specs.Slot.{waiting_port};
 ghost use Rattle.ftp_events.specs.Session.{session_after};
 ghost use Rattle.ftp_events.specs.Acts.{cancellations, closings, link_in, session_acts};
-ghost use Rattle.ftp_handlers.specs.Rooms.{IsReady, CanReply, CanTellDropped, actions_in, twice_in};
+ghost use Rattle.ftp_handlers.specs.Rooms.{IsReady, actions_in, twice_in};
 ghost use Rattle.ftp_handlers.specs.Handlers.{is_port, goes_on, number_of, notices_of, text_of, made_of, held_after, held_without};
 
 use crate::closed::release;
@@ -38,8 +38,6 @@ pub fn handle(
 ) -> Decision
     requires of_this_event { IsTrue (is_port args.now) }
     requires room { IsReady room.old }
-    requires letters { CanReply 64 room.old }
-    requires dropped { CanTellDropped room.old }
     ensures goes_on { IsTrue (goes_on result) }
     ensures decision { result ≡ if_logged_in session.old (port_row options.now (λ n. room.old.used) (text_of args.now) (made_of args.now) session.old) }
     ensures session { (answer : Answer) (job : Option Running) → session.new ≡ session_after at args.now answer result (notices_of args.now result answer) job session.old }
@@ -104,8 +102,6 @@ fn connect(
     options: &Options,
 ) -> Decision
     requires room { IsReady room.old }
-    requires letters { CanReply 64 room.old }
-    requires dropped { CanTellDropped room.old }
     ensures decision { result ≡ PortOk }
     ensures session { session.new ≡ record session.old { slot = Linked made; slot_at = at; pending = None } }
     ensures actions { actions_in room.new ≡ cancellations number true session.old.pending ++ closings (link_in session.old.slot) ++ action.Reply number 0 (reply.CodeAndMsg code.CommandOkay (codes "PORT command successful")) ∷ [] }
@@ -128,7 +124,6 @@ fn connect(
 // Tells the client that the connection that it asked for was not made.
 fn tell_unmade(number: u64, room: &mut Room)
     requires room { IsReady room.old }
-    requires letters { CanReply 64 room.old }
     ensures actions { actions_in room.new ≡ action.Reply number 0 (reply.CodeAndMsg code.CantOpenDataConnection (codes "Could not establish data connection")) ∷ [] }
     ensures twice { twice_in room.new ≡ twice_in room.old }
 {

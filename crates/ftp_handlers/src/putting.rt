@@ -7,7 +7,7 @@ ghost use Rattle.ftp_base.specs.declared.reply.ReplyCode.TheVariants as code;
 ghost use Rattle.ftp_events.specs.declared.action.Action.TheVariants as action;
 ghost use Rattle.ftp_events.specs.Acts.{cancellations, cancelled, closings, link_in, reply_acts};
 ghost use Rattle.ftp_events.specs.Text.{passive_text, offset_text};
-ghost use Rattle.ftp_handlers.specs.Rooms.{CanReply, CanTellDropped, HasPlace, HasPlaces, actions_in, is_plain, kept_in, len_in, twice_in};
+ghost use Rattle.ftp_handlers.specs.Rooms.{CanReply, HasPlace, HasPlaces, actions_in, is_plain, kept_in, len_in, twice_in};
 
 use crate::copies::Text;
 use crate::room::Room;
@@ -92,9 +92,7 @@ impl Room {
 
     /// A transfer is dropped, and its session is told.
     pub fn cancel_and_tell(&mut self, session: u64, pending: Option<Pending>)
-        requires places { HasPlaces 2 self.old }
-        requires empty { self.old.dropped.items ≡ [] }
-        requires room { CanTellDropped self.old }
+        requires { HasPlaces 2 self.old }
         ensures actions { actions_in self.new ≡ actions_in self.old ++ cancellations session true pending }
         ensures len { len_in self.new ≤ len_in self.old + 2 }
         ensures same { self.new ≡ record self.old { actions = self.new.actions; dropped = self.new.dropped } }
@@ -119,9 +117,7 @@ impl Room {
 
     /// A transfer is cut that ran on this link, and its session is told.
     pub fn cut_and_tell(&mut self, session: u64, ticket: Ticket, number: u64)
-        requires places { HasPlaces 3 self.old }
-        requires empty { self.old.dropped.items ≡ [] }
-        requires room { CanTellDropped self.old }
+        requires { HasPlaces 3 self.old }
         ensures actions { actions_in self.new ≡ actions_in self.old ++ cancelled session true ticket ++ closings (Some number) }
         ensures len { len_in self.new ≡ len_in self.old + 3 }
         ensures same { self.new ≡ record self.old { actions = self.new.actions; dropped = self.new.dropped } }
@@ -133,9 +129,7 @@ impl Room {
 
     // Tells a session that its transfer is dropped.
     fn tell_dropped(&mut self, session: u64)
-        requires place { HasPlace self.old }
-        requires empty { self.old.dropped.items ≡ [] }
-        requires room { CanTellDropped self.old }
+        requires { HasPlace self.old }
         ensures actions { actions_in self.new ≡ actions_in self.old ++ action.Reply session 0 (reply.CodeAndMsg code.ConnectionClosed (codes "Datachannel unexpectedly closed")) ∷ [] }
         ensures len { len_in self.new ≡ len_in self.old + 1 }
         ensures same { self.new ≡ record self.old { actions = self.new.actions; dropped = self.new.dropped } }
@@ -276,12 +270,9 @@ impl Room {
         );
     }
 
-    /// Sends a reply at once; its text has at most 64 bytes.
+    /// Sends words of the program as a reply at once.
     pub fn reply(&mut self, session: u64, code: ReplyCode, words: &'static [u8])
-        requires place { HasPlace self.old }
-        requires empty { self.old.text.items ≡ [] }
-        requires room { CanReply 64 self.old }
-        requires short { length words.now ≤ 64 }
+        requires { HasPlace self.old }
         ensures actions { actions_in self.new ≡ actions_in self.old ++ action.Reply session 0 (reply.CodeAndMsg code words.now) ∷ [] }
         ensures len { len_in self.new ≡ len_in self.old + 1 }
         ensures same { self.new ≡ record self.old { actions = self.new.actions; text = self.new.text } }
@@ -289,12 +280,9 @@ impl Room {
         self.reply_late(session, 0, code, words);
     }
 
-    /// Sends a reply after a delay in milliseconds; its text has at most 64 bytes.
+    /// Sends words of the program as a reply after a delay in milliseconds.
     pub fn reply_late(&mut self, session: u64, delay: u32, code: ReplyCode, words: &'static [u8])
-        requires place { HasPlace self.old }
-        requires empty { self.old.text.items ≡ [] }
-        requires room { CanReply 64 self.old }
-        requires short { length words.now ≤ 64 }
+        requires { HasPlace self.old }
         ensures actions { actions_in self.new ≡ actions_in self.old ++ action.Reply session delay (reply.CodeAndMsg code words.now) ∷ [] }
         ensures len { len_in self.new ≡ len_in self.old + 1 }
         ensures same { self.new ≡ record self.old { actions = self.new.actions; text = self.new.text } }

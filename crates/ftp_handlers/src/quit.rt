@@ -8,7 +8,7 @@ ghost use Rattle.ftp_events.specs.declared.event.Answer.{Answer};
 ghost use Rattle.ftp_events.specs.declared.decision.Decision.TheVariants.{Quit};
 ghost use Rattle.ftp_events.specs.Slot.{waiting_port};
 ghost use Rattle.ftp_events.specs.Acts.{session_acts};
-ghost use Rattle.ftp_handlers.specs.Rooms.{CanReply, HasPlaces, IsReady, actions_in, kept_in, twice_in};
+ghost use Rattle.ftp_handlers.specs.Rooms.{HasPlaces, IsReady, actions_in, kept_in, twice_in};
 ghost use Rattle.ftp_handlers.specs.Handlers.{is_quit, number_of, kept_by, held_after};
 
 use crate::closed::leave;
@@ -23,9 +23,9 @@ use ftp_switchboard::Switchboard;
 /// # Proved
 ///
 /// - QUIT and the end of a control connection: the decision of the row, the actions, and who holds which port
-///   afterwards, if the event is of this word, the room is ready, for QUIT with a place more and room for a reply; for
-///   `actions` the count of notices is not at its end (`decision`, `actions`, `holders`, `range`; also
-///   `closed::handle`; also `ending`: `ends`, `decision`, `actions`, `holders`, `range`).
+///   afterwards, if the event is of this word, the room is ready, for QUIT with a place more; for `actions` the count of
+///   notices is not at its end (`decision`, `actions`, `holders`, `range`; also `closed::handle`; also `ending`: `ends`,
+///   `decision`, `actions`, `holders`, `range`).
 pub fn handle(
     session: &mut Session,
     args: &EventKind,
@@ -37,7 +37,6 @@ pub fn handle(
     requires of_this_event { IsTrue (is_quit args.now) }
     requires room { IsReady room.old }
     requires places { HasPlaces 5 room.old }
-    requires letters { CanReply 64 room.old }
     requires kept { kept_in room.old ≡ kept_by args.now session.old }
     ensures decision { result ≡ Quit }
     ensures actions { session.old.notices + 1 < 2 ^ 64 → (answer : Answer) (job : Option Running) → actions_in room.new ≡ session_acts options.now (number_of args.now) args.now answer result job (Some session.old) }

@@ -6,7 +6,7 @@ ghost use Rattle.ftp_events.specs.declared.event.Answer.{Answer};
 ghost use Rattle.ftp_events.specs.CommandRows.{slot_limit, slot_row};
 ghost use Rattle.ftp_events.specs.Session.{session_after};
 ghost use Rattle.ftp_events.specs.Acts.{session_acts};
-ghost use Rattle.ftp_handlers.specs.Rooms.{IsReady, CanTellDropped, actions_in, twice_in};
+ghost use Rattle.ftp_handlers.specs.Rooms.{IsReady, actions_in, twice_in};
 ghost use Rattle.ftp_handlers.specs.Handlers.{is_slot_tick, goes_on, number_of};
 
 use crate::room::Room;
@@ -32,7 +32,6 @@ pub(crate) fn handle(
 ) -> Decision
     requires of_this_event { IsTrue (is_slot_tick args.now) }
     requires room { IsReady room.old }
-    requires dropped { CanTellDropped room.old }
     ensures goes_on { IsTrue (goes_on result) }
     ensures decision { result ≡ slot_row options.now at session.old }
     ensures session { (answer : Answer) (job : Option Running) → session.new ≡ session_after at args.now answer result 0 job session.old }

@@ -8,7 +8,7 @@ ghost use Rattle.ftp_events.specs.declared.event.Answer.{Answer};
 ghost use Rattle.ftp_events.specs.declared.decision.Decision.TheVariants.{TimedOut};
 ghost use Rattle.ftp_events.specs.Slot.{waiting_port};
 ghost use Rattle.ftp_events.specs.Acts.{session_acts};
-ghost use Rattle.ftp_handlers.specs.Rooms.{CanReply, HasPlaces, IsReady, actions_in, kept_in, twice_in};
+ghost use Rattle.ftp_handlers.specs.Rooms.{HasPlaces, IsReady, actions_in, kept_in, twice_in};
 ghost use Rattle.ftp_handlers.specs.Handlers.{is_idle_tick, number_of, kept_by, held_after};
 
 use crate::closed::leave;
@@ -30,7 +30,6 @@ pub(crate) fn handle(
     requires of_this_event { IsTrue (is_idle_tick args.now) }
     requires room { IsReady room.old }
     requires places { HasPlaces 5 room.old }
-    requires letters { CanReply 64 room.old }
     requires kept { kept_in room.old ≡ kept_by args.now session.old }
     ensures decision { result ≡ TimedOut }
     ensures actions { session.old.notices + 1 < 2 ^ 64 → (answer : Answer) (job : Option Running) → actions_in room.new ≡ session_acts options.now (number_of args.now) args.now answer result job (Some session.old) }

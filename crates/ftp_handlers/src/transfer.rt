@@ -1,13 +1,13 @@
 //! RETR, STOR, APPE, LIST, NLST, STOU (RFC 959, section 4.1.3) and MLSD (RFC 3659, section 7).
 
-ghost use Rattle.std.specs.Prelude.{◌≡◌, ◌≤◌, ℕ, IsTrue, Option, length};
+ghost use Rattle.std.specs.Prelude.{◌≡◌, ℕ, IsTrue, Option};
 ghost use Rattle.ftp_events.specs.declared.session.Running.{Running};
 ghost use Rattle.ftp_events.specs.declared.event.Answer.{Answer};
 ghost use Rattle.ftp_events.specs.declared.event.EventKind.TheVariants.{Transfer};
 ghost use Rattle.ftp_events.specs.Acts.{notice_and_reply};
 ghost use Rattle.ftp_events.specs.CommandRows.{if_logged_in, transfer_row, can_queue};
 ghost use Rattle.ftp_events.specs.Reply.{queued_text};
-ghost use Rattle.ftp_handlers.specs.Rooms.{IsReady, CanReply, HasPlace, actions_in, kept_in, twice_in};
+ghost use Rattle.ftp_handlers.specs.Rooms.{IsReady, HasPlace, actions_in, kept_in, twice_in};
 ghost use Rattle.ftp_handlers.specs.Handlers.{is_transfer, IsFew, number_of, kept_by, asked_for, with_queued};
 
 use crate::login::ask_for_login;
@@ -36,7 +36,6 @@ pub fn handle(
 ) -> Decision
     requires of_this_event { IsTrue (is_transfer args.now) }
     requires room { IsReady room.old }
-    requires letters { CanReply 64 room.old }
     requires kept { kept_in room.old ≡ kept_by args.now session.old }
     requires pending { room.old.pending ≡ asked_for args.now session.old }
     ensures decision { IsFew session.old → result ≡ if_logged_in session.old (transfer_row (number_of args.now) session.old) }
@@ -90,8 +89,7 @@ fn can_queue(session: &Session) -> bool
 
 // What is told of a transfer that is queued.
 fn ready_text(command: &DataChanCmd) -> &'static [u8]
-    ensures text { (s : ℕ) → result.now ≡ queued_text (Transfer s command.now) }
-    ensures short { length result.now ≤ 64 }
+    ensures { (s : ℕ) → result.now ≡ queued_text (Transfer s command.now) }
 {
     match command {
         DataChanCmd::Retr { .. } => b"Sending data",

@@ -6,7 +6,7 @@ ghost use Rattle.ftp_events.specs.declared.event.Answer.{Answer};
 ghost use Rattle.ftp_events.specs.LoginRows.{user_row};
 ghost use Rattle.ftp_events.specs.Session.{session_after};
 ghost use Rattle.ftp_events.specs.Acts.{session_acts};
-ghost use Rattle.ftp_handlers.specs.Rooms.{IsReady, CanReply, actions_in, kept_in, twice_in};
+ghost use Rattle.ftp_handlers.specs.Rooms.{IsReady, actions_in, kept_in, twice_in};
 ghost use Rattle.ftp_handlers.specs.Handlers.{is_user, goes_on, number_of, kept_by};
 
 use crate::room::Room;
@@ -26,7 +26,6 @@ pub(crate) fn handle(
 ) -> Decision
     requires of_this_event { IsTrue (is_user args.now) }
     requires room { IsReady room.old }
-    requires letters { CanReply 64 room.old }
     requires kept { kept_in room.old ≡ kept_by args.now session.old }
     ensures goes_on { IsTrue (goes_on result) }
     ensures decision { result ≡ user_row session.old.login }

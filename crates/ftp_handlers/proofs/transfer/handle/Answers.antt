@@ -23,5 +23,5 @@ returns-in-Transfer-args-clause-actions c answer job =
     ] in
     c.reply-in-Transfer-args.ensures.actions
     ∙ ap (λ before. before ++ tell c.match-args.number c.ready_text.result.now) empty
-    ∙ ap (tell c.match-args.number) (c.ready_text.ensures.text c.in-Transfer-args.session ∙ ap queued_text (sym c.in-Transfer-args.is))
+    ∙ ap (tell c.match-args.number) (c.ready_text.ensures c.in-Transfer-args.session ∙ ap queued_text (sym c.in-Transfer-args.is))
     ∙ ap (λ s. tell s (queued_text k)) number
