@@ -1,50 +1,41 @@
-use Rattle.std.proofs.Common.{◌≡◌, sym, ap, ◌∙◌, ℕ}
+use Rattle.std.proofs.Common.{◌≡◌, sym, ap, ◌∙◌, ℕ, Option}
 use Rattle.ftp_events.specs.declared.decision.Decision.{Decision}
+use Rattle.ftp_events.specs.declared.event.Answer.{Answer}
 use Rattle.ftp_events.specs.declared.event.EventKind.{EventKind}
+use Rattle.ftp_events.specs.declared.session.Running.{Running}
+use Rattle.ftp_events.specs.declared.session.Session.{Session}
 use Rattle.ftp_events.specs.Session.{session_after}
 use Rattle.ftp_handlers.specs.Handlers.{notices_of, refusal_of}
 use Rattle.ftp_handlers.proofs.SilentRows.{abor-silent, cwd-silent, pass-silent, rest-silent, slot-silent, user-silent}
 use Rattle.ftp_handlers.proofs.commands.command.Goals as goal
 
+-- a decision that notifies nobody leaves the session without a notice
+without_notice : (at : ℕ) (k : EventKind) (answer : Answer) (d row : Decision) (job : Option Running) (old new : Session) → d ≡ row → notices_of k row answer ≡ 0 →
+    new ≡ session_after at k answer d 0 job old → new ≡ session_after at k answer d (notices_of k d answer) job old
+without_notice at k answer d row job old new is silent same =
+    same ∙ ap (λ (n : ℕ). session_after at k answer d n job old) (sym (ap (λ (d : Decision). notices_of k d answer) is ∙ silent))
+
 -- none of these commands notifies anybody
 pub returns-in-User-clause-session : goal.returns-in-User-clause-session
 returns-in-User-clause-session c few answer job =
-    let k : EventKind = c.args.args.now in
-    let d : Decision = c.handle.result in
-    let silent : notices_of k d answer ≡ 0 = ap (λ (d : Decision). notices_of k d answer) c.handle.ensures.decision ∙ user-silent k answer c.args.session.now.login in
-    c.handle.ensures.session answer job ∙ ap (λ (n : ℕ). session_after c.args.at k answer d n job c.args.session.now) (sym silent)
+    without_notice c.args.at c.args.args.now answer c.handle.result _ job c.args.session.now _ c.handle.ensures.decision (user-silent c.args.args.now answer c.args.session.now.login) (c.handle.ensures.session answer job)
 
 pub returns-in-Pass-clause-session : goal.returns-in-Pass-clause-session
 returns-in-Pass-clause-session c few answer job =
-    let k : EventKind = c.args.args.now in
-    let d : Decision = c.handle-in-Pass.result in
-    let silent : notices_of k d answer ≡ 0 = ap (λ (d : Decision). notices_of k d answer) c.handle-in-Pass.ensures.decision ∙ pass-silent k answer c.args.session.now.login in
-    c.handle-in-Pass.ensures.session answer job ∙ ap (λ (n : ℕ). session_after c.args.at k answer d n job c.args.session.now) (sym silent)
+    without_notice c.args.at c.args.args.now answer c.handle-in-Pass.result _ job c.args.session.now _ c.handle-in-Pass.ensures.decision (pass-silent c.args.args.now answer c.args.session.now.login) (c.handle-in-Pass.ensures.session answer job)
 
 pub returns-in-Rest-clause-session : goal.returns-in-Rest-clause-session
 returns-in-Rest-clause-session c few answer job =
-    let k : EventKind = c.args.args.now in
-    let d : Decision = c.handle-in-Rest.result in
-    let silent : notices_of k d answer ≡ 0 = ap (λ (d : Decision). notices_of k d answer) c.handle-in-Rest.ensures.decision ∙ rest-silent k answer c.args.options.now c.args.session.now in
-    c.handle-in-Rest.ensures.session answer job ∙ ap (λ (n : ℕ). session_after c.args.at k answer d n job c.args.session.now) (sym silent)
+    without_notice c.args.at c.args.args.now answer c.handle-in-Rest.result _ job c.args.session.now _ c.handle-in-Rest.ensures.decision (rest-silent c.args.args.now answer c.args.options.now c.args.session.now) (c.handle-in-Rest.ensures.session answer job)
 
 pub returns-in-Cwd-clause-session : goal.returns-in-Cwd-clause-session
 returns-in-Cwd-clause-session c few answer job =
-    let k : EventKind = c.args.args.now in
-    let d : Decision = c.handle-in-Cwd.result in
-    let silent : notices_of k d answer ≡ 0 = ap (λ (d : Decision). notices_of k d answer) c.handle-in-Cwd.ensures.decision ∙ cwd-silent k answer c.args.session.now (refusal_of k) in
-    c.handle-in-Cwd.ensures.session answer job ∙ ap (λ (n : ℕ). session_after c.args.at k answer d n job c.args.session.now) (sym silent)
+    without_notice c.args.at c.args.args.now answer c.handle-in-Cwd.result _ job c.args.session.now _ c.handle-in-Cwd.ensures.decision (cwd-silent c.args.args.now answer c.args.session.now (refusal_of c.args.args.now)) (c.handle-in-Cwd.ensures.session answer job)
 
 pub returns-in-Abor-clause-session : goal.returns-in-Abor-clause-session
 returns-in-Abor-clause-session c few answer job =
-    let k : EventKind = c.args.args.now in
-    let d : Decision = c.handle-in-Abor.result in
-    let silent : notices_of k d answer ≡ 0 = ap (λ (d : Decision). notices_of k d answer) c.handle-in-Abor.ensures.decision ∙ abor-silent k answer c.args.room.now.stops c.args.session.now in
-    c.handle-in-Abor.ensures.session answer job ∙ ap (λ (n : ℕ). session_after c.args.at k answer d n job c.args.session.now) (sym silent)
+    without_notice c.args.at c.args.args.now answer c.handle-in-Abor.result _ job c.args.session.now _ c.handle-in-Abor.ensures.decision (abor-silent c.args.args.now answer c.args.room.now.stops c.args.session.now) (c.handle-in-Abor.ensures.session answer job)
 
 pub returns-in-SlotTick-clause-session : goal.returns-in-SlotTick-clause-session
 returns-in-SlotTick-clause-session c few answer job =
-    let k : EventKind = c.args.args.now in
-    let d : Decision = c.handle-in-SlotTick.result in
-    let silent : notices_of k d answer ≡ 0 = ap (λ (d : Decision). notices_of k d answer) c.handle-in-SlotTick.ensures.decision ∙ slot-silent k answer c.args.options.now c.args.at c.args.session.now in
-    c.handle-in-SlotTick.ensures.session answer job ∙ ap (λ (n : ℕ). session_after c.args.at k answer d n job c.args.session.now) (sym silent)
+    without_notice c.args.at c.args.args.now answer c.handle-in-SlotTick.result _ job c.args.session.now _ c.handle-in-SlotTick.ensures.decision (slot-silent c.args.args.now answer c.args.options.now c.args.at c.args.session.now) (c.handle-in-SlotTick.ensures.session answer job)
