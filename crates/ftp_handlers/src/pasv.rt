@@ -1,15 +1,12 @@
 //! PASV (RFC 959, section 4.1.2).
 
-ghost use Rattle.std.specs.Prelude.{◌≡◌, ◌++◌, ◌||◌, ◌+◌, ◌-◌, ◌≤◌, ℕ, [], ◌∷◌, codes, not, true, false, IsTrue, Option, None, Some, IfNone, IfSome};
+ghost use Rattle.std.specs.Prelude.{◌≡◌, ◌++◌, ◌||◌, ◌+◌, ◌-◌, ◌≤◌, ℕ, [], not, true, false, IsTrue, Option, None, Some, IfNone, IfSome};
 ghost use Rattle.std.specs.Option.{option_map_or};
 ghost use Rattle.ftp_base.specs.Net.{ipv4};
 ghost use Rattle.ftp_base.specs.Ports.{first_free};
-ghost use Rattle.ftp_base.specs.declared.reply.Reply.TheVariants as reply;
-ghost use Rattle.ftp_base.specs.declared.reply.ReplyCode.TheVariants as code;
 ghost use Rattle.ftp_options.specs.Host.{lacks_lookup};
 ghost use Rattle.ftp_options.specs.Modes.{is_legacy};
 ghost use Rattle.ftp_switchboard.specs.Board.{HasRoom, SameRange, holder_at, holder_for, words_for};
-ghost use Rattle.ftp_events.specs.declared.action.Action.TheVariants as action;
 ghost use Rattle.ftp_events.specs.declared.decision.Decision.TheVariants as decision;
 ghost use Rattle.ftp_events.specs.declared.session.Running.{Running};
 ghost use Rattle.ftp_events.specs.declared.session.Slot.TheVariants.{Waits};
@@ -31,6 +28,12 @@ use ftp_events::{Decision, EventKind, Login, Session, Slot};
 use ftp_options::{Options, PassiveHost};
 use ftp_switchboard::{Looks, Switchboard};
 use std::mem;
+
+// What is told where no port is free for the client.
+const NO_PORT: &[u8] = b"Could not allocate passive port";
+
+// What is told where no socket was bound for the session, or there is no address to show.
+const NO_CONNECTION: &[u8] = b"No data connection established";
 
 /// Reserves a passive port for the session's client, or takes the one that was bound for the session alone, and
 /// advertises it.
@@ -120,10 +123,12 @@ fn take_bound(
     };
     session.active_at = at;
     let Some(port) = *bound else {
-        return tell_no_socket(*number, room);
+        room.reply(*number, ReplyCode::CantOpenDataConnection, NO_CONNECTION);
+        return Decision::NoSocket;
     };
     if is_unfit(options, port, session.opening.local.ip) {
-        return tell_no_socket(*number, room);
+        room.reply(*number, ReplyCode::CantOpenDataConnection, NO_CONNECTION);
+        return Decision::NoSocket;
     }
     if options.host.lacks_lookup(*lookup) {
         return tell_unresolved(*number, &options.host, *lookup, room);
@@ -168,13 +173,17 @@ fn take_free(
     let client = session.opening.client.ipv4();
     if options.host.lacks_lookup(*lookup) {
         if board.free_port(client, *word, looks).is_none() {
-            return tell_full(*number, room);
+            room.reply(*number, ReplyCode::CantOpenDataConnection, NO_PORT);
+            return Decision::Full;
         }
         return tell_unresolved(*number, &options.host, *lookup, room);
     }
     let present = waiting_port(session.slot);
     match reserve(board, client, *number, *word, present, looks) {
-        None => tell_full(*number, room),
+        None => {
+            room.reply(*number, ReplyCode::CantOpenDataConnection, NO_PORT);
+            Decision::Full
+        }
         Some(port) => grant(session, args, port, room, at, options),
     }
 }
@@ -259,26 +268,13 @@ fn tell_passive(
 {
     match (host, called, lookup) {
         (PassiveHost::FromConnection, IpAddr::V4(ip), _) => room.advertise(number, ip, port),
-        (PassiveHost::FromConnection, IpAddr::V6(_), _) => tell_none(number, room),
+        (PassiveHost::FromConnection, IpAddr::V6(_), _) => {
+            room.reply(number, ReplyCode::CantOpenDataConnection, NO_CONNECTION);
+        }
         (PassiveHost::Ip(ip), _, _) => room.advertise(number, *ip, port),
         (PassiveHost::Dns(_), _, Some(ip)) => room.advertise(number, ip, port),
         (PassiveHost::Dns(_), _, None) => unreachable!(),
     }
-}
-
-// Tells the client that there is no port for it.
-fn tell_full(number: u64, room: &mut Room) -> Decision
-    requires room { IsReady room.old }
-    ensures decision { result ≡ decision.Full }
-    ensures actions { actions_in room.new ≡ action.Reply number 0 (reply.CodeAndMsg code.CantOpenDataConnection (codes "Could not allocate passive port")) ∷ [] }
-    ensures twice { twice_in room.new ≡ twice_in room.old }
-{
-    room.reply(
-        number,
-        ReplyCode::CantOpenDataConnection,
-        b"Could not allocate passive port",
-    );
-    Decision::Full
 }
 
 // Tells the client that the name that it has to be shown was not looked up.
@@ -302,30 +298,6 @@ fn tell_unresolved(
         }
         _ => unreachable!(),
     }
-}
-
-// Tells the client that no socket was bound for it.
-fn tell_no_socket(number: u64, room: &mut Room) -> Decision
-    requires room { IsReady room.old }
-    ensures decision { result ≡ decision.NoSocket }
-    ensures actions { actions_in room.new ≡ action.Reply number 0 (reply.CodeAndMsg code.CantOpenDataConnection (codes "No data connection established")) ∷ [] }
-    ensures twice { twice_in room.new ≡ twice_in room.old }
-{
-    tell_none(number, room);
-    Decision::NoSocket
-}
-
-// Tells the client that there is no connection.
-fn tell_none(number: u64, room: &mut Room)
-    requires place { HasPlace room.old }
-    ensures actions { actions_in room.new ≡ actions_in room.old ++ action.Reply number 0 (reply.CodeAndMsg code.CantOpenDataConnection (codes "No data connection established")) ∷ [] }
-    ensures same { room.new ≡ record room.old { actions = room.new.actions; text = room.new.text } }
-{
-    room.reply(
-        number,
-        ReplyCode::CantOpenDataConnection,
-        b"No data connection established",
-    );
 }
 
 // Says whether a port is none of the passive ones, or its client cannot be shown the address that it called.

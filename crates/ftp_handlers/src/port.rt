@@ -27,6 +27,9 @@ use ftp_options::Options;
 use ftp_switchboard::Switchboard;
 use std::mem;
 
+// What is told of a connection that was asked for and not made.
+const UNMADE: &[u8] = b"Could not establish data connection";
+
 /// Takes the connection that was made to the session's peer as the link of its slot.
 pub fn handle(
     session: &mut Session,
@@ -76,11 +79,11 @@ pub fn handle(
         return Decision::BadAddress;
     };
     if !to.ip.is_same(session.opening.raw.ip) {
-        tell_unmade(*number, room);
+        room.reply(*number, ReplyCode::CantOpenDataConnection, UNMADE);
         return Decision::OtherAddress;
     }
     let Some(made) = *made else {
-        tell_unmade(*number, room);
+        room.reply(*number, ReplyCode::CantOpenDataConnection, UNMADE);
         return Decision::NoConnection;
     };
     if room.used {
@@ -119,17 +122,4 @@ fn connect(
     session.slot = Slot::Linked { number: made };
     session.slot_at = at;
     Decision::PortOk
-}
-
-// Tells the client that the connection that it asked for was not made.
-fn tell_unmade(number: u64, room: &mut Room)
-    requires room { IsReady room.old }
-    ensures actions { actions_in room.new ≡ action.Reply number 0 (reply.CodeAndMsg code.CantOpenDataConnection (codes "Could not establish data connection")) ∷ [] }
-    ensures twice { twice_in room.new ≡ twice_in room.old }
-{
-    room.reply(
-        number,
-        ReplyCode::CantOpenDataConnection,
-        b"Could not establish data connection",
-    );
 }
