@@ -149,6 +149,12 @@ abbrev pub used_for : Hub → EventKind → Bool
 used_for hub (kind.Port s text number) = option_map_or (has hub.numbers) number false
 used_for hub _ = false
 
+-- the room is ready, and the hub can take one number more, and one job
+pub record CanArrive (room : RoomState) (hub : Hub) : Type 0 where
+  pub ready : IsReady room
+  pub numbers : HasSpare hub.numbers
+  pub jobs : 0 < map.spare hub.jobs
+
 -- the room is of this event and this count, holds what the event needs, and fits this hub
 pub record Fits (room : RoomState) (hub : Hub) (event : HubEvent) : Type 0 where
   pub below : hub.count < 2 ^ 64 - 1

@@ -11,8 +11,8 @@ ghost use Rattle.ftp_events.specs.declared.entry.Entry.{Entry};
 ghost use Rattle.ftp_events.specs.declared.event.Answer.TheVariants.{Header};
 ghost use Rattle.ftp_events.specs.Session.{new_session};
 ghost use Rattle.ftp_hub.specs.Arrivals.{IsControlLink, IsLate, is_connect, is_data, is_proxied};
-ghost use Rattle.ftp_handlers.specs.Rooms.{CanTellDropped, IsReady, actions_in, kept_in, twice_in};
-ghost use Rattle.ftp_hub.specs.Stands.{Stands, Serves, SameHead, header_for, kept_for};
+ghost use Rattle.ftp_handlers.specs.Rooms.{IsReady, actions_in, kept_in, twice_in};
+ghost use Rattle.ftp_hub.specs.Stands.{CanArrive, Stands, Serves, SameHead, header_for, kept_for};
 
 use crate::data_links::Arrival;
 use crate::hub::Hub;
@@ -64,10 +64,7 @@ impl Hub {
     // Brings a data connection that comes to a pooled port.
     pub(crate) fn data_in(&mut self, room: &mut Room, event: &HubEvent, answer: Answer) -> Decision
         requires of_this_event { IsTrue (is_data event.now.kind) }
-        requires ready { IsReady room.old }
-        requires dropped { CanTellDropped room.old }
-        requires numbers { HasSpare self.old.numbers }
-        requires jobs { 0 < map.spare self.old.jobs }
+        requires ready { CanArrive room.old self.old }
         ensures serves { (log : List Entry) → Stands self.old log → Serves self.old self.new log event.now answer result (actions_in room.new) }
         ensures head { SameHead self.old self.new }
         ensures twice { twice_in room.new ≡ twice_in room.old }
@@ -99,12 +96,9 @@ impl Hub {
     // A connection behind a proxy is told by its header, and closed where that is none.
     pub(crate) fn proxied(&mut self, room: &mut Room, event: &HubEvent, answer: Answer) -> Decision
         requires of_this_event { IsTrue (is_proxied event.now.kind) }
-        requires ready { IsReady room.old }
-        requires dropped { CanTellDropped room.old }
+        requires ready { CanArrive room.old self.old }
         requires kept { kept_in room.old ≡ kept_for self.old event.now.kind }
         requires sessions { 0 < map.spare self.old.sessions }
-        requires numbers { HasSpare self.old.numbers }
-        requires jobs { 0 < map.spare self.old.jobs }
         ensures serves { (log : List Entry) → Stands self.old log → Serves self.old self.new log event.now answer result (actions_in room.new) }
         ensures head { SameHead self.old self.new }
         ensures twice { twice_in room.new ≡ twice_in room.old }
@@ -135,12 +129,9 @@ impl Hub {
     // By its header a connection to the control port opens a session, and any other is a data connection.
     fn pass_on(&mut self, room: &mut Room, event: &HubEvent, line: ProxyHeader) -> Decision
         requires of_this_event { IsTrue (is_some (header_for self.old event.now.kind)) }
-        requires ready { IsReady room.old }
-        requires dropped { CanTellDropped room.old }
+        requires ready { CanArrive room.old self.old }
         requires kept { kept_in room.old ≡ kept_for self.old event.now.kind }
         requires sessions { 0 < map.spare self.old.sessions }
-        requires numbers { HasSpare self.old.numbers }
-        requires jobs { 0 < map.spare self.old.jobs }
         ensures serves { (log : List Entry) → Stands self.old log → Serves self.old self.new log event.now (Header (Ok line)) result (actions_in room.new) }
         ensures head { SameHead self.old self.new }
         ensures twice { twice_in room.new ≡ twice_in room.old }

@@ -4,7 +4,7 @@ ghost use Rattle.std.specs.Prelude.{◌≡◌, ◌<◌, ◌&&◌, ℕ, List, IsT
 ghost use Rattle.std.specs.HashMap as map;
 ghost use Rattle.ftp_base.specs.declared.net.SocketAddr.{SocketAddr};
 ghost use Rattle.ftp_base.specs.Net.{same_ip};
-ghost use Rattle.ftp_switchboard.specs.Used.{HasSpare, has};
+ghost use Rattle.ftp_switchboard.specs.Used.{has};
 ghost use Rattle.ftp_options.specs.declared.options.Options.{Options};
 ghost use Rattle.ftp_events.specs.declared.entry.Entry.{Entry};
 ghost use Rattle.ftp_events.specs.declared.event.Answer.{Answer};
@@ -17,8 +17,8 @@ ghost use Rattle.ftp_events.specs.Slot.{is_waiting, with_link};
 ghost use Rattle.ftp_events.specs.Acts.{session_acts, starting};
 ghost use Rattle.ftp_hub.specs.Arrivals.{IsDataLink, arrival_of, is_accepted};
 ghost use Rattle.ftp_handlers.specs.Handlers.{Starts};
-ghost use Rattle.ftp_handlers.specs.Rooms.{CanTellDropped, IsReady, actions_in, twice_in};
-ghost use Rattle.ftp_hub.specs.Stands.{Stands, Serves, SameHead};
+ghost use Rattle.ftp_handlers.specs.Rooms.{IsReady, actions_in, twice_in};
+ghost use Rattle.ftp_hub.specs.Stands.{CanArrive, Stands, Serves, SameHead};
 
 use crate::hub::Hub;
 use crate::jobs::start;
@@ -51,10 +51,7 @@ impl Hub {
         requires of_this_event { IsDataLink self.old.options event.now answer arrival }
         requires unused { has self.old.numbers arrival.number ≡ false }
         requires going { self.old.stopped ≡ false }
-        requires ready { IsReady room.old }
-        requires dropped { CanTellDropped room.old }
-        requires numbers { HasSpare self.old.numbers }
-        requires jobs { 0 < map.spare self.old.jobs }
+        requires ready { CanArrive room.old self.old }
         ensures serves { (log : List Entry) → Stands self.old log → Serves self.old self.new log event.now answer result (actions_in room.new) }
         ensures head { SameHead self.old self.new }
         ensures twice { twice_in room.new ≡ twice_in room.old }
@@ -93,10 +90,7 @@ impl Hub {
     // Brings a data connection to the session whose own listener it came to, or turns it away.
     pub(crate) fn accepted(&mut self, room: &mut Room, event: &HubEvent, answer: Answer) -> Decision
         requires of_this_event { IsTrue (is_accepted event.now.kind) }
-        requires ready { IsReady room.old }
-        requires dropped { CanTellDropped room.old }
-        requires numbers { HasSpare self.old.numbers }
-        requires jobs { 0 < map.spare self.old.jobs }
+        requires ready { CanArrive room.old self.old }
         ensures serves { (log : List Entry) → Stands self.old log → Serves self.old self.new log event.now answer result (actions_in room.new) }
         ensures head { SameHead self.old self.new }
         ensures twice { twice_in room.new ≡ twice_in room.old }
@@ -165,7 +159,6 @@ fn come(
     room: &mut Room,
 ) -> Decision
     requires ready { IsReady room.old }
-    requires dropped { CanTellDropped room.old }
     requires spare { 0 < map.spare jobs.old }
     ensures decision { result ≡ arrival_of welcome holder }
     ensures session { (raw : SocketAddr) (port : ℕ) (answer : Answer) → session.new ≡ session_after at (DataIn number raw port) answer result 0 (map.get nat_eq jobs.old holder) session.old }

@@ -16,7 +16,7 @@ ghost use Rattle.ftp_events.specs.Log.{named_session};
 ghost use Rattle.ftp_events.specs.Login.{logged_user};
 ghost use Rattle.ftp_events.specs.Session.{session_after};
 ghost use Rattle.ftp_events.specs.Slot.{kept_running, lane_of, startable};
-ghost use Rattle.ftp_handlers.specs.Rooms.{CanReply, CanTellDropped, IsReady, HasCopy, HasPlace, HasPlaces, actions_in, kept_in, twice_in};
+ghost use Rattle.ftp_handlers.specs.Rooms.{IsReady, HasCopy, HasPlace, HasPlaces, actions_in, kept_in, twice_in};
 ghost use Rattle.ftp_handlers.specs.Handlers.{is_transfer, IsFew, asked_for, kept_by, notices_of, with_lane, Starts};
 ghost use Rattle.ftp_hub.specs.Endings.{is_piece};
 
@@ -75,7 +75,6 @@ pub(crate) fn queue(
     requires of_this_event { IsTrue (is_transfer event.now.kind) }
     requires named { named_session event.now.kind ≡ Some number }
     requires room { IsReady room.old }
-    requires letters { CanReply 64 room.old }
     requires kept { kept_in room.old ≡ kept_by event.now.kind session.old }
     requires pending { room.old.pending ≡ asked_for event.now.kind session.old }
     requires spare { 0 < map.spare jobs.old }
@@ -104,7 +103,6 @@ pub(crate) fn finish(
     options: &Options,
 )
     requires room { IsReady room.old }
-    requires letters { CanReply 64 room.old }
     requires kept { kept_in room.old ≡ logged_user session.old.login session.old.name }
     requires path { HasCopy room.old job.job.path }
     requires spare { 0 < map.spare jobs.old }
@@ -129,8 +127,6 @@ pub(crate) fn cut(
 )
     requires room { IsReady room.old }
     requires places { HasPlaces 5 room.old }
-    requires letters { CanReply 64 room.old }
-    requires dropped { CanTellDropped room.old }
     requires spare { 0 < map.spare jobs.old }
     requires ended { map.get nat_eq jobs.old job.job.ticket.session ≡ None }
     ensures session { (answer : Answer) → session.new ≡ session_after at (End job.job.ticket) answer Cut 0 (Some job) session.old }

@@ -4,18 +4,17 @@ ghost use Rattle.std.specs.Prelude.{◌≡◌, ◌+◌, ◌-◌, ◌<◌, ◌≤
 ghost use Rattle.ftp_events.specs.declared.event.Answer.TheVariants.{Done, Moved};
 ghost use Rattle.ftp_events.specs.declared.event.EventKind.TheVariants.{Piece, Sweep};
 ghost use Rattle.std.specs.HashMap as map;
-ghost use Rattle.ftp_switchboard.specs.Board.{HasRoom};
 ghost use Rattle.ftp_switchboard.specs.Used.{HasSpare, has};
 ghost use Rattle.ftp_events.specs.declared.entry.Entry.{Entry};
 ghost use Rattle.ftp_events.specs.EndRows.{can_end, can_move};
 ghost use Rattle.ftp_events.specs.Log.{is_refusal, job_ticket, named_session, new_number, past_of};
 ghost use Rattle.ftp_events.specs.Right.{next_entry};
 ghost use Rattle.ftp_events.specs.Words.{is_number};
-ghost use Rattle.ftp_handlers.specs.Handlers.{can_reply, ends_session, is_command, is_idle_tick, is_port, is_transfer, kept_by, places_for};
-ghost use Rattle.ftp_handlers.specs.Rooms.{CanReply, IsReady, actions_in, kept_in, twice_in};
+ghost use Rattle.ftp_handlers.specs.Handlers.{ends_session, is_command, is_idle_tick, is_port, is_transfer, kept_by, places_for};
+ghost use Rattle.ftp_handlers.specs.Rooms.{IsReady, actions_in, kept_in, twice_in};
 ghost use Rattle.ftp_hub.specs.Endings.{is_over};
 ghost use Rattle.ftp_events.specs.Counts.{Counted};
-ghost use Rattle.ftp_hub.specs.Stands.{Stands, Serves, SameHead, SameTables, Fits, ended_in, entry, options_of, count_of, counters_of, kept_for, client_for};
+ghost use Rattle.ftp_hub.specs.Stands.{Stands, Serves, SameHead, SameTables, Fits, ended_in, entry, options_of, count_of, counters_of};
 
 use crate::hub::Hub;
 use crate::jobs::{can_end, can_move, cut, finish, is_piece, mark, queue};
@@ -239,7 +238,6 @@ impl Hub {
         requires below { self.old.count < 2 ^ 64 - 1 }
         requires ready { IsReady room.old }
         requires places { places_for event.now.kind ≤ room.old.places }
-        requires letters { IsTrue (can_reply event.now.kind) → CanReply 64 room.old }
         requires kept { IfSome (map.get nat_eq self.old.sessions number) (λ v. kept_in room.old ≡ kept_by event.now.kind v) }
         requires over { IfSome (map.get nat_eq self.old.sessions number) (λ v. IsTrue (is_over self.old.options (is_some (map.get nat_eq self.old.jobs number)) event.now.at event.now.kind v)) }
         requires of_this_event { IsTrue (ends_session event.now.kind) }

@@ -17,7 +17,7 @@ use Rattle.ftp_hub.proofs.hub.Hub.accepted.Goals as goal
 pub returns-in_default-get_mut-clause-serves : goal.returns-in_default-get_mut-clause-serves
 returns-in_default-get_mut-clause-serves c log st =
     serves-unknown c.args.self.now _ log c.args.event.now c.args.answer _ c.in-Accepted.owner st
-    (rw c.in-Accepted.is refl) (rw c.in-Accepted.is refl) (sym c.in_default-get_mut.ensures.value) c.requires.ready.actions
+    (rw c.in-Accepted.is refl) (rw c.in-Accepted.is refl) (sym c.in_default-get_mut.ensures.value) c.requires.ready.ready.actions
     (tables-lent c.args.self.now _ (past_of log) refl (λ q. ap (λ (m : Sessions). map.get nat_eq m q) c.get_mut.follows.holds-at-none) (ap map.hash_map_len c.get_mut.follows.holds-at-none) refl refl refl refl refl st.tables)
 
 -- where sessions share the ports, no session has a listener of its own
@@ -33,7 +33,7 @@ returns-then-not-is_legacy-clause-serves c log st =
     serves-refusal hub _ log c.args.event.now c.args.answer decision.Misplaced _ st
     (sym (due-named hub.options (past_of log) c.args.event.now.at c.args.event.now.kind c.args.answer s (Some v) (rw c.in-Accepted.is refl) (rw c.in-Accepted.is refl) known
     ∙ rw (c.in-Accepted.is, sym c.if-not-is_legacy.ensures) refl))
-    refl c.requires.ready.actions
+    refl c.requires.ready.ready.actions
     (tables-lent hub _ (past_of log) refl (session-back hub.sessions (c.get_mut.follows.lender v) s v there (lent.3 (rw there refl)).0) lent.2 refl refl refl refl refl st.tables)
 
 -- a number that was used
@@ -50,7 +50,7 @@ returns-then-has-clause-serves c log st =
     serves-refusal hub _ log c.args.event.now c.args.answer decision.UsedNumber _ st
     (sym (due-named hub.options (past_of log) c.args.event.now.at c.args.event.now.kind c.args.answer s (Some v) (rw c.in-Accepted.is refl) (rw c.in-Accepted.is refl) known
     ∙ rw (c.in-Accepted.is, sym c.if-not-is_legacy.ensures, used) refl))
-    refl c.requires.ready.actions
+    refl c.requires.ready.ready.actions
     (tables-lent hub _ (past_of log) refl (session-back hub.sessions (c.get_mut.follows.lender v) s v there (lent.3 (rw there refl)).0) lent.2 refl refl refl refl refl st.tables)
 
 -- the connection goes to the session, or is turned away

@@ -26,11 +26,11 @@ pub returns-in_default-ip-clause-serves : goal.returns-in_default-ip-clause-serv
 unfolding decide
 returns-in_default-ip-clause-serves c log st =
     let parts = read-unused c.args.self.now log c.args.event.now.kind c.in-Proxied.number c.in-Proxied.trace c.in-Proxied.raw st c.requires.of_this_event c.in-Proxied.is in
-    serves-refused c.args.self.now log c.args.event.now (Header (Ok c.args.line)) decision.NotExpected _ st (rw (c.in-Proxied.is, parts.0, parts.1, parts.2, c.in_default-ip.is) refl) refl c.requires.ready.actions
+    serves-refused c.args.self.now log c.args.event.now (Header (Ok c.args.line)) decision.NotExpected _ st (rw (c.in-Proxied.is, parts.0, parts.1, parts.2, c.in_default-ip.is) refl) refl c.requires.ready.ready.actions
 
 -- so is one that called an address of version 6
 pub returns-then-is_v6-clause-serves : goal.returns-then-is_v6-clause-serves
 unfolding decide
 returns-then-is_v6-clause-serves c log st =
     let parts = read-unused c.args.self.now log c.args.event.now.kind c.in-Proxied.number c.in-Proxied.trace c.in-Proxied.raw st c.requires.of_this_event c.in-Proxied.is in
-    serves-refused c.args.self.now log c.args.event.now (Header (Ok c.args.line)) decision.NotExpected _ st (rw (c.in-Proxied.is, parts.0, parts.1, parts.2, c.in-V4.is, sym c.if-is_v6.ensures) refl) refl c.requires.ready.actions
+    serves-refused c.args.self.now log c.args.event.now (Header (Ok c.args.line)) decision.NotExpected _ st (rw (c.in-Proxied.is, parts.0, parts.1, parts.2, c.in-V4.is, sym c.if-is_v6.ensures) refl) refl c.requires.ready.ready.actions

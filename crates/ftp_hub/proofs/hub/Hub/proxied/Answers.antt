@@ -23,14 +23,14 @@ returns-then-not-is_proxy-clause-serves c log st =
       | then-not-is_proxy-via-else-not-is_proxy+then-is_v6 w ↦ rw (sym w.if-not-is_proxy.ensures, sym w.if-is_v6.ensures) refl
     ]
     in
-    serves-refused c.args.self.now log c.args.event.now c.args.answer decision.Misplaced _ st (rw (c.in-Proxied.is, misplaced) refl) refl c.requires.ready.actions
+    serves-refused c.args.self.now log c.args.event.now c.args.answer decision.Misplaced _ st (rw (c.in-Proxied.is, misplaced) refl) refl c.requires.ready.ready.actions
 
 -- so is a number that was used
 pub returns-then-has-clause-serves : goal.returns-then-has-clause-serves
 unfolding decide
 returns-then-has-clause-serves c log st =
     let used : is_used (past_of log) c.in-Proxied.number ≡ true = sym (st.tables.numbers c.in-Proxied.number) ∙ sym c.has.ensures ∙ c.if-has.true in
-    serves-refused c.args.self.now log c.args.event.now c.args.answer decision.UsedNumber _ st (rw (c.in-Proxied.is, sym c.if-not-is_proxy.ensures, sym c.if-is_v6.ensures, used) refl) refl c.requires.ready.actions
+    serves-refused c.args.self.now log c.args.event.now c.args.answer decision.UsedNumber _ st (rw (c.in-Proxied.is, sym c.if-not-is_proxy.ensures, sym c.if-is_v6.ensures, used) refl) refl c.requires.ready.ready.actions
 
 -- a header that is none closes the connection
 pub returns-in-Header-Err-clause-serves : goal.returns-in-Header-Err-clause-serves
@@ -43,7 +43,7 @@ returns-in-Header-Err-clause-serves c log st =
     serves-faulted c.args.self.now _ log c.args.event.now c.args.answer c.in-Header-Err.fault _ c.in-Proxied.number st
     (rw (c.in-Proxied.is, header, sym c.if-not-is_proxy.ensures, sym c.if-is_v6.ensures, unused, going) refl)
     (rw (c.in-Proxied.is, header) refl) (rw c.in-Proxied.is refl) (rw c.in-Proxied.is refl)
-    (rw (c.close.ensures.actions, c.requires.ready.actions) refl)
+    (rw (c.close.ensures.actions, c.requires.ready.ready.actions) refl)
     refl (λ q. refl) refl refl c.put.ensures (λ a p. refl) refl refl
 
 -- nothing else is a header
@@ -64,7 +64,7 @@ returns-in-None c =
           let unused : is_used (past_of log) c.in-Proxied.number ≡ false = sym (st.tables.numbers c.in-Proxied.number) ∙ sym c.has.ensures ∙ c.if-has.false in
           let going : is_stopped (past_of log) ≡ false = sym st.tables.stopped ∙ c.if-self.false in
           serves-refused c.args.self.now log c.args.event.now c.args.answer decision.NotExpected _ st
-          (sym (rw (c.in-Proxied.is, sym c.if-not-is_proxy.ensures, sym c.if-is_v6.ensures, unused, going) (headless c.args.self.now.options (past_of log) c.in-Proxied.raw c.args.answer c.in-None.is))) refl c.requires.ready.actions;
+          (sym (rw (c.in-Proxied.is, sym c.if-not-is_proxy.ensures, sym c.if-is_v6.ensures, unused, going) (headless c.args.self.now.options (past_of log) c.in-Proxied.raw c.args.answer c.in-None.is))) refl c.requires.ready.ready.actions;
       head = record { options = refl; count = refl; counters = refl };
       twice = refl;
     }
