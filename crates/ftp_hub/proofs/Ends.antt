@@ -4,8 +4,10 @@ use Rattle.std.specs.Prelude.{◌==◌, nat_eq}
 use Rattle.std.specs.Option.{option_map, option_or}
 use Rattle.std.specs.HashMap as map
 use Rattle.std.proofs.lemmas.Option.{same_Some}
-use Rattle.ftp_hub.proofs.Common.{Action, Answer, Decision, Entry, EventKind, Hub, HubEvent, Jobs, Options, Pending, Running, Serves, Session, Stands, Starts, Tables, Ticket, V4, acts, decide, entry, failures, failures_in, has, history, holder, holder_at, is_refusal, is_used, job_ticket, kept_running, live_after, named_session, new_number, next_running, past_of, running_after, running_job, session, session_acts, starting, stopped}
+use Rattle.ftp_hub.proofs.Common.{Action, Answer, Decision, Entry, EventKind, Hub, HubEvent, Jobs, Options, Pending, Running, Serves, Session, Stands, Starts, Tables, Ticket, V4, acts, decide, entry, failures, failures_in, has, held_after, history, holder, holder_at, ipv4, is_refusal, is_used, job_ticket, kept_running, live_after, named_session, new_number, next_running, notices_of, past_of, running_after, running_job, session, session_acts, session_after, starting, stopped, waiting_port}
 use Rattle.ftp_lockout.specs.Failures.{Table}
+use Rattle.ftp_switchboard.specs.Board.{Board}
+use Rattle.ftp_switchboard.specs.Used.{Used}
 use Rattle.ftp_proxy.specs.declared.error.ProxyError.{ProxyError}
 use Rattle.ftp_proxy.specs.declared.header.ProxyHeader.{ProxyHeader}
 use Rattle.ftp_transfer.specs.declared.job.Job.{Job}
@@ -35,11 +37,15 @@ use Rattle.ftp_laws.proofs.LaneLemmas.{ended-empty}
 use Rattle.ftp_laws.proofs.PortLemmas.{named-target}
 use Rattle.ftp_laws.proofs.SubjectLemmas.{named-one, one-concerns}
 use Rattle.ftp_laws.proofs.TableLemmas.{holder-named}
-use Rattle.ftp_handlers.specs.Handlers.{is_transfer}
+use Rattle.ftp_handlers.specs.Handlers.{is_auth, is_transfer}
+use Rattle.ftp_hub.specs.Arrivals.{is_accepted}
 use Rattle.ftp_hub.specs.Endings.{is_piece}
 use Rattle.ftp_hub.proofs.Running.{count-start, running-acts}
 use Rattle.ftp_hub.proofs.Decisions.{Comes}
 use Rattle.ftp_hub.proofs.Commands.{IsPlain}
+use Rattle.ftp_hub.proofs.Failures.{FailuresMoved, failures-stay}
+use Rattle.ftp_hub.proofs.Moved.{Moved, SessionsMoved}
+use Rattle.ftp_hub.proofs.Named.{serves-named}
 use Rattle.ftp_laws.proofs.LockoutLemmas.{failures-other, tells_failures}
 
 -- ---- transfers that are queued
@@ -288,7 +294,7 @@ serves-lost old new log event given d done t r after st passes told there none r
     job_then q false h = st.tables.jobs q ∙ sym (running-other o past e q (unopened q) (concerned q ∙ h))
 
 -- the jobs after the end of a transfer of a live session, behind which another may start
-pub jobs-finished :
+jobs-finished :
     (old taken new : Jobs) (s q : ℕ) (k : EventKind) (given : Answer) (d : Decision) (job : Running) (v : Session) →
     option_or (starting k d (Some job) v) None ≡ next_running k given d (Some job) v →
     ((n : ℕ) → map.get nat_eq taken n ≡ cond (s == n) None (map.get nat_eq old n)) → Starts taken new s (starting k d (Some job) v) →
@@ -304,10 +310,95 @@ jobs-finished old taken new s q k given d job v ends took begins =
     go false = refl
 
 -- and how many run
-pub running-finished :
+running-finished :
     (o : Options) (s : ℕ) (k : EventKind) (given : Answer) (d : Decision) (job : Running) (v : Session) (old taken new : Jobs) →
     stopped d + total ended (completions s k d (stays d (Some v)) (Some job)) ≡ 1 →
     map.hash_map_len taken + 1 ≡ map.hash_map_len old → Starts taken new s (starting k d (Some job) v) →
     map.hash_map_len new ≡ running_after d (session_acts o s k given d (Some job) (Some v)) (map.hash_map_len old)
 running-finished o s k given d job v old taken new one fewer begins =
     omega (arith, begins.len, fewer, one, running-acts o s k given d (Some job) v (map.hash_map_len old), count-start (starting k d (Some job) v))
+
+-- what is the same on a piece as at the end of a job is that of the end of its ticket
+as-told : {A : Type 0} (f : Ticket → EventKind → A) (k : EventKind) (t u : Ticket) → u ≡ t → job_ticket k ≡ Some t → f t (kind.End t) ≡ f t (kind.Piece t) → f u (kind.End u) ≡ f t k
+as-told f k t u same told both =
+    ap (λ (x : Ticket). f x (kind.End x)) same ∙ by_telling (λ (x : EventKind). f t (kind.End t) ≡ f t x) k t told refl both
+
+-- the tables after a piece or the end of a transfer of a live session
+pub serves-told :
+    (old new : Hub) (log : List Entry) (event : HubEvent) (given : Answer) (d : Decision) (done : List Action) (t : Ticket) (v after : Session) →
+    Stands old log → Passes d → job_ticket event.kind ≡ Some t → map.get nat_eq old.sessions t.session ≡ Some v →
+    d ≡ decide old.options log event given →
+    done ≡ session_acts old.options t.session event.kind given d (map.get nat_eq old.jobs t.session) (Some v) →
+    Moved old new event given d done t.session v after →
+    ((client waited : Option ℕ) (a p : ℕ) (before : Option ℕ) → held_after d t.session client waited a p before ≡ before) →
+    new.numbers ≡ old.numbers → new.board ≡ old.board → new.failures ≡ old.failures → new.stopped ≡ old.stopped →
+    Serves old new log event given d done
+serves-told old new log event given d done t v after st passes told there right acts moved holds numbers board failed stopped =
+    serves-named old new log event given d done t.session v after st (job-named event.kind t told)
+    (by_telling (λ (k : EventKind). is_accepted k ≡ false) event.kind t told refl refl) passes.counts
+    (sym (st.tables.sessions t.session) ∙ there) right acts
+    (record {
+      moved = moved;
+      numbers = λ q.
+          ap (λ (x : Used). has x q) numbers
+          ∙ ap (λ (n : Option ℕ). is_number n q || has old.numbers q) (sym (by_telling (λ (k : EventKind). new_number k d ≡ None) event.kind t told refl refl));
+      holders = λ shared a p. same_board a p ∙ sym (holds (ipv4 v.opening.client) (waiting_port v.slot) a p (holder_at old.board a p));
+      alone = λ alone. same_board;
+      failures = subst (λ (x : Option Table). FailuresMoved old x event v) (sym failed) (failures-stay old event v unsaid);
+      stopped = stopped;
+    })
+    (λ said.
+    let clash : true ≡ false = sym said ∙ unsaid in
+    cc)
+  where
+    unsaid : is_auth event.kind ≡ false
+    unsaid = by_telling (λ (k : EventKind). is_auth k ≡ false) event.kind t told refl refl
+
+    same_board : (a p : ℕ) → holder_at new.board a p ≡ holder_at old.board a p
+    same_board a p = ap (λ (x : Board). holder_at x a p) board
+
+-- the tables after the end of a transfer of a live session, behind which another may start: it is told as by the end of its ticket
+pub serves-ended :
+    (old new : Hub) (log : List Entry) (event : HubEvent) (given : Answer) (d : Decision) (done : List Action) (t : Ticket) (job : Running) (v after : Session) (taken : Jobs) →
+    Stands old log → Passes d → job_ticket event.kind ≡ Some t →
+    map.get nat_eq old.jobs t.session ≡ Some job → map.get nat_eq old.sessions t.session ≡ Some v → job.job.ticket ≡ t →
+    d ≡ decide old.options log event given →
+    done ≡ session_acts old.options job.job.ticket.session (kind.End job.job.ticket) given d (Some job) (Some v) →
+    session_acts old.options t.session (kind.End t) given d (Some job) (Some v) ≡ session_acts old.options t.session (kind.Piece t) given d (Some job) (Some v) →
+    after ≡ session_after event.at (kind.End job.job.ticket) given d (notices_of (kind.End job.job.ticket) d given) (Some job) v →
+    session_after event.at (kind.End t) given d (notices_of (kind.End t) d given) (Some job) v ≡ session_after event.at (kind.Piece t) given d (notices_of (kind.Piece t) d given) (Some job) v →
+    SessionsMoved old.sessions new.sessions d t.session after →
+    ((n : ℕ) → map.get nat_eq taken n ≡ cond (t.session == n) None (map.get nat_eq old.jobs n)) → map.hash_map_len taken + 1 ≡ map.hash_map_len old.jobs →
+    Starts taken new.jobs job.job.ticket.session (starting (kind.End job.job.ticket) d (Some job) v) →
+    starting (kind.End job.job.ticket) d (Some job) v ≡ starting event.kind d (Some job) v →
+    option_or (starting event.kind d (Some job) v) None ≡ next_running event.kind given d (Some job) v →
+    stopped d + total ended (completions t.session event.kind d (stays d (Some v)) (Some job)) ≡ 1 →
+    ((client waited : Option ℕ) (a p : ℕ) (before : Option ℕ) → held_after d t.session client waited a p before ≡ before) →
+    new.options ≡ old.options → new.numbers ≡ old.numbers → new.board ≡ old.board → new.failures ≡ old.failures → new.stopped ≡ old.stopped →
+    Serves old new log event given d done
+serves-ended old new log event given d done t job v after taken st passes told there_job there same right acts acts_alike session session_alike sessions took fewer begins begun ends one holds options numbers board failed stopped =
+    serves-told old new log event given d done t v after st passes told there right
+    (own_acts ∙ ap (λ (x : Option Running). session_acts old.options t.session event.kind given d x (Some v)) (sym there_job))
+    (record {
+      options = options;
+      session =
+          session
+          ∙ as-told (λ (x : Ticket) (k : EventKind). session_after event.at k given d (notices_of k d given) (Some job) v) event.kind t job.job.ticket same told session_alike
+          ∙ ap (λ (x : Option Running). session_after event.at event.kind given d (notices_of event.kind d given) x v) (sym there_job);
+      sessions = sessions;
+      jobs = record {
+        table = λ q.
+            jobs-finished old.jobs taken new.jobs t.session q event.kind given d job v ends took starts
+            ∙ ap (λ (x : Option Running). cond (t.session == q) (next_running event.kind given d x v) (map.get nat_eq old.jobs q)) (sym there_job);
+        running =
+            running-finished old.options t.session event.kind given d job v old.jobs taken new.jobs one fewer starts
+            ∙ ap (λ xs. running_after d xs (map.hash_map_len old.jobs)) (sym own_acts);
+      };
+    })
+    holds numbers board failed stopped
+  where
+    own_acts : done ≡ session_acts old.options t.session event.kind given d (Some job) (Some v)
+    own_acts = acts ∙ as-told (λ (x : Ticket) (k : EventKind). session_acts old.options x.session k given d (Some job) (Some v)) event.kind t job.job.ticket same told acts_alike
+
+    starts : Starts taken new.jobs t.session (starting event.kind d (Some job) v)
+    starts = subst (λ (x : Ticket). Starts taken new.jobs x.session (starting event.kind d (Some job) v)) same (subst (Starts taken new.jobs job.job.ticket.session) begun begins)

@@ -1,21 +1,16 @@
-use Rattle.std.proofs.Common.{◌≡◌, refl, sym, ap, ◌∙◌, subst, ℕ, ◌+◌, ◌++◌, ◌||◌, true, false, Option, Some, None, [], ◌∷◌, cond, arith}
-use Rattle.std.specs.Prelude.{nat_eq, ◌==◌, IsSomeAnd}
+use Rattle.std.proofs.Common.{◌≡◌, refl, sym, ap, ◌∙◌, subst, ◌+◌, ◌++◌, true, false, Option, Some, None, [], ◌∷◌, arith}
+use Rattle.std.specs.Prelude.{nat_eq, IsSomeAnd}
 use Rattle.std.specs.HashMap as map
-use Rattle.ftp_hub.proofs.Common.{Answer, EventKind, IsFew, Jobs, Running, Session, Starts, Ticket, has, new_number, next_running, notices_of, running_after, session_acts, session_after, starting}
+use Rattle.ftp_hub.proofs.Common.{Answer, EventKind, IsFew, Running, Session, Ticket, has, running_after}
 use Rattle.ftp_events.specs.declared.action.Action.TheVariants as action
 use Rattle.ftp_events.specs.declared.decision.Decision.TheVariants as decision
 use Rattle.ftp_events.specs.declared.event.Answer.TheVariants.{Done}
 use Rattle.ftp_events.specs.declared.event.EventKind.TheVariants as kind
 use Rattle.ftp_events.specs.EndRows.{can_end}
-use Rattle.ftp_events.specs.Words.{is_number}
-use Rattle.ftp_handlers.specs.Handlers.{is_auth}
-use Rattle.ftp_laws.proofs.Cases.{job-named}
 use Rattle.ftp_laws.proofs.RunningLemmas.{runs-started}
-use Rattle.ftp_hub.specs.Arrivals.{is_accepted}
-use Rattle.ftp_hub.proofs.Failures.{failures-stay}
 use Rattle.ftp_hub.proofs.Moved.{Sessions}
-use Rattle.ftp_hub.proofs.Named.{few-counts, serves-named}
-use Rattle.ftp_hub.proofs.Ends.{by_telling, finish-due, finished-passes, jobs-finished, running-finished, serves-lost}
+use Rattle.ftp_hub.proofs.Named.{few-counts}
+use Rattle.ftp_hub.proofs.Ends.{finish-due, finished-passes, serves-ended, serves-lost}
 use Rattle.ftp_hub.proofs.hub.Hub.finish.Goals as goal
 
 -- a session that has ended
@@ -43,59 +38,18 @@ returns-in-None-clause-serves c log st =
 pub returns-in-Some-get_mut-clause-serves : goal.returns-in-Some-get_mut-clause-serves
 returns-in-Some-get_mut-clause-serves c log st =
     let t : Ticket = c.args.ticket in
-    let s = t.session in
-    let at = c.args.event.now.at in
-    let o = c.args.self.now.options in
-    let k : EventKind = c.args.event.now.kind in
-    let a : Answer = Done c.args.outcome in
     let job : Running = c.in-Some.job in
     let v : Session = c.in-Some-get_mut.session.now in
-    let jobs : Jobs = c.args.self.now.jobs in
     let told = c.requires.of_this_event in
-    let there_job : map.get nat_eq jobs s ≡ Some job = sym c.take.ensures.value ∙ c.in-Some.is in
+    let there_job : map.get nat_eq c.args.self.now.jobs t.session ≡ Some job = sym c.take.ensures.value ∙ c.in-Some.is in
     let known = subst (λ (x : Option Running). IsSomeAnd x (λ (r : Running). (r.job.ticket ≡ t) × (r.marked ≡ false) × (can_end r.job c.args.outcome ≡ true))) there_job c.requires.runs in
-    let there : map.get nat_eq c.args.self.now.sessions s ≡ Some v = sym c.in-Some-get_mut.ensures.value in
-    let few : IsFew v = few-counts c.args.self.now log s v st c.requires.fits.below (sym (st.tables.sessions s) ∙ there) in
+    let there : map.get nat_eq c.args.self.now.sessions t.session ≡ Some v = sym c.in-Some-get_mut.ensures.value in
+    let few : IsFew v = few-counts c.args.self.now log t.session v st c.requires.fits.below (sym (st.tables.sessions t.session) ∙ there) in
     let lent = c.get_mut.follows.holds c.finish.new.session in
-    let acts =
-    c.finish.ensures.actions few.notices
-    ∙ ap (λ (x : Ticket). session_acts o x.session (kind.End x) a decision.Finished (Some job) (Some v)) known.0
-    ∙ by_telling (λ (x : EventKind). session_acts o s (kind.End t) a decision.Finished (Some job) (Some v) ≡ session_acts o s x a decision.Finished (Some job) (Some v)) k t told refl refl
-    in
-    let fewer : map.hash_map_len c.take.new.table + 1 ≡ map.hash_map_len jobs = omega (arith, rw c.in-Some.is at c.take.ensures.len) in
-    let begins : Starts c.take.new.table c.finish.new.jobs s (starting k decision.Finished (Some job) v) =
-    subst (λ (x : Ticket). Starts c.take.new.table c.finish.new.jobs x.session (starting k decision.Finished (Some job) v)) known.0 c.finish.ensures.starts
-    in
-    serves-named c.args.self.now _ log c.args.event.now a decision.Finished _ s v c.finish.new.session st (job-named k t told)
-    (by_telling (λ (x : EventKind). is_accepted x ≡ false) k t told refl refl) refl
-    (sym (st.tables.sessions s) ∙ there) (finish-due c.args.self.now log c.args.event.now c.args.outcome t job st told there_job known.0 known.1 known.2)
-    (acts ∙ ap (λ (x : Option Running). session_acts o s k a decision.Finished x (Some v)) (sym there_job))
-    (record {
-      moved = record {
-        options = refl;
-        session =
-            c.finish.ensures.session few.notices
-            ∙ ap (λ (x : Ticket). session_after at (kind.End x) a decision.Finished (notices_of (kind.End x) decision.Finished a) (Some job) v) known.0
-            ∙ by_telling
-            (λ (x : EventKind). session_after at (kind.End t) a decision.Finished (notices_of (kind.End t) decision.Finished a) (Some job) v ≡ session_after at x a decision.Finished (notices_of x decision.Finished a) (Some job) v)
-            k t told refl refl
-            ∙ ap (λ (x : Option Running). session_after at k a decision.Finished (notices_of k decision.Finished a) x v) (sym there_job);
-        sessions = record { table = (lent.3 (rw there refl)).0; live = lent.2 };
-        jobs = record {
-          table = λ q.
-              jobs-finished jobs c.take.new.table c.finish.new.jobs s q k a decision.Finished job v (sym (runs-started v.slot v.pending None)) c.take.ensures.updates begins
-              ∙ ap (λ (x : Option Running). cond (s == q) (next_running k a decision.Finished x v) (map.get nat_eq jobs q)) (sym there_job);
-          running =
-              running-finished o s k a decision.Finished job v jobs c.take.new.table c.finish.new.jobs (rw told refl) fewer begins
-              ∙ ap (λ xs. running_after decision.Finished xs (map.hash_map_len jobs)) (sym acts);
-        };
-      };
-      numbers = λ q. ap (λ (n : Option ℕ). is_number n q || has c.args.self.now.numbers q) (sym (by_telling (λ (x : EventKind). new_number x decision.Finished ≡ None) k t told refl refl));
-      holders = λ shared a p. refl;
-      alone = λ alone a p. refl;
-      failures = failures-stay c.args.self.now c.args.event.now v (by_telling (λ (x : EventKind). is_auth x ≡ false) k t told refl refl);
-      stopped = refl;
-    })
-    (λ said.
-    let clash : true ≡ false = sym said ∙ by_telling (λ (x : EventKind). is_auth x ≡ false) k t told refl refl in
-    cc)
+    serves-ended c.args.self.now _ log c.args.event.now (Done c.args.outcome) decision.Finished _ t job v c.finish.new.session c.take.new.table st finished-passes told there_job there known.0
+    (finish-due c.args.self.now log c.args.event.now c.args.outcome t job st told there_job known.0 known.1 known.2)
+    (c.finish.ensures.actions few.notices) refl
+    (c.finish.ensures.session few.notices) refl
+    (record { table = (lent.3 (rw there refl)).0; live = lent.2 })
+    c.take.ensures.updates (omega (arith, rw c.in-Some.is at c.take.ensures.len)) c.finish.ensures.starts refl (sym (runs-started v.slot v.pending None)) (rw told refl)
+    (λ client waited a p before. refl) refl refl refl refl refl

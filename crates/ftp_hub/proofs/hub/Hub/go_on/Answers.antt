@@ -1,22 +1,17 @@
-use Rattle.std.proofs.Common.{◌≡◌, refl, sym, ap, ◌∙◌, subst, ℕ, ◌||◌, true, false, Option, Some, None, [], add-zero}
+use Rattle.std.proofs.Common.{◌≡◌, refl, sym, ap, ◌∙◌, subst, true, false, Option, Some, None, [], add-zero}
 use Rattle.std.specs.Prelude.{nat_eq, IsSomeAnd}
 use Rattle.std.specs.HashMap as map
 use Rattle.std.specs.Option.{option_copied_mut, option_map}
-use Rattle.ftp_hub.proofs.Common.{Answer, EventKind, Jobs, Running, Session, Ticket, has, job_ticket, kept_running, named_session, new_number, session_acts, session_after}
+use Rattle.ftp_hub.proofs.Common.{Answer, EventKind, Jobs, Running, Session, Ticket, has, job_ticket, kept_running, session_acts, session_after}
 use Rattle.ftp_events.specs.declared.decision.Decision.TheVariants as decision
 use Rattle.ftp_events.specs.declared.event.Answer.TheVariants.{Moved}
 use Rattle.ftp_events.specs.declared.event.EventKind.TheVariants.{Piece}
 use Rattle.ftp_events.specs.EndRows.{can_move}
 use Rattle.ftp_events.specs.Slot.{raise}
-use Rattle.ftp_events.specs.Words.{is_number}
-use Rattle.ftp_handlers.specs.Handlers.{is_auth}
-use Rattle.ftp_hub.specs.Arrivals.{is_accepted}
 use Rattle.ftp_hub.proofs.Decisions.{changed-at}
-use Rattle.ftp_hub.proofs.Failures.{failures-stay}
 use Rattle.ftp_hub.proofs.Moved.{Sessions, jobs-kept, sessions-stay}
-use Rattle.ftp_hub.proofs.Named.{serves-named}
 use Rattle.ftp_hub.proofs.Running.{running-none}
-use Rattle.ftp_hub.proofs.Ends.{move-due, moved-passes, serves-lost}
+use Rattle.ftp_hub.proofs.Ends.{move-due, moved-passes, serves-lost, serves-told}
 use Rattle.ftp_hub.proofs.hub.Hub.go_on.Goals as goal
 
 -- a session that has ended
@@ -66,25 +61,16 @@ returns-in-Some-get_mut-clause-serves c log st =
     let unchanged : after ≡ session_after at (Piece t) a decision.Moved 0 (map.get nat_eq jobs s) v =
     λ i. record v { active_at = at; notices = sym (add-zero v.notices) i; tickets = sym (add-zero v.tickets) i }
     in
-    serves-named c.args.self.now _ log c.args.event.now a decision.Moved [] s v after st (ap named_session is) (ap is_accepted is) refl
-    (sym (st.tables.sessions s) ∙ there) (move-due c.args.self.now log c.args.event.now c.args.bytes t job st is there_job known.0 known.1 known.2)
+    serves-told c.args.self.now _ log c.args.event.now a decision.Moved [] t v after st moved-passes (ap job_ticket is) there
+    (move-due c.args.self.now log c.args.event.now c.args.bytes t job st is there_job known.0 known.1 known.2)
     acts
     (record {
-      moved = record {
-        options = refl;
-        session = unchanged ∙ ap (λ (x : EventKind). session_after at x a decision.Moved 0 (map.get nat_eq jobs s) v) (sym is);
-        sessions = sessions-stay c.args.self.now.sessions _ decision.Moved s after refl (λ n. refl) (λ q. (lent.3 (rw there refl)).0 q) lent.2;
-        jobs =
-            jobs-kept jobs _ o s k a a decision.Moved [] s v (record { unfinished = refl; starts = λ k queued l. refl }) (λ job. refl)
-            (λ q. (lent_job.3 (rw there_job refl)).0 q ∙ changed-at (map.get nat_eq jobs) (kept_running decision.Moved a) s q (Some (raise c.args.bytes job)) (ap (option_map (raise c.args.bytes)) there_job))
-            lent_job.2 acts;
-      };
-      numbers = λ q. ap (λ (n : Option ℕ). is_number n q || has c.args.self.now.numbers q) (sym (ap (λ (x : EventKind). new_number x decision.Moved) is));
-      holders = λ shared a p. refl;
-      alone = λ alone a p. refl;
-      failures = failures-stay c.args.self.now c.args.event.now v (ap is_auth is);
-      stopped = refl;
+      options = refl;
+      session = unchanged ∙ ap (λ (x : EventKind). session_after at x a decision.Moved 0 (map.get nat_eq jobs s) v) (sym is);
+      sessions = sessions-stay c.args.self.now.sessions _ decision.Moved s after refl (λ n. refl) (λ q. (lent.3 (rw there refl)).0 q) lent.2;
+      jobs =
+          jobs-kept jobs _ o s k a a decision.Moved [] s v (record { unfinished = refl; starts = λ k queued l. refl }) (λ job. refl)
+          (λ q. (lent_job.3 (rw there_job refl)).0 q ∙ changed-at (map.get nat_eq jobs) (kept_running decision.Moved a) s q (Some (raise c.args.bytes job)) (ap (option_map (raise c.args.bytes)) there_job))
+          lent_job.2 acts;
     })
-    (λ said.
-    let clash : true ≡ false = sym said ∙ ap is_auth is in
-    cc)
+    (λ client waited a p before. refl) refl refl refl refl
