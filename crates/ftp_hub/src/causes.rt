@@ -1,6 +1,6 @@
 //! What a hub refuses of a state that it is made from: what a session or a job lacks.
 
-ghost use Rattle.std.specs.Prelude.{◌≡◌, ◌⊎◌, ℕ, ◌||◌, false, IfErr, OnOk, Option, is_some, nat_eq};
+ghost use Rattle.std.specs.Prelude.{◌≡◌, ◌⊎◌, ◌||◌, false, IfErr, OnOk, Option, is_some, nat_eq};
 ghost use Rattle.std.specs.HashMap as map;
 ghost use Rattle.std.specs.List.{list_any};
 ghost use Rattle.ftp_events.specs.declared.session.Running.{Running};
@@ -10,6 +10,7 @@ ghost use Rattle.ftp_hub.specs.Refused.{OneLacks, has_login, has_numbers, has_pl
 
 use crate::hub::Hub;
 use crate::state::{RecordLine, StateError};
+use crate::tables::sorted_keys;
 use ftp_events::{Login, Running, Session, Slot};
 use ftp_options::Options;
 use ftp_switchboard::Numbers;
@@ -173,11 +174,11 @@ impl Hub {
         ensures passed { OnOk result (OneLacks (known_by self.now) (map.get nat_eq self.now.sessions) (map.get nat_eq self.now.jobs) refusal → ⊥) }
         ensures refused { IfErr result (λ e. (e ≡ OutOfMemory) ⊎ ((e ≡ refusal) × OneLacks (known_by self.now) (map.get nat_eq self.now.sessions) (map.get nat_eq self.now.jobs) refusal)) }
     {
-        let live = self.live_numbers()?;
+        let live = sorted_keys(self.alloc, &self.sessions)?;
         if self.some_session_lacks(refusal, &live) {
             return Err(refusal);
         }
-        let running = self.running_numbers()?;
+        let running = sorted_keys(self.alloc, &self.jobs)?;
         if self.some_job_lacks(refusal, &running) {
             return Err(refusal);
         }

@@ -16,6 +16,7 @@ ghost use Rattle.ftp_hub.specs.State.{WaitsAt};
 
 use crate::hub::Hub;
 use crate::state::StateError;
+use crate::tables::sorted_keys;
 use ftp_base::IpAddr;
 use ftp_events::{Session, Slot};
 use ftp_options::Options;
@@ -157,7 +158,7 @@ impl Hub {
         if self.options.mode.is_legacy() {
             return Ok(board);
         }
-        let live = self.live_numbers()?;
+        let live = sorted_keys(self.alloc, &self.sessions)?;
         if self.have_v6_rivals(&live) {
             return Err(StateError::Port);
         }

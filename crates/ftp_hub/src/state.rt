@@ -1,14 +1,13 @@
 //! What a hub knows, as plain data.
 
-ghost use Rattle.std.specs.Prelude.{◌≡◌, ◌++◌, ℕ, List, [], ◌∷◌, length, map as each, IfOk, OnOk, Some, option_to_list, nat_eq, is_some};
-ghost use Rattle.std.specs.Option.{option_map, option_and_then};
+ghost use Rattle.std.specs.Prelude.{◌≡◌, ◌++◌, List, [], ◌∷◌, IfOk, OnOk, Some, option_to_list, nat_eq};
 ghost use Rattle.std.specs.HashMap as map;
-ghost use Rattle.ftp_laws.specs.Census.{IsAscending, has as is_listed};
 ghost use Rattle.ftp_events.specs.declared.entry.Entry.{Entry};
 ghost use Rattle.ftp_hub.specs.Stands.{Stands, options_of};
 ghost use Rattle.ftp_hub.specs.State.{AreMadeBy, AreOwn, AreTidy, IsForm, IsState, TellsState, TellsJobs, TellsSessions, kept_of, queued_told, session_told, slot_told, told_of};
 
 use crate::hub::Hub;
+use crate::tables::sorted_keys;
 use ftp_base::{Bytes, DataChanCmd, IpAddr, SocketAddr};
 use ftp_events::{Login, Session, Slot};
 use ftp_switchboard::Interval;
@@ -333,7 +332,7 @@ impl Hub {
     pub(crate) fn session_lines(&self) -> Result<SessionLines, AllocError>
         ensures { IfOk result (λ lines. AreTidy (map.get nat_eq self.now.sessions) → TellsSessions self.now.sessions lines.sessions.items lines.slots.items lines.queued.items) }
     {
-        let numbers = self.live_numbers()?;
+        let numbers = sorted_keys(self.alloc, &self.sessions)?;
         let mut lines = SessionLines::none(self.alloc);
         for number in &numbers {
             let Some(session) = self.sessions.get(number) else {
@@ -344,25 +343,11 @@ impl Hub {
         Ok(lines)
     }
 
-    // The numbers of the sessions of which a job runs, in order.
-    pub(crate) fn running_numbers(&self) -> Result<Vec<u64>, AllocError>
-        ensures in_order { IfOk result (λ numbers. IsAscending numbers.items) }
-        ensures all { IfOk result (λ numbers. (s : ℕ) → is_listed numbers.items s ≡ is_some (map.get nat_eq self.now.jobs s)) }
-        ensures len { IfOk result (λ numbers. length numbers.items ≡ map.hash_map_len self.now.jobs) }
-    {
-        let mut numbers = Vec::with_capacity(self.alloc, self.jobs.len())?;
-        for number in self.jobs.keys() {
-            numbers.push(*number)?;
-        }
-        numbers.sort_unstable();
-        Ok(numbers)
-    }
-
     // The line of every job that runs, in order of its session.
     pub(crate) fn job_lines(&self) -> Result<Vec<JobLine>, AllocError>
         ensures { IfOk result (λ lines. AreOwn (map.get nat_eq self.now.jobs) → TellsJobs self.now.jobs lines.items) }
     {
-        let numbers = self.running_numbers()?;
+        let numbers = sorted_keys(self.alloc, &self.jobs)?;
         let mut lines = Vec::new(self.alloc);
         for number in &numbers {
             let Some(running) = self.jobs.get(number) else {

@@ -1,6 +1,6 @@
 //! A stop: who leaves, and how.
 
-ghost use Rattle.std.specs.Prelude.{◌≡◌, ◌++◌, ◌-◌, ◌^◌, ◌<◌, ℕ, List, Option, IfOk, IsTrue, None, flat_map, is_some, nat_eq, length};
+ghost use Rattle.std.specs.Prelude.{◌≡◌, ◌++◌, ◌-◌, ◌<◌, ℕ, List, Option, IfOk, IsTrue, None, flat_map, nat_eq};
 ghost use Rattle.std.specs.HashMap as map;
 ghost use Rattle.ftp_events.specs.declared.entry.Entry.{Entry};
 ghost use Rattle.ftp_events.specs.declared.decision.Decision.TheVariants.{Stopped};
@@ -10,12 +10,11 @@ ghost use Rattle.ftp_events.specs.declared.session.Running.{Running};
 ghost use Rattle.ftp_events.specs.Acts.{session_acts};
 ghost use Rattle.ftp_options.specs.declared.options.Options.{Options};
 ghost use Rattle.ftp_handlers.specs.Rooms.{HasLeave, actions_in, leavers_in, twice_in};
-ghost use Rattle.ftp_laws.specs.Census.{IsAscending, has as is_listed};
 ghost use Rattle.ftp_hub.specs.Leavers.{AreFew, AreLeavers, is_shutdown, numbers_of};
 ghost use Rattle.ftp_hub.specs.Stands.{Fits, SameHead, Serves, Stands};
 
 use crate::hub::Hub;
-use crate::tables::take;
+use crate::tables::{sorted_keys, take};
 use ftp_events::{Answer, Decision, EventKind, HubEvent, Session};
 use ftp_handlers::{Leavers, Room, stop};
 use std::alloc::AllocError;
@@ -38,7 +37,7 @@ impl Hub {
         ensures leavers { IfOk result (λ leavers. AreLeavers (map.get nat_eq self.now.sessions) leavers.items) }
         ensures twice { IfOk result (λ leavers. leavers.twice ≡ twice) }
     {
-        let numbers = self.live_numbers()?;
+        let numbers = sorted_keys(self.alloc, &self.sessions)?;
         let mut leavers = Leavers::none(self.alloc, twice);
         for number in &numbers {
             let Some(session) = self.sessions.get(number) else {
@@ -47,20 +46,6 @@ impl Hub {
             leavers.add(*number, session)?;
         }
         Ok(leavers)
-    }
-
-    // The numbers of the live sessions in order.
-    pub(crate) fn live_numbers(&self) -> Result<Vec<u64>, AllocError>
-        ensures in_order { IfOk result (λ numbers. IsAscending numbers.items) }
-        ensures all { IfOk result (λ numbers. (s : ℕ) → is_listed numbers.items s ≡ is_some (map.get nat_eq self.now.sessions s)) }
-        ensures len { IfOk result (λ numbers. length numbers.items ≡ map.hash_map_len self.now.sessions) }
-    {
-        let mut numbers = Vec::with_capacity(self.alloc, self.sessions.len())?;
-        for number in self.sessions.keys() {
-            numbers.push(*number)?;
-        }
-        numbers.sort_unstable();
-        Ok(numbers)
     }
 
     // Every live session ends, and no other will be opened.
