@@ -1,5 +1,5 @@
 -- Lines by their numbers, read from the last one on.
-use Rattle.std.proofs.Common.{◌≡◌, refl, sym, ap, ◌∙◌, subst, ℕ, ◌+◌, ◌<◌, ◌≤◌, Bool, true, false, true≢false, cond, List, [], ◌∷◌, ◌++◌, length, map, Option, Some, None, eqb-true, arith}
+use Rattle.std.proofs.Common.{◌≡◌, refl, sym, ap, ◌∙◌, subst, ℕ, ◌+◌, ◌<◌, Bool, true, false, cond, List, [], ◌∷◌, ◌++◌, length, map, Option, Some, None, eqb-true, arith}
 use Rattle.std.specs.Prelude.{◌==◌, is_some}
 use Rattle.std.specs.List.{AllByRecursion}
 use Rattle.std.specs.Option.{option_map, option_or}
@@ -32,15 +32,18 @@ put-step {A = A} {B = B} number f lines line s now =
     go None true = refl
     go None false = refl
 
--- values that are changed from the last line on: an earlier line has the last word
+-- values that are changed from the last line on are in the end as with all: an earlier line has the last word
 pub change-step :
-    {A B : Type 0} (number : A → ℕ) (f : Option A → B → B) (lines : List A) (line : A) (s : ℕ) (now : Option B) →
+    {A B : Type 0} (number : A → ℕ) (f : Option A → B → B) (all lines : List A) (line : A) (s : ℕ) (now next done : Option B) →
     ((v : B) → f None v ≡ v) → ((a b : A) (v : B) → f (Some a) (f (Some b) v) ≡ f (Some a) v) →
-    option_map (f (line_of number lines s)) (cond (number line == s) (option_map (f (Some line)) now) now)
-    ≡ option_map (f (line_of number (lines ++ line ∷ []) s)) now
-change-step {A = A} {B = B} number f lines line s now none again =
-    go (line_of number lines s) (number line == s) now
+    all ≡ lines ++ line ∷ [] → next ≡ cond (number line == s) (option_map (f (Some line)) now) now →
+    option_map (f (line_of number all s)) now ≡ done → option_map (f (line_of number lines s)) next ≡ done
+change-step {A = A} {B = B} number f all lines line s now next done none again last told so_far =
+    ap (option_map (f (line_of number lines s))) told
+    ∙ go (line_of number lines s) (number line == s) now
     ∙ ap (λ x. option_map (f x) now) (sym (line-last number lines line s))
+    ∙ ap (λ (ls : List A). option_map (f (line_of number ls s)) now) (sym last)
+    ∙ so_far
   where
     go : (x : Option A) (b : Bool) (v : Option B) → option_map (f x) (cond b (option_map (f (Some line)) v) v) ≡ option_map (f (option_or x (cond b (Some line) None))) v
     go x true None = refl
