@@ -12,6 +12,7 @@ use Rattle.ftp_switchboard.specs.Board.{Board}
 use Rattle.ftp_hub.proofs.Failures.{FailuresMoved}
 use Rattle.ftp_hub.proofs.Refusals.{tables-same}
 use Rattle.ftp_hub.proofs.Running.{IsIdle, running-idle}
+use Rattle.ftp_hub.specs.Stands.{SameTables}
 
 -- the live sessions, by number
 abbrev pub Sessions : Type 0
@@ -52,15 +53,13 @@ session-back old new s v there table q =
     table q ∙ ap (λ (x : Option Session). cond (s == q) x (map.get nat_eq old q)) (sym there) ∙ put-back (map.get nat_eq old) s q
 
 -- tables of which that of sessions alone was lent, and answers as before
-pub tables-lent :
-    (old new : Hub) (past : List Entry) →
-    new.options ≡ old.options → ((q : ℕ) → map.get nat_eq new.sessions q ≡ map.get nat_eq old.sessions q) →
-    map.hash_map_len new.sessions ≡ map.hash_map_len old.sessions →
+pub same-lent :
+    (old new : Hub) →
+    ((q : ℕ) → map.get nat_eq new.sessions q ≡ map.get nat_eq old.sessions q) → map.hash_map_len new.sessions ≡ map.hash_map_len old.sessions →
     new.jobs ≡ old.jobs → new.numbers ≡ old.numbers → new.board ≡ old.board → new.failures ≡ old.failures → new.stopped ≡ old.stopped →
-    Tables old past → Tables new past
-tables-lent old new past options sessions len jobs numbers board failed stopped tables =
-    tables-same old new past options
-    (record {
+    SameTables old new
+same-lent old new sessions len jobs numbers board failed stopped =
+    record {
       sessions = sessions;
       live = len;
       jobs = λ q. ap (λ (m : Jobs). map.get nat_eq m q) jobs;
@@ -69,7 +68,17 @@ tables-lent old new past options sessions len jobs numbers board failed stopped 
       holders = λ a p. ap (λ (x : Board). holder_at x a p) board;
       failures = λ key. ap (λ (x : Option Table). failures_in x key) failed;
       stopped = stopped;
-    }) tables
+    }
+
+-- so they answer as the same past
+pub tables-lent :
+    (old new : Hub) (past : List Entry) →
+    new.options ≡ old.options → ((q : ℕ) → map.get nat_eq new.sessions q ≡ map.get nat_eq old.sessions q) →
+    map.hash_map_len new.sessions ≡ map.hash_map_len old.sessions →
+    new.jobs ≡ old.jobs → new.numbers ≡ old.numbers → new.board ≡ old.board → new.failures ≡ old.failures → new.stopped ≡ old.stopped →
+    Tables old past → Tables new past
+tables-lent old new past options sessions len jobs numbers board failed stopped tables =
+    tables-same old new past options (same-lent old new sessions len jobs numbers board failed stopped) tables
 
 -- the session goes on
 pub sessions-stay :

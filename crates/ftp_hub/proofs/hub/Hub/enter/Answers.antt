@@ -1,11 +1,12 @@
-use Rattle.std.proofs.Common.{◌≡◌, sym, ap, ◌∙◌, subst, [], ◌∷◌, List, Option, arith}
-use Rattle.ftp_hub.proofs.Common.{Action, Answer, Decision, Entry, Hub, IsActed, IsRight, Options, acts, decide, entry, past_of}
+use Rattle.std.proofs.Common.{◌≡◌, refl, sym, ap, ◌∙◌, subst, [], ◌∷◌, List, Option, arith}
+use Rattle.ftp_hub.proofs.Common.{Action, Answer, Decision, Entry, Hub, IsActed, IsRight, Options, acts, decide, entry}
 use Rattle.ftp_events.specs.declared.counters.Counters.{Counters}
 use Rattle.ftp_events.specs.declared.status.Ended.{Ended}
 use Rattle.ftp_handlers.specs.Rooms.{actions_in}
 use Rattle.ftp_hub.specs.Stands.{ended_in}
 use Rattle.ftp_hub.proofs.Counting.{Notes, counted-more}
 use Rattle.ftp_hub.proofs.Refusals.{same-refused}
+use Rattle.ftp_hub.proofs.Moved.{tables-lent}
 use Rattle.ftp_hub.proofs.hub.Hub.enter.Goals as goal
 
 -- the entry that is due
@@ -32,29 +33,14 @@ returns-clause-refused c log st refused =
 pub returns-clause-stands : goal.returns-clause-stands
 unfolding decide acts
 returns-clause-stands c log st =
-    let old : Hub = c.args.self.now in
     let h : Hub = c.serve-decision.new.self in
-    let event = c.args.event.now in
-    let a : Answer = c.args.answer in
-    let d : Decision = c.serve-decision.result in
-    let done : List Action = actions_in c.serve-decision.new.room in
-    let e : Entry = entry event a d done in
+    let e : Entry = entry c.args.event.now c.args.answer c.serve-decision.result (actions_in c.serve-decision.new.room) in
     let head = c.serve-decision.ensures.head in
     let served = c.serve-decision.ensures.serves log st in
-    let tables = served.tables in
     record {
       right = subst (λ (o : Options). IsRight o (e ∷ log)) (sym head.options) (st.right, served.decision);
       acted = subst (λ (o : Options). IsActed o (e ∷ log)) (sym head.options) (st.acted, served.done);
-      tables = record {
-        sessions = tables.sessions;
-        live = tables.live;
-        jobs = tables.jobs;
-        running = tables.running;
-        numbers = tables.numbers;
-        holders = tables.holders;
-        failures = tables.failures;
-        stopped = tables.stopped;
-      };
+      tables = tables-lent h _ _ refl (λ q. refl) refl refl refl refl refl refl served.tables;
       counted = omega (arith, head.count, st.counted);
     }
 

@@ -1,6 +1,8 @@
-use Rattle.std.proofs.Common.{◌≡◌, sym, subst, ◌∷◌, List}
+use Rattle.std.proofs.Common.{◌≡◌, refl, sym, subst, ◌∷◌, List}
 use Rattle.ftp_hub.proofs.Common.{Action, Decision, Hub, Stands, entry}
 use Rattle.ftp_handlers.specs.Rooms.{actions_in}
+use Rattle.ftp_hub.proofs.Moved.{same-lent}
+use Rattle.ftp_hub.proofs.Refusals.{stands-same}
 use Rattle.ftp_hub.proofs.hub.Hub.step.Goals as goal
 
 -- the hub stands for the longer log, whatever it keeps for the next event
@@ -9,24 +11,8 @@ returns-clause-stands c log st =
     let h : Hub = c.enter-decision.new.self in
     let d : Decision = c.enter-decision.result in
     let taken : c.take_actions-actions.result ≡ actions_in c.enter-decision.new.room = cc in
-    let stood : Stands h (entry c.args.event c.args.answer d c.take_actions-actions.result ∷ log) =
-    subst (λ (xs : List Action). Stands h (entry c.args.event c.args.answer d xs ∷ log)) (sym taken) (c.enter-decision.ensures.stands log st) in
-    let tables = stood.tables in
-    record {
-      right = stood.right;
-      acted = stood.acted;
-      tables = record {
-        sessions = tables.sessions;
-        live = tables.live;
-        jobs = tables.jobs;
-        running = tables.running;
-        numbers = tables.numbers;
-        holders = tables.holders;
-        failures = tables.failures;
-        stopped = tables.stopped;
-      };
-      counted = stood.counted;
-    }
+    stands-same h _ _ (record { head = record { options = refl; count = refl; counters = refl }; tables = same-lent h _ (λ q. refl) refl refl refl refl refl refl })
+    (subst (λ (xs : List Action). Stands h (entry c.args.event c.args.answer d xs ∷ log)) (sym taken) (c.enter-decision.ensures.stands log st))
 
 -- a refused event changes no table
 pub returns-clause-refused : goal.returns-clause-refused
