@@ -14,7 +14,6 @@ use Rattle.ftp_events.specs.declared.event.EventKind.TheVariants as kind
 use Rattle.ftp_events.specs.Acts.{acts_of, closings, refused_link}
 use Rattle.ftp_events.specs.Ages.{is_activity}
 use Rattle.ftp_events.specs.Log.{is_stopped}
-use Rattle.ftp_events.specs.Board.{target}
 use Rattle.ftp_events.specs.History.{Nobody, meant, one_or_nobody, subject}
 use Rattle.ftp_events.specs.Modes.{in_range}
 use Rattle.ftp_events.specs.Running.{running_count}
@@ -24,7 +23,7 @@ use Rattle.ftp_events.specs.ConnectionRows.{holder_row}
 use Rattle.ftp_laws.proofs.QuestionLemmas.{counting-counts, running-other, session-other}
 use Rattle.ftp_laws.proofs.HoldLemmas.{WaitsFor}
 use Rattle.ftp_laws.proofs.SubjectLemmas.{nobody-concerns, subject-plain}
-use Rattle.ftp_laws.proofs.TableLemmas.{IsAbout, holder-arrived, holder-other, arrival-about, eq-comm}
+use Rattle.ftp_laws.proofs.TableLemmas.{IsAbout, holder-arrived, arrival-about, eq-comm}
 use Rattle.ftp_hub.specs.declared.data_links.Arrival.{Arrival}
 use Rattle.ftp_hub.specs.Arrivals.{IsDataLink, arrival_of}
 use Rattle.ftp_hub.proofs.About.{serves-about}
@@ -43,7 +42,7 @@ turned-comes = record { counts = refl; plain = refl; unopened = λ k. refl; no_g
 attached-comes : (s : ℕ) → Comes (decision.Attached s)
 attached-comes s = record { counts = refl; plain = refl; unopened = λ k. refl; no_grant = refl; keeps = refl; lives = refl; silent = λ k answer. refl; as_many = λ n. refl; unfinished = refl; kept = λ answer job. refl }
 
-fault-comes : (fault : ProxyError) → Comes (decision.HeaderFault fault)
+pub fault-comes : (fault : ProxyError) → Comes (decision.HeaderFault fault)
 fault-comes fault = record { counts = refl; plain = refl; unopened = λ k. refl; no_grant = refl; keeps = refl; lives = refl; silent = λ k answer. refl; as_many = λ n. refl; unfinished = refl; kept = λ answer job. refl }
 
 arrival-comes : (welcome : Bool) (s : ℕ) → Comes (arrival_of welcome s)
@@ -176,25 +175,6 @@ serves-closed old new log event answer d done n st comes right nobody closed bri
   where
     none_ran : (k : ℕ) → running_after d (action.Close n ∷ []) k ≡ k
     none_ran k = omega (arith, unstopped d comes.unfinished)
-
--- a connection whose header is none is closed
-pub serves-faulted :
-    (old new : Hub) (log : List Entry) (event : HubEvent) (answer : Answer) (fault : ProxyError) (done : List Action) (n : ℕ) →
-    Stands old log → decision.HeaderFault fault ≡ decide old.options log event answer →
-    target old.options event.kind answer ≡ None → named_session event.kind ≡ None →
-    new_number event.kind (decision.HeaderFault fault) ≡ Some n →
-    done ≡ action.Close n ∷ [] →
-    new.options ≡ old.options →
-    ((q : ℕ) → map.get nat_eq new.sessions q ≡ map.get nat_eq old.sessions q) →
-    (map.hash_map_len new.sessions ≡ map.hash_map_len old.sessions) →
-    new.jobs ≡ old.jobs →
-    ((q : ℕ) → has new.numbers q ≡ ((n == q) || has old.numbers q)) →
-    ((a p : ℕ) → holder_at new.board a p ≡ holder_at old.board a p) →
-    new.failures ≡ old.failures → new.stopped ≡ old.stopped →
-    Serves old new log event answer (decision.HeaderFault fault) done
-serves-faulted old new log event answer fault done n st right nowhere unnamed brings closes same table len jobs numbers board failed stopped =
-    serves-closed old new log event answer (decision.HeaderFault fault) done n st (fault-comes fault) right (rw (unnamed, nowhere) refl) refl brings closes same table len jobs numbers
-    (λ a p. board a p ∙ st.tables.holders a p ∙ sym (holder-other old.options (past_of log) (entry event answer (decision.HeaderFault fault) done) (V4 a) p nowhere unnamed refl refl)) failed stopped
 
 -- who holds a port after a data connection
 holders-arrived :

@@ -1,4 +1,4 @@
-use Rattle.std.proofs.Common.{◌≡◌, refl, sym, ap, ◌∙◌, ℕ, true, false, not, ◌||◌, ◌⊎◌, inl, inr, List, Err}
+use Rattle.std.proofs.Common.{◌≡◌, refl, sym, ap, ◌∙◌, ℕ, true, false, not, ◌||◌, ◌⊎◌, inl, inr, List, None, Err}
 use Rattle.ftp_base.specs.declared.net.SocketAddr.{SocketAddr}
 use Rattle.ftp_base.specs.Net.{is_v6}
 use Rattle.ftp_options.specs.Modes.{is_proxy}
@@ -7,8 +7,11 @@ use Rattle.ftp_events.specs.Log.{is_stopped}
 use Rattle.ftp_events.specs.ConnectionRows.{header_row}
 use Rattle.ftp_events.specs.declared.decision.Decision.TheVariants as decision
 use Rattle.ftp_events.specs.declared.event.Answer.TheVariants as answer
-use Rattle.ftp_hub.proofs.Common.{Answer, Entry, Options, decide, is_used, past_of}
-use Rattle.ftp_hub.proofs.DataLinks.{serves-faulted}
+use Rattle.ftp_events.specs.Board.{target}
+use Rattle.ftp_laws.proofs.TableLemmas.{holder-other}
+use Rattle.ftp_handlers.specs.Rooms.{actions_in}
+use Rattle.ftp_hub.proofs.Common.{Answer, Decision, Entry, Options, V4, decide, entry, is_used, named_session, past_of}
+use Rattle.ftp_hub.proofs.DataLinks.{fault-comes, serves-closed}
 use Rattle.ftp_hub.proofs.Refusals.{serves-refused}
 use Rattle.ftp_hub.proofs.hub.Hub.proxied.Goals.{then-not-is_proxy-via-then-not-is_proxy, then-not-is_proxy-via-else-not-is_proxy+then-is_v6}
 use Rattle.ftp_hub.proofs.hub.Hub.proxied.Goals as goal
@@ -40,11 +43,16 @@ returns-in-Header-Err-clause-serves c log st =
     let going : is_stopped (past_of log) ≡ false = sym st.tables.stopped ∙ c.if-self.false in
     let found : c.in-Header-Err.field-0 ≡ Err c.in-Header-Err.fault = rw c.in-Header-Err.is at c.in-Header-Err.field-0-is in
     let header : c.args.answer ≡ answer.Header (Err c.in-Header-Err.fault) = c.in-Header-Err.is ∙ ap answer.Header found in
-    serves-faulted c.args.self.now _ log c.args.event.now c.args.answer c.in-Header-Err.fault _ c.in-Proxied.number st
+    let nowhere : target c.args.self.now.options c.args.event.now.kind c.args.answer ≡ None = rw (c.in-Proxied.is, header) refl in
+    let unnamed : named_session c.args.event.now.kind ≡ None = rw c.in-Proxied.is refl in
+    let fault : Decision = decision.HeaderFault c.in-Header-Err.fault in
+    serves-closed c.args.self.now _ log c.args.event.now c.args.answer fault _ c.in-Proxied.number st (fault-comes c.in-Header-Err.fault)
     (rw (c.in-Proxied.is, header, sym c.if-not-is_proxy.ensures, sym c.if-is_v6.ensures, unused, going) refl)
-    (rw (c.in-Proxied.is, header) refl) (rw c.in-Proxied.is refl) (rw c.in-Proxied.is refl)
+    (rw (unnamed, nowhere) refl) refl (rw c.in-Proxied.is refl)
     (rw (c.close.ensures.actions, c.requires.ready.ready.actions) refl)
-    refl (λ q. refl) refl refl c.put.ensures (λ a p. refl) refl refl
+    refl (λ q. refl) refl refl c.put.ensures
+    (λ a p. st.tables.holders a p ∙ sym (holder-other c.args.self.now.options (past_of log) (entry c.args.event.now c.args.answer fault (actions_in c.close.new.self)) (V4 a) p nowhere unnamed refl refl))
+    refl refl
 
 -- nothing else is a header
 headless :
