@@ -48,7 +48,7 @@ use Rattle.ftp_laws.proofs.TransferLemmas.{running-queued, running-started}
 use Rattle.ftp_hub.proofs.Common.{Entry, IsActed, IsRight, Options, Pending, Running, Session, Ticket, history, is_legacy, is_used, past_of, running_job, session}
 use Rattle.ftp_hub.proofs.Counts.{notices-few, tickets-few}
 use Rattle.ftp_hub.proofs.Recording.{all-made}
-use Rattle.ftp_hub.proofs.Refusing.{there-so}
+use Rattle.ftp_hub.proofs.Refusing.{both-hold, or-first, or-second, there-so}
 use Rattle.ftp_hub.proofs.States.{waits-told}
 use Rattle.ftp_hub.specs.declared.state.HubState.{HubState}
 use Rattle.ftp_hub.specs.declared.state.StateError.{StateError}
@@ -56,11 +56,6 @@ use Rattle.ftp_hub.specs.declared.state.RecordLine.{RecordLine}
 use Rattle.ftp_hub.specs.declared.state.StateError.TheVariants.{BadLine, Number, Port, Ticket as Tickets, Mode, Login as Early, OutOfMemory}
 use Rattle.ftp_hub.specs.Refused.{HasCause, Known, WaitTwice, has_login, has_numbers, has_place, has_port, has_tickets, is_at_start, is_of_v6, job_lacks, known_of, session_lacks, ticket_fits}
 use Rattle.ftp_hub.specs.State.{AreMadeBy, IsState, WaitsFor, WaitsIn, entries_of, failures_told, key_with, record_failures, record_key, recorded_in, running_in, session_in}
-
--- two that hold, hold together
-both-hold : (a b : Bool) → a ≡ true → b ≡ true → (a && b) ≡ true
-both-hold true b x y = y
-both-hold false b x y = cc
 
 -- what passes a test does not fail it
 not-both : (b : Bool) → b ≡ true → not b ≡ true → ⊥
@@ -182,14 +177,6 @@ module _ (o : Options) (log : List Entry) (right : IsRight o log) (acted : IsAct
 
       logged : v.slot ≢ Empty → is_logged_in v.login ≡ true
       logged h = ap is_logged_in (manned.inside h)
-
-      or-first : (a b : Bool) → a ≡ true → (a || b) ≡ true
-      or-first true b h = refl
-      or-first false b h = cc
-
-      or-second : (a b : Bool) → b ≡ true → (a || b) ≡ true
-      or-second true b h = refl
-      or-second false b h = h
 
       slot : (k : Slot) (p : Option Pending) → v.slot ≡ k → v.pending ≡ p → (is_logged_in v.login || (is_empty v.slot && not (is_some v.pending))) ≡ true
       slot Empty None hk hp = or-second (is_logged_in v.login) _ (rw (hk, hp) refl)

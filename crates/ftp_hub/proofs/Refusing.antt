@@ -18,15 +18,16 @@ use Rattle.ftp_hub.specs.declared.state.StateError.TheVariants.{BadLine, Number,
 use Rattle.ftp_hub.specs.Refused.{GivesCause, IsFirst, Known, OneLacks, WaitTwice, has_port, has_v6_rival, is_of_v6, job_lacks, job_lacks_at, known_by, known_of, refusal_place, session_lacks, session_lacks_at, v6_wait, wait_of_v6, waits_so}
 use Rattle.ftp_hub.specs.State.{TellsState, WaitsFor, running_in, session_in}
 
-or-first : (a b : Bool) → a ≡ true → (a || b) ≡ true
+-- one side is enough, or both
+pub or-first : (a b : Bool) → a ≡ true → (a || b) ≡ true
 or-first true b h = refl
 or-first false b h = cc
 
-or-second : (a b : Bool) → b ≡ true → (a || b) ≡ true
+pub or-second : (a b : Bool) → b ≡ true → (a || b) ≡ true
 or-second true b h = refl
 or-second false b h = h
 
-both-hold : (a b : Bool) → a ≡ true → b ≡ true → (a && b) ≡ true
+pub both-hold : (a b : Bool) → a ≡ true → b ≡ true → (a && b) ≡ true
 both-hold true b x y = y
 both-hold false b x y = cc
 
