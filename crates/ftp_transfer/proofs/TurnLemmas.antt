@@ -7,7 +7,6 @@ use Rattle.ftp_base.specs.declared.fault.LinkFault.{LinkFault}
 use Rattle.ftp_base.specs.Calls.{Calls, AllWell}
 use Rattle.ftp_base.specs.Storage.{Meaning}
 use Rattle.ftp_transfer.specs.declared.job.Completion.{Completion}
-use Rattle.ftp_transfer.specs.declared.job.Completion.TheVariants as result
 use Rattle.ftp_transfer.specs.declared.turn.End.{End}
 use Rattle.ftp_transfer.specs.Run.{Caused, RefusesAppend, RefusedLast, StorageWent}
 use Rattle.ftp_transfer.specs.Turn.{result_of, fault_of}
@@ -47,8 +46,3 @@ StorageWent-turn old new (Some e) well held = held
 pub LinkWell-turn : (P : Type 0) (end : Option End) → (IsNone end → P) → IfSome end (λ e. e.fault ≡ None → P) → fault_of end ≡ None → P
 LinkWell-turn P None well held none = well refl
 LinkWell-turn P (Some e) well held none = held none
-
--- what a turn that ended has is what its result has
-pub result-turn : (r : Completion) (P : Type 0) (end : Option End) → (r ≡ result.OutOfMemory → ⊥) → IfSome end (λ e. e.result ≡ r → P) → result_of end ≡ r → P
-result-turn r P None other held is = absurd (other (sym is))
-result-turn r P (Some e) other held is = held is

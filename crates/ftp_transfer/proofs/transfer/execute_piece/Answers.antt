@@ -1,6 +1,7 @@
-use Rattle.std.proofs.Common.{◌≡◌, ◌∙◌, ◌+◌, ◌-◌, arith, sym, rules}
+use Rattle.std.proofs.Common.{◌≡◌, ◌+◌, ◌-◌, arith, sym, rules}
 use Rattle.ftp_transfer.specs.Ran.{told}
 use Rattle.ftp_transfer.proofs.CleanLemmas.{clean-done}
+use Rattle.ftp_transfer.proofs.CloseLemmas.{Moves-closed}
 use Rattle.ftp_transfer.proofs.transfer.execute_piece.Goals as goal
 
 pub returns-in-None-clause-ran : goal.returns-in-None-clause-ran
@@ -21,33 +22,15 @@ pub returns-in-Some-clause-ran : goal.returns-in-Some-clause-ran
 returns-in-Some-clause-ran g c =
     let less : c.args.job.now.done + c.take_turn-turn.result.bytes - c.args.job.now.done ≡ c.take_turn-turn.result.bytes = omega arith in
     let moves = rw (c.in-Some.is, sym less) at c.take_turn-turn.ensures.moves in
+    let closes = c.close.ensures.only_closes in
     rw c.outcome.ensures
     (record {
       counted = omega arith;
       faults = g.L.Source.faults c.take_turn-turn.new.link;
       calls = g.L.Source.calls c.take_turn-turn.new.link;
       not_before = c.take_turn-turn.ensures.link_counts.count;
-      not_after = c.close.ensures.only_closes.counts.count;
-      moves = record {
-        rule = moves.rule;
-        owned = moves.owned;
-        begun = moves.begun;
-        sent = rw c.close.ensures.only_closes.sent moves.sent;
-        within = moves.within;
-        whole = moves.whole;
-        silent = λ store. c.close.ensures.only_closes.sent ∙ moves.silent store;
-        kept = λ other. ((moves.kept other).0, c.close.ensures.only_closes.same_left ∙ (moves.kept other).1);
-        stored = moves.stored;
-        grown = moves.grown;
-        written = λ done. rw c.close.ensures.only_closes.same_left (moves.written done);
-        countable = moves.countable;
-        cause = rw (c.close.ensures.only_closes.last_fault, c.close.ensures.only_closes.same_left) moves.cause;
-        refused = rw c.close.ensures.only_closes.same_left moves.refused;
-        unrefused = moves.unrefused;
-        refused_last = λ store told. rw c.close.ensures.only_closes.same_left (moves.refused_last store told);
-        link_well = moves.link_well;
-        storage_well = moves.storage_well;
-      };
+      not_after = closes.counts.count;
+      moves = Moves-closed (g.L.Source.left c.close.new.self) (g.L.Source.sending c.close.new.self) closes.same_left closes.sent closes.last_fault moves;
       closed = search rules;
     })
 
