@@ -11,10 +11,10 @@ use Rattle.ftp_events.specs.declared.event.Answer.TheVariants.{Header}
 use Rattle.ftp_events.specs.declared.event.EventKind.TheVariants as kind
 use Rattle.ftp_events.specs.Classes.{is_stop}
 use Rattle.ftp_events.specs.Words.{total}
-use Rattle.ftp_events.specs.History.{Nobody, One, All}
+use Rattle.ftp_events.specs.History.{Nobody, One}
 use Rattle.ftp_events.specs.Running.{ended, started, stopped, running_count}
 use Rattle.ftp_events.specs.Session.{live_count, live_by_life}
-use Rattle.ftp_laws.proofs.Common.{Life, SlotMove, life, ends, slot_move, Options, Ticket, Action, Running, Answer, Decision, Entry, EventKind, Pending, Session, Opening, past_of, job_ticket, is_number, named_session, opened_number, opening_by, subject, concerns, opens, history, Lane, queued_in, lane, lives_on, session, running_job, due, acts_of, is_refusal, completions, stays, start_acts, slot_of, pending_in, IsRight, IsActed}
+use Rattle.ftp_laws.proofs.Common.{Life, SlotMove, life, ends, slot_move, Options, Ticket, Action, Running, Answer, Decision, Entry, EventKind, Pending, Session, Opening, past_of, job_ticket, is_number, named_session, opened_number, opening_by, subject, concerns, opens, history, Lane, queued_in, lane, lives_on, session, running_job, due, acts_of, completions, stays, start_acts, slot_of, pending_in, IsRight, IsActed}
 use Rattle.ftp_laws.specs.Census.{IsCensus}
 use Rattle.ftp_laws.specs.Jobs.{starts_for, completes_for, is_cut, cuts_for}
 use Rattle.ftp_laws.proofs.SubjectLemmas.{by_subject, all-stop, named-one, one-concerns, one-own, nobody-concerns}
@@ -255,22 +255,6 @@ ends-counted xs = total-counts ended is_completed one_each xs
 stopped-cut : (d : Decision) → stopped d ≡ one (is_cut d)
 stopped-cut decision.Cut = refl
 stopped-cut d = refl
-
--- a stop starts and ends no job
-pub running_count-stopped :
-    (o : Options) (past : List Entry) (e : Entry) →
-    is_refusal e.decision ≡ false → e.actions ≡ acts_of o past e → subject o past e ≡ All →
-    running_count (e ∷ past) ≡ running_count past
-running_count-stopped o past e counts acted about =
-    omega (
-      arith,
-      starts-counted e.actions,
-      ends-counted e.actions,
-      count-stop-idle o past e counts acted is_start start-on-starts.plain (λ t. refl) about,
-      count-stop-idle o past e counts acted is_completed completed-on-transfers (λ t. refl) about,
-      stopped-cut e.decision,
-      ap one (ap is_cut (stop-is e.decision (all-stop o past e about))),
-    )
 
 -- of completions two tests that agree on the job's end count the same
 completions-alike :

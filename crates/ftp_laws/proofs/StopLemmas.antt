@@ -4,7 +4,7 @@ use Rattle.std.specs.Option.{option_map_or}
 use Rattle.ftp_events.specs.declared.decision.Decision.TheVariants as decision
 use Rattle.ftp_events.specs.declared.event.EventKind.TheVariants as kind
 use Rattle.ftp_events.specs.Classes.{is_stop}
-use Rattle.ftp_laws.proofs.Common.{Options, is_legacy, Decision, Entry, EventKind, Answer, Target, IpAddr, is_number, named_session, target, granted_port, is_client, gives_hold, comes_to, ends_hold, gives_up_hold, holder, opened_number, opens, lane, lives_on, session, running_job, due}
+use Rattle.ftp_laws.proofs.Common.{Options, is_legacy, Decision, Entry, EventKind, Answer, IpAddr, is_number, named_session, granted_port, is_client, gives_hold, comes_to, ends_hold, gives_up_hold, holder, opened_number, opens, lane, lives_on, session, running_job, due}
 use Rattle.ftp_laws.proofs.ClassLemmas.{stop-is}
 use Rattle.ftp_laws.proofs.SubjectLemmas.{stop-concerns}
 use Rattle.ftp_laws.proofs.QuestionLemmas.{history-own}
@@ -33,16 +33,6 @@ pub named-plain :
 named-plain o past e s fit named =
     by_test (is_stop e.decision)
     (λ n. let z : None ≡ Some s = sym (ap named_session (stop-kind o past e fit n)) ∙ named in cc)
-    (λ n. n)
-
--- nor is a data connection
-pub target-plain :
-    (o : Options) (past : List Entry) (e : Entry) (t : Target) →
-    e.decision ≡ due o past e.event.at e.event.kind e.answer → target o e.event.kind e.answer ≡ Some t →
-    is_stop e.decision ≡ false
-target-plain o past e t fit to =
-    by_test (is_stop e.decision)
-    (λ n. let z : None ≡ Some t = sym (ap (λ k. target o k e.answer) (stop-kind o past e fit n)) ∙ to in cc)
     (λ n. n)
 
 -- what lets a session live is no stop
