@@ -18,7 +18,7 @@ use Rattle.ftp_lockout.specs.Keys.{key_cmp, same_key}
 use Rattle.ftp_lockout.specs.Failures.{recorded, is_expired, swept}
 use Rattle.ftp_lockout.specs.Places.{AreInKeyOrder, IsAt, IsGapFor}
 use Rattle.ftp_base.proofs.Sorted.{rises-cons, none_rises, comparisons_climb}
-use Rattle.ftp_lockout.proofs.Tables.{get_or-get, get-within, keys-set, lookup-set, lookup-remove, lookup-insert, lookup-same, lookup-found, lookup-gap, rises-insert, rises-remove, rises-filter}
+use Rattle.ftp_lockout.proofs.Tables.{get_or-get, get-within, keys-set, lookup-set, lookup-remove, lookup-insert, lookup-same, lookup-gap, rises-insert, rises-remove, rises-filter}
 
 abbrev pub Records : Type 0
 Records = List (LoginKey × Failures)
@@ -70,13 +70,6 @@ recorded-taken es new i order is k other is_at =
     ∙ lookup-remove keys_total es i there.0 other order there.1
     ∙ ap (λ (b : Bool). cond b None (recorded es other)) (ties there.0.0 k other (is_at.here there.0 there.1))
 
-pub recorded-remove : (es : Records) (i : ℕ) (r : LoginKey × Failures) → AreInKeyOrder es → i < length es → r ≡ get_or es i r →
-    (k other : LoginKey) → IsAt es k i → recorded (remove es i) other ≡ cond (same_key other k) None (recorded es other)
-recorded-remove es i r order lt read k other is_at =
-    let got = get-read es i r lt read in
-    lookup-remove keys_total es i r other order got
-    ∙ ap (λ (b : Bool). cond b None (recorded es other)) (ties r.0 k other (is_at.here r got))
-
 pub order-remove : (es : Records) (i : ℕ) → AreInKeyOrder es → AreInKeyOrder (remove es i)
 order-remove es i order = rises-remove keys_total es i order
 
@@ -87,11 +80,7 @@ recorded-insert es i k f gap other = lookup-insert keys_total es i k f other gap
 pub order-insert : (es : Records) (i : ℕ) (k : LoginKey) (f : Failures) → AreInKeyOrder es → IsGapFor es k i → AreInKeyOrder (insert es i (k, f))
 order-insert es i k f order gap = rises-insert keys_total es i k f order gap.lower gap.higher
 
--- the record of a key at a place, and of one that has none
-pub recorded-found : (es : Records) (i : ℕ) (r : LoginKey × Failures) (k : LoginKey) → AreInKeyOrder es → i < length es → r ≡ get_or es i r → IsAt es k i → recorded es k ≡ Some r.1
-recorded-found es i r k order lt read is_at =
-    let got = get-read es i r lt read in lookup-found keys_total es i r k order got (is_at.here r got)
-
+-- the record of a key that has none
 pub recorded-gap : (es : Records) (i : ℕ) (k : LoginKey) → IsGapFor es k i → recorded es k ≡ None
 recorded-gap es i k gap = lookup-gap keys_total es i k gap.lower gap.higher
 
