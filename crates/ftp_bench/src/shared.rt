@@ -10,7 +10,7 @@ use crate::command::Crew;
 use crate::lane::Lane;
 use ftp_events::Answer;
 use ftp_options::Options;
-use ftp_shared::{Serving, SettleError, SharedHub, StepShare};
+use ftp_shared::{JournalHub, Serving, SettleError, SharedHub, StepShare};
 use std::alloc::Global;
 use std::marker::Brand;
 use std::sync::Wait;

@@ -7,7 +7,7 @@ use crate::shared_values::{Stopped, connect};
 use ftp_base::Bytes;
 use ftp_events::{Answer, EventKind, HubEvent};
 use ftp_options::Options;
-use ftp_shared::{AppendError, CutHub, Replies, Serving, Submitted, Turn};
+use ftp_shared::{AppendError, CutHub, JournalHub, Replies, Serving, Submitted, Turn};
 use std::alloc::Global;
 use std::marker::Brand;
 use std::sync::Wait;

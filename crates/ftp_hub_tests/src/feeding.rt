@@ -6,7 +6,7 @@ use crate::shared_values::Stopped;
 use crate::threads::connect_all;
 use ftp_events::Log;
 use ftp_options::Options;
-use ftp_shared::{JournalFeed, Serving, SharedHub};
+use ftp_shared::{JournalFeed, JournalHub, Serving, SharedHub};
 use std::alloc::Global;
 use std::marker::Brand;
 use std::sync::ledger::Blank;

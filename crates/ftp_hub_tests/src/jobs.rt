@@ -7,7 +7,9 @@ use crate::shared_values::{Stopped, connect};
 use ftp_base::{AuthAnswer, Bytes, DataChanCmd, IpAddr, SocketAddr};
 use ftp_events::{Answer, Decision, EventKind, HubEvent};
 use ftp_options::Options;
-use ftp_shared::{AppendError, JobShare, Replies, Serving, SharedHub, StepShare, Submitted, Turn};
+use ftp_shared::{
+    AppendError, JobShare, JournalHub, Replies, Serving, SharedHub, StepShare, Submitted, Turn,
+};
 use ftp_transfer::{Completion, Outcome};
 use std::alloc::Global;
 use std::marker::Brand;

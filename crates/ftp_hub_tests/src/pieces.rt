@@ -6,7 +6,7 @@ use crate::jobs::{act, finish, start};
 use crate::shared_values::Stopped;
 use ftp_events::{Action, Decision, EventKind, Log};
 use ftp_options::Options;
-use ftp_shared::{JobShare, Serving, SharedHub, StepShare, Submitted};
+use ftp_shared::{JobShare, JournalHub, Serving, SharedHub, StepShare, Submitted};
 use ftp_transfer::Ticket;
 use std::alloc::Global;
 use std::marker::Brand;

@@ -7,7 +7,9 @@ use crate::shared_values::{Stopped, connect};
 use ftp_base::Bytes;
 use ftp_events::{Answer, EventKind, HubEvent, Log};
 use ftp_options::Options;
-use ftp_shared::{AppendError, Receipt, Serving, SettleError, SharedHub, StepShare, Submitted};
+use ftp_shared::{
+    AppendError, JournalHub, Receipt, Serving, SettleError, SharedHub, StepShare, Submitted,
+};
 use std::alloc::{AllocError, Global};
 use std::marker::Brand;
 use std::sync::Wait;

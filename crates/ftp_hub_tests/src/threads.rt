@@ -6,7 +6,7 @@ ghost use Rattle.ftp_events.specs.Right.{IsRight, IsActed};
 use crate::shared_values::{Stopped, connect};
 use ftp_events::{Answer, HubEvent, Log};
 use ftp_options::Options;
-use ftp_shared::{AppendError, Serving, SettleError, SharedHub, StepShare};
+use ftp_shared::{AppendError, JournalHub, Serving, SettleError, SharedHub, StepShare};
 use std::alloc::Global;
 use std::marker::Brand;
 use std::sync::Wait;

@@ -7,16 +7,16 @@ ghost use Rattle.ftp_shared.specs.Jobs.{behind};
 ghost use Rattle.ftp_shared.specs.Next.{IsNextAt, IsPieceAt, IsTurnAt, end_of, is_moved, piece_of};
 ghost use Rattle.ftp_shared.specs.Outbox.{has_ticket};
 
-use crate::JournalFeed;
 use crate::append_error::AppendError;
+use crate::beside::Beside;
 use crate::cut::Cut;
 use crate::locked::Serving;
-use crate::receipt::{FinishError, JobShare, Receipt, Submitted, Turn};
+use crate::receipt::{FinishError, JobShare, Submitted, Turn};
+use crate::{JournalFeed, JournalHub};
 use ftp_events::{Answer, EventKind, HubEvent};
 use ftp_options::Options;
 use ftp_transfer::Outcome;
 use std::alloc::Global;
-use std::sync::atomic::{AtomicU64, Ordering};
 use std::sync::{Arc, Mutex, Wait};
 
 /// A hub behind a lock, with the entries since its checkpoint, the numbers that were drawn for it, and who is told its
@@ -24,8 +24,7 @@ use std::sync::{Arc, Mutex, Wait};
 #[derive(Drop)]
 pub struct CutHub<L: Serving> {
     lock: Mutex<Cut<L>>,
-    drawn: AtomicU64,
-    feed: Option<Arc<JournalFeed, Global>>,
+    beside: Beside,
 }
 
 impl<L: Serving> CutHub<L> {
@@ -36,28 +35,7 @@ impl<L: Serving> CutHub<L> {
     {
         CutHub {
             lock: Mutex::new(Cut::new(alloc, options, every)),
-            drawn: AtomicU64::new(0),
-            feed: None,
-        }
-    }
-
-    /// Has each entry told to a feed too, once the lock is free. It is called before the first event.
-    pub fn feed_to(&mut self, feed: Arc<JournalFeed, Global>) {
-        self.feed = Some(feed);
-    }
-
-    /// Tells the feed how many entries there are: no later one is given there.
-    pub fn end_feed<R: Wait>(&self, rt: &R) {
-        if let Some(feed) = &self.feed {
-            let count = self.lock.lock(rt).events();
-            feed.end_at(rt, count);
-        }
-    }
-
-    // Tells the feed an entry.
-    fn tell<R: Wait>(&self, rt: &R, receipt: &Receipt) {
-        if let Some(feed) = &self.feed {
-            feed.put(rt, receipt.place, &receipt.entry);
+            beside: Beside::new(),
         }
     }
 
@@ -65,15 +43,25 @@ impl<L: Serving> CutHub<L> {
     pub fn tail<R: Wait>(&self, rt: &R) -> u64 {
         self.lock.lock(rt).tail()
     }
+}
 
-    /// Adds the entry of this event.
-    ///
+impl<L: Serving> JournalHub for CutHub<L> {
+    type Pass = ();
+
+    ghost options = { L.options };
+
+    ghost counts = { false };
+
+    ghost made = { λ _. 0 };
+
+    ghost exhausts = { true };
+
     /// # Proved
     ///
     /// - Above the lock the entry is the next one of a right and acted journal, at its place; the replies before it are
     ///   the last that this journal sends (`next`; also `CutHub::finish`: `next`; `CutHub::piece`: `next`;
     ///   `CutHub::submit_for`: `next`).
-    pub fn submit<R: Wait>(
+    fn submit<R: Wait>(
         &self,
         rt: &R,
         _pass: &mut (),
@@ -84,13 +72,12 @@ impl<L: Serving> CutHub<L> {
         ensures next { IfOk result (λ s. IsNextAt L.options s.receipt event answer) }
     {
         let submitted = self.lock.lock(rt).append(event, answer)?;
-        self.tell(rt, &submitted.receipt);
+        self.beside.tell(rt, &submitted.receipt);
         Ok(submitted)
     }
 
-    /// Adds the entry of this event, and hands the session that it names what it was sent before, also where that has left
-    /// the tail.
-    pub fn submit_for<R: Wait>(
+    /// What the session was sent before is handed to it also where that has left the tail.
+    fn submit_for<R: Wait>(
         &self,
         rt: &R,
         _pass: &mut (),
@@ -101,12 +88,11 @@ impl<L: Serving> CutHub<L> {
         ensures next { IfOk result (λ t. IsTurnAt L.options t event answer) }
     {
         let turn = self.lock.lock(rt).append_for(event, answer)?;
-        self.tell(rt, &turn.submitted.receipt);
+        self.beside.tell(rt, &turn.submitted.receipt);
         Ok(turn)
     }
 
-    /// Adds a piece of a job, of so many bytes, which moved before, as `SharedHub::piece` does.
-    pub fn piece<R: Wait>(
+    fn piece<R: Wait>(
         &self,
         rt: &R,
         _pass: &mut (),
@@ -121,16 +107,14 @@ impl<L: Serving> CutHub<L> {
         ensures given_back { IfErr result (λ e. e.job ≡ job) }
     {
         let submitted = self.lock.lock(rt).append_piece(job, at, bytes)?;
-        self.tell(rt, &submitted.receipt);
+        self.beside.tell(rt, &submitted.receipt);
         Ok(submitted)
     }
 
-    /// Adds the end of a job, and takes its share; an error gives that back.
-    ///
     /// # Proved
     ///
     /// - A job of which nothing can be told comes back (`given_back`; also `CutHub::piece`: `given_back`).
-    pub fn finish<R: Wait>(
+    fn finish<R: Wait>(
         &self,
         rt: &R,
         _pass: &mut (),
@@ -151,20 +135,33 @@ impl<L: Serving> CutHub<L> {
         let appended = self.lock.lock(rt).append(event, Answer::Done(outcome));
         match appended {
             Ok(submitted) => {
-                self.tell(rt, &submitted.receipt);
+                self.beside.tell(rt, &submitted.receipt);
                 Ok(submitted)
             }
             Err(cause) => Err(FinishError { job, cause }),
         }
     }
 
-    /// Says whether no job runs and no session is live.
-    pub fn drained<R: Wait>(&self, rt: &R) -> bool {
+    fn share<R: Wait>(&self, _rt: &R) -> Option<()> {
+        Some(())
+    }
+
+    fn take_back<R: Wait>(&self, _rt: &R, _pass: ()) {}
+
+    fn drained<R: Wait>(&self, rt: &R) -> bool {
         self.lock.lock(rt).drained()
     }
 
-    /// The number after the last that was drawn, from 1; 0 comes after the last number of all.
-    pub fn draw(&self) -> u64 {
-        self.drawn.fetch_add(1, Ordering::SeqCst).wrapping_add(1)
+    fn draw(&self) -> u64 {
+        self.beside.draw()
+    }
+
+    fn feed_to(&mut self, feed: Arc<JournalFeed, Global>) {
+        self.beside.feed_to(feed);
+    }
+
+    fn end_feed<R: Wait>(&self, rt: &R) {
+        let count = self.lock.lock(rt).events();
+        self.beside.end_at(rt, count);
     }
 }

@@ -1,4 +1,4 @@
-//! Either hub that threads share.
+//! What threads ask of either hub that they share.
 
 ghost use Rattle.std.specs.Prelude.{◌≡◌, ◌+◌, ◌≤◌, ℕ, Bool, Some, false, true, IfErr, IfOk, IfSome, IsErrOf, OnErr, OnOk};
 ghost use Rattle.ftp_events.specs.declared.event.Answer.TheVariants as answer;
@@ -10,11 +10,7 @@ ghost use Rattle.ftp_shared.specs.Outbox.{has_ticket};
 
 use crate::JournalFeed;
 use crate::append_error::AppendError;
-use crate::cut_hub::CutHub;
-use crate::locked::Serving;
 use crate::receipt::{FinishError, JobShare, Submitted, Turn};
-use crate::share::StepShare;
-use crate::shared_hub::SharedHub;
 use ftp_events::{Answer, HubEvent};
 use ftp_transfer::Outcome;
 use std::alloc::Global;
@@ -141,158 +137,4 @@ pub trait JournalHub {
 
     /// Tells the feed how many entries there are: no later one is given there.
     fn end_feed<R: Wait>(&self, rt: &R);
-}
-
-impl<L: Serving> JournalHub for SharedHub<L> {
-    type Pass = StepShare<L>;
-
-    ghost options = { L.options };
-
-    ghost counts = { true };
-
-    ghost made = { λ share. share.count };
-
-    ghost exhausts = { false };
-
-    fn submit<R: Wait>(
-        &self,
-        rt: &R,
-        pass: &mut StepShare<L>,
-        event: HubEvent,
-        answer: Answer,
-    ) -> Result<Submitted, AppendError> {
-        SharedHub::submit(self, rt, pass, event, answer)
-    }
-
-    fn submit_for<R: Wait>(
-        &self,
-        rt: &R,
-        pass: &mut StepShare<L>,
-        event: HubEvent,
-        answer: Answer,
-    ) -> Result<Turn, AppendError> {
-        SharedHub::submit_for(self, rt, pass, event, answer)
-    }
-
-    fn piece<R: Wait>(
-        &self,
-        rt: &R,
-        pass: &mut StepShare<L>,
-        job: JobShare,
-        at: u64,
-        bytes: u64,
-    ) -> Result<Submitted, FinishError> {
-        SharedHub::piece(self, rt, pass, job, at, bytes)
-    }
-
-    fn finish<R: Wait>(
-        &self,
-        rt: &R,
-        pass: &mut StepShare<L>,
-        job: JobShare,
-        at: u64,
-        outcome: Outcome,
-    ) -> Result<Submitted, FinishError> {
-        SharedHub::finish(self, rt, pass, job, at, outcome)
-    }
-
-    fn share<R: Wait>(&self, rt: &R) -> Option<StepShare<L>> {
-        SharedHub::share(self, rt)
-    }
-
-    fn take_back<R: Wait>(&self, rt: &R, pass: StepShare<L>) {
-        SharedHub::take_back(self, rt, pass);
-    }
-
-    fn drained<R: Wait>(&self, rt: &R) -> bool {
-        SharedHub::drained(self, rt)
-    }
-
-    fn draw(&self) -> u64 {
-        SharedHub::draw(self)
-    }
-
-    fn feed_to(&mut self, feed: Arc<JournalFeed, Global>) {
-        SharedHub::feed_to(self, feed);
-    }
-
-    fn end_feed<R: Wait>(&self, rt: &R) {
-        SharedHub::end_feed(self, rt);
-    }
-}
-
-impl<L: Serving> JournalHub for CutHub<L> {
-    type Pass = ();
-
-    ghost options = { L.options };
-
-    ghost counts = { false };
-
-    ghost made = { λ _. 0 };
-
-    ghost exhausts = { true };
-
-    fn submit<R: Wait>(
-        &self,
-        rt: &R,
-        pass: &mut (),
-        event: HubEvent,
-        answer: Answer,
-    ) -> Result<Submitted, AppendError> {
-        CutHub::submit(self, rt, pass, event, answer)
-    }
-
-    fn submit_for<R: Wait>(
-        &self,
-        rt: &R,
-        pass: &mut (),
-        event: HubEvent,
-        answer: Answer,
-    ) -> Result<Turn, AppendError> {
-        CutHub::submit_for(self, rt, pass, event, answer)
-    }
-
-    fn piece<R: Wait>(
-        &self,
-        rt: &R,
-        pass: &mut (),
-        job: JobShare,
-        at: u64,
-        bytes: u64,
-    ) -> Result<Submitted, FinishError> {
-        CutHub::piece(self, rt, pass, job, at, bytes)
-    }
-
-    fn finish<R: Wait>(
-        &self,
-        rt: &R,
-        pass: &mut (),
-        job: JobShare,
-        at: u64,
-        outcome: Outcome,
-    ) -> Result<Submitted, FinishError> {
-        CutHub::finish(self, rt, pass, job, at, outcome)
-    }
-
-    fn share<R: Wait>(&self, _rt: &R) -> Option<()> {
-        Some(())
-    }
-
-    fn take_back<R: Wait>(&self, _rt: &R, _pass: ()) {}
-
-    fn drained<R: Wait>(&self, rt: &R) -> bool {
-        CutHub::drained(self, rt)
-    }
-
-    fn draw(&self) -> u64 {
-        CutHub::draw(self)
-    }
-
-    fn feed_to(&mut self, feed: Arc<JournalFeed, Global>) {
-        CutHub::feed_to(self, feed);
-    }
-
-    fn end_feed<R: Wait>(&self, rt: &R) {
-        CutHub::end_feed(self, rt);
-    }
 }

@@ -7,6 +7,7 @@
 #![tactic(auto)]
 
 mod append_error;
+mod beside;
 mod cut;
 mod cut_hub;
 mod desk;
