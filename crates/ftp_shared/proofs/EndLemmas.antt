@@ -1,11 +1,6 @@
--- The entry that a receipt tells has the event and the answer that were handed in.
-use Rattle.std.proofs.Common.{◌≡◌, inl, inr, refl, sym, ap, subst, ℕ, false}
-use Rattle.std.proofs.Math.Logic.{∥∥₁_elim}
-use Rattle.std.specs.Coded.{Coded-set}
+-- The last entry of a job has the moment and the answer that were handed in.
+use Rattle.std.proofs.Common.{◌≡◌, inl, inr, refl, sym, ap, subst, ℕ, false, Option}
 use Rattle.std.specs.Prelude.{IfSome, IsSome, OnErr, Result, Ok, Err}
-use Rattle.ftp_events.specs.contracts.event.Answer.{the_row as answer_row}
-use Rattle.ftp_events.specs.contracts.event.HubEvent.{the_row as event_row}
-use Rattle.ftp_events.specs.declared.entry.Entry.{Entry}
 use Rattle.ftp_events.specs.declared.event.Answer.{Answer}
 use Rattle.ftp_events.specs.declared.event.Answer.TheVariants.{Done, Moved}
 use Rattle.ftp_events.specs.declared.event.EventKind.{EventKind}
@@ -19,16 +14,7 @@ use Rattle.ftp_shared.specs.Answers.{moved_in, outcome_in}
 use Rattle.ftp_shared.specs.Runs.{IsLastOf}
 use Rattle.ftp_shared.specs.declared.receipt.Receipt.{Receipt}
 use Rattle.ftp_shared.specs.Next.{IsNextAt, end_of, is_moved, piece_of}
-
--- its event
-event-told : (o : Options) (r : Receipt) (event : HubEvent) (answer : Answer) → IsNextAt o r event answer → r.entry.event ≡ event
-event-told o r event answer next =
-    ∥∥₁_elim next (Coded-set event_row.coded r.entry.event event) (λ n. ap (λ (e : Entry). e.event) n.entry)
-
--- its answer
-pub answer-told : (o : Options) (r : Receipt) (event : HubEvent) (answer : Answer) → IsNextAt o r event answer → r.entry.answer ≡ answer
-answer-told o r event answer next =
-    ∥∥₁_elim next (Coded-set answer_row.coded r.entry.answer answer) (λ n. ap (λ (e : Entry). e.answer) n.entry)
+use Rattle.ftp_shared.proofs.TurnLemmas.{answer-told, event-told}
 
 -- its moment
 pub moment-told : (o : Options) (r : Receipt) (k : EventKind) (at : ℕ) (answer : Answer) → IsNextAt o r (record { at = at; kind = k }) answer → at ≡ r.entry.event.at
@@ -64,21 +50,10 @@ last-piece o r job told at bytes same over next =
       over,
     )
 
--- what is true of an outcome is true of that in its answer
-pub outcome-told : (P : Outcome → Type 0) (given : Answer) (outcome : Outcome) → given ≡ Done outcome → P outcome → IfSome (outcome_in given) P
-outcome-told P given outcome same holds = subst (λ (given : Answer). IfSome (outcome_in given) P) (sym same) holds
-
--- there are no bytes of a piece in it
-pub outcome-alone : (P : ℕ → Type 0) (given : Answer) (outcome : Outcome) → given ≡ Done outcome → IfSome (moved_in given) P
-outcome-alone P given outcome same = subst (λ (given : Answer). IfSome (moved_in given) P) (sym same) tt
-
--- what is true of a piece's bytes is true of those in its answer
-pub bytes-told : (P : ℕ → Type 0) (given : Answer) (bytes : ℕ) → given ≡ Moved bytes → P bytes → IfSome (moved_in given) P
-bytes-told P given bytes same holds = subst (λ (given : Answer). IfSome (moved_in given) P) (sym same) holds
-
--- there is no outcome in it
-pub bytes-alone : (P : Outcome → Type 0) (given : Answer) (bytes : ℕ) → given ≡ Moved bytes → IfSome (outcome_in given) P
-bytes-alone P given bytes same = subst (λ (given : Answer). IfSome (outcome_in given) P) (sym same) tt
+-- what is true of a part of the answer that was handed in is true of that of the entry's
+pub told-in : {A : Type 0} (part : Answer → Option A) (P : A → Type 0) (o : Options) (r : Receipt) (event : HubEvent) (answer : Answer) →
+    IsNextAt o r event answer → IfSome (part answer) P → IfSome (part r.entry.answer) P
+told-in part P o r event answer next = subst (λ (given : Answer). IfSome (part given) P) (sym (answer-told o r event answer next))
 
 -- what follows from an error
 pub with-err : {T X : Type 0} {Q R : Type 0} (r : Result T X) → OnErr r Q → (Q → R) → OnErr r R

@@ -1,10 +1,10 @@
 -- A session that was opened just now was sent nothing.
-use Rattle.std.proofs.Common.{◌≡◌, refl, sym, ◌∙◌, ap, subst, ℕ, Bool, true, false, not, ◌||◌, cond, List, [], ◌∷◌, ◌++◌, Some}
+use Rattle.std.proofs.Common.{◌≡◌, refl, sym, ◌∙◌, ap, ℕ, Bool, true, false, not, ◌||◌, cond, List, [], ◌∷◌, ◌++◌, Some}
 use Rattle.std.proofs.lemmas.Bool.{or_parts}
 use Rattle.ftp_base.specs.declared.reply.Reply.{Reply}
 use Rattle.ftp_events.specs.declared.decision.Decision.TheVariants as decision
 use Rattle.ftp_events.specs.declared.event.HubEvent.{HubEvent}
-use Rattle.ftp_events.specs.Right.{IsActed, IsRight, next_entry, replies}
+use Rattle.ftp_events.specs.Right.{next_entry, replies}
 use Rattle.ftp_hub.specs.declared.hub.Hub.{Hub}
 use Rattle.ftp_laws.specs.Replies.{was_opened}
 use Rattle.ftp_laws.proofs.Common.{Answer, Decision, Entry, EventKind, Options, acts, acts_of, decide, due, is_number, is_refusal, is_used, new_number, opened_number, opens, past_of, refused_link, subject, subject_acts}
@@ -14,14 +14,7 @@ use Rattle.ftp_laws.proofs.ReplyLemmas.{unopened-unreplied}
 use Rattle.ftp_shared.specs.declared.outbox.Outbox.{Outbox}
 use Rattle.ftp_shared.specs.Keeps.{Keeps}
 use Rattle.ftp_shared.specs.Outbox.{IsRest, outbox_after, outbox_of, own_session, replies_in}
-
--- the journal under a lock is right under the options
-pub keeps-right : (o : Options) (hub : Hub) (J : List Entry) (box : Outbox) → Keeps o hub J box → IsRight o J
-keeps-right o hub J box k = subst (λ (o : Options). IsRight o J) k.options k.stands.right
-
--- and acted
-pub keeps-acted : (o : Options) (hub : Hub) (J : List Entry) (box : Outbox) → Keeps o hub J box → IsActed o J
-keeps-acted o hub J box k = subst (λ (o : Options). IsActed o J) k.options k.stands.acted
+use Rattle.ftp_shared.proofs.KeepsLemmas.{acted-under, right-under}
 
 -- a number that no counting entry carries was not opened
 unused-unopened : (J : List Entry) (s : ℕ) → is_used (past_of J) s ≡ false → was_opened s J ≡ false
@@ -94,7 +87,7 @@ fresh-empty o hub J box event answer s k h n = go (is_number (own_session event.
   where
     unreplied : replies J s ≡ []
     unreplied =
-        unopened-unreplied o J s (keeps-right o hub J box k) (keeps-acted o hub J box k)
+        unopened-unreplied o J s (right-under o hub J k.options k.stands) (acted-under o hub J k.options k.stands)
         (unused-unopened J s (next-unused o J event answer s h n))
 
     waiting : outbox_of box J s ≡ []

@@ -19,8 +19,10 @@ use Rattle.ftp_events.specs.Words.{is_number}
 use Rattle.ftp_hub.specs.declared.hub.Hub.{Hub}
 use Rattle.ftp_hub.specs.Stands.{Stands, count_of, options_of}
 use Rattle.ftp_shared.specs.declared.outbox.Outbox.{Outbox}
+use Rattle.ftp_shared.specs.declared.receipt.Turn.{Turn}
 use Rattle.ftp_shared.specs.Outbox.{IsRest, newest, outbox_after, outbox_in, replies_in, sorted}
-use Rattle.ftp_shared.specs.Keeps.{Keeps}
+use Rattle.ftp_shared.specs.Keeps.{KeepsLog, Keeps}
+use Rattle.ftp_shared.specs.Next.{NextTurn}
 
 -- nothing is left of a list behind its end
 drop-past : (actions : List Action) (n : ℕ) → length actions ≤ n → drop n actions ≡ []
@@ -66,47 +68,58 @@ rest-step old all more true h = (all ++ more, sym (append-nil (all ++ more)))
 rest-step old all more false h = (h.0, ap (λ xs. xs ++ more) h.1 ∙ append_assoc h.0 old more)
 
 -- a step keeps what is true under the lock
-pub keeps-step :
-    (o : Options) (hub new : Hub) (log : List Entry) (e : Entry) (box after : Outbox) (own : Option ℕ) →
-    Keeps o hub log box →
+pub kept-step :
+    (o : Options) (hub new : Hub) (log : List Entry) (actions : List Action) (e : Entry) (box after : Outbox) (own : Option ℕ) →
+    KeepsLog o hub log actions box →
     Stands new (e ∷ log) → options_of new ≡ options_of hub → count_of new ≡ count_of hub + 1 →
-    length (newest log) ≤ box.next →
+    length actions ≤ box.next →
     ((s : ℕ) → sorted after s ≡ cond (is_number own s) [] (sorted box s)) →
     after.next ≡ 0 → after.told ≡ own →
-    Keeps o new (e ∷ log) after
-keeps-step o hub new log e box after own k stands options count all kept next told =
+    KeepsLog o new (e ∷ log) e.actions after
+kept-step o hub new log actions e box after own k stands options count all kept next told =
     record {
       options = options ∙ k.options;
       stands = stands;
       events = omega (arith, count, k.events);
       rests = λ s.
-          subst (λ xs. IsRest xs (replies (e ∷ log) s)) (sym (outbox-step box after (newest log) e own s all (kept s) next told))
-          (rest-step (outbox_in box (newest log) s) (replies log s) (replies_in e.actions s) (is_number own s) (k.rests s));
+          subst (λ xs. IsRest xs (replies (e ∷ log) s)) (sym (outbox-step box after actions e own s all (kept s) next told))
+          (rest-step (outbox_in box actions s) (replies log s) (replies_in e.actions s) (is_number own s) (k.rests s));
     }
 
--- memory that is taken keeps it too
-pub keeps-ready :
-    (o : Options) (hub new : Hub) (log : List Entry) (box after : Outbox) →
-    Keeps o hub log box →
-    ((log : List Entry) → Stands hub log → Stands new log) → options_of new ≡ options_of hub → count_of new ≡ count_of hub →
-    ((s : ℕ) → outbox_in after (newest log) s ≡ outbox_in box (newest log) s) →
-    Keeps o new log after
-keeps-ready o hub new log box after k stands options count same =
+-- memory that is taken keeps it too, where an outbox has sorted in some of the actions
+pub kept-ready :
+    (o : Options) (hub new : Hub) (log : List Entry) (actions lent : List Action) (box after : Outbox) →
+    KeepsLog o hub log actions box →
+    Stands new log → options_of new ≡ options_of hub → count_of new ≡ count_of hub →
+    lent ≡ actions → ((s : ℕ) → outbox_in after lent s ≡ outbox_in box lent s) →
+    KeepsLog o new log actions after
+kept-ready o hub new log actions lent box after k stands options count is same =
     record {
       options = options ∙ k.options;
-      stands = stands log k.stands;
+      stands = stands;
       events = count ∙ k.events;
-      rests = λ s. subst (λ xs. IsRest xs (replies log s)) (sym (same s)) (k.rests s);
+      rests = λ s.
+          subst (λ xs. IsRest xs (replies log s)) (sym (subst (λ (xs : List Action). outbox_in after xs s ≡ outbox_in box xs s) is (same s))) (k.rests s);
     }
 
+-- so it does of a journal that got room
+pub keeps-ready :
+    (o : Options) (hub new : Hub) (log now : List Entry) (lent : List Action) (box after : Outbox) →
+    Keeps o hub log box →
+    ((log : List Entry) → Stands hub log → Stands new log) → options_of new ≡ options_of hub → count_of new ≡ count_of hub →
+    lent ≡ newest log → ((s : ℕ) → outbox_in after lent s ≡ outbox_in box lent s) →
+    now ≡ log → Keeps o new now after
+keeps-ready o hub new log now lent box after k stands options count is same room =
+    subst (λ l. Keeps o new l after) (sym room)
+    (kept-ready o hub new log (newest log) lent box after k (stands log k.stands) options count is same)
+
 -- a hub to which nothing has happened keeps it
-pub keeps-new :
-    (o : Options) (hub : Hub) (log : List Entry) (box : Outbox) →
-    log ≡ [] → Stands hub [] → options_of hub ≡ o → count_of hub ≡ 0 →
-    ((s : ℕ) → outbox_in box [] s ≡ []) → Keeps o hub log box
-keeps-new o hub log box empty stands options count none =
-    subst (λ l. Keeps o hub l box) (sym empty)
-    (record { options = options; stands = stands; events = count; rests = λ s. ([], sym (none s)) })
+pub kept-new :
+    (o : Options) (hub : Hub) (box : Outbox) →
+    Stands hub [] → options_of hub ≡ o → count_of hub ≡ 0 →
+    ((s : ℕ) → outbox_in box [] s ≡ []) → KeepsLog o hub [] [] box
+kept-new o hub box stands options count none =
+    record { options = options; stands = stands; events = count; rests = λ s. ([], sym (none s)) }
 
 -- options are equal in one way at most
 pub options-set : (x y : Options) → IsProp (x ≡ y)
@@ -124,36 +137,51 @@ entry-set x y = Coded-set entry_row.coded x y
 pub job-set : (x y : Option Job) → IsProp (x ≡ y)
 job-set x y = Coded-set (coded_option job_row.coded) x y
 
--- the entry that is told is the next one of the journal
+-- the log for which a hub stands is right under the options
+pub right-under : (o : Options) (hub : Hub) (log : List Entry) → options_of hub ≡ o → Stands hub log → IsRight o log
+right-under o hub log options st = subst (λ (o : Options). IsRight o log) options st.right
+
+-- and acted
+pub acted-under : (o : Options) (hub : Hub) (log : List Entry) → options_of hub ≡ o → Stands hub log → IsActed o log
+acted-under o hub log options st = subst (λ (o : Options). IsActed o log) options st.acted
+
+-- the entry that is told is the next one of it
 pub told-next :
-    (o : Options) (hub : Hub) (log : List Entry) (box : Outbox) (event : HubEvent) (answer : Answer) (kept told : Entry) →
-    Keeps o hub log box →
+    (o : Options) (hub : Hub) (log : List Entry) (event : HubEvent) (answer : Answer) (kept told : Entry) →
+    options_of hub ≡ o → Stands hub log →
     ((log : List Entry) → Stands hub log → kept ≡ next_entry (options_of hub) log event answer) →
     told ≡ kept →
     told ≡ next_entry o log event answer
-told-next o hub log box event answer kept told k due same =
-    same ∙ due log k.stands ∙ ap (λ (o : Options). next_entry o log event answer) k.options
+told-next o hub log event answer kept told options st due same =
+    same ∙ due log st ∙ ap (λ (o : Options). next_entry o log event answer) options
 
--- the journal is right and acted under the options
-pub keeps-right : (o : Options) (hub : Hub) (log : List Entry) (box : Outbox) → Keeps o hub log box → IsRight o log
-keeps-right o hub log box k = subst (λ (o : Options). IsRight o log) k.options k.stands.right
+-- so a turn is that of the next entry, and what is handed out before it is the last of the replies
+pub turn-next :
+    (o : Options) (hub : Hub) (log : List Entry) (actions : List Action) (box : Outbox) (event : HubEvent) (answer : Answer) (kept : Entry) (own : Option ℕ) (turn : Turn) →
+    KeepsLog o hub log actions box →
+    length actions ≤ box.next →
+    ((log : List Entry) → Stands hub log → kept ≡ next_entry (options_of hub) log event answer) →
+    turn.submitted.receipt.entry ≡ kept →
+    turn.submitted.receipt.place ≡ length log →
+    turn.earlier ≡ option_map_or (sorted box) own [] →
+    NextTurn o turn own event answer
+turn-next o hub log actions box event answer kept own turn k all due same place handed =
+    record {
+      next = record {
+        journal = log;
+        right = right-under o hub log k.options k.stands;
+        acted = acted-under o hub log k.options k.stands;
+        place = place;
+        entry = told-next o hub log event answer kept turn.submitted.receipt.entry k.options k.stands due same;
+      };
+      earlier = rest own handed;
+    }
+  where
+    rest : (own : Option ℕ) → turn.earlier ≡ option_map_or (sorted box) own [] → MatchOption own (turn.earlier ≡ []) (λ s. IsRest turn.earlier (replies log s))
+    rest None is = is
+    rest (Some s) is = subst (λ xs. IsRest xs (replies log s)) (sym (is ∙ sym (outbox-sorted box actions s all))) (k.rests s)
 
--- and acted
-pub keeps-acted : (o : Options) (hub : Hub) (log : List Entry) (box : Outbox) → Keeps o hub log box → IsActed o log
-keeps-acted o hub log box k = subst (λ (o : Options). IsActed o log) k.options k.stands.acted
-
--- what is handed out before an entry is the last of the replies
-pub turn-rest :
-    (own : Option ℕ) (earlier : List (ℕ × Reply)) (log : List Entry) (box : Outbox) →
-    earlier ≡ option_map_or (sorted box) own [] →
-    length (newest log) ≤ box.next →
-    ((s : ℕ) → IsRest (outbox_in box (newest log) s) (replies log s)) →
-    MatchOption own (earlier ≡ []) (λ s. IsRest earlier (replies log s))
-turn-rest None earlier log box is all rests = is
-turn-rest (Some s) earlier log box is all rests =
-    subst (λ xs. IsRest xs (replies log s)) (sym (is ∙ sym (outbox-sorted box (newest log) s all))) (rests s)
-
--- and it is the whole outbox
+-- it is the whole outbox
 pub turn-whole :
     (own : Option ℕ) (earlier : List (ℕ × Reply)) (box before : Outbox) (actions : List Action) →
     earlier ≡ option_map_or (sorted box) own [] →

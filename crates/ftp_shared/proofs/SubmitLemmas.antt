@@ -21,7 +21,8 @@ use Rattle.ftp_shared.specs.Keeps.{Keeps}
 use Rattle.ftp_shared.specs.Outbox.{outbox_after, outbox_of, own_session}
 use Rattle.ftp_shared.specs.Desk.{Appends, DeskView}
 use Rattle.ftp_shared.proofs.TurnLemmas.{own-due}
-use Rattle.ftp_shared.proofs.FreshLemmas.{fresh-empty, keeps-acted, keeps-right}
+use Rattle.ftp_shared.proofs.FreshLemmas.{fresh-empty}
+use Rattle.ftp_shared.proofs.KeepsLemmas.{acted-under, right-under}
 
 -- lists of replies are equal in one way at most
 replies-set : (x y : List (ℕ × Reply)) → IsProp (x ≡ y)
@@ -39,7 +40,7 @@ pub turn-appends :
 turn-appends o hub J box event answer e earlier files faults refused share new kept due journal handed boxes =
     let told : e.event ≡ event = ap (λ (x : Entry). x.event) due in
     record {
-      right = ∥∥₁_map kept (λ k. (keeps-right o hub J box k, keeps-acted o hub J box k));
+      right = ∥∥₁_map kept (λ k. (right-under o hub J k.options k.stands, acted-under o hub J k.options k.stands));
       due = own-due o J event answer e due;
       journal = journal;
       earlier = subst (λ (v : HubEvent). earlier ≡ option_map_or (outbox_of box J) (own_session v.kind) []) (sym told) handed;

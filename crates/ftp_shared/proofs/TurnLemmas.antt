@@ -10,8 +10,9 @@ use Rattle.ftp_events.specs.declared.entry.Entry.{Entry}
 use Rattle.ftp_events.specs.declared.event.Answer.{Answer}
 use Rattle.ftp_events.specs.declared.event.HubEvent.{HubEvent}
 use Rattle.ftp_events.specs.Right.{next_entry, replies}
+use Rattle.ftp_shared.specs.declared.receipt.Receipt.{Receipt}
 use Rattle.ftp_shared.specs.declared.receipt.Turn.{Turn}
-use Rattle.ftp_shared.specs.Next.{IsTurnAt}
+use Rattle.ftp_shared.specs.Next.{IsNextAt, IsTurnAt}
 use Rattle.ftp_shared.specs.Outbox.{IsRest, own_session}
 use Rattle.ftp_shared.specs.Desk.{IsVouched}
 
@@ -24,21 +25,22 @@ own-due o J event answer e due =
     subst (λ (a : Answer). e ≡ next_entry o J e.event a) (sym (ap (λ (x : Entry). x.answer) due))
     (subst (λ (v : HubEvent). e ≡ next_entry o J v answer) (sym (ap (λ (x : Entry). x.event) due)) due)
 
--- the entry of a turn has the event that was handed in
-pub turn-event :
-    (o : Options) (t : Turn) (event : HubEvent) (answer : Answer) →
-    IsTurnAt o t event answer →
-    t.submitted.receipt.entry.event ≡ event
-turn-event o t event answer h =
-    ∥∥₁_elim h (Coded-set event_row.coded t.submitted.receipt.entry.event event) (λ n. ap (λ (x : Entry). x.event) n.next.entry)
+-- the entry that a receipt tells has the event that was handed in
+pub event-told : (o : Options) (r : Receipt) (event : HubEvent) (answer : Answer) → IsNextAt o r event answer → r.entry.event ≡ event
+event-told o r event answer next =
+    ∥∥₁_elim next (Coded-set event_row.coded r.entry.event event) (λ n. ap (λ (e : Entry). e.event) n.entry)
 
 -- and the answer
-pub turn-answer :
-    (o : Options) (t : Turn) (event : HubEvent) (answer : Answer) →
-    IsTurnAt o t event answer →
-    t.submitted.receipt.entry.answer ≡ answer
-turn-answer o t event answer h =
-    ∥∥₁_elim h (Coded-set answer_row.coded t.submitted.receipt.entry.answer answer) (λ n. ap (λ (x : Entry). x.answer) n.next.entry)
+pub answer-told : (o : Options) (r : Receipt) (event : HubEvent) (answer : Answer) → IsNextAt o r event answer → r.entry.answer ≡ answer
+answer-told o r event answer next =
+    ∥∥₁_elim next (Coded-set answer_row.coded r.entry.answer answer) (λ n. ap (λ (e : Entry). e.answer) n.entry)
+
+-- so does that of a turn
+pub turn-event : (o : Options) (t : Turn) (event : HubEvent) (answer : Answer) → IsTurnAt o t event answer → t.submitted.receipt.entry.event ≡ event
+turn-event o t event answer h = event-told o t.submitted.receipt event answer (∥∥₁_map h (λ n. n.next))
+
+pub turn-answer : (o : Options) (t : Turn) (event : HubEvent) (answer : Answer) → IsTurnAt o t event answer → t.submitted.receipt.entry.answer ≡ answer
+turn-answer o t event answer h = answer-told o t.submitted.receipt event answer (∥∥₁_map h (λ n. n.next))
 
 -- it is vouched for
 pub turn-vouched :

@@ -13,7 +13,7 @@ use crate::cut::Cut;
 use crate::locked::Serving;
 use crate::receipt::{FinishError, JobShare, Submitted, Turn};
 use crate::{JournalFeed, JournalHub};
-use ftp_events::{Answer, EventKind, HubEvent};
+use ftp_events::{Answer, HubEvent};
 use ftp_options::Options;
 use ftp_transfer::Outcome;
 use std::alloc::Global;
@@ -126,13 +126,8 @@ impl<L: Serving> JournalHub for CutHub<L> {
         ensures next { IfOk result (λ s. IsNextAt L.options s.receipt (end_of job at) (answer.Done outcome)) }
         ensures given_back { IfErr result (λ e. e.job ≡ job) }
     {
-        let event = HubEvent {
-            at,
-            kind: EventKind::End {
-                ticket: job.ticket(),
-            },
-        };
-        let appended = self.lock.lock(rt).append(event, Answer::Done(outcome));
+        let end = job.end(at);
+        let appended = self.lock.lock(rt).append(end, Answer::Done(outcome));
         match appended {
             Ok(submitted) => {
                 self.beside.tell(rt, &submitted.receipt);

@@ -1,10 +1,10 @@
-//! The pieces of jobs that move without the lock.
+//! The entries of jobs that move without the lock.
 
 ghost use Rattle.std.specs.Prelude.{◌≡◌, ◌+◌, ℕ, Some, IfErr, IfOk, OnErr, OnOk, true, if◌then◌else◌};
 ghost use Rattle.ftp_events.specs.declared.event.Answer.TheVariants as answer;
 ghost use Rattle.ftp_events.specs.EndRows.{can_move};
 ghost use Rattle.ftp_shared.specs.Jobs.{behind};
-ghost use Rattle.ftp_shared.specs.Next.{IsNextAt, IsPieceAt, is_moved, piece_of};
+ghost use Rattle.ftp_shared.specs.Next.{IsNextAt, IsPieceAt, end_of, is_moved, piece_of};
 
 use crate::append_error::AppendError;
 use crate::cut::Cut;
@@ -12,6 +12,30 @@ use crate::locked::{Locked, Serving};
 use crate::receipt::{FinishError, JobShare, Submitted};
 use crate::share::StepShare;
 use ftp_events::{Answer, Decision, EventKind, HubEvent};
+
+impl JobShare {
+    // A piece of it.
+    fn piece(&self, at: u64) -> HubEvent
+        ensures { result ≡ piece_of self.now at }
+    {
+        let ticket = self.ticket();
+        HubEvent {
+            at,
+            kind: EventKind::Piece { ticket },
+        }
+    }
+
+    // Its end.
+    pub(crate) fn end(&self, at: u64) -> HubEvent
+        ensures { result ≡ end_of self.now at }
+    {
+        let ticket = self.ticket();
+        HubEvent {
+            at,
+            kind: EventKind::End { ticket },
+        }
+    }
+}
 
 impl<L: Serving> Locked<L> {
     ghost use Rattle.ftp_shared.specs.Outbox.{outbox_of};
@@ -44,13 +68,7 @@ impl<L: Serving> Locked<L> {
         ensures same_outbox { OnErr result ((s : ℕ) → outbox_of self.new.outbox self.new.journal.entries s ≡ outbox_of self.old.outbox self.old.journal.entries s) }
         ensures same_share { OnErr result (share.new.count ≡ share.old.count) }
     {
-        let event = HubEvent {
-            at,
-            kind: EventKind::Piece {
-                ticket: job.ticket(),
-            },
-        };
-        match self.append(share, event, Answer::Moved { bytes }) {
+        match self.append(share, job.piece(at), Answer::Moved { bytes }) {
             Ok(submitted) => Ok(handed_back(submitted, job, bytes)),
             Err(cause) => Err(FinishError { job, cause }),
         }
@@ -83,13 +101,7 @@ impl<L: Serving> Cut<L> {
         ensures same_tail { OnErr result (self.new.tail.entries ≡ self.old.tail.entries) }
         ensures every { self.new.every ≡ self.old.every }
     {
-        let event = HubEvent {
-            at,
-            kind: EventKind::Piece {
-                ticket: job.ticket(),
-            },
-        };
-        match self.append(event, Answer::Moved { bytes }) {
+        match self.append(job.piece(at), Answer::Moved { bytes }) {
             Ok(submitted) => Ok(handed_back(submitted, job, bytes)),
             Err(cause) => Err(FinishError { job, cause }),
         }

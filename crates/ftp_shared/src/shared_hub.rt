@@ -17,7 +17,7 @@ use crate::receipt::{FinishError, JobShare, Receipt, Submitted, Turn};
 use crate::settle::SettleError;
 use crate::share::StepShare;
 use crate::{JournalFeed, JournalHub};
-use ftp_events::{Answer, EventKind, HubEvent, Log};
+use ftp_events::{Answer, HubEvent, Log};
 use ftp_options::Options;
 use ftp_transfer::Outcome;
 use std::alloc::Global;
@@ -177,16 +177,8 @@ impl<L: Serving> JournalHub for SharedHub<L> {
         ensures given_back { IfErr result (λ e. e.job ≡ job) }
         ensures only { IfErr result (λ e. e.cause ≡ AppendError.OutOfMemory) }
     {
-        let event = HubEvent {
-            at,
-            kind: EventKind::End {
-                ticket: job.ticket(),
-            },
-        };
-        let appended = self
-            .lock
-            .lock(rt)
-            .append(share, event, Answer::Done(outcome));
+        let end = job.end(at);
+        let appended = self.lock.lock(rt).append(share, end, Answer::Done(outcome));
         match appended {
             Ok(submitted) => {
                 self.beside.tell(rt, &submitted.receipt);

@@ -3,30 +3,28 @@ use Rattle.std.specs.Prelude.{nat_lt}
 use Rattle.ftp_events.specs.declared.action.Action.{Action}
 use Rattle.ftp_events.specs.declared.entry.Entry.{Entry}
 use Rattle.ftp_shared.specs.Cut.{KeepsCut}
-use Rattle.ftp_shared.specs.Outbox.{newest, outbox_in}
+use Rattle.ftp_shared.specs.Outbox.{newest}
 use Rattle.ftp_shared.proofs.CutLemmas.{cut-at, cut-entries, cut-ready}
 use Rattle.ftp_shared.proofs.ready.ready_cut.Goals as goal
 
 -- no outbox has changed
 pub returns-in_err-catch_up-clause-keeps : goal.returns-in_err-catch_up-clause-keeps
 returns-in_err-catch_up-clause-keeps c o k =
-    cut-ready o c.args.hub.now c.args.hub.now c.args.tail.now.entries c.args.outbox.now c.catch_up.new.self k (λ log st. st) refl refl
-    (λ s. subst (λ (xs : List Action). outbox_in c.catch_up.new.self xs s ≡ outbox_in c.args.outbox.now xs s) c.newest.ensures (c.catch_up.ensures.same s))
+    cut-ready o c.args.hub.now c.args.hub.now c.args.tail.now.entries c.args.tail.now.entries c.newest.result.now c.args.outbox.now c.catch_up.new.self k
+    (λ log st. st) refl refl c.newest.ensures c.catch_up.ensures.same refl
 
 -- nor has the tail
 pub returns-in_err-fresh-clause-keeps : goal.returns-in_err-fresh-clause-keeps
 returns-in_err-fresh-clause-keeps c o k =
-    subst (λ (l : List Entry). KeepsCut o c.args.hub.now l c.catch_up.new.self) (sym c.place_for.ensures.same)
-    (cut-ready o c.args.hub.now c.args.hub.now c.args.tail.now.entries c.args.outbox.now c.catch_up.new.self k (λ log st. st) refl refl
-    (λ s. subst (λ (xs : List Action). outbox_in c.catch_up.new.self xs s ≡ outbox_in c.args.outbox.now xs s) c.newest.ensures (c.catch_up.ensures.same s)))
+    cut-ready o c.args.hub.now c.args.hub.now c.args.tail.now.entries c.place_for.new.tail.entries c.newest.result.now c.args.outbox.now c.catch_up.new.self k
+    (λ log st. st) refl refl c.newest.ensures c.catch_up.ensures.same c.place_for.ensures.same
 
 -- nor has what the hub stands for
 pub returns-in_default-clause-keeps : goal.returns-in_default-clause-keeps
 returns-in_default-clause-keeps c o k =
-    subst (λ (l : List Entry). KeepsCut o c.prepare_twin.new.self l c.catch_up.new.self) (sym c.place_for.ensures.same)
-    (cut-ready o c.args.hub.now c.prepare_twin.new.self c.args.tail.now.entries c.args.outbox.now c.catch_up.new.self k
-    c.prepare_twin.ensures.stands c.prepare_twin.ensures.same.head.options c.prepare_twin.ensures.same.head.count
-    (λ s. subst (λ (xs : List Action). outbox_in c.catch_up.new.self xs s ≡ outbox_in c.args.outbox.now xs s) c.newest.ensures (c.catch_up.ensures.same s)))
+    let taken = c.prepare_twin.ensures in
+    cut-ready o c.args.hub.now c.prepare_twin.new.self c.args.tail.now.entries c.place_for.new.tail.entries c.newest.result.now c.args.outbox.now c.catch_up.new.self k
+    taken.stands taken.same.head.options taken.same.head.count c.newest.ensures c.catch_up.ensures.same c.place_for.ensures.same
 
 -- a full tail has given way
 pub returns-clause-keeps : goal.returns-clause-keeps
@@ -34,9 +32,8 @@ returns-clause-keeps c o k =
     let before : List Entry = c.args.tail.now.entries in
     let all : length (newest before) ≤ c.catch_up.new.self.next = subst (λ (xs : List Action). length xs ≤ c.catch_up.new.self.next) c.newest.ensures c.in_ok-catch_up.ensures.all in
     let ready : KeepsCut o c.prepare_twin.new.self before c.catch_up.new.self =
-    cut-ready o c.args.hub.now c.prepare_twin.new.self before c.args.outbox.now c.catch_up.new.self k
-    c.prepare_twin.ensures.stands c.prepare_twin.ensures.same.head.options c.prepare_twin.ensures.same.head.count
-    (λ s. subst (λ (xs : List Action). outbox_in c.catch_up.new.self xs s ≡ outbox_in c.args.outbox.now xs s) c.newest.ensures (c.catch_up.ensures.same s))
+    cut-ready o c.args.hub.now c.prepare_twin.new.self before before c.newest.result.now c.args.outbox.now c.catch_up.new.self k
+    c.prepare_twin.ensures.stands c.prepare_twin.ensures.same.head.options c.prepare_twin.ensures.same.head.count c.newest.ensures c.catch_up.ensures.same refl
     in
     let left : c.cut_at.new.tail.entries ≡ cond (nat_lt (length before) c.args.every) before [] =
     ap (λ t. t.entries) c.cut_at.ensures

@@ -4,9 +4,10 @@ use Rattle.ftp_events.specs.declared.event.Answer.TheVariants.{Done, Moved}
 use Rattle.ftp_events.specs.declared.event.EventKind.TheVariants.{End, Piece}
 use Rattle.ftp_events.specs.Leads.{views}
 use Rattle.ftp_transfer.specs.declared.job.Job.{Job}
+use Rattle.ftp_shared.specs.Answers.{moved_in, outcome_in}
 use Rattle.ftp_shared.specs.Next.{end_of, piece_of}
 use Rattle.ftp_shared.specs.Moments.{TakesMoments}
-use Rattle.ftp_shared.proofs.EndLemmas.{answer-told, bytes-alone, bytes-told, last-end, last-piece, moment-told, outcome-alone, outcome-told, with-err}
+use Rattle.ftp_shared.proofs.EndLemmas.{last-end, last-piece, moment-told, told-in, with-err}
 use Rattle.ftp_shared.proofs.MomentLemmas.{takes-last, takes-more}
 use Rattle.ftp_shared.proofs.ProgressLemmas.{progress-more, progress-start, runs-ended, runs-stopped}
 use Rattle.ftp_shared.proofs.serve.serve_job.Goals as goal
@@ -43,8 +44,7 @@ pub returns-in-Ended-clause-runs : goal.returns-in-Ended-clause-runs
 returns-in-Ended-clause-runs g c =
     IfOk-weaker c.finish.result _ _
     (λ s next.
-    outcome-told _ s.receipt.entry.answer c.in-Ended.outcome
-    (answer-told g.H.JournalHub.options s.receipt (end_of c.pieces.job c.now-at.result) (Done c.in-Ended.outcome) next)
+    told-in outcome_in _ g.H.JournalHub.options s.receipt (end_of c.pieces.job c.now-at.result) (Done c.in-Ended.outcome) next
     (runs-ended (views g.S.Storage.files g.S.Storage.rule g.S.Storage.faults g.S.Storage.fault_limit g.S.Storage.calls
     g.L.Source.left g.L.Source.sending g.L.Source.faults g.L.Source.fault_limit g.L.Source.calls)
     c.args.job c.pieces.next c.pieces.job c.args.storage.now c.pieces.storage c.execute_piece.new.storage c.args.link.now c.pieces.link c.execute_piece.new.link
@@ -58,17 +58,14 @@ pub returns-in-Ended-clause-settled : goal.returns-in-Ended-clause-settled
 returns-in-Ended-clause-settled g c =
     IfOk-weaker c.finish.result _ _
     (λ s next.
-    outcome-told _ s.receipt.entry.answer c.in-Ended.outcome
-    (answer-told g.H.JournalHub.options s.receipt (end_of c.pieces.job c.now-at.result) (Done c.in-Ended.outcome) next)
+    told-in outcome_in _ g.H.JournalHub.options s.receipt (end_of c.pieces.job c.now-at.result) (Done c.in-Ended.outcome) next
     c.in-Ended.ensures.settled)
     c.finish.ensures.next
 
 pub returns-in-Ended-clause-stops : goal.returns-in-Ended-clause-stops
 returns-in-Ended-clause-stops g c =
     IfOk-weaker c.finish.result _ _
-    (λ s next.
-    outcome-alone _ s.receipt.entry.answer c.in-Ended.outcome
-    (answer-told g.H.JournalHub.options s.receipt (end_of c.pieces.job c.now-at.result) (Done c.in-Ended.outcome) next))
+    (λ s next. told-in moved_in _ g.H.JournalHub.options s.receipt (end_of c.pieces.job c.now-at.result) (Done c.in-Ended.outcome) next tt)
     c.finish.ensures.next
 
 -- its moment is the one that was taken last
@@ -112,22 +109,19 @@ returns-in-Over-clause-next g c =
 pub returns-in-Over-clause-runs : goal.returns-in-Over-clause-runs
 returns-in-Over-clause-runs g c =
     let over = c.in-Over.ensures in
-    bytes-alone _ c.in-Over.submitted.receipt.entry.answer over.bytes
-    (answer-told g.H.JournalHub.options c.in-Over.submitted.receipt (piece_of c.pieces.job over.at) (Moved over.bytes) over.next)
+    told-in outcome_in _ g.H.JournalHub.options c.in-Over.submitted.receipt (piece_of c.pieces.job over.at) (Moved over.bytes) over.next tt
 
 pub returns-in-Over-clause-settled : goal.returns-in-Over-clause-settled
 returns-in-Over-clause-settled g c =
     let over = c.in-Over.ensures in
-    bytes-alone _ c.in-Over.submitted.receipt.entry.answer over.bytes
-    (answer-told g.H.JournalHub.options c.in-Over.submitted.receipt (piece_of c.pieces.job over.at) (Moved over.bytes) over.next)
+    told-in outcome_in _ g.H.JournalHub.options c.in-Over.submitted.receipt (piece_of c.pieces.job over.at) (Moved over.bytes) over.next tt
 
 -- a front of the run was moved, and the link was closed
 pub returns-in-Over-clause-stops : goal.returns-in-Over-clause-stops
 returns-in-Over-clause-stops g c =
     let over = c.in-Over.ensures in
     let total : c.execute_piece.new.job.done ≡ c.pieces.next.done + c.in-More.bytes = ap (λ (j : Job). j.done) c.in-More.ensures.raised in
-    bytes-told _ c.in-Over.submitted.receipt.entry.answer over.bytes
-    (answer-told g.H.JournalHub.options c.in-Over.submitted.receipt (piece_of c.pieces.job over.at) (Moved over.bytes) over.next)
+    told-in moved_in _ g.H.JournalHub.options c.in-Over.submitted.receipt (piece_of c.pieces.job over.at) (Moved over.bytes) over.next
     (runs-stopped (views g.S.Storage.files g.S.Storage.rule g.S.Storage.faults g.S.Storage.fault_limit g.S.Storage.calls
     g.L.Source.left g.L.Source.sending g.L.Source.faults g.L.Source.fault_limit g.L.Source.calls)
     c.args.job c.pieces.next c.pieces.job c.args.storage.now c.pieces.storage c.execute_piece.new.storage c.args.link.now c.pieces.link c.execute_piece.new.link

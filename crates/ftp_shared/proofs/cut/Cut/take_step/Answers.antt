@@ -9,8 +9,8 @@ use Rattle.ftp_hub.specs.Twin.{started_job}
 use Rattle.ftp_options.specs.declared.options.Options.{Options}
 use Rattle.ftp_shared.specs.Cut.{KeepsCut}
 use Rattle.ftp_shared.specs.Outbox.{newest}
-use Rattle.ftp_shared.proofs.CutLemmas.{cut-acted, cut-bounded, cut-right, cut-stands, cut-step, newest-at, told-cut, turn-cut}
-use Rattle.ftp_shared.proofs.KeepsLemmas.{entry-set, job-set, turn-whole}
+use Rattle.ftp_shared.proofs.CutLemmas.{cut-bounded, cut-step, newest-at}
+use Rattle.ftp_shared.proofs.KeepsLemmas.{entry-set, job-set, told-next, turn-next, turn-whole}
 use Rattle.ftp_shared.proofs.cut.Cut.take_step.Goals as goal
 
 -- memory that was taken changes nothing
@@ -46,29 +46,11 @@ invariant_of-self-2 g c =
           c.hand-earlier.ensures.sorted c.hand-earlier.ensures.next c.hand-earlier.ensures.told));
     }
 
--- the entry is the next one of a right and acted log
-pub returns-clause-next : goal.returns-clause-next
-returns-clause-next g c =
-    let o = g.L.Serving.options in
-    let hub = c.ready_cut.new.hub in
-    let tail : List Entry = c.ready_cut.new.tail.entries in
-    let box = c.ready_cut.new.outbox in
-    ∥∥₁_map c.args.self.now.kept (λ was.
-    let k = c.ready_cut.ensures.keeps o was in
-    record {
-      journal = tail ++ k.front;
-      right = cut-right o hub tail box k;
-      acted = cut-acted o hub tail box k;
-      place = c.events-place.ensures ∙ k.events;
-      entry = told-cut o hub (tail ++ k.front) c.args.event c.args.answer c.step_twin-kept.result.kept c.step_twin-kept.result.told k.options (cut-stands o hub tail box k) c.step_twin-kept.ensures.due c.step_twin-kept.ensures.told;
-    })
-
--- and the replies before it are the last
+-- the entry is the next one of a right and acted log, and the replies before it are the last
 pub returns-clause-rest : goal.returns-clause-rest
 returns-clause-rest g c =
     let o = g.L.Serving.options in
     let before : List Entry = c.args.self.now.tail.entries in
-    let hub = c.ready_cut.new.hub in
     let tail : List Entry = c.ready_cut.new.tail.entries in
     let box = c.ready_cut.new.outbox in
     let all : length (newest tail) ≤ box.next =
@@ -77,24 +59,18 @@ returns-clause-rest g c =
     in
     ∥∥₁_map c.args.self.now.kept (λ was.
     let k = c.ready_cut.ensures.keeps o was in
-    record {
-      next = record {
-        journal = tail ++ k.front;
-        right = cut-right o hub tail box k;
-        acted = cut-acted o hub tail box k;
-        place = c.events-place.ensures ∙ k.events;
-        entry = told-cut o hub (tail ++ k.front) c.args.event c.args.answer c.step_twin-kept.result.kept c.step_twin-kept.result.told k.options (cut-stands o hub tail box k) c.step_twin-kept.ensures.due c.step_twin-kept.ensures.told;
-      };
-      earlier = turn-cut c.args.own c.from_vec.result tail (tail ++ k.front) box (c.from_vec.ensures ∙ c.hand-earlier.ensures.earlier) all k.rests;
-    })
+    turn-next o c.ready_cut.new.hub (tail ++ k.front) (newest tail) box c.args.event c.args.answer c.step_twin-kept.result.kept c.args.own _ k.kept
+    all c.step_twin-kept.ensures.due c.step_twin-kept.ensures.told (c.events-place.ensures ∙ k.kept.events) (c.from_vec.ensures ∙ c.hand-earlier.ensures.earlier))
+
+pub returns-clause-next : goal.returns-clause-next
+returns-clause-next g c = ∥∥₁_map (returns-clause-rest g c) (λ t. t.next)
 
 -- so it is of every log for which the hub stood
 pub returns-clause-due : goal.returns-clause-due
 returns-clause-due g c log st =
     let o = g.L.Serving.options in
-    let hub = c.ready_cut.new.hub in
     ∥∥₁_elim c.args.self.now.kept (entry-set c.step_twin-kept.result.told (next_entry o log c.args.event c.args.answer)) (λ was.
-    told-cut o hub log c.args.event c.args.answer c.step_twin-kept.result.kept c.step_twin-kept.result.told (c.ready_cut.ensures.keeps o was).options (c.ready_cut.ensures.stands log st) c.step_twin-kept.ensures.due c.step_twin-kept.ensures.told)
+    told-next o c.ready_cut.new.hub log c.args.event c.args.answer c.step_twin-kept.result.kept c.step_twin-kept.result.told (c.ready_cut.ensures.keeps o was).kept.options (c.ready_cut.ensures.stands log st) c.step_twin-kept.ensures.due c.step_twin-kept.ensures.told)
 
 -- and the hub stands for each of them with it
 pub returns-clause-stands : goal.returns-clause-stands
@@ -111,7 +87,7 @@ returns-clause-job g c log st =
     let o = g.L.Serving.options in
     ∥∥₁_elim c.args.self.now.kept (job-set c.share_of.result (started_job o (past_of log) c.step_twin-kept.result.told)) (λ was.
     c.share_of.ensures ∙ c.step_twin-kept.ensures.job log (c.ready_cut.ensures.stands log st)
-    ∙ ap (λ (o : Options). started_job o (past_of log) c.step_twin-kept.result.kept) (c.ready_cut.ensures.keeps o was).options
+    ∙ ap (λ (o : Options). started_job o (past_of log) c.step_twin-kept.result.kept) (c.ready_cut.ensures.keeps o was).kept.options
     ∙ ap (started_job o (past_of log)) (sym c.step_twin-kept.ensures.told))
 
 -- the tail has the entry that is told

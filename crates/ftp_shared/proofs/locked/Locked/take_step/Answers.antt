@@ -9,7 +9,7 @@ use Rattle.ftp_events.specs.Words.{is_number}
 use Rattle.ftp_hub.specs.Twin.{started_job}
 use Rattle.ftp_shared.specs.Keeps.{Keeps}
 use Rattle.ftp_shared.specs.Outbox.{newest, outbox_after, outbox_in, replies_in}
-use Rattle.ftp_shared.proofs.KeepsLemmas.{entry-set, job-set, keeps-acted, keeps-right, keeps-step, outbox-step, told-next, turn-rest, turn-whole}
+use Rattle.ftp_shared.proofs.KeepsLemmas.{entry-set, kept-step, job-set, outbox-step, told-next, turn-next, turn-whole}
 use Rattle.ftp_shared.proofs.locked.Locked.take_step.Goals as goal
 
 -- memory that was taken changes nothing
@@ -46,28 +46,13 @@ invariant_of-self-2 g c =
       kept = ∥∥₁_map c.args.self.now.kept (λ before.
           let k = c.make_ready.ensures.keeps o before in
           subst (λ (l : List Entry). Keeps o c.step_twin-kept.new.self l c.hand-earlier.new.self) (sym c.keep.ensures)
-          (keeps-step o c.make_ready.new.hub c.step_twin-kept.new.self log e c.make_ready.new.outbox c.hand-earlier.new.self c.args.own k
+          (kept-step o c.make_ready.new.hub c.step_twin-kept.new.self log (newest log) e c.make_ready.new.outbox c.hand-earlier.new.self c.args.own k
           (c.step_twin-kept.ensures.stands log k.stands) c.step_twin-kept.ensures.options c.step_twin-kept.ensures.count all
           c.hand-earlier.ensures.sorted c.hand-earlier.ensures.next c.hand-earlier.ensures.told));
       counted = omega (arith, one, two, steps, more);
     }
 
--- the entry is the next one
-pub returns-clause-next : goal.returns-clause-next
-returns-clause-next g c =
-    let o = g.L.Serving.options in
-    let log = c.make_ready.new.journal.entries in
-    ∥∥₁_map c.args.self.now.kept (λ before.
-    let k = c.make_ready.ensures.keeps o before in
-    record {
-      journal = log;
-      right = keeps-right o c.make_ready.new.hub log c.make_ready.new.outbox k;
-      acted = keeps-acted o c.make_ready.new.hub log c.make_ready.new.outbox k;
-      place = c.len-place.ensures;
-      entry = told-next o c.make_ready.new.hub log c.make_ready.new.outbox c.args.event c.args.answer c.step_twin-kept.result.kept c.step_twin-kept.result.told k c.step_twin-kept.ensures.due c.step_twin-kept.ensures.told;
-    })
-
--- and the replies before it are the last
+-- the entry is the next one, and the replies before it are the last
 pub returns-clause-rest : goal.returns-clause-rest
 returns-clause-rest g c =
     let o = g.L.Serving.options in
@@ -76,24 +61,19 @@ returns-clause-rest g c =
     subst (λ (l : List Entry). length (newest l) ≤ c.make_ready.new.outbox.next) (sym c.make_ready.ensures.journal) c.in_ok-room.ensures.sorted
     in
     ∥∥₁_map c.args.self.now.kept (λ before.
-    let k = c.make_ready.ensures.keeps o before in
-    record {
-      next = record {
-        journal = log;
-        right = keeps-right o c.make_ready.new.hub log c.make_ready.new.outbox k;
-        acted = keeps-acted o c.make_ready.new.hub log c.make_ready.new.outbox k;
-        place = c.len-place.ensures;
-        entry = told-next o c.make_ready.new.hub log c.make_ready.new.outbox c.args.event c.args.answer c.step_twin-kept.result.kept c.step_twin-kept.result.told k c.step_twin-kept.ensures.due c.step_twin-kept.ensures.told;
-      };
-      earlier = turn-rest c.args.own c.from_vec.result log c.make_ready.new.outbox (c.from_vec.ensures ∙ c.hand-earlier.ensures.earlier) all k.rests;
-    })
+    turn-next o c.make_ready.new.hub log (newest log) c.make_ready.new.outbox c.args.event c.args.answer c.step_twin-kept.result.kept c.args.own _ (c.make_ready.ensures.keeps o before)
+    all c.step_twin-kept.ensures.due c.step_twin-kept.ensures.told c.len-place.ensures (c.from_vec.ensures ∙ c.hand-earlier.ensures.earlier))
+
+pub returns-clause-next : goal.returns-clause-next
+returns-clause-next g c = ∥∥₁_map (returns-clause-rest g c) (λ t. t.next)
 
 pub returns-clause-due : goal.returns-clause-due
 returns-clause-due g c =
     let o = g.L.Serving.options in
     let log = c.make_ready.new.journal.entries in
     ∥∥₁_elim c.args.self.now.kept (entry-set c.step_twin-kept.result.told (next_entry o c.args.self.now.journal.entries c.args.event c.args.answer)) (λ before.
-    told-next o c.make_ready.new.hub log c.make_ready.new.outbox c.args.event c.args.answer c.step_twin-kept.result.kept c.step_twin-kept.result.told (c.make_ready.ensures.keeps o before) c.step_twin-kept.ensures.due c.step_twin-kept.ensures.told
+    let k = c.make_ready.ensures.keeps o before in
+    told-next o c.make_ready.new.hub log c.args.event c.args.answer c.step_twin-kept.result.kept c.step_twin-kept.result.told k.options k.stands c.step_twin-kept.ensures.due c.step_twin-kept.ensures.told
     ∙ ap (λ (l : List Entry). next_entry o l c.args.event c.args.answer) c.make_ready.ensures.journal)
 
 -- the journal has the entry that is told
