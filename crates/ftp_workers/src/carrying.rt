@@ -1,18 +1,22 @@
 //! What an entry asks for is done, once the hub is free.
 
-ghost use Rattle.std.specs.Prelude.{◌≡◌};
+ghost use Rattle.std.specs.Prelude.{◌≡◌, Some, IfSome, false};
 ghost use Rattle.std.specs.List.{list_any};
 ghost use Rattle.ftp_workers.specs.Carried.{is_notice, to_stop};
+ghost use Rattle.ftp_workers.specs.Kept.{is_download};
 
 use crate::event_sinks::EventSinks;
 use crate::handoff::Handoff;
 use crate::server_state::ServerState;
 use crate::task::Task;
-use ftp_base::{Authenticator, Gate};
-use ftp_events::{Action, Decision, Entry};
+use ftp_base::{Authenticator, DataChanCmd, Gate, Storage};
+use ftp_events::{Action, Decision, Entry, EventKind};
 use ftp_shared::{JobShare, JournalHub};
 use ftp_system::Depot;
 use std::sync::Wait;
+
+/// The longest file that the thread of a session sends, in bytes: its socket takes them at once, so the session is soon heard again.
+const SMALL: u64 = 4096;
 
 impl<
     H: JournalHub + Drop,
@@ -36,16 +40,63 @@ impl<
             self.sinks.lock(rt).hear(entry);
         }
     }
+
+    /// Does what an entry asks for that the thread of its session submitted, which runs a small download itself that starts with it.
+    #[inline(never)]
+    pub(crate) fn carry_out_here<R: Wait>(&self, rt: &R, entry: &Entry, job: Option<JobShare>) {
+        let job = match job {
+            Some(job) => self.keep_small(rt, entry, job),
+            None => None,
+        };
+        self.carry_out(rt, entry, job);
+    }
+
+    // Keeps the job that starts with an entry where it is a small download. Any other is given back.
+    fn keep_small<R: Wait>(&self, rt: &R, entry: &Entry, job: JobShare) -> Option<JobShare>
+        ensures same { IfSome result (λ given. given ≡ job) }
+        ensures others { is_download entry.now.event.kind ≡ false → result ≡ Some job }
+        ensures off { self.now.runs_small ≡ false → result ≡ Some job }
+    {
+        if !self.runs_small || !is_download(&entry.event.kind) || !self.is_small(&job) {
+            return Some(job);
+        }
+        self.handoff.keep_job(rt, job);
+        None
+    }
+
+    // Says whether the job is about a small file, by a storage of this look.
+    fn is_small(&self, job: &JobShare) -> bool {
+        let (Ok(job), Ok(storage)) = (job.job(self.alloc), self.depot.store()) else {
+            return false;
+        };
+        let mut storage = storage;
+        match storage.metadata(&job.user, &job.path) {
+            Ok(meta) => !meta.is_dir && meta.len <= SMALL,
+            Err(_) => false,
+        }
+    }
 }
 
 impl Handoff {
     // Gives a worker the job that starts with an entry. Where there is no room for it, it never ends.
     fn start<R: Wait>(&self, rt: &R, job: JobShare) {
-        let number = job.link();
-        if self.start_job(rt, job.ticket().session, number) {
-            let _ = self.put(rt, Task::Job(number, job));
+        if self.start_job(rt, job.ticket().session, job.link()) {
+            let _ = self.put(rt, Task::Job(job));
         }
     }
+}
+
+// Says whether the event asks for a download.
+fn is_download(kind: &EventKind) -> bool
+    ensures { result ≡ is_download kind.now }
+{
+    matches!(
+        kind,
+        EventKind::Transfer {
+            command: DataChanCmd::Retr { .. },
+            ..
+        }
+    )
 }
 
 // The session whose job is to stop.

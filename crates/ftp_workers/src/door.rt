@@ -105,13 +105,8 @@ impl<
                 port,
             },
         };
-        let ahead = Vec::new(self.state.alloc);
-        self.submit_connection(
-            number,
-            PendingConnection { stream, ahead },
-            event,
-            Answer::None,
-        );
+        let link = PendingConnection::unread(self.state.alloc, stream);
+        self.submit_connection(number, link, event, Answer::None);
     }
 
     // Puts a data connection where its job finds it, and has its event decided then.

@@ -23,6 +23,16 @@ pub(crate) struct PendingConnection {
     pub(crate) ahead: Vec<u8>,
 }
 
+impl PendingConnection {
+    /// A connection of which nothing was read yet.
+    pub(crate) fn unread(alloc: Global, stream: TcpStream) -> PendingConnection {
+        PendingConnection {
+            stream,
+            ahead: Vec::new(alloc),
+        }
+    }
+}
+
 /// How long a thread rests without a task, in milliseconds, and how many may rest longer.
 const REST: u64 = 60_000;
 
@@ -102,15 +112,13 @@ impl Handoff {
         start_job(&mut self.running.lock(rt), session, number, None)
     }
 
-    /// From now on the job on the link of this number runs, and the thread of its session is to run it. Where there is no room for it,
-    /// it never ends.
-    pub(crate) fn keep_job<R: Wait>(&self, rt: &R, number: u64, job: JobShare) {
-        let session = job.ticket().session;
-        let _ = keep_job(&mut self.running.lock(rt), session, number, job);
+    /// From now on the job runs, and the thread of its session is to run it. Where there is no room for it, it never ends.
+    pub(crate) fn keep_job<R: Wait>(&self, rt: &R, job: JobShare) {
+        let _ = keep_job(&mut self.running.lock(rt), job);
     }
 
-    /// Takes the job that the thread of the session is to run, with the number of its link.
-    pub(crate) fn take_kept<R: Wait>(&self, rt: &R, session: u64) -> Option<(u64, JobShare)> {
+    /// Takes the job that the thread of the session is to run.
+    pub(crate) fn take_kept<R: Wait>(&self, rt: &R, session: u64) -> Option<JobShare> {
         take_kept(&mut self.running.lock(rt), session)
     }
 

@@ -31,9 +31,10 @@ impl<R: WorkerRuntime, H: JournalHub + Drop, S: Services> Worker<R, H, S> {
         }
     }
 
-    // Runs a job on the link of this number, and does what its end asks for.
+    // Runs a job on its link, and does what its end asks for.
     #[inline(never)]
-    pub(crate) fn run(&mut self, number: u64, job: JobShare) {
+    pub(crate) fn run(&mut self, job: JobShare) {
+        let number = job.link();
         let Some(waiting) = self.state.handoff.take_link(&self.rt, number) else {
             return;
         };

@@ -193,13 +193,8 @@ impl<
                 raw: told_address(raw),
             },
         };
-        let ahead = Vec::new(self.state.alloc);
-        self.submit_connection(
-            number,
-            PendingConnection { stream, ahead },
-            event,
-            Answer::None,
-        );
+        let link = PendingConnection::unread(self.state.alloc, stream);
+        self.submit_connection(number, link, event, Answer::None);
     }
 
     /// Takes in the connection that has come to the port of a session, where the event may close the port: who has

@@ -1,81 +1,16 @@
 //! Small downloads, which the thread of their session runs itself.
 
-ghost use Rattle.std.specs.Prelude.{◌≡◌, Some, IfSome, false};
-ghost use Rattle.ftp_workers.specs.Kept.{is_download};
-
-use crate::event_sinks::EventSinks;
 use crate::handoff::PendingConnection;
 use crate::runtime::WorkerRuntime;
-use crate::server_state::{ServerState, StateOf};
+use crate::server_state::StateOf;
 use crate::services::Services;
 use crate::task::Task;
-use ftp_base::{Authenticator, DataChanCmd, Gate, Storage};
-use ftp_events::{Entry, EventKind};
 use ftp_shared::{JobShare, JournalHub, Submitted};
-use ftp_system::{Ahead, Depot, Gathered, LIMIT, SocketLink, SystemEdge};
+use ftp_system::{Ahead, Gathered, LIMIT, SocketLink, SystemEdge};
 use std::alloc::Global;
 use std::mem;
 use std::net::{IpAddr, Ipv4Addr};
-use std::sync::{Arc, Wait};
-
-/// The longest file that the thread of a session sends, in bytes: its socket takes them at once, so the session is soon heard again.
-const SMALL: u64 = 4096;
-
-// Says whether the event asks for a download.
-fn is_download(kind: &EventKind) -> bool
-    ensures { result ≡ is_download kind.now }
-{
-    matches!(
-        kind,
-        EventKind::Transfer {
-            command: DataChanCmd::Retr { .. },
-            ..
-        }
-    )
-}
-
-impl<
-    H: JournalHub + Drop,
-    A: Authenticator + Drop,
-    N: EventSinks + Drop,
-    D: Depot + Drop,
-    G: Gate + Drop,
-> ServerState<H, A, N, D, G> {
-    /// Does what an entry asks for that the thread of its session submitted, which runs a small download itself that starts with it.
-    #[inline(never)]
-    pub(crate) fn carry_out_here<R: Wait>(&self, rt: &R, entry: &Entry, job: Option<JobShare>) {
-        let job = match job {
-            Some(job) => self.keep_small(rt, entry, job),
-            None => None,
-        };
-        self.carry_out(rt, entry, job);
-    }
-
-    // Keeps the job that starts with an entry where it is a small download. Any other is given back.
-    fn keep_small<R: Wait>(&self, rt: &R, entry: &Entry, job: JobShare) -> Option<JobShare>
-        ensures same { IfSome result (λ given. given ≡ job) }
-        ensures others { is_download entry.now.event.kind ≡ false → result ≡ Some job }
-        ensures off { self.now.runs_small ≡ false → result ≡ Some job }
-    {
-        if !self.runs_small || !is_download(&entry.event.kind) || !self.is_small(&job) {
-            return Some(job);
-        }
-        self.handoff.keep_job(rt, job.link(), job);
-        None
-    }
-
-    // Says whether the job is about a small file, by a storage of this look.
-    fn is_small(&self, job: &JobShare) -> bool {
-        let (Ok(job), Ok(storage)) = (job.job(self.alloc), self.depot.store()) else {
-            return false;
-        };
-        let mut storage = storage;
-        match storage.metadata(&job.user, &job.path) {
-            Ok(meta) => !meta.is_dir && meta.len <= SMALL,
-            Err(_) => false,
-        }
-    }
-}
+use std::sync::Arc;
 
 /// What the thread of a session runs jobs with that were kept for it.
 #[derive(Drop)]
@@ -106,24 +41,25 @@ impl<R: WorkerRuntime, H: JournalHub + Drop, S: Services> OwnJobs<R, H, S> {
     #[inline(never)]
     pub(crate) fn run_kept(&mut self) -> bool {
         match self.state.handoff.take_kept(&self.rt, self.session) {
-            Some((number, job)) => self.run(number, job),
+            Some(job) => self.run(job),
             None => false,
         }
     }
 
-    // Runs a job on the link of this number, and says whether it did. One that is to stop is a worker's.
+    // Runs a job on its link, and says whether it did. One that is to stop is a worker's.
     #[inline(never)]
-    fn run(&mut self, number: u64, job: JobShare) -> bool {
+    fn run(&mut self, job: JobShare) -> bool {
         if self.pass.is_none() {
             self.pass = self.state.share(&self.rt);
         }
         let pass = match &mut self.pass {
             Some(pass) if !job.is_marked() => pass,
             _ => {
-                let _ = self.state.handoff.put(&self.rt, Task::Job(number, job));
+                let _ = self.state.handoff.put(&self.rt, Task::Job(job));
                 return false;
             }
         };
+        let number = job.link();
         let Some(waiting) = self.state.handoff.take_link(&self.rt, number) else {
             return false;
         };
@@ -159,8 +95,8 @@ impl<R: WorkerRuntime, H: JournalHub + Drop, S: Services> OwnJobs<R, H, S> {
     /// No job is run any more. One that is still kept is given to a worker.
     #[inline(never)]
     pub(crate) fn leave(&mut self) {
-        if let Some((number, job)) = self.state.handoff.take_kept(&self.rt, self.session) {
-            let _ = self.state.handoff.put(&self.rt, Task::Job(number, job));
+        if let Some(job) = self.state.handoff.take_kept(&self.rt, self.session) {
+            let _ = self.state.handoff.put(&self.rt, Task::Job(job));
         }
         if let Some(pass) = mem::replace(&mut self.pass, None) {
             self.state.take_back(&self.rt, pass);

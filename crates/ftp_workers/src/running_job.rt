@@ -3,7 +3,7 @@
 ghost use Rattle.std.specs.Prelude.{◌≡◌, ◌≢◌, ℕ, Some, None, true, false, not, is_some, nat_eq};
 ghost use Rattle.std.specs.Option.{option_and_then, option_map};
 ghost use Rattle.indexmap.specs.IndexMap.{get};
-ghost use Rattle.ftp_workers.specs.Kept.{kept_job, once_taken};
+ghost use Rattle.ftp_workers.specs.Kept.{once_taken};
 
 use crate::link_handle::LinkHandle;
 use ftp_shared::JobShare;
@@ -47,40 +47,30 @@ pub(crate) fn start_job(
     jobs.insert(session, job).is_ok()
 }
 
-/// From now on the job on this link runs, and is kept for the thread of its session, which has no other. Says whether there was room.
-pub(crate) fn keep_job(
-    jobs: &mut IndexMap<u64, RunningJob>,
-    session: u64,
-    number: u64,
-    job: JobShare,
-) -> bool
-    ensures started { result ≡ true → option_map (λ job. job.number) (get nat_eq jobs.new session) ≡ Some number }
-    ensures kept { result ≡ true → option_and_then kept_job (get nat_eq jobs.new session) ≡ Some (number, job) }
-    ensures others { (other : ℕ) → other ≢ session → get nat_eq jobs.new other ≡ get nat_eq jobs.old other }
+/// From now on the job runs, and is kept for the thread of its session, which has no other. Says whether there was room.
+pub(crate) fn keep_job(jobs: &mut IndexMap<u64, RunningJob>, job: JobShare) -> bool
+    ensures started { result ≡ true → option_map (λ running. running.number) (get nat_eq jobs.new job.ticket.session) ≡ Some job.number }
+    ensures kept { result ≡ true → option_and_then (λ running. running.kept) (get nat_eq jobs.new job.ticket.session) ≡ Some job }
+    ensures others { (other : ℕ) → other ≢ job.ticket.session → get nat_eq jobs.new other ≡ get nat_eq jobs.old other }
     ensures unchanged { result ≡ false → (s : ℕ) → get nat_eq jobs.new s ≡ get nat_eq jobs.old s }
 {
-    let job = RunningJob {
-        number,
+    let session = job.ticket().session;
+    let running = RunningJob {
+        number: job.link(),
         handle: None,
         kept: Some(job),
     };
-    jobs.insert(session, job).is_ok()
+    jobs.insert(session, running).is_ok()
 }
 
-/// The job that is kept for the thread of the session, and the number of its link. It runs on, and is kept no longer.
-pub(crate) fn take_kept(
-    jobs: &mut IndexMap<u64, RunningJob>,
-    session: u64,
-) -> Option<(u64, JobShare)>
-    ensures taken { result ≡ option_and_then kept_job (get nat_eq jobs.old session) }
+/// The job that is kept for the thread of the session. It runs on, and is kept no longer.
+pub(crate) fn take_kept(jobs: &mut IndexMap<u64, RunningJob>, session: u64) -> Option<JobShare>
+    ensures taken { result ≡ option_and_then (λ running. running.kept) (get nat_eq jobs.old session) }
     ensures runs { get nat_eq jobs.new session ≡ option_map once_taken (get nat_eq jobs.old session) }
     ensures others { (other : ℕ) → other ≢ session → get nat_eq jobs.new other ≡ get nat_eq jobs.old other }
 {
     match jobs.get_mut(&session) {
-        Some(job) => match mem::replace(&mut job.kept, None) {
-            Some(kept) => Some((job.number, kept)),
-            None => None,
-        },
+        Some(running) => mem::replace(&mut running.kept, None),
         None => None,
     }
 }

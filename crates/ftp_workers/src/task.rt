@@ -10,6 +10,6 @@ pub(crate) enum Task {
     Control(TcpStream, SocketAddr),
     /// Read the header of a connection that a proxy passed on, and do what it says.
     Proxied(TcpStream, SocketAddr),
-    /// Run a job, on the link of this number.
-    Job(u64, JobShare),
+    /// Run a job, on its link.
+    Job(JobShare),
 }

@@ -60,7 +60,7 @@ impl<R: WorkerRuntime, H: JournalHub + Drop, S: Services> Worker<R, H, S> {
                 self.state.exit(&self.rt, raw.ip());
             }
             Task::Proxied(stream, raw) => self.pass_on(stream, raw),
-            Task::Job(number, job) => self.run(number, job),
+            Task::Job(job) => self.run(job),
         }
     }
 
