@@ -52,6 +52,21 @@ pub struct Server<S: Drop> {
     ghost some: { every ≢ Some 0 },
 }
 
+// A server with the usual limits.
+fn fresh<S: Drop>(alloc: Global, options: Options, parts: Parts<S>) -> Server<S>
+    ensures { result.options ≡ options }
+{
+    Server {
+        alloc,
+        options,
+        limits: usual_limits(),
+        every: None,
+        parts,
+        feed: None,
+        runs_small: false,
+    }
+}
+
 impl<S: Storage + Send + Drop + 'static> Server<S> {
     /// Handlers of SITE commands are not asked.
     ///
@@ -81,15 +96,7 @@ impl<S: Storage + Send + Drop + 'static> Server<S> {
     pub fn with_options(alloc: Global, options: Options, parts: Parts<S>) -> Server<S>
         ensures { result.options ≡ options }
     {
-        Server {
-            alloc,
-            options,
-            limits: usual_limits(),
-            every: None,
-            parts,
-            feed: None,
-            runs_small: false,
-        }
+        fresh(alloc, options, parts)
     }
 
     /// Listens at an address such as `127.0.0.1:21` or `[::1]:21`, until the indicator asks for a shutdown and all
@@ -247,15 +254,7 @@ where
     pub fn over(alloc: Global, options: Options, parts: Parts<D>) -> Server<D>
         ensures { result.options ≡ options }
     {
-        Server {
-            alloc,
-            options,
-            limits: usual_limits(),
-            every: None,
-            parts,
-            feed: None,
-            runs_small: false,
-        }
+        fresh(alloc, options, parts)
     }
 
     /// Listens over its depot at an address, as `listen` does.

@@ -2,13 +2,7 @@ use Rattle.ftp_listen.proofs.ErrorLemmas.{IsErrOf-elsewhere}
 use Rattle.ftp_listen.proofs.server.Server.listen_with.Goals as goal
 
 pub returns-in-Err-clause-address : goal.returns-in-Err-clause-address
-returns-in-Err-clause-address g c = (
-  λ is. c.in-Err.ensures.address.0 (IsErrOf-elsewhere c.in-Err.error _ is),
-  λ none. IsErrOf-elsewhere c.in-Err.error _ (c.in-Err.ensures.address.1 none),
-)
+returns-in-Err-clause-address g c = IsErrOf-elsewhere c.in-Err.error _ c.in-Err.ensures.address
 
 pub returns-in-Err-clause-ipv6 : goal.returns-in-Err-clause-ipv6
-returns-in-Err-clause-ipv6 g c = (
-  λ is. c.in-Err.ensures.ipv6.0 (IsErrOf-elsewhere c.in-Err.error _ is),
-  λ v6. IsErrOf-elsewhere c.in-Err.error _ (c.in-Err.ensures.ipv6.1 v6),
-)
+returns-in-Err-clause-ipv6 g c = IsErrOf-elsewhere c.in-Err.error _ c.in-Err.ensures.ipv6
