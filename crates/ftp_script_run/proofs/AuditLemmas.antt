@@ -24,7 +24,7 @@ use Rattle.ftp_script_run.specs.Outcome.{bad_line}
 use Rattle.ftp_script_run.specs.Runs.{Keeps}
 use Rattle.ftp_script_run.specs.Audited.{IsNoted, Hearing, Reports, ReportsPart, behind_report, AuditsPart, AuditOutcome}
 use Rattle.ftp_script_run.proofs.RunLemmas.{kept-legal, stands-anew}
-use Rattle.ftp_script_run.proofs.Written.{front-more, front-longer}
+use Rattle.ftp_control.proofs.WritingLemmas.{front-more, front-longer}
 
 -- the audit stands for the log of the run
 heard-stands : (run : Run) (items : List Item) (log : List Entry) (audit : AuditState) → Keeps None run items log → HasHeard audit log → Stands (options_of run.hub) audit log

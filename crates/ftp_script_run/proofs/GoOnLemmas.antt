@@ -37,7 +37,8 @@ use Rattle.ftp_script_run.proofs.HeadLemmas.{first-none}
 use Rattle.ftp_script_run.proofs.OutcomeLemmas.{running-more}
 use Rattle.ftp_script_run.proofs.ResumeLemmas.{awaits-more, goes-on-more}
 use Rattle.ftp_script_run.proofs.RunLemmas.{legal-behind}
-use Rattle.ftp_script_run.proofs.Written.{front-all, front-longer, front-more, log_lines-append, writes-more, writes-nil}
+use Rattle.ftp_control.proofs.WritingLemmas.{front-all, front-longer, front-more, writes-more, writes-nil}
+use Rattle.ftp_script_run.proofs.Written.{log_lines-append}
 
 -- ---- the front of the bytes
 

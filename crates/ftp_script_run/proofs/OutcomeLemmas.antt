@@ -24,7 +24,8 @@ use Rattle.ftp_script_run.specs.Outcome.{log_lines, bad_line, WritesWhole, Write
 use Rattle.ftp_script_run.specs.Resuming.{IsResumeCut, ResumeOutcome}
 use Rattle.ftp_script_run.specs.Runs.{Before, Keeps, IsTaken, IsPartlyTaken, Running}
 use Rattle.ftp_script_run.proofs.RunLemmas.{kept-legal, kept-storage, stands-anew}
-use Rattle.ftp_script_run.proofs.Written.{writes-more, front-all, front-more, log_lines-append}
+use Rattle.ftp_control.proofs.WritingLemmas.{writes-more, front-all, front-more}
+use Rattle.ftp_script_run.proofs.Written.{log_lines-append}
 
 -- what was told where there is something to tell
 pub told-start : (left : Option (List ℕ)) (reader : ScriptReader) (buffer : List ℕ) →

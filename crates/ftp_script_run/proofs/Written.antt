@@ -1,63 +1,19 @@
 -- Writing one text behind another.
-use Rattle.std.proofs.Common.{◌≡◌, ℕ, Bool, true, ◌+◌, ◌<◌, ◌≤◌, List, [], ◌∷◌, ◌++◌, length, take, drop, get_or, reverse, Option, Some, None, refl, sym, ap, subst, ◌∙◌, append_assoc, arith}
-use Rattle.std.specs.Prelude.{IfSome, IfNone, Result, Ok, Err, OnOk, OnErr}
+use Rattle.std.proofs.Common.{◌≡◌, ℕ, Bool, true, ◌+◌, ◌<◌, ◌≤◌, List, [], ◌∷◌, ◌++◌, length, take, drop, get_or, reverse, Option, Some, None, sym, ap, subst, ◌∙◌, append_assoc, arith}
+use Rattle.std.specs.Prelude.{IfSome, IfNone}
 use Rattle.std.specs.Option.{OnSome}
 use Rattle.std.specs.Prelude.{codes}
 use Rattle.std.specs.Str.{bytes_eq}
 use Rattle.std.proofs.lemmas.Slice.Eq.{bytes_eq-Decides}
 use Rattle.std.specs.List.{flat_map}
-use Rattle.std.proofs.lemmas.List.{append-nil, take-append-drop, take_more, length-append, take-append-le, take_at, reverse-append}
+use Rattle.std.proofs.lemmas.List.{append-nil, take-append-drop, take_more, reverse-append}
 use Rattle.std.proofs.lemmas.List.Concat.{flat_map-append}
-use Rattle.std.proofs.Math.Seq.{take-append-add}
 use Rattle.ftp_base.specs.Outside.{Writes}
 use Rattle.ftp_control.specs.Writing.{WritesFront}
+use Rattle.ftp_control.proofs.WritingLemmas.{writes-more, front-longer, front-more}
 use Rattle.ftp_events.specs.declared.entry.Entry.{Entry}
 use Rattle.ftp_text.specs.Printing.{entry_lines, print}
 use Rattle.ftp_script_run.specs.Outcome.{log_lines}
-
--- nothing was written
-pub writes-nil : (old : Option (List ℕ)) → Writes old old []
-writes-nil None = tt
-writes-nil (Some w) = ap Some (sym (append-nil w))
-
--- one text and then another
-pub writes-more : (old now new : Option (List ℕ)) (a b : List ℕ) → Writes old now a → Writes now new b → Writes old new (a ++ b)
-writes-more None now new a b first second = tt
-writes-more (Some w) now new a b first second =
-    let given = subst (λ (o : Option (List ℕ)). IfSome o (λ v. new ≡ Some (v ++ b))) first second in
-    given ∙ ap Some (append_assoc w a b)
-
--- one text and then a part of another
-pub front-more : (old now new : Option (List ℕ)) (a b : List ℕ) → Writes old now a → WritesFront now new b → WritesFront old new (a ++ b)
-front-more None now new a b first second = tt
-front-more (Some w) now new a b first second =
-    let given = subst (λ (o : Option (List ℕ)). WritesFront o new b) first second in (
-      length a + given.0,
-      omega (arith, given.1, length-append a b),
-      given.2 ∙ ap Some (append_assoc w a (take given.0 b) ∙ ap (λ (x : List ℕ). w ++ x) (sym (take-append-add a b given.0))),
-    )
-
--- a part of a text is a part of a longer one
-pub front-longer : (old new : Option (List ℕ)) (a b : List ℕ) → WritesFront old new a → WritesFront old new (a ++ b)
-front-longer None new a b h = tt
-front-longer (Some w) new a b h = (
-  h.0,
-  omega (arith, h.1, length-append a b),
-  h.2 ∙ ap (λ (x : List ℕ). Some (w ++ x)) (sym (take-append-le h.0 a b h.1)),
-)
-
--- a whole text is a part of a longer one
-pub front-whole : (old new : Option (List ℕ)) (a b : List ℕ) → Writes old new a → WritesFront old new (a ++ b)
-front-whole None new a b h = tt
-front-whole (Some w) new a b h = (
-  length a,
-  omega (arith, length-append a b),
-  h ∙ ap (λ (x : List ℕ). Some (w ++ x)) (sym (take_at a b (length a) refl)),
-)
-
--- a whole text is a part of itself
-pub front-all : (old new : Option (List ℕ)) (a : List ℕ) → Writes old new a → WritesFront old new a
-front-all old new a h = subst (WritesFront old new) (append-nil a) (front-whole old new a [] h)
 
 -- the lines of one entry
 pub log_lines-one : (e : Entry) → log_lines (e ∷ []) ≡ entry_lines e
@@ -86,18 +42,6 @@ front-part f xs i d old now new lt first second =
     (front-more old now new (flat_map f (take i xs)) (f (get_or xs i d)) first second))
 
 -- ---- what follows from what is said of a result
-
-pub on_err : {T E P : Type 0} (r : Result T E) → P → OnErr r P
-on_err (Ok x) p = tt
-on_err (Err e) p = p
-
-pub on_ok-then : {T E P Q : Type 0} (r : Result T E) → OnOk r P → (P → Q) → OnOk r Q
-on_ok-then (Ok x) p f = f p
-on_ok-then (Err e) p f = tt
-
-pub on_err-then : {T E P Q : Type 0} (r : Result T E) → OnErr r P → (P → Q) → OnErr r Q
-on_err-then (Ok x) p f = tt
-on_err-then (Err e) p f = f p
 
 pub if_none-then : {T P Q : Type 0} (o : Option T) → IfNone o P → (P → Q) → IfNone o Q
 if_none-then None p f = f p

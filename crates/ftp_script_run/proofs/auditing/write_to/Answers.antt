@@ -1,5 +1,5 @@
 use Rattle.ftp_script_run.specs.Outcome.{bad_line}
-use Rattle.ftp_script_run.proofs.Written.{on_err, on_err-then}
+use Rattle.ftp_control.proofs.WritingLemmas.{on_err, on_err-then}
 use Rattle.ftp_script_run.proofs.AuditLemmas.{part-longer, part-more}
 use Rattle.ftp_script_run.proofs.auditing.write_to.Goals as goal
 

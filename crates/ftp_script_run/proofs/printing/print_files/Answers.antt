@@ -1,7 +1,8 @@
 use Rattle.std.proofs.Common.{arith}
 use Rattle.ftp_base.specs.Storage.{files_in_order}
 use Rattle.ftp_text.specs.Setup.{file_line}
-use Rattle.ftp_script_run.proofs.Written.{on_err, between-more, between-part}
+use Rattle.ftp_control.proofs.WritingLemmas.{on_err}
+use Rattle.ftp_script_run.proofs.Written.{between-more, between-part}
 use Rattle.ftp_script_run.proofs.printing.print_files.Goals as goal
 
 pub loop-path-preserved : goal.loop-path-preserved

@@ -3,7 +3,8 @@ use Rattle.std.specs.List.{flat_map}
 use Rattle.std.specs.FinMap as map
 use Rattle.ftp_control.specs.Writing.{WritesFront}
 use Rattle.ftp_script_run.specs.Left.{sent_on}
-use Rattle.ftp_script_run.proofs.Written.{on_err, front-part}
+use Rattle.ftp_control.proofs.WritingLemmas.{on_err}
+use Rattle.ftp_script_run.proofs.Written.{front-part}
 use Rattle.ftp_script_run.proofs.printing.print_links.Goals as goal
 
 pub returns-in_err-print_sent-clause-front : goal.returns-in_err-print_sent-clause-front

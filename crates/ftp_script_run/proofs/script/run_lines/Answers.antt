@@ -1,5 +1,5 @@
 use Rattle.std.proofs.Common.{[], arith}
-use Rattle.ftp_script_run.proofs.Written.{writes-nil}
+use Rattle.ftp_control.proofs.WritingLemmas.{writes-nil}
 use Rattle.ftp_script_run.proofs.OutcomeLemmas.{told-start}
 use Rattle.ftp_script_run.proofs.script.run_lines.Goals as goal
 

@@ -1,5 +1,5 @@
 use Rattle.ftp_script_run.specs.Left.{link_lines, file_lines}
-use Rattle.ftp_script_run.proofs.Written.{front-longer, front-more, on_err, on_err-then}
+use Rattle.ftp_control.proofs.WritingLemmas.{front-longer, front-more, on_err, on_err-then}
 use Rattle.ftp_script_run.proofs.run.Run.end.Goals as goal
 
 pub returns-in_err-print_links-clause-front : goal.returns-in_err-print_links-clause-front

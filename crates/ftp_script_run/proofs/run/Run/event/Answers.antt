@@ -1,7 +1,8 @@
 use Rattle.std.proofs.Common.{inl, inr, [], ◌∷◌, refl, sym, subst}
 use Rattle.ftp_base.specs.Outside.{Writes}
 use Rattle.ftp_control.specs.Writing.{WritesFront}
-use Rattle.ftp_script_run.proofs.Written.{on_err, on_ok-then, on_err-then, log_lines-one}
+use Rattle.ftp_control.proofs.WritingLemmas.{on_err, on_ok-then, on_err-then}
+use Rattle.ftp_script_run.proofs.Written.{log_lines-one}
 use Rattle.ftp_script_run.proofs.RunLemmas.{keeps-text}
 use Rattle.ftp_script_run.proofs.run.Run.event.Goals as goal
 

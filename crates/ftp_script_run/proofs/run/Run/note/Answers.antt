@@ -5,7 +5,7 @@ use Rattle.ftp_script_run.specs.Script.{may_stand}
 use Rattle.ftp_audit.specs.Heard.{HasHeard}
 use Rattle.ftp_script_run.specs.Runs.{Keeps}
 use Rattle.ftp_script_run.specs.Audited.{IsNoted}
-use Rattle.ftp_script_run.proofs.Written.{on_ok-then}
+use Rattle.ftp_control.proofs.WritingLemmas.{on_ok-then}
 use Rattle.ftp_script_run.proofs.run.Run.note.Goals as goal
 
 pub returns-in-Ok-clause-noted : goal.returns-in-Ok-clause-noted

@@ -1,6 +1,6 @@
 use Rattle.std.proofs.Common.{inr, ◌∙◌}
 use Rattle.ftp_hub.specs.Stands.{options_of}
-use Rattle.ftp_script_run.proofs.Written.{on_err-then, on_ok-then}
+use Rattle.ftp_control.proofs.WritingLemmas.{on_err-then, on_ok-then}
 use Rattle.ftp_script_run.proofs.SaveLemmas.{state-text}
 use Rattle.ftp_script_run.proofs.run.Run.save.Goals as goal
 

@@ -3,7 +3,7 @@ use Rattle.std.proofs.lemmas.Bool.{not-true}
 use Rattle.ftp_text.specs.declared.setup.Item.{Item}
 use Rattle.ftp_text.specs.Settings.{settings_in}
 use Rattle.ftp_script_run.specs.Runs.{Takes, outside}
-use Rattle.ftp_script_run.proofs.Written.{on_ok-then}
+use Rattle.ftp_control.proofs.WritingLemmas.{on_ok-then}
 use Rattle.ftp_script_run.proofs.RunLemmas.{keeps-options, keeps-options-at, keeps-skip}
 use Rattle.ftp_script_run.proofs.run.Run.set_up.Goals as goal
 

@@ -1,5 +1,5 @@
 use Rattle.std.proofs.Common.{inl, [], refl}
-use Rattle.ftp_script_run.proofs.Written.{on_err, on_ok-then, writes-nil}
+use Rattle.ftp_control.proofs.WritingLemmas.{on_err, on_ok-then, writes-nil}
 use Rattle.ftp_script_run.proofs.run.Run.take.Goals as goal
 
 pub returns-in_default-clause-took : goal.returns-in_default-clause-took
