@@ -9,7 +9,6 @@ use Rattle.std.proofs.lemmas.List.Concat.{flat_map-append}
 use Rattle.std.proofs.lemmas.List.Elements.{filter_map-append}
 use Rattle.ftp_base.specs.declared.reply.Reply.{Reply}
 use Rattle.ftp_base.specs.Edge.{after_pause}
-use Rattle.ftp_base.specs.Outside.{Writes}
 use Rattle.ftp_base.specs.Reply.{encoding}
 use Rattle.ftp_events.specs.declared.action.Action.{Action}
 use Rattle.ftp_events.specs.declared.action.Action.TheVariants as action
@@ -17,7 +16,7 @@ use Rattle.ftp_events.specs.Right.{reply_to}
 use Rattle.ftp_control.specs.Writing.{WritesFront}
 use Rattle.ftp_shared.specs.Outbox.{replies_in}
 use Rattle.ftp_talk.specs.Saying.{encodings, said_in, delay_in, delays, WritesBut, IsPaused, IsPausedWithin, SaysFront}
-use Rattle.ftp_talk.proofs.Written.{but-more, but-front, but-front-end, front-all, writes-more}
+use Rattle.ftp_talk.proofs.Written.{but-more, but-front, but-front-end}
 
 -- ---- what is paused
 
@@ -51,10 +50,6 @@ delays-append (r ∷ a) b =
 
 pub encodings-append : (a b : List (ℕ × Reply)) → encodings (a ++ b) ≡ encodings a ++ encodings b
 encodings-append a b = flat_map-append (λ r. encoding r.1) a b
-
--- replies behind a text and other replies
-pub encodings-behind : (w : List ℕ) (a b : List (ℕ × Reply)) → (w ++ encodings a) ++ encodings b ≡ w ++ encodings (a ++ b)
-encodings-behind w a b = append_assoc w (encodings a) (encodings b) ∙ ap (λ (x : List ℕ). w ++ x) (sym (encodings-append a b))
 
 delay-of : (r : ℕ × Reply) → delays (r ∷ []) ≡ r.0
 delay-of r = let none : r.0 + 0 ≡ r.0 = omega arith in none
@@ -183,46 +178,6 @@ says-behind old now new before mid after w b a replies first paused h =
       most = omega (arith, h.most, delays-append a replies);
       paused = paused-more (delays a) h.millis before mid after paused h.paused;
     }
-
--- all was said
-pub says-all : (old new : Option (List ℕ)) (before after : ℕ) (w : List ℕ) (replies : List (ℕ × Reply)) →
-    Writes old new (w ++ encodings replies) → IsPaused (delays replies) before after → SaysFront old new before after w replies
-says-all old new before after w replies wrote paused =
-    record {
-      begun = replies;
-      left = [];
-      parts = append-nil replies;
-      written = front-all old new (w ++ encodings replies) wrote;
-      millis = delays replies;
-      least = omega arith;
-      most = omega arith;
-      paused = paused;
-    }
-
--- a part of the text before the replies was sent
-pub says-none : (old new : Option (List ℕ)) (before after : ℕ) (w : List ℕ) (replies : List (ℕ × Reply)) →
-    WritesFront old new w → after ≡ before → SaysFront old new before after w replies
-says-none old new before after w replies wrote same =
-    let none : 0 ≤ 0 = omega arith in
-    record {
-      begun = [];
-      left = replies;
-      parts = refl;
-      written = subst (WritesFront old new) (sym (append-nil w)) wrote;
-      millis = 0;
-      least = none;
-      most = omega arith;
-      paused = paused-none before after same;
-    }
-
--- nothing was paused since
-pub says-still : (old new : Option (List ℕ)) (before after after1 : ℕ) (w : List ℕ) (replies : List (ℕ × Reply)) →
-    after1 ≡ after → SaysFront old new before after w replies → SaysFront old new before after1 w replies
-says-still old new before after after1 w replies same h = subst (λ (n : ℕ). SaysFront old new before n w replies) (sym same) h
-
--- replies behind those of a talk: their text and their delays
-pub wrote-behind : (old now new : Option (List ℕ)) (w : List ℕ) (a b : List (ℕ × Reply)) → Writes old now (w ++ encodings a) → Writes now new (encodings b) → Writes old new (w ++ encodings (a ++ b))
-wrote-behind old now new w a b first second = subst (Writes old new) (encodings-behind w a b) (writes-more old now new (w ++ encodings a) (encodings b) first second)
 
 pub paused-behind : (old mid mid1 new : ℕ) (a b : List (ℕ × Reply)) → IsPaused (delays a) old mid → mid1 ≡ mid → IsPaused (delays b) mid1 new → IsPaused (delays (a ++ b)) old new
 paused-behind old mid mid1 new a b first same second =

@@ -9,7 +9,7 @@ use Rattle.ftp_control.specs.Writing.{WritesFront}
 use Rattle.ftp_talk.specs.Pieces.{Pieces, pieces_of, piece_text, piece_delays, SaysPieces}
 use Rattle.ftp_talk.specs.Saying.{encodings, delays, IsPaused, SaysFront}
 use Rattle.ftp_talk.proofs.DelayLemmas.{paused-none, paused-more}
-use Rattle.ftp_talk.proofs.Written.{front-all, front-more, writes-more}
+use Rattle.ftp_control.proofs.WritingLemmas.{front-all, front-more, writes-more}
 
 -- ---- lists of pieces
 

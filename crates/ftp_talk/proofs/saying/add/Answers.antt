@@ -1,4 +1,5 @@
-use Rattle.ftp_talk.proofs.Written.{on_err, but-waits}
+use Rattle.ftp_control.proofs.WritingLemmas.{on_err}
+use Rattle.ftp_talk.proofs.Written.{but-waits}
 use Rattle.ftp_talk.proofs.DelayLemmas.{within-none, within-all}
 use Rattle.ftp_talk.proofs.saying.add.Goals as goal
 

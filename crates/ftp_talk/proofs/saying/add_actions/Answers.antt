@@ -1,5 +1,6 @@
 use Rattle.std.proofs.Common.{◌∙◌, arith}
-use Rattle.ftp_talk.proofs.Written.{on_err, takes-on}
+use Rattle.ftp_control.proofs.WritingLemmas.{on_err}
+use Rattle.ftp_talk.proofs.Written.{takes-on}
 use Rattle.ftp_talk.proofs.DelayLemmas.{but-action, paused-action, says-action}
 use Rattle.ftp_talk.proofs.saying.add_actions.Goals as goal
 

@@ -1,6 +1,7 @@
 use Rattle.std.proofs.Common.{◌∙◌, arith}
 use Rattle.ftp_base.specs.Reply.{encoding}
-use Rattle.ftp_talk.proofs.Written.{on_err, but-next, takes-on}
+use Rattle.ftp_control.proofs.WritingLemmas.{on_err}
+use Rattle.ftp_talk.proofs.Written.{but-next, takes-on}
 use Rattle.ftp_talk.proofs.DelayLemmas.{paused-reply, says-reply}
 use Rattle.ftp_talk.proofs.saying.add_replies.Goals as goal
 

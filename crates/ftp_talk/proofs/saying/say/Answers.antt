@@ -2,7 +2,8 @@ use Rattle.std.proofs.Common.{[], sym, subst, refl, arith}
 use Rattle.std.proofs.lemmas.List.{append-nil}
 use Rattle.ftp_shared.specs.Outbox.{replies_in}
 use Rattle.ftp_talk.specs.Saying.{encodings, said, WritesBut}
-use Rattle.ftp_talk.proofs.Written.{on_err, on_err-then, on_ok-then, but-more, but-flushed}
+use Rattle.ftp_control.proofs.WritingLemmas.{on_err, on_err-then, on_ok-then}
+use Rattle.ftp_talk.proofs.Written.{but-more, but-flushed}
 use Rattle.ftp_talk.proofs.DelayLemmas.{encodings-append, says-behind, says-longer, says-part, paused-behind, within-none, on_ok}
 use Rattle.ftp_talk.proofs.saying.say.Goals as goal
 

@@ -2,7 +2,7 @@ use Rattle.std.proofs.Common.{[], sym, subst}
 use Rattle.std.specs.Prelude.{ℕ}
 use Rattle.ftp_base.specs.Outside.{Writes}
 use Rattle.ftp_talk.specs.Saying.{said, IsPaused}
-use Rattle.ftp_talk.proofs.Written.{on_err-then, on_ok-then}
+use Rattle.ftp_control.proofs.WritingLemmas.{on_err-then, on_ok-then}
 use Rattle.ftp_talk.proofs.PieceLemmas.{text-replies, delays-replies, says-replies}
 use Rattle.ftp_talk.proofs.saying.say_for.Goals as goal
 

@@ -1,5 +1,5 @@
 use Rattle.ftp_extras.specs.ReplyLines.{reply_bytes, epsv_reply}
-use Rattle.ftp_talk.proofs.Written.{on_err, on_err-then, on_ok-then, front-none}
+use Rattle.ftp_control.proofs.WritingLemmas.{on_err, on_err-then, on_ok-then, front-none}
 use Rattle.ftp_talk.proofs.DelayLemmas.{on_ok}
 use Rattle.ftp_talk.proofs.PieceLemmas.{wrote-last, paused-last, says-first, says-last}
 use Rattle.ftp_talk.proofs.saying.say_port.Goals as goal

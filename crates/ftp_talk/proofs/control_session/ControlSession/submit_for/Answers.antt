@@ -4,7 +4,7 @@ use Rattle.ftp_talk.specs.Parts.{epsv_port}
 use Rattle.ftp_talk.specs.Pieces.{said_pieces, piece_text, piece_delays, SaysPieces}
 use Rattle.ftp_talk.specs.Saying.{IsPaused}
 use Rattle.ftp_talk.proofs.PieceLemmas.{pieces-none}
-use Rattle.ftp_talk.proofs.Written.{front-none}
+use Rattle.ftp_control.proofs.WritingLemmas.{front-none}
 use Rattle.ftp_talk.specs.Ground.{history}
 use Rattle.ftp_talk.proofs.TalkLemmas.{spoken-is, front-after, front-before, risen-on}
 use Rattle.ftp_talk.proofs.control_session.ControlSession.submit_for.Goals as goal
