@@ -1,14 +1,11 @@
 -- Replies and their delays.
-use Rattle.std.proofs.Common.{◌≡◌, ℕ, ◌+◌, ◌-◌, ◌^◌, ◌<◌, ◌≤◌, Bool, true, false, cond, List, [], ◌∷◌, ◌++◌, length, take, drop, get_or, Option, Some, None, refl, sym, ap, subst, ◌∙◌, append_assoc, arith, inl, inr}
+use Rattle.std.proofs.Common.{◌≡◌, ℕ, ◌+◌, ◌-◌, ◌<◌, ◌≤◌, Bool, true, false, cond, List, [], ◌∷◌, ◌++◌, length, take, drop, get_or, Option, Some, None, refl, sym, ap, subst, ◌∙◌, append_assoc, arith}
 use Rattle.std.specs.Prelude.{◌==◌, Result, Ok, Err, OnOk}
 use Rattle.std.specs.List.{filter_map}
-use Rattle.std.proofs.Math.Nat.{min-eq_left, min-eq_right}
-use Rattle.std.proofs.lemmas.Bool.{cases_lt}
 use Rattle.std.proofs.lemmas.List.{append-nil, take-append-drop, take_more, drop_more}
 use Rattle.std.proofs.lemmas.List.Concat.{flat_map-append}
 use Rattle.std.proofs.lemmas.List.Elements.{filter_map-append}
 use Rattle.ftp_base.specs.declared.reply.Reply.{Reply}
-use Rattle.ftp_base.specs.Edge.{after_pause}
 use Rattle.ftp_base.specs.Reply.{encoding}
 use Rattle.ftp_events.specs.declared.action.Action.{Action}
 use Rattle.ftp_events.specs.declared.action.Action.TheVariants as action
@@ -19,14 +16,6 @@ use Rattle.ftp_talk.specs.Saying.{encodings, said_in, delay_in, delays, WritesBu
 use Rattle.ftp_talk.proofs.Written.{but-more, but-front, but-front-end}
 
 -- ---- what is paused
-
--- an edge that pauses counts it
-pub paused-by : (n old new : ℕ) → new ≡ after_pause n old → IsPaused n old new
-paused-by n old new is = λ lt.
-    elim (cases_lt (old + n) (2 ^ 64 - 1)) [
-      | inl less ↦ is ∙ min-eq_left (omega (arith, less))
-      | inr ge ↦ absurd (omega (arith, lt, is ∙ min-eq_right ge))
-    ]
 
 pub paused-none : (old new : ℕ) → new ≡ old → IsPaused 0 old new
 paused-none old new is = λ lt. omega (arith, is)

@@ -1,13 +1,13 @@
 -- Writing one text behind another.
-use Rattle.std.proofs.Common.{◌≡◌, ℕ, ◌+◌, ◌<◌, List, [], ◌∷◌, ◌++◌, length, take, drop, get_or, Option, Some, None, sym, ap, subst, ◌∙◌, append_assoc, arith}
+use Rattle.std.proofs.Common.{◌≡◌, ℕ, ◌+◌, ◌<◌, List, [], ◌∷◌, ◌++◌, length, take, get_or, Option, Some, None, sym, ap, subst, ◌∙◌, append_assoc, arith}
 use Rattle.std.specs.Prelude.{IfSome}
 use Rattle.std.specs.List.{flat_map}
-use Rattle.std.proofs.lemmas.List.{append-nil, take-append-drop, take_more}
+use Rattle.std.proofs.lemmas.List.{append-nil, take_more}
 use Rattle.std.proofs.lemmas.List.Concat.{flat_map-append}
 use Rattle.ftp_base.specs.Edge.{Feed, EdgeView, Takes}
 use Rattle.ftp_base.specs.Outside.{Writes}
 use Rattle.ftp_control.specs.Writing.{WritesFront}
-use Rattle.ftp_control.proofs.WritingLemmas.{writes-nil, writes-more, front-more, front-longer, front-whole}
+use Rattle.ftp_control.proofs.WritingLemmas.{writes-more, front-more, front-whole}
 use Rattle.ftp_talk.specs.Saying.{WritesBut}
 
 -- the texts of one element more
@@ -17,10 +17,6 @@ flat_map-next f xs i d lt =
     ∙ ap (λ (l : List ℕ). flat_map f (take i xs) ++ l) (append-nil (f (get_or xs i d)))
 
 -- ---- a text that waits
-
--- nothing was sent and nothing added
-pub but-nil : (old : Option (List ℕ)) (a : List ℕ) → WritesBut old old a a []
-but-nil old a = ([], writes-nil old, sym (append-nil a))
 
 -- one part and then another
 pub but-more : (old now new : Option (List ℕ)) (a b c m n : List ℕ) → WritesBut old now a b m → WritesBut now new b c n → WritesBut old new a c (m ++ n)
@@ -55,14 +51,6 @@ pub but-next : {X : Type 0} (f : X → List ℕ) (xs : List X) (i : ℕ) (d : X)
     WritesBut old new a c (flat_map f (take (i + 1) xs))
 but-next f xs i d old now new a b c lt first second =
     subst (WritesBut old new a c) (sym (flat_map-next f xs i d lt)) (but-more old now new a b c (flat_map f (take i xs)) (f (get_or xs i d)) first second)
-
--- the texts of some elements were sent, or wait, and a part of what waits was sent
-pub but-part : {X : Type 0} (f : X → List ℕ) (xs : List X) (i : ℕ) (old now new : Option (List ℕ)) (a b : List ℕ) →
-    WritesBut old now a b (flat_map f (take i xs)) → WritesFront now new b → WritesFront old new (a ++ flat_map f xs)
-but-part f xs i old now new a b first second =
-    let whole : flat_map f (take i xs) ++ flat_map f (drop i xs) ≡ flat_map f xs = sym (flat_map-append f (take i xs) (drop i xs)) ∙ ap (flat_map f) (take-append-drop i xs) in
-    subst (λ (x : List ℕ). WritesFront old new (a ++ x)) whole
-    (but-front old now new a b (flat_map f (take i xs)) (flat_map f (drop i xs)) first (front-longer now new b (flat_map f (drop i xs)) second))
 
 -- ---- the edge
 
