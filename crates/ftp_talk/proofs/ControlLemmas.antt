@@ -30,7 +30,7 @@ use Rattle.ftp_talk.specs.Talk.{IsInput}
 use Rattle.ftp_talk.specs.Speaking.{Begins, Knows, Keeps, IsCut, Talking, OutcomeHeard, end_by}
 use Rattle.ftp_talk.specs.Control.{peer_of, ground_of, is_opened, is_fault, HasOpened, IsUnopened}
 use Rattle.ftp_talk.specs.ControlWith.{IsServedWith, ServesWith}
-use Rattle.ftp_talk.specs.Extended.{OutcomeWith}
+use Rattle.ftp_talk.specs.Extended.{PartsBefore, OutcomeWith}
 use Rattle.ftp_talk.specs.Parts.{HeardLine, MayDoSo, AreAllowed}
 use Rattle.ftp_talk.proofs.DelayLemmas.{paused-none}
 use Rattle.ftp_talk.proofs.PieceLemmas.{pieces-none}
@@ -89,6 +89,10 @@ read-begin : (o : Option (List ℕ)) → (rest : List ℕ) × IsInput o rest × 
 read-begin None = ([], tt, tt)
 read-begin (Some all) = (all, refl, refl)
 
+-- no part of a talk was spoken
+abbrev parted-none : (g : Ground) (rest : List ℕ) → IsInput g.start.input rest → PartsBefore g [] rest
+parted-none g rest input = record { parts = []; cut = input; ruled = tt; heard = refl; long = λ h. cc }
+
 -- the greeting was sent, and the first line is due
 pub begin-talking : (e : Entry) (peer : Peer) (a : Answer) (start : Start) (desk1 : DeskView) (earlier : List (ℕ × Reply)) (state : ControlSession) (sent1 left1 : Option (List ℕ)) →
     e.decision ≡ Opened → peer_of e.event.kind a ≡ Some peer →
@@ -105,11 +109,7 @@ begin-talking e peer a start desk1 earlier state sent1 left1 opened named added 
     record {
       rest = r.0;
       standing = record {
-        parts = [];
-        cut = r.1;
-        ruled = tt;
-        heard = refl;
-        long = λ h. cc;
+        parted = parted-none g r.0 r.1;
         speaking = record {
           seen = seen-none g desk1.faults count;
           feed = told_self start.edge.feed (λ f is. is);
@@ -141,12 +141,8 @@ begin-cut e peer a start desk1 earlier state sent1 opened named added share opti
     let g = ground_of e peer start in
     let r = read-begin start.input in
     record {
-      parts = [];
       rest = r.0;
-      cut = r.1;
-      ruled = tt;
-      heard = refl;
-      long = λ h. cc;
+      parted = parted-none g r.0 r.1;
       front = record {
         session = session;
         over = live;

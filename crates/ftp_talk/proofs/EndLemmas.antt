@@ -1,5 +1,5 @@
 -- How a talk ends.
-use Rattle.std.proofs.Common.{◌≡◌, ℕ, ◌≤◌, Bool, true, false, cond, List, [], ◌∷◌, ◌++◌, Option, Some, None, refl, sym, ap, subst, ◌∙◌, append_assoc, arith, inl, inr}
+use Rattle.std.proofs.Common.{◌≡◌, ◌≢◌, ℕ, ◌≤◌, Bool, true, false, cond, List, [], ◌∷◌, ◌++◌, Option, Some, None, refl, sym, ap, subst, ◌∙◌, append_assoc, arith, inl, inr}
 use Rattle.std.specs.Prelude.{IfSome, unwrap_or, Result, Ok, Err}
 use Rattle.std.specs.Option.{option_map_or}
 use Rattle.std.specs.Coded.{Coded-set, coded_bool}
@@ -28,19 +28,25 @@ use Rattle.ftp_control.specs.declared.command.Command.TheVariants as command
 use Rattle.ftp_control.specs.declared.line.LineError.{LineError}
 use Rattle.ftp_control.specs.declared.line.LineError.TheVariants as error
 use Rattle.ftp_control.specs.Line.{parsed}
-use Rattle.ftp_control.specs.Lines.{Rest}
+use Rattle.ftp_control.specs.declared.control_line.Got.{Got}
+use Rattle.ftp_control.specs.declared.control_line.Got.TheVariants as got
+use Rattle.ftp_control.specs.Lines.{Rest, bytes_in}
 use Rattle.ftp_shared.specs.Desk.{DeskView, SameDesk, IsVouched}
-use Rattle.ftp_control.specs.ControlLine.{RanOut, IsLong}
+use Rattle.ftp_control.specs.ControlLine.{IsFound, IsLong, RanOut, line_in}
 use Rattle.ftp_control.proofs.ControlLineLemmas.{long-append}
 use Rattle.ftp_talk.specs.Parts.{HeardLine, turns_of, turn_pieces, due_pieces}
 use Rattle.ftp_talk.specs.Extended.{TalkHeard, TalkFrontHeard}
+use Rattle.ftp_talk.specs.Pieces.{Pieces}
 use Rattle.ftp_talk.proofs.PieceLemmas.{pieces-longer, pieces-still}
+use Rattle.ftp_talk.proofs.ResultLemmas.{waits_so}
+use Rattle.ftp_talk.proofs.ServeLemmas.{asking-plain}
 use Rattle.ftp_talk.specs.declared.control_session.ControlSession.{ControlSession}
+use Rattle.ftp_talk.specs.Commands.{too_long}
 use Rattle.ftp_talk.specs.Ground.{Step, ALine, AnAnswer, AnIdleTick, ASlotTick, ALongLine, AClose, Turn, Ground, history, lines_in}
 use Rattle.ftp_talk.specs.Turns.{Due, LineDue, AnswerDue, SlotTickDue, CloseDue, NothingDue, is_end, due, due_by, due_after, due_behind}
 use Rattle.ftp_talk.specs.Seen.{AreFed, all_missing, all_failed, missing_in, failed_in}
 use Rattle.ftp_talk.specs.Talk.{IsInput, greeting_of, is_long, is_long_last, is_over, MayClose}
-use Rattle.ftp_talk.specs.Speaking.{Entered, Spoken, Halted, Standing, IsCut, Talking, OutcomeHeard, end_by, turn_of}
+use Rattle.ftp_talk.specs.Speaking.{Asking, Entered, Halted, IsCut, IsGot, IsLineWithin, Knows, MayStep, OutcomeHeard, Speaking, Spoken, Standing, Talking, end_by, turn_of}
 use Rattle.ftp_talk.proofs.TalkLemmas.{counted-on, counted-less, kept-more, kept-same, grew-of, rises-same, risen-on, vouched-more, shares-more}
 
 -- ---- what is due
@@ -125,6 +131,17 @@ idle-over d e = idle-by (is_end d) true SlotTickDue e
 pub idle-due : (d : Decision) → is_end d ≡ false → due_by AnIdleTick d ≡ SlotTickDue
 idle-due d e = idle-by (is_end d) false SlotTickDue e
 
+-- such looks may come: where a line is due and the control cannot be read at any time, and behind that
+pub idle-may : (g : Ground) (state : ControlSession) (rest : List ℕ) → g.start.ready ≡ false → MayStep g state LineDue AnIdleTick (kind.IdleTick state.session) rest
+idle-may g state rest waits = record { comes = λ h knows. (waits, ap (λ (n : ℕ). kind.IdleTick n) knows.session); unheard = refl; long = λ h. cc }
+
+pub slot-may : (g : Ground) (state : ControlSession) (rest : List ℕ) → MayStep g state SlotTickDue ASlotTick (kind.SlotTick state.session) rest
+slot-may g state rest = record { comes = λ h knows. ap (λ (n : ℕ). kind.SlotTick n) knows.session; unheard = refl; long = λ h. cc }
+
+-- an answer to a line that is too long may come where it stands next
+pub long-may : (g : Ground) (state : ControlSession) (k : EventKind) (rest : List ℕ) → k ≡ too_long state.session → IsLong rest → MayStep g state LineDue ALongLine k rest
+long-may g state k rest is long = record { comes = λ h knows. is ∙ ap too_long knows.session; unheard = refl; long = λ h. long }
+
 -- ---- the end of a session
 
 closed-row : (v : Option Session) → is_end (option_map_or (λ (x : Session). decision.Closed) v decision.UnknownNumber) ≡ true
@@ -147,18 +164,14 @@ closed-ends o earlier e s vouched is =
 pub talk-over : (g : Ground) (state : ControlSession) (edge : EdgeView) (desk : DeskView) (sent : Option (List ℕ)) (hs : List HeardLine) (rest : List ℕ) →
     Standing NothingDue g state edge desk sent hs rest → TalkHeard g edge desk sent hs
 talk-over g state edge desk sent hs rest s =
-    let over = over-due (turns_of s.parts) s.stands in
+    let over = over-due (turns_of s.parted.parts) s.stands in
     record {
-      parts = s.parts;
-      close = None;
       rest = rest;
-      cut = s.cut;
-      ruled = s.ruled;
-      heard = s.heard;
-      long = s.long;
+      parted = s.parted;
+      close = None;
       ended = over;
       seen = s.speaking.seen;
-      grew = grew-of g desk (turns_of s.parts) s.speaking.kept;
+      grew = grew-of g desk (turns_of s.parted.parts) s.speaking.kept;
       vouched = s.speaking.vouched;
       last = λ v. over;
       share = s.speaking.share;
@@ -166,31 +179,38 @@ talk-over g state edge desk sent hs rest s =
       paused = s.speaking.paused;
     }
 
+-- nothing is asked for a close, which is one of the session of the talk
+pub asking-close : (g : Ground) (state : ControlSession) (edge : EdgeView) (desk : DeskView) (sent : Option (List ℕ)) (ts : List Turn) (pieces : Pieces) →
+    Speaking g state edge desk sent ts pieces → Asking g state edge desk sent ts pieces (kind.Closed state.session)
+asking-close g state edge desk sent ts pieces s =
+    asking-plain g state edge desk sent ts pieces (kind.Closed state.session) s
+    (record { named = ap Some s.known.session; drawn = λ f. tt; same = λ f. refl; missing = refl; failed = refl })
+
+closed-kind : (g : Ground) (state : ControlSession) (ts : List Turn) (e : Entry) → Knows g state (history g ts) → e.event.kind ≡ kind.Closed state.session → e.event.kind ≡ kind.Closed g.session
+closed-kind g state ts e knows is = is ∙ ap (λ (n : ℕ). kind.Closed n) knows.session
+
 -- the connection was closed behind the lines
 pub talk-closed : (g : Ground) (state0 state : ControlSession) (edge0 edge : EdgeView) (desk0 desk : DeskView) (sent0 sent : Option (List ℕ))
     (d : Due) (hs : List HeardLine) (rest : List ℕ) (d0 : Decision) (s : Standing d g state0 edge0 desk0 sent0 hs rest) →
-    Spoken g state edge desk sent (turns_of s.parts) (due_pieces g s.parts) AClose (kind.Closed g.session) d0 false →
+    Spoken g state edge desk sent (turns_of s.parted.parts) (due_pieces g s.parted.parts) AClose (kind.Closed state0.session) d0 false →
     MayClose d rest →
     TalkHeard g edge desk sent hs
 talk-closed g state0 state edge0 edge desk0 desk sent0 sent d hs rest d0 s spoken may =
     let close = turn_of AClose spoken.earlier spoken.entry in
+    let closed = closed-kind g state0 (turns_of s.parted.parts) spoken.entry s.speaking.known spoken.kind in
     record {
-      parts = s.parts;
-      close = Some close;
       rest = rest;
-      cut = s.cut;
-      ruled = s.ruled;
-      heard = s.heard;
-      long = s.long;
+      parted = s.parted;
+      close = Some close;
       ended = (
-        record { step = refl; kind = spoken.kind; answer = spoken.answer },
-        lives (turns_of s.parts) d s.stands (closable-lives d rest may),
+        record { step = refl; kind = closed; answer = spoken.answer },
+        lives (turns_of s.parted.parts) d s.stands (closable-lives d rest may),
         subst (λ (x : Due). MayClose x rest) (sym s.stands) may,
       );
       seen = spoken.speaking.seen;
-      grew = grew-of g desk (close ∷ (turns_of s.parts)) spoken.speaking.kept;
+      grew = grew-of g desk (close ∷ (turns_of s.parted.parts)) spoken.speaking.kept;
       vouched = spoken.speaking.vouched;
-      last = λ v. closed-ends g.start.desk.options spoken.earlier spoken.entry g.session (spoken.speaking.vouched v).0 spoken.kind;
+      last = λ v. closed-ends g.start.desk.options spoken.earlier spoken.entry g.session (spoken.speaking.vouched v).0 closed;
       share = spoken.speaking.share;
       written = spoken.speaking.written;
       paused = spoken.speaking.paused;
@@ -203,44 +223,37 @@ fed-less g (Some f) t ts h = h.0
 -- the connection was to be closed, and that was cut short
 pub front-halted : (g : Ground) (state0 state : ControlSession) (edge0 edge : EdgeView) (desk0 desk : DeskView) (sent0 sent : Option (List ℕ))
     (d : Due) (hs : List HeardLine) (rest : List ℕ) (s : Standing d g state0 edge0 desk0 sent0 hs rest) →
-    Halted g state edge desk sent (turns_of s.parts) (due_pieces g s.parts) AClose (kind.Closed g.session) false →
+    Halted g state edge desk sent (turns_of s.parted.parts) (due_pieces g s.parted.parts) AClose (kind.Closed state0.session) false →
     MayClose d rest →
     TalkFrontHeard g edge desk sent hs
 front-halted g state0 state edge0 edge desk0 desk sent0 sent d hs rest s (inl halted) may =
     let f = halted.0 in
     record {
-      parts = s.parts;
-      close = None;
       rest = rest;
-      cut = s.cut;
-      ruled = s.ruled;
-      heard = s.heard;
-      long = s.long;
+      parted = s.parted;
+      close = None;
       closing = inr halted.1;
       seen = f.seen;
-      grew = grew-of g desk (turns_of s.parts) f.kept;
+      grew = grew-of g desk (turns_of s.parted.parts) f.kept;
       vouched = f.vouched;
       share = f.share;
       written = f.written;
     }
 front-halted g state0 state edge0 edge desk0 desk sent0 sent d hs rest s (inr heard) may =
     let t = turn_of AClose heard.earlier heard.entry in
+    let closed = closed-kind g state0 (turns_of s.parted.parts) heard.entry s.speaking.known heard.kind in
     let f = heard.front in
     record {
-      parts = s.parts;
-      close = Some t;
       rest = rest;
-      cut = s.cut;
-      ruled = s.ruled;
-      heard = s.heard;
-      long = s.long;
-      closing = (record { step = refl; kind = heard.kind; answer = heard.answer }, lives (turns_of s.parts) d s.stands (closable-lives d rest may));
+      parted = s.parted;
+      close = Some t;
+      closing = (record { step = refl; kind = closed; answer = heard.answer }, lives (turns_of s.parted.parts) d s.stands (closable-lives d rest may));
       seen = record {
-        fed = fed-less g g.start.edge.feed t (turns_of s.parts) f.seen.fed;
-        edge = counted-less (all_missing g (turns_of s.parts)) (missing_in g (history g (turns_of s.parts)) heard.entry.event.kind) g.start.edge.faults edge.faults edge.faults f.seen.edge (omega arith);
-        storage = counted-less (all_failed (turns_of s.parts)) (failed_in heard.entry.event.kind) g.start.desk.faults desk.faults desk.faults f.seen.storage (omega arith);
+        fed = fed-less g g.start.edge.feed t (turns_of s.parted.parts) f.seen.fed;
+        edge = counted-less (all_missing g (turns_of s.parted.parts)) (missing_in g (history g (turns_of s.parted.parts)) heard.entry.event.kind) g.start.edge.faults edge.faults edge.faults f.seen.edge (omega arith);
+        storage = counted-less (all_failed (turns_of s.parted.parts)) (failed_in heard.entry.event.kind) g.start.desk.faults desk.faults desk.faults f.seen.storage (omega arith);
       };
-      grew = grew-of g desk (t ∷ (turns_of s.parts)) f.kept;
+      grew = grew-of g desk (t ∷ (turns_of s.parted.parts)) f.kept;
       vouched = f.vouched;
       share = f.share;
       written = f.written;
@@ -250,16 +263,12 @@ front-halted g state0 state edge0 edge desk0 desk sent0 sent d hs rest s (inr he
 pub left-over : (g : Ground) (state : ControlSession) (edge : EdgeView) (desk : DeskView) (sent : Option (List ℕ)) (hs : List HeardLine) → IsCut g state edge desk sent hs → state.is_over ≡ true → TalkFrontHeard g edge desk sent hs
 left-over g state edge desk sent hs c over =
     record {
-      parts = c.parts;
-      close = None;
       rest = c.rest;
-      cut = c.cut;
-      ruled = c.ruled;
-      heard = c.heard;
-      long = c.long;
+      parted = c.parted;
+      close = None;
       closing = inl (sym c.front.over ∙ over);
       seen = c.front.seen;
-      grew = grew-of g desk (turns_of c.parts) c.front.kept;
+      grew = grew-of g desk (turns_of c.parted.parts) c.front.kept;
       vouched = c.front.vouched;
       share = c.front.share;
       written = c.front.written;
@@ -271,23 +280,19 @@ pub left-alone : (g : Ground) (state : ControlSession) (edge edge1 : EdgeView) (
 left-alone g state edge edge1 desk desk1 sent hs c count still same risen =
     let f = c.front in
     record {
-      parts = c.parts;
-      close = None;
       rest = c.rest;
-      cut = c.cut;
-      ruled = c.ruled;
-      heard = c.heard;
-      long = c.long;
+      parted = c.parted;
+      close = None;
       closing = inr (risen-on g.start.desk.refused desk.refused desk1.refused f.refused risen same.refused);
       seen = record {
         fed = f.seen.fed;
-        edge = counted-on (all_missing g (turns_of c.parts)) g.start.edge.faults edge.faults edge1.faults f.seen.edge count;
-        storage = counted-on (all_failed (turns_of c.parts)) g.start.desk.faults desk.faults desk1.faults f.seen.storage same.count;
+        edge = counted-on (all_missing g (turns_of c.parted.parts)) g.start.edge.faults edge.faults edge1.faults f.seen.edge count;
+        storage = counted-on (all_failed (turns_of c.parted.parts)) g.start.desk.faults desk.faults desk1.faults f.seen.storage same.count;
       };
-      grew = grew-of g desk1 (turns_of c.parts) (kept-same g desk desk1 (turns_of c.parts) f.kept same);
+      grew = grew-of g desk1 (turns_of c.parted.parts) (kept-same g desk desk1 (turns_of c.parted.parts) f.kept same);
       vouched = f.vouched;
       share = rises-same _ g.start.desk.share desk.share desk1.share f.share same.share;
-      written = pieces-still g.start.sent sent g.start.edge.paused edge.paused edge1.paused (greeting_of g) (due_pieces g c.parts) still f.written;
+      written = pieces-still g.start.sent sent g.start.edge.paused edge.paused edge1.paused (greeting_of g) (due_pieces g c.parted.parts) still f.written;
     }
 
 -- after the cut the connection was closed
@@ -301,24 +306,20 @@ left-closed g vouches state edge edge1 desk desk1 sent hs earlier e s c live nam
     let t = turn_of AClose earlier e in
     let closed : e.event.kind ≡ kind.Closed g.session = n.kind ∙ ap (λ (n : ℕ). kind.Closed n) (named ∙ f.session) in
     record {
-      parts = c.parts;
-      close = Some t;
       rest = c.rest;
-      cut = c.cut;
-      ruled = c.ruled;
-      heard = c.heard;
-      long = c.long;
+      parted = c.parted;
+      close = Some t;
       closing = (record { step = refl; kind = closed; answer = n.answer }, sym f.over ∙ live);
       seen = record {
         fed = f.seen.fed;
-        edge = counted-on (all_missing g (turns_of c.parts)) g.start.edge.faults edge.faults edge1.faults f.seen.edge n.taken.count;
-        storage = counted-on (all_failed (turns_of c.parts)) g.start.desk.faults desk.faults desk1.faults f.seen.storage n.count;
+        edge = counted-on (all_missing g (turns_of c.parted.parts)) g.start.edge.faults edge.faults edge1.faults f.seen.edge n.taken.count;
+        storage = counted-on (all_failed (turns_of c.parted.parts)) g.start.desk.faults desk.faults desk1.faults f.seen.storage n.count;
       };
-      grew = grew-of g desk1 (t ∷ (turns_of c.parts)) (kept-more g desk desk1 (turns_of c.parts) AClose earlier e f.kept n.appended (ap own_session closed));
-      vouched = vouched-more g vouches desk (turns_of c.parts) AClose earlier e f.vouched same f.options n.vouched;
-      share = shares-more g desk desk1 (turns_of c.parts) AClose earlier e f.share n.share;
-      written = pieces-longer g.start.sent sent g.start.edge.paused edge1.paused (greeting_of g) (due_pieces g c.parts) (turn_pieces g t)
-          (pieces-still g.start.sent sent g.start.edge.paused edge.paused edge1.paused (greeting_of g) (due_pieces g c.parts) n.unpaused f.written);
+      grew = grew-of g desk1 (t ∷ (turns_of c.parted.parts)) (kept-more g desk desk1 (turns_of c.parted.parts) AClose earlier e f.kept n.appended (ap own_session closed));
+      vouched = vouched-more g vouches desk (turns_of c.parted.parts) AClose earlier e f.vouched same f.options n.vouched;
+      share = shares-more g desk desk1 (turns_of c.parted.parts) AClose earlier e f.share n.share;
+      written = pieces-longer g.start.sent sent g.start.edge.paused edge1.paused (greeting_of g) (due_pieces g c.parted.parts) (turn_pieces g t)
+          (pieces-still g.start.sent sent g.start.edge.paused edge.paused edge1.paused (greeting_of g) (due_pieces g c.parted.parts) n.unpaused f.written);
     }
 
 -- a fault of a write, or want of memory
@@ -344,24 +345,31 @@ read-on (Some all) a line held held1 rest (Some l) (Some l1) input read told = (
   refl,
 )
 
+-- the control says the same of what was sent
+pub talking-sent : (g : Ground) (state : ControlSession) (edge : EdgeView) (desk : DeskView) (sent sent1 : Option (List ℕ)) (hs : List HeardLine) (held : List ℕ) (left : Option (List ℕ)) →
+    sent1 ≡ sent → Talking g state edge desk sent hs held left → Talking g state edge desk sent1 hs held left
+talking-sent g state edge desk sent sent1 hs held left same t = subst (λ (o : Option (List ℕ)). Talking g state edge desk o hs held left) (sym same) t
+
+-- where a line is due, it is so before any rest of the input
+standing-before : (g : Ground) (state : ControlSession) (edge : EdgeView) (desk : DeskView) (sent : Option (List ℕ)) (hs : List HeardLine) (rest rest1 : List ℕ) (s : Standing LineDue g state edge desk sent hs rest) →
+    IsInput g.start.input (lines_in (turns_of s.parted.parts) ++ rest1) → Standing LineDue g state edge desk sent hs rest1
+standing-before g state edge desk sent hs rest rest1 s input = record {
+  parted = record { parts = s.parted.parts; cut = input; ruled = s.parted.ruled; heard = s.parted.heard; long = λ h. absurd (short-due (turns_of s.parted.parts) s.stands h) };
+  speaking = s.speaking;
+  stands = s.stands;
+}
+
 -- a line was found, or nothing: it stands before the rest
-pub standing-line : (g : Ground) (state : ControlSession) (edge : EdgeView) (desk : DeskView) (sent : Option (List ℕ)) (hs : List HeardLine) (line held held1 : List ℕ) (left left1 : Option (List ℕ)) →
-    Talking g state edge desk sent hs held left →
+pub standing-line : (g : Ground) (state : ControlSession) (edge : EdgeView) (desk : DeskView) (sent sent1 : Option (List ℕ)) (hs : List HeardLine) (line held held1 : List ℕ) (left left1 : Option (List ℕ)) →
+    sent1 ≡ sent → Talking g state edge desk sent hs held left →
     IfSome left (λ l. Rest (line ++ held1) left1 (held ++ l)) →
-    (rest1 : List ℕ) × Standing LineDue g state edge desk sent hs (line ++ rest1) × IfSome g.start.input (λ all. Rest held1 left1 rest1)
-standing-line g state edge desk sent hs line held held1 left left1 t told =
+    (rest1 : List ℕ) × Standing LineDue g state edge desk sent1 hs (line ++ rest1) × IfSome g.start.input (λ all. Rest held1 left1 rest1)
+standing-line g state edge desk sent sent1 hs line held held1 left left1 same before told =
+    let t = talking-sent g state edge desk sent sent1 hs held left same before in
     let s = t.standing in
-    let r = read-on g.start.input (lines_in (turns_of s.parts)) line held held1 t.rest left left1 s.cut t.read told in (
+    let r = read-on g.start.input (lines_in (turns_of s.parted.parts)) line held held1 t.rest left left1 s.parted.cut t.read told in (
       r.0,
-      record {
-        parts = s.parts;
-        cut = r.1;
-        ruled = s.ruled;
-        heard = s.heard;
-        long = λ h. absurd (short-due (turns_of s.parts) s.stands h);
-        speaking = s.speaking;
-        stands = s.stands;
-      },
+      standing-before g state edge desk sent1 hs t.rest (line ++ r.0) s r.1,
       r.2,
     )
 
@@ -392,29 +400,21 @@ standing-shown : (g : Ground) (state : ControlSession) (edge : EdgeView) (desk :
     (rest1 : List ℕ) × Standing LineDue g state edge desk sent hs rest1 × P rest1 × IfSome g.start.input (λ all. Rest held1 left1 rest1)
 standing-shown g state edge desk sent hs held held1 left left1 P t told alone more =
     let s = t.standing in
-    let r = read-shown g.start.input (lines_in (turns_of s.parts)) held held1 t.rest left left1 P s.cut t.read told alone more in (
+    let r = read-shown g.start.input (lines_in (turns_of s.parted.parts)) held held1 t.rest left left1 P s.parted.cut t.read told alone more in (
       r.0,
-      record {
-        parts = s.parts;
-        cut = r.1;
-        ruled = s.ruled;
-        heard = s.heard;
-        long = λ h. absurd (short-due (turns_of s.parts) s.stands h);
-        speaking = s.speaking;
-        stands = s.stands;
-      },
+      standing-before g state edge desk sent hs t.rest r.0 s r.1,
       r.2,
       r.3,
     )
 
 -- a line that is too long stands next
-pub standing-long : (g : Ground) (state : ControlSession) (edge : EdgeView) (desk : DeskView) (sent : Option (List ℕ)) (hs : List HeardLine) (held held1 : List ℕ) (left left1 : Option (List ℕ)) →
-    Talking g state edge desk sent hs held left →
+pub standing-long : (g : Ground) (state : ControlSession) (edge : EdgeView) (desk : DeskView) (sent sent1 : Option (List ℕ)) (hs : List HeardLine) (held held1 : List ℕ) (left left1 : Option (List ℕ)) →
+    sent1 ≡ sent → Talking g state edge desk sent hs held left →
     IfSome left (λ l. Rest held1 left1 (held ++ l)) →
     IsLong held1 →
-    (rest1 : List ℕ) × Standing LineDue g state edge desk sent hs rest1 × IsLong rest1 × IfSome g.start.input (λ all. Rest held1 left1 rest1)
-standing-long g state edge desk sent hs held held1 left left1 t told long =
-    standing-shown g state edge desk sent hs held held1 left left1 IsLong t told long (λ l more isl is. long-append held1 more long)
+    (rest1 : List ℕ) × Standing LineDue g state edge desk sent1 hs rest1 × IsLong rest1 × IfSome g.start.input (λ all. Rest held1 left1 rest1)
+standing-long g state edge desk sent sent1 hs held held1 left left1 same t told long =
+    standing-shown g state edge desk sent1 hs held held1 left left1 IsLong (talking-sent g state edge desk sent sent1 hs held left same t) told long (λ l more isl is. long-append held1 more long)
 
 ended-none : (left left1 : Option (List ℕ)) (held l more : List ℕ) → IfSome left (λ l. left1 ≡ Some []) → RanOut held → left ≡ Some l → left1 ≡ Some more → RanOut (held ++ more)
 ended-none left left1 held l more end out isl is =
@@ -423,19 +423,35 @@ ended-none left left1 held l more end out isl is =
     subst RanOut (sym (append-nil held) ∙ ap (λ (x : List ℕ). held ++ x) (sym none)) out
 
 -- no line is left
-pub standing-out : (g : Ground) (state : ControlSession) (edge : EdgeView) (desk : DeskView) (sent : Option (List ℕ)) (hs : List HeardLine) (held held1 : List ℕ) (left left1 : Option (List ℕ)) →
-    Talking g state edge desk sent hs held left →
+pub standing-out : (g : Ground) (state : ControlSession) (edge : EdgeView) (desk : DeskView) (sent sent1 : Option (List ℕ)) (hs : List HeardLine) (held held1 : List ℕ) (left left1 : Option (List ℕ)) →
+    sent1 ≡ sent → Talking g state edge desk sent hs held left →
     IfSome left (λ l. Rest held1 left1 (held ++ l)) →
     IfSome left (λ l. left1 ≡ Some []) →
     RanOut held1 →
-    (rest1 : List ℕ) × Standing LineDue g state edge desk sent hs rest1 × RanOut rest1 × IfSome g.start.input (λ all. Rest held1 left1 rest1)
-standing-out g state edge desk sent hs held held1 left left1 t told end out =
-    standing-shown g state edge desk sent hs held held1 left left1 RanOut t told out (λ l more isl is. ended-none left left1 held1 l more end out isl is)
+    (rest1 : List ℕ) × Standing LineDue g state edge desk sent1 hs rest1 × RanOut rest1 × IfSome g.start.input (λ all. Rest held1 left1 rest1)
+standing-out g state edge desk sent sent1 hs held held1 left left1 same t told end out =
+    standing-shown g state edge desk sent1 hs held held1 left left1 RanOut (talking-sent g state edge desk sent sent1 hs held left same t) told out (λ l more isl is. ended-none left left1 held1 l more end out isl is)
 
--- the control says the same of what was sent
-pub talking-sent : (g : Ground) (state : ControlSession) (edge : EdgeView) (desk : DeskView) (sent sent1 : Option (List ℕ)) (hs : List HeardLine) (held : List ℕ) (left : Option (List ℕ)) →
-    sent1 ≡ sent → Talking g state edge desk sent hs held left → Talking g state edge desk sent1 hs held left
-talking-sent g state edge desk sent sent1 hs held left same t = subst (λ (o : Option (List ℕ)). Talking g state edge desk o hs held left) (sym same) t
+-- a line that was found stands in the buffer
+pub found-within : (buffer : List ℕ) (x : Got) (held : List ℕ) → IsFound buffer x held → IsLineWithin buffer x
+found-within buffer (got.Line span) held found = found.0
+found-within buffer _ held found = tt
+
+-- what was got stands before the rest, and it may come there
+pub standing-got : (g : Ground) (state : ControlSession) (edge : EdgeView) (desk : DeskView) (sent sent1 : Option (List ℕ)) (hs : List HeardLine) (buffer : List ℕ) (x : Got) (always : Bool) (held held1 : List ℕ) (left left1 : Option (List ℕ)) →
+    sent1 ≡ sent → Talking g state edge desk sent hs held left →
+    IfSome left (λ l. Rest (line_in buffer x ++ held1) left1 (held ++ l)) →
+    IsFound buffer x held1 →
+    (always ≡ true → x ≢ got.Wait) →
+    (rest1 : List ℕ) × Standing LineDue g state edge desk sent1 hs (line_in buffer x ++ rest1) × IsGot always buffer x rest1 × IfSome g.start.input (λ all. Rest held1 left1 rest1)
+standing-got g state edge desk sent sent1 hs buffer got.Long always held held1 left left1 same t told found waits =
+    standing-long g state edge desk sent sent1 hs held held1 left left1 same t told found
+standing-got g state edge desk sent sent1 hs buffer (got.Line span) always held held1 left left1 same t told found waits =
+    let r = standing-line g state edge desk sent sent1 hs (bytes_in buffer span) held held1 left left1 same t told in (r.0, r.1, found.1, r.2)
+standing-got g state edge desk sent sent1 hs buffer got.Wait always held held1 left left1 same t told found waits =
+    let r = standing-line g state edge desk sent sent1 hs [] held held1 left left1 same t told in (r.0, r.1, waits_so always got.Wait got.Wait refl waits, r.2)
+standing-got g state edge desk sent sent1 hs buffer _ always held held1 left left1 same t told found waits =
+    let r = standing-line g state edge desk sent sent1 hs [] held held1 left left1 same t told in (r.0, r.1, tt, r.2)
 
 -- a line is due again
 pub talking-on : (g : Ground) (state : ControlSession) (edge : EdgeView) (desk : DeskView) (sent : Option (List ℕ)) (hs : List HeardLine) (held rest : List ℕ) (left left1 : Option (List ℕ)) →

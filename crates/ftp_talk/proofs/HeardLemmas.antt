@@ -1,14 +1,14 @@
 -- A line that was heard, and its entry.
-use Rattle.std.proofs.Common.{◌≡◌, ℕ, ◌+◌, ◌⊎◌, Bool, true, false, cond, List, [], ◌∷◌, ◌++◌, Option, Some, None, refl, sym, ap, subst, ◌∙◌, append_assoc, arith, inl, inr}
-use Rattle.std.specs.Prelude.{Result, Ok, Err, IfOk, OnErr}
-use Rattle.ftp_base.specs.declared.message.ControlChanMsg.{ControlChanMsg}
+use Rattle.std.proofs.Common.{◌≡◌, ℕ, ◌+◌, ◌⊎◌, Bool, true, false, cond, List, [], ◌∷◌, ◌++◌, Option, Some, None, refl, sym, ap, subst, ◌∙◌, arith, inl, inr}
+use Rattle.std.specs.Prelude.{Result, Ok, Err, IsErr, OnOk, OnErr}
+use Rattle.std.proofs.lemmas.List.{append-nil}
 use Rattle.ftp_base.specs.declared.reply.Reply.{Reply}
 use Rattle.ftp_base.specs.Edge.{EdgeView}
 use Rattle.ftp_base.specs.Outside.{Writes}
 use Rattle.ftp_events.specs.declared.decision.Decision.{Decision}
 use Rattle.ftp_events.specs.declared.entry.Entry.{Entry}
+use Rattle.ftp_events.specs.declared.event.Answer.TheVariants as answer
 use Rattle.ftp_events.specs.declared.event.EventKind.{EventKind}
-use Rattle.ftp_events.specs.Login.{login_state, user_name}
 use Rattle.ftp_control.specs.declared.command.Command.{Command}
 use Rattle.ftp_control.specs.declared.line.LineError.{LineError}
 use Rattle.ftp_control.specs.declared.line.LineError.TheVariants as error
@@ -21,16 +21,17 @@ use Rattle.ftp_shared.specs.Desk.{DeskView}
 use Rattle.ftp_talk.specs.declared.control_session.ControlSession.{ControlSession}
 use Rattle.ftp_talk.specs.declared.halt.Halt.{Halt}
 use Rattle.ftp_talk.specs.declared.serving.Next.{Next}
-use Rattle.ftp_talk.specs.Commands.{Gives, GivenBy}
-use Rattle.ftp_talk.specs.Ground.{ALine, Turn, Ground, history, lines_in}
-use Rattle.ftp_talk.specs.Parts.{HeardLine, MayDoSo, turns_of, IsHeard, GivesMore, heard_as, asker_at, with_said, with_spoken, is_epsv_line, pieces_for, due_pieces}
-use Rattle.ftp_talk.specs.Pieces.{Pieces, piece_delays, SaysPieces}
+use Rattle.ftp_talk.specs.Extended.{PartsBefore}
+use Rattle.ftp_talk.specs.Ground.{ALine, Turn, Ground, history}
+use Rattle.ftp_talk.specs.Parts.{HeardLine, MayDoSo, turns_of, IsHeard, GivesMore, heard_as, asker_at, lines_said, with_said, with_spoken, is_epsv_line, pieces_for, due_pieces}
+use Rattle.ftp_talk.specs.Pieces.{Pieces, piece_delays, piece_text, SaysPieces}
 use Rattle.ftp_talk.specs.Saying.{IsPaused}
-use Rattle.ftp_talk.specs.Speaking.{Knows, Speaking, Front, Spoken, Heard, Halted, Standing, IsCut, IsCutAt, IsHearing, IsHeardAs, Carries, HearsLines, asker_of, turn_of}
+use Rattle.ftp_talk.specs.Speaking.{Knows, Speaking, Front, Spoken, Halted, Standing, IsCut, StandsBehind, StandsBehindLine, IsHearing, IsHeardAs, HearsLines, ServesLines, asker_of, due_at, turn_of}
 use Rattle.ftp_talk.specs.Talk.{greeting_of}
 use Rattle.ftp_talk.specs.Turns.{Due, LineDue, NothingDue, is_end, due, due_by, due_behind}
-use Rattle.ftp_talk.proofs.PieceLemmas.{delays-pieces, wrote-pieces, text-one, pieces-behind, pieces-longer, piece-front}
-use Rattle.ftp_talk.proofs.ServeLemmas.{input-same, command-due}
+use Rattle.ftp_talk.proofs.PieceLemmas.{delays-pieces, wrote-pieces, text-one, pieces-behind, pieces-longer, pieces-none, piece-front}
+use Rattle.ftp_talk.proofs.ServeLemmas.{command-due, parted-more, same_desk}
+use Rattle.ftp_talk.proofs.TalkLemmas.{front-same}
 
 -- who asks is as the entries tell
 asker-same : (g : Ground) (state : ControlSession) (h : List Entry) → Knows g state h → asker_of state ≡ asker_at h
@@ -38,42 +39,41 @@ asker-same g state h knows = rw (knows.login, knows.name, knows.cwd) refl
 
 -- ---- what is said behind the replies
 
--- a command that is carried out says nothing behind its replies
-pub still-carried : (line : List ℕ) (done : Command) (y : Extra) (pieces : Pieces) → Carries line y done → with_said y pieces ≡ pieces
-still-carried line done extra.Pass pieces h = refl
-still-carried line done (extra.As other) pieces h = refl
-still-carried line done extra.Epsv pieces h = refl
-still-carried line done (extra.Tell m) pieces h = absurd h
-still-carried line done (extra.Say bytes) pieces h = absurd h
+-- what is said on a line, in pieces
+abbrev line_pieces : Extra → Pieces
+line_pieces (extra.Say bytes) = (0, bytes) ∷ []
+line_pieces _ = []
 
--- neither does a message that is told
-pub still-told : (m : ControlChanMsg) (y : Extra) (pieces : Pieces) → y ≡ extra.Tell m → with_said y pieces ≡ pieces
-still-told m y pieces is = ap (λ (z : Extra). with_said z pieces) is
+with-said : (y : Extra) (pieces : Pieces) → with_said y pieces ≡ pieces ++ line_pieces y
+with-said (extra.Say bytes) pieces = refl
+with-said _ pieces = sym (append-nil pieces)
 
--- and what was to be said is not, once the session has ended
-pub still-by : (x : HeardLine) (over : Bool) (pieces : Pieces) → with_said x.extra pieces ≡ pieces → with_spoken (Some x) over pieces ≡ pieces
-still-by x true pieces h = refl
-still-by x false pieces h = h
+text-said : (y : Extra) → piece_text (line_pieces y) ≡ lines_said y
+text-said (extra.Say bytes) = text-one bytes
+text-said _ = refl
 
-pub still-over : (x : HeardLine) (over : Bool) (pieces : Pieces) → over ≡ true → with_spoken (Some x) over pieces ≡ pieces
-still-over x over pieces is = ap (λ (b : Bool). with_spoken (Some x) b pieces) is
+undelayed : (y : Extra) → piece_delays (line_pieces y) ≡ 0
+undelayed (extra.Say bytes) = refl
+undelayed _ = refl
 
--- what is said goes behind the replies
-pub more-said : (x : HeardLine) (bytes : List ℕ) (over : Bool) (pieces : Pieces) → x.extra ≡ extra.Say bytes → over ≡ false → with_spoken (Some x) over pieces ≡ pieces ++ (0, bytes) ∷ []
-more-said x bytes over pieces is live = ap (λ (b : Bool). with_spoken (Some x) b pieces) live ∙ ap (λ (y : Extra). with_said y pieces) is
+-- it is not, once the session has ended
+due-over : (x : HeardLine) (over : Bool) (pieces : Pieces) → over ≡ true → with_spoken (Some x) over pieces ≡ pieces
+due-over x over pieces is = ap (λ (b : Bool). with_spoken (Some x) b pieces) is
+
+due-live : (x : HeardLine) (over : Bool) (pieces : Pieces) → over ≡ false → with_spoken (Some x) over pieces ≡ pieces ++ line_pieces x.extra
+due-live x over pieces live = ap (λ (b : Bool). with_spoken (Some x) b pieces) live ∙ with-said x.extra pieces
+
+-- a part of it was said
+part-said : (y : Extra) (old new : Option (List ℕ)) (at : ℕ) → WritesFront old new (lines_said y) → SaysPieces old new at at [] (line_pieces y)
+part-said (extra.Say bytes) old new at wrote = piece-front old new at bytes wrote
+part-said _ old new at wrote = pieces-none old new at at [] [] wrote refl
 
 -- a part of the replies is one of all that is due
-longer-said : (y : Extra) (old new : Option (List ℕ)) (before after : ℕ) (w : List ℕ) (pieces : Pieces) → SaysPieces old new before after w pieces → SaysPieces old new before after w (with_said y pieces)
-longer-said extra.Pass old new before after w pieces h = h
-longer-said (extra.As other) old new before after w pieces h = h
-longer-said extra.Epsv old new before after w pieces h = h
-longer-said (extra.Tell m) old new before after w pieces h = h
-longer-said (extra.Say bytes) old new before after w pieces h = pieces-longer old new before after w pieces ((0, bytes) ∷ []) h
-
 longer-more : (x : HeardLine) (over : Bool) (old new : Option (List ℕ)) (before after : ℕ) (w : List ℕ) (pieces : Pieces) →
     SaysPieces old new before after w pieces → SaysPieces old new before after w (with_spoken (Some x) over pieces)
 longer-more x true old new before after w pieces h = h
-longer-more x false old new before after w pieces h = longer-said x.extra old new before after w pieces h
+longer-more x false old new before after w pieces h =
+    subst (SaysPieces old new before after w) (sym (with-said x.extra pieces)) (pieces-longer old new before after w pieces (line_pieces x.extra) h)
 
 -- ---- its turn
 
@@ -94,182 +94,6 @@ heard-turn g state ts x k earlier e knows stands h is gives =
       gives = subst (GivesMore g (history g ts) x.line x.extra) (sym is) gives;
     }
 
--- a line was heard and answered; what is due is this
-pub heard-standing : (g : Ground) (state0 state : ControlSession) (edge0 edge : EdgeView) (desk0 desk : DeskView) (sent0 sent sent1 : Option (List ℕ))
-    (new : Due) (x : HeardLine) (k : EventKind) (d : Decision) (hs : List HeardLine) (rest : List ℕ)
-    (s : Standing LineDue g state0 edge0 desk0 sent0 hs (x.line ++ rest))
-    (spoken : Spoken g state edge desk sent (turns_of s.parts) (due_pieces g s.parts) (ALine x.line) k d (is_epsv_line x.extra)) →
-    IsHearing state0 x →
-    GivesMore g (history g (turns_of s.parts)) x.line x.extra k →
-    Speaking g state edge desk sent1 (turn_of (ALine x.line) spoken.earlier spoken.entry ∷ turns_of s.parts)
-    (with_spoken (Some x) (is_end spoken.entry.decision) (due_pieces g s.parts ++ pieces_for g (is_epsv_line x.extra) (turn_of (ALine x.line) spoken.earlier spoken.entry))) →
-    due_by (ALine x.line) d ≡ new →
-    Standing new g state edge desk sent1 (x ∷ hs) rest
-heard-standing g state0 state edge0 edge desk0 desk sent0 sent sent1 new x k d hs rest s spoken hearing gives speaking is =
-    let ts = turns_of s.parts in
-    record {
-      parts = record { turn = turn_of (ALine x.line) spoken.earlier spoken.entry; heard = Some x } ∷ s.parts;
-      cut = input-same g.start.input (lines_in ts ++ (x.line ++ rest)) ((lines_in ts ++ x.line) ++ rest) (sym (append_assoc (lines_in ts) x.line rest)) s.cut;
-      ruled = (s.ruled, heard-turn g state0 ts x k spoken.earlier spoken.entry s.speaking.known s.stands hearing spoken.kind gives, spoken.answer);
-      heard = ap (λ (l : List HeardLine). x ∷ l) s.heard;
-      long = λ h. cc;
-      speaking = speaking;
-      stands = ap (due_by (ALine x.line)) spoken.decision ∙ is;
-    }
-
--- a line was heard, and nothing is said behind the replies of its turn
-pub heard-spoken : {epsv : Bool} (g : Ground) (state0 state : ControlSession) (edge0 edge : EdgeView) (desk0 desk : DeskView) (sent0 sent : Option (List ℕ))
-    (new : Due) (x : HeardLine) (k : EventKind) (d : Decision) (hs : List HeardLine) (rest : List ℕ)
-    (s : Standing LineDue g state0 edge0 desk0 sent0 hs (x.line ++ rest)) →
-    Spoken g state edge desk sent (turns_of s.parts) (due_pieces g s.parts) (ALine x.line) k d epsv →
-    is_epsv_line x.extra ≡ epsv →
-    IsHearing state0 x →
-    GivesMore g (history g (turns_of s.parts)) x.line x.extra k →
-    ((pieces : Pieces) → with_spoken (Some x) (is_end d) pieces ≡ pieces) →
-    due_by (ALine x.line) d ≡ new →
-    Standing new g state edge desk sent (x ∷ hs) rest
-heard-spoken g state0 state edge0 edge desk0 desk sent0 sent new x k d hs rest s given same hearing gives still is =
-    let spoken = subst (Spoken g state edge desk sent (turns_of s.parts) (due_pieces g s.parts) (ALine x.line) k d) (sym same) given in
-    let t = turn_of (ALine x.line) spoken.earlier spoken.entry in
-    let pieces = due_pieces g s.parts ++ pieces_for g (is_epsv_line x.extra) t in
-    let same : with_spoken (Some x) (is_end spoken.entry.decision) pieces ≡ pieces = ap (λ (y : Decision). with_spoken (Some x) (is_end y) pieces) spoken.decision ∙ still pieces in
-    heard-standing g state0 state edge0 edge desk0 desk sent0 sent sent new x k d hs rest s spoken hearing gives
-    (subst (Speaking g state edge desk sent (t ∷ turns_of s.parts)) (sym same) spoken.speaking) is
-
--- bytes more were said
-spoken-more : (g : Ground) (state : ControlSession) (edge : EdgeView) (desk : DeskView) (sent sent1 : Option (List ℕ)) (ts : List Turn) (pieces : Pieces) (bytes : List ℕ) →
-    Speaking g state edge desk sent ts pieces → Writes sent sent1 bytes → Speaking g state edge desk sent1 ts (pieces ++ (0, bytes) ∷ [])
-spoken-more g state edge desk sent sent1 ts pieces bytes s wrote =
-    let none : piece_delays pieces ≡ piece_delays (pieces ++ (0, bytes) ∷ []) = omega (arith, delays-pieces pieces ((0, bytes) ∷ [])) in
-    record {
-      seen = s.seen;
-      feed = s.feed;
-      known = s.known;
-      over = s.over;
-      ground = s.ground;
-      kept = s.kept;
-      refused = s.refused;
-      vouched = s.vouched;
-      share = s.share;
-      written = wrote-pieces g.start.sent sent sent1 (greeting_of g) pieces ((0, bytes) ∷ []) s.written (subst (Writes sent sent1) (sym (text-one bytes)) wrote);
-      paused = subst (λ (n : ℕ). IsPaused n g.start.edge.paused edge.paused) none s.paused;
-    }
-
--- a line was heard, and bytes were said behind the replies of its turn
-pub heard-said : {epsv : Bool} (g : Ground) (state0 state : ControlSession) (edge0 edge : EdgeView) (desk0 desk : DeskView) (sent0 sent sent1 : Option (List ℕ))
-    (new : Due) (x : HeardLine) (bytes : List ℕ) (k : EventKind) (d : Decision) (hs : List HeardLine) (rest : List ℕ)
-    (s : Standing LineDue g state0 edge0 desk0 sent0 hs (x.line ++ rest)) →
-    Spoken g state edge desk sent (turns_of s.parts) (due_pieces g s.parts) (ALine x.line) k d epsv →
-    is_epsv_line x.extra ≡ epsv →
-    IsHearing state0 x →
-    GivesMore g (history g (turns_of s.parts)) x.line x.extra k →
-    x.extra ≡ extra.Say bytes →
-    is_end d ≡ false →
-    Writes sent sent1 bytes →
-    due_by (ALine x.line) d ≡ new →
-    Standing new g state edge desk sent1 (x ∷ hs) rest
-heard-said g state0 state edge0 edge desk0 desk sent0 sent sent1 new x bytes k d hs rest s given same hearing gives says live wrote is =
-    let spoken = subst (Spoken g state edge desk sent (turns_of s.parts) (due_pieces g s.parts) (ALine x.line) k d) (sym same) given in
-    let t = turn_of (ALine x.line) spoken.earlier spoken.entry in
-    let pieces = due_pieces g s.parts ++ pieces_for g (is_epsv_line x.extra) t in
-    let more = more-said x bytes (is_end spoken.entry.decision) pieces says (ap is_end spoken.decision ∙ live) in
-    heard-standing g state0 state edge0 edge desk0 desk sent0 sent sent1 new x k d hs rest s spoken hearing gives
-    (subst (Speaking g state edge desk sent1 (t ∷ turns_of s.parts)) (sym more) (spoken-more g state edge desk sent sent1 (t ∷ turns_of s.parts) pieces bytes spoken.speaking wrote)) is
-
--- ---- cut short
-
-front-pieces : (g : Ground) (state : ControlSession) (edge : EdgeView) (desk : DeskView) (sent : Option (List ℕ)) (ts : List Turn) (pieces more : Pieces) →
-    Front g state edge desk sent ts pieces →
-    SaysPieces g.start.sent sent g.start.edge.paused edge.paused (greeting_of g) more →
-    Front g state edge desk sent ts more
-front-pieces g state edge desk sent ts pieces more f says =
-    record { session = f.session; over = f.over; options = f.options; seen = f.seen; kept = f.kept; refused = f.refused; vouched = f.vouched; share = f.share; written = says }
-
--- a line was heard, and its turn was cut short or did not come
-pub heard-cut : {epsv : Bool} (g : Ground) (state0 state : ControlSession) (edge0 edge : EdgeView) (desk0 desk : DeskView) (sent0 sent : Option (List ℕ))
-    (x : HeardLine) (k : EventKind) (hs : List HeardLine) (rest : List ℕ)
-    (s : Standing LineDue g state0 edge0 desk0 sent0 hs (x.line ++ rest)) →
-    Halted g state edge desk sent (turns_of s.parts) (due_pieces g s.parts) (ALine x.line) k epsv →
-    is_epsv_line x.extra ≡ epsv →
-    IsHearing state0 x →
-    GivesMore g (history g (turns_of s.parts)) x.line x.extra k →
-    IsCutAt g state edge desk sent hs x
-heard-cut g state0 state edge0 edge desk0 desk sent0 sent x k hs rest s (inl halted) same hearing gives =
-    inl (record { parts = s.parts; rest = x.line ++ rest; cut = s.cut; ruled = s.ruled; heard = s.heard; long = s.long; front = halted.0 })
-heard-cut g state0 state edge0 edge desk0 desk sent0 sent x k hs rest s (inr given) same hearing gives =
-    let heard = subst (Heard g state edge desk sent (turns_of s.parts) (due_pieces g s.parts) (ALine x.line) k) (sym same) given in
-    let ts = turns_of s.parts in
-    let t = turn_of (ALine x.line) heard.earlier heard.entry in
-    let pieces = due_pieces g s.parts ++ pieces_for g (is_epsv_line x.extra) t in
-    inr (record {
-      parts = record { turn = t; heard = Some x } ∷ s.parts;
-      rest = rest;
-      cut = input-same g.start.input (lines_in ts ++ (x.line ++ rest)) ((lines_in ts ++ x.line) ++ rest) (sym (append_assoc (lines_in ts) x.line rest)) s.cut;
-      ruled = (s.ruled, heard-turn g state0 ts x k heard.earlier heard.entry s.speaking.known s.stands hearing heard.kind gives, heard.answer);
-      heard = ap (λ (l : List HeardLine). x ∷ l) s.heard;
-      long = λ h. cc;
-      front = front-pieces g state edge desk sent (t ∷ ts) pieces (with_spoken (Some x) (is_end heard.entry.decision) pieces) heard.front
-          (longer-more x (is_end heard.entry.decision) g.start.sent sent g.start.edge.paused edge.paused (greeting_of g) pieces heard.front.written);
-    })
-
--- a line was heard, and of the bytes behind its replies a part was said
-pub heard-part : {epsv : Bool} (g : Ground) (state0 state : ControlSession) (edge0 edge : EdgeView) (desk0 desk : DeskView) (sent0 sent sent1 : Option (List ℕ))
-    (x : HeardLine) (bytes : List ℕ) (k : EventKind) (d : Decision) (hs : List HeardLine) (rest : List ℕ)
-    (s : Standing LineDue g state0 edge0 desk0 sent0 hs (x.line ++ rest)) →
-    Spoken g state edge desk sent (turns_of s.parts) (due_pieces g s.parts) (ALine x.line) k d epsv →
-    is_epsv_line x.extra ≡ epsv →
-    IsHearing state0 x →
-    GivesMore g (history g (turns_of s.parts)) x.line x.extra k →
-    x.extra ≡ extra.Say bytes →
-    is_end d ≡ false →
-    WritesFront sent sent1 bytes →
-    IsCut g state edge desk sent1 (x ∷ hs)
-heard-part g state0 state edge0 edge desk0 desk sent0 sent sent1 x bytes k d hs rest s given same hearing gives says live wrote =
-    let spoken = subst (Spoken g state edge desk sent (turns_of s.parts) (due_pieces g s.parts) (ALine x.line) k d) (sym same) given in
-    let ts = turns_of s.parts in
-    let t = turn_of (ALine x.line) spoken.earlier spoken.entry in
-    let pieces = due_pieces g s.parts ++ pieces_for g (is_epsv_line x.extra) t in
-    let more = more-said x bytes (is_end spoken.entry.decision) pieces says (ap is_end spoken.decision ∙ live) in
-    let z = spoken.speaking in
-    record {
-      parts = record { turn = t; heard = Some x } ∷ s.parts;
-      rest = rest;
-      cut = input-same g.start.input (lines_in ts ++ (x.line ++ rest)) ((lines_in ts ++ x.line) ++ rest) (sym (append_assoc (lines_in ts) x.line rest)) s.cut;
-      ruled = (s.ruled, heard-turn g state0 ts x k spoken.earlier spoken.entry s.speaking.known s.stands hearing spoken.kind gives, spoken.answer);
-      heard = ap (λ (l : List HeardLine). x ∷ l) s.heard;
-      long = λ h. cc;
-      front = subst (Front g state edge desk sent1 (t ∷ ts)) (sym more) (record {
-        session = z.known.session;
-        over = z.over;
-        options = z.ground.options;
-        seen = z.seen;
-        kept = z.kept;
-        refused = z.refused;
-        vouched = z.vouched;
-        share = z.share;
-        written = pieces-behind g.start.sent sent sent1 g.start.edge.paused edge.paused edge.paused (greeting_of g) pieces ((0, bytes) ∷ []) z.written z.paused
-            (piece-front sent sent1 edge.paused bytes wrote);
-      });
-    }
-
--- the event of a command that is carried out is the one of the line
-pub gives-carried : (g : Ground) (h : List Entry) (line : List ℕ) (done : Command) (y : Extra) (k : EventKind) → Carries line y done → Gives g h done k → GivesMore g h line y k
-gives-carried g h line done extra.Pass k is gives = subst (λ (r : Result Command LineError). GivenBy g h r k) (sym is) gives
-gives-carried g h line done (extra.As other) k is gives = subst (λ (x : Command). Gives g h x k) (sym is) gives
-gives-carried g h line done extra.Epsv k is gives = subst (λ (x : Command). Gives g h x k) (sym is) gives
-gives-carried g h line done (extra.Tell m) k is gives = absurd is
-gives-carried g h line done (extra.Say bytes) k is gives = absurd is
-
-pub gives-done : (g : Ground) (h : List Entry) (line : List ℕ) (y z : Extra) (k : EventKind) → y ≡ z → GivesMore g h line z k → GivesMore g h line y k
-gives-done g h line y z k is gives = subst (λ (x : Extra). GivesMore g h line x k) (sym is) gives
-
--- what was read of a line is as which command it is heard
-pub read-heard : (refused : Bool) (line : List ℕ) (c : Command) → gives_password c ≡ false → IsHeardAs refused line c → heard_as line (parsed line) ≡ Some c
-read-heard false line c unsecret read = ap (heard_as line) read ∙ ap (λ (b : Bool). cond b None (Some c)) unsecret
-read-heard true line c unsecret read = ap (heard_as line) read.0 ∙ ap Some (sym read.1)
-
--- ---- what is due behind it
-
 -- behind a line that is heard a line is due
 pub heard-due : (line : List ℕ) (r : Result Command LineError) (c : Command) (d : Decision) → heard_as line r ≡ Some c → due_behind r d ≡ LineDue
 heard-due line (Ok given) c d e = by (gives_password given) refl e where
@@ -281,40 +105,168 @@ heard-due line (Err error.Utf8) c d e = absurd (cc)
 heard-due line (Err error.InvalidEol) c d e = absurd (cc)
 heard-due line (Err error.OutOfMemory) c d e = absurd (cc)
 
--- nothing, where the session has ended
-pub heard-over : (line : List ℕ) (d : Decision) → is_end d ≡ true → due_by (ALine line) d ≡ NothingDue
-heard-over line d over = ap (λ (b : Bool). cond b NothingDue (due_behind (parsed line) d)) over
+-- what is said on a line was said
+spoken-more : (g : Ground) (state : ControlSession) (edge : EdgeView) (desk : DeskView) (sent sent1 : Option (List ℕ)) (ts : List Turn) (pieces : Pieces) (y : Extra) →
+    Speaking g state edge desk sent ts pieces → Writes sent sent1 (lines_said y) → Speaking g state edge desk sent1 ts (pieces ++ line_pieces y)
+spoken-more g state edge desk sent sent1 ts pieces y s wrote =
+    let none : piece_delays pieces ≡ piece_delays (pieces ++ line_pieces y) = omega (arith, delays-pieces pieces (line_pieces y), undelayed y) in
+    record {
+      seen = s.seen;
+      feed = s.feed;
+      known = s.known;
+      over = s.over;
+      ground = s.ground;
+      kept = s.kept;
+      refused = s.refused;
+      vouched = s.vouched;
+      share = s.share;
+      written = wrote-pieces g.start.sent sent sent1 (greeting_of g) pieces (line_pieces y) s.written (subst (Writes sent sent1) (sym (text-said y)) wrote);
+      paused = subst (λ (n : ℕ). IsPaused n g.start.edge.paused edge.paused) none s.paused;
+    }
 
--- a line, where it goes on
-pub heard-live : (state : ControlSession) (x : HeardLine) (d : Decision) → IsHearing state x → is_end d ≡ false → due_by (ALine x.line) d ≡ LineDue
-heard-live state x d h live =
-    ap (λ (b : Bool). cond b NothingDue (due_behind (parsed x.line) d)) live
-    ∙ heard-due x.line (parsed x.line) x.command d h.parsed
+-- a line was heard where one was due, and this is its event, for an EPSV or not
+pub record IsTaken (g : Ground) (state : ControlSession) (edge : EdgeView) (desk : DeskView) (sent : Option (List ℕ)) (x : HeardLine) (k : EventKind) (for_epsv : Bool) (hs : List HeardLine) (rest : List ℕ) : Type 0 where
+  pub stands : Standing LineDue g state edge desk sent hs (x.line ++ rest)
+  pub hearing : IsHearing state x
+  pub gives : GivesMore g (history g (turns_of stands.parted.parts)) x.line x.extra k
+  pub epsv : is_epsv_line x.extra ≡ for_epsv
+
+abbrev pub taken : (g : Ground) (state : ControlSession) (edge : EdgeView) (desk : DeskView) (sent : Option (List ℕ)) (x : HeardLine) (k : EventKind) (for_epsv : Bool) (hs : List HeardLine) (rest : List ℕ) (y : Extra)
+    (s : Standing LineDue g state edge desk sent hs (x.line ++ rest)) →
+    IsHearing state x → x.extra ≡ y → GivesMore g (history g (turns_of s.parted.parts)) x.line y k → for_epsv ≡ is_epsv_line y → IsTaken g state edge desk sent x k for_epsv hs rest
+taken g state edge desk sent x k for_epsv hs rest y s hearing says gives epsv =
+    record { stands = s; hearing = hearing; gives = subst (λ (e : Extra). GivesMore g (history g (turns_of s.parted.parts)) x.line e k) (sym says) gives; epsv = ap is_epsv_line says ∙ sym epsv }
+
+-- its turn is one part more
+abbrev heard-parted : {state : ControlSession} {edge : EdgeView} {desk : DeskView} {sent : Option (List ℕ)} {for_epsv : Bool} (g : Ground) (x : HeardLine) (k : EventKind) (hs : List HeardLine) (rest : List ℕ)
+    (earlier : List (ℕ × Reply)) (e : Entry) →
+    IsTaken g state edge desk sent x k for_epsv hs rest → e.event.kind ≡ k → e.answer ≡ answer.None → PartsBefore g (x ∷ hs) rest
+heard-parted g x k hs rest earlier e t is answer =
+    let s = t.stands in
+    parted-more g (Some x) (turn_of (ALine x.line) earlier e) hs rest s.parted
+    (heard-turn g _ (turns_of s.parted.parts) x k earlier e s.speaking.known s.stands t.hearing is t.gives) answer (λ h. cc)
+
+-- it was answered, and what is due is this
+heard-standing : {state0 : ControlSession} {edge0 : EdgeView} {desk0 : DeskView} {sent0 : Option (List ℕ)} {for_epsv : Bool} (g : Ground) (state : ControlSession) (edge : EdgeView) (desk : DeskView) (sent sent1 : Option (List ℕ))
+    (new : Due) (x : HeardLine) (k : EventKind) (d : Decision) (hs : List HeardLine) (rest : List ℕ)
+    (t : IsTaken g state0 edge0 desk0 sent0 x k for_epsv hs rest)
+    (spoken : Spoken g state edge desk sent (turns_of t.stands.parted.parts) (due_pieces g t.stands.parted.parts) (ALine x.line) k d for_epsv) →
+    Speaking g state edge desk sent1 (turn_of (ALine x.line) spoken.earlier spoken.entry ∷ turns_of t.stands.parted.parts)
+    (with_spoken (Some x) (is_end spoken.entry.decision) (due_pieces g t.stands.parted.parts ++ pieces_for g for_epsv (turn_of (ALine x.line) spoken.earlier spoken.entry))) →
+    due_by (ALine x.line) d ≡ new →
+    Standing new g state edge desk sent1 (x ∷ hs) rest
+heard-standing g state edge desk sent sent1 new x k d hs rest t spoken speaking is =
+    let ps = t.stands.parted.parts in
+    let turn = turn_of (ALine x.line) spoken.earlier spoken.entry in
+    record {
+      parted = heard-parted g x k hs rest spoken.earlier spoken.entry t spoken.kind spoken.answer;
+      speaking = subst (λ (b : Bool). Speaking g state edge desk sent1 (turn ∷ turns_of ps) (with_spoken (Some x) (is_end spoken.entry.decision) (due_pieces g ps ++ pieces_for g b turn))) (sym t.epsv) speaking;
+      stands = ap (due_by (ALine x.line)) spoken.decision ∙ is;
+    }
+
+-- the session ended with it
+pub heard-ended : {state0 : ControlSession} {edge0 : EdgeView} {desk0 : DeskView} {sent0 : Option (List ℕ)} {for_epsv : Bool} (g : Ground) (state : ControlSession) (edge : EdgeView) (desk : DeskView) (sent : Option (List ℕ))
+    (x : HeardLine) (k : EventKind) (d : Decision) (hs : List HeardLine) (rest : List ℕ)
+    (t : IsTaken g state0 edge0 desk0 sent0 x k for_epsv hs rest) →
+    Spoken g state edge desk sent (turns_of t.stands.parted.parts) (due_pieces g t.stands.parted.parts) (ALine x.line) k d for_epsv →
+    is_end d ≡ true →
+    Standing NothingDue g state edge desk sent (x ∷ hs) rest
+heard-ended g state edge desk sent x k d hs rest t spoken over =
+    heard-standing g state edge desk sent sent NothingDue x k d hs rest t spoken
+    (subst (Speaking g state edge desk sent _) (sym (due-over x (is_end spoken.entry.decision) _ (ap is_end spoken.decision ∙ over))) spoken.speaking)
+    (ap (λ (b : Bool). cond b NothingDue (due_behind (parsed x.line) d)) over)
+
+-- it goes on, and what is said on the line was said
+pub heard-said : {state0 : ControlSession} {edge0 : EdgeView} {desk0 : DeskView} {sent0 : Option (List ℕ)} {for_epsv : Bool} (g : Ground) (state : ControlSession) (edge : EdgeView) (desk : DeskView) (sent sent1 : Option (List ℕ))
+    (x : HeardLine) (k : EventKind) (d : Decision) (hs : List HeardLine) (rest : List ℕ)
+    (t : IsTaken g state0 edge0 desk0 sent0 x k for_epsv hs rest) →
+    Spoken g state edge desk sent (turns_of t.stands.parted.parts) (due_pieces g t.stands.parted.parts) (ALine x.line) k d for_epsv →
+    is_end d ≡ false →
+    Writes sent sent1 (lines_said x.extra) →
+    Standing LineDue g state edge desk sent1 (x ∷ hs) rest
+heard-said g state edge desk sent sent1 x k d hs rest t spoken live wrote =
+    heard-standing g state edge desk sent sent1 LineDue x k d hs rest t spoken
+    (subst (Speaking g state edge desk sent1 _) (sym (due-live x (is_end spoken.entry.decision) _ (ap is_end spoken.decision ∙ live)))
+    (spoken-more g state edge desk sent sent1 _ _ x.extra spoken.speaking wrote))
+    (ap (λ (b : Bool). cond b NothingDue (due_behind (parsed x.line) d)) live ∙ heard-due x.line (parsed x.line) x.command d t.hearing.parsed)
+
+-- ---- cut short
+
+-- of what is due another front was sent
+front-pieces : (g : Ground) (state : ControlSession) (edge : EdgeView) (desk : DeskView) (sent sent1 : Option (List ℕ)) (ts : List Turn) (pieces more : Pieces) →
+    Front g state edge desk sent ts pieces →
+    SaysPieces g.start.sent sent1 g.start.edge.paused edge.paused (greeting_of g) more →
+    Front g state edge desk sent1 ts more
+front-pieces g state edge desk sent sent1 ts pieces more f says =
+    record { session = f.session; over = f.over; options = f.options; seen = f.seen; kept = f.kept; refused = f.refused; vouched = f.vouched; share = f.share; written = says }
+
+-- the turn of a line that was heard was cut short
+cut-heard : {state0 : ControlSession} {edge0 : EdgeView} {desk0 : DeskView} {sent0 : Option (List ℕ)} {for_epsv : Bool} (g : Ground) (state : ControlSession) (edge : EdgeView) (desk : DeskView) (sent sent1 : Option (List ℕ))
+    (x : HeardLine) (k : EventKind) (hs : List HeardLine) (rest : List ℕ) (earlier : List (ℕ × Reply)) (e : Entry) (pieces : Pieces)
+    (t : IsTaken g state0 edge0 desk0 sent0 x k for_epsv hs rest) →
+    e.event.kind ≡ k → e.answer ≡ answer.None →
+    Front g state edge desk sent (turn_of (ALine x.line) earlier e ∷ turns_of t.stands.parted.parts) pieces →
+    SaysPieces g.start.sent sent1 g.start.edge.paused edge.paused (greeting_of g)
+    (with_spoken (Some x) (is_end e.decision) (due_pieces g t.stands.parted.parts ++ pieces_for g for_epsv (turn_of (ALine x.line) earlier e))) →
+    IsCut g state edge desk sent1 (x ∷ hs)
+cut-heard g state edge desk sent sent1 x k hs rest earlier e pieces t is answer front says =
+    let ps = t.stands.parted.parts in
+    let turn = turn_of (ALine x.line) earlier e in
+    record {
+      rest = rest;
+      parted = heard-parted g x k hs rest earlier e t is answer;
+      front = front-pieces g state edge desk sent sent1 (turn ∷ turns_of ps) pieces _ front
+          (subst (λ (b : Bool). SaysPieces g.start.sent sent1 g.start.edge.paused edge.paused (greeting_of g) (with_spoken (Some x) (is_end e.decision) (due_pieces g ps ++ pieces_for g b turn))) (sym t.epsv) says);
+    }
+
+-- it was cut short, or did not come
+pub heard-cut : {state0 : ControlSession} {edge0 : EdgeView} {desk0 : DeskView} {sent0 : Option (List ℕ)} {for_epsv : Bool} (g : Ground) (state : ControlSession) (edge : EdgeView) (desk : DeskView) (sent : Option (List ℕ))
+    (x : HeardLine) (k : EventKind) (hs : List HeardLine) (rest : List ℕ)
+    (t : IsTaken g state0 edge0 desk0 sent0 x k for_epsv hs rest) →
+    Halted g state edge desk sent (turns_of t.stands.parted.parts) (due_pieces g t.stands.parted.parts) (ALine x.line) k for_epsv →
+    IsCut g state edge desk sent hs ⊎ IsCut g state edge desk sent (x ∷ hs)
+heard-cut g state edge desk sent x k hs rest t (inl halted) = inl (record { rest = x.line ++ rest; parted = t.stands.parted; front = halted.0 })
+heard-cut g state edge desk sent x k hs rest t (inr heard) =
+    let front = heard.front in
+    inr (cut-heard g state edge desk sent sent x k hs rest heard.earlier heard.entry _ t heard.kind heard.answer front
+    (longer-more x (is_end heard.entry.decision) g.start.sent sent g.start.edge.paused edge.paused (greeting_of g) _ front.written))
+
+-- it was answered, and of what is said on the line a part was said
+pub heard-part : {state0 : ControlSession} {edge0 : EdgeView} {desk0 : DeskView} {sent0 : Option (List ℕ)} {for_epsv : Bool} (g : Ground) (state : ControlSession) (edge : EdgeView) (desk : DeskView) (sent sent1 : Option (List ℕ))
+    (x : HeardLine) (k : EventKind) (d : Decision) (hs : List HeardLine) (rest : List ℕ)
+    (t : IsTaken g state0 edge0 desk0 sent0 x k for_epsv hs rest) →
+    Spoken g state edge desk sent (turns_of t.stands.parted.parts) (due_pieces g t.stands.parted.parts) (ALine x.line) k d for_epsv →
+    is_end d ≡ false →
+    WritesFront sent sent1 (lines_said x.extra) →
+    IsCut g state edge desk sent1 (x ∷ hs)
+heard-part g state edge desk sent sent1 x k d hs rest t spoken live wrote =
+    let z = spoken.speaking in
+    let at = edge.paused in
+    cut-heard g state edge desk sent sent1 x k hs rest spoken.earlier spoken.entry _ t spoken.kind spoken.answer
+    (front-same g state edge edge desk desk sent _ _ z (omega arith) refl (same_desk desk))
+    (subst (SaysPieces g.start.sent sent1 g.start.edge.paused at (greeting_of g)) (sym (due-live x (is_end spoken.entry.decision) _ (ap is_end spoken.decision ∙ live)))
+    (pieces-behind g.start.sent sent sent1 g.start.edge.paused at at (greeting_of g) _ (line_pieces x.extra) z.written z.paused (part-said x.extra sent sent1 at wrote)))
+
+-- at an error it was cut short
+pub heard-err : (r : Result Next Halt) (g : Ground) (state : ControlSession) (edge : EdgeView) (desk : DeskView) (sent : Option (List ℕ)) (hs : List HeardLine) (x : HeardLine) (rest : List ℕ) →
+    IsErr r → IsCut g state edge desk sent hs ⊎ IsCut g state edge desk sent (x ∷ hs) → StandsBehindLine r g state edge desk sent hs x rest
+heard-err (Ok next) g state edge desk sent hs x rest err cut = cc
+heard-err (Err e) g state edge desk sent hs x rest err cut = cut
+
+-- what was read of a line is as which command it is heard
+pub read-heard : (refused : Bool) (line : List ℕ) (c : Command) → gives_password c ≡ false → IsHeardAs refused line c → heard_as line (parsed line) ≡ Some c
+read-heard false line c unsecret read = ap (heard_as line) read ∙ ap (λ (b : Bool). cond b None (Some c)) unsecret
+read-heard true line c unsecret read = ap (heard_as line) read.0 ∙ ap Some (sym read.1)
 
 -- ---- what was heard
 
--- what a line came to that was heard: it was carried out, or cut short
-pub pick-heard : (P : Next → List HeardLine → Type 0) (H A K : List HeardLine → Type 0) (r : Result Next Halt) (hs : List HeardLine) (x : HeardLine) →
-    A hs → A (x ∷ hs) → H (x ∷ hs) → IfOk r (λ n. P n (x ∷ hs)) → OnErr r (K hs ⊎ K (x ∷ hs)) →
-    (hs1 : List HeardLine) × A hs1 × IfOk r (λ n. P n hs1 × H hs1) × OnErr r (K hs1)
-pick-heard P H A K (Ok n) hs x a ax h p k = (x ∷ hs, ax, (p, h), tt)
-pick-heard P H A K (Err e) hs x a ax h p (inl k) = (hs, a, tt, k)
-pick-heard P H A K (Err e) hs x a ax h p (inr k) = (x ∷ hs, ax, tt, k)
-
--- and one that was not
-pub keep-heard : (P : Next → List HeardLine → Type 0) (H A K : List HeardLine → Type 0) (r : Result Next Halt) (hs : List HeardLine) →
-    A hs → H hs → IfOk r (λ n. P n hs) → OnErr r (K hs) →
-    (hs1 : List HeardLine) × A hs1 × IfOk r (λ n. P n hs1 × H hs1) × OnErr r (K hs1)
-keep-heard P H A K (Ok n) hs a h p k = (hs, a, (p, h), tt)
-keep-heard P H A K (Err e) hs a h p k = (hs, a, tt, k)
-
 -- it goes on only where nothing was cut short
-pub only-ok : {T E Q : Type 0} (r : Result T E) → OnErr r ⊥ → IfOk r (λ x. Q) → Q
+pub only-ok : {T E Q : Type 0} (r : Result T E) → OnErr r ⊥ → OnOk r Q → Q
 only-ok (Ok x) none q = q
 only-ok (Err e) none q = absurd none
 
 -- one line more was heard
-pub hears-more : (may0 may may1 : MayDoSo) (first pending pending1 : Option (List ℕ)) (hs : List HeardLine) (x : HeardLine) →
+hears-more : (may0 may may1 : MayDoSo) (first pending pending1 : Option (List ℕ)) (hs : List HeardLine) (x : HeardLine) →
     HearsLines may0 first may pending hs →
     x.before ≡ pending → may x.who x.before x.command x.line x.extra x.after → x.after ≡ pending1 →
     ((who : AskerView) (before : Option (List ℕ)) (c : Command) (l : List ℕ) (y : Extra) (after : Option (List ℕ)) → may1 who before c l y after → may who before c l y after) →
@@ -325,3 +277,31 @@ hears-more may0 may may1 first pending pending1 hs x h before done after kept =
       kept = after;
       within = λ who b c l y a m. h.within who b c l y a (kept who b c l y a m);
     }
+
+-- so the session stands behind a line that was heard, or was cut short before it or behind it
+pub served-heard :
+    (g : Ground) (state : ControlSession) (edge : EdgeView) (desk : DeskView) (sent : Option (List ℕ)) (rest : List ℕ) (r : Result Next Halt)
+    (may0 may may1 : MayDoSo) (first pending pending1 : Option (List ℕ)) (hs : List HeardLine) (x : HeardLine) →
+    HearsLines may0 first may pending hs →
+    x.before ≡ pending → may x.who x.before x.command x.line x.extra x.after → x.after ≡ pending1 →
+    ((who : AskerView) (before : Option (List ℕ)) (c : Command) (l : List ℕ) (y : Extra) (after : Option (List ℕ)) → may1 who before c l y after → may who before c l y after) →
+    StandsBehindLine r g state edge desk sent hs x rest →
+    ServesLines may0 first may1 pending1 r g state edge desk sent rest
+served-heard g state edge desk sent rest r may0 may may1 first pending pending1 hs x hears before done after kept at = by r at where
+  more : HearsLines may0 first may1 pending1 (x ∷ hs)
+  more = hears-more may0 may may1 first pending pending1 hs x hears before done after kept
+
+  by : (r : Result Next Halt) → StandsBehindLine r g state edge desk sent hs x rest → ServesLines may0 first may1 pending1 r g state edge desk sent rest
+  by (Ok next) stands = (x ∷ hs, more.allowed, more, stands)
+  by (Err e) (inl cut) = (hs, hears.allowed, tt, cut)
+  by (Err e) (inr cut) = (x ∷ hs, more.allowed, tt, cut)
+
+-- and so behind one that was not
+pub served-kept :
+    (g : Ground) (state : ControlSession) (edge : EdgeView) (desk : DeskView) (sent : Option (List ℕ)) (rest : List ℕ) (r : Result Next Halt)
+    (may0 may : MayDoSo) (first pending : Option (List ℕ)) (hs : List HeardLine) →
+    HearsLines may0 first may pending hs →
+    StandsBehind due_at r g state edge desk sent hs rest →
+    ServesLines may0 first may pending r g state edge desk sent rest
+served-kept g state edge desk sent rest (Ok next) may0 may first pending hs hears served = (hs, hears.allowed, hears, served)
+served-kept g state edge desk sent rest (Err e) may0 may first pending hs hears served = (hs, hears.allowed, tt, served)

@@ -20,13 +20,13 @@ use Rattle.ftp_talk.specs.declared.serving.ServeEnd.TheVariants as end
 use Rattle.ftp_talk.specs.Commands.{GivenBy}
 use Rattle.ftp_talk.specs.Control.{IsServedTo, Serves}
 use Rattle.ftp_talk.specs.ControlWith.{IsServedWith, ServesWith}
-use Rattle.ftp_talk.specs.Extended.{TalkHeard, TalkFrontHeard, OutcomeWith}
+use Rattle.ftp_talk.specs.Extended.{PartsBefore, TalkHeard, TalkFrontHeard, OutcomeWith}
 use Rattle.ftp_talk.specs.Ground.{Step, ALine, Turn, Start, Ground, history}
 use Rattle.ftp_talk.specs.Parts.{HeardLine, TalkPart, turns_of, with_heard, heard_in, MayDoSo, AreAllowed, GivesMore, IsHeard, ComesWith, Parts, with_said, with_spoken, is_epsv_line, is_epsv_at, pieces_for, turn_pieces, due_pieces, pieces_by}
 use Rattle.ftp_talk.specs.Pieces.{Pieces, pieces_of, piece_text, piece_delays, SaysPieces}
 use Rattle.ftp_talk.specs.Saying.{encodings, delays, IsPaused, SaysFront, said}
 use Rattle.ftp_talk.specs.Speaking.{Outcome}
-use Rattle.ftp_talk.specs.Talk.{Talk, TalkFront, due_replies, greeting_of, closed_by}
+use Rattle.ftp_talk.specs.Talk.{Talk, TalkFront, TurnsBefore, due_replies, greeting_of, closed_by}
 use Rattle.ftp_talk.specs.Turns.{Due, LineDue, due, Comes, Turns}
 use Rattle.ftp_talk.proofs.PieceLemmas.{text-replies, delays-replies, replies-pieces}
 
@@ -114,19 +114,19 @@ says-plain old new before after w rs h =
       paused = h.paused;
     }
 
+abbrev turned-plain : (g : Ground) (hs : List HeardLine) (rest : List ℕ) → PartsBefore g hs rest → ArePlain hs → TurnsBefore g rest
+turned-plain g hs rest p plain = record { turns = turns_of p.parts; cut = p.cut; ruled = turns-plain g p.parts p.ruled (subst ArePlain (sym p.heard) plain); long = p.long }
+
 -- the law, of a talk and of one that was cut short
 pub plain-talk : (g : Ground) (edge : EdgeView) (desk : DeskView) (sent : Option (List ℕ)) (hs : List HeardLine) → ArePlain hs → TalkHeard g edge desk sent hs → Talk g edge desk sent
 plain-talk g edge desk sent hs plain t =
-    let all = subst ArePlain (sym t.heard) plain in
-    let replies = due_replies g (closed_by t.close (turns_of t.parts)) in
-    let same = closed-plain g t.close t.parts all in
+    let all = subst ArePlain (sym t.parted.heard) plain in
+    let replies = due_replies g (closed_by t.close (turns_of t.parted.parts)) in
+    let same = closed-plain g t.close t.parted.parts all in
     record {
-      turns = turns_of t.parts;
-      close = t.close;
       rest = t.rest;
-      cut = t.cut;
-      ruled = turns-plain g t.parts t.ruled all;
-      long = t.long;
+      turned = turned-plain g hs t.rest t.parted plain;
+      close = t.close;
       ended = t.ended;
       seen = t.seen;
       grew = t.grew;
@@ -139,22 +139,19 @@ plain-talk g edge desk sent hs plain t =
 
 pub plain-front : (g : Ground) (edge : EdgeView) (desk : DeskView) (sent : Option (List ℕ)) (hs : List HeardLine) → ArePlain hs → TalkFrontHeard g edge desk sent hs → TalkFront g edge desk sent
 plain-front g edge desk sent hs plain t =
-    let all = subst ArePlain (sym t.heard) plain in
-    let replies = due_replies g (closed_by t.close (turns_of t.parts)) in
+    let all = subst ArePlain (sym t.parted.heard) plain in
+    let replies = due_replies g (closed_by t.close (turns_of t.parted.parts)) in
     record {
-      turns = turns_of t.parts;
-      close = t.close;
       rest = t.rest;
-      cut = t.cut;
-      ruled = turns-plain g t.parts t.ruled all;
-      long = t.long;
+      turned = turned-plain g hs t.rest t.parted plain;
+      close = t.close;
       closing = t.closing;
       seen = t.seen;
       grew = t.grew;
       vouched = t.vouched;
       share = t.share;
       written = says-plain g.start.sent sent g.start.edge.paused edge.paused (greeting_of g) replies
-          (subst (SaysPieces g.start.sent sent g.start.edge.paused edge.paused (greeting_of g)) (closed-plain g t.close t.parts all) t.written);
+          (subst (SaysPieces g.start.sent sent g.start.edge.paused edge.paused (greeting_of g)) (closed-plain g t.close t.parted.parts all) t.written);
     }
 
 -- ---- where nothing else may be done

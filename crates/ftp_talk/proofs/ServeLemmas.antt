@@ -1,13 +1,17 @@
 -- A step and its entry.
 use Rattle.std.proofs.Common.{◌≡◌, ℕ, Bool, true, false, cond, List, [], ◌∷◌, ◌++◌, length, Option, Some, None, refl, sym, ap, subst, ◌∙◌, append_assoc, arith, inl, inr}
-use Rattle.std.specs.Prelude.{unwrap_or, IfSome, Result, Ok, Err, IfOk, OnErr}
+use Rattle.std.specs.Prelude.{unwrap_or, IfSome, Result, Ok, Err, IsErr}
+use Rattle.ftp_base.specs.declared.message.ControlChanMsg.{ControlChanMsg}
+use Rattle.ftp_base.specs.declared.reply.Reply.{Reply}
 use Rattle.ftp_base.specs.declared.login.AuthAnswer.{AuthAnswer}
 use Rattle.ftp_base.specs.declared.net.IpAddr.{IpAddr}
 use Rattle.ftp_base.specs.Edge.{Feed, EdgeView, IsCounted}
 use Rattle.ftp_events.specs.declared.decision.Decision.{Decision}
 use Rattle.ftp_events.specs.declared.decision.Decision.TheVariants as decision
 use Rattle.ftp_events.specs.declared.entry.Entry.{Entry}
+use Rattle.ftp_events.specs.declared.event.Answer.TheVariants as answer
 use Rattle.ftp_events.specs.declared.event.EventKind.{EventKind}
+use Rattle.ftp_events.specs.declared.event.EventKind.TheVariants as kind
 use Rattle.ftp_events.specs.Login.{user_name}
 use Rattle.ftp_shared.specs.Outbox.{own_session}
 use Rattle.ftp_control.specs.declared.command.Command.{Command}
@@ -16,21 +20,23 @@ use Rattle.ftp_control.specs.declared.line.LineError.{LineError}
 use Rattle.ftp_control.specs.declared.line.LineError.TheVariants as error
 use Rattle.ftp_control.specs.Line.{parsed}
 use Rattle.ftp_shared.specs.Desk.{DeskView, SameDesk, RisesBy}
-use Rattle.ftp_control.specs.ControlLine.{IsLong}
+use Rattle.ftp_control.specs.ControlLine.{IsLine, IsLong}
 use Rattle.ftp_talk.specs.declared.control_session.ControlSession.{ControlSession}
+use Rattle.ftp_talk.specs.declared.halt.Halt.{Halt}
 use Rattle.ftp_talk.specs.declared.serving.Next.{Next}
 use Rattle.ftp_talk.specs.declared.serving.Next.TheVariants as next
-use Rattle.ftp_talk.specs.Ground.{Step, ALine, Turn, Ground, history, line_of, lines_in}
-use Rattle.ftp_talk.specs.Commands.{Gives, refused_as}
-use Rattle.ftp_talk.specs.Turns.{Due, LineDue, NothingDue, AnswerDue, is_end, due, due_by, due_behind, Comes}
+use Rattle.ftp_talk.specs.Ground.{Step, ALine, AnAnswer, AnIdleTick, ASlotTick, ALongLine, Turn, Ground, history, line_of, lines_in}
+use Rattle.ftp_talk.specs.Commands.{Gives, GivenBy, refused_as}
+use Rattle.ftp_talk.specs.Turns.{Due, LineDue, NothingDue, AnswerDue, SlotTickDue, is_end, due, due_by, due_behind, Comes}
 use Rattle.ftp_talk.specs.Seen.{IsDrawn, behind_kind, missing_in, failed_in, feed_after, all_missing, all_failed}
 use Rattle.ftp_extras.specs.Extra.{gives_password}
-use Rattle.ftp_talk.specs.Parts.{HeardLine, TalkPart, turns_of, is_heard_step, due_pieces}
+use Rattle.ftp_talk.specs.Parts.{HeardLine, turns_of, with_heard, is_heard_line, is_heard_step, ComesWith, due_pieces}
 use Rattle.ftp_talk.specs.Pieces.{Pieces, piece_delays}
 use Rattle.ftp_talk.specs.Saying.{IsPaused}
+use Rattle.ftp_talk.specs.Extended.{PartsBefore}
 use Rattle.ftp_talk.specs.Talk.{IsInput, is_long}
 use Rattle.ftp_talk.specs.Serving.{is_out, next_of, behind_refusal}
-use Rattle.ftp_talk.specs.Speaking.{Knows, IsGround, SameEdge, Speaking, Asking, Spoken, Halted, Standing, IsCut, due_at, turn_of}
+use Rattle.ftp_talk.specs.Speaking.{Knows, IsGround, SameEdge, Speaking, Asked, Asking, IsSpoken, Standing, IsCut, MayStep, StandsBehind, due_at, turn_of}
 use Rattle.ftp_talk.proofs.TalkLemmas.{counted-more, kept-same, rises-same, front-same}
 
 -- what is there is what is told
@@ -80,7 +86,7 @@ ground-same g h edge edge1 desk desk1 is edges desks =
     }
 
 -- what was asked for an event, behind turns that were spoken
-pub asking-from : (g : Ground) (state : ControlSession) (edge edge1 : EdgeView) (desk desk1 : DeskView) (sent : Option (List ℕ)) (ts : List Turn) (pieces : Pieces) (k : EventKind) →
+asking-from : (g : Ground) (state : ControlSession) (edge edge1 : EdgeView) (desk desk1 : DeskView) (sent : Option (List ℕ)) (ts : List Turn) (pieces : Pieces) (k : EventKind) →
     Speaking g state edge desk sent ts pieces →
     own_session k ≡ Some g.session →
     IfSome edge.feed (λ f. IsDrawn g (history g ts) k f × (edge1.feed ≡ Some (behind_kind g (history g ts) k f))) →
@@ -108,21 +114,48 @@ asking-from g state edge edge1 desk desk1 sent ts pieces k s named drawn missing
     }
 
 -- an event for which nothing is asked
+pub record AsksNothing (g : Ground) (h : List Entry) (k : EventKind) : Type 0 where
+  pub named : own_session k ≡ Some g.session
+  pub drawn : (f : Feed) → IsDrawn g h k f
+  pub same : (f : Feed) → behind_kind g h k f ≡ f
+  pub missing : missing_in g h k ≡ 0
+  pub failed : failed_in k ≡ 0
+
 pub asking-plain : (g : Ground) (state : ControlSession) (edge : EdgeView) (desk : DeskView) (sent : Option (List ℕ)) (ts : List Turn) (pieces : Pieces) (k : EventKind) →
-    Speaking g state edge desk sent ts pieces →
-    own_session k ≡ Some g.session →
-    ((f : Feed) → IsDrawn g (history g ts) k f) →
-    ((f : Feed) → behind_kind g (history g ts) k f ≡ f) →
-    missing_in g (history g ts) k ≡ 0 →
-    failed_in k ≡ 0 →
-    Asking g state edge desk sent ts pieces k
-asking-plain g state edge desk sent ts pieces k s named drawn same missing failed =
-    asking-from g state edge edge desk desk sent ts pieces k s named
-    (told_self edge.feed (λ f is. (drawn f, is ∙ ap Some (sym (same f)))))
-    (λ lt. omega (arith, missing)) (λ lt. omega (arith, failed)) (same_edge edge) (same_desk desk)
+    Speaking g state edge desk sent ts pieces → AsksNothing g (history g ts) k → Asking g state edge desk sent ts pieces k
+asking-plain g state edge desk sent ts pieces k s a =
+    asking-from g state edge edge desk desk sent ts pieces k s a.named
+    (told_self edge.feed (λ f is. (a.drawn f, is ∙ ap Some (sym (a.same f)))))
+    (λ lt. omega (arith, a.missing)) (λ lt. omega (arith, a.failed)) (same_edge edge) (same_desk desk)
+
+-- for a message of the control layer nothing is asked
+pub told-plain : (g : Ground) (h : List Entry) (m : ControlChanMsg) (k : EventKind) → k ≡ kind.Internal g.session m → AsksNothing g h k
+told-plain g h m k is = subst (AsksNothing g h) (sym is) (record { named = refl; drawn = λ f. tt; same = λ f. refl; missing = refl; failed = refl })
+
+-- nor for the answer to a line that is refused
+pub refused-plain : (g : Ground) (h : List Entry) (e : LineError) (k : EventKind) → k ≡ refused_as g.session e → AsksNothing g h k
+refused-plain g h error.Utf8 k is = told-plain g h _ k is
+refused-plain g h error.InvalidEol k is = told-plain g h _ k is
+refused-plain g h error.InvalidCommand k is = told-plain g h _ k is
+refused-plain g h error.OutOfMemory k is = told-plain g h _ k is
+
+-- nor for that to a password
+unheard-plain : (g : Ground) (h : List Entry) (r : Result Command LineError) (k : EventKind) → GivenBy g h r k → is_heard_line r ≡ false → AsksNothing g h k
+unheard-plain g h (Ok (command.Pass password)) k is unheard = subst (AsksNothing g h) (sym is) (record { named = refl; drawn = λ f. tt; same = λ f. refl; missing = refl; failed = refl })
+unheard-plain g h (Ok c) k is unheard = cc
+unheard-plain g h (Err e) k is unheard = refused-plain g h e k is
+
+-- nor for any other step on which no line is heard
+step-plain : (g : Ground) (h : List Entry) (old : Due) (step : Step) (k : EventKind) → Comes g h old step k → is_heard_step step ≡ false → AsksNothing g h k
+step-plain g h LineDue (ALine line) k comes unheard = unheard-plain g h (parsed line) k comes.1 unheard
+step-plain g h LineDue AnIdleTick k comes unheard = subst (AsksNothing g h) (sym comes.1) (record { named = refl; drawn = λ f. tt; same = λ f. refl; missing = refl; failed = refl })
+step-plain g h LineDue ALongLine k comes unheard = told-plain g h _ k comes
+step-plain g h (AnswerDue password) AnAnswer k comes unheard = subst (AsksNothing g h) (sym comes.1) (record { named = refl; drawn = λ f. tt; same = λ f. refl; missing = refl; failed = refl })
+step-plain g h SlotTickDue ASlotTick k comes unheard = subst (AsksNothing g h) (sym comes) (record { named = refl; drawn = λ f. tt; same = λ f. refl; missing = refl; failed = refl })
+step-plain g h _ _ k comes unheard = absurd comes
 
 -- an event of a line is one of the session of the talk
-pub own-of : (g : Ground) (h : List Entry) (c : Command) (k : EventKind) → Gives g h c k → own_session k ≡ Some g.session
+own-of : (g : Ground) (h : List Entry) (c : Command) (k : EventKind) → Gives g h c k → own_session k ≡ Some g.session
 own-of g h (command.User name) k e = ap own_session e
 own-of g h (command.Pass password) k e = ap own_session e
 own-of g h (command.Cwd path) k e = ap own_session e.1
@@ -137,13 +170,11 @@ own-of g h command.Noop k e = ap own_session e
 own-of g h command.TypeCmd k e = ap own_session e
 own-of g h (command.Other word) k e = ap own_session e
 
--- the answer to a line that is refused, and what is asked for it: nothing
-pub refused-plain : (g : Ground) (state : ControlSession) (edge : EdgeView) (desk : DeskView) (sent : Option (List ℕ)) (ts : List Turn) (pieces : Pieces) (s : ℕ) (e : LineError) →
-    Speaking g state edge desk sent ts pieces → s ≡ g.session → Asking g state edge desk sent ts pieces (refused_as s e)
-refused-plain g state edge desk sent ts pieces s error.Utf8 spoken is = asking-plain g state edge desk sent ts pieces (refused_as s error.Utf8) spoken (ap Some is) (λ f. tt) (λ f. refl) refl refl
-refused-plain g state edge desk sent ts pieces s error.InvalidEol spoken is = asking-plain g state edge desk sent ts pieces (refused_as s error.InvalidEol) spoken (ap Some is) (λ f. tt) (λ f. refl) refl refl
-refused-plain g state edge desk sent ts pieces s error.InvalidCommand spoken is = asking-plain g state edge desk sent ts pieces (refused_as s error.InvalidCommand) spoken (ap Some is) (λ f. tt) (λ f. refl) refl refl
-refused-plain g state edge desk sent ts pieces s error.OutOfMemory spoken is = asking-plain g state edge desk sent ts pieces (refused_as s error.OutOfMemory) spoken (ap Some is) (λ f. tt) (λ f. refl) refl refl
+-- what was asked for a command
+pub asking-asked : (g : Ground) (state : ControlSession) (edge edge1 : EdgeView) (desk desk1 : DeskView) (sent : Option (List ℕ)) (ts : List Turn) (pieces : Pieces) (c : Command) (k : EventKind) →
+    Speaking g state edge desk sent ts pieces → Asked g (history g ts) c k edge edge1 desk.faults desk1.faults → SameEdge edge edge1 → SameDesk desk desk1 → Asking g state edge1 desk1 sent ts pieces k
+asking-asked g state edge edge1 desk desk1 sent ts pieces c k s asked edges desks =
+    asking-from g state edge edge1 desk desk1 sent ts pieces k s (own-of g (history g ts) c k asked.gives) asked.feed asked.edge asked.storage edges desks
 
 -- ---- what is due
 
@@ -193,96 +224,104 @@ line-due line r d on same e = next-due d (due_behind (parsed line) d) on (ap (λ
 
 -- ---- standing
 
-pub input-same : (input : Option (List ℕ)) (a b : List ℕ) → a ≡ b → IsInput input a → IsInput input b
-input-same input a b e h = subst (IsInput input) e h
+-- an event comes of a step where what is due, and its kind, are the same
+comes-same : (g : Ground) (h : List Entry) (old new : Due) (step : Step) (k j : EventKind) → new ≡ old → j ≡ k → Comes g h old step k → Comes g h new step j
+comes-same g h old new step k j stands is comes =
+    subst (λ (x : EventKind). Comes g h new step x) (sym is) (subst (λ (x : Due). Comes g h x step k) (sym stands) comes)
 
--- a step was spoken behind parts
-pub standing-spoken : (g : Ground) (state0 state : ControlSession) (edge0 edge : EdgeView) (desk0 desk : DeskView) (sent0 sent : Option (List ℕ))
-    (old new : Due) (step : Step) (k : EventKind) (d : Decision) (hs : List HeardLine) (rest : List ℕ)
-    (s : Standing old g state0 edge0 desk0 sent0 hs (line_of step ++ rest)) →
-    Spoken g state edge desk sent (turns_of s.parts) (due_pieces g s.parts) step k d false →
-    Comes g (history g (turns_of s.parts)) old step k →
-    is_heard_step step ≡ false →
-    (is_long step ≡ true → IsLong rest) →
-    due_by step d ≡ new →
-    Standing new g state edge desk sent hs rest
-standing-spoken g state0 state edge0 edge desk0 desk sent0 sent old new step k d hs rest s spoken comes unheard long is =
-    let ts = turns_of s.parts in
+-- one part more
+abbrev pub parted-more : (g : Ground) (x : Option HeardLine) (t : Turn) (hs : List HeardLine) (rest : List ℕ) (p : PartsBefore g hs (line_of t.step ++ rest)) →
+    ComesWith g (turns_of p.parts) x t → t.entry.answer ≡ answer.None → (is_long t.step ≡ true → IsLong rest) → PartsBefore g (with_heard x hs) rest
+parted-more g x t hs rest p comes answer long =
     record {
-      parts = record { turn = turn_of step spoken.earlier spoken.entry; heard = None } ∷ s.parts;
-      cut = input-same g.start.input (lines_in ts ++ (line_of step ++ rest)) ((lines_in ts ++ line_of step) ++ rest) (sym (append_assoc (lines_in ts) (line_of step) rest)) s.cut;
-      ruled = (
-        s.ruled,
-        (
-          subst (λ (x : EventKind). Comes g (history g ts) (due ts) step x) (sym spoken.kind)
-              (subst (λ (x : Due). Comes g (history g ts) x step k) (sym s.stands) comes),
-          unheard,
-        ),
-        spoken.answer,
-      );
-      heard = s.heard;
+      parts = record { turn = t; heard = x } ∷ p.parts;
+      cut = subst (IsInput g.start.input) (sym (append_assoc (lines_in (turns_of p.parts)) (line_of t.step) rest)) p.cut;
+      ruled = (p.ruled, comes, answer);
+      heard = ap (with_heard x) p.heard;
       long = long;
-      speaking = spoken.speaking;
-      stands = ap (due_by step) spoken.decision ∙ is;
     }
 
--- a step was cut short behind parts
-pub cut-spoken : (g : Ground) (state0 state : ControlSession) (edge0 edge : EdgeView) (desk0 desk : DeskView) (sent0 sent : Option (List ℕ))
-    (old : Due) (step : Step) (k : EventKind) (hs : List HeardLine) (rest : List ℕ)
+-- a step more, on which no line is heard
+abbrev step-parted : (g : Ground) (state : ControlSession) (edge : EdgeView) (desk : DeskView) (sent : Option (List ℕ)) (old : Due) (step : Step) (k : EventKind) (hs : List HeardLine) (rest : List ℕ)
+    (earlier : List (ℕ × Reply)) (e : Entry) →
+    Standing old g state edge desk sent hs (line_of step ++ rest) → MayStep g state old step k rest → e.event.kind ≡ k → e.answer ≡ answer.None → PartsBefore g hs rest
+step-parted g state edge desk sent old step k hs rest earlier e s may is answer =
+    let ts = turns_of s.parted.parts in
+    let comes = comes-same g (history g ts) old (due ts) step k e.event.kind s.stands is (may.comes (history g ts) s.speaking.known) in
+    parted-more g None (turn_of step earlier e) hs rest s.parted (comes, may.unheard) answer may.long
+
+-- it was taken behind parts, or cut short
+pub step-served : (g : Ground) (state0 state : ControlSession) (edge0 edge : EdgeView) (desk0 desk : DeskView) (sent0 sent : Option (List ℕ))
+    (old : Due) (step : Step) (k : EventKind) (r : Result Decision Halt) (hs : List HeardLine) (rest : List ℕ)
     (s : Standing old g state0 edge0 desk0 sent0 hs (line_of step ++ rest)) →
-    Halted g state edge desk sent (turns_of s.parts) (due_pieces g s.parts) step k false →
-    Comes g (history g (turns_of s.parts)) old step k →
-    is_heard_step step ≡ false →
-    (is_long step ≡ true → IsLong rest) →
-    IsCut g state edge desk sent hs
-cut-spoken g state0 state edge0 edge desk0 desk sent0 sent old step k hs rest s (inl halted) comes unheard long =
-    record { parts = s.parts; rest = line_of step ++ rest; cut = s.cut; ruled = s.ruled; heard = s.heard; long = s.long; front = halted.0 }
-cut-spoken g state0 state edge0 edge desk0 desk sent0 sent old step k hs rest s (inr heard) comes unheard long =
-    let ts = turns_of s.parts in
-    record {
-      parts = record { turn = turn_of step heard.earlier heard.entry; heard = None } ∷ s.parts;
-      rest = rest;
-      cut = input-same g.start.input (lines_in ts ++ (line_of step ++ rest)) ((lines_in ts ++ line_of step) ++ rest) (sym (append_assoc (lines_in ts) (line_of step) rest)) s.cut;
-      ruled = (
-        s.ruled,
-        (
-          subst (λ (x : EventKind). Comes g (history g ts) (due ts) step x) (sym heard.kind)
-              (subst (λ (x : Due). Comes g (history g ts) x step k) (sym s.stands) comes),
-          unheard,
-        ),
-        heard.answer,
-      );
-      heard = s.heard;
-      long = long;
-      front = heard.front;
-    }
+    MayStep g state0 old step k rest →
+    IsSpoken r g state edge desk sent (turns_of s.parted.parts) (due_pieces g s.parted.parts) step k false →
+    StandsBehind (due_by step) r g state edge desk sent hs rest
+step-served g state0 state edge0 edge desk0 desk sent0 sent old step k (Ok d) hs rest s may spoken = record {
+  parted = step-parted g state0 edge0 desk0 sent0 old step k hs rest spoken.earlier spoken.entry s may spoken.kind spoken.answer;
+  speaking = spoken.speaking;
+  stands = ap (due_by step) spoken.decision;
+}
+step-served g state0 state edge0 edge desk0 desk sent0 sent old step k (Err e) hs rest s may (inl halted) =
+    record { rest = line_of step ++ rest; parted = s.parted; front = halted.0 }
+step-served g state0 state edge0 edge desk0 desk sent0 sent old step k (Err e) hs rest s may (inr heard) = record {
+  rest = rest;
+  parted = step-parted g state0 edge0 desk0 sent0 old step k hs rest heard.earlier heard.entry s may heard.kind heard.answer;
+  front = heard.front;
+}
+
+-- nothing is asked for it
+pub asking-step : (g : Ground) (state : ControlSession) (edge : EdgeView) (desk : DeskView) (sent : Option (List ℕ)) (ts : List Turn) (pieces : Pieces) (old : Due) (step : Step) (k : EventKind) (rest : List ℕ) →
+    Speaking g state edge desk sent ts pieces → MayStep g state old step k rest → Asking g state edge desk sent ts pieces k
+asking-step g state edge desk sent ts pieces old step k rest s may =
+    asking-plain g state edge desk sent ts pieces k s (step-plain g (history g ts) old step k (may.comes (history g ts) s.known) may.unheard)
 
 -- parts that stand are cut where nothing was submitted since
 pub cut-standing : (g : Ground) (state : ControlSession) (edge edge1 : EdgeView) (desk desk1 : DeskView) (sent : Option (List ℕ)) (d : Due) (hs : List HeardLine) (rest : List ℕ) →
     Standing d g state edge desk sent hs rest → SameEdge edge edge1 → SameDesk desk desk1 → IsCut g state edge1 desk1 sent hs
 cut-standing g state edge edge1 desk desk1 sent d hs rest s edges desks =
     record {
-      parts = s.parts;
       rest = rest;
-      cut = s.cut;
-      ruled = s.ruled;
-      heard = s.heard;
-      long = s.long;
-      front = front-same g state edge edge1 desk desk1 sent (turns_of s.parts) (due_pieces g s.parts) s.speaking edges.count edges.paused desks;
+      parted = s.parted;
+      front = front-same g state edge edge1 desk desk1 sent (turns_of s.parted.parts) (due_pieces g s.parted.parts) s.speaking edges.count edges.paused desks;
     }
 
--- ---- what follows from what is said of a result
+pub cut-here : (g : Ground) (state : ControlSession) (edge : EdgeView) (desk : DeskView) (sent : Option (List ℕ)) (d : Due) (hs : List HeardLine) (rest : List ℕ) →
+    Standing d g state edge desk sent hs rest → IsCut g state edge desk sent hs
+cut-here g state edge desk sent d hs rest s = cut-standing g state edge edge desk desk sent d hs rest s (same_edge edge) (same_desk desk)
 
-pub if_ok-then : {T E : Type 0} {P Q : T → Type 0} (r : Result T E) → ((x : T) → P x → Q x) → IfOk r P → IfOk r Q
-if_ok-then (Ok x) f p = f x p
-if_ok-then (Err e) f p = tt
+-- what stands, stands where the same is due
+pub standing-due : (g : Ground) (state : ControlSession) (edge : EdgeView) (desk : DeskView) (sent : Option (List ℕ)) (hs : List HeardLine) (rest : List ℕ) (d e : Due) →
+    d ≡ e → Standing d g state edge desk sent hs rest → Standing e g state edge desk sent hs rest
+standing-due g state edge desk sent hs rest d e same s = subst (λ (x : Due). Standing x g state edge desk sent hs rest) same s
 
-pub on_err-then : {T E P Q : Type 0} (r : Result T E) → (P → Q) → OnErr r P → OnErr r Q
-on_err-then (Ok x) f p = tt
-on_err-then (Err e) f p = f p
+-- at an error it was cut short
+pub served-err : {T : Type 0} (due_by : T → Due) (r : Result T Halt) (g : Ground) (state : ControlSession) (edge : EdgeView) (desk : DeskView) (sent : Option (List ℕ)) (hs : List HeardLine) (rest : List ℕ) →
+    IsErr r → IsCut g state edge desk sent hs → StandsBehind due_by r g state edge desk sent hs rest
+served-err due_by (Ok x) g state edge desk sent hs rest err cut = cc
+served-err due_by (Err e) g state edge desk sent hs rest err cut = cut
+
+-- ---- what may come
+
+-- the answer to a line that is refused and not heard
+pub refused-may : (g : Ground) (state : ControlSession) (line : List ℕ) (e : LineError) (k : EventKind) (rest : List ℕ) →
+    IsLine line → parsed line ≡ Err e → is_heard_line (Err e) ≡ false → k ≡ refused_as state.session e → MayStep g state LineDue (ALine line) k rest
+refused-may g state line e k rest is_line same unheard is = record {
+  comes = λ h knows. (is_line, subst (λ (r : Result Command LineError). GivenBy g h r k) (sym same) (is ∙ ap (λ (n : ℕ). refused_as n e) knows.session));
+  unheard = ap is_heard_line same ∙ unheard;
+  long = λ h. cc;
+}
+
+-- a password
+pub password-may : (g : Ground) (state : ControlSession) (line : List ℕ) (p : _) (rest : List ℕ) → IsLine line → parsed line ≡ Ok (command.Pass p) → MayStep g state LineDue (ALine line) (kind.Pass state.session) rest
+password-may g state line p rest is_line same = record {
+  comes = λ h knows. (is_line, subst (λ (r : Result Command LineError). GivenBy g h r (kind.Pass state.session)) (sym same) (ap (λ (n : ℕ). kind.Pass n) knows.session));
+  unheard = ap is_heard_line same;
+  long = λ h. cc;
+}
 
 -- an answer on what the state knows is one on what the entries tell
-pub may_be : (g : Ground) (state : ControlSession) (h : List Entry) (may : List ℕ → List ℕ → IpAddr → AuthAnswer → Bool) (password : List ℕ) (said : AuthAnswer) →
+may_be : (g : Ground) (state : ControlSession) (h : List Entry) (may : List ℕ → List ℕ → IpAddr → AuthAnswer → Bool) (password : List ℕ) (said : AuthAnswer) →
     Knows g state h →
     g.start.answers ≡ may →
     may (unwrap_or state.name []) password state.client said ≡ true →
@@ -291,3 +330,12 @@ may_be g state h may password said knows same is =
     subst (λ (m : List ℕ → List ℕ → IpAddr → AuthAnswer → Bool). m (unwrap_or (user_name h) []) password g.client said ≡ true) (sym same)
     (subst (λ (n : Option (List ℕ)). may (unwrap_or n []) password g.client said ≡ true) knows.name
     (subst (λ (a : IpAddr). may (unwrap_or state.name []) password a said ≡ true) knows.client is))
+
+-- and where it is out, that answer
+pub answer-may : (g : Ground) (state : ControlSession) (may : List ℕ → List ℕ → IpAddr → AuthAnswer → Bool) (password : List ℕ) (said : AuthAnswer) (rest : List ℕ) →
+    g.start.answers ≡ may → may (unwrap_or state.name []) password state.client said ≡ true → MayStep g state (AnswerDue password) AnAnswer (kind.AuthDone state.session said) rest
+answer-may g state may password said rest same is = record {
+  comes = λ h knows. (said, ap (λ (n : ℕ). kind.AuthDone n said) knows.session, may_be g state h may password said knows same is);
+  unheard = refl;
+  long = λ h. cc;
+}

@@ -13,40 +13,40 @@ use Rattle.ftp_talk.specs.Saying.{IsPaused}
 use Rattle.ftp_talk.specs.Seen.{IsSeen}
 use Rattle.ftp_talk.specs.Talk.{greeting_of, IsInput, Grew, AreVouched, Shares, is_long_last, is_over, IsEnded, IsLeft, closed_by}
 
+-- parts of a talk in which these lines were heard, and behind them this rest of the input
+pub record PartsBefore (g : Ground) (hs : List HeardLine) (rest : List ℕ) : Type 0 where
+  pub parts : List TalkPart
+  pub cut : IsInput g.start.input (lines_in (turns_of parts) ++ rest)
+  pub ruled : Parts g parts
+  pub heard : heard_in parts ≡ hs
+  pub long : is_long_last (turns_of parts) ≡ true → IsLong rest
+
 -- a talk in which these lines were heard: as a talk of the profile, but for the events of those lines, and what is said on
 -- them
 pub record TalkHeard (g : Ground) (edge : EdgeView) (desk : DeskView) (sent : Option (List ℕ)) (hs : List HeardLine) : Type 0 where
-  pub parts : List TalkPart
-  pub close : Option Turn
   pub rest : List ℕ
-  pub cut : IsInput g.start.input (lines_in (turns_of parts) ++ rest)
-  pub ruled : Parts g parts
-  pub heard : heard_in parts ≡ hs
-  pub long : is_long_last (turns_of parts) ≡ true → IsLong rest
-  pub ended : IsEnded g close (turns_of parts) rest
-  pub seen : IsSeen g (closed_by close (turns_of parts)) edge desk.faults
-  pub grew : Grew g desk (closed_by close (turns_of parts))
-  pub vouched : AreVouched g (closed_by close (turns_of parts))
-  pub last : g.start.vouches ≡ true → is_over (closed_by close (turns_of parts)) ≡ true
-  pub share : Shares g desk (closed_by close (turns_of parts))
-  pub written : Writes g.start.sent sent (greeting_of g ++ piece_text (pieces_by g close parts))
-  pub paused : IsPaused (piece_delays (pieces_by g close parts)) g.start.edge.paused edge.paused
+  pub parted : PartsBefore g hs rest
+  pub close : Option Turn
+  pub ended : IsEnded g close (turns_of parted.parts) rest
+  pub seen : IsSeen g (closed_by close (turns_of parted.parts)) edge desk.faults
+  pub grew : Grew g desk (closed_by close (turns_of parted.parts))
+  pub vouched : AreVouched g (closed_by close (turns_of parted.parts))
+  pub last : g.start.vouches ≡ true → is_over (closed_by close (turns_of parted.parts)) ≡ true
+  pub share : Shares g desk (closed_by close (turns_of parted.parts))
+  pub written : Writes g.start.sent sent (greeting_of g ++ piece_text (pieces_by g close parted.parts))
+  pub paused : IsPaused (piece_delays (pieces_by g close parted.parts)) g.start.edge.paused edge.paused
 
 -- such a talk that was cut short
 pub record TalkFrontHeard (g : Ground) (edge : EdgeView) (desk : DeskView) (sent : Option (List ℕ)) (hs : List HeardLine) : Type 0 where
-  pub parts : List TalkPart
-  pub close : Option Turn
   pub rest : List ℕ
-  pub cut : IsInput g.start.input (lines_in (turns_of parts) ++ rest)
-  pub ruled : Parts g parts
-  pub heard : heard_in parts ≡ hs
-  pub long : is_long_last (turns_of parts) ≡ true → IsLong rest
-  pub closing : IsLeft g desk close (turns_of parts)
-  pub seen : IsSeen g (turns_of parts) edge desk.faults
-  pub grew : Grew g desk (closed_by close (turns_of parts))
-  pub vouched : AreVouched g (closed_by close (turns_of parts))
-  pub share : Shares g desk (closed_by close (turns_of parts))
-  pub written : SaysPieces g.start.sent sent g.start.edge.paused edge.paused (greeting_of g) (pieces_by g close parts)
+  pub parted : PartsBefore g hs rest
+  pub close : Option Turn
+  pub closing : IsLeft g desk close (turns_of parted.parts)
+  pub seen : IsSeen g (turns_of parted.parts) edge desk.faults
+  pub grew : Grew g desk (closed_by close (turns_of parted.parts))
+  pub vouched : AreVouched g (closed_by close (turns_of parted.parts))
+  pub share : Shares g desk (closed_by close (turns_of parted.parts))
+  pub written : SaysPieces g.start.sent sent g.start.edge.paused edge.paused (greeting_of g) (pieces_by g close parted.parts)
 
 -- a talk in which on each line was done what may be done
 abbrev pub TalkWith : MayDoSo → Option (List ℕ) → Ground → EdgeView → DeskView → Option (List ℕ) → Type 0

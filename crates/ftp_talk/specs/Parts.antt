@@ -119,6 +119,11 @@ abbrev pub Parts : Ground → List TalkPart → Type 0
 Parts g [] = ⊤
 Parts g (p ∷ ps) = Parts g ps × ComesWith g (turns_of ps) p.heard p.turn × (p.turn.entry.answer ≡ answer.None)
 
+-- what is said on a line
+abbrev pub lines_said : Extra → List ℕ
+lines_said (extra.Say bytes) = bytes
+lines_said _ = []
+
 -- bytes that are said go behind the replies
 abbrev pub with_said : Extra → Pieces → Pieces
 with_said (extra.Say bytes) pieces = pieces ++ (0, bytes) ∷ []

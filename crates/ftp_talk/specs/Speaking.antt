@@ -1,5 +1,5 @@
 -- What is kept while a talk goes on.
-use Rattle.std.specs.Prelude.{◌≡◌, ℕ, ◌+◌, ◌%◌, ◌^◌, ◌≤◌, ◌⊎◌, Bool, true, false, List, [], ◌∷◌, ◌++◌, Option, Some, None, IfSome, MatchOption, is_some, Ok, Err}
+use Rattle.std.specs.Prelude.{◌≡◌, ℕ, ◌+◌, ◌%◌, ◌^◌, ◌≤◌, ◌⊎◌, ⊤, Bool, true, false, List, [], ◌∷◌, ◌++◌, Option, Some, None, IfSome, MatchOption, is_some, Result, Ok, Err, OnOk}
 use Rattle.std.specs.Bool.{then_some}
 use Rattle.std.specs.List.{AllByRecursion}
 use Rattle.ftp_base.specs.declared.login.AuthAnswer.{AuthAnswer}
@@ -20,10 +20,12 @@ use Rattle.ftp_options.specs.Modes.{is_active_off}
 use Rattle.ftp_events.specs.declared.session.Login.TheVariants as login
 use Rattle.ftp_shared.specs.Outbox.{own_session}
 use Rattle.ftp_control.specs.declared.command.Command.{Command}
-use Rattle.ftp_control.specs.declared.command.Command.TheVariants.{Other, Pasv}
+use Rattle.ftp_control.specs.declared.command.Command.TheVariants.{Other}
 use Rattle.ftp_control.specs.declared.line.LineError.TheVariants.{InvalidCommand}
 use Rattle.ftp_control.specs.Parameter.{first_word}
-use Rattle.ftp_control.specs.Lines.{Rest}
+use Rattle.ftp_control.specs.declared.control_line.Got.{Got}
+use Rattle.ftp_control.specs.declared.control_line.Got.TheVariants as got
+use Rattle.ftp_control.specs.Lines.{Rest, IsWithin, bytes_in}
 use Rattle.ftp_shared.specs.Desk.{DeskView, IsVouched, Appends, RisesBy}
 use Rattle.ftp_control.specs.ControlLine.{IsLine, IsLong}
 use Rattle.ftp_talk.specs.declared.control_session.Peer.{Peer}
@@ -34,19 +36,18 @@ use Rattle.ftp_talk.specs.declared.serving.Next.{Next}
 use Rattle.ftp_talk.specs.declared.serving.Next.TheVariants as next
 use Rattle.ftp_talk.specs.declared.serving.ServeEnd.{ServeEnd}
 use Rattle.ftp_talk.specs.declared.serving.ServeEnd.TheVariants as end
-use Rattle.ftp_talk.specs.Ground.{Step, Turn, Ground, history, lines_in}
+use Rattle.ftp_talk.specs.Ground.{Step, Turn, Ground, history}
 use Rattle.ftp_extras.specs.declared.extra.Extra.{Extra}
-use Rattle.ftp_extras.specs.declared.extra.Extra.TheVariants as extra
 use Rattle.ftp_extras.specs.Extra.{AskerView, gives_password, is_beside, IsWhole}
 use Rattle.ftp_control.specs.Line.{parsed}
 use Rattle.ftp_talk.specs.Commands.{is_in, asked_of, connected_to, looked_up, bound_in, MayBe, Gives}
-use Rattle.ftp_talk.specs.Turns.{Due, LineDue, CloseDue, NothingDue, due}
+use Rattle.ftp_talk.specs.Turns.{Due, LineDue, CloseDue, NothingDue, due, Comes}
 use Rattle.ftp_talk.specs.Seen.{IsSeen, IsDrawn, IsAsked, missing, behind_asked, AreFed, behind_kind, missing_in, failed_in, feed_after, all_missing, all_failed}
-use Rattle.ftp_talk.specs.Talk.{Talk, TalkFront, IsInput, AreVouched, Shares, greeting_of, is_over, is_long_last}
+use Rattle.ftp_talk.specs.Talk.{Talk, TalkFront, AreVouched, Shares, greeting_of, is_over, is_long}
 use Rattle.ftp_talk.specs.Saying.{IsPaused}
 use Rattle.ftp_talk.specs.Pieces.{Pieces, piece_text, piece_delays, SaysPieces}
-use Rattle.ftp_talk.specs.Parts.{HeardLine, TalkPart, turns_of, heard_in, MayDoSo, AreAllowed, kept_behind, Parts, heard_as, pieces_for, due_pieces}
-use Rattle.ftp_talk.specs.Extended.{TalkHeard, TalkFrontHeard}
+use Rattle.ftp_talk.specs.Parts.{HeardLine, turns_of, MayDoSo, AreAllowed, kept_behind, heard_as, is_heard_step, pieces_for, due_pieces}
+use Rattle.ftp_talk.specs.Extended.{PartsBefore, TalkHeard, TalkFrontHeard}
 
 -- what a state knows is what these entries tell
 pub record Knows (g : Ground) (state : ControlSession) (h : List Entry) : Type 0 where
@@ -208,25 +209,33 @@ pub record Heard (g : Ground) (state : ControlSession) (edge : EdgeView) (desk :
 abbrev pub Halted : Ground → ControlSession → EdgeView → DeskView → Option (List ℕ) → List Turn → Pieces → Step → EventKind → Bool → Type 0
 Halted g state edge desk sent ts pieces step k epsv = (Front g state edge desk sent ts pieces × HasRisen g.start.desk.refused desk.refused) ⊎ Heard g state edge desk sent ts pieces step k epsv
 
+-- it was decided so and answered, or that was cut short
+abbrev pub IsSpoken : Result Decision Halt → Ground → ControlSession → EdgeView → DeskView → Option (List ℕ) → List Turn → Pieces → Step → EventKind → Bool → Type 0
+IsSpoken (Ok d) g state edge desk sent ts pieces step k epsv = Spoken g state edge desk sent ts pieces step k d epsv
+IsSpoken (Err halt) g state edge desk sent ts pieces step k epsv = Halted g state edge desk sent ts pieces step k epsv
+
 -- parts were spoken in which these lines were heard, this is due behind them, and this is the rest of the input
 pub record Standing (d : Due) (g : Ground) (state : ControlSession) (edge : EdgeView) (desk : DeskView) (sent : Option (List ℕ)) (hs : List HeardLine) (rest : List ℕ) : Type 0 where
-  pub parts : List TalkPart
-  pub cut : IsInput g.start.input (lines_in (turns_of parts) ++ rest)
-  pub ruled : Parts g parts
-  pub heard : heard_in parts ≡ hs
-  pub long : is_long_last (turns_of parts) ≡ true → IsLong rest
-  pub speaking : Speaking g state edge desk sent (turns_of parts) (due_pieces g parts)
-  pub stands : due (turns_of parts) ≡ d
+  pub parted : PartsBefore g hs rest
+  pub speaking : Speaking g state edge desk sent (turns_of parted.parts) (due_pieces g parted.parts)
+  pub stands : due (turns_of parted.parts) ≡ d
 
 -- some parts were spoken, the last perhaps not to its end
 pub record IsCut (g : Ground) (state : ControlSession) (edge : EdgeView) (desk : DeskView) (sent : Option (List ℕ)) (hs : List HeardLine) : Type 0 where
-  pub parts : List TalkPart
   pub rest : List ℕ
-  pub cut : IsInput g.start.input (lines_in (turns_of parts) ++ rest)
-  pub ruled : Parts g parts
-  pub heard : heard_in parts ≡ hs
-  pub long : is_long_last (turns_of parts) ≡ true → IsLong rest
-  pub front : Front g state edge desk sent (turns_of parts) (due_pieces g parts)
+  pub parted : PartsBefore g hs rest
+  pub front : Front g state edge desk sent (turns_of parted.parts) (due_pieces g parted.parts)
+
+-- a step may come where this is due, as a state knows; no line is heard on it, and a line that is too long stands next
+pub record MayStep (g : Ground) (state : ControlSession) (old : Due) (step : Step) (k : EventKind) (rest : List ℕ) : Type 0 where
+  pub comes : (h : List Entry) → Knows g state h → Comes g h old step k
+  pub unheard : is_heard_step step ≡ false
+  pub long : is_long step ≡ true → IsLong rest
+
+-- what was served stands, and this is due behind it; or it was cut short
+abbrev pub StandsBehind : {T : Type 0} → (T → Due) → Result T Halt → Ground → ControlSession → EdgeView → DeskView → Option (List ℕ) → List HeardLine → List ℕ → Type 0
+StandsBehind due_by (Ok x) g state edge desk sent hs rest = Standing (due_by x) g state edge desk sent hs rest
+StandsBehind due_by (Err halt) g state edge desk sent hs rest = IsCut g state edge desk sent hs
 
 -- what is due where this comes next
 abbrev pub due_at : Next → Due
@@ -239,6 +248,18 @@ pub record Talking (g : Ground) (state : ControlSession) (edge : EdgeView) (desk
   pub rest : List ℕ
   pub standing : Standing LineDue g state edge desk sent hs rest
   pub read : IfSome g.start.input (λ all. Rest held left rest)
+
+-- a line that was got stands in the buffer
+abbrev pub IsLineWithin : List ℕ → Got → Type 0
+IsLineWithin buffer (got.Line span) = IsWithin buffer span
+IsLineWithin buffer _ = ⊤
+
+-- what was got may come before this rest, as the control can be read at any time or not
+abbrev pub IsGot : Bool → List ℕ → Got → List ℕ → Type 0
+IsGot always buffer (got.Line span) rest = IsLine (bytes_in buffer span)
+IsGot always buffer got.Wait rest = always ≡ false
+IsGot always buffer got.Long rest = IsLong rest
+IsGot always buffer _ rest = ⊤
 
 -- how a talk ended
 abbrev pub Outcome : ServeEnd → Ground → EdgeView → DeskView → Option (List ℕ) → Type 0
@@ -265,21 +286,15 @@ pub record IsHearing (state : ControlSession) (x : HeardLine) : Type 0 where
   pub beside : is_beside x.command x.extra ≡ true
   pub whole : IsWhole x.extra
 
--- on a line that was heard this command is carried out
-abbrev pub Carries : List ℕ → Extra → Command → Type 0
-Carries line extra.Pass done = parsed line ≡ Ok done
-Carries line (extra.As other) done = other ≡ done
-Carries line extra.Epsv done = Pasv ≡ done
-Carries line _ done = ⊥
-
 -- what was read of a line: this command, or that it is refused for the parameter of this word
 abbrev pub IsHeardAs : Bool → List ℕ → Command → Type 0
 IsHeardAs false line c = parsed line ≡ Ok c
 IsHeardAs true line c = (parsed line ≡ Err InvalidCommand) × (c ≡ Other (first_word line))
 
--- a line was cut short: before its turn, or in it
-abbrev pub IsCutAt : Ground → ControlSession → EdgeView → DeskView → Option (List ℕ) → List HeardLine → HeardLine → Type 0
-IsCutAt g state edge desk sent hs x = IsCut g state edge desk sent hs ⊎ IsCut g state edge desk sent (x ∷ hs)
+-- a line that was heard was served; or it was cut short before its turn, or in it
+abbrev pub StandsBehindLine : Result Next Halt → Ground → ControlSession → EdgeView → DeskView → Option (List ℕ) → List HeardLine → HeardLine → List ℕ → Type 0
+StandsBehindLine (Ok next) g state edge desk sent hs x rest = Standing (due_at next) g state edge desk sent (x ∷ hs) rest
+StandsBehindLine (Err halt) g state edge desk sent hs x rest = IsCut g state edge desk sent hs ⊎ IsCut g state edge desk sent (x ∷ hs)
 
 -- what was heard so far is allowed by what the extras may do, and what they keep is what was kept last
 pub record HearsLines (may0 : MayDoSo) (first : Option (List ℕ)) (may : MayDoSo) (pending : Option (List ℕ)) (hs : List HeardLine) : Type 0 where
@@ -287,6 +302,11 @@ pub record HearsLines (may0 : MayDoSo) (first : Option (List ℕ)) (may : MayDoS
   pub kept : kept_behind first hs ≡ pending
   pub within : (who : AskerView) (before : Option (List ℕ)) (c : Command) (l : List ℕ) (x : Extra) (after : Option (List ℕ)) →
       may who before c l x after → may0 who before c l x after
+
+-- what was served stands, and what was heard so far is allowed, or it was cut short
+abbrev pub ServesLines : MayDoSo → Option (List ℕ) → MayDoSo → Option (List ℕ) → Result Next Halt → Ground → ControlSession → EdgeView → DeskView → Option (List ℕ) → List ℕ → Type 0
+ServesLines may0 first may pending r g state edge desk sent rest =
+    (hs : List HeardLine) × AreAllowed may0 first hs × OnOk r (HearsLines may0 first may pending hs) × StandsBehind due_at r g state edge desk sent hs rest
 
 -- how a talk ends where it goes no further
 abbrev pub end_by : Halt → ServeEnd

@@ -92,37 +92,38 @@ abbrev pub closed_by : Option Turn → List Turn → List Turn
 closed_by None ts = ts
 closed_by (Some t) ts = t ∷ ts
 
+-- turns of a talk, and behind them this rest of the input
+pub record TurnsBefore (g : Ground) (rest : List ℕ) : Type 0 where
+  pub turns : List Turn
+  pub cut : IsInput g.start.input (lines_in turns ++ rest)
+  pub ruled : Turns g turns
+  pub long : is_long_last turns ≡ true → IsLong rest
+
 -- a talk: lines of the input with their entries, as edge, storage and authenticator answered, up to its end; all that was due
 -- was sent, and the delays of its replies were paused. What is not told is not spoken of. Where the desk vouches for its
 -- entries, the last one ends the session
 pub record Talk (g : Ground) (edge : EdgeView) (desk : DeskView) (sent : Option (List ℕ)) : Type 0 where
-  pub turns : List Turn
-  pub close : Option Turn
   pub rest : List ℕ
-  pub cut : IsInput g.start.input (lines_in turns ++ rest)
-  pub ruled : Turns g turns
-  pub long : is_long_last turns ≡ true → IsLong rest
-  pub ended : IsEnded g close turns rest
-  pub seen : IsSeen g (closed_by close turns) edge desk.faults
-  pub grew : Grew g desk (closed_by close turns)
-  pub vouched : AreVouched g (closed_by close turns)
-  pub last : g.start.vouches ≡ true → is_over (closed_by close turns) ≡ true
-  pub share : Shares g desk (closed_by close turns)
-  pub written : Writes g.start.sent sent (due_text g (closed_by close turns))
-  pub paused : ArePaused g edge (closed_by close turns)
+  pub turned : TurnsBefore g rest
+  pub close : Option Turn
+  pub ended : IsEnded g close turned.turns rest
+  pub seen : IsSeen g (closed_by close turned.turns) edge desk.faults
+  pub grew : Grew g desk (closed_by close turned.turns)
+  pub vouched : AreVouched g (closed_by close turned.turns)
+  pub last : g.start.vouches ≡ true → is_over (closed_by close turned.turns) ≡ true
+  pub share : Shares g desk (closed_by close turned.turns)
+  pub written : Writes g.start.sent sent (due_text g (closed_by close turned.turns))
+  pub paused : ArePaused g edge (closed_by close turned.turns)
 
 -- a talk that was cut short: turns from its front, then one that closes the connection, where the session had not ended and
 -- its event was taken; a front of what was due was sent, each reply behind its delay
 pub record TalkFront (g : Ground) (edge : EdgeView) (desk : DeskView) (sent : Option (List ℕ)) : Type 0 where
-  pub turns : List Turn
-  pub close : Option Turn
   pub rest : List ℕ
-  pub cut : IsInput g.start.input (lines_in turns ++ rest)
-  pub ruled : Turns g turns
-  pub long : is_long_last turns ≡ true → IsLong rest
-  pub closing : IsLeft g desk close turns
-  pub seen : IsSeen g turns edge desk.faults
-  pub grew : Grew g desk (closed_by close turns)
-  pub vouched : AreVouched g (closed_by close turns)
-  pub share : Shares g desk (closed_by close turns)
-  pub written : SaysSome g edge sent (closed_by close turns)
+  pub turned : TurnsBefore g rest
+  pub close : Option Turn
+  pub closing : IsLeft g desk close turned.turns
+  pub seen : IsSeen g turned.turns edge desk.faults
+  pub grew : Grew g desk (closed_by close turned.turns)
+  pub vouched : AreVouched g (closed_by close turned.turns)
+  pub share : Shares g desk (closed_by close turned.turns)
+  pub written : SaysSome g edge sent (closed_by close turned.turns)

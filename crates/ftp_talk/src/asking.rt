@@ -11,14 +11,17 @@ ghost use Rattle.ftp_shared.specs.Outbox.{has_ticket};
 ghost use Rattle.ftp_transfer.specs.Path.{join_path};
 ghost use Rattle.ftp_shared.specs.Desk.{SameDesk, MaySay, drawn_after};
 ghost use Rattle.ftp_talk.specs.Commands.{asked_of, connected_to, of_peer, MayBe, told_as, refused_as, too_long};
-ghost use Rattle.ftp_talk.specs.Ground.{Ground};
+ghost use Rattle.ftp_talk.specs.Ground.{Turn, Ground, history};
+ghost use Rattle.ftp_talk.specs.Parts.{GivesMore, lines_said};
+ghost use Rattle.ftp_talk.specs.Pieces.{Pieces};
 ghost use Rattle.ftp_talk.specs.Seen.{IsAsked, missing, behind_asked, failed_in};
-ghost use Rattle.ftp_talk.specs.Speaking.{Knows, IsGround, SameEdge, Asked, IsPort, IsMade, target_for};
+ghost use Rattle.ftp_talk.specs.Speaking.{Knows, IsGround, SameEdge, Asked, Asking, IsHeardAs, IsPort, IsMade, Speaking, target_for};
 
 use crate::control_session::ControlSession;
 use ftp_base::{Bytes, ControlChanMsg, Edge, ErrorKind, Reply, ReplyCode, ReplyText, SocketAddr};
 use ftp_control::{Command, LineError};
 use ftp_events::{EventKind, Login, port_target};
+use ftp_extras::Extra;
 use ftp_shared::Desk;
 use ftp_transfer::join_path;
 use std::alloc::AllocError;
@@ -59,6 +62,50 @@ impl ControlSession {
             Command::TypeCmd => self.told_as(ReplyCode::CommandOkay, b"Always in binary mode"),
             Command::Other { .. } => {
                 self.told_as(ReplyCode::CommandSyntaxError, b"Command not implemented")
+            }
+        }
+    }
+
+    // Asks for the event of a line that was heard, on which the extras do this, and gives what is said behind its reply.
+    pub(crate) fn ask_heard<D: Desk, E: Edge>(
+        &self,
+        desk: &mut D,
+        edge: &mut E,
+        command: Command,
+        is_refused: bool,
+        extra: Extra,
+    ) -> Result<(EventKind, Bytes), AllocError>
+        ensures asked { IfOk result (λ k. (g : Ground) (sent : Option (List ℕ)) (ts : List Turn) (pieces : Pieces) (line : List ℕ) → g.start.draws_next ≡ D.draws_next →
+            Speaking g self.now (E.view edge.old) (D.view desk.old) sent ts pieces → IsHeardAs is_refused line command →
+            GivesMore g (history g ts) line extra k.0 × Asking g self.now (E.view edge.new) (D.view desk.new) sent ts pieces k.0) }
+        ensures lines { IfOk result (λ k. k.1 ≡ lines_said extra) }
+        ensures unticketed { IfOk result (λ k. has_ticket k.0 ≡ false) }
+        ensures edge { SameEdge (E.view edge.old) (E.view edge.new) }
+        ensures desk { SameDesk (D.view desk.old) (D.view desk.new) }
+    {
+        let session = self.session;
+        let nothing = Bytes::from_vec(Vec::new(self.alloc));
+        match extra {
+            Extra::Pass => {
+                if is_refused {
+                    let refused = self.refused_as(LineError::InvalidCommand)?;
+                    return Ok((refused, nothing));
+                }
+                let own = self.ask(desk, edge, command)?;
+                Ok((own, nothing))
+            }
+            Extra::Tell(message) => Ok((EventKind::Internal { session, message }, nothing)),
+            Extra::Say(lines) => {
+                let message = ControlChanMsg::CommandChannelReply(Reply::None);
+                Ok((EventKind::Internal { session, message }, lines))
+            }
+            Extra::As(other) => {
+                let done = self.ask(desk, edge, other)?;
+                Ok((done, nothing))
+            }
+            Extra::Epsv => {
+                let port = self.ask(desk, edge, Command::Pasv)?;
+                Ok((port, nothing))
             }
         }
     }

@@ -1,15 +1,15 @@
 //! What comes to pass besides lines: looks at times, lines that are too long, and the end.
 
-ghost use Rattle.std.specs.Prelude.{◌≡◌, ◌≤◌, ◌++◌, [], ℕ, List, Option, Some, true, false, IfSome, IfNone, IfOk, OnErr, IsErrOf, ◌⊎◌};
+ghost use Rattle.std.specs.Prelude.{◌≡◌, ◌≤◌, ◌++◌, [], ℕ, List, Option, Some, true, false, IfSome, IfNone, OnErr, IsErrOf, ◌⊎◌};
 ghost use Rattle.ftp_base.specs.Outside.{HasRisen};
 ghost use Rattle.ftp_control.specs.ControlLine.{IsLong};
 ghost use Rattle.ftp_talk.specs.declared.halt.Halt.TheVariants.{Exhausted, Fault};
 ghost use Rattle.ftp_talk.specs.Ground.{Ground};
-ghost use Rattle.ftp_talk.specs.Turns.{Due, LineDue, SlotTickDue};
+ghost use Rattle.ftp_talk.specs.Turns.{Due, LineDue};
 ghost use Rattle.ftp_talk.specs.Talk.{MayClose};
 ghost use Rattle.ftp_talk.specs.Parts.{HeardLine};
 ghost use Rattle.ftp_talk.specs.Extended.{TalkFrontHeard};
-ghost use Rattle.ftp_talk.specs.Speaking.{IsCut, Standing, OutcomeHeard, due_at, end_by, IsAbout};
+ghost use Rattle.ftp_talk.specs.Speaking.{IsCut, Standing, OutcomeHeard, StandsBehind, due_at, end_by, IsAbout};
 
 use crate::control_session::{ControlSession, is_end};
 use crate::halt::Halt;
@@ -47,7 +47,7 @@ impl ControlSession {
         ensures count { C.faults control.old ≤ C.faults control.new }
     {
         let session = self.session;
-        match self.submit_and_reply(desk, control, edge, EventKind::Closed { session }) {
+        match self.submit_for(desk, control, edge, EventKind::Closed { session }, false) {
             Ok(_) => ServeEnd::Ended,
             Err(halt) => end_by(halt),
         }
@@ -78,11 +78,10 @@ impl ControlSession {
         next: Result<Next, Halt>,
     ) -> Option<ServeEnd>
         ensures goes_on { IfNone result ((C.left control.new ≡ C.left control.old) × OnErr next ⊥ × ((g : Ground) (hs : List HeardLine) (rest : List ℕ) →
-            IfOk next (λ n. Standing (due_at n) g self.old (E.view edge.old) (D.view desk.old) (C.sending control.old).sent hs rest) →
+            StandsBehind due_at next g self.old (E.view edge.old) (D.view desk.old) (C.sending control.old).sent hs rest →
             Standing LineDue g self.new (E.view edge.new) (D.view desk.new) (C.sending control.new).sent hs rest)) }
         ensures ended { IfSome result (λ end. (g : Ground) (hs : List HeardLine) (rest : List ℕ) → IsAbout g D.vouches D.draws_next →
-            IfOk next (λ n. Standing (due_at n) g self.old (E.view edge.old) (D.view desk.old) (C.sending control.old).sent hs rest) →
-            OnErr next (IsCut g self.old (E.view edge.old) (D.view desk.old) (C.sending control.old).sent hs) →
+            StandsBehind due_at next g self.old (E.view edge.old) (D.view desk.old) (C.sending control.old).sent hs rest →
             OutcomeHeard end g (E.view edge.new) (D.view desk.new) (C.sending control.new).sent hs) }
         ensures no_read_fault { result ≡ Some ServeEnd.ReadFault → HasRisen (C.faults control.old) (C.faults control.new) }
         ensures write_fault { result ≡ Some ServeEnd.WriteFault → IsErrOf next Fault ⊎ HasRisen (C.faults control.old) (C.faults control.new) }
@@ -107,53 +106,26 @@ impl ControlSession {
         control: &mut C,
         edge: &mut E,
     ) -> Result<Next, Halt>
-        ensures served { IfOk result (λ next. (g : Ground) (hs : List HeardLine) (rest : List ℕ) → IsAbout g D.vouches D.draws_next → g.start.ready ≡ false →
+        ensures served { (g : Ground) (hs : List HeardLine) (rest : List ℕ) → IsAbout g D.vouches D.draws_next → g.start.ready ≡ false →
             Standing LineDue g self.old (E.view edge.old) (D.view desk.old) (C.sending control.old).sent hs rest →
-            Standing (due_at next) g self.new (E.view edge.new) (D.view desk.new) (C.sending control.new).sent hs rest) }
-        ensures cut { OnErr result ((g : Ground) (hs : List HeardLine) (rest : List ℕ) → IsAbout g D.vouches D.draws_next → g.start.ready ≡ false →
-            Standing LineDue g self.old (E.view edge.old) (D.view desk.old) (C.sending control.old).sent hs rest →
-            IsCut g self.new (E.view edge.new) (D.view desk.new) (C.sending control.new).sent hs) }
+            StandsBehind due_at result g self.new (E.view edge.new) (D.view desk.new) (C.sending control.new).sent hs rest }
         ensures left { C.left control.new ≡ C.left control.old }
         ensures fault_rose { IsErrOf result Fault → HasRisen (C.faults control.old) (C.faults control.new) }
         ensures exhausted { IsErrOf result Exhausted → D.exhausts ≡ true }
         ensures count { C.faults control.old ≤ C.faults control.new }
     {
-        let session = self.session;
-        match self.submit_and_reply(desk, control, edge, EventKind::IdleTick { session }) {
-            Ok(decision) => {
-                if is_end(decision) {
-                    Ok(Next::Over)
-                } else {
-                    self.look(desk, control, edge)
-                }
-            }
-            Err(halt) => Err(halt),
+        let kind = EventKind::IdleTick {
+            session: self.session,
+        };
+        let decision = self.take_step(desk, control, edge, kind)?;
+        if is_end(decision) {
+            return Ok(Next::Over);
         }
-    }
-
-    // Looks at the slot of the session.
-    fn look<D: Desk, C: Control, E: Edge>(
-        &mut self,
-        desk: &mut D,
-        control: &mut C,
-        edge: &mut E,
-    ) -> Result<Next, Halt>
-        ensures served { IfOk result (λ next. (g : Ground) (hs : List HeardLine) (rest : List ℕ) → IsAbout g D.vouches D.draws_next →
-            Standing SlotTickDue g self.old (E.view edge.old) (D.view desk.old) (C.sending control.old).sent hs rest →
-            Standing (due_at next) g self.new (E.view edge.new) (D.view desk.new) (C.sending control.new).sent hs rest) }
-        ensures cut { OnErr result ((g : Ground) (hs : List HeardLine) (rest : List ℕ) → IsAbout g D.vouches D.draws_next →
-            Standing SlotTickDue g self.old (E.view edge.old) (D.view desk.old) (C.sending control.old).sent hs rest →
-            IsCut g self.new (E.view edge.new) (D.view desk.new) (C.sending control.new).sent hs) }
-        ensures left { C.left control.new ≡ C.left control.old }
-        ensures fault_rose { IsErrOf result Fault → HasRisen (C.faults control.old) (C.faults control.new) }
-        ensures exhausted { IsErrOf result Exhausted → D.exhausts ≡ true }
-        ensures count { C.faults control.old ≤ C.faults control.new }
-    {
-        let session = self.session;
-        match self.submit_and_reply(desk, control, edge, EventKind::SlotTick { session }) {
-            Ok(decision) => Ok(next_of(decision, Next::GoOn)),
-            Err(halt) => Err(halt),
-        }
+        let kind = EventKind::SlotTick {
+            session: self.session,
+        };
+        let looked = self.take_step(desk, control, edge, kind)?;
+        Ok(next_of(looked, Next::GoOn))
     }
 
     // Answers a line that is too long, and stands next.
@@ -163,12 +135,9 @@ impl ControlSession {
         control: &mut C,
         edge: &mut E,
     ) -> Result<Next, Halt>
-        ensures served { IfOk result (λ next. (g : Ground) (hs : List HeardLine) (rest : List ℕ) → IsAbout g D.vouches D.draws_next → IsLong rest →
+        ensures served { (g : Ground) (hs : List HeardLine) (rest : List ℕ) → IsAbout g D.vouches D.draws_next → IsLong rest →
             Standing LineDue g self.old (E.view edge.old) (D.view desk.old) (C.sending control.old).sent hs rest →
-            Standing (due_at next) g self.new (E.view edge.new) (D.view desk.new) (C.sending control.new).sent hs rest) }
-        ensures cut { OnErr result ((g : Ground) (hs : List HeardLine) (rest : List ℕ) → IsAbout g D.vouches D.draws_next → IsLong rest →
-            Standing LineDue g self.old (E.view edge.old) (D.view desk.old) (C.sending control.old).sent hs rest →
-            IsCut g self.new (E.view edge.new) (D.view desk.new) (C.sending control.new).sent hs) }
+            StandsBehind due_at result g self.new (E.view edge.new) (D.view desk.new) (C.sending control.new).sent hs rest }
         ensures left { C.left control.new ≡ C.left control.old }
         ensures fault_rose { IsErrOf result Fault → HasRisen (C.faults control.old) (C.faults control.new) }
         ensures exhausted { IsErrOf result Exhausted → D.exhausts ≡ true }
@@ -177,9 +146,7 @@ impl ControlSession {
         let Ok(kind) = self.too_long() else {
             return Err(Halt::Memory);
         };
-        match self.submit_and_reply(desk, control, edge, kind) {
-            Ok(decision) => Ok(next_of(decision, Next::Close)),
-            Err(halt) => Err(halt),
-        }
+        let decision = self.take_step(desk, control, edge, kind)?;
+        Ok(next_of(decision, Next::Close))
     }
 }

@@ -1,7 +1,6 @@
 //! Why a talk goes no further.
 
 use ftp_base::Failed;
-use std::alloc::AllocError;
 
 /// Why an event was not taken, or a reply was not sent.
 #[derive(Clone, Copy, Debug, PartialEq, Eq)]
@@ -24,16 +23,5 @@ impl From<Failed> for Halt {
             Failed::Fault => Halt::Fault,
             Failed::Memory => Halt::Memory,
         }
-    }
-}
-
-impl From<AllocError> for Halt {
-    ghost use Rattle.std.specs.Prelude.{◌≡◌};
-    ghost use Rattle.ftp_talk.specs.declared.halt.Halt.TheVariants.{Memory};
-
-    ghost from_gives = { λ _ halt. halt ≡ Memory };
-
-    fn from(_error: AllocError) -> Halt {
-        Halt::Memory
     }
 }

@@ -1,21 +1,58 @@
 //! The lines of a control connection, one after the other, to their end.
 
-ghost use Rattle.std.specs.Prelude.{◌≡◌, ◌≤◌, [], List, true, Option, Some, length, IfSome, IfNone};
+ghost use Rattle.std.specs.Prelude.{◌≡◌, ◌≤◌, ◌++◌, [], ℕ, List, true, Option, Some, length, IfSome, IfNone, IsErrOf};
 ghost use Rattle.ftp_base.specs.Outside.{HasRisen};
-ghost use Rattle.ftp_control.specs.ControlLine.{IsHeld, held_in};
+ghost use Rattle.ftp_control.specs.ControlLine.{IsHeld, held_in, line_in};
+ghost use Rattle.ftp_talk.specs.declared.halt.Halt.TheVariants.{Exhausted, Fault};
 ghost use Rattle.ftp_talk.specs.Ground.{Ground};
 ghost use Rattle.ftp_talk.specs.Extended.{OutcomeWith};
 ghost use Rattle.ftp_talk.specs.Parts.{HeardLine};
-ghost use Rattle.ftp_talk.specs.Speaking.{Talking, HearsLines, IsOf};
+ghost use Rattle.ftp_talk.specs.Speaking.{Talking, HearsLines, IsGot, IsLineWithin, IsOf, ServesLines, Standing};
+ghost use Rattle.ftp_talk.specs.Turns.{LineDue};
 
 use crate::control_session::ControlSession;
-use crate::serving::ServeEnd;
+use crate::halt::Halt;
+use crate::serving::{Next, ServeEnd};
 use ftp_base::{Authenticator, Control, Edge};
 use ftp_control::{Got, Held, Span, next_control_line, widen};
 use ftp_extras::Extras;
 use ftp_shared::Desk;
 
 impl ControlSession {
+    // Serves what was read.
+    fn serve_got<D: Desk, C: Control, E: Edge, A: Authenticator, X: Extras>(
+        &mut self,
+        desk: &mut D,
+        control: &mut C,
+        edge: &mut E,
+        auth: &A,
+        extras: &mut X,
+        bytes: &[u8],
+        got: Got,
+    ) -> Result<Next, Halt>
+        requires within { IsLineWithin bytes.now got }
+        ensures served { (g : Ground) (x0 : X) (hs : List HeardLine) (rest : List ℕ) → IsOf g D.vouches D.draws_next C.is_always_ready (A.may_answer auth.now) →
+            HearsLines (X.may x0) (X.pending x0) (X.may extras.old) (X.pending extras.old) hs →
+            Standing LineDue g self.old (E.view edge.old) (D.view desk.old) (C.sending control.old).sent hs (line_in bytes.now got ++ rest) → IsGot C.is_always_ready bytes.now got rest →
+            ServesLines (X.may x0) (X.pending x0) (X.may extras.new) (X.pending extras.new) result g self.new (E.view edge.new) (D.view desk.new) (C.sending control.new).sent rest }
+        ensures left { C.left control.new ≡ C.left control.old }
+        ensures fault_rose { IsErrOf result Fault → HasRisen (C.faults control.old) (C.faults control.new) }
+        ensures exhausted { IsErrOf result Exhausted → D.exhausts ≡ true }
+        ensures count { C.faults control.old ≤ C.faults control.new }
+        ensures extras_count { X.faults extras.old ≤ X.faults extras.new }
+    {
+        match got {
+            Got::Line(span) => {
+                let line = &bytes[span.start..span.end];
+                self.serve_line(desk, control, edge, auth, extras, line)
+            }
+            Got::Wait => self.tick(desk, control, edge),
+            Got::Long => self.serve_long(desk, control, edge),
+            Got::Full => Ok(Next::GoOn),
+            Got::End => Ok(Next::GoOn),
+        }
+    }
+
     // Reads a line and serves it. It gives the end where that comes.
     fn serve_next<D: Desk, C: Control, E: Edge, A: Authenticator, X: Extras>(
         &mut self,
@@ -47,21 +84,11 @@ impl ControlSession {
         ensures len { length buffer.new ≡ length buffer.old }
     {
         match next_control_line(buffer, held, control) {
-            Ok(Got::Line(span)) => {
-                let line = &buffer[span.start..span.end];
-                let next = self.serve_line(desk, control, edge, auth, extras, line);
-                self.proceed(desk, control, edge, next)
-            }
-            Ok(Got::Wait) => {
-                let next = self.tick(desk, control, edge);
-                self.proceed(desk, control, edge, next)
-            }
-            Ok(Got::Long) => {
-                let next = self.serve_long(desk, control, edge);
-                self.proceed(desk, control, edge, next)
-            }
-            Ok(Got::Full) => None,
             Ok(Got::End) => Some(self.close(desk, control, edge)),
+            Ok(got) => {
+                let next = self.serve_got(desk, control, edge, auth, extras, buffer, got);
+                self.proceed(desk, control, edge, next)
+            }
             Err(_) => {
                 self.leave(desk, edge);
                 Some(ServeEnd::ReadFault)

@@ -1,24 +1,23 @@
 //! A talk, line by line.
 
-ghost use Rattle.std.specs.Prelude.{◌≡◌, ◌≤◌, ◌++◌, [], ◌∷◌, ℕ, List, Option, true, false, IfOk, Ok, Err, unwrap_or, OnErr, IsErrOf};
+ghost use Rattle.std.specs.Prelude.{◌≡◌, ◌≤◌, ◌++◌, [], ℕ, List, Option, true, false, Ok, Err, unwrap_or, IsErrOf};
 ghost use Rattle.ftp_base.specs.Outside.{HasRisen};
 ghost use Rattle.ftp_control.specs.declared.command.Command.TheVariants as command;
-ghost use Rattle.ftp_control.specs.declared.line.LineError.TheVariants.{InvalidCommand};
 ghost use Rattle.ftp_control.specs.Line.{parsed};
 ghost use Rattle.ftp_control.specs.ControlLine.{IsLine};
 ghost use Rattle.ftp_talk.specs.declared.halt.Halt.TheVariants.{Exhausted, Fault};
-ghost use Rattle.ftp_talk.specs.Ground.{Ground, ALine};
-ghost use Rattle.ftp_talk.specs.Turns.{LineDue, AnswerDue};
+ghost use Rattle.ftp_talk.specs.Ground.{Ground};
+ghost use Rattle.ftp_talk.specs.Turns.{LineDue};
 ghost use Rattle.ftp_extras.specs.Extra.{gives_password};
 ghost use Rattle.ftp_talk.specs.Commands.{is_in};
-ghost use Rattle.ftp_talk.specs.Parts.{HeardLine, AreAllowed, is_epsv_line, is_heard_line};
-ghost use Rattle.ftp_talk.specs.Speaking.{IsCut, IsCutAt, IsHearing, IsHeardAs, Carries, HearsLines, Standing, due_at, IsAbout};
+ghost use Rattle.ftp_talk.specs.Parts.{HeardLine, is_epsv_line, is_heard_line};
+ghost use Rattle.ftp_talk.specs.Speaking.{IsHearing, IsHeardAs, HearsLines, ServesLines, Standing, StandsBehind, StandsBehindLine, due_at, IsAbout};
 ghost use Rattle.ftp_talk.specs.Serving.{is_out, next_of, behind_refusal};
 
 use crate::control_session::{ControlSession, is_end};
 use crate::halt::Halt;
 use crate::saying::write_all;
-use ftp_base::{AuthAnswer, Authenticator, Bytes, Control, ControlChanMsg, Edge, Reply};
+use ftp_base::{AuthAnswer, Authenticator, Bytes, Control, Edge};
 use ftp_control::{Command, LineError, Password, cut_word, parse_line};
 use ftp_events::{Decision, EventKind, Login};
 use ftp_extras::{Asker, Extra, Extras};
@@ -81,139 +80,45 @@ fn is_out(decision: Decision) -> bool
     matches!(decision, Decision::PassOut)
 }
 
+// Says whether the line is an EPSV, for which a PASV is carried out.
+fn is_epsv_line(extra: &Extra) -> bool
+    ensures { result ≡ is_epsv_line extra.now }
+{
+    matches!(extra, Extra::Epsv)
+}
+
 impl ControlSession {
-    // Carries out a command on a line that was heard; for an EPSV the port that it is granted is said as an EPSV has it.
-    fn serve_command<D: Desk, C: Control, E: Edge>(
+    // Answers a line that was heard, as the extras have it. What they say goes behind the reply, unless the session has ended with
+    // its event.
+    fn answer_heard<D: Desk, C: Control, E: Edge>(
         &mut self,
         desk: &mut D,
         control: &mut C,
         edge: &mut E,
         command: Command,
-        is_epsv: bool,
+        is_refused: bool,
+        extra: Extra,
     ) -> Result<Next, Halt>
-        ensures served { IfOk result (λ next. (g : Ground) (hs : List HeardLine) (x : HeardLine) (rest : List ℕ) → IsAbout g D.vouches D.draws_next →
+        ensures served { (g : Ground) (hs : List HeardLine) (x : HeardLine) (rest : List ℕ) → IsAbout g D.vouches D.draws_next →
             Standing LineDue g self.old (E.view edge.old) (D.view desk.old) (C.sending control.old).sent hs (x.line ++ rest) →
-            IsHearing self.old x → Carries x.line x.extra command → is_epsv_line x.extra ≡ is_epsv →
-            Standing (due_at next) g self.new (E.view edge.new) (D.view desk.new) (C.sending control.new).sent (x ∷ hs) rest) }
-        ensures cut { OnErr result ((g : Ground) (hs : List HeardLine) (x : HeardLine) (rest : List ℕ) → IsAbout g D.vouches D.draws_next →
-            Standing LineDue g self.old (E.view edge.old) (D.view desk.old) (C.sending control.old).sent hs (x.line ++ rest) →
-            IsHearing self.old x → Carries x.line x.extra command → is_epsv_line x.extra ≡ is_epsv →
-            IsCutAt g self.new (E.view edge.new) (D.view desk.new) (C.sending control.new).sent hs x) }
+            IsHearing self.old x → x.extra ≡ extra → IsHeardAs is_refused x.line command →
+            StandsBehindLine result g self.new (E.view edge.new) (D.view desk.new) (C.sending control.new).sent hs x rest }
         ensures left { C.left control.new ≡ C.left control.old }
         ensures fault_rose { IsErrOf result Fault → HasRisen (C.faults control.old) (C.faults control.new) }
         ensures exhausted { IsErrOf result Exhausted → D.exhausts ≡ true }
         ensures count { C.faults control.old ≤ C.faults control.new }
     {
-        match self.ask(desk, edge, command) {
-            Ok(kind) => match self.submit_for(desk, control, edge, kind, is_epsv) {
-                Ok(decision) => Ok(next_of(decision, Next::GoOn)),
-                Err(halt) => Err(halt),
-            },
-            Err(_) => Err(Halt::Memory),
-        }
-    }
-
-    // Tells a message of the control layer on a line that was heard.
-    fn tell<D: Desk, C: Control, E: Edge>(
-        &mut self,
-        desk: &mut D,
-        control: &mut C,
-        edge: &mut E,
-        message: ControlChanMsg,
-    ) -> Result<Next, Halt>
-        ensures served { IfOk result (λ next. (g : Ground) (hs : List HeardLine) (x : HeardLine) (rest : List ℕ) → IsAbout g D.vouches D.draws_next →
-            Standing LineDue g self.old (E.view edge.old) (D.view desk.old) (C.sending control.old).sent hs (x.line ++ rest) →
-            IsHearing self.old x → x.extra ≡ Extra.Tell message →
-            Standing (due_at next) g self.new (E.view edge.new) (D.view desk.new) (C.sending control.new).sent (x ∷ hs) rest) }
-        ensures cut { OnErr result ((g : Ground) (hs : List HeardLine) (x : HeardLine) (rest : List ℕ) → IsAbout g D.vouches D.draws_next →
-            Standing LineDue g self.old (E.view edge.old) (D.view desk.old) (C.sending control.old).sent hs (x.line ++ rest) →
-            IsHearing self.old x → x.extra ≡ Extra.Tell message →
-            IsCutAt g self.new (E.view edge.new) (D.view desk.new) (C.sending control.new).sent hs x) }
-        ensures left { C.left control.new ≡ C.left control.old }
-        ensures fault_rose { IsErrOf result Fault → HasRisen (C.faults control.old) (C.faults control.new) }
-        ensures exhausted { IsErrOf result Exhausted → D.exhausts ≡ true }
-        ensures count { C.faults control.old ≤ C.faults control.new }
-    {
-        let session = self.session;
-        match self.submit_and_reply(
-            desk,
-            control,
-            edge,
-            EventKind::Internal { session, message },
-        ) {
-            Ok(decision) => Ok(next_of(decision, Next::GoOn)),
-            Err(halt) => Err(halt),
-        }
-    }
-
-    // Says lines of reply behind an event that has none, unless the session has ended with it.
-    fn say_lines<D: Desk, C: Control, E: Edge>(
-        &mut self,
-        desk: &mut D,
-        control: &mut C,
-        edge: &mut E,
-        lines: Bytes,
-    ) -> Result<Next, Halt>
-        ensures served { IfOk result (λ next. (g : Ground) (hs : List HeardLine) (x : HeardLine) (rest : List ℕ) → IsAbout g D.vouches D.draws_next →
-            Standing LineDue g self.old (E.view edge.old) (D.view desk.old) (C.sending control.old).sent hs (x.line ++ rest) →
-            IsHearing self.old x → x.extra ≡ Extra.Say lines →
-            Standing (due_at next) g self.new (E.view edge.new) (D.view desk.new) (C.sending control.new).sent (x ∷ hs) rest) }
-        ensures cut { OnErr result ((g : Ground) (hs : List HeardLine) (x : HeardLine) (rest : List ℕ) → IsAbout g D.vouches D.draws_next →
-            Standing LineDue g self.old (E.view edge.old) (D.view desk.old) (C.sending control.old).sent hs (x.line ++ rest) →
-            IsHearing self.old x → x.extra ≡ Extra.Say lines →
-            IsCutAt g self.new (E.view edge.new) (D.view desk.new) (C.sending control.new).sent hs x) }
-        ensures left { C.left control.new ≡ C.left control.old }
-        ensures fault_rose { IsErrOf result Fault → HasRisen (C.faults control.old) (C.faults control.new) }
-        ensures exhausted { IsErrOf result Exhausted → D.exhausts ≡ true }
-        ensures count { C.faults control.old ≤ C.faults control.new }
-    {
-        let session = self.session;
-        let message = ControlChanMsg::CommandChannelReply(Reply::None);
-        match self.submit_and_reply(
-            desk,
-            control,
-            edge,
-            EventKind::Internal { session, message },
-        ) {
-            Ok(decision) => {
-                if is_end(decision) {
-                    return Ok(Next::Over);
-                }
-                match write_all(control, lines.as_slice()) {
-                    Ok(()) => Ok(Next::GoOn),
-                    Err(failed) => Err(Halt::from(failed)),
-                }
-            }
-            Err(halt) => Err(halt),
-        }
-    }
-
-    // Refuses a line for its parameter that was heard, and on which the extras do nothing.
-    fn refuse<D: Desk, C: Control, E: Edge>(
-        &mut self,
-        desk: &mut D,
-        control: &mut C,
-        edge: &mut E,
-    ) -> Result<Next, Halt>
-        ensures served { IfOk result (λ next. (g : Ground) (hs : List HeardLine) (x : HeardLine) (rest : List ℕ) → IsAbout g D.vouches D.draws_next →
-            Standing LineDue g self.old (E.view edge.old) (D.view desk.old) (C.sending control.old).sent hs (x.line ++ rest) →
-            IsHearing self.old x → x.extra ≡ Extra.Pass → parsed x.line ≡ Err InvalidCommand →
-            Standing (due_at next) g self.new (E.view edge.new) (D.view desk.new) (C.sending control.new).sent (x ∷ hs) rest) }
-        ensures cut { OnErr result ((g : Ground) (hs : List HeardLine) (x : HeardLine) (rest : List ℕ) → IsAbout g D.vouches D.draws_next →
-            Standing LineDue g self.old (E.view edge.old) (D.view desk.old) (C.sending control.old).sent hs (x.line ++ rest) →
-            IsHearing self.old x → x.extra ≡ Extra.Pass → parsed x.line ≡ Err InvalidCommand →
-            IsCutAt g self.new (E.view edge.new) (D.view desk.new) (C.sending control.new).sent hs x) }
-        ensures left { C.left control.new ≡ C.left control.old }
-        ensures fault_rose { IsErrOf result Fault → HasRisen (C.faults control.old) (C.faults control.new) }
-        ensures exhausted { IsErrOf result Exhausted → D.exhausts ≡ true }
-        ensures count { C.faults control.old ≤ C.faults control.new }
-    {
-        let Ok(kind) = self.refused_as(LineError::InvalidCommand) else {
+        let is_epsv = is_epsv_line(&extra);
+        let Ok((kind, lines)) = self.ask_heard(desk, edge, command, is_refused, extra) else {
             return Err(Halt::Memory);
         };
-        match self.submit_and_reply(desk, control, edge, kind) {
-            Ok(decision) => Ok(next_of(decision, Next::GoOn)),
-            Err(halt) => Err(halt),
+        let decision = self.submit_for(desk, control, edge, kind, is_epsv)?;
+        if is_end(decision) {
+            return Ok(Next::Over);
+        }
+        match write_all(control, lines.as_slice()) {
+            Ok(()) => Ok(Next::GoOn),
+            Err(failed) => Err(Halt::from(failed)),
         }
     }
 
@@ -225,14 +130,11 @@ impl ControlSession {
         edge: &mut E,
         error: LineError,
     ) -> Result<Next, Halt>
-        ensures served { IfOk result (λ next. (g : Ground) (hs : List HeardLine) (line rest : List ℕ) → IsAbout g D.vouches D.draws_next →
+        requires unheard { is_heard_line (Err error) ≡ false }
+        ensures served { (g : Ground) (hs : List HeardLine) (line rest : List ℕ) → IsAbout g D.vouches D.draws_next →
             Standing LineDue g self.old (E.view edge.old) (D.view desk.old) (C.sending control.old).sent hs (line ++ rest) →
-            IsLine line → parsed line ≡ Err error → is_heard_line (Err error) ≡ false →
-            Standing (due_at next) g self.new (E.view edge.new) (D.view desk.new) (C.sending control.new).sent hs rest) }
-        ensures cut { OnErr result ((g : Ground) (hs : List HeardLine) (line rest : List ℕ) → IsAbout g D.vouches D.draws_next →
-            Standing LineDue g self.old (E.view edge.old) (D.view desk.old) (C.sending control.old).sent hs (line ++ rest) →
-            IsLine line → parsed line ≡ Err error → is_heard_line (Err error) ≡ false →
-            IsCut g self.new (E.view edge.new) (D.view desk.new) (C.sending control.new).sent hs) }
+            IsLine line → parsed line ≡ Err error →
+            StandsBehind due_at result g self.new (E.view edge.new) (D.view desk.new) (C.sending control.new).sent hs rest }
         ensures left { C.left control.new ≡ C.left control.old }
         ensures fault_rose { IsErrOf result Fault → HasRisen (C.faults control.old) (C.faults control.new) }
         ensures exhausted { IsErrOf result Exhausted → D.exhausts ≡ true }
@@ -241,10 +143,8 @@ impl ControlSession {
         let Ok(kind) = self.refused_as(error) else {
             return Err(Halt::Memory);
         };
-        match self.submit_and_reply(desk, control, edge, kind) {
-            Ok(decision) => Ok(next_of(decision, behind_refusal(error))),
-            Err(halt) => Err(halt),
-        }
+        let decision = self.take_step(desk, control, edge, kind)?;
+        Ok(next_of(decision, behind_refusal(error)))
     }
 
     // Serves a password: where it is out to be checked, the authenticator is asked.
@@ -256,58 +156,27 @@ impl ControlSession {
         auth: &A,
         password: Password,
     ) -> Result<Next, Halt>
-        ensures served { IfOk result (λ next. (g : Ground) (hs : List HeardLine) (line rest : List ℕ) → IsAbout g D.vouches D.draws_next → g.start.answers ≡ A.may_answer auth.now →
+        ensures served { (g : Ground) (hs : List HeardLine) (line rest : List ℕ) → IsAbout g D.vouches D.draws_next → g.start.answers ≡ A.may_answer auth.now →
             Standing LineDue g self.old (E.view edge.old) (D.view desk.old) (C.sending control.old).sent hs (line ++ rest) →
             IsLine line → parsed line ≡ Ok (command.Pass password) →
-            Standing (due_at next) g self.new (E.view edge.new) (D.view desk.new) (C.sending control.new).sent hs rest) }
-        ensures cut { OnErr result ((g : Ground) (hs : List HeardLine) (line rest : List ℕ) → IsAbout g D.vouches D.draws_next → g.start.answers ≡ A.may_answer auth.now →
-            Standing LineDue g self.old (E.view edge.old) (D.view desk.old) (C.sending control.old).sent hs (line ++ rest) →
-            IsLine line → parsed line ≡ Ok (command.Pass password) →
-            IsCut g self.new (E.view edge.new) (D.view desk.new) (C.sending control.new).sent hs) }
+            StandsBehind due_at result g self.new (E.view edge.new) (D.view desk.new) (C.sending control.new).sent hs rest }
         ensures left { C.left control.new ≡ C.left control.old }
         ensures fault_rose { IsErrOf result Fault → HasRisen (C.faults control.old) (C.faults control.new) }
         ensures exhausted { IsErrOf result Exhausted → D.exhausts ≡ true }
         ensures count { C.faults control.old ≤ C.faults control.new }
     {
-        let session = self.session;
-        match self.submit_and_reply(desk, control, edge, EventKind::Pass { session }) {
-            Ok(decision) => {
-                if is_out(decision) {
-                    self.check(desk, control, edge, auth, password)
-                } else {
-                    Ok(next_of(decision, Next::GoOn))
-                }
-            }
-            Err(halt) => Err(halt),
+        let kind = EventKind::Pass {
+            session: self.session,
+        };
+        let decision = self.take_step(desk, control, edge, kind)?;
+        if is_out(decision) {
+            let answer = self.ask_authenticator(auth, &password);
+            let session = self.session;
+            let kind = EventKind::AuthDone { session, answer };
+            let checked = self.take_step(desk, control, edge, kind)?;
+            return Ok(next_of(checked, Next::GoOn));
         }
-    }
-
-    // Asks the authenticator about a password that is out.
-    fn check<D: Desk, C: Control, E: Edge, A: Authenticator>(
-        &mut self,
-        desk: &mut D,
-        control: &mut C,
-        edge: &mut E,
-        auth: &A,
-        password: Password,
-    ) -> Result<Next, Halt>
-        ensures served { IfOk result (λ next. (g : Ground) (hs : List HeardLine) (rest : List ℕ) → IsAbout g D.vouches D.draws_next → g.start.answers ≡ A.may_answer auth.now →
-            Standing (AnswerDue password.0) g self.old (E.view edge.old) (D.view desk.old) (C.sending control.old).sent hs rest →
-            Standing (due_at next) g self.new (E.view edge.new) (D.view desk.new) (C.sending control.new).sent hs rest) }
-        ensures cut { OnErr result ((g : Ground) (hs : List HeardLine) (rest : List ℕ) → IsAbout g D.vouches D.draws_next → g.start.answers ≡ A.may_answer auth.now →
-            Standing (AnswerDue password.0) g self.old (E.view edge.old) (D.view desk.old) (C.sending control.old).sent hs rest →
-            IsCut g self.new (E.view edge.new) (D.view desk.new) (C.sending control.new).sent hs) }
-        ensures left { C.left control.new ≡ C.left control.old }
-        ensures fault_rose { IsErrOf result Fault → HasRisen (C.faults control.old) (C.faults control.new) }
-        ensures exhausted { IsErrOf result Exhausted → D.exhausts ≡ true }
-        ensures count { C.faults control.old ≤ C.faults control.new }
-    {
-        let session = self.session;
-        let answer = self.ask_authenticator(auth, &password);
-        match self.submit_and_reply(desk, control, edge, EventKind::AuthDone { session, answer }) {
-            Ok(decision) => Ok(next_of(decision, Next::GoOn)),
-            Err(halt) => Err(halt),
-        }
+        Ok(next_of(decision, Next::GoOn))
     }
 
     // What the authenticator says of the name and a password.
@@ -340,10 +209,7 @@ impl ControlSession {
             HearsLines (X.may x0) (X.pending x0) (X.may extras.old) (X.pending extras.old) hs →
             Standing LineDue g self.old (E.view edge.old) (D.view desk.old) (C.sending control.old).sent hs (line.now ++ rest) →
             IsLine line.now → IsHeardAs is_refused line.now command →
-            (hs1 : List HeardLine) × AreAllowed (X.may x0) (X.pending x0) hs1
-            × IfOk result (λ next. Standing (due_at next) g self.new (E.view edge.new) (D.view desk.new) (C.sending control.new).sent hs1 rest
-            × HearsLines (X.may x0) (X.pending x0) (X.may extras.new) (X.pending extras.new) hs1)
-            × OnErr result (IsCut g self.new (E.view edge.new) (D.view desk.new) (C.sending control.new).sent hs1) }
+            ServesLines (X.may x0) (X.pending x0) (X.may extras.new) (X.pending extras.new) result g self.new (E.view edge.new) (D.view desk.new) (C.sending control.new).sent rest }
         ensures left { C.left control.new ≡ C.left control.old }
         ensures fault_rose { IsErrOf result Fault → HasRisen (C.faults control.old) (C.faults control.new) }
         ensures exhausted { IsErrOf result Exhausted → D.exhausts ≡ true }
@@ -355,20 +221,10 @@ impl ControlSession {
             is_in: is_in(self.login),
             cwd: &self.cwd,
         };
-        match extras.hear(asker, &command, line) {
-            Ok(Extra::Pass) => {
-                if is_refused {
-                    self.refuse(desk, control, edge)
-                } else {
-                    self.serve_command(desk, control, edge, command, false)
-                }
-            }
-            Ok(Extra::Tell(message)) => self.tell(desk, control, edge, message),
-            Ok(Extra::Say(lines)) => self.say_lines(desk, control, edge, lines),
-            Ok(Extra::As(other)) => self.serve_command(desk, control, edge, other, false),
-            Ok(Extra::Epsv) => self.serve_command(desk, control, edge, Command::Pasv, true),
-            Err(_) => Err(Halt::Memory),
-        }
+        let Ok(extra) = extras.hear(asker, &command, line) else {
+            return Err(Halt::Memory);
+        };
+        self.answer_heard(desk, control, edge, command, is_refused, extra)
     }
 
     // Serves a line with its line feed.
@@ -384,10 +240,7 @@ impl ControlSession {
         ensures served { (g : Ground) (x0 : X) (hs : List HeardLine) (rest : List ℕ) → IsAbout g D.vouches D.draws_next → g.start.answers ≡ A.may_answer auth.now →
             HearsLines (X.may x0) (X.pending x0) (X.may extras.old) (X.pending extras.old) hs →
             Standing LineDue g self.old (E.view edge.old) (D.view desk.old) (C.sending control.old).sent hs (line.now ++ rest) → IsLine line.now →
-            (hs1 : List HeardLine) × AreAllowed (X.may x0) (X.pending x0) hs1
-            × IfOk result (λ next. Standing (due_at next) g self.new (E.view edge.new) (D.view desk.new) (C.sending control.new).sent hs1 rest
-            × HearsLines (X.may x0) (X.pending x0) (X.may extras.new) (X.pending extras.new) hs1)
-            × OnErr result (IsCut g self.new (E.view edge.new) (D.view desk.new) (C.sending control.new).sent hs1) }
+            ServesLines (X.may x0) (X.pending x0) (X.may extras.new) (X.pending extras.new) result g self.new (E.view edge.new) (D.view desk.new) (C.sending control.new).sent rest }
         ensures left { C.left control.new ≡ C.left control.old }
         ensures fault_rose { IsErrOf result Fault → HasRisen (C.faults control.old) (C.faults control.new) }
         ensures exhausted { IsErrOf result Exhausted → D.exhausts ≡ true }

@@ -1,15 +1,16 @@
 //! One event, and what is said on it.
 
-ghost use Rattle.std.specs.Prelude.{◌≡◌, ◌≤◌, ◌⊎◌, List, false, true, IfErr, IfOk, OnErr, IsErrOf};
+ghost use Rattle.std.specs.Prelude.{◌≡◌, ◌≤◌, ◌⊎◌, ◌++◌, ℕ, List, false, true, IfErr, IfOk, OnErr, IsErrOf};
 ghost use Rattle.ftp_base.specs.Edge.{Takes, behind_moment};
 ghost use Rattle.ftp_base.specs.Outside.{HasRisen};
 ghost use Rattle.ftp_shared.specs.Outbox.{has_ticket};
 ghost use Rattle.ftp_shared.specs.Desk.{SameDesk};
 ghost use Rattle.ftp_talk.specs.declared.halt.Halt.TheVariants.{Exhausted, Fault, Memory};
-ghost use Rattle.ftp_talk.specs.Ground.{Step, Turn, Ground};
-ghost use Rattle.ftp_talk.specs.Parts.{epsv_port};
+ghost use Rattle.ftp_talk.specs.Ground.{Step, Turn, Ground, line_of};
+ghost use Rattle.ftp_talk.specs.Parts.{HeardLine, epsv_port};
 ghost use Rattle.ftp_talk.specs.Pieces.{Pieces};
-ghost use Rattle.ftp_talk.specs.Speaking.{Asking, Entered, Spoken, Halted};
+ghost use Rattle.ftp_talk.specs.Speaking.{Asking, Entered, IsSpoken, Standing, MayStep, StandsBehind, IsAbout};
+ghost use Rattle.ftp_talk.specs.Turns.{Due, due_by};
 
 use crate::control_session::ControlSession;
 use crate::halt::Halt;
@@ -52,30 +53,8 @@ fn epsv_port(is_epsv: bool, decision: Decision) -> Option<u16>
 }
 
 impl ControlSession {
-    // Submits an event, takes in what was decided, and says what is due.
-    pub(crate) fn submit_and_reply<D: Desk, C: Control, E: Edge>(
-        &mut self,
-        desk: &mut D,
-        control: &mut C,
-        edge: &mut E,
-        kind: EventKind,
-    ) -> Result<Decision, Halt>
-        requires unticketed { has_ticket kind ≡ false }
-        ensures spoke { IfOk result (λ d. (g : Ground) (ts : List Turn) (pieces : Pieces) (step : Step) → g.start.vouches ≡ D.vouches →
-            Asking g self.old (E.view edge.old) (D.view desk.old) (C.sending control.old).sent ts pieces kind →
-            Spoken g self.new (E.view edge.new) (D.view desk.new) (C.sending control.new).sent ts pieces step kind d false) }
-        ensures halted { OnErr result ((g : Ground) (ts : List Turn) (pieces : Pieces) (step : Step) → g.start.vouches ≡ D.vouches →
-            Asking g self.old (E.view edge.old) (D.view desk.old) (C.sending control.old).sent ts pieces kind →
-            Halted g self.new (E.view edge.new) (D.view desk.new) (C.sending control.new).sent ts pieces step kind false) }
-        ensures left { C.left control.new ≡ C.left control.old }
-        ensures fault_rose { IsErrOf result Fault → HasRisen (C.faults control.old) (C.faults control.new) }
-        ensures exhausted { IsErrOf result Exhausted → D.exhausts ≡ true }
-        ensures count { C.faults control.old ≤ C.faults control.new }
-    {
-        self.submit_for(desk, control, edge, kind, false)
-    }
-
-    // Submits an event as `submit_and_reply` does; for an EPSV the port that is granted is said as an EPSV has it.
+    // Submits an event, takes in what was decided, and says what is due; for an EPSV the port that is granted is said as an EPSV
+    // has it.
     pub(crate) fn submit_for<D: Desk, C: Control, E: Edge>(
         &mut self,
         desk: &mut D,
@@ -85,12 +64,9 @@ impl ControlSession {
         is_epsv: bool,
     ) -> Result<Decision, Halt>
         requires unticketed { has_ticket kind ≡ false }
-        ensures spoke { IfOk result (λ d. (g : Ground) (ts : List Turn) (pieces : Pieces) (step : Step) → g.start.vouches ≡ D.vouches →
+        ensures spoke { (g : Ground) (ts : List Turn) (pieces : Pieces) (step : Step) → g.start.vouches ≡ D.vouches →
             Asking g self.old (E.view edge.old) (D.view desk.old) (C.sending control.old).sent ts pieces kind →
-            Spoken g self.new (E.view edge.new) (D.view desk.new) (C.sending control.new).sent ts pieces step kind d is_epsv) }
-        ensures halted { OnErr result ((g : Ground) (ts : List Turn) (pieces : Pieces) (step : Step) → g.start.vouches ≡ D.vouches →
-            Asking g self.old (E.view edge.old) (D.view desk.old) (C.sending control.old).sent ts pieces kind →
-            Halted g self.new (E.view edge.new) (D.view desk.new) (C.sending control.new).sent ts pieces step kind is_epsv) }
+            IsSpoken result g self.new (E.view edge.new) (D.view desk.new) (C.sending control.new).sent ts pieces step kind is_epsv }
         ensures left { C.left control.new ≡ C.left control.old }
         ensures fault_rose { IsErrOf result Fault → HasRisen (C.faults control.old) (C.faults control.new) }
         ensures exhausted { IsErrOf result Exhausted → D.exhausts ≡ true }
@@ -118,5 +94,25 @@ impl ControlSession {
             Ok(()) => Ok(decision),
             Err(failed) => Err(Halt::from(failed)),
         }
+    }
+
+    // Takes a step of the talk on which no line is heard: nothing is asked for its event.
+    pub(crate) fn take_step<D: Desk, C: Control, E: Edge>(
+        &mut self,
+        desk: &mut D,
+        control: &mut C,
+        edge: &mut E,
+        kind: EventKind,
+    ) -> Result<Decision, Halt>
+        requires unticketed { has_ticket kind ≡ false }
+        ensures served { (g : Ground) (old : Due) (step : Step) (hs : List HeardLine) (rest : List ℕ) → IsAbout g D.vouches D.draws_next →
+            Standing old g self.old (E.view edge.old) (D.view desk.old) (C.sending control.old).sent hs (line_of step ++ rest) → MayStep g self.old old step kind rest →
+            StandsBehind (due_by step) result g self.new (E.view edge.new) (D.view desk.new) (C.sending control.new).sent hs rest }
+        ensures left { C.left control.new ≡ C.left control.old }
+        ensures fault_rose { IsErrOf result Fault → HasRisen (C.faults control.old) (C.faults control.new) }
+        ensures exhausted { IsErrOf result Exhausted → D.exhausts ≡ true }
+        ensures count { C.faults control.old ≤ C.faults control.new }
+    {
+        self.submit_for(desk, control, edge, kind, false)
     }
 }

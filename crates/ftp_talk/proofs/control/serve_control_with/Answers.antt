@@ -1,7 +1,11 @@
-use Rattle.std.proofs.Common.{[], ◌∷◌, ap, subst, ◌∙◌, refl, Err}
+use Rattle.std.proofs.Common.{ℕ, Bool, List, [], ◌∷◌, Option, ap, subst, ◌∙◌, refl, Err}
+use Rattle.ftp_base.specs.declared.login.AuthAnswer.{AuthAnswer}
+use Rattle.ftp_base.specs.declared.net.IpAddr.{IpAddr}
+use Rattle.ftp_base.specs.Edge.{EdgeView}
 use Rattle.ftp_base.specs.Outside.{Writes}
 use Rattle.ftp_options.specs.declared.options.Options.{Options}
 use Rattle.ftp_control.specs.Writing.{WritesFront}
+use Rattle.ftp_shared.specs.Desk.{DeskView}
 use Rattle.ftp_talk.specs.Saying.{greeting_line}
 use Rattle.ftp_talk.specs.Ground.{Start}
 use Rattle.ftp_talk.specs.Control.{ground_of}
@@ -10,18 +14,22 @@ use Rattle.ftp_talk.proofs.EndLemmas.{ends-front}
 use Rattle.ftp_talk.proofs.ControlLemmas.{knows-open, named-open, begin-talking, begin-cut, ends-with, serves-with, serves-unopened, no-fault, halt-ends, halt-sound, end-sound}
 use Rattle.ftp_talk.proofs.control.serve_control_with.Goals as goal
 
+-- how all stood before the session was opened
+abbrev start_of : EdgeView → DeskView → Option (List ℕ) → Option (List ℕ) → (List ℕ → List ℕ → IpAddr → AuthAnswer → Bool) → Bool → Bool → Bool → Start
+start_of edge desk input sent answers ready vouches draws_next = record {
+  edge = edge;
+  desk = desk;
+  input = input;
+  sent = sent;
+  answers = answers;
+  ready = ready;
+  vouches = vouches;
+  draws_next = draws_next;
+}
+
 pub returns-in-Err-clause-served : goal.returns-in-Err-clause-served
 returns-in-Err-clause-served g c =
-    let start : Start = record {
-      edge = g.E.Edge.view c.args.edge.now;
-      desk = g.D.Desk.view c.args.desk.now;
-      input = g.C.Source.left c.args.control.now;
-      sent = (g.C.Source.sending c.args.control.now).sent;
-      answers = g.A.Authenticator.may_answer c.args.auth.now;
-      ready = g.C.Control.is_always_ready;
-      vouches = g.D.Desk.vouches;
-      draws_next = g.D.Desk.draws_next;
-    } in
+    let start = start_of (g.E.Edge.view c.args.edge.now) (g.D.Desk.view c.args.desk.now) (g.C.Source.left c.args.control.now) (g.C.Source.sending c.args.control.now).sent (g.A.Authenticator.may_answer c.args.auth.now) g.C.Control.is_always_ready g.D.Desk.vouches g.D.Desk.draws_next in
     serves-unopened (g.X.Extras.may c.args.extras.now) (g.X.Extras.pending c.args.extras.now) c.in-Err.end c.args.opening c.args.answer start (g.D.Desk.view c.open_session.new.desk) (c.in-Err.ensures.unopened start)
 
 pub returns-in-Err-clause-read_fault : goal.returns-in-Err-clause-read_fault
@@ -32,16 +40,7 @@ returns-in-Err-clause-write_fault g c = λ e. absurd ((no-fault c.in-Err.end c.i
 
 pub returns-in-Err-greet-clause-served : goal.returns-in-Err-greet-clause-served
 returns-in-Err-greet-clause-served g c =
-    let start : Start = record {
-      edge = g.E.Edge.view c.args.edge.now;
-      desk = g.D.Desk.view c.args.desk.now;
-      input = g.C.Source.left c.args.control.now;
-      sent = (g.C.Source.sending c.args.control.now).sent;
-      answers = g.A.Authenticator.may_answer c.args.auth.now;
-      ready = g.C.Control.is_always_ready;
-      vouches = g.D.Desk.vouches;
-      draws_next = g.D.Desk.draws_next;
-    } in
+    let start = start_of (g.E.Edge.view c.args.edge.now) (g.D.Desk.view c.args.desk.now) (g.C.Source.left c.args.control.now) (g.C.Source.sending c.args.control.now).sent (g.A.Authenticator.may_answer c.args.auth.now) g.C.Control.is_always_ready g.D.Desk.vouches g.D.Desk.draws_next in
     let desk1 = g.D.Desk.view c.open_session.new.desk in
     let state = c.in-Ok-open_session.state in
     let h = c.in-Ok-open_session.ensures.opened start in
@@ -89,16 +88,7 @@ returns-clause-complete g c =
 
 pub returns-clause-served : goal.returns-clause-served
 returns-clause-served g c =
-    let start : Start = record {
-      edge = g.E.Edge.view c.args.edge.now;
-      desk = g.D.Desk.view c.args.desk.now;
-      input = g.C.Source.left c.args.control.now;
-      sent = (g.C.Source.sending c.args.control.now).sent;
-      answers = g.A.Authenticator.may_answer c.args.auth.now;
-      ready = g.C.Control.is_always_ready;
-      vouches = g.D.Desk.vouches;
-      draws_next = g.D.Desk.draws_next;
-    } in
+    let start = start_of (g.E.Edge.view c.args.edge.now) (g.D.Desk.view c.args.desk.now) (g.C.Source.left c.args.control.now) (g.C.Source.sending c.args.control.now).sent (g.A.Authenticator.may_answer c.args.auth.now) g.C.Control.is_always_ready g.D.Desk.vouches g.D.Desk.draws_next in
     let desk1 = g.D.Desk.view c.open_session.new.desk in
     let state = c.in-Ok-open_session.state in
     let h = c.in-Ok-open_session.ensures.opened start in

@@ -2,7 +2,7 @@ use Rattle.std.proofs.Common.{◌≡◌, ◌∙◌, ℕ, List, ◌++◌, length,
 use Rattle.std.proofs.lemmas.List.{take-append-le, take_all}
 use Rattle.ftp_control.specs.ControlLine.{IsHeld, held_in}
 use Rattle.ftp_talk.specs.Speaking.{Talking}
-use Rattle.ftp_talk.proofs.ServeLemmas.{cut-standing, same_edge, same_desk}
+use Rattle.ftp_talk.proofs.ServeLemmas.{cut-here}
 use Rattle.ftp_talk.proofs.serve.serve_lines.Goals as goal
 
 -- what was written to all of a buffer is the buffer afterwards
@@ -15,7 +15,7 @@ returns-then-is_err-clause-ended g c = λ q is first.
       t.0,
       t.1.allowed,
       c.leave.ensures q t.0 (g.C.Source.sending c.loop.control).sent is.about
-          (cut-standing q c.loop.state _ _ _ _ _ _ t.0 _ t.2.standing (same_edge (g.E.Edge.view c.loop.edge)) (same_desk (g.D.Desk.view c.loop.desk))),
+          (cut-here q c.loop.state _ _ _ _ t.0 _ t.2.standing),
     )
 
 pub returns-clause-ended : goal.returns-clause-ended
@@ -24,7 +24,7 @@ returns-clause-ended g c = λ q is first.
       t.0,
       t.1.allowed,
       c.leave-2.ensures q t.0 (g.C.Source.sending c.loop.control).sent is.about
-          (cut-standing q c.loop.state _ _ _ _ _ _ t.0 _ t.2.standing (same_edge (g.E.Edge.view c.loop.edge)) (same_desk (g.D.Desk.view c.loop.desk))),
+          (cut-here q c.loop.state _ _ _ _ t.0 _ t.2.standing),
     )
 
 pub returns-in-Some-clause-ended : goal.returns-in-Some-clause-ended

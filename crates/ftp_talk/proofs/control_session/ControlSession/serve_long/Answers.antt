@@ -1,32 +1,23 @@
-use Rattle.std.proofs.Common.{Some, ap, sym, subst, ◌∙◌, refl}
+use Rattle.std.proofs.Common.{refl}
 use Rattle.ftp_talk.specs.declared.serving.Next.TheVariants.{Close}
 use Rattle.ftp_talk.specs.Ground.{ALongLine}
-use Rattle.ftp_talk.specs.Commands.{too_long}
+use Rattle.ftp_talk.specs.Speaking.{due_at}
 use Rattle.ftp_talk.specs.Turns.{LineDue, CloseDue}
-use Rattle.ftp_talk.specs.Speaking.{Asking}
-use Rattle.ftp_talk.specs.Parts.{turns_of, due_pieces}
-use Rattle.ftp_talk.proofs.ServeLemmas.{asking-plain, next-due, standing-spoken, cut-spoken, cut-standing, same_edge, same_desk}
+use Rattle.ftp_talk.proofs.ServeLemmas.{cut-here, next-due, served-err, standing-due}
+use Rattle.ftp_talk.proofs.EndLemmas.{long-may}
 use Rattle.ftp_talk.proofs.control_session.ControlSession.serve_long.Goals as goal
 
-pub returns-in-Ok-submit_and_reply-clause-served : goal.returns-in-Ok-submit_and_reply-clause-served
-returns-in-Ok-submit_and_reply-clause-served g c = λ q hs rest about long s.
-    let k = c.in-Ok.kind in
-    let asking = subst (Asking q c.args.self.now (g.E.Edge.view c.args.edge.now) (g.D.Desk.view c.args.desk.now) (g.C.Source.sending c.args.control.now).sent (turns_of s.parts) (due_pieces q s.parts)) (sym c.in-Ok.ensures.kind)
-    (asking-plain q c.args.self.now _ _ _ (turns_of s.parts) (due_pieces q s.parts) (too_long c.args.self.now.session) s.speaking (ap Some s.speaking.known.session) (λ f. tt) (λ f. refl) refl refl) in
-    let comes = c.in-Ok.ensures.kind ∙ ap too_long s.speaking.known.session in
-    let spoken = c.in-Ok-submit_and_reply.ensures.spoke q (turns_of s.parts) (due_pieces q s.parts) ALongLine about.0 asking in
+pub returns-in_default-clause-served : goal.returns-in_default-clause-served
+returns-in_default-clause-served g c = λ q hs rest about long s.
+    cut-here q c.args.self.now _ _ _ _ hs _ s
+
+pub returns-in_err-decision-clause-served : goal.returns-in_err-decision-clause-served
+returns-in_err-decision-clause-served g c = λ q hs rest about long s.
+    served-err due_at c.from_residual.result q _ _ _ _ hs rest c.from_residual.ensures.0
+    (c.in_err-decision.ensures.served q LineDue ALongLine hs rest about s (long-may q c.args.self.now c.in-Ok.kind rest c.in-Ok.ensures.kind long))
+
+pub returns-clause-served : goal.returns-clause-served
+returns-clause-served g c = λ q hs rest about long s.
     rw c.next_of.ensures
-    (standing-spoken q _ _ _ _ _ _ _ _ LineDue _ ALongLine k c.in-Ok-submit_and_reply.decision hs rest s spoken comes refl (λ h. long)
-    (next-due c.in-Ok-submit_and_reply.decision CloseDue Close refl))
-
-pub returns-in-Err-clause-cut : goal.returns-in-Err-clause-cut
-returns-in-Err-clause-cut g c = λ q hs rest about long s.
-    let k = c.in-Ok.kind in
-    let asking = subst (Asking q c.args.self.now (g.E.Edge.view c.args.edge.now) (g.D.Desk.view c.args.desk.now) (g.C.Source.sending c.args.control.now).sent (turns_of s.parts) (due_pieces q s.parts)) (sym c.in-Ok.ensures.kind)
-    (asking-plain q c.args.self.now _ _ _ (turns_of s.parts) (due_pieces q s.parts) (too_long c.args.self.now.session) s.speaking (ap Some s.speaking.known.session) (λ f. tt) (λ f. refl) refl refl) in
-    let comes = c.in-Ok.ensures.kind ∙ ap too_long s.speaking.known.session in
-    cut-spoken q _ _ _ _ _ _ _ _ LineDue ALongLine k hs rest s (c.in-Err.ensures.halted q (turns_of s.parts) (due_pieces q s.parts) ALongLine about.0 asking) comes refl (λ h. long)
-
-pub returns-in_default-clause-cut : goal.returns-in_default-clause-cut
-returns-in_default-clause-cut g c = λ q hs rest about long s.
-    cut-standing q c.args.self.now _ _ _ _ _ _ hs _ s (same_edge (g.E.Edge.view c.args.edge.now)) (same_desk (g.D.Desk.view c.args.desk.now))
+    (standing-due q _ _ _ _ hs rest _ _ (next-due c.in_ok-decision.decision CloseDue Close refl)
+    (c.in_ok-decision.ensures.served q LineDue ALongLine hs rest about s (long-may q c.args.self.now c.in-Ok.kind rest c.in-Ok.ensures.kind long)))

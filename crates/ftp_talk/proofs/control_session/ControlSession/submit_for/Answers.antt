@@ -9,8 +9,8 @@ use Rattle.ftp_talk.specs.Ground.{history}
 use Rattle.ftp_talk.proofs.TalkLemmas.{spoken-is, front-after, front-before, risen-on}
 use Rattle.ftp_talk.proofs.control_session.ControlSession.submit_for.Goals as goal
 
-pub returns-in-Err-clause-halted : goal.returns-in-Err-clause-halted
-returns-in-Err-clause-halted g c = λ q ts pieces step same a.
+pub returns-in-Err-clause-spoke : goal.returns-in-Err-clause-spoke
+returns-in-Err-clause-spoke g c = λ q ts pieces step same a.
     inl (
       front-before q c.args.self.now (g.E.Edge.view c.args.edge.now) (g.E.Edge.view c.submit.new.edge)
           (g.D.Desk.view c.args.desk.now) (g.D.Desk.view c.submit.new.desk) (g.C.Source.sending c.args.control.now).sent ts pieces c.args.kind
@@ -18,8 +18,8 @@ returns-in-Err-clause-halted g c = λ q ts pieces step same a.
       risen-on _ _ _ a.refused c.in-Err.ensures.refused_rose c.in-Err.ensures.refused.refused,
     )
 
-pub returns-in_default-clause-halted : goal.returns-in_default-clause-halted
-returns-in_default-clause-halted g c = λ q ts pieces step same a.
+pub returns-in_default-clause-spoke : goal.returns-in_default-clause-spoke
+returns-in_default-clause-spoke g c = λ q ts pieces step same a.
     let e = c.in-Ok.told.entry in
     let n = c.in-Ok.ensures.entered in
     inr (record {
@@ -55,8 +55,8 @@ returns-in-Ok-say_for-clause-spoke g c = λ q ts pieces step same a.
           (subst (λ (s : ℕ). IsPaused (piece_delays (said_pieces s (epsv_port c.args.is_epsv e.decision) c.in-Ok.told.earlier e.actions)) (g.E.Edge.view c.submit.new.edge).paused (g.E.Edge.view c.say_for.new.edge).paused) session (rw (c.epsv_port-port.ensures, c.as_slice.ensures, c.as_slice-2.ensures) at c.in-Ok-say_for.ensures.paused));
     }
 
-pub returns-clause-halted : goal.returns-clause-halted
-returns-clause-halted g c = λ q ts pieces step same a.
+pub returns-clause-spoke : goal.returns-clause-spoke
+returns-clause-spoke g c = λ q ts pieces step same a.
     let e = c.in-Ok.told.entry in
     let n = c.in-Ok.ensures.entered in
     let session = c.learn.ensures.session ∙ a.known.session in
