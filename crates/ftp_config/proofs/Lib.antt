@@ -1,7 +1,6 @@
 pub mod BitLemmas
 pub mod CodeLemmas
 pub mod PartLemmas
-pub mod UsersNameLemmas
 pub mod LineLemmas
 pub mod VerdictLemmas
 pub mod HashTextLemmas
