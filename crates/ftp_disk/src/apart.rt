@@ -48,10 +48,7 @@ pub(crate) fn open_beside<S: FileSystem>(
             return Err(StoreError::Kind(ErrorKind::FileNameNotAllowedError));
         }
         Standing::File(_) => create(system, from)?,
-        Standing::Nothing => match create(system, from) {
-            Ok(file) => file,
-            Err(error) => return Err(in_directory(error)),
-        },
+        Standing::Nothing => in_directory(create(system, from))?,
     };
     match system.is_at(&file, from.as_place()) {
         Ok(true) => Ok(file),

@@ -8,21 +8,12 @@ use crate::budget::Budget;
 use crate::dating::seconds_at;
 use crate::file_system::FileSystem;
 use crate::home::Writable;
-use crate::opening::{create, in_directory, resolve_writable};
-use crate::refusals::refusal;
+use crate::opening::{create, file_at, in_directory, resolve_writable};
+use crate::refusals::told;
 use crate::standing::Standing;
 use ftp_base::{ErrorKind, StoreError};
 use std::alloc::Global;
-use std::io;
 use std::sync::Wait;
-
-// What the system did, or how it refuses.
-fn told(answer: io::Result<()>) -> Result<(), StoreError> {
-    match answer {
-        Ok(()) => Ok(()),
-        Err(error) => Err(refusal(error.kind())),
-    }
-}
 
 /// Removes a file to which no upload writes, and gives its bytes back to the budget.
 pub(crate) fn remove_file<R: Wait, S: FileSystem>(
@@ -34,10 +25,7 @@ pub(crate) fn remove_file<R: Wait, S: FileSystem>(
 ) -> Result<(), StoreError>
     ensures unlinked { OnOk result (IsUnlinked (S.told system.now) place.now) }
 {
-    let found = resolve_writable(system, alloc, place)?;
-    let Standing::File(len) = found else {
-        return Err(StoreError::Kind(ErrorKind::PermanentFileNotAvailable));
-    };
+    let len = file_at(system, alloc, place)?;
     let _lock = create(system, place)?;
     told(system.remove_file(place))?;
     budget.free(rt, len);
@@ -56,10 +44,7 @@ pub(crate) fn make_directory<S: FileSystem>(
     let Standing::Nothing = found else {
         return Err(StoreError::Kind(ErrorKind::FileNameNotAllowedError));
     };
-    match told(system.create_dir(place)) {
-        Ok(()) => Ok(()),
-        Err(error) => Err(in_directory(error)),
-    }
+    in_directory(told(system.create_dir(place)))
 }
 
 /// Removes a directory that is empty, and never the root.
@@ -117,15 +102,11 @@ pub(crate) fn rename<R: Wait, S: FileSystem>(
         return Ok(());
     }
     let _lock = open_replaced(system, alloc, onto)?;
-    match told(system.rename(from, onto)) {
-        Ok(()) => {
-            if let Standing::File(len) = taken {
-                budget.free(rt, len);
-            }
-            Ok(())
-        }
-        Err(error) => Err(in_directory(error)),
+    in_directory(told(system.rename(from, onto)))?;
+    if let Standing::File(len) = taken {
+        budget.free(rt, len);
     }
+    Ok(())
 }
 
 /// Says when a file was last changed, in 14 digits. A date that no calendar has, or before 1970, is refused.
@@ -137,10 +118,7 @@ pub(crate) fn set_modified<S: FileSystem>(
 ) -> Result<(), StoreError>
     ensures unlinked { OnOk result (IsUnlinked (S.told system.now) place.now) }
 {
-    let found = resolve_writable(system, alloc, place)?;
-    let Standing::File(_) = found else {
-        return Err(StoreError::Kind(ErrorKind::PermanentFileNotAvailable));
-    };
+    file_at(system, alloc, place)?;
     let Some(seconds) = seconds_at(at) else {
         return Err(StoreError::Kind(ErrorKind::CommandNotImplemented));
     };

@@ -13,7 +13,7 @@ use crate::file_system::FileSystem;
 use crate::looks::looks_told;
 use crate::opening::in_directory;
 use crate::pattern::{is_wild, matches, pattern_in};
-use crate::refusals::refusal;
+use crate::refusals::told;
 use crate::standing::{Standing, resolve, standing_of};
 use crate::visible::is_visible;
 use ftp_base::{Bytes, ErrorKind, FileInfo, Meta, StoreError};
@@ -144,10 +144,7 @@ fn list_children<S: FileSystem>(
 fn names_at<S: FileSystem>(system: &S, alloc: Global, place: &Place) -> Result<Vec<u8>, StoreError>
     requires unlinked { IsUnlinked (S.told system.now) place.now }
 {
-    match system.names(alloc, place) {
-        Ok(names) => Ok(names),
-        Err(error) => Err(in_directory(refusal(error.kind()))),
-    }
+    in_directory(told(system.names(alloc, place)))
 }
 
 /// The names in a directory, each with a NUL behind it.

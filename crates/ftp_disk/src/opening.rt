@@ -7,7 +7,7 @@ ghost use Rattle.ftp_disk.specs.Standing.{Stood};
 use crate::budget::Budget;
 use crate::file_system::FileSystem;
 use crate::home::Writable;
-use crate::refusals::refusal;
+use crate::refusals::{refusal, told};
 use crate::standing::{Standing, resolve};
 use ftp_base::{ErrorKind, StoreError};
 use ftp_places::Place;
@@ -27,10 +27,8 @@ pub(crate) fn open_to_read<S: FileSystem>(
     let Standing::File(len) = found else {
         return Err(StoreError::Kind(ErrorKind::PermanentFileNotAvailable));
     };
-    match system.open(place) {
-        Ok(file) => Ok((file, len)),
-        Err(error) => Err(refusal(error.kind())),
-    }
+    let file = told(system.open(place))?;
+    Ok((file, len))
 }
 
 /// What stands at a place that may be changed.
@@ -43,6 +41,24 @@ pub(crate) fn resolve_writable<S: FileSystem>(
     ensures unlinked { OnOk result (IsUnlinked (S.told system.now) place.now) }
 {
     resolve(system, alloc, place.as_place())
+}
+
+/// How long the file is that stands at a place that may be changed.
+pub(crate) fn file_at<S: FileSystem>(
+    system: &S,
+    alloc: Global,
+    place: &Writable,
+) -> Result<u64, StoreError>
+    ensures unlinked { OnOk result (IsUnlinked (S.told system.now) place.now) }
+    ensures file { OnOk result (WasFileOrNothing (S.told system.now) place.now) }
+{
+    let found = resolve_writable(system, alloc, place)?;
+    match found {
+        Standing::File(len) => Ok(len),
+        Standing::Nothing | Standing::Directory => {
+            Err(StoreError::Kind(ErrorKind::PermanentFileNotAvailable))
+        }
+    }
 }
 
 /// A file that was opened for an upload, and made where there was none and the budget has room for an upload from this place on.
@@ -62,10 +78,7 @@ pub(crate) fn open_to_begin<R: Wait, S: FileSystem>(
         Standing::File(_) => create(system, place),
         Standing::Nothing => {
             budget.check(rt, start)?;
-            match create(system, place) {
-                Ok(file) => Ok(file),
-                Err(error) => Err(in_directory(error)),
-            }
+            in_directory(create(system, place))
         }
     }
 }
@@ -78,13 +91,8 @@ pub(crate) fn open_to_append<S: FileSystem>(
 ) -> Result<S::File, StoreError>
     ensures unlinked { OnOk result (IsUnlinked (S.told system.now) place.now) }
 {
-    let found = resolve_writable(system, alloc, place)?;
-    match found {
-        Standing::File(_) => create(system, place),
-        Standing::Nothing | Standing::Directory => {
-            Err(StoreError::Kind(ErrorKind::PermanentFileNotAvailable))
-        }
-    }
+    file_at(system, alloc, place)?;
+    create(system, place)
 }
 
 /// The file at a place with its lock, unless another upload has that.
@@ -92,10 +100,7 @@ pub(crate) fn create<S: FileSystem>(system: &S, place: &Writable) -> Result<S::F
     requires unlinked { IsUnlinked (S.told system.now) place.now }
     requires file { WasFileOrNothing (S.told system.now) place.now }
 {
-    let file = match system.create(place) {
-        Ok(file) => file,
-        Err(error) => return Err(refusal(error.kind())),
-    };
+    let file = told(system.create(place))?;
     match system.try_lock(&file) {
         Ok(()) => Ok(file),
         Err(TryLockError::WouldBlock) => {
@@ -105,12 +110,13 @@ pub(crate) fn create<S: FileSystem>(system: &S, place: &Writable) -> Result<S::F
     }
 }
 
-/// A refusal of what is missing, where a directory is.
-pub(crate) fn in_directory(error: StoreError) -> StoreError {
-    match error {
-        StoreError::Kind(ErrorKind::PermanentFileNotAvailable) => {
-            StoreError::Kind(ErrorKind::PermanentDirectoryNotAvailable)
+/// The same, where what is missing is a directory.
+pub(crate) fn in_directory<T>(answer: Result<T, StoreError>) -> Result<T, StoreError> {
+    match answer {
+        Ok(given) => Ok(given),
+        Err(StoreError::Kind(ErrorKind::PermanentFileNotAvailable)) => {
+            Err(StoreError::Kind(ErrorKind::PermanentDirectoryNotAvailable))
         }
-        error => error,
+        Err(error) => Err(error),
     }
 }

@@ -1,6 +1,6 @@
 //! How an error of the system refuses a call of a storage.
 
-ghost use Rattle.std.specs.Prelude.{◌≡◌};
+ghost use Rattle.std.specs.Prelude.{◌≡◌, Ok, IfOk};
 ghost use Rattle.ftp_disk.specs.Refusal.{refusal_of};
 
 use ftp_base::{ErrorKind, StoreError};
@@ -35,5 +35,15 @@ pub fn refusal(kind: io::ErrorKind) -> StoreError
         }
         io::ErrorKind::OutOfMemory => StoreError::OutOfMemory,
         _ => StoreError::Failed,
+    }
+}
+
+/// What the system gave, or how its error refuses a call of a storage.
+pub(crate) fn told<T>(answer: io::Result<T>) -> Result<T, StoreError>
+    ensures { IfOk result (λ given. answer ≡ Ok given) }
+{
+    match answer {
+        Ok(given) => Ok(given),
+        Err(error) => Err(refusal(error.kind())),
     }
 }

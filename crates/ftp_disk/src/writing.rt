@@ -4,7 +4,7 @@ ghost use Rattle.std.specs.Prelude.{◌≡◌};
 
 use crate::budget::Budget;
 use crate::file_system::FileSystem;
-use crate::refusals::refusal;
+use crate::refusals::{refusal, told};
 use ftp_base::StoreError;
 use std::io;
 use std::io::{Seek, SeekFrom};
@@ -12,10 +12,7 @@ use std::sync::Wait;
 
 /// Goes to a place of a file.
 pub(crate) fn go_to<F: Seek>(file: &mut F, to: SeekFrom) -> Result<u64, StoreError> {
-    match file.seek(to) {
-        Ok(at) => Ok(at),
-        Err(error) => Err(refusal(error.kind())),
-    }
+    told(file.seek(to))
 }
 
 /// Refuses a place that no file of the system reaches.
