@@ -2,7 +2,6 @@
 
 ghost use Rattle.std.specs.Prelude.{◌≡◌, ◌+◌, ◌^◌, ◌<◌, ◌≤◌, ◌&&◌, nat_eq, true, false, is_some, length, Some, IfOk, OnOk, IsErrOf};
 ghost use Rattle.ftp_base.specs.declared.error_kind.ErrorKind.TheVariants.{PermissionDenied};
-ghost use Rattle.ftp_base.specs.Outside.{HasRisen};
 ghost use Rattle.ftp_places.specs.Names.{names_of};
 ghost use Rattle.ftp_disk.specs.Disk.{place_in_home, IsReached, WasFound, WasListed};
 ghost use Rattle.ftp_disk.specs.Home.{has_home, may_write};
@@ -103,19 +102,6 @@ impl<R: Wait + Drop, S: FileSystem + Drop> DiskStorage<R, S> {
     {
         let home = self.homes.find(user)?;
         home.place(self.alloc, path.as_slice())
-    }
-
-    // Counts a call that failed.
-    fn counted<T>(&mut self, answer: Result<T, StoreError>) -> Result<T, StoreError>
-        ensures same { result ≡ answer }
-        ensures fault_rose { IsErrOf answer StoreError.Failed → HasRisen self.old.faults self.new.faults }
-        ensures others { self.new ≡ record self.old { faults = self.new.faults } }
-        ensures count { self.old.faults ≤ self.new.faults }
-    {
-        if let Err(StoreError::Failed) = &answer {
-            self.faults = self.faults.saturating_add(1);
-        }
-        answer
     }
 
     // Closes the file that is open. What an upload has written beside its path is removed.

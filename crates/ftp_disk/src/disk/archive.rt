@@ -13,7 +13,7 @@ use crate::disk::DiskStorage;
 use crate::file_system::FileSystem;
 use crate::listing::meta_of;
 use crate::standing::resolve;
-use ftp_base::{Bytes, ErrorKind, StoreError};
+use ftp_base::{Bytes, ErrorKind, StoreError, count_failed};
 use ftp_extras::{Archive, Found};
 use std::sync::Wait;
 
@@ -96,7 +96,7 @@ impl<R: Wait + Drop, S: FileSystem + Drop> Archive for DiskStorage<R, S> {
         ensures others { self.new ≡ record self.old { faults = self.new.faults } }
     {
         let found = self.find(user, path);
-        self.counted(found)
+        count_failed(&mut self.faults, found)
     }
 
     fn remove(&mut self, user: &Bytes, path: &Bytes) -> Result<(), StoreError>
@@ -106,7 +106,7 @@ impl<R: Wait + Drop, S: FileSystem + Drop> Archive for DiskStorage<R, S> {
         ensures others { self.new ≡ record self.old { faults = self.new.faults } }
     {
         let done = self.remove_file(user, path);
-        self.counted(done)
+        count_failed(&mut self.faults, done)
     }
 
     fn make_directory(&mut self, user: &Bytes, path: &Bytes) -> Result<(), StoreError>
@@ -116,7 +116,7 @@ impl<R: Wait + Drop, S: FileSystem + Drop> Archive for DiskStorage<R, S> {
         ensures others { self.new ≡ record self.old { faults = self.new.faults } }
     {
         let done = self.create_dir(user, path);
-        self.counted(done)
+        count_failed(&mut self.faults, done)
     }
 
     fn remove_directory(&mut self, user: &Bytes, path: &Bytes) -> Result<(), StoreError>
@@ -126,7 +126,7 @@ impl<R: Wait + Drop, S: FileSystem + Drop> Archive for DiskStorage<R, S> {
         ensures others { self.new ≡ record self.old { faults = self.new.faults } }
     {
         let done = self.remove_dir(user, path);
-        self.counted(done)
+        count_failed(&mut self.faults, done)
     }
 
     fn rename(&mut self, user: &Bytes, from: &Bytes, to: &Bytes) -> Result<(), StoreError>
@@ -136,7 +136,7 @@ impl<R: Wait + Drop, S: FileSystem + Drop> Archive for DiskStorage<R, S> {
         ensures others { self.new ≡ record self.old { faults = self.new.faults } }
     {
         let done = self.move_to(user, from, to);
-        self.counted(done)
+        count_failed(&mut self.faults, done)
     }
 
     fn set_modified(&mut self, user: &Bytes, path: &Bytes, at: &Bytes) -> Result<(), StoreError>
@@ -147,6 +147,6 @@ impl<R: Wait + Drop, S: FileSystem + Drop> Archive for DiskStorage<R, S> {
         ensures others { self.new ≡ record self.old { faults = self.new.faults } }
     {
         let done = self.set_date(user, path, at);
-        self.counted(done)
+        count_failed(&mut self.faults, done)
     }
 }

@@ -8,7 +8,7 @@ ghost use Rattle.ftp_disk.specs.Home.{has_home, may_write};
 
 use crate::disk::DiskStorage;
 use crate::file_system::FileSystem;
-use ftp_base::{Bytes, FEATURE_RESTART, FileInfo, Meta, Storage, StoreError};
+use ftp_base::{Bytes, FEATURE_RESTART, FileInfo, Meta, Storage, StoreError, count_failed};
 use std::sync::Wait;
 
 impl<R: Wait + Drop, S: FileSystem + Drop> Storage for DiskStorage<R, S> {
@@ -48,7 +48,7 @@ impl<R: Wait + Drop, S: FileSystem + Drop> Storage for DiskStorage<R, S> {
         ensures others { self.new ≡ record self.old { faults = self.new.faults } }
     {
         let found = self.look(user, path);
-        self.counted(found)
+        count_failed(&mut self.faults, found)
     }
 
     fn list(&mut self, user: &Bytes, path: &Bytes) -> Result<Vec<FileInfo>, StoreError>
@@ -59,7 +59,7 @@ impl<R: Wait + Drop, S: FileSystem + Drop> Storage for DiskStorage<R, S> {
         ensures others { self.new ≡ record self.old { faults = self.new.faults } }
     {
         let found = self.children(user, path);
-        self.counted(found)
+        count_failed(&mut self.faults, found)
     }
 
     fn read_at(
@@ -77,7 +77,7 @@ impl<R: Wait + Drop, S: FileSystem + Drop> Storage for DiskStorage<R, S> {
         ensures others { self.new ≡ record self.old { is_apart = self.new.is_apart; faults = self.new.faults } }
     {
         let read = self.read(user, path, at, out);
-        self.counted(read)
+        count_failed(&mut self.faults, read)
     }
 
     fn begin(&mut self, user: &Bytes, path: &Bytes, start: u64) -> Result<(), StoreError>
@@ -89,7 +89,7 @@ impl<R: Wait + Drop, S: FileSystem + Drop> Storage for DiskStorage<R, S> {
         ensures others { self.new ≡ record self.old { is_apart = self.new.is_apart; faults = self.new.faults } }
     {
         let begun = self.start(user, path, start);
-        self.counted(begun)
+        count_failed(&mut self.faults, begun)
     }
 
     fn append(&mut self, user: &Bytes, path: &Bytes, bytes: &[u8]) -> Result<(), StoreError>
@@ -99,7 +99,7 @@ impl<R: Wait + Drop, S: FileSystem + Drop> Storage for DiskStorage<R, S> {
         ensures others { self.new ≡ record self.old { is_apart = self.new.is_apart; faults = self.new.faults } }
     {
         let grown = self.write(user, path, bytes);
-        self.counted(grown)
+        count_failed(&mut self.faults, grown)
     }
 
     fn settle(&mut self, user: &Bytes, path: &Bytes) -> Result<(), StoreError>
@@ -109,6 +109,6 @@ impl<R: Wait + Drop, S: FileSystem + Drop> Storage for DiskStorage<R, S> {
         ensures others { self.new ≡ record self.old { is_apart = self.new.is_apart; faults = self.new.faults } }
     {
         let ended = self.end(user, path);
-        self.counted(ended)
+        count_failed(&mut self.faults, ended)
     }
 }
