@@ -4,7 +4,7 @@ ghost use Rattle.std.specs.Prelude.{◌≡◌, ◌+◌, ◌^◌, ◌<◌, ◌≤
 
 use crate::depot::Depot;
 use crate::uploads::Uploads;
-use ftp_base::{Bytes, ErrorKind, FileBytes, FileInfo, Meta, Storage, StoreError};
+use ftp_base::{Bytes, ErrorKind, FileBytes, FileInfo, Meta, Storage, StoreError, count_failed};
 use ftp_extras::NoExtras;
 use std::alloc::{AllocError, Global};
 use std::sync::{Arc, Mutex, Wait};
@@ -184,18 +184,12 @@ impl<R: Wait + Drop, S: Storage + Drop> Storage for SharedStorage<R, S> {
 
     fn metadata(&mut self, user: &Bytes, path: &Bytes) -> Result<Meta, StoreError> {
         let found = self.files.lock(&self.rt).metadata(user, path);
-        if let Err(StoreError::Failed) = &found {
-            self.faults = self.faults.saturating_add(1);
-        }
-        found
+        count_failed(&mut self.faults, found)
     }
 
     fn list(&mut self, user: &Bytes, path: &Bytes) -> Result<Vec<FileInfo>, StoreError> {
         let found = self.files.lock(&self.rt).list(user, path);
-        if let Err(StoreError::Failed) = &found {
-            self.faults = self.faults.saturating_add(1);
-        }
-        found
+        count_failed(&mut self.faults, found)
     }
 
     fn read_at(
@@ -211,10 +205,7 @@ impl<R: Wait + Drop, S: Storage + Drop> Storage for SharedStorage<R, S> {
             }
         }
         let read = self.read_locked(user, path, at, out);
-        if let Err(StoreError::Failed) = &read {
-            self.faults = self.faults.saturating_add(1);
-        }
-        read
+        count_failed(&mut self.faults, read)
     }
 
     fn begin(&mut self, user: &Bytes, path: &Bytes, start: u64) -> Result<(), StoreError> {
@@ -223,29 +214,20 @@ impl<R: Wait + Drop, S: Storage + Drop> Storage for SharedStorage<R, S> {
             return Err(StoreError::Kind(ErrorKind::TransientFileNotAvailable));
         }
         let begun = self.files.lock(&self.rt).begin(user, path, start);
-        if let Err(StoreError::Failed) = &begun {
-            self.faults = self.faults.saturating_add(1);
-        }
         if begun.is_err() {
             self.end_upload();
         }
-        begun
+        count_failed(&mut self.faults, begun)
     }
 
     fn append(&mut self, user: &Bytes, path: &Bytes, bytes: &[u8]) -> Result<(), StoreError> {
         self.loan = None;
         let grown = self.files.lock(&self.rt).append(user, path, bytes);
-        if let Err(StoreError::Failed) = &grown {
-            self.faults = self.faults.saturating_add(1);
-        }
-        grown
+        count_failed(&mut self.faults, grown)
     }
 
     fn settle(&mut self, user: &Bytes, path: &Bytes) -> Result<(), StoreError> {
         let settled = self.files.lock(&self.rt).settle(user, path);
-        if let Err(StoreError::Failed) = &settled {
-            self.faults = self.faults.saturating_add(1);
-        }
-        settled
+        count_failed(&mut self.faults, settled)
     }
 }
