@@ -1,11 +1,9 @@
 //! Control connections over sockets.
 
-ghost use Rattle.std.specs.Prelude.{◌≡◌, ◌≤◌, ◌++◌, ℕ, List, IsSome};
-ghost use Rattle.ftp_base.specs.declared.fault.Failed.{Failed};
-ghost use Rattle.ftp_base.specs.Outside.{HasRisen};
+ghost use Rattle.std.specs.Prelude.{◌≡◌, ◌++◌, ℕ, List};
 ghost use Rattle.ftp_system.specs.Telnet.{text_in};
 
-use crate::link::link_fault;
+use crate::faults::{Faults, link_fault};
 use crate::stream::{
     STREAM, Seen, WAKER, is_text_next, linger, read_text, wait_ready, write_patiently,
 };
@@ -33,8 +31,7 @@ pub struct SocketControl {
     telnet: Telnet,
     patience: u64,
     limit: u64,
-    faults: u64,
-    last_fault: Option<LinkFault>,
+    faults: Faults,
     closed: bool,
 }
 
@@ -99,8 +96,7 @@ impl SocketControl {
             telnet: Telnet::Open,
             patience,
             limit,
-            faults: 0,
-            last_fault: None,
+            faults: Faults::NONE,
             closed: false,
         })
     }
@@ -125,19 +121,6 @@ impl SocketControl {
         let kept = self.telnet.strip(bytes.as_mut_slice());
         bytes.truncate(kept);
     }
-
-    // Counts a read or a write that failed.
-    fn failed(&mut self, kind: ErrorKind) -> Failed
-        ensures fault { result ≡ Failed.Fault }
-        ensures fault_rose { HasRisen self.old.faults self.new.faults }
-        ensures count { self.old.faults ≤ self.new.faults }
-        ensures met { IsSome self.new.last_fault }
-        ensures closed { self.new.closed ≡ self.old.closed }
-    {
-        self.faults = self.faults.saturating_add(1);
-        self.last_fault = Some(link_fault(kind));
-        Failed::Fault
-    }
 }
 
 impl Source for SocketControl {
@@ -145,9 +128,9 @@ impl Source for SocketControl {
 
     ghost left = { λ _. None };
 
-    ghost faults = { λ s. s.faults };
+    ghost faults = { λ s. s.faults.count };
 
-    ghost sending = { λ s. record { sent = None; closed = s.closed; last_fault = s.last_fault } };
+    ghost sending = { λ s. record { sent = None; closed = s.closed; last_fault = s.faults.last } };
 
     ghost is_link = { true };
 
@@ -163,7 +146,7 @@ impl Source for SocketControl {
         );
         match read {
             Ok(n) => Ok(n),
-            Err(e) => Err(self.failed(e.kind())),
+            Err(e) => Err(self.faults.meet(link_fault(e.kind()))),
         }
     }
 }
@@ -186,8 +169,8 @@ impl Link for SocketControl {
         );
         match written {
             Ok(n) if n > 0 || bytes.is_empty() => Ok(n),
-            Ok(_) => Err(self.failed(ErrorKind::WriteZero)),
-            Err(e) => Err(self.failed(e.kind())),
+            Ok(_) => Err(self.faults.meet(LinkFault::Other)),
+            Err(e) => Err(self.faults.meet(link_fault(e.kind()))),
         }
     }
 
@@ -196,7 +179,7 @@ impl Link for SocketControl {
     }
 
     fn close(&mut self) -> Result<(), Failed> {
-        let is_lost = self.seen.ended || self.last_fault.is_some();
+        let is_lost = self.seen.ended || self.faults.last.is_some();
         if !is_lost && self.stream.shutdown(Shutdown::Write).is_ok() {
             linger(
                 &self.stream,
@@ -206,24 +189,17 @@ impl Link for SocketControl {
             );
         }
         match self.stream.shutdown(Shutdown::Both) {
-            Ok(()) => {
+            // Where none is connected both sides had ended.
+            Err(e) if e.kind() != ErrorKind::NotConnected => Err(self.faults.count()),
+            _ => {
                 self.closed = true;
                 Ok(())
-            }
-            // Both sides had ended.
-            Err(e) if e.kind() == ErrorKind::NotConnected => {
-                self.closed = true;
-                Ok(())
-            }
-            Err(_) => {
-                self.faults = self.faults.saturating_add(1);
-                Err(Failed::Fault)
             }
         }
     }
 
     fn last_fault(&self) -> Option<LinkFault> {
-        self.last_fault
+        self.faults.last
     }
 }
 
@@ -241,10 +217,7 @@ impl Control for SocketControl {
         }
         match waited {
             Ok(is_ready) => Ok(is_ready),
-            Err(_) => {
-                self.faults = self.faults.saturating_add(1);
-                Err(Failed::Fault)
-            }
+            Err(_) => Err(self.faults.count()),
         }
     }
 }

@@ -4,6 +4,7 @@ ghost use Rattle.std.specs.Prelude.{◌≡◌, ◌≤◌, vec_len, IsSome, IfOk}
 ghost use Rattle.ftp_base.specs.declared.fault.Failed.{Failed};
 ghost use Rattle.ftp_base.specs.Outside.{HasRisen};
 
+use crate::faults::Faults;
 use ftp_base::{Failed, Link, LinkFault, Source};
 use std::alloc::{AllocError, Global};
 
@@ -38,8 +39,7 @@ pub struct Gathered<L: Link> {
     // What was read and not given lies between these places.
     from: usize,
     to: usize,
-    faults: u64,
-    last_fault: Option<LinkFault>,
+    faults: Faults,
     closed: bool,
     ghost out_within: { out ≤ vec_len buffer },
     ghost from_within: { from ≤ to },
@@ -55,8 +55,7 @@ impl<L: Link> Gathered<L> {
             out: 0,
             from: 0,
             to: 0,
-            faults: 0,
-            last_fault: None,
+            faults: Faults::NONE,
             closed: false,
         }
     }
@@ -73,7 +72,6 @@ impl<L: Link> Gathered<L> {
             from: _,
             to: _,
             faults: _,
-            last_fault: _,
             closed: _,
         } = self;
         drop(inner);
@@ -92,7 +90,6 @@ impl<L: Link> Gathered<L> {
             from,
             to,
             faults: _,
-            last_fault: _,
             closed: _,
         } = self;
         let mut rest = Vec::new(alloc);
@@ -103,20 +100,18 @@ impl<L: Link> Gathered<L> {
     // Counts a read or a write that failed, with what the link met.
     fn failed(&mut self) -> Failed
         ensures fault { result ≡ Failed.Fault }
-        ensures fault_rose { HasRisen self.old.faults self.new.faults }
-        ensures count { self.old.faults ≤ self.new.faults }
-        ensures met { IsSome self.new.last_fault }
+        ensures fault_rose { HasRisen self.old.faults.count self.new.faults.count }
+        ensures count { self.old.faults.count ≤ self.new.faults.count }
+        ensures met { IsSome self.new.faults.last }
         ensures closed { self.new.closed ≡ self.old.closed }
     {
-        self.faults = self.faults.saturating_add(1);
-        self.last_fault = Some(self.inner.last_fault().unwrap_or(LinkFault::Other));
-        Failed::Fault
+        self.faults
+            .meet(self.inner.last_fault().unwrap_or(LinkFault::Other))
     }
 
     // Sends all that waits. Where that fails, the rest is lost.
     fn send_gathered(&mut self) -> bool
         ensures faults { self.new.faults ≡ self.old.faults }
-        ensures last_fault { self.new.last_fault ≡ self.old.last_fault }
         ensures closed { self.new.closed ≡ self.old.closed }
         ensures out { self.new.out ≡ 0 }
         ensures from { self.new.from ≡ self.old.from }
@@ -149,9 +144,9 @@ impl<L: Link> Source for Gathered<L> {
 
     ghost left = { λ _. None };
 
-    ghost faults = { λ s. s.faults };
+    ghost faults = { λ s. s.faults.count };
 
-    ghost sending = { λ s. record { sent = None; closed = s.closed; last_fault = s.last_fault } };
+    ghost sending = { λ s. record { sent = None; closed = s.closed; last_fault = s.faults.last } };
 
     ghost is_link = { true };
 
@@ -224,11 +219,10 @@ impl<L: Link> Link for Gathered<L> {
             self.closed = true;
             return Ok(());
         }
-        self.faults = self.faults.saturating_add(1);
-        Err(Failed::Fault)
+        Err(self.faults.count())
     }
 
     fn last_fault(&self) -> Option<LinkFault> {
-        self.last_fault
+        self.faults.last
     }
 }

@@ -11,6 +11,7 @@ mod counts;
 mod depot;
 mod doors;
 mod edge;
+mod faults;
 mod gathered;
 mod link;
 mod listen;

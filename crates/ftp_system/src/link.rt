@@ -1,10 +1,8 @@
 //! Data connections over sockets.
 
-ghost use Rattle.std.specs.Prelude.{◌≡◌, ◌≤◌, IsSome};
 ghost use Rattle.std.specs.Io.{ReadsAtMost, WritesAtMost};
-ghost use Rattle.ftp_base.specs.declared.fault.Failed.{Failed};
-ghost use Rattle.ftp_base.specs.Outside.{HasRisen};
 
+use crate::faults::{Faults, link_fault};
 use crate::waiting::{Waiting, wait_for};
 use ftp_base::{Failed, Link, LinkFault, Source};
 use mio::Interest;
@@ -17,16 +15,6 @@ use std::net::{Net, Shutdown};
 /// How long a call may wait, in milliseconds, where a server sets no other limit.
 pub const LIMIT: u64 = 60_000;
 
-/// Which fault of a connection an error of the system is.
-pub(crate) fn link_fault(kind: ErrorKind) -> LinkFault {
-    match kind {
-        ErrorKind::ConnectionReset => LinkFault::Reset,
-        ErrorKind::BrokenPipe => LinkFault::BrokenPipe,
-        ErrorKind::ConnectionAborted => LinkFault::Aborted,
-        _ => LinkFault::Other,
-    }
-}
-
 /// A data connection. Where a call would block it waits, on a `Poll` that is made at the first wait.
 ///
 /// A wait beyond the limit is the fault `Other`.
@@ -37,8 +25,7 @@ pub struct SocketLink<N: Net + Drop> {
     stream: TcpStream,
     waiting: Option<Waiting>,
     limit: u64,
-    faults: u64,
-    last_fault: Option<LinkFault>,
+    faults: Faults,
     closed: bool,
 }
 
@@ -51,8 +38,7 @@ impl<N: Net + Drop> SocketLink<N> {
             stream,
             waiting: None,
             limit,
-            faults: 0,
-            last_fault: None,
+            faults: Faults::NONE,
             closed: false,
         }
     }
@@ -66,23 +52,9 @@ impl<N: Net + Drop> SocketLink<N> {
             waiting: _,
             limit: _,
             faults: _,
-            last_fault: _,
             closed: _,
         } = self;
         stream
-    }
-
-    // Counts a read or a write that failed.
-    fn failed(&mut self, kind: ErrorKind) -> Failed
-        ensures fault { result ≡ Failed.Fault }
-        ensures fault_rose { HasRisen self.old.faults self.new.faults }
-        ensures count { self.old.faults ≤ self.new.faults }
-        ensures met { IsSome self.new.last_fault }
-        ensures closed { self.new.closed ≡ self.old.closed }
-    {
-        self.faults = self.faults.saturating_add(1);
-        self.last_fault = Some(link_fault(kind));
-        Failed::Fault
     }
 }
 
@@ -142,9 +114,9 @@ impl<N: Net + Drop> Source for SocketLink<N> {
 
     ghost left = { λ _. None };
 
-    ghost faults = { λ s. s.faults };
+    ghost faults = { λ s. s.faults.count };
 
-    ghost sending = { λ s. record { sent = None; closed = s.closed; last_fault = s.last_fault } };
+    ghost sending = { λ s. record { sent = None; closed = s.closed; last_fault = s.faults.last } };
 
     ghost is_link = { true };
 
@@ -159,7 +131,7 @@ impl<N: Net + Drop> Source for SocketLink<N> {
         );
         match read {
             Ok(n) => Ok(n),
-            Err(e) => Err(self.failed(e.kind())),
+            Err(e) => Err(self.faults.meet(link_fault(e.kind()))),
         }
     }
 }
@@ -182,8 +154,8 @@ impl<N: Net + Drop> Link for SocketLink<N> {
         );
         match written {
             Ok(n) if n > 0 || bytes.is_empty() => Ok(n),
-            Ok(_) => Err(self.failed(ErrorKind::WriteZero)),
-            Err(e) => Err(self.failed(e.kind())),
+            Ok(_) => Err(self.faults.meet(LinkFault::Other)),
+            Err(e) => Err(self.faults.meet(link_fault(e.kind()))),
         }
     }
 
@@ -192,19 +164,14 @@ impl<N: Net + Drop> Link for SocketLink<N> {
     }
 
     fn close(&mut self) -> Result<(), Failed> {
-        match self.stream.shutdown(Shutdown::Both) {
-            Ok(()) => {
-                self.closed = true;
-                Ok(())
-            }
-            Err(_) => {
-                self.faults = self.faults.saturating_add(1);
-                Err(Failed::Fault)
-            }
+        if self.stream.shutdown(Shutdown::Both).is_err() {
+            return Err(self.faults.count());
         }
+        self.closed = true;
+        Ok(())
     }
 
     fn last_fault(&self) -> Option<LinkFault> {
-        self.last_fault
+        self.faults.last
     }
 }
