@@ -25,6 +25,7 @@ use Rattle.ftp_text.specs.Setup.{item_line, sent_line, file_line}
 use Rattle.ftp_text.specs.Printing.{print}
 use Rattle.ftp_text.specs.EventReading.{event_of, read_as}
 use Rattle.ftp_text.specs.SetupReading.{storage_at, dir_at, file_at, quota_at, budget_at, link_at, item_of}
+use Rattle.ftp_text.proofs.Samples.{AreSpelled, AreRead, AreBad}
 
 abbrev client : SocketAddr
 client = record { ip = V4 167772161; port = 4000 }
@@ -99,136 +100,71 @@ pub print-places : print places
 unfolding digits
 print-places = refl
 
-pub pasv_line : event_line (happens (kind.Pasv 1 65535 None (Some 50000))) ≡ codes "0 pasv 1 65535 - 50000"
+pub spelled_lines : AreSpelled event_line
+    ((happens (kind.Pasv 1 65535 None (Some 50000)), codes "0 pasv 1 65535 - 50000")
+    -- a byte that is not printable, and a backslash
+    ∷ (happens (kind.User 1 (97 ∷ 92 ∷ 255 ∷ [])), codes "0 user 1 a\\x5c\\xff") ∷ [])
 unfolding digits
-pasv_line = refl
+spelled_lines = refl
 
--- a byte that is not printable, and a backslash
-pub user_line : event_line (happens (kind.User 1 (97 ∷ 92 ∷ 255 ∷ []))) ≡ codes "0 user 1 a\\x5c\\xff"
+pub spelled_items : AreSpelled item_line
+    ((item.Link 11 65536 ((2, link.Reset) ∷ (5, link.BrokenPipe) ∷ []) (72 ∷ 10 ∷ []), codes "link 11 65536 2:reset,5:pipe 480a")
+    ∷ (item.Link 11 1 [] [], codes "link 11 1 - .")
+    ∷ (item.Storage 16 (1 ∷ 12 ∷ []), codes "storage 16 1,12")
+    ∷ (item.Dir (codes "/a b"), codes "dir /a b")
+    ∷ (item.Quota 10, codes "quota 10")
+    ∷ (item.Budget 4 (codes "ann b"), codes "budget 4 ann b") ∷ [])
 unfolding digits
-user_line = refl
-
-pub link_line : item_line (item.Link 11 65536 ((2, link.Reset) ∷ (5, link.BrokenPipe) ∷ []) (72 ∷ 10 ∷ [])) ≡ codes "link 11 65536 2:reset,5:pipe 480a"
-unfolding digits
-link_line = refl
-
-pub link_line-empty : item_line (item.Link 11 1 [] []) ≡ codes "link 11 1 - ."
-unfolding digits
-link_line-empty = refl
+spelled_items = refl
 
 pub sent_line-hello : sent_line 11 (codes "Hello") ≡ codes "link 11 sent 48656c6c6f\n"
 unfolding digits
 sent_line-hello = refl
-
-pub storage_line : item_line (item.Storage 16 (1 ∷ 12 ∷ [])) ≡ codes "storage 16 1,12"
-unfolding digits
-storage_line = refl
-
-pub dir_line : item_line (item.Dir (codes "/a b")) ≡ codes "dir /a b"
-dir_line = refl
-
-pub quota_line : item_line (item.Quota 10) ≡ codes "quota 10"
-unfolding digits
-quota_line = refl
-
-pub budget_line : item_line (item.Budget 4 (codes "ann b")) ≡ codes "budget 4 ann b"
-unfolding digits
-budget_line = refl
 
 pub file_line-hi : file_line (47 ∷ 255 ∷ [], codes "hi") ≡ codes "file 6869 /\\xff\n"
 file_line-hi = refl
 
 -- ---- lines that spell nothing
 
-abbrev bad : List ℕ → Type 0
-bad line = event_of line ≡ None
+pub bad_lines : AreBad event_of
+    (codes "0 user 1"
+    ∷ codes "00 pass 1"
+    ∷ codes "0 user 1 \\xFF"
+    ∷ codes "0 user 1 \\x41"
+    ∷ codes "0 pasv 1 65536 - -"
+    ∷ codes "0 rest 1 18446744073709551616"
+    -- a word of the authenticator is none of the storage
+    ∷ codes "0 cwd 1 refused pub"
+    ∷ codes "0 cwd 1 ok" ∷ [])
+unfolding event_of word_value read_as number_at word_at text_field digits text_from small_at
+bad_lines = refl
 
-pub bad-no_text : bad (codes "0 user 1")
-unfolding event_of word_value read_as number_at word_at text_field digits
-bad-no_text = refl
-
-pub bad-leading_zero : bad (codes "00 pass 1")
-unfolding event_of number_at digits
-bad-leading_zero = refl
-
-pub bad-upper_escape : bad (codes "0 user 1 \\xFF")
-unfolding event_of word_value read_as number_at word_at text_field text_from digits
-bad-upper_escape = refl
-
-pub bad-plain_escape : bad (codes "0 user 1 \\x41")
-unfolding event_of word_value read_as number_at word_at text_field text_from digits
-bad-plain_escape = refl
-
-pub bad-port : bad (codes "0 pasv 1 65536 - -")
-unfolding event_of word_value read_as number_at small_at word_at digits
-bad-port = refl
-
-pub bad-offset : bad (codes "0 rest 1 18446744073709551616")
-unfolding event_of word_value read_as number_at word_at digits
-bad-offset = refl
-
--- a word of the authenticator is none of the storage
-pub bad-kind : bad (codes "0 cwd 1 refused pub")
-unfolding event_of word_value read_as number_at word_at digits
-bad-kind = refl
-
-pub bad-no_path : bad (codes "0 cwd 1 ok")
-unfolding event_of word_value read_as number_at word_at text_field digits
-bad-no_path = refl
-
-pub bad-odd_digits : item_of (codes "link 11 1 - 480") ≡ None
-unfolding item_of link_at number_at small_at hex_field hex_of hex_from word_at calls_field list_of digits
-bad-odd_digits = refl
-
--- calls count from 1 and rise, and a hyphen is no call
-pub bad-call_zero : item_of (codes "storage 16 0") ≡ None
-unfolding item_of storage_at number_at word_at calls_field list_of each_of call_of digits
-bad-call_zero = refl
-
-pub bad-same_call : item_of (codes "storage 16 3,3") ≡ None
-unfolding item_of storage_at number_at word_at calls_field list_of each_of call_of digits
-bad-same_call = refl
-
-pub bad-fault : item_of (codes "link 11 1 2:lost .") ≡ None
-unfolding item_of link_at number_at small_at hex_field hex_of word_at calls_field list_of each_of link_call_of digits
-bad-fault = refl
-
-pub bad-relative_path : item_of (codes "dir a") ≡ None
-unfolding item_of dir_at text_field text_from
-bad-relative_path = refl
-
-pub bad-budget : item_of (codes "budget 4") ≡ None
-unfolding item_of budget_at number_at text_field digits
-bad-budget = refl
+pub bad_items : AreBad item_of
+    (codes "link 11 1 - 480"
+    -- calls count from 1 and rise, and a hyphen is no call
+    ∷ codes "storage 16 0"
+    ∷ codes "storage 16 3,3"
+    ∷ codes "link 11 1 2:lost ."
+    ∷ codes "dir a"
+    ∷ codes "budget 4" ∷ [])
+unfolding item_of link_at number_at small_at hex_field hex_of hex_from word_at calls_field list_of digits storage_at each_of call_of link_call_of dir_at text_field text_from budget_at
+bad_items = refl
 
 -- ---- lines that are read
 
-pub read-empty_name : event_of (codes "0 user 1 ") ≡ Some (happens (kind.User 1 []))
+pub read_lines : AreRead event_of
+    ((happens (kind.User 1 []), codes "0 user 1 ")
+    -- a directory that is named as a kind is
+    ∷ (happens (kind.Cwd 1 (codes "closed") None), codes "0 cwd 1 ok closed") ∷ [])
 unfolding event_of word_value read_as number_at word_at text_field text_from digits
-read-empty_name = refl
+read_lines = refl
 
--- a directory that is named as a kind is
-pub read-directory : event_of (codes "0 cwd 1 ok closed") ≡ Some (happens (kind.Cwd 1 (codes "closed") None))
-unfolding event_of word_value read_as number_at word_at text_field text_from digits
-read-directory = refl
-
-pub read-storage : item_of (codes "storage 16 1,12") ≡ Some (item.Storage 16 (1 ∷ 12 ∷ []))
-unfolding item_of storage_at number_at word_at calls_field list_of each_of call_of digits
-read-storage = refl
-
-pub read-quota : item_of (codes "quota 10") ≡ Some (item.Quota 10)
-unfolding item_of quota_at number_at word_at digits
-read-quota = refl
-
--- a user's name may be empty
-pub read-budget : item_of (codes "budget 4 ") ≡ Some (item.Budget 4 [])
-unfolding item_of budget_at number_at word_at text_field text_from digits
-read-budget = refl
-
-pub read-link : item_of (codes "link 11 1 2:reset,3:other .") ≡ Some (item.Link 11 1 ((2, link.Reset) ∷ (3, link.Other) ∷ []) [])
-unfolding item_of link_at number_at small_at hex_field hex_of word_at calls_field list_of each_of link_call_of digits
-read-link = refl
-
-pub read-file : item_of (codes "file 6869 /a/\\x0a") ≡ Some (item.File (codes "hi") (47 ∷ 97 ∷ 47 ∷ 10 ∷ []))
-unfolding item_of file_at hex_field hex_of hex_from word_at text_field text_from
-read-file = refl
+pub read_items : AreRead item_of
+    ((item.Storage 16 (1 ∷ 12 ∷ []), codes "storage 16 1,12")
+    ∷ (item.Quota 10, codes "quota 10")
+    -- a user's name may be empty
+    ∷ (item.Budget 4 [], codes "budget 4 ")
+    ∷ (item.Link 11 1 ((2, link.Reset) ∷ (3, link.Other) ∷ []) [], codes "link 11 1 2:reset,3:other .")
+    ∷ (item.File (codes "hi") (47 ∷ 97 ∷ 47 ∷ 10 ∷ []), codes "file 6869 /a/\\x0a") ∷ [])
+unfolding item_of storage_at number_at word_at calls_field list_of each_of call_of digits quota_at budget_at text_field text_from link_at small_at hex_field hex_of link_call_of file_at hex_from
+read_items = refl

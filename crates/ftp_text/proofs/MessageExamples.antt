@@ -28,6 +28,7 @@ use Rattle.ftp_text.specs.Reading.{number_at, text_from, text_field, word_value,
 use Rattle.ftp_text.specs.Events.{event_line}
 use Rattle.ftp_text.specs.Printing.{print, decision_line, action_line}
 use Rattle.ftp_text.specs.EventReading.{event_of, read_as}
+use Rattle.ftp_text.proofs.Samples.{AreSpelled, AreRead, AreBad}
 
 abbrev happens : EventKind → HubEvent
 happens k = record { at = 1; kind = k }
@@ -85,93 +86,42 @@ decision_lines = refl
 
 -- ---- the lines of the events
 
--- a message that only the core has is told by its session alone
-pub internal_line-core : event_line (has message.WriteFailed) ≡ codes "1 internal 1"
+pub spelled_lines : AreSpelled event_line
+    -- a message that only the core has is told by its session alone
+    ((has message.WriteFailed, codes "1 internal 1")
+    -- the length counts bytes, not what spells them
+    ∷ (has (message.RenameSuccess (255 ∷ []) (codes "b")), codes "1 internal 1 renamed 1 \\xffb") ∷ [])
 unfolding digits
-internal_line-core = refl
+spelled_lines = refl
 
--- the length counts bytes, not what spells them
-pub internal_line-escaped : event_line (has (message.RenameSuccess (255 ∷ []) (codes "b"))) ≡ codes "1 internal 1 renamed 1 \\xffb"
-unfolding digits
-internal_line-escaped = refl
-
-pub read-renamed : event_of (codes "1 internal 1 renamed 2 /a/b") ≡ Some (has (message.RenameSuccess (codes "/a") (codes "/b")))
+pub read_lines : AreRead event_of
+    ((has (message.RenameSuccess (codes "/a") (codes "/b")), codes "1 internal 1 renamed 2 /a/b")
+    -- either path may be empty
+    ∷ (has (message.RenameSuccess (codes "/a/b") []), codes "1 internal 1 renamed 4 /a/b")
+    ∷ (has (message.RenameSuccess [] []), codes "1 internal 1 renamed 0 ")
+    ∷ (has message.PermissionDenied, codes "1 internal 1 denied")
+    ∷ (has (message.DelFileSuccess []), codes "1 internal 1 deleted ")
+    ∷ (has (message.StorageError error.InsufficientStorageSpaceError), codes "1 internal 1 kind space")
+    ∷ (has (message.CommandChannelReply (reply.CodeAndMsg code.BadFileName (codes "no"))), codes "1 internal 1 reply 553 no")
+    ∷ (happens (kind.Abor 1), codes "1 abor 1")
+    ∷ (happens (kind.IdleTick 1), codes "1 idle 1")
+    ∷ (happens kind.Scavenge, codes "1 scavenge")
+    ∷ (happens kind.Shutdown, codes "1 shutdown") ∷ [])
 unfolding event_of word_value read_as message_at two_paths_at number_at text_field text_from word_at digits
-read-renamed = refl
-
--- either path may be empty
-pub read-renamed_to_nothing : event_of (codes "1 internal 1 renamed 4 /a/b") ≡ Some (has (message.RenameSuccess (codes "/a/b") []))
-unfolding event_of word_value read_as message_at two_paths_at number_at text_field text_from word_at digits
-read-renamed_to_nothing = refl
-
-pub read-renamed_from_nothing : event_of (codes "1 internal 1 renamed 0 ") ≡ Some (has (message.RenameSuccess [] []))
-unfolding event_of word_value read_as message_at two_paths_at number_at text_field text_from word_at digits
-read-renamed_from_nothing = refl
-
-pub read-denied : event_of (codes "1 internal 1 denied") ≡ Some (has message.PermissionDenied)
-unfolding event_of word_value read_as message_at number_at word_at digits
-read-denied = refl
-
-pub read-deleted : event_of (codes "1 internal 1 deleted ") ≡ Some (has (message.DelFileSuccess []))
-unfolding event_of word_value read_as message_at number_at text_field text_from word_at digits
-read-deleted = refl
-
-pub read-kind : event_of (codes "1 internal 1 kind space") ≡ Some (has (message.StorageError error.InsufficientStorageSpaceError))
-unfolding event_of word_value read_as message_at number_at word_at digits
-read-kind = refl
-
-pub read-reply : event_of (codes "1 internal 1 reply 553 no") ≡ Some (has (message.CommandChannelReply (reply.CodeAndMsg code.BadFileName (codes "no"))))
-unfolding event_of word_value read_as message_at number_at text_field text_from word_at digits
-read-reply = refl
-
-pub read-abor : event_of (codes "1 abor 1") ≡ Some (happens (kind.Abor 1))
-unfolding event_of word_value read_as number_at word_at digits
-read-abor = refl
-
-pub read-idle : event_of (codes "1 idle 1") ≡ Some (happens (kind.IdleTick 1))
-unfolding event_of word_value read_as number_at word_at digits
-read-idle = refl
-
-pub read-scavenge : event_of (codes "1 scavenge") ≡ Some (happens kind.Scavenge)
-unfolding event_of word_value read_as number_at word_at digits
-read-scavenge = refl
-
-pub read-shutdown : event_of (codes "1 shutdown") ≡ Some (happens kind.Shutdown)
-unfolding event_of word_value read_as number_at word_at digits
-read-shutdown = refl
+read_lines = refl
 
 -- ---- lines that spell nothing
 
-abbrev bad : List ℕ → Type 0
-bad line = event_of line ≡ None
-
--- the first path is longer than both
-pub bad-cut : bad (codes "1 internal 1 renamed 5 /a/b")
+pub bad_lines : AreBad event_of
+    -- the first path is longer than both
+    (codes "1 internal 1 renamed 5 /a/b"
+    ∷ codes "1 internal 1 renamed 0"
+    ∷ codes "1 internal 1"
+    ∷ codes "1 internal 1 reply 999 no"
+    -- a storage that refuses nothing has no message
+    ∷ codes "1 internal 1 kind ok"
+    ∷ codes "1 internal 1 denied "
+    -- the stop is about no one session
+    ∷ codes "1 shutdown 1" ∷ [])
 unfolding event_of word_value read_as message_at two_paths_at number_at text_field text_from word_at digits
-bad-cut = refl
-
-pub bad-no_paths : bad (codes "1 internal 1 renamed 0")
-unfolding event_of word_value read_as message_at two_paths_at number_at text_field text_from word_at digits
-bad-no_paths = refl
-
-pub bad-no_message : bad (codes "1 internal 1")
-unfolding event_of word_value read_as message_at number_at word_at digits
-bad-no_message = refl
-
-pub bad-code : bad (codes "1 internal 1 reply 999 no")
-unfolding event_of word_value read_as message_at number_at text_field text_from word_at digits
-bad-code = refl
-
--- a storage that refuses nothing has no message
-pub bad-kind : bad (codes "1 internal 1 kind ok")
-unfolding event_of word_value read_as message_at number_at word_at digits
-bad-kind = refl
-
-pub bad-denied_text : bad (codes "1 internal 1 denied ")
-unfolding event_of word_value read_as message_at number_at word_at digits
-bad-denied_text = refl
-
--- the stop is about no one session
-pub bad-shutdown : bad (codes "1 shutdown 1")
-unfolding event_of word_value read_as number_at word_at digits
-bad-shutdown = refl
+bad_lines = refl

@@ -21,6 +21,7 @@ use Rattle.ftp_text.specs.Reading.{number_at, small_at, dotted_at, address_at, i
 use Rattle.ftp_text.specs.Events.{event_line}
 use Rattle.ftp_text.specs.Printing.{print, answer_line, decision_line}
 use Rattle.ftp_text.specs.EventReading.{event_of, read_as}
+use Rattle.ftp_text.proofs.Samples.{AreSpelled}
 
 -- the proxy 10.9.9.9
 abbrev proxy : SocketAddr
@@ -52,20 +53,17 @@ pub print-proxied : print (entry 1 header decision.Opened [] ∷ entry 2 (Err fa
 unfolding digits
 print-proxied = refl
 
--- an address of version 6 stands in brackets
-pub answer_line-ipv6 : answer_line (answer.Header (Ok (record { source = client; destination = record { ip = V6 (2 ^ 124 + 10); port = 21 } })))
-    ≡ codes "? header 192.0.2.7:40000 [1000000000000000000000000000000a]:21\n"
+pub spelled_answers : AreSpelled answer_line
+    -- an address of version 6 stands in brackets
+    ((answer.Header (Ok (record { source = client; destination = record { ip = V6 (2 ^ 124 + 10); port = 21 } })), codes "? header 192.0.2.7:40000 [1000000000000000000000000000000a]:21\n")
+    ∷ (answer.Header (Err (fault.ReadError UnexpectedEof)), codes "? header eof\n") ∷ [])
 unfolding digits hex_digits
-answer_line-ipv6 = refl
+spelled_answers = refl
 
-pub answer_line-eof : answer_line (answer.Header (Err (fault.ReadError UnexpectedEof))) ≡ codes "? header eof\n"
-answer_line-eof = refl
-
-pub decision_line-crlf : decision_line (decision.HeaderFault fault.CrlfError) ≡ codes "= headerfault crlf\n"
-decision_line-crlf = refl
-
-pub decision_line-fault : decision_line (decision.HeaderFault (fault.ReadError Fault)) ≡ codes "= headerfault fault\n"
-decision_line-fault = refl
+pub spelled_decisions : AreSpelled decision_line
+    ((decision.HeaderFault fault.CrlfError, codes "= headerfault crlf\n")
+    ∷ (decision.HeaderFault (fault.ReadError Fault), codes "= headerfault fault\n") ∷ [])
+spelled_decisions = refl
 
 -- ---- the line of the event
 

@@ -22,6 +22,7 @@ use Rattle.ftp_text.specs.Reading.{number_at, small_at, dotted_at, ipv4_at, addr
 use Rattle.ftp_text.specs.Events.{event_line}
 use Rattle.ftp_text.specs.Printing.{print, decision_line}
 use Rattle.ftp_text.specs.EventReading.{event_of, read_as}
+use Rattle.ftp_text.proofs.Samples.{AreRead, AreBad}
 
 abbrev client : SocketAddr
 client = record { ip = V4 167772161; port = 4001 }
@@ -76,43 +77,21 @@ pub port_line : event_line (happens (kind.Port 1 (97 ∷ 32 ∷ 255 ∷ []) (Som
 unfolding digits
 port_line = refl
 
-pub read-accepted : event_of (codes "7 accepted 1 12 10.0.0.1:4001") ≡ Some (happens (kind.Accepted 1 12 client))
-unfolding event_of word_value read_as number_at small_at dotted_at ipv4_at address_at word_at digits
-read-accepted = refl
-
-pub read-port : event_of (codes "7 port 1 11 10,0,0,1,15,161") ≡ Some (happens (kind.Port 1 (codes "10,0,0,1,15,161") (Some 11)))
-unfolding event_of word_value read_as number_at optional_field text_field text_from word_at digits
-read-port = refl
-
-pub read-port_empty : event_of (codes "7 port 1 - ") ≡ Some (happens (kind.Port 1 [] None))
-unfolding event_of word_value read_as number_at optional_field text_field text_from word_at digits
-read-port_empty = refl
-
-pub read-slot : event_of (codes "7 slot 1") ≡ Some (happens (kind.SlotTick 1))
-unfolding event_of word_value read_as number_at word_at digits
-read-slot = refl
-
-pub read-sweep : event_of (codes "7 sweep") ≡ Some (happens kind.Sweep)
-unfolding event_of word_value read_as number_at word_at digits
-read-sweep = refl
+pub read_lines : AreRead event_of
+    ((happens (kind.Accepted 1 12 client), codes "7 accepted 1 12 10.0.0.1:4001")
+    ∷ (happens (kind.Port 1 (codes "10,0,0,1,15,161") (Some 11)), codes "7 port 1 11 10,0,0,1,15,161")
+    ∷ (happens (kind.Port 1 [] None), codes "7 port 1 - ")
+    ∷ (happens (kind.SlotTick 1), codes "7 slot 1")
+    ∷ (happens kind.Sweep, codes "7 sweep") ∷ [])
+unfolding event_of word_value read_as number_at small_at dotted_at ipv4_at address_at word_at digits optional_field text_field text_from
+read_lines = refl
 
 -- ---- lines that spell nothing
 
-abbrev bad : List ℕ → Type 0
-bad line = event_of line ≡ None
-
-pub bad-no_text : bad (codes "7 port 1 -")
+pub bad_lines : AreBad event_of
+    (codes "7 port 1 -"
+    ∷ codes "7 port 1 18446744073709551616 10,0,0,1,15,161"
+    ∷ codes "7 accepted 1 12"
+    ∷ codes "7 sweep " ∷ [])
 unfolding event_of word_value read_as number_at optional_field text_field word_at digits
-bad-no_text = refl
-
-pub bad-number : bad (codes "7 port 1 18446744073709551616 10,0,0,1,15,161")
-unfolding event_of word_value read_as number_at optional_field text_field word_at digits
-bad-number = refl
-
-pub bad-no_address : bad (codes "7 accepted 1 12")
-unfolding event_of word_value read_as number_at word_at digits
-bad-no_address = refl
-
-pub bad-trailing_space : bad (codes "7 sweep ")
-unfolding event_of word_value read_as number_at word_at digits
-bad-trailing_space = refl
+bad_lines = refl

@@ -15,6 +15,7 @@ use Rattle.ftp_text.specs.Spelling.{state_line}
 use Rattle.ftp_text.specs.Grammar.{AreInLineOrder, no_state, with_lines, follows, may_stand_behind}
 use Rattle.ftp_text.specs.StateText.{state_text, lines_in}
 use Rattle.ftp_text.specs.Walk.{walk}
+use Rattle.ftp_text.proofs.Samples.{AreSpelled}
 
 -- a client that logged in and asked for a passive port
 abbrev ann : SessionLine
@@ -71,51 +72,32 @@ text-state = refl
 
 -- ---- other lines
 
-pub line-record : state_line (says.Record (record { count = 3; at = 70; ip = Some (V4 167772161); user = Some (codes "an n") })) ≡ codes "record 3 70 10.0.0.1 4 an n"
-unfolding digits
-line-record = refl
-
-pub line-address : state_line (says.Record (record { count = 3; at = 70; ip = Some (V6 1); user = None })) ≡ codes "record 3 70 [00000000000000000000000000000001] - "
+pub spelled_lines : AreSpelled state_line
+    ((says.Record (record { count = 3; at = 70; ip = Some (V4 167772161); user = Some (codes "an n") }), codes "record 3 70 10.0.0.1 4 an n")
+    ∷ (says.Record (record { count = 3; at = 70; ip = Some (V6 1); user = None }), codes "record 3 70 [00000000000000000000000000000001] - ")
+    ∷ (says.Record (record { count = 3; at = 70; ip = None; user = Some (codes "ann") }), codes "record 3 70 - 3 ann")
+    ∷ (says.Slot (record { session = 7; at = 9; what = kept.HasLink 11 }), codes "slot 7 9 link 11")
+    ∷ (says.Queued (record { session = 7; nr = 2; offset = 5; command = command.Retr (codes "f"); path = codes "/f" }), codes "queued 7 2 5 retr - 1 f/f")
+    ∷ (says.Queued (record { session = 7; nr = 2; offset = 0; command = command.List None None; path = codes "/d" }), codes "queued 7 2 0 list - - /d")
+    ∷ (
+      says.Job (record {
+        job = record {
+          ticket = record { session = 7; nr = 2 };
+          user = codes "ann";
+          command = command.Stor (codes "f");
+          path = codes "/f";
+          offset = 5;
+          number = 11;
+          done = 8192;
+        };
+        marked = true;
+      }),
+      codes "job 7 2 5 8192 1 11 stor 3 - 1 annf/f",
+    )
+    -- a byte that is no plain one is escaped, and lengths count bytes
+    ∷ (says.Record (record { count = 1; at = 0; ip = None; user = Some (195 ∷ 164 ∷ 10 ∷ []) }), codes "record 1 0 - 3 \\xc3\\xa4\\x0a") ∷ [])
 unfolding digits hex_digits
-line-address = refl
-
-pub line-name : state_line (says.Record (record { count = 3; at = 70; ip = None; user = Some (codes "ann") })) ≡ codes "record 3 70 - 3 ann"
-unfolding digits
-line-name = refl
-
-pub line-link : state_line (says.Slot (record { session = 7; at = 9; what = kept.HasLink 11 })) ≡ codes "slot 7 9 link 11"
-unfolding digits
-line-link = refl
-
-pub line-queued : state_line (says.Queued (record { session = 7; nr = 2; offset = 5; command = command.Retr (codes "f"); path = codes "/f" })) ≡ codes "queued 7 2 5 retr - 1 f/f"
-unfolding digits
-line-queued = refl
-
-pub line-listing : state_line (says.Queued (record { session = 7; nr = 2; offset = 0; command = command.List None None; path = codes "/d" })) ≡ codes "queued 7 2 0 list - - /d"
-unfolding digits
-line-listing = refl
-
-pub line-job :
-    state_line (says.Job (record {
-      job = record {
-        ticket = record { session = 7; nr = 2 };
-        user = codes "ann";
-        command = command.Stor (codes "f");
-        path = codes "/f";
-        offset = 5;
-        number = 11;
-        done = 8192;
-      };
-      marked = true;
-    })) ≡ codes "job 7 2 5 8192 1 11 stor 3 - 1 annf/f"
-unfolding digits
-line-job = refl
-
--- a byte that is no plain one is escaped, and lengths count bytes
-pub line-bytes :
-    state_line (says.Record (record { count = 1; at = 0; ip = None; user = Some (195 ∷ 164 ∷ 10 ∷ []) })) ≡ codes "record 1 0 - 3 \\xc3\\xa4\\x0a"
-unfolding digits
-line-bytes = refl
+spelled_lines = refl
 
 -- ---- lines of a text
 

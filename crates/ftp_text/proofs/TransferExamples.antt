@@ -28,6 +28,7 @@ use Rattle.ftp_text.specs.Reading.{number_at, text_from, text_field, optional_te
 use Rattle.ftp_text.specs.Events.{event_line}
 use Rattle.ftp_text.specs.Printing.{print, answer_line, action_line}
 use Rattle.ftp_text.specs.EventReading.{event_of, read_as}
+use Rattle.ftp_text.proofs.Samples.{AreSpelled, AreRead, AreBad}
 
 abbrev later : EventKind → HubEvent
 later k = record { at = 1; kind = k }
@@ -129,63 +130,37 @@ pub print-failing : print failing
 unfolding digits
 print-failing = refl
 
-pub answer_line-refused : answer_line (answer.Done (record { result = result.Refused error.PermanentFileNotAvailable; bytes = 0; fault = None }))
-    ≡ codes "? done permanentfile 0 -\n"
+pub spelled_answers : AreSpelled answer_line
+    ((answer.Done (record { result = result.Refused error.PermanentFileNotAvailable; bytes = 0; fault = None }), codes "? done permanentfile 0 -\n")
+    ∷ (answer.Done (record { result = result.OutOfMemory; bytes = 7; fault = Some link.BrokenPipe }), codes "? done memory 7 pipe\n") ∷ [])
 unfolding digits
-answer_line-refused = refl
-
-pub answer_line-memory : answer_line (answer.Done (record { result = result.OutOfMemory; bytes = 7; fault = Some link.BrokenPipe }))
-    ≡ codes "? done memory 7 pipe\n"
-unfolding digits
-answer_line-memory = refl
+spelled_answers = refl
 
 pub action_line-cancelled : action_line (action.Cancelled (record { session = 12; nr = 3 })) ≡ codes "- cancelled 12.3\n"
 unfolding digits
 action_line-cancelled = refl
 
--- no path, the empty path, and a path that begins with a hyphen
-pub list_line : event_line (later (kind.Transfer 1 (command.List None None))) ≡ codes "1 list 1"
-unfolding digits
-list_line = refl
-
-pub nlst_line : event_line (later (kind.Transfer 1 (command.Nlst (Some [])))) ≡ codes "1 nlst 1 "
-unfolding digits
-nlst_line = refl
-
-pub mlsd_line : event_line (later (kind.Transfer 1 (command.Mlsd (Some (codes "-"))))) ≡ codes "1 mlsd 1 -"
-unfolding digits
-mlsd_line = refl
-
--- the most significant digit comes first
-pub stou_line : event_line (later (kind.Stou 1 (2 ^ 124 + 10))) ≡ codes "1 stou 1 1000000000000000000000000000000a"
+pub spelled_lines : AreSpelled event_line
+    -- no path, the empty path, and a path that begins with a hyphen
+    ((later (kind.Transfer 1 (command.List None None)), codes "1 list 1")
+    ∷ (later (kind.Transfer 1 (command.Nlst (Some []))), codes "1 nlst 1 ")
+    ∷ (later (kind.Transfer 1 (command.Mlsd (Some (codes "-")))), codes "1 mlsd 1 -")
+    -- the most significant digit comes first
+    ∷ (later (kind.Stou 1 (2 ^ 124 + 10)), codes "1 stou 1 1000000000000000000000000000000a") ∷ [])
 unfolding digits hex_digits
-stou_line = refl
+spelled_lines = refl
 
 -- ---- lines that spell nothing
 
-abbrev bad : List ℕ → Type 0
-bad line = event_of line ≡ None
-
-pub bad-no_file : bad (codes "1 retr 1")
-unfolding event_of word_value read_as number_at word_at text_field digits
-bad-no_file = refl
-
-pub bad-no_nr : bad (codes "1 end 1.")
-unfolding event_of word_value read_as number_at word_at digits
-bad-no_nr = refl
-
-pub bad-nr_alone : bad (codes "1 end 1 1")
-unfolding event_of word_value read_as number_at word_at digits
-bad-nr_alone = refl
-
--- a digit too few, and a letter in upper case
-pub bad-short_word : bad (codes "1 stou 1 0000000000000000000000000000001")
-unfolding event_of word_value read_as number_at word_at hex_word_at hex_digits digits
-bad-short_word = refl
-
-pub bad-upper_word : bad (codes "1 stou 1 0000000000000000000000000000000A")
-unfolding event_of word_value read_as number_at word_at hex_word_at hex_digits digits
-bad-upper_word = refl
+pub bad_lines : AreBad event_of
+    (codes "1 retr 1"
+    ∷ codes "1 end 1."
+    ∷ codes "1 end 1 1"
+    -- a digit too few, and a letter in upper case
+    ∷ codes "1 stou 1 0000000000000000000000000000001"
+    ∷ codes "1 stou 1 0000000000000000000000000000000A" ∷ [])
+unfolding event_of word_value read_as number_at word_at text_field digits hex_word_at hex_digits
+bad_lines = refl
 
 -- a piece that moved, an ABOR, and the piece that is cut, as they are printed
 abbrev in_pieces : List Entry
@@ -212,24 +187,13 @@ print-in_pieces = refl
 
 -- ---- lines that are read
 
--- a path that is there and empty
-pub read-empty_path : event_of (codes "1 list 1 ") ≡ Some (later (kind.Transfer 1 (command.List None (Some []))))
-unfolding event_of word_value read_as number_at word_at optional_text_field text_field text_from digits
-read-empty_path = refl
-
-pub read-no_path : event_of (codes "1 list 1") ≡ Some (later (kind.Transfer 1 (command.List None None)))
-unfolding event_of word_value read_as number_at word_at optional_text_field digits
-read-no_path = refl
-
--- no session has such a transfer, and yet it has a line
-pub read-end : event_of (codes "1 end 1.0") ≡ Some (later (kind.End (record { session = 1; nr = 0 })))
-unfolding event_of word_value read_as number_at word_at digits
-read-end = refl
-
-pub read-piece : event_of (codes "1 piece 1.2") ≡ Some (later (kind.Piece (transfer 2)))
-unfolding event_of word_value read_as number_at word_at digits
-read-piece = refl
-
-pub read-stou : event_of (codes "1 stou 1 f000000000000000000000000000000a") ≡ Some (later (kind.Stou 1 (15 * 2 ^ 124 + 10)))
-unfolding event_of word_value read_as number_at word_at hex_word_at hex_digits digits
-read-stou = refl
+pub read_lines : AreRead event_of
+    -- a path that is there and empty
+    ((later (kind.Transfer 1 (command.List None (Some []))), codes "1 list 1 ")
+    ∷ (later (kind.Transfer 1 (command.List None None)), codes "1 list 1")
+    -- no session has such a transfer, and yet it has a line
+    ∷ (later (kind.End (record { session = 1; nr = 0 })), codes "1 end 1.0")
+    ∷ (later (kind.Piece (transfer 2)), codes "1 piece 1.2")
+    ∷ (later (kind.Stou 1 (15 * 2 ^ 124 + 10)), codes "1 stou 1 f000000000000000000000000000000a") ∷ [])
+unfolding event_of word_value read_as number_at word_at optional_text_field text_field text_from digits hex_word_at hex_digits
+read_lines = refl
