@@ -1,6 +1,5 @@
 -- Each event is read exactly from its line.
 use Rattle.std.proofs.Common.{◌≡◌, ℕ, cond, eqb, List, [], ◌++◌, length, ◌^◌, ◌<◌, Some, None, refl, sym, ap, subst, ◌∙◌}
-use Rattle.std.specs.Prelude.{Result, Ok, Err, IfOk, IsErrOf}
 use Rattle.std.specs.Fmt.{decimal}
 use Rattle.std.proofs.lemmas.Bool.{eqb-true}
 use Rattle.std.proofs.lemmas.Option.{cond_some, none-some}
@@ -12,15 +11,14 @@ use Rattle.ftp_events.specs.declared.event.EventKind.TheVariants as kind
 use Rattle.ftp_events.specs.declared.event.HubEvent.{HubEvent}
 use Rattle.ftp_text.specs.declared.event_word.EventWord.{EventWord}
 use Rattle.ftp_text.specs.declared.event_word.EventWord.TheVariants as word
-use Rattle.ftp_text.specs.declared.fault.LineFault.{LineFault}
-use Rattle.ftp_text.specs.declared.fault.LineFault.TheVariants as fault
 use Rattle.ftp_text.specs.Fields.{field, number}
 use Rattle.ftp_text.specs.Forms.{Values, all_spelled}
 use Rattle.ftp_text.specs.Message.{message_fields, message_at}
 use Rattle.ftp_text.specs.Events.{event_word_text, form, told, word_field, told_text, kind_fields, event_line, HasNoOptions, InRange, IsKind, IsEvent}
-use Rattle.ftp_text.specs.Reading.{◌>>=◌, Reader, Gives, number_at, find_word, word_value, word_at}
+use Rattle.ftp_text.specs.Reading.{◌>>=◌, Reader, number_at, find_word, word_value, word_at}
 use Rattle.ftp_text.specs.EventReading.{event_words, event_word_field, kind_of, read_as, fields_at, event_of}
 use Rattle.ftp_text.proofs.Exact.{Ends, IsNil, IsExact, bind_ok, some_is, made_takes, made_again, table_exact, number_exact}
+use Rattle.ftp_text.proofs.LineLaws.{ReadsLines, spelled_lines}
 use Rattle.ftp_text.proofs.FieldLemmas.{number_is}
 use Rattle.ftp_text.proofs.FormLemmas.{form_starts, form_exact}
 
@@ -123,16 +121,5 @@ event_none at s m fits session wordless =
     ap (λ (t : List ℕ). event_of (decimal at ++ (word_field word.Internal ++ t))) line
     ∙ rw (number_exact.again at (word_field word.Internal ++ (number s ++ [])) fits refl, read, number_is.again s [] session tt, message_none) refl
 
--- no two events have one line
-pub event_line-injective : (d e : HubEvent) → IsEvent d → IsEvent e → event_line d ≡ event_line e → d ≡ e
-event_line-injective d e p q same = some_is d e (sym (event_again d p) ∙ ap event_of same ∙ event_again e q)
-
--- the two laws of what a function returned
-pub is_found : (line : List ℕ) (r : Result HubEvent LineFault) → Gives (λ e. e) r (event_of line) → IfOk r (λ e. (event_line e ≡ line) × IsEvent e)
-is_found line (Ok e) given = event_takes line e given
-is_found line (Err f) given = tt
-
-pub is_bad : (line : List ℕ) (r : Result HubEvent LineFault) → Gives (λ e. e) r (event_of line) → IsErrOf r fault.Bad → (e : HubEvent) → IsEvent e → event_line e ≡ line → ⊥
-is_bad line (Ok d) given h e fits same = cc
-is_bad line (Err fault.Memory) given h e fits same = cc
-is_bad line (Err fault.Bad) given h e fits same = none-some e (sym given ∙ ap event_of (sym same) ∙ event_again e fits)
+pub reads_lines : ReadsLines (λ line e. (event_line e ≡ line) × IsEvent e) event_of
+reads_lines = spelled_lines event_takes event_again

@@ -10,18 +10,10 @@ use Rattle.ftp_text.specs.Grammar.{follows, IsChain, AreInLineOrder, may_stand_b
 use Rattle.ftp_hub.specs.declared.state.StateError.{StateError}
 use Rattle.ftp_hub.specs.declared.state.StateError.TheVariants as state_error
 use Rattle.ftp_text.specs.StateText.{state_text, lines_in, IsSpelledBy, IsFirstBadStateLine, IsOfText}
-use Rattle.ftp_text.proofs.StateLineLemmas.{state_line-injective}
+use Rattle.ftp_text.proofs.LineLaws.{is_one}
+use Rattle.ftp_text.proofs.StateLineLemmas.{reads_lines}
 use Rattle.ftp_text.proofs.TextLemmas.{lines-text}
-
--- ---- lists
-
-pub all-append : {A : Type 0} (P : A → Type 0) (xs ys : List A) → AllByRecursion P xs → AllByRecursion P ys → AllByRecursion P (xs ++ ys)
-all-append P [] ys p q = q
-all-append P (x ∷ xs) ys p q = (p.0, all-append P xs ys p.1 q)
-
-pub all-parts : {A : Type 0} (P : A → Type 0) (xs ys : List A) → AllByRecursion P (xs ++ ys) → AllByRecursion P xs × AllByRecursion P ys
-all-parts P [] ys p = (tt, p)
-all-parts P (x ∷ xs) ys p = let q = all-parts P xs ys p.1 in ((p.0, q.0), q.1)
+use Rattle.ftp_text.proofs.Lists.{all-append, all-parts}
 
 -- ---- order
 
@@ -108,7 +100,7 @@ lines-injective (x ∷ a) [] p q e = absurd cc
 lines-injective (x ∷ a) (y ∷ b) p q e =
     let first : state_line x ≡ state_line y = cc in
     let others : map state_line a ≡ map state_line b = cc in
-    let same : x ≡ y = state_line-injective x y p.0 q.0 first in
+    let same : x ≡ y = is_one reads_lines (state_line x) x y (refl, p.0) (sym first, q.0) in
     let rest : a ≡ b = lines-injective a b p.1 q.1 others in
     cc (same, rest)
 

@@ -12,6 +12,7 @@ pub mod PrintedLemmas
 pub mod EventLemmas
 pub mod OptionsLemmas
 pub mod SetupLemmas
+pub mod LineLaws
 pub mod Samples
 pub mod Examples
 pub mod TransferExamples

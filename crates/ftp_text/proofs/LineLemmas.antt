@@ -1,15 +1,13 @@
 -- Each line of a printed log is read exactly.
 use Rattle.std.proofs.Common.{◌≡◌, ℕ, Bool, true, false, cond, List, ◌∷◌, ◌++◌, Option, Some, None, refl, sym, ap, subst, ◌∙◌}
-use Rattle.std.specs.Prelude.{codes, Result, Ok, Err, IfOk, IsErrOf}
+use Rattle.std.specs.Prelude.{codes}
 use Rattle.std.proofs.lemmas.Option.{cond_some, none-some}
 use Rattle.ftp_base.specs.declared.reply.Reply.TheVariants as reply
 use Rattle.ftp_events.specs.declared.action.Action.{Action}
 use Rattle.ftp_events.specs.declared.action.Action.TheVariants as action
 use Rattle.ftp_events.specs.declared.event.Answer.{Answer}
 use Rattle.ftp_events.specs.declared.event.Answer.TheVariants as answer
-use Rattle.ftp_text.specs.declared.fault.LineFault.{LineFault}
-use Rattle.ftp_text.specs.declared.fault.LineFault.TheVariants as fault
-use Rattle.ftp_text.specs.Reading.{◌>>=◌, Gives, begins, literal_at, all_of}
+use Rattle.ftp_text.specs.Reading.{◌>>=◌, begins, literal_at, all_of}
 use Rattle.ftp_text.proofs.Exact.{bind_ok, some_is, literal_takes, all_of-takes, all_of-again}
 use Rattle.ftp_text.specs.declared.setup.Item.{Item}
 use Rattle.ftp_text.specs.declared.setup.Item.TheVariants as item
@@ -18,6 +16,7 @@ use Rattle.ftp_text.specs.EventReading.{event_of}
 use Rattle.ftp_text.specs.Printing.{action_fields}
 use Rattle.ftp_text.specs.Setup.{item_line, IsItem, IsItemOf}
 use Rattle.ftp_text.specs.SetupReading.{item_of}
+use Rattle.ftp_text.proofs.LineLaws.{ReadsLines, is_one, spelled_lines}
 use Rattle.ftp_text.proofs.EventLemmas.{event_takes, event_again}
 use Rattle.ftp_text.proofs.SetupLemmas.{item_takes, item_again}
 use Rattle.ftp_text.specs.declared.line.LogLine.{LogLine}
@@ -118,16 +117,9 @@ log_line_again (says.Decision d) fits = ap (λ r. r >>= λ y. Some (says.Decisio
 log_line_again (says.Action a) fits =
     action_line-read a ∙ ap (λ r. r >>= λ y. Some (says.Action y)) (all_of-again action_is a fits tt)
 
+pub reads_lines : ReadsLines (λ line x. (log_line x ≡ line) × IsLogLine x) log_line_of
+reads_lines = spelled_lines log_line_takes log_line_again
+
 -- no two lines are spelled alike
 pub log_line-injective : (x y : LogLine) → IsLogLine x → IsLogLine y → log_line x ≡ log_line y → x ≡ y
-log_line-injective x y p q same = some_is x y (sym (log_line_again x p) ∙ ap log_line_of same ∙ log_line_again y q)
-
--- the laws of what a function returned
-pub is_found : (line : List ℕ) (r : Result LogLine LineFault) → Gives (λ x. x) r (log_line_of line) → IfOk r (λ x. (log_line x ≡ line) × IsLogLine x)
-is_found line (Ok x) given = log_line_takes line x given
-is_found line (Err f) given = tt
-
-pub is_bad : (line : List ℕ) (r : Result LogLine LineFault) → Gives (λ x. x) r (log_line_of line) → IsErrOf r fault.Bad → (x : LogLine) → IsLogLine x → log_line x ≡ line → ⊥
-is_bad line (Ok y) given h x fits same = cc
-is_bad line (Err fault.Memory) given h x fits same = cc
-is_bad line (Err fault.Bad) given h x fits same = none-some x (sym given ∙ ap log_line_of (sym same) ∙ log_line_again x fits)
+log_line-injective x y p q same = is_one reads_lines (log_line x) x y (refl, p) (sym same, q)

@@ -17,6 +17,16 @@ use Rattle.ftp_text.specs.Fields.{listed}
 use Rattle.ftp_text.specs.Reading.{◌>>=◌, Fails, begins, word_as, is_comma, each_of, list_of}
 use Rattle.ftp_text.proofs.Exact.{IsExact, Ends, Pass, is_word_byte, bind_ok, some_is, word_exact}
 
+-- ---- all of a list
+
+pub all-append : {A : Type 0} (P : A → Type 0) (xs ys : List A) → AllByRecursion P xs → AllByRecursion P ys → AllByRecursion P (xs ++ ys)
+all-append P [] ys p q = q
+all-append P (x ∷ xs) ys p q = (p.0, all-append P xs ys p.1 q)
+
+pub all-parts : {A : Type 0} (P : A → Type 0) (xs ys : List A) → AllByRecursion P (xs ++ ys) → AllByRecursion P xs × AllByRecursion P ys
+all-parts P [] ys p = (tt, p)
+all-parts P (x ∷ xs) ys p = let q = all-parts P xs ys p.1 in ((p.0, q.0), q.1)
+
 -- ---- cutting at commas
 
 -- the first part ends at the first comma

@@ -26,16 +26,9 @@ use Rattle.ftp_text.specs.LogLines.{log_line, IsAnswer, IsLogLine}
 use Rattle.ftp_text.specs.LogText.{answers, says_of, opening, lines_of, text_of, options_line, IsLogOf, IsLog, IsFront, line_size, ComesNext, IsPrintOf, IsPrinted, IsFirstBad, HasFirstBad}
 use Rattle.ftp_text.specs.Place.{stage_after, is_whole, stage_behind, IsAt, Reached, HasRead}
 use Rattle.ftp_text.proofs.LineLemmas.{log_line-injective}
+use Rattle.ftp_text.proofs.Lists.{all-append, all-parts}
 
 -- ---- lists
-
-all-append : {A : Type 0} (P : A → Type 0) (xs ys : List A) → AllByRecursion P xs → AllByRecursion P ys → AllByRecursion P (xs ++ ys)
-all-append P [] ys p q = q
-all-append P (x ∷ xs) ys p q = (p.0, all-append P xs ys p.1 q)
-
-all-back : {A : Type 0} (P : A → Type 0) (xs ys : List A) → AllByRecursion P (xs ++ ys) → AllByRecursion P ys
-all-back P [] ys p = p
-all-back P (x ∷ xs) ys p = all-back P xs ys p.1
 
 flat-map : {A B C : Type 0} (f : B → List C) (g : A → B) (xs : List A) → flat_map f (map g xs) ≡ flat_map (λ x. f (g x)) xs
 flat-map {A} {B} {C} f g [] = refl
@@ -412,7 +405,7 @@ line_told before all bytes place later x read feed spelled fits e lines taken sm
 pub comes-fits : (before : List LogLine) (bytes : List ℕ) (x : LogLine) → ComesNext before bytes x → IsLogLine x
 comes-fits before bytes x next =
     let all = subst (AllByRecursion IsLogLine) (append_assoc before (x ∷ []) next.front.0) next.front.1.2.fits in
-    (all-back IsLogLine before (x ∷ next.front.0) all).0
+    (all-parts IsLogLine before (x ∷ next.front.0) all).1.0
 
 abbrev pub IsBad : List LogLine → List ℕ → Type 0
 IsBad before bytes = (x : LogLine) → ComesNext before bytes x → ⊥

@@ -16,16 +16,7 @@ use Rattle.ftp_text.proofs.LineLemmas.{log_line-injective}
 use Rattle.ftp_text.proofs.FieldFeeds.{HasNone, is_line_byte}
 use Rattle.ftp_text.proofs.FeedLemmas.{line_none}
 use Rattle.ftp_text.proofs.PlaceLemmas.{lines-text}
-
--- ---- lists
-
-all-front : {A : Type 0} (P : A → Type 0) (xs ys : List A) → AllByRecursion P (xs ++ ys) → AllByRecursion P xs
-all-front P [] ys p = tt
-all-front P (x ∷ xs) ys p = (p.0, all-front P xs ys p.1)
-
-all-back : {A : Type 0} (P : A → Type 0) (xs ys : List A) → AllByRecursion P (xs ++ ys) → AllByRecursion P ys
-all-back P [] ys p = p
-all-back P (x ∷ xs) ys p = all-back P xs ys p.1
+use Rattle.ftp_text.proofs.Lists.{all-parts}
 
 -- ---- the first line of a text
 
@@ -69,10 +60,10 @@ goes-on (x ∷ before) (y ∷ lines) rest f g e =
 
 -- what is known of the lines before a place and the bytes behind it, of all lines of a log
 front-fits : (before : List LogLine) → IsFront before → AllByRecursion IsLogLine before
-front-fits before front = all-front IsLogLine before front.0 front.1.2.fits
+front-fits before front = (all-parts IsLogLine before front.0 front.1.2.fits).0
 
 -- the first line of these bytes is that of x
-first-is : (x : LogLine) (tail bytes : List ℕ) → IsLogLine x → bytes ≡ log_line x ++ 10 ∷ tail →
+pub first-is : (x : LogLine) (tail bytes : List ℕ) → IsLogLine x → bytes ≡ log_line x ++ 10 ∷ tail →
     (position_or_len is_line_feed bytes ≡ length (log_line x)) × (log_line x ≡ first_line bytes) × (length bytes ≡ length (log_line x) + 1 + length tail)
 first-is x tail bytes fits whole =
     let at : position_or_len is_line_feed bytes ≡ length (log_line x) =
@@ -119,7 +110,7 @@ printed_good bytes k printed bad =
       some before rest [] log e whole small there never = absurd (omega (arith, ap length e))
       some before rest (x ∷ more) log e whole small there never =
           never x
-          (comes before x more rest (text_of more) bytes (all-back IsLogLine before (x ∷ more) log.2.fits).0 ([], subst IsLog (sym (append-nil (before ++ x ∷ more))) log) (e ∙ text-cons x more)
+          (comes before x more rest (text_of more) bytes (all-parts IsLogLine before (x ∷ more) log.2.fits).1.0 ([], subst IsLog (sym (append-nil (before ++ x ∷ more))) log) (e ∙ text-cons x more)
           (omega (arith, small, ap length whole, length-append (text_of before) rest, ap length (e ∙ text-cons x more), length-append (log_line x) (10 ∷ text_of more))))
 
       none : (before : List LogLine) (rest : List ℕ) (more : List LogLine) → IsLog (before ++ more) → rest ≡ text_of more → rest ≡ [] → (IsLog before → ⊥) → ⊥
@@ -161,7 +152,7 @@ no-further k b c r s x more bad front small c_is r_is =
     let whole : r ≡ log_line x ++ 10 ∷ (text_of more ++ s) = r_is ∙ ap (λ (t : List ℕ). t ++ s) (text-cons x more) ∙ append_assoc (log_line x) (10 ∷ text_of more) s in
     let size : length (text_of b) + (length (log_line x) + 1) ≤ 67108864 = omega (arith, small, ap (λ (l : List LogLine). length (text_of l)) c_is, ap length (flat_map-append (λ (y : LogLine). line (log_line y)) b (x ∷ more)), length-append (text_of b) (text_of (x ∷ more)), ap length (text-cons x more), length-append (log_line x) (10 ∷ text_of more)) in
     elim bad.bad [
-      | inl next ↦ next.1 x (comes b x more r (text_of more ++ s) [] (all-back IsLogLine b (x ∷ more) fits).0 (subst IsFront c_is front) whole size)
+      | inl next ↦ next.1 x (comes b x more r (text_of more ++ s) [] (all-parts IsLogLine b (x ∷ more) fits).1.0 (subst IsFront c_is front) whole size)
       | inr end ↦ absurd (omega (arith, ap length (sym whole ∙ end.0), length-append (log_line x) (10 ∷ (text_of more ++ s))))
     ]
 

@@ -1,15 +1,13 @@
 -- Each line of a script is read exactly.
 use Rattle.std.proofs.Common.{◌≡◌, ℕ, ◌^◌, ◌<◌, Bool, true, false, cond, eqb, List, [], ◌∷◌, ◌++◌, length, Option, Some, None, refl, sym, ap, subst, ◌∙◌, arith}
-use Rattle.std.specs.Prelude.{codes, Result, Ok, Err, IfOk, IsErrOf}
+use Rattle.std.specs.Prelude.{codes}
 use Rattle.std.specs.Fmt.{decimal}
 use Rattle.std.specs.Char.{is_ascii_digit}
 use Rattle.std.proofs.lemmas.Fmt.{decimal_nonempty}
 use Rattle.std.proofs.lemmas.Bool.{eqb-true, leb-true, le-leb}
-use Rattle.std.proofs.lemmas.Option.{cond_some, none-some}
+use Rattle.std.proofs.lemmas.Option.{cond_some}
 use Rattle.std.proofs.lemmas.List.{append-nil, nil_from_length, length-append}
 use Rattle.ftp_events.specs.declared.event.HubEvent.{HubEvent}
-use Rattle.ftp_text.specs.declared.fault.LineFault.{LineFault}
-use Rattle.ftp_text.specs.declared.fault.LineFault.TheVariants as fault
 use Rattle.ftp_text.specs.declared.setup.Item.{Item}
 use Rattle.ftp_text.specs.declared.setup.Item.TheVariants as item
 use Rattle.ftp_base.specs.declared.fault.LinkFault.{LinkFault}
@@ -18,12 +16,13 @@ use Rattle.ftp_text.specs.Events.{kind_fields, event_line, IsEvent}
 use Rattle.ftp_text.specs.Options.{listening_fields, rule_fields, IsListening, AreRules}
 use Rattle.ftp_text.specs.OptionsReading.{Listening, listening_at, Rules, rules_at}
 use Rattle.ftp_text.specs.Setup.{is_skipped, item_line, is_absolute, IsItem, IsItemOf}
-use Rattle.ftp_text.specs.Reading.{◌>>=◌, Reader, Gives, pair, tested, begins, behind_text, number_field, hex_field, text_field, calls_field, call_of}
+use Rattle.ftp_text.specs.Reading.{◌>>=◌, Reader, made, pair, tested, begins, behind_text, number_field, hex_field, text_field, calls_field, call_of}
 use Rattle.ftp_text.specs.EventReading.{event_of}
 use Rattle.ftp_text.specs.SetupReading.{moves, link_calls_at, options_at, storage_at, dir_at, is_placed, file_at, quota_at, budget_at, link_at, whole, item_of}
 use Rattle.ftp_text.proofs.Exact.{Ends, IsNil, IsExact, bind_ok, some_is, pair_exact, made_takes, made_again, behind_text_exact, tested_exact}
 use Rattle.ftp_text.proofs.Values.{begins_decimal, text_exact}
 use Rattle.ftp_text.proofs.HexTexts.{hex_exact}
+use Rattle.ftp_text.proofs.LineLaws.{ReadsLines}
 use Rattle.ftp_text.proofs.EventLemmas.{event_takes, event_again}
 use Rattle.ftp_text.proofs.OptionsLemmas.{listening_exact, rules_exact}
 use Rattle.ftp_text.proofs.FieldLemmas.{number_is, small_is, calls_is, link_calls_is}
@@ -88,39 +87,9 @@ link_exact =
 abbrev Takes : Reader Item → Type 0
 Takes read = (line : List ℕ) (y : Item × List ℕ) → read line ≡ Some y → (line ≡ item_line y.0 ++ y.1) × (IsItem y.0 × IsSpelled y.0)
 
-options_takes : Takes options_at
-unfolding options_at
-options_takes line y e =
-    made_takes options_exact options_item item_line (λ i. IsItem i × IsSpelled i) [] (λ x. refl) (λ x f. (f, tt)) line y e
-
-storage_takes : Takes storage_at
-unfolding storage_at
-storage_takes line y e =
-    made_takes storage_exact (λ x. item.Storage x.0 x.1) item_line (λ i. IsItem i × IsSpelled i) [] (λ x. refl) (λ x f. (f, tt)) line y e
-
-dir_takes : Takes dir_at
-unfolding dir_at
-dir_takes line y e = made_takes dir_exact (λ path. item.Dir path) item_line (λ i. IsItem i × IsSpelled i) [] (λ x. refl) (λ x f. (f, tt)) line y e
-
-file_takes : Takes file_at
-unfolding file_at
-file_takes line y e =
-    made_takes file_exact (λ x. item.File x.0 x.1) item_line (λ i. IsItem i × IsSpelled i) [] (λ x. refl) (λ x f. ((f.0.0, f.0.1, f.1), tt)) line y e
-
-quota_takes : Takes quota_at
-unfolding quota_at
-quota_takes line y e = made_takes quota_exact (λ default. item.Quota default) item_line (λ i. IsItem i × IsSpelled i) [] (λ x. refl) (λ x f. (f, tt)) line y e
-
-budget_takes : Takes budget_at
-unfolding budget_at
-budget_takes line y e =
-    made_takes budget_exact (λ x. item.Budget x.0 x.1) item_line (λ i. IsItem i × IsSpelled i) [] (λ x. refl) (λ x f. (f, tt)) line y e
-
-link_takes : Takes link_at
-unfolding link_at
-link_takes line y e =
-    made_takes link_exact (λ x. item.Link x.0.0.0 x.0.0.1 x.0.1 x.1) item_line (λ i. IsItem i × IsSpelled i) [] (λ x. refl)
-    (λ x f. ((f.0.0.0.0, leb-true 1 x.0.0.1 f.1, omega (arith, f.0.0.0.1), f.0.0.1, f.0.1), tt)) line y e
+made_item : {A : Type 0} {s : A → List ℕ} {F : A → Type 0} {W : List ℕ → Type 0} {r : List ℕ → Option (A × List ℕ)} → IsExact s F W r → (make : A → Item) →
+    ((x : A) → item_line (make x) ≡ s x) → ((x : A) → F x → IsItem (make x) × IsSpelled (make x)) → Takes (made make r)
+made_item exact make same fits line y e = made_takes exact make item_line (λ i. IsItem i × IsSpelled i) [] same fits line y e
 
 spelled_is : (line : List ℕ) (i : Item) → IsSpelled i → item_line i ≡ line → IsItem i → IsItemOf line i
 spelled_is line item.Skip s e f = absurd s
@@ -220,14 +189,24 @@ event_again_item e fits =
     ∙ ap (λ r. r >>= λ d. Some (item.Event d)) (event_again e fits)
 
 item_cases : (skipped o s d f q b l : Bool) (line : List ℕ) (i : Item) → is_skipped line ≡ skipped → chosen skipped o s d f q b l line ≡ Some i → IsItemOf line i
+unfolding options_at storage_at dir_at file_at quota_at budget_at link_at
 item_cases true o s d f q b l line i p e = subst (λ (x : Item). IsItemOf line x) (some_is item.Skip i e) p
-item_cases false true s d f q b l line i p e = whole_takes line i (options_at line) (options_takes line) e
-item_cases false false true d f q b l line i p e = whole_takes line i (storage_at line) (storage_takes line) e
-item_cases false false false true f q b l line i p e = whole_takes line i (dir_at line) (dir_takes line) e
-item_cases false false false false true q b l line i p e = whole_takes line i (file_at line) (file_takes line) e
-item_cases false false false false false true b l line i p e = whole_takes line i (quota_at line) (quota_takes line) e
-item_cases false false false false false false true l line i p e = whole_takes line i (budget_at line) (budget_takes line) e
-item_cases false false false false false false false true line i p e = whole_takes line i (link_at line) (link_takes line) e
+item_cases false true s d f q b l line i p e =
+    whole_takes line i (options_at line) (made_item options_exact options_item (λ x. refl) (λ x f. (f, tt)) line) e
+item_cases false false true d f q b l line i p e =
+    whole_takes line i (storage_at line) (made_item storage_exact (λ x. item.Storage x.0 x.1) (λ x. refl) (λ x f. (f, tt)) line) e
+item_cases false false false true f q b l line i p e =
+    whole_takes line i (dir_at line) (made_item dir_exact (λ path. item.Dir path) (λ x. refl) (λ x f. (f, tt)) line) e
+item_cases false false false false true q b l line i p e =
+    whole_takes line i (file_at line) (made_item file_exact (λ x. item.File x.0 x.1) (λ x. refl) (λ x f. ((f.0.0, f.0.1, f.1), tt)) line) e
+item_cases false false false false false true b l line i p e =
+    whole_takes line i (quota_at line) (made_item quota_exact (λ default. item.Quota default) (λ x. refl) (λ x f. (f, tt)) line) e
+item_cases false false false false false false true l line i p e =
+    whole_takes line i (budget_at line) (made_item budget_exact (λ x. item.Budget x.0 x.1) (λ x. refl) (λ x f. (f, tt)) line) e
+item_cases false false false false false false false true line i p e =
+    whole_takes line i (link_at line)
+    (made_item link_exact (λ x. item.Link x.0.0.0 x.0.0.1 x.0.1 x.1) (λ x. refl)
+    (λ x f. ((f.0.0.0.0, leb-true 1 x.0.0.1 f.1, omega (arith, f.0.0.0.1), f.0.0.1, f.0.1), tt)) line) e
 item_cases false false false false false false false false line i p e =
     let first = bind_ok (event_of line) (λ x. Some (item.Event x)) i e in
     subst (λ (x : Item). IsItemOf line x) (some_is (item.Event first.0) i first.2) (event_takes line first.0 first.1)
@@ -253,12 +232,5 @@ item_again line (item.Budget bytes user) p = ap item_of (sym p.0) ∙ budget_aga
 item_again line (item.Link n chunk fails bytes) p = ap item_of (sym p.0) ∙ link_again n chunk fails bytes p.1
 item_again line (item.Event e) p = ap item_of (sym p.0) ∙ event_again_item e p.1
 
--- the two laws of what a function returned
-pub is_found : (line : List ℕ) (r : Result Item LineFault) → Gives (λ x. x) r (item_of line) → IfOk r (λ i. IsItemOf line i)
-is_found line (Ok i) given = item_takes line i given
-is_found line (Err f) given = tt
-
-pub is_bad : (line : List ℕ) (r : Result Item LineFault) → Gives (λ x. x) r (item_of line) → IsErrOf r fault.Bad → (i : Item) → IsItemOf line i → ⊥
-is_bad line (Ok d) given h i p = cc
-is_bad line (Err fault.Memory) given h i p = cc
-is_bad line (Err fault.Bad) given h i p = none-some i (sym given ∙ item_again line i p)
+pub reads_items : ReadsLines IsItemOf item_of
+reads_items = record { takes = item_takes; again = item_again }

@@ -1,19 +1,17 @@
 -- Each line of a state is read exactly.
 use Rattle.std.proofs.Common.{◌≡◌, ℕ, Bool, cond, eqb, List, [], ◌∷◌, ◌++◌, length, Some, None, refl, sym, ap, subst, ◌∙◌}
-use Rattle.std.specs.Prelude.{Result, Ok, Err, IfOk, IsErrOf}
 use Rattle.std.proofs.lemmas.Bool.{eqb-true, leb-true, le-leb}
-use Rattle.std.proofs.lemmas.Option.{cond_some, none-some}
+use Rattle.std.proofs.lemmas.Option.{cond_some}
 use Rattle.std.proofs.lemmas.List.{append-nil, nil_from_length}
-use Rattle.ftp_text.specs.declared.fault.LineFault.{LineFault}
-use Rattle.ftp_text.specs.declared.fault.LineFault.TheVariants as fault
-use Rattle.ftp_text.specs.Reading.{◌>>=◌, Gives}
-use Rattle.ftp_text.proofs.Exact.{Ends, IsNil, bind_ok, some_is, made_takes, made_again}
+use Rattle.ftp_text.specs.Reading.{◌>>=◌}
+use Rattle.ftp_text.proofs.Exact.{Ends, IsNil, bind_ok, made_takes, made_again}
 use Rattle.ftp_text.specs.declared.state_line.StateLine.{StateLine}
 use Rattle.ftp_text.specs.declared.state_line.StateLine.TheVariants as says
 use Rattle.ftp_text.specs.declared.state_word.LineWord.{LineWord}
 use Rattle.ftp_text.specs.declared.state_word.LineWord.TheVariants as line_word
 use Rattle.ftp_text.specs.Spelling.{line_word_text, line_fields, line_word_of, state_line, IsStateLine}
 use Rattle.ftp_text.specs.StateLineReading.{checkpoint_at, used_at, slot_at, line_behind, line_word_at, state_line_of}
+use Rattle.ftp_text.proofs.LineLaws.{ReadsLines, spelled_lines}
 use Rattle.ftp_text.proofs.CellLemmas.{line_word_is}
 use Rattle.ftp_text.proofs.RowLemmas.{checkpoint_is, used_is, SlotFields, slot_is, record_is, session_is, queued_is, job_is}
 
@@ -91,16 +89,5 @@ line_again x fits =
     let read : line_behind (line_word_of x) (line_fields x) ≡ Some (x, []) = ap (line_behind (line_word_of x)) (sym (append-nil (line_fields x))) ∙ behind_again x [] fits tt in
     rw (line_word_is.again (line_word_of x) (line_fields x) tt (fields_start x), read) refl
 
--- no two lines are spelled alike
-pub state_line-injective : (x y : StateLine) → IsStateLine x → IsStateLine y → state_line x ≡ state_line y → x ≡ y
-state_line-injective x y p q same = some_is x y (sym (line_again x p) ∙ ap state_line_of same ∙ line_again y q)
-
--- the laws of what a function returned
-pub is_found : (line : List ℕ) (r : Result StateLine LineFault) → Gives (λ x. x) r (state_line_of line) → IfOk r (λ x. (state_line x ≡ line) × IsStateLine x)
-is_found line (Ok x) given = line_takes line x given
-is_found line (Err f) given = tt
-
-pub is_bad : (line : List ℕ) (r : Result StateLine LineFault) → Gives (λ x. x) r (state_line_of line) → IsErrOf r fault.Bad → (x : StateLine) → IsStateLine x → state_line x ≡ line → ⊥
-is_bad line (Ok y) given h x fits same = cc
-is_bad line (Err fault.Memory) given h x fits same = cc
-is_bad line (Err fault.Bad) given h x fits same = none-some x (sym given ∙ ap state_line_of (sym same) ∙ line_again x fits)
+pub reads_lines : ReadsLines (λ line x. (state_line x ≡ line) × IsStateLine x) state_line_of
+reads_lines = spelled_lines line_takes line_again
