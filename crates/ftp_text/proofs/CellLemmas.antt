@@ -8,8 +8,8 @@ use Rattle.ftp_text.proofs.FieldLemmas.{small_is, optional_number_is, optional_s
 use Rattle.std.specs.Fmt.{decimal}
 use Rattle.ftp_hub.specs.declared.state.LoginState.{LoginState}
 use Rattle.ftp_hub.specs.declared.state.LoginState.TheVariants as login
-use Rattle.ftp_text.specs.declared.state_word.CommandWord.{CommandWord}
-use Rattle.ftp_text.specs.declared.state_word.CommandWord.TheVariants as command_word
+use Rattle.ftp_events.specs.declared.status.CommandWord.{CommandWord}
+use Rattle.ftp_events.specs.declared.status.CommandWord.TheVariants as command_word
 use Rattle.ftp_text.specs.declared.state_word.LineWord.{LineWord}
 use Rattle.ftp_text.specs.declared.state_word.LineWord.TheVariants as line_word
 use Rattle.ftp_text.specs.declared.state_word.SlotWord.{SlotWord}

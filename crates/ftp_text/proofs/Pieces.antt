@@ -10,9 +10,10 @@ use Rattle.ftp_base.specs.Command.{path_of}
 use Rattle.ftp_text.specs.Fields.{Each, IsNumber, IsText}
 use Rattle.ftp_text.specs.Reading.{◌>>=◌}
 use Rattle.ftp_text.proofs.Exact.{bind_ok, some_is}
-use Rattle.ftp_text.specs.declared.state_word.CommandWord.{CommandWord}
-use Rattle.ftp_text.specs.declared.state_word.CommandWord.TheVariants as command_word
-use Rattle.ftp_text.specs.Spelling.{command_word_of, bytes_or_none, command_options, command_parts, is_from_root, IsPiece, HasPieces, IsFromRoot}
+use Rattle.ftp_events.specs.declared.status.CommandWord.{CommandWord}
+use Rattle.ftp_events.specs.declared.status.CommandWord.TheVariants as command_word
+use Rattle.ftp_events.specs.Statuses.{word_of}
+use Rattle.ftp_text.specs.Spelling.{bytes_or_none, command_options, command_parts, is_from_root, IsPiece, HasPieces, IsFromRoot}
 use Rattle.ftp_text.specs.StateLineReading.{cut_at, cut_off, command_with, Lengths, command_in}
 
 -- ---- texts of parts
@@ -74,7 +75,7 @@ piece-text (Some a) fits = fits.0
 
 -- the command is that of its word, its options and its argument
 record IsWith (w : CommandWord) (options argument : Option (List ℕ)) (c : DataChanCmd) : Type 0 where
-  word : command_word_of c ≡ w
+  word : word_of c ≡ w
   options_are : options ≡ command_options c
   argument_is : argument ≡ path_of c
 
@@ -93,7 +94,7 @@ with-takes command_word.Mlsd None path c e =
     subst (IsWith command_word.Mlsd None path) (some_is (command.Mlsd path) c e) (record { word = refl; options_are = refl; argument_is = refl })
 with-takes _ options argument c e = absurd cc
 
-with-again : (c : DataChanCmd) → command_with (command_word_of c) (command_options c) (path_of c) ≡ Some c
+with-again : (c : DataChanCmd) → command_with (word_of c) (command_options c) (path_of c) ≡ Some c
 with-again (command.Retr path) = refl
 with-again (command.Stor path) = refl
 with-again (command.Appe path) = refl
@@ -103,7 +104,7 @@ with-again (command.Mlsd path) = refl
 
 -- the text is that of the command's parts and of the path
 pub record IsCommandIn (w : CommandWord) (lengths : Lengths) (text : List ℕ) (x : DataChanCmd × List ℕ) : Type 0 where
-  pub word : command_word_of x.0 ≡ w
+  pub word : word_of x.0 ≡ w
   pub options : lengths.0 ≡ option_map length (command_options x.0)
   pub argument : lengths.1 ≡ option_map length (path_of x.0)
   pub text_is : text ≡ command_parts x.0 x.1
@@ -137,7 +138,7 @@ command_in-takes w lengths text x e =
     })
 
 pub command_in-again : (c : DataChanCmd) (path : List ℕ) → is_from_root path ≡ true →
-    command_in (command_word_of c) (option_map length (command_options c), option_map length (path_of c)) (command_parts c path) ≡ Some (c, path)
+    command_in (word_of c) (option_map length (command_options c), option_map length (path_of c)) (command_parts c path) ≡ Some (c, path)
 unfolding command_in
 command_in-again c path rooted =
     rw (cut_off-again (command_options c) (bytes_or_none (path_of c) ++ path), cut_off-again (path_of c) path, with-again c, rooted) refl

@@ -20,11 +20,12 @@ use Rattle.ftp_hub.specs.declared.state.SessionLine.{SessionLine}
 use Rattle.ftp_hub.specs.declared.state.SlotKind.{SlotKind}
 use Rattle.ftp_hub.specs.declared.state.SlotKind.TheVariants as kept
 use Rattle.ftp_text.specs.declared.state_line.StateLine.TheVariants as says
-use Rattle.ftp_text.specs.declared.state_word.CommandWord.{CommandWord}
+use Rattle.ftp_events.specs.declared.status.CommandWord.{CommandWord}
 use Rattle.ftp_text.specs.declared.state_word.SlotWord.{SlotWord}
 use Rattle.ftp_text.specs.declared.state_word.SlotWord.TheVariants as slot_word
-use Rattle.ftp_text.specs.Spelling.{login_state_text, slot_word_text, command_word_text, command_word_of, bit, bytes_or_none, slot_kind_fields, command_options, command_lengths, command_parts, command_field, record_fields, session_fields, queued_fields, job_fields, is_from_root, has_key, HasPieces, IsSessionLine, IsSlotKind, IsQueuedLine, IsJobLine, IsStateLine}
-use Rattle.ftp_text.specs.StateLineReading.{slot_words, cut_at, cut_off, bit_field, Lengths, command_in, has_number, RecordFields, record_of, record_at, OpeningFields, opening_at, ProgressFields, progress_at, SessionFields, session_of, session_at, slot_kind_behind, slot_kind_at, QueuedFields, queued_of, queued_at, RunFields, run_at, JobFields, job_of, job_at}
+use Rattle.ftp_events.specs.Statuses.{word_of}
+use Rattle.ftp_text.specs.Spelling.{login_state_text, slot_word_text, command_word_text, bit, bytes_or_none, slot_kind_fields, command_options, command_lengths, command_parts, command_field, record_fields, session_fields, queued_fields, job_fields, is_from_root, has_key, HasPieces, IsSessionLine, IsSlotKind, IsQueuedLine, IsJobLine, IsStateLine}
+use Rattle.ftp_text.specs.StateLineReading.{slot_words, cut_at, cut_off, bit_field, Lengths, command_in, has_number, RecordFields, record_of, record_at, OpeningFields, opening_at, ProgressFields, progress_at, SessionFields, session_with, session_of, session_at, slot_kind_behind, slot_kind_at, QueuedFields, queued_of, queued_at, RunFields, run_at, JobFields, job_with, job_of, job_at}
 use Rattle.ftp_text.proofs.Checked.{checked_exact}
 use Rattle.ftp_text.proofs.Pieces.{text-parts, text-append, cut_at-takes, cut_at-again, cut_off-takes, cut_off-again, cut-fits, piece-length, piece-text, IsCommandIn, command_in-takes, command_in-again, parts-text}
 use Rattle.ftp_text.proofs.CellLemmas.{login_is, slot_word_is, command_word_is, bit_is, lengths_is, maybe_starts}
@@ -164,22 +165,6 @@ session_back s = (
   ((s.state, (s.active, (s.offset, (s.tickets, s.notices)))), (option_map length s.user, bytes_or_none s.user ++ s.cwd)),
 )
 
-abbrev session_with : SessionFields → Option (List ℕ) → List ℕ → SessionLine
-session_with x user cwd = record {
-  session = x.0.0;
-  raw = x.0.1.0;
-  local = x.0.1.1.0;
-  client = x.0.1.1.1.0;
-  trace = x.0.1.1.1.1;
-  state = x.1.0.0;
-  active = x.1.0.1.0;
-  offset = x.1.0.1.1.0;
-  tickets = x.1.0.1.1.1.0;
-  notices = x.1.0.1.1.1.1;
-  user = user;
-  cwd = cwd;
-}
-
 session_forth : (x : SessionFields) (s : SessionLine) → SessionFits x → session_of x ≡ Some s → (session_spelled x ≡ session_fields s) × IsSessionLine s
 unfolding session_of
 session_forth x s fits e =
@@ -263,7 +248,7 @@ abbrev QueuedFits : QueuedFields → Type 0
 QueuedFits x = IsNumber x.0 × (IsNumber x.1.0 × (IsNumber x.1.1.0 × (Unit {0} × ((Each IsNumber x.1.1.1.1.0.0 × Each IsNumber x.1.1.1.1.0.1) × IsText x.1.1.1.1.1))))
 
 abbrev queued_back : QueuedLine → QueuedFields
-queued_back q = (q.session, (q.nr, (q.offset, (command_word_of q.command, (lengths_of q.command, command_parts q.command q.path)))))
+queued_back q = (q.session, (q.nr, (q.offset, (word_of q.command, (lengths_of q.command, command_parts q.command q.path)))))
 
 abbrev queued_with : QueuedFields → DataChanCmd → List ℕ → QueuedLine
 queued_with x c path = record { session = x.0; nr = x.1.0; offset = x.1.1.0; command = c; path = path }
@@ -334,22 +319,8 @@ JobFits x = RunFits x.0 × (Unit {0} × (IsNumber x.1.1.0 × ((Each IsNumber x.1
 abbrev job_back : JobLine → JobFields
 job_back j = (
   (j.job.ticket.session, (j.job.ticket.nr, (j.job.offset, (j.job.done, (j.marked, j.job.number))))),
-  (command_word_of j.job.command, (length j.job.user, (lengths_of j.job.command, j.job.user ++ command_parts j.job.command j.job.path))),
+  (word_of j.job.command, (length j.job.user, (lengths_of j.job.command, j.job.user ++ command_parts j.job.command j.job.path))),
 )
-
-abbrev job_with : JobFields → List ℕ → DataChanCmd → List ℕ → JobLine
-job_with x user c path = record {
-  job = record {
-    ticket = record { session = x.0.0; nr = x.0.1.0 };
-    user = user;
-    command = c;
-    path = path;
-    offset = x.0.1.1.0;
-    number = x.0.1.1.1.1.1;
-    done = x.0.1.1.1.0;
-  };
-  marked = x.0.1.1.1.1.0;
-}
 
 job_forth : (x : JobFields) (j : JobLine) → JobFits x → job_of x ≡ Some j → (job_spelled x ≡ job_fields j) × IsJobLine j
 unfolding job_of

@@ -14,11 +14,12 @@ use Rattle.ftp_hub.specs.declared.state.SlotKind.{SlotKind}
 use Rattle.ftp_hub.specs.declared.state.SlotKind.TheVariants as kept
 use Rattle.ftp_text.specs.declared.state_line.StateLine.{StateLine}
 use Rattle.ftp_text.specs.declared.state_line.StateLine.TheVariants as says
-use Rattle.ftp_text.specs.declared.state_word.CommandWord.{CommandWord}
-use Rattle.ftp_text.specs.declared.state_word.CommandWord.TheVariants as command_word
+use Rattle.ftp_events.specs.declared.status.CommandWord.{CommandWord}
+use Rattle.ftp_events.specs.declared.status.CommandWord.TheVariants as command_word
 use Rattle.ftp_text.specs.declared.state_word.LineWord.{LineWord}
 use Rattle.ftp_text.specs.declared.state_word.LineWord.TheVariants as line_word
-use Rattle.ftp_text.specs.Spelling.{line_word_text, login_state_text, command_word_text, command_word_of, bit, bytes_or_none, length_field, slot_kind_fields, command_options, command_lengths, command_parts, command_field, line_fields, line_word_of, state_line, IsPiece, HasPieces, IsSlotKind, IsStateLine}
+use Rattle.ftp_events.specs.Statuses.{word_of}
+use Rattle.ftp_text.specs.Spelling.{line_word_text, login_state_text, command_word_text, bit, bytes_or_none, length_field, slot_kind_fields, command_options, command_lengths, command_parts, command_field, line_fields, line_word_of, state_line, IsPiece, HasPieces, IsSlotKind, IsStateLine}
 use Rattle.ftp_text.proofs.Pieces.{text-append, piece-length, piece-text, parts-text}
 use Rattle.ftp_text.proofs.FieldFeeds.{is_line_byte, HasNone, both, number_none, text_none, ip_none, address_none}
 
@@ -86,7 +87,7 @@ fields_none (says.Queued q) f =
     both (number q.session) _ (number_none q.session f.session)
     (both (number q.nr) _ (number_none q.nr f.nr)
     (both (number q.offset) _ (number_none q.offset f.offset)
-    (both (command_field q.command) _ (command_word_none (command_word_of q.command))
+    (both (command_field q.command) _ (command_word_none (word_of q.command))
     (both (command_lengths q.command) _ (lengths_none q.command f.command)
     (text_none (command_parts q.command q.path) (parts-text q.command q.path f.command f.path.0))))))
 fields_none (says.Job j) f =
@@ -96,7 +97,7 @@ fields_none (says.Job j) f =
     (both (number j.job.offset) _ (number_none j.job.offset f.offset)
     (both (number j.job.done) _ (number_none j.job.done f.done)
     (both (bit j.marked) _ (bit_none j.marked) (number_none j.job.number f.link))))))
-    (both (command_field j.job.command) _ (command_word_none (command_word_of j.job.command))
+    (both (command_field j.job.command) _ (command_word_none (word_of j.job.command))
     (both (number (length j.job.user)) _ (number_none (length j.job.user) f.user.1)
     (both (command_lengths j.job.command) _ (lengths_none j.job.command f.command)
     (text_none (j.job.user ++ command_parts j.job.command j.job.path)

@@ -4,6 +4,7 @@ use Rattle.std.specs.Option.{option_map}
 use Rattle.ftp_base.specs.declared.command.DataChanCmd.{DataChanCmd}
 use Rattle.ftp_base.specs.declared.command.DataChanCmd.TheVariants as command
 use Rattle.ftp_base.specs.Command.{path_of}
+use Rattle.ftp_events.specs.Statuses.{word_of}
 use Rattle.ftp_text.specs.Fields.{field, number, ip_text, address_text, escape, optional, Each, IsAddress, IsIp, IsNumber, IsText}
 use Rattle.ftp_text.specs.Reading.{begins}
 use Rattle.ftp_hub.specs.declared.state.JobLine.{JobLine}
@@ -16,8 +17,8 @@ use Rattle.ftp_hub.specs.declared.state.SlotKind.{SlotKind}
 use Rattle.ftp_hub.specs.declared.state.SlotKind.TheVariants as kept
 use Rattle.ftp_text.specs.declared.state_line.StateLine.{StateLine}
 use Rattle.ftp_text.specs.declared.state_line.StateLine.TheVariants as says
-use Rattle.ftp_text.specs.declared.state_word.CommandWord.{CommandWord}
-use Rattle.ftp_text.specs.declared.state_word.CommandWord.TheVariants as command_word
+use Rattle.ftp_events.specs.declared.status.CommandWord.{CommandWord}
+use Rattle.ftp_events.specs.declared.status.CommandWord.TheVariants as command_word
 use Rattle.ftp_text.specs.declared.state_word.SlotWord.{SlotWord}
 use Rattle.ftp_text.specs.declared.state_word.SlotWord.TheVariants as slot_word
 use Rattle.ftp_text.specs.declared.state_word.LineWord.{LineWord}
@@ -56,14 +57,6 @@ command_word_text command_word.List = codes "list"
 command_word_text command_word.Nlst = codes "nlst"
 command_word_text command_word.Mlsd = codes "mlsd"
 
-abbrev pub command_word_of : DataChanCmd → CommandWord
-command_word_of (command.Retr path) = command_word.Retr
-command_word_of (command.Stor path) = command_word.Stor
-command_word_of (command.Appe path) = command_word.Appe
-command_word_of (command.List options path) = command_word.List
-command_word_of (command.Nlst path) = command_word.Nlst
-command_word_of (command.Mlsd path) = command_word.Mlsd
-
 -- ---- fields
 
 -- 1 for yes, 0 for no
@@ -98,7 +91,7 @@ command_parts c behind = bytes_or_none (command_options c) ++ (bytes_or_none (pa
 
 -- the word of a command
 abbrev pub command_field : DataChanCmd → List ℕ
-command_field c = field (command_word_text (command_word_of c))
+command_field c = field (command_word_text (word_of c))
 
 -- ---- lines
 

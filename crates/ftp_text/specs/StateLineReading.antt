@@ -15,8 +15,8 @@ use Rattle.ftp_hub.specs.declared.state.SlotKind.{SlotKind}
 use Rattle.ftp_hub.specs.declared.state.SlotKind.TheVariants as kept
 use Rattle.ftp_text.specs.declared.state_line.StateLine.{StateLine}
 use Rattle.ftp_text.specs.declared.state_line.StateLine.TheVariants as says
-use Rattle.ftp_text.specs.declared.state_word.CommandWord.{CommandWord}
-use Rattle.ftp_text.specs.declared.state_word.CommandWord.TheVariants as command_word
+use Rattle.ftp_events.specs.declared.status.CommandWord.{CommandWord}
+use Rattle.ftp_events.specs.declared.status.CommandWord.TheVariants as command_word
 use Rattle.ftp_text.specs.declared.state_word.LineWord.{LineWord}
 use Rattle.ftp_text.specs.declared.state_word.LineWord.TheVariants as line_word
 use Rattle.ftp_text.specs.declared.state_word.SlotWord.{SlotWord}
@@ -134,24 +134,28 @@ progress_at = pair (word_value login_state_text login_states) (pair number_field
 abbrev pub SessionFields : Type 0
 SessionFields = OpeningFields × (ProgressFields × (Option ℕ × List ℕ))
 
+-- the session with this name and directory
+abbrev pub session_with : SessionFields → Option (List ℕ) → List ℕ → SessionLine
+session_with x user cwd = record {
+  session = x.0.0;
+  raw = x.0.1.0;
+  local = x.0.1.1.0;
+  client = x.0.1.1.1.0;
+  trace = x.0.1.1.1.1;
+  state = x.1.0.0;
+  active = x.1.0.1.0;
+  offset = x.1.0.1.1.0;
+  tickets = x.1.0.1.1.1.0;
+  notices = x.1.0.1.1.1.1;
+  user = user;
+  cwd = cwd;
+}
+
 -- the session, where its directory begins with a slash
 unfoldable pub session_of : SessionFields → Option SessionLine
 session_of x = do
   user ← cut_off x.1.1.0 x.1.1.1
-  if is_from_root user.1 then Some (record {
-    session = x.0.0;
-    raw = x.0.1.0;
-    local = x.0.1.1.0;
-    client = x.0.1.1.1.0;
-    trace = x.0.1.1.1.1;
-    state = x.1.0.0;
-    active = x.1.0.1.0;
-    offset = x.1.0.1.1.0;
-    tickets = x.1.0.1.1.1.0;
-    notices = x.1.0.1.1.1.1;
-    user = user.0;
-    cwd = user.1;
-  }) else None
+  if is_from_root user.1 then Some (session_with x user.0 user.1) else None
 
 unfoldable pub session_at : Reader SessionLine
 session_at = checked session_of (pair opening_at (pair progress_at (pair (optional_field number_at) text_field)))
@@ -193,23 +197,27 @@ run_at = pair number_field (pair number_field (pair number_field (pair number_fi
 abbrev pub JobFields : Type 0
 JobFields = RunFields × (CommandWord × (ℕ × (Lengths × List ℕ)))
 
+-- the job of this user, with this command and path
+abbrev pub job_with : JobFields → List ℕ → DataChanCmd → List ℕ → JobLine
+job_with x user c path = record {
+  job = record {
+    ticket = record { session = x.0.0; nr = x.0.1.0 };
+    user = user;
+    command = c;
+    path = path;
+    offset = x.0.1.1.0;
+    number = x.0.1.1.1.1.1;
+    done = x.0.1.1.1.0;
+  };
+  marked = x.0.1.1.1.1.0;
+}
+
 -- the job, where its text is the user's name and that of its command and its path begins with a slash
 unfoldable pub job_of : JobFields → Option JobLine
 job_of x = do
   user ← cut_at x.1.1.0 x.1.1.1.1
   c ← command_in x.1.0 x.1.1.1.0 user.1
-  Some (record {
-    job = record {
-      ticket = record { session = x.0.0; nr = x.0.1.0 };
-      user = user.0;
-      command = c.0;
-      path = c.1;
-      offset = x.0.1.1.0;
-      number = x.0.1.1.1.1.1;
-      done = x.0.1.1.1.0;
-    };
-    marked = x.0.1.1.1.1.0;
-  })
+  Some (job_with x user.0 c.0 c.1)
 
 unfoldable pub job_at : Reader JobLine
 job_at = checked job_of (pair run_at (pair command_word_field (pair number_field (pair lengths_at text_field))))

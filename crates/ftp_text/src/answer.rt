@@ -1,13 +1,13 @@
 //! Reading the answer of an entry.
 
 ghost use Rattle.std.specs.Prelude.{◌≡◌};
-ghost use Rattle.ftp_text.specs.Reading.{Gives, find_word, word_value};
+ghost use Rattle.ftp_text.specs.Reading.{Gives};
 ghost use Rattle.ftp_text.specs.Printing.{result_text};
 ghost use Rattle.ftp_text.specs.LogLines.{answer_word_text, maybe_fault_text};
 ghost use Rattle.ftp_text.specs.AnswerReading.{answer_words, results, maybe_faults, has_letter, header_at, outcome_at, answer_behind, answer_at};
 
 use crate::fault::LineFault;
-use crate::field::{address, literal, number, word, word_value};
+use crate::field::{address, literal, number, word_value};
 use crate::word::Word;
 use ftp_base::{ErrorKind, LinkFault};
 use ftp_events::Answer;
@@ -62,6 +62,27 @@ const RESULTS: [Completion; 17] = [
     Completion::Refused(ErrorKind::CommandNotImplemented),
 ];
 
+impl Word for Completion {
+    ghost text = { result_text };
+
+    ghost table = { results };
+
+    fn text(self) -> &'static [u8] {
+        match self {
+            Completion::Sent => b"sent",
+            Completion::Written => b"written",
+            Completion::Listed => b"listed",
+            Completion::WriteFailed => b"writefailed",
+            Completion::Refused(kind) => kind.text(),
+            Completion::OutOfMemory => b"memory",
+        }
+    }
+
+    fn table() -> &'static [Completion] {
+        &RESULTS
+    }
+}
+
 const MAYBE_FAULTS: [Option<LinkFault>; 5] = [
     None,
     Some(LinkFault::Reset),
@@ -69,6 +90,23 @@ const MAYBE_FAULTS: [Option<LinkFault>; 5] = [
     Some(LinkFault::Aborted),
     Some(LinkFault::Other),
 ];
+
+impl Word for Option<LinkFault> {
+    ghost text = { maybe_fault_text };
+
+    ghost table = { maybe_faults };
+
+    fn text(self) -> &'static [u8] {
+        match self {
+            None => b"-",
+            Some(fault) => fault.text(),
+        }
+    }
+
+    fn table() -> &'static [Option<LinkFault>] {
+        &MAYBE_FAULTS
+    }
+}
 
 /// An answer, with the mark before it.
 #[tactic(auto, unfolding(crate::specs::AnswerReading::answer_at))]
@@ -132,74 +170,13 @@ fn has_letter(bytes: &[u8]) -> bool
 fn outcome(bytes: &[u8]) -> Result<(Outcome, &[u8]), LineFault>
     ensures { Gives (λ x. (x.0, x.1.now)) result (outcome_at bytes.now) }
 {
-    let (result, rest) = completion(bytes)?;
+    let (result, rest) = word_value(bytes)?;
     let (bytes, rest) = number(rest)?;
-    let (fault, rest) = maybe_fault(rest)?;
+    let (fault, rest) = word_value(rest)?;
     let outcome = Outcome {
         result,
         bytes,
         fault,
     };
     Ok((outcome, rest))
-}
-
-#[tactic(auto, unfolding(crate::specs::Reading::word_value))]
-fn completion(bytes: &[u8]) -> Result<(Completion, &[u8]), LineFault>
-    ensures { Gives (λ x. (x.0, x.1.now)) result (word_value result_text results bytes.now) }
-{
-    let (text, rest) = word(bytes)?;
-    match completion_of(text) {
-        Some(completion) => Ok((completion, rest)),
-        None => Err(LineFault::Bad),
-    }
-}
-
-// The completion that the word spells.
-fn completion_of(word: &[u8]) -> Option<Completion>
-    ensures { result ≡ find_word result_text results word.now }
-{
-    RESULTS.iter().copied().find(|r| result_text(*r) == word)
-}
-
-fn result_text(completion: Completion) -> &'static [u8]
-    ensures { result.now ≡ result_text completion }
-{
-    match completion {
-        Completion::Sent => b"sent",
-        Completion::Written => b"written",
-        Completion::Listed => b"listed",
-        Completion::WriteFailed => b"writefailed",
-        Completion::Refused(kind) => kind.text(),
-        Completion::OutOfMemory => b"memory",
-    }
-}
-
-#[tactic(auto, unfolding(crate::specs::Reading::word_value))]
-fn maybe_fault(bytes: &[u8]) -> Result<(Option<LinkFault>, &[u8]), LineFault>
-    ensures { Gives (λ x. (x.0, x.1.now)) result (word_value maybe_fault_text maybe_faults bytes.now) }
-{
-    let (text, rest) = word(bytes)?;
-    match fault_of(text) {
-        Some(fault) => Ok((fault, rest)),
-        None => Err(LineFault::Bad),
-    }
-}
-
-// The fault, or none, that the word spells.
-fn fault_of(word: &[u8]) -> Option<Option<LinkFault>>
-    ensures { result ≡ find_word maybe_fault_text maybe_faults word.now }
-{
-    MAYBE_FAULTS
-        .iter()
-        .copied()
-        .find(|f| maybe_fault_text(*f) == word)
-}
-
-fn maybe_fault_text(fault: Option<LinkFault>) -> &'static [u8]
-    ensures { result.now ≡ maybe_fault_text fault }
-{
-    match fault {
-        None => b"-",
-        Some(fault) => fault.text(),
-    }
 }

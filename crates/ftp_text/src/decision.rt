@@ -1,13 +1,14 @@
 //! Reading the decision of an entry.
 
 ghost use Rattle.std.specs.Prelude.{◌≡◌};
-ghost use Rattle.ftp_text.specs.Reading.{Gives, find_word, word_value};
+ghost use Rattle.ftp_text.specs.Reading.{Gives};
 ghost use Rattle.ftp_text.specs.Printing.{decision_text, lock_text};
 ghost use Rattle.ftp_text.specs.DecisionReading.{heads, locks, lock_and_delay_at, decision_behind, decision_at};
 
 use crate::fault::LineFault;
-use crate::field::{literal, number, port, small, ticket, word, word_value};
+use crate::field::{literal, number, port, small, ticket, word_value};
 use crate::printing::decision_text;
+use crate::word::Word;
 use ftp_base::{ErrorKind, LockState};
 use ftp_events::Decision;
 use ftp_proxy::ProxyError;
@@ -68,11 +69,43 @@ const HEADS: [Decision; 46] = [
     Decision::Stopped,
 ];
 
+impl Word for Decision {
+    ghost text = { decision_text };
+
+    ghost table = { heads };
+
+    fn text(self) -> &'static [u8] {
+        decision_text(self)
+    }
+
+    fn table() -> &'static [Decision] {
+        &HEADS
+    }
+}
+
 const LOCKS: [Option<LockState>; 3] = [
     None,
     Some(LockState::MaxFailuresReached),
     Some(LockState::AlreadyLocked),
 ];
+
+impl Word for Option<LockState> {
+    ghost text = { lock_text };
+
+    ghost table = { locks };
+
+    fn text(self) -> &'static [u8] {
+        match self {
+            None => b"none",
+            Some(LockState::MaxFailuresReached) => b"reached",
+            Some(LockState::AlreadyLocked) => b"locked",
+        }
+    }
+
+    fn table() -> &'static [Option<LockState>] {
+        &LOCKS
+    }
+}
 
 /// A decision, with the mark before it.
 #[tactic(auto, unfolding(crate::specs::DecisionReading::decision_at))]
@@ -80,26 +113,8 @@ pub fn decision(bytes: &[u8]) -> Result<(Decision, &[u8]), LineFault>
     ensures { Gives (λ x. (x.0, x.1.now)) result (decision_at bytes.now) }
 {
     let rest = literal(b"=", bytes)?;
-    let (head, rest) = head(rest)?;
+    let (head, rest) = word_value(rest)?;
     behind(head, rest)
-}
-
-// A decision of the name that is spelled.
-#[tactic(auto, unfolding(crate::specs::Reading::word_value))]
-fn head(bytes: &[u8]) -> Result<(Decision, &[u8]), LineFault>
-    ensures { Gives (λ x. (x.0, x.1.now)) result (word_value decision_text heads bytes.now) }
-{
-    let (text, rest) = word(bytes)?;
-    match head_of(text) {
-        Some(head) => Ok((head, rest)),
-        None => Err(LineFault::Bad),
-    }
-}
-
-fn head_of(word: &[u8]) -> Option<Decision>
-    ensures { result ≡ find_word decision_text heads word.now }
-{
-    HEADS.iter().copied().find(|d| decision_text(*d) == word)
 }
 
 // The decision of this name with the fields that are spelled behind it.
@@ -140,34 +155,7 @@ fn behind(head: Decision, bytes: &[u8]) -> Result<(Decision, &[u8]), LineFault>
 fn lock_and_delay(bytes: &[u8]) -> Result<((Option<LockState>, u32), &[u8]), LineFault>
     ensures { Gives (λ x. (x.0, x.1.now)) result (lock_and_delay_at bytes.now) }
 {
-    let (lock, rest) = lock(bytes)?;
+    let (lock, rest) = word_value(bytes)?;
     let (delay, rest) = small(4_294_967_296, rest)?;
     Ok(((lock, delay as u32), rest))
-}
-
-#[tactic(auto, unfolding(crate::specs::Reading::word_value))]
-fn lock(bytes: &[u8]) -> Result<(Option<LockState>, &[u8]), LineFault>
-    ensures { Gives (λ x. (x.0, x.1.now)) result (word_value lock_text locks bytes.now) }
-{
-    let (text, rest) = word(bytes)?;
-    match lock_of(text) {
-        Some(lock) => Ok((lock, rest)),
-        None => Err(LineFault::Bad),
-    }
-}
-
-fn lock_of(word: &[u8]) -> Option<Option<LockState>>
-    ensures { result ≡ find_word lock_text locks word.now }
-{
-    LOCKS.iter().copied().find(|l| lock_text(*l) == word)
-}
-
-fn lock_text(lock: Option<LockState>) -> &'static [u8]
-    ensures { result.now ≡ lock_text lock }
-{
-    match lock {
-        None => b"none",
-        Some(LockState::MaxFailuresReached) => b"reached",
-        Some(LockState::AlreadyLocked) => b"locked",
-    }
 }

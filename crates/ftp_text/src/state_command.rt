@@ -7,8 +7,8 @@ ghost use Rattle.ftp_text.specs.StateLineReading.{Lengths, lengths_at, command_w
 use crate::fault::LineFault;
 use crate::field::optional_number;
 use crate::state_piece::{cut_off, is_from_root};
-use crate::state_word::CommandWord;
 use ftp_base::{Bytes, DataChanCmd};
+use ftp_events::CommandWord;
 use std::alloc::Global;
 
 /// How long the options and the argument of a command are.

@@ -13,8 +13,10 @@ use crate::field::{
 };
 use crate::state_command::{Lengths, command_in, lengths};
 use crate::state_piece::{bit, cut_at, cut_off, is_from_root};
-use crate::state_word::{CommandWord, LineWord, SlotWord, find_line_word, login_state};
+use crate::state_word::{LineWord, SlotWord};
+use crate::word::find;
 use ftp_base::{Bytes, IpAddr, SocketAddr};
+use ftp_events::CommandWord;
 use ftp_hub::{JobLine, LoginState, QueuedLine, RecordLine, SessionLine, SlotKind, SlotLine};
 use ftp_switchboard::Interval;
 use ftp_transfer::{Job, Ticket};
@@ -81,7 +83,7 @@ fn line_word(line: &[u8]) -> Result<(LineWord, &[u8]), LineFault>
     ensures { Gives (λ x. (x.0, x.1.now)) result (line_word_at line.now) }
 {
     let (text, rest) = first_word(line);
-    match find_line_word(text) {
+    match find(text) {
         Some(word) => Ok((word, rest)),
         None => Err(LineFault::Bad),
     }
@@ -188,7 +190,7 @@ fn opening(bytes: &[u8]) -> Result<(Opening, &[u8]), LineFault>
 fn progress(bytes: &[u8]) -> Result<(Progress, &[u8]), LineFault>
     ensures { Gives (λ x. (x.0, x.1.now)) result (progress_at bytes.now) }
 {
-    let (state, rest) = login_state(bytes)?;
+    let (state, rest) = word_value(bytes)?;
     let (active, rest) = number(rest)?;
     let (offset, rest) = number(rest)?;
     let (tickets, rest) = number(rest)?;

@@ -7,12 +7,13 @@ ghost use Rattle.ftp_text.specs.Fields.{field, number, escape};
 ghost use Rattle.ftp_text.specs.StateText.{with_feed};
 
 use crate::state_piece::{put_bit, put_length};
-use crate::state_word::{CommandWord, SlotWord, login_state_text};
+use crate::state_word::SlotWord;
 use crate::word::Word;
 use crate::writing::{
     put, put_address, put_byte, put_field, put_ip_field, put_number, put_optional_ip, put_text,
 };
 use ftp_base::{Bytes, DataChanCmd};
+use ftp_events::CommandWord;
 use ftp_hub::{JobLine, QueuedLine, RecordLine, SessionLine, SlotKind, SlotLine};
 use ftp_switchboard::Interval;
 use ftp_transfer::Job;
@@ -79,7 +80,7 @@ fn put_opening(out: &mut Vec<u8>, line: &SessionLine) -> Result<(), AllocError>
 fn put_progress(out: &mut Vec<u8>, line: &SessionLine) -> Result<(), AllocError>
     ensures { OnOk result (out.new.items ≡ out.old.items ++ progress_fields line.now) }
 {
-    put_field(out, login_state_text(line.state))?;
+    put_field(out, line.state.text())?;
     put_number(out, line.active)?;
     put_number(out, line.offset)?;
     put_number(out, line.tickets)?;
