@@ -97,11 +97,15 @@ before_text text read bytes = do
   rest ← literal_at text x.1
   Some (x.0, rest)
 
+-- a value behind which nothing stands
+abbrev pub last_value : {A : Type 0} → A → List ℕ → Option A
+last_value x rest = if length rest == 0 then Some x else None
+
 -- the value that all of the bytes spell
 abbrev pub all_of : {A : Type 0} → Reader A → List ℕ → Option A
 all_of read bytes = do
   x ← read bytes
-  if length x.1 == 0 then Some x.0 else None
+  last_value x.0 x.1
 
 -- ---- numbers
 

@@ -90,8 +90,16 @@ fn fields(alloc: Global, word: EventWord, bytes: &[u8]) -> Result<(EventKind, &[
         EventWord::Closed => Ok(made(number(bytes)?, |session| EventKind::Closed { session })),
         EventWord::Quit => Ok(made(number(bytes)?, |session| EventKind::Quit { session })),
         EventWord::Slot => Ok(made(number(bytes)?, |session| EventKind::SlotTick { session })),
-        EventWord::End => end(bytes),
-        EventWord::Piece => piece(bytes),
+        EventWord::End => {
+            let (session, nr, rest) = field::ticket(bytes)?;
+            let ticket = Ticket { session, nr };
+            Ok((EventKind::End { ticket }, rest))
+        }
+        EventWord::Piece => {
+            let (session, nr, rest) = field::ticket(bytes)?;
+            let ticket = Ticket { session, nr };
+            Ok((EventKind::Piece { ticket }, rest))
+        }
         EventWord::Sweep => Ok((EventKind::Sweep, bytes)),
         EventWord::Abor => Ok(made(number(bytes)?, |session| EventKind::Abor { session })),
         EventWord::Internal => internal(alloc, bytes),
@@ -265,24 +273,6 @@ fn cwd(alloc: Global, bytes: &[u8]) -> Result<(EventKind, &[u8]), LineFault>
         refusal,
     };
     Ok((kind, rest))
-}
-
-#[tactic(auto, unfolding(crate::specs::EventReading::read_as))]
-fn end(bytes: &[u8]) -> Result<(EventKind, &[u8]), LineFault>
-    ensures { Gives (λ x. (x.0, x.1.now)) result (fields_at word.End bytes.now) }
-{
-    let (session, nr, rest) = field::ticket(bytes)?;
-    let ticket = Ticket { session, nr };
-    Ok((EventKind::End { ticket }, rest))
-}
-
-#[tactic(auto, unfolding(crate::specs::EventReading::read_as))]
-fn piece(bytes: &[u8]) -> Result<(EventKind, &[u8]), LineFault>
-    ensures { Gives (λ x. (x.0, x.1.now)) result (fields_at word.Piece bytes.now) }
-{
-    let (session, nr, rest) = field::ticket(bytes)?;
-    let ticket = Ticket { session, nr };
-    Ok((EventKind::Piece { ticket }, rest))
 }
 
 #[tactic(auto, unfolding(crate::specs::EventReading::read_as))]

@@ -5,7 +5,7 @@ ghost use Rattle.ftp_base.specs.declared.net.IpAddr.TheVariants.{V6};
 ghost use Rattle.std.specs.List.{prefix_len, position_or_len};
 ghost use Rattle.std.specs.Char.{is_ascii_digit};
 ghost use Rattle.std.specs.Str.Parse.{AllDigits, digits_value};
-ghost use Rattle.ftp_text.specs.Reading.{Gives, made, behind, before_text, after, literal_at, is_space, numeral, number_at, small_at, dotted_at, port_at_colon, ipv4_at, hex_numeral, hex_word_at, ipv6_at, address_at, ip_at, number_field, small_field, address_field, ip_field, optional_field, text_field, optional_text_field, ticket_field, hex_word_field, word_at, hex_field, word_value};
+ghost use Rattle.ftp_text.specs.Reading.{Gives, made, behind, before_text, after, literal_at, is_space, numeral, number_at, small_at, dotted_at, port_at_colon, ipv4_at, hex_numeral, hex_word_at, ipv6_at, address_at, ip_at, number_field, small_field, address_field, ip_field, optional_field, text_field, optional_text_field, ticket_field, hex_word_field, word_at, hex_field, word_value, last_value};
 
 use crate::fault::LineFault;
 use crate::text::{self, nibble, whole_text};
@@ -260,18 +260,25 @@ pub fn ip(bytes: &[u8]) -> Result<(IpAddr, &[u8]), LineFault>
     ip_here(after(b' ', bytes)?)
 }
 
+// A field, or a hyphen where it is missing.
+macro_rules! optional {
+    ($read:ident, $bytes:expr) => {
+        match after(b' ', $bytes)? {
+            [b'-', rest @ ..] => Ok((None, rest)),
+            rest => {
+                let (value, rest) = $read(rest)?;
+                Ok((Some(value), rest))
+            }
+        }
+    };
+}
+
 /// An address without a port that may be missing.
 #[tactic(auto, unfolding(crate::specs::Reading::optional_field))]
 pub fn optional_ip(bytes: &[u8]) -> Result<(Option<IpAddr>, &[u8]), LineFault>
     ensures { Gives (λ x. (x.0, x.1.now)) result (optional_field ip_at bytes.now) }
 {
-    match after(b' ', bytes)? {
-        [b'-', rest @ ..] => Ok((None, rest)),
-        rest => {
-            let (ip, rest) = ip_here(rest)?;
-            Ok((Some(ip), rest))
-        }
-    }
+    optional!(ip_here, bytes)
 }
 
 /// A number of 64 bits that may be missing.
@@ -279,13 +286,7 @@ pub fn optional_ip(bytes: &[u8]) -> Result<(Option<IpAddr>, &[u8]), LineFault>
 pub fn optional_number(bytes: &[u8]) -> Result<(Option<u64>, &[u8]), LineFault>
     ensures { Gives (λ x. (x.0, x.1.now)) result (optional_field number_at bytes.now) }
 {
-    match after(b' ', bytes)? {
-        [b'-', rest @ ..] => Ok((None, rest)),
-        rest => {
-            let (n, rest) = number_here(rest)?;
-            Ok((Some(n), rest))
-        }
-    }
+    optional!(number_here, bytes)
 }
 
 /// A port that may be missing.
@@ -293,13 +294,7 @@ pub fn optional_number(bytes: &[u8]) -> Result<(Option<u64>, &[u8]), LineFault>
 pub fn optional_port(bytes: &[u8]) -> Result<(Option<u16>, &[u8]), LineFault>
     ensures { Gives (λ x. (x.0, x.1.now)) result (optional_field (small_at (2 ^ 16)) bytes.now) }
 {
-    match after(b' ', bytes)? {
-        [b'-', rest @ ..] => Ok((None, rest)),
-        rest => {
-            let (n, rest) = port_here(rest)?;
-            Ok((Some(n), rest))
-        }
-    }
+    optional!(port_here, bytes)
 }
 
 /// An IPv4 address that may be missing.
@@ -307,13 +302,7 @@ pub fn optional_port(bytes: &[u8]) -> Result<(Option<u16>, &[u8]), LineFault>
 pub fn optional_dotted(bytes: &[u8]) -> Result<(Option<u32>, &[u8]), LineFault>
     ensures { Gives (λ x. (x.0, x.1.now)) result (optional_field dotted_at bytes.now) }
 {
-    match after(b' ', bytes)? {
-        [b'-', rest @ ..] => Ok((None, rest)),
-        rest => {
-            let (ip, rest) = dotted_here(rest)?;
-            Ok((Some(ip), rest))
-        }
-    }
+    optional!(dotted_here, bytes)
 }
 
 /// A text, up to the end of the line.
@@ -391,6 +380,18 @@ pub fn hex_bytes(alloc: Global, bytes: &[u8]) -> Result<(Bytes, &[u8]), LineFaul
     let (word, rest) = word(bytes)?;
     let found = text::hex_bytes(alloc, word)?;
     Ok((found, rest))
+}
+
+/// The value that was read, where it takes all of the bytes.
+pub(crate) fn whole<V: Drop>(read: (V, &[u8])) -> Result<V, LineFault>
+    ensures { Gives (λ x. x) result (last_value read.entry.0 read.entry.1.now) }
+{
+    let (value, rest) = read;
+    if rest.is_empty() {
+        Ok(value)
+    } else {
+        Err(LineFault::Bad)
+    }
 }
 
 /// The value that a word of its table spells.

@@ -11,7 +11,7 @@ use crate::answer::answer;
 use crate::decision::decision;
 use crate::event::read_event;
 use crate::fault::LineFault;
-use crate::field::literal;
+use crate::field::{literal, whole};
 use crate::setup::{Item, read_item};
 use ftp_events::{Action, Answer, Decision, HubEvent};
 use std::alloc::Global;
@@ -94,32 +94,20 @@ fn event_in(alloc: Global, line: &[u8]) -> Result<LogLine, LineFault>
 fn answer_in(line: &[u8]) -> Result<LogLine, LineFault>
     ensures { Gives (λ x. x) result (answer_in line.now) }
 {
-    let (answer, rest) = answer(line)?;
-    if rest.is_empty() {
-        Ok(LogLine::Answer(answer))
-    } else {
-        Err(LineFault::Bad)
-    }
+    let answer = whole(answer(line)?)?;
+    Ok(LogLine::Answer(answer))
 }
 
 fn decision_in(line: &[u8]) -> Result<LogLine, LineFault>
     ensures { Gives (λ x. x) result (decision_in line.now) }
 {
-    let (decision, rest) = decision(line)?;
-    if rest.is_empty() {
-        Ok(LogLine::Decision(decision))
-    } else {
-        Err(LineFault::Bad)
-    }
+    let decision = whole(decision(line)?)?;
+    Ok(LogLine::Decision(decision))
 }
 
 fn action_in(alloc: Global, line: &[u8]) -> Result<LogLine, LineFault>
     ensures { Gives (λ x. x) result (action_in line.now) }
 {
-    let (action, rest) = action(alloc, line)?;
-    if rest.is_empty() {
-        Ok(LogLine::Action(action))
-    } else {
-        Err(LineFault::Bad)
-    }
+    let action = whole(action(alloc, line)?)?;
+    Ok(LogLine::Action(action))
 }

@@ -113,20 +113,18 @@ fn active(bytes: &[u8]) -> Result<(ActivePassiveMode, &[u8]), LineFault>
     ensures { Gives (λ x. (x.0, x.1.now)) result (active_at bytes.now) }
 {
     let (word, rest) = field::word(bytes)?;
-    match active_of(word) {
-        Some(active) => Ok((active, rest)),
-        None => Err(LineFault::Bad),
-    }
+    let active = active_of(word)?;
+    Ok((active, rest))
 }
 
-fn active_of(word: &[u8]) -> Option<ActivePassiveMode>
-    ensures { result ≡ find_word active_text actives word.now }
+fn active_of(word: &[u8]) -> Result<ActivePassiveMode, LineFault>
+    ensures { Gives (λ x. x) result (find_word active_text actives word.now) }
 {
     match word {
-        b"passive" => Some(ActivePassiveMode::PassiveOnly),
-        b"active" => Some(ActivePassiveMode::ActiveOnly),
-        b"both" => Some(ActivePassiveMode::ActiveAndPassive),
-        _ => None,
+        b"passive" => Ok(ActivePassiveMode::PassiveOnly),
+        b"active" => Ok(ActivePassiveMode::ActiveOnly),
+        b"both" => Ok(ActivePassiveMode::ActiveAndPassive),
+        _ => Err(LineFault::Bad),
     }
 }
 
@@ -156,10 +154,8 @@ fn policy_of(word: &[u8]) -> Result<FailedLoginsPolicy, LineFault>
 {
     let (attempts, rest) = part(word)?;
     let (seconds, rest) = part(rest)?;
-    match block_of(rest) {
-        Some(block) => Ok(FailedLoginsPolicy::new(attempts, 1000 * u64::from(seconds), block)),
-        None => Err(LineFault::Bad),
-    }
+    let block = block_of(rest)?;
+    Ok(FailedLoginsPolicy::new(attempts, 1000 * u64::from(seconds), block))
 }
 
 // A number of 32 bits, before a colon.
@@ -171,14 +167,14 @@ fn part(bytes: &[u8]) -> Result<(u32, &[u8]), LineFault>
     Ok((n as u32, rest))
 }
 
-fn block_of(word: &[u8]) -> Option<FailedLoginsBlock>
-    ensures { result ≡ find_word block_text blocks word.now }
+fn block_of(word: &[u8]) -> Result<FailedLoginsBlock, LineFault>
+    ensures { Gives (λ x. x) result (find_word block_text blocks word.now) }
 {
     match word {
-        b"both" => Some(FailedLoginsBlock::UserAndIP),
-        b"ip" => Some(FailedLoginsBlock::IP),
-        b"user" => Some(FailedLoginsBlock::User),
-        _ => None,
+        b"both" => Ok(FailedLoginsBlock::UserAndIP),
+        b"ip" => Ok(FailedLoginsBlock::IP),
+        b"user" => Ok(FailedLoginsBlock::User),
+        _ => Err(LineFault::Bad),
     }
 }
 
@@ -187,18 +183,16 @@ fn restart(bytes: &[u8]) -> Result<(bool, &[u8]), LineFault>
     ensures { Gives (λ x. (x.0, x.1.now)) result (restart_at bytes.now) }
 {
     let (word, rest) = field::word(bytes)?;
-    match restart_of(word) {
-        Some(restart) => Ok((restart, rest)),
-        None => Err(LineFault::Bad),
-    }
+    let restart = restart_of(word)?;
+    Ok((restart, rest))
 }
 
-fn restart_of(word: &[u8]) -> Option<bool>
-    ensures { result ≡ find_word restart_text restarts word.now }
+fn restart_of(word: &[u8]) -> Result<bool, LineFault>
+    ensures { Gives (λ x. x) result (find_word restart_text restarts word.now) }
 {
     match word {
-        b"restart" => Some(true),
-        b"norestart" => Some(false),
-        _ => None,
+        b"restart" => Ok(true),
+        b"norestart" => Ok(false),
+        _ => Err(LineFault::Bad),
     }
 }

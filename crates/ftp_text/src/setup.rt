@@ -5,12 +5,12 @@ ghost use Rattle.ftp_text.specs.declared.fault.LineFault.TheVariants as fault;
 ghost use Rattle.ftp_text.specs.declared.setup.Item.{Item};
 ghost use Rattle.ftp_text.specs.Setup.{is_skipped, is_absolute, IsItemOf, sent_line, file_line};
 ghost use Rattle.ftp_text.specs.Reading.{Gives};
-ghost use Rattle.ftp_text.specs.SetupReading.{options_at, storage_at, dir_at, file_at, quota_at, budget_at, link_calls_at, link_at, whole, item_of};
+ghost use Rattle.ftp_text.specs.SetupReading.{options_at, storage_at, dir_at, file_at, quota_at, budget_at, link_calls_at, link_at, item_of};
 
 use crate::calls::{FailingCalls, failing_calls};
 use crate::event::read_event;
 use crate::fault::LineFault;
-use crate::field::{self, literal};
+use crate::field::{self, literal, whole};
 use crate::options::{listening, rules};
 use crate::writing::{put, put_byte, put_hex_bytes, put_number, put_text_field};
 use ftp_base::{Bytes, LinkFault};
@@ -116,18 +116,6 @@ fn is_skipped(line: &[u8]) -> bool
     match line {
         [] | [b'#', ..] => true,
         _ => false,
-    }
-}
-
-// The item, where it takes all of the line.
-fn whole(read: (Item, &[u8])) -> Result<Item, LineFault>
-    ensures { Gives (λ x. x) result (whole (Some (read.entry.0, read.entry.1.now))) }
-{
-    let (item, rest) = read;
-    if rest.is_empty() {
-        Ok(item)
-    } else {
-        Err(LineFault::Bad)
     }
 }
 

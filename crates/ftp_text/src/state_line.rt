@@ -9,7 +9,7 @@ ghost use Rattle.ftp_text.specs.StateLineReading.{RecordFields, SessionFields, Q
 use crate::fault::LineFault;
 use crate::field::{
     address, first_word, ip, literal, number, optional_ip, optional_number, port, small,
-    text_to_end, word_value,
+    text_to_end, whole, word_value,
 };
 use crate::state_command::{Lengths, command_in, lengths};
 use crate::state_piece::{bit, cut_at, cut_off, is_from_root};
@@ -69,12 +69,7 @@ fn line_in(alloc: Global, line: &[u8]) -> Result<StateLine, LineFault>
     ensures { Gives (λ x. x) result (state_line_of line.now) }
 {
     let (word, rest) = line_word(line)?;
-    let (says, rest) = behind(alloc, word, rest)?;
-    if rest.is_empty() {
-        Ok(says)
-    } else {
-        Err(LineFault::Bad)
-    }
+    whole(behind(alloc, word, rest)?)
 }
 
 // The word at the front.
