@@ -1,16 +1,14 @@
 -- A text has at most one verdict.
-use Rattle.std.proofs.Common.{◌≡◌, ℕ, ◌+◌, ◌<◌, ◌≤◌, ◌⊎◌, inl, inr, List, [], ◌∷◌, ◌++◌, length, take, map, reverse, Option, refl, sym, ap, subst, ◌∙◌, append_assoc, arith}
-use Rattle.std.specs.List.{flat_map, position_or_len, AllByRecursion}
+use Rattle.std.proofs.Common.{◌≡◌, ℕ, ◌+◌, ◌<◌, ◌≤◌, ◌⊎◌, inl, inr, List, [], ◌∷◌, ◌++◌, length, map, reverse, Option, refl, sym, ap, subst, ◌∙◌, append_assoc, arith}
+use Rattle.std.specs.List.{flat_map, AllByRecursion}
 use Rattle.std.specs.Prelude.{Result, Ok, Err, IfOk}
 use Rattle.std.proofs.lemmas.Bool.{cases_lt}
 use Rattle.std.proofs.lemmas.Grind.{flat_map-append}
-use Rattle.std.proofs.lemmas.List.{append-nil, append_cancel_left, length-append, length-reverse, map-append, reverse-append, take_at}
+use Rattle.std.proofs.lemmas.List.{append-nil, append_cancel_left, length-append, length-reverse, map-append, reverse-append}
 use Rattle.ftp_options.specs.declared.options.Options.{Options}
 use Rattle.ftp_events.specs.declared.action.Action.{Action}
 use Rattle.ftp_events.specs.declared.decision.Decision.{Decision}
 use Rattle.ftp_events.specs.declared.entry.Entry.{Entry}
-use Rattle.ftp_control.specs.Lines.{is_line_feed, first_line}
-use Rattle.ftp_text.proofs.Exact.{run_length}
 use Rattle.ftp_text.specs.declared.setup.Item.{Item}
 use Rattle.ftp_text.specs.Printing.{line}
 use Rattle.ftp_text.specs.declared.line.LogLine.{LogLine}
@@ -18,9 +16,7 @@ use Rattle.ftp_text.specs.declared.line.LogLine.TheVariants as says
 use Rattle.ftp_text.specs.LogLines.{log_line, IsLogLine}
 use Rattle.ftp_text.specs.LogText.{says_of, opening, lines_of, text_of, IsLog, IsFront, ComesNext, IsFirstBad}
 use Rattle.ftp_text.specs.Settings.{settings_in}
-use Rattle.ftp_text.proofs.FieldFeeds.{is_line_byte}
-use Rattle.ftp_text.proofs.FeedLemmas.{line_none}
-use Rattle.ftp_text.proofs.PrintedLemmas.{one_bad, text-cons}
+use Rattle.ftp_text.proofs.PrintedLemmas.{first-is, one_bad, text-cons}
 use Rattle.ftp_check_log.specs.declared.verdict.Verdict.{Verdict}
 use Rattle.ftp_check_log.specs.declared.verdict.Verdict.TheVariants as verdict
 use Rattle.ftp_check_log.specs.Verdicts.{IsDueLog, AreLinesOf, head_of, HasOtherDecision, Strays, GoesAstray, HasOtherActions, HasBadText, TellsOfText, IsOnlyVerdict}
@@ -239,17 +235,6 @@ two-halting v w lines others rest behind bytes p q h k = elim (cases_lt (length 
 ]
 
 -- ---- a bad line and such a place
-
--- what is known of bytes that begin with a line
-first-is : (x : LogLine) (tail bytes : List ℕ) → IsLogLine x → bytes ≡ log_line x ++ 10 ∷ tail →
-    (position_or_len is_line_feed bytes ≡ length (log_line x)) × (log_line x ≡ first_line bytes) × (length bytes ≡ length (log_line x) + 1 + length tail)
-first-is x tail bytes fits whole =
-    let at : position_or_len is_line_feed bytes ≡ length (log_line x) =
-    ap (position_or_len is_line_feed) whole ∙ run_length is_line_byte (log_line x) (10 ∷ tail) (line_none x fits) refl in (
-      at,
-      sym (ap (λ (n : ℕ). take n bytes) at ∙ ap (take (length (log_line x))) whole ∙ take_at (log_line x) (10 ∷ tail) (length (log_line x)) refl),
-      omega (arith, ap length whole, length-append (log_line x) (10 ∷ tail)),
-    )
 
 fits-there : (before : List LogLine) (x : LogLine) (more : List LogLine) → AllByRecursion IsLogLine (before ++ x ∷ more) → IsLogLine x
 fits-there [] x more fits = fits.0
