@@ -25,14 +25,11 @@ use Rattle.ftp_text.specs.Grammar.{AreStateLines}
 use Rattle.ftp_text.specs.ListOrder.{AreListsInOrder, AreOfOnePolicy, IsOfPolicy}
 use Rattle.ftp_text.specs.Spelling.{IsStateLine, is_from_root}
 use Rattle.ftp_text.specs.Walk.{Onward, own_queued, own_slot, session_walk, walk}
+use Rattle.ftp_text.proofs.Lists.{all-append}
 use Rattle.ftp_text.proofs.HaveLines.{walk-has}
 use Rattle.ftp_script_run.specs.Fitting.{FitsInterval, FitsJob, FitsQueued, FitsRecord, FitsSession, FitsSlot, FitsState}
 
 -- ---- lists
-
-all-append : {A : Type 0} (P : A → Type 0) (xs ys : List A) → AllByRecursion P xs → AllByRecursion P ys → AllByRecursion P (xs ++ ys)
-all-append P [] ys p q = q
-all-append P (x ∷ xs) ys p q = (p.0, all-append P xs ys p.1 q)
 
 -- one element more
 pub all-next : {A : Type 0} (P : A → Type 0) (xs : List A) (i : ℕ) (x : A) → i < length xs → x ≡ get_or xs i x → AllByRecursion P (take i xs) → P x → AllByRecursion P (take (i + 1) xs)

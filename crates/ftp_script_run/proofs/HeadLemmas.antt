@@ -16,6 +16,7 @@ use Rattle.ftp_text.specs.Setup.{IsItem, IsItemOf}
 use Rattle.ftp_text.proofs.Exact.{Pass}
 use Rattle.ftp_text.specs.StateText.{lines_in}
 use Rattle.ftp_text.proofs.FieldFeeds.{HasNone, is_line_byte}
+use Rattle.ftp_text.proofs.Lists.{all-append, all-parts}
 use Rattle.ftp_text.proofs.TextLemmas.{lines-line}
 use Rattle.ftp_script_run.specs.declared.head.Head.{Head}
 use Rattle.ftp_script_run.specs.Resumed.{AreOfOptions, AreOptionsLines, FindsHead, HasLines, IsOptionsLine, KeepsLines, ReadsHead, ReadsLine, bar, sets_options, with_feeds}
@@ -161,16 +162,6 @@ lines-more : (lines : List (List ℕ)) (rest bytes line : List ℕ) → HasLines
 lines-more [] rest bytes line is some first = subst (λ (b : List ℕ). HasLines (line ∷ []) (behind_line rest) b) (sym is) (some, sym first, refl)
 lines-more (l ∷ lines) rest bytes line is some first = (is.0, is.1, lines-more lines rest (behind_line bytes) line is.2 some first)
 
--- ---- all of them
-
-all-append : {A : Type 0} (P : A → Type 0) (xs ys : List A) → AllByRecursion P xs → AllByRecursion P ys → AllByRecursion P (xs ++ ys)
-all-append P [] ys p q = q
-all-append P (x ∷ xs) ys p q = (p.0, all-append P xs ys p.1 q)
-
-all-behind : {A : Type 0} (P : A → Type 0) (xs ys : List A) → AllByRecursion P (xs ++ ys) → AllByRecursion P ys
-all-behind P [] ys p = p
-all-behind P (x ∷ xs) ys p = all-behind P xs ys p.1
-
 -- the lines of a text of lines
 feeds-lines : (texts : List (List ℕ)) → AllByRecursion HasNone texts → lines_in (with_feeds texts) ≡ texts
 unfolding lines_in
@@ -288,7 +279,7 @@ keeps-more old new bytes line held texts left read text lines kept =
     text ∙ ap (λ (t : List ℕ). t ++ (line ++ 10 ∷ [])) kept.text ∙ sym (feeds-more texts line) in
     record {
       text = whole;
-      lines = ap lines_in whole ∙ feeds-lines (texts ++ line ∷ []) (all-behind HasNone read.first (texts ++ line ∷ []) (lines-none (read.first ++ (texts ++ line ∷ [])) read.rest bytes read.lines));
+      lines = ap lines_in whole ∙ feeds-lines (texts ++ line ∷ []) (all-parts HasNone read.first (texts ++ line ∷ []) (lines-none (read.first ++ (texts ++ line ∷ [])) read.rest bytes read.lines)).1;
       count = lines ∙ omega (arith, kept.count, length-append texts (line ∷ []));
     }
 
