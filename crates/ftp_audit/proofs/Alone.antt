@@ -21,10 +21,10 @@ use Rattle.ftp_audit.specs.Book.{Book, budget_of, begin_refusal, append_refusal,
 use Rattle.ftp_audit.specs.Quota.{refusal_of, after_call}
 use Rattle.ftp_audit.specs.Replay.{Kept, call_of, refusal_in, verdict_by, kept_by, next, verdicts}
 use Rattle.ftp_audit.specs.Alone.{user_of, path_of, is_by, calls_of, verdicts_to, IsApart}
-use Rattle.ftp_audit.proofs.ByName.{tied}
+use Rattle.ftp_audit.proofs.ByName.{same_name, own_name, tied}
 use Rattle.ftp_audit.proofs.Maps.{get-insert-other}
 use Rattle.ftp_audit.proofs.UsageLemmas.{given-insert}
-use Rattle.ftp_audit.proofs.Shares.{same_name, own_name, given-others}
+use Rattle.ftp_audit.proofs.Shares.{given-others}
 use Rattle.ftp_audit.proofs.Begun.{begin-owner, append-owner}
 
 -- a directory stands there

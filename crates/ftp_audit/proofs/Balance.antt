@@ -11,7 +11,7 @@ use Rattle.ftp_audit.specs.Book.{Balances}
 use Rattle.ftp_audit.proofs.ByName.{tied, itself}
 use Rattle.ftp_audit.proofs.Maps.{get-insert-same, remove_none}
 use Rattle.ftp_audit.proofs.UsageLemmas.{given-insert, given-remove, no_share}
-use Rattle.ftp_audit.proofs.Shares.{given-changed, given-others, share-le, share-own}
+use Rattle.ftp_audit.proofs.Shares.{given-changed, given-others, own-le}
 
 none_there : {A : Type 0} (es : List A) → length es ≡ 0 → es ≡ []
 none_there [] e = refl
@@ -137,8 +137,7 @@ module _ (used later : ByName ℕ) (owners grown : Owners) (path user : List ℕ
       let count : map.get used user ≡ Some n.0 = ap (map.get used) (sym held) ∙ n.1 in
       let counted : n.0 ≡ given owners user = ap (λ (o : Option ℕ). unwrap_or o 0) (sym count) ∙ b.counted user in
       let changed = given-changed owners path user len h is held in
-      let own : share user h ≡ h.len = share-own h user held in
-      let below = share-le owners path h user is in
+      let below = own-le owners path h user is held in
       rw count (omega arith, omega arith)
 
   -- there is room for a file's new length in its owner's count

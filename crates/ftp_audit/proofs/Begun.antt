@@ -19,7 +19,8 @@ use Rattle.ftp_audit.specs.Quota.{book_after}
 use Rattle.ftp_audit.proofs.Maps.{never_some, get-insert-same, insert-insert, remove-insert}
 use Rattle.ftp_audit.proofs.UsageLemmas.{usage-given}
 use Rattle.ftp_audit.proofs.Balance.{given-empty}
-use Rattle.ftp_audit.proofs.Shares.{same_name, own_name, share-own, share-le, given-new, given-changed, given-others}
+use Rattle.ftp_audit.proofs.ByName.{same_name, own_name}
+use Rattle.ftp_audit.proofs.Shares.{own-le, given-new, given-changed, given-others}
 
 -- what is not too many is at most as many
 within_if : (n budget : ℕ) → if_above n budget ≡ None → n ≤ budget
@@ -101,8 +102,7 @@ within-grown book user path bytes held there within none =
     let own = append-owner book user path bytes none in
     let one : own.0 ≡ held = (let e = own.1 in cc (e, there)) in
     let owner : held.owner ≡ user = ap (λ (h : Held). h.owner) (sym one) ∙ own.2 in
-    let below = share-le book.owners path held user there in
-    let share = share-own held user owner in
+    let below = own-le book.owners path held user there owner in
     let grown = given-changed book.owners path user (held.len + length bytes) held there owner in
     let room = own.3 in
     same_or_other book user path (held.len + length bytes) within (λ h is. let same : held ≡ h = cc (is, there) in ap (λ (x : Held). x.owner) (sym same) ∙ owner) (omega arith)

@@ -1,5 +1,5 @@
 -- Maps by names of which the entries are kept under vectors.
-use Rattle.std.proofs.Common.{◌≡◌, ℕ, Bool, true, false, cond, List, [], ◌∷◌, Vec, Global, Some, None, refl, sym, ap, ◌∙◌}
+use Rattle.std.proofs.Common.{◌≡◌, ℕ, Bool, true, false, cond, List, [], ◌∷◌, Vec, Global, Option, Some, None, refl, sym, ap, ◌∙◌}
 use Rattle.std.specs.Prelude.{IsSome}
 use Rattle.std.specs.FinMap as map
 use Rattle.std.specs.Map.{lookup, set_value, remove_entry, keys_of}
@@ -8,6 +8,8 @@ use Rattle.std.specs.List.{IsDistinct, AllByRecursion}
 use Rattle.std.specs.List.Sorted.{IsStrictlySortedBy}
 use Rattle.std.proofs.lemmas.Map.{lookup-remove_entry, lookup-set_value}
 use Rattle.std.proofs.lemmas.Map.Keys.{IsDistinct-from_sorted}
+use Rattle.std.specs.Str.{bytes_eq}
+use Rattle.std.proofs.lemmas.Slice.Eq.{bytes_eq-Decides}
 use Rattle.std.specs.declared.cmp.Ordering.TheVariants.{Less, Equal, Greater}
 use Rattle.std.specs.Ordering.{nat_cmp, eq_by_cmp}
 use Rattle.std.specs.Cmp.Lexicographic.{slice_cmp, nat_list_cmp_total}
@@ -20,6 +22,14 @@ use Rattle.ftp_audit.specs.Names.{named, by_name}
 -- the test by which a name is looked up
 abbrev pub at_name : List ℕ → Vec ℕ Global → Bool
 at_name name = is_at (λ k. slice_cmp nat_cmp name k.items)
+
+-- names that are found equal are equal
+pub same_name : (a b : List ℕ) → bytes_eq a b ≡ true → a ≡ b
+same_name a b e = (bytes_eq-Decides a b).0 e
+
+-- a name equals itself
+pub own_name : (a : List ℕ) → bytes_eq a a ≡ true
+own_name a = (bytes_eq-Decides a a).1 refl
 
 -- names that tie are equal
 pub tied : (a b : List ℕ) → eq_by_cmp (slice_cmp nat_cmp) a b ≡ true → a ≡ b
@@ -38,7 +48,8 @@ one : (name x y : List ℕ) → eq_by_cmp (slice_cmp nat_cmp) name x ≡ true �
 one name x y e = ap (λ (n : List ℕ). eq_by_cmp (slice_cmp nat_cmp) n y) (tied name x e)
 
 module _ {X : Type 0} where
-  find-lookup : (es : List (List ℕ × X)) (q : List ℕ) → find (slice_cmp nat_cmp) q es ≡ lookup (eq_by_cmp (slice_cmp nat_cmp) q) es
+  -- what is found in a map is what is looked up in its entries
+  pub find-lookup : (es : List (List ℕ × X)) (q : List ℕ) → find (slice_cmp nat_cmp) q es ≡ lookup (eq_by_cmp (slice_cmp nat_cmp) q) es
   find-lookup [] q = refl
   find-lookup (e ∷ es) q = ap (cond (eq_by_cmp (slice_cmp nat_cmp) q e.0) (Some e.1)) (find-lookup es q)
 
@@ -53,6 +64,10 @@ module _ {X : Type 0} where
   pub get-by_name : (entries : List (Vec ℕ Global × X)) (q : List ℕ) → map.get (by_name entries) q ≡ lookup (at_name q) entries
   get-by_name entries q = get-lookup (named entries) q ∙ lookup-named entries q
 
+  -- what was found under a key is what stands at its name
+  pub get-found : (entries : List (Vec ℕ Global × X)) (q key : List ℕ) (x : Option X) → key ≡ q → x ≡ lookup (at_name key) entries → map.get (by_name entries) q ≡ x
+  get-found entries q key x same found = get-by_name entries q ∙ ap (λ (name : List ℕ). lookup (at_name name) entries) (sym same) ∙ sym found
+
   named-insert_entry : (entries : List (Vec ℕ Global × X)) (k : Vec ℕ Global) (v : X) →
       named (insert_entry (λ x y. slice_cmp nat_cmp x.items y.items) entries k v) ≡ put (slice_cmp nat_cmp) k.items v (named entries)
   named-insert_entry [] k v = refl
@@ -63,8 +78,7 @@ module _ {X : Type 0} where
         | Greater ↦ λ p. rw p (ap (λ (rest : List (List ℕ × X)). (e.0.items, e.1) ∷ rest) (named-insert_entry entries k v))
       ] refl
 
-  -- an entry that is put under a name
-  pub by_name-insert_entry : (entries : List (Vec ℕ Global × X)) (k : Vec ℕ Global) (v : X) →
+  by_name-insert_entry : (entries : List (Vec ℕ Global × X)) (k : Vec ℕ Global) (v : X) →
       by_name (insert_entry (λ x y. slice_cmp nat_cmp x.items y.items) entries k v) ≡ map.insert (by_name entries) k.items v
   by_name-insert_entry entries k v =
       map.same_map nat_list_cmp_total paths_apart _ _ (λ q.
@@ -73,6 +87,12 @@ module _ {X : Type 0} where
       ∙ find-put (slice_cmp nat_cmp) nat_list_cmp_total q k.items v (named entries)
       ∙ ap (cond (eq_by_cmp (slice_cmp nat_cmp) q k.items) (Some v)) (sym (map.get-from_entries nat_list_cmp_total (named entries) q))
       ∙ sym (map.get-insert nat_list_cmp_total (by_name entries) k.items v q))
+
+  -- what was put under a key of this name is put at the name
+  pub by_name-put : (entries new : List (Vec ℕ Global × X)) (q : List ℕ) (k : Vec ℕ Global) (v : X) → k.items ≡ q →
+      new ≡ insert_entry (λ x y. slice_cmp nat_cmp x.items y.items) entries k v → by_name new ≡ map.insert (by_name entries) q v
+  by_name-put entries new q k v same put =
+      ap by_name put ∙ by_name-insert_entry entries k v ∙ ap (λ (name : List ℕ). map.insert (by_name entries) name v) same
 
   named-set_value : (entries : List (Vec ℕ Global × X)) (name : List ℕ) (w : X) →
       named (set_value (at_name name) entries w) ≡ set_value (eq_by_cmp (slice_cmp nat_cmp) name) (named entries) w
@@ -92,8 +112,7 @@ module _ {X : Type 0} where
         | false ↦ ap (λ (rest : List (List ℕ × X)). (e.0.items, e.1) ∷ rest) (named-remove_entry entries name)
       ]
 
-  -- an entry that is written
-  pub by_name-set_value : (entries : List (Vec ℕ Global × X)) (name : List ℕ) (w : X) → IsSome (lookup (at_name name) entries) →
+  by_name-set_value : (entries : List (Vec ℕ Global × X)) (name : List ℕ) (w : X) → IsSome (lookup (at_name name) entries) →
       by_name (set_value (at_name name) entries w) ≡ map.insert (by_name entries) name w
   by_name-set_value entries name w there =
       let found : IsSome (lookup (eq_by_cmp (slice_cmp nat_cmp) name) (named entries)) = rw (lookup-named entries name) there in
@@ -104,6 +123,12 @@ module _ {X : Type 0} where
       ∙ ap (λ b. cond b (Some w) (lookup (eq_by_cmp (slice_cmp nat_cmp) q) (named entries))) (turned name q)
       ∙ ap (cond (eq_by_cmp (slice_cmp nat_cmp) q name) (Some w)) (sym (get-lookup (named entries) q))
       ∙ sym (map.get-insert nat_list_cmp_total (by_name entries) name w q))
+
+  -- what was written where a key was found is put at its name
+  pub by_name-written : (entries new : List (Vec ℕ Global × X)) (q key : List ℕ) (x w : X) → key ≡ q → Some x ≡ lookup (at_name key) entries →
+      new ≡ set_value (at_name key) entries w → by_name new ≡ map.insert (by_name entries) q w
+  by_name-written entries new q key x w same found written =
+      ap by_name written ∙ by_name-set_value entries key w (rw (← found) refl) ∙ ap (λ (name : List ℕ). map.insert (by_name entries) name w) same
 
   above-named : (k : List ℕ) (entries : List (Vec ℕ Global × X)) → AllByRecursion (λ y. slice_cmp nat_cmp k y.items ≡ Less) (keys_of entries) →
       AllByRecursion (λ y. slice_cmp nat_cmp k y ≡ Less) (keys_of (named entries))
@@ -116,8 +141,7 @@ module _ {X : Type 0} where
   sorted-named [] sorted = sorted
   sorted-named (e ∷ entries) sorted = (above-named e.0.items entries sorted.0, sorted-named entries sorted.1)
 
-  -- an entry that is taken out
-  pub by_name-remove_entry : (entries : List (Vec ℕ Global × X)) (name : List ℕ) → IsStrictlySortedBy (λ x y. slice_cmp nat_cmp x.items y.items) (keys_of entries) →
+  by_name-remove_entry : (entries : List (Vec ℕ Global × X)) (name : List ℕ) → IsStrictlySortedBy (λ x y. slice_cmp nat_cmp x.items y.items) (keys_of entries) →
       by_name (remove_entry (at_name name) entries) ≡ map.remove (by_name entries) name
   by_name-remove_entry entries name sorted =
       let distinct : IsDistinct (eq_by_cmp (slice_cmp nat_cmp)) (keys_of (named entries)) = IsDistinct-from_sorted (slice_cmp nat_cmp) (keys_of (named entries)) (sorted-named entries sorted) in
@@ -128,3 +152,9 @@ module _ {X : Type 0} where
       ∙ ap (λ b. cond b None (lookup (eq_by_cmp (slice_cmp nat_cmp) q) (named entries))) (turned name q)
       ∙ ap (cond (eq_by_cmp (slice_cmp nat_cmp) q name) None) (sym (get-lookup (named entries) q))
       ∙ sym (map.get-remove nat_list_cmp_total (by_name entries) name q))
+
+  -- what was taken out under a key is taken from its name
+  pub by_name-removed : (entries new : List (Vec ℕ Global × X)) (q key : List ℕ) → IsStrictlySortedBy (λ x y. slice_cmp nat_cmp x.items y.items) (keys_of entries) →
+      key ≡ q → new ≡ remove_entry (at_name key) entries → by_name new ≡ map.remove (by_name entries) q
+  by_name-removed entries new q key sorted same removed =
+      ap by_name removed ∙ by_name-remove_entry entries key sorted ∙ ap (map.remove (by_name entries)) same

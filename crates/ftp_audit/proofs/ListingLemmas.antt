@@ -19,9 +19,11 @@ use Rattle.ftp_audit.specs.declared.account.Mark.{Mark}
 use Rattle.ftp_audit.specs.declared.total.Total.{Total}
 use Rattle.ftp_audit.specs.Totals.{moved}
 use Rattle.ftp_audit.specs.Marks.{newest, total_of}
-use Rattle.ftp_audit.specs.Users.{named, marks_of}
+use Rattle.ftp_audit.specs.Names.{named}
+use Rattle.ftp_audit.specs.Users.{marks_of}
 use Rattle.ftp_audit.specs.Listing.{listed, IsListing, rank_cmp}
-use Rattle.ftp_audit.proofs.UserLemmas.{Users, same_bytes}
+use Rattle.ftp_audit.proofs.ByName.{same_name}
+use Rattle.ftp_audit.proofs.UserLemmas.{Users}
 
 -- the order of names
 abbrev pub name_cmp : List ℕ → List ℕ → Ordering
@@ -76,7 +78,7 @@ listed-each ((n, []) ∷ users) h name = go (bytes_eq name n) refl (listed-each 
     go :
         (b : Bool) → bytes_eq name n ≡ b → lookup (bytes_eq name) (listed users) ≡ total_of (marks_of users name) →
         lookup (bytes_eq name) (listed users) ≡ total_of (unwrap_or (cond b (Some []) (lookup (bytes_eq name) users)) [])
-    go true e rest = subst (λ (q : List ℕ). lookup (bytes_eq q) (listed users) ≡ None) (sym (same_bytes name n e)) (above-absent n (listed users) (above-listed n users h.0))
+    go true e rest = subst (λ (q : List ℕ). lookup (bytes_eq q) (listed users) ≡ None) (sym (same_name name n e)) (above-absent n (listed users) (above-listed n users h.0))
     go false e rest = rest
 listed-each ((n, m ∷ marks) ∷ users) h name = go (bytes_eq name n) (listed-each users h.1 name)
   where

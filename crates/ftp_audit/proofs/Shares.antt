@@ -7,15 +7,8 @@ use Rattle.std.specs.Str.{bytes_eq}
 use Rattle.std.proofs.lemmas.Slice.Eq.{bytes_eq-Decides}
 use Rattle.ftp_audit.specs.declared.quota_book.Held.{Held}
 use Rattle.ftp_audit.specs.Usage.{Owners, is_of, share, given}
+use Rattle.ftp_audit.proofs.ByName.{same_name}
 use Rattle.ftp_audit.proofs.UsageLemmas.{given-insert, no_share}
-
--- names that are found equal are equal
-pub same_name : (a b : List ℕ) → bytes_eq a b ≡ true → a ≡ b
-same_name a b e = (bytes_eq-Decides a b).0 e
-
--- a name equals itself
-pub own_name : (a : List ℕ) → bytes_eq a a ≡ true
-own_name a = (bytes_eq-Decides a a).1 refl
 
 differs : (b : Bool) → (b ≡ true → ⊥) → b ≡ false
 differs true never = absurd (never refl)
@@ -35,13 +28,16 @@ pub share-other : (held : Held) (user : List ℕ) → held.owner ≢ user → sh
 share-other held user other =
     let apart : is_of user held ≡ false = other_name held.owner user other in rw apart refl
 
--- a file was given no more than its owner's files were
-pub share-le : (owners : Owners) (path : List ℕ) (held : Held) (user : List ℕ) → map.get owners path ≡ Some held → share user held ≤ given owners user
+share-le : (owners : Owners) (path : List ℕ) (held : Held) (user : List ℕ) → map.get owners path ≡ Some held → share user held ≤ given owners user
 share-le owners path held user there =
     let empty : Held = record { owner = user; len = 0 } in
     let sum : given (map.insert owners path empty) user + share user held ≡ given owners user + share user empty = rw there at (given-insert owners path empty user) in
     let none : share user empty ≡ 0 = no_share user empty refl in
     omega arith
+
+-- a file of a user was given no more than the user's files were
+pub own-le : (owners : Owners) (path : List ℕ) (held : Held) (user : List ℕ) → map.get owners path ≡ Some held → held.owner ≡ user → held.len ≤ given owners user
+own-le owners path held user there owner = omega (arith, share-own held user owner, share-le owners path held user there)
 
 -- what a user's files were given with a new file
 pub given-new : (owners : Owners) (path user : List ℕ) (len : ℕ) → map.get owners path ≡ None →
@@ -60,7 +56,7 @@ given-changed owners path user len held there owner =
     let sum : given (map.insert owners path changed) user + share user held ≡ given owners user + share user changed = rw there at (given-insert owners path changed user) in
     let own : share user changed ≡ len = share-own changed user refl in
     let was : share user held ≡ held.len = share-own held user owner in
-    let below = share-le owners path held user there in
+    let below = own-le owners path held user there owner in
     omega arith
 
 shares_none : (o : Option Held) (user other : List ℕ) → ((held : Held) → o ≡ Some held → held.owner ≡ user) → user ≢ other → unwrap_or (option_map (share other) o) 0 ≡ 0

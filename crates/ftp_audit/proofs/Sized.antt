@@ -12,7 +12,7 @@ use Rattle.ftp_audit.specs.Usage.{Owners, is_of, given}
 use Rattle.ftp_audit.specs.Book.{Book, budget_of, if_above, append_refusal, own_refusal}
 use Rattle.ftp_audit.specs.Quota.{relengthed, owners_over, owner_or, owned_by, quota_rule}
 use Rattle.ftp_audit.proofs.Maps.{get-insert-same}
-use Rattle.ftp_audit.proofs.Shares.{own_name}
+use Rattle.ftp_audit.proofs.ByName.{own_name}
 use Rattle.ftp_audit.proofs.Rules.{get-owners_over, begins-own}
 
 -- neither of two refuses

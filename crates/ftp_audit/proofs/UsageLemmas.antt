@@ -2,7 +2,7 @@
 use Rattle.std.proofs.Common.{◌≡◌, ℕ, ◌+◌, Bool, ◌&&◌, true, false, cond, List, [], ◌∷◌, Option, Some, None, T, refl, sym, ap, ◌∙◌, arith, length}
 use Rattle.std.specs.Prelude.{IfSome, IsTrue, sum_by, filter, unwrap_or, map as map_list}
 use Rattle.std.specs.FinMap as map
-use Rattle.std.specs.FinMap.{find, put, is_sorted}
+use Rattle.std.specs.FinMap.{put, is_sorted}
 use Rattle.std.specs.FinMap.Entries.{below_all}
 use Rattle.std.specs.List.{AllByRecursion}
 use Rattle.std.specs.List.Sorted.{IsStrictlySortedBy}
@@ -22,7 +22,7 @@ use Rattle.ftp_base.specs.Storage.{Files}
 use Rattle.ftp_audit.specs.declared.quota_book.Held.{Held}
 use Rattle.ftp_audit.specs.Names.{ByName}
 use Rattle.ftp_audit.specs.Usage.{Owners, is_of, bytes_at, usage, share, given, Agrees}
-use Rattle.ftp_audit.proofs.ByName.{itself}
+use Rattle.ftp_audit.proofs.ByName.{itself, find-lookup}
 use Rattle.ftp_audit.proofs.Maps.{get-remove-same, insert-remove}
 
 is_less : (o : Ordering) → IsTrue (is_lt o) → o ≡ Less
@@ -51,10 +51,6 @@ module _ {X : Type 0} where
         | Equal ↦ λ p. rw p refl
         | Greater ↦ λ p. rw p (ap (λ (rest : List (List ℕ × X)). e ∷ rest) (put-entry k v es))
       ] refl
-
-  find-lookup : (es : List (List ℕ × X)) (q : List ℕ) → find (slice_cmp nat_cmp) q es ≡ lookup (is_at (slice_cmp nat_cmp q)) es
-  find-lookup [] q = refl
-  find-lookup (e ∷ es) q = ap (cond (eq_by_cmp (slice_cmp nat_cmp) q e.0) (Some e.1)) (find-lookup es q)
 
   above_all : (k : List ℕ) (es : List (List ℕ × X)) → IsTrue (below_all (slice_cmp nat_cmp) k es) → AllByRecursion (λ y. slice_cmp nat_cmp k y ≡ Less) (keys_of es)
   above_all k [] h = tt

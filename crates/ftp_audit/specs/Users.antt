@@ -1,17 +1,11 @@
 -- The marks of all users.
-use Rattle.std.specs.Prelude.{ℕ, List, [], ◌∷◌, ◌++◌, map, Vec, unwrap_or, if◌then◌else◌}
-use Rattle.std.specs.Global.{Global}
+use Rattle.std.specs.Prelude.{ℕ, List, [], ◌∷◌, ◌++◌, unwrap_or, if◌then◌else◌}
 use Rattle.std.specs.Map.{lookup}
 use Rattle.std.specs.Str.{bytes_eq}
 use Rattle.ftp_base.specs.declared.notice.Notice.{Notice}
 use Rattle.ftp_audit.specs.declared.account.Mark.{Mark}
-use Rattle.ftp_audit.specs.declared.account.Account.{Account}
 use Rattle.ftp_audit.specs.Totals.{told}
 use Rattle.ftp_audit.specs.Marks.{next}
-
--- the marks of accounts under their names
-abbrev pub named : List (Vec ℕ Global × Account) → List (List ℕ × List Mark)
-named users = map (λ e. (e.0.items, e.1)) users
 
 -- the marks of the user of this name
 abbrev pub marks_of : List (List ℕ × List Mark) → List ℕ → List Mark

@@ -22,7 +22,7 @@ impl Model for Accounts {
 
     ghost Value = { List (List ℕ × List Mark) };
 
-    ghost use Rattle.ftp_audit.specs.Users.{named};
+    ghost use Rattle.ftp_audit.specs.Names.{named};
 
     ghost view = { λ a. named a.users.entries };
 }

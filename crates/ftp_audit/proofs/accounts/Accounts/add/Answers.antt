@@ -5,8 +5,10 @@ use Rattle.ftp_base.specs.declared.notice.Notice.{Notice}
 use Rattle.ftp_audit.specs.declared.account.Mark.{Mark}
 use Rattle.ftp_audit.specs.Totals.{told}
 use Rattle.ftp_audit.specs.Marks.{next, UpTo}
-use Rattle.ftp_audit.specs.Users.{named, marks_of, with_told}
-use Rattle.ftp_audit.proofs.UserLemmas.{same_bytes, Users, marks-found, marks-written, marks-put}
+use Rattle.ftp_audit.specs.Names.{named}
+use Rattle.ftp_audit.specs.Users.{marks_of, with_told}
+use Rattle.ftp_audit.proofs.ByName.{same_name}
+use Rattle.ftp_audit.proofs.UserLemmas.{Users, marks-found, marks-written, marks-put}
 use Rattle.ftp_audit.proofs.accounts.Accounts.add.Goals as goal
 
 pub add-requires : goal.add-requires
@@ -28,7 +30,7 @@ grown place users old user what had marks new view was more h name =
 
     go : (b : Bool) → bytes_eq user name ≡ b → cond b marks (own name) ≡ cond b (own name ++ next (own name) place (told what) ∷ []) (own name)
     go true e =
-        let same : user ≡ name = same_bytes user name e in
+        let same : user ≡ name = same_name user name e in
         more ∙ ap (λ (ms : List Mark). ms ++ next ms place (told what) ∷ []) (sym was ∙ ap own same)
     go false e = refl
 
@@ -42,7 +44,7 @@ kept users old user had marks new view was none h name =
     h name ∙ (go (bytes_eq user name) refl ∙ ap (λ (us : List (List ℕ × List Mark)). marks_of us name) view)
   where
     go : (b : Bool) → bytes_eq user name ≡ b → cond b marks (marks_of (named users) name) ≡ marks_of (named users) name
-    go true e = none ∙ (sym was ∙ ap (marks_of (named users)) (same_bytes user name e))
+    go true e = none ∙ (sym was ∙ ap (marks_of (named users)) (same_name user name e))
     go false e = refl
 
 pub returns-in-Some-clause-added : goal.returns-in-Some-clause-added

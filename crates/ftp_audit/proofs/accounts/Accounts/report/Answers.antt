@@ -2,7 +2,7 @@ use Rattle.std.proofs.Common.{◌≡◌, ◌∙◌, sym, ap, ℕ, List, ◌++◌
 use Rattle.std.specs.List.{flat_map}
 use Rattle.ftp_audit.specs.declared.account.Account.{Account}
 use Rattle.ftp_audit.specs.declared.account.Mark.{Mark}
-use Rattle.ftp_audit.specs.Users.{named}
+use Rattle.ftp_audit.specs.Names.{named}
 use Rattle.ftp_audit.specs.Listing.{listed, row_line}
 use Rattle.ftp_audit.proofs.ListingLemmas.{listed-listing}
 use Rattle.ftp_audit.proofs.accounts.Accounts.report.Goals as goal

@@ -1,6 +1,6 @@
 use Rattle.std.proofs.Common.{◌≡◌, ◌++◌}
 use Rattle.std.specs.List.{flat_map}
-use Rattle.ftp_audit.specs.Users.{named}
+use Rattle.ftp_audit.specs.Names.{named}
 use Rattle.ftp_audit.specs.Listing.{listed, row_line}
 use Rattle.ftp_audit.proofs.accounts.Accounts.report.Given as goal
 

@@ -1,7 +1,8 @@
 use Rattle.std.proofs.Common.{◌≡◌, ◌∙◌, sym, ap, subst, ℕ, List, ◌++◌, Vec, Global, append-nil}
 use Rattle.ftp_audit.specs.declared.account.Account.{Account}
 use Rattle.ftp_audit.specs.Marks.{total_of}
-use Rattle.ftp_audit.specs.Users.{named, marks_of}
+use Rattle.ftp_audit.specs.Names.{named}
+use Rattle.ftp_audit.specs.Users.{marks_of}
 use Rattle.ftp_audit.specs.Listing.{listed, IsListing}
 use Rattle.ftp_audit.proofs.ListingLemmas.{listed-listing}
 use Rattle.ftp_audit.proofs.accounts.Accounts.rows.Goals as goal

@@ -1,5 +1,5 @@
 use Rattle.std.proofs.Common.{◌≡◌, ◌++◌}
-use Rattle.ftp_audit.specs.Users.{named}
+use Rattle.ftp_audit.specs.Names.{named}
 use Rattle.ftp_audit.specs.Listing.{listed}
 use Rattle.ftp_audit.proofs.accounts.Accounts.rows.Given as goal
 

@@ -1,15 +1,12 @@
 use Rattle.std.proofs.Common.{◌≡◌, sym, arith}
-use Rattle.ftp_audit.proofs.Shares.{on_ok, equal_owner, share-own, share-le, given-changed, given-new}
+use Rattle.ftp_audit.proofs.Shares.{on_ok, equal_owner, own-le, given-changed, given-new}
 use Rattle.ftp_audit.proofs.quota_book.QuotaBook.may_begin.Goals as goal
 use Rattle.ftp_audit.proofs.quota_book.QuotaBook.may_begin.Goals.{in-None, in-Some+else-ne}
 
 pub overflow_sub-others : goal.overflow_sub-others
 overflow_sub-others c =
-    let owner : c.in-Some.held.now.owner ≡ c.args.user.now = equal_owner _ _ c.ne.ensures c.if-ne.false in
-    let own = share-own c.in-Some.held.now c.args.user.now owner in
-    let below = share-le c.args.self.now.owners c.args.path.now c.in-Some.held.now c.args.user.now (sym c.in-Some.ensures) in
-    let used = c.used-used.ensures in
-    omega arith
+    let below = own-le c.args.self.now.owners c.args.path.now c.in-Some.held.now c.args.user.now (sym c.in-Some.ensures) (equal_owner _ _ c.ne.ensures c.if-ne.false) in
+    omega (arith, c.used-used.ensures)
 
 pub returns-clause-room : goal.returns-clause-room
 returns-clause-room c =
