@@ -4,11 +4,9 @@ ghost use Rattle.std.specs.Prelude.{◌≡◌, ℕ, None, nat_eq, OnOk, OnErr, I
 ghost use Rattle.std.specs.HashMap as map;
 ghost use Rattle.std.specs.Option.{option_map};
 ghost use Rattle.ftp_base.specs.Storage.{root};
-ghost use Rattle.ftp_events.specs.declared.decision.Decision.TheVariants.{Opened};
 ghost use Rattle.ftp_events.specs.declared.decision.Life.TheVariants.{Opens, Ends, Goes};
 ghost use Rattle.ftp_events.specs.declared.session.Login.TheVariants.{New};
 ghost use Rattle.ftp_events.specs.Classes.{life};
-ghost use Rattle.ftp_events.specs.Log.{new_number};
 ghost use Rattle.ftp_events.specs.Login.{login_by};
 ghost use Rattle.ftp_events.specs.Opening.{opening_by};
 ghost use Rattle.ftp_audit.specs.Guests.{guest_after, guest_by, guest_by_life};
@@ -93,19 +91,6 @@ pub(crate) fn client_by(kind: &EventKind, answer: Answer) -> Option<IpAddr>
     }
 }
 
-/// The number that a control connection carries as it opens.
-pub(crate) fn opened_number(kind: &EventKind) -> Option<u64>
-    ensures { result ≡ new_number kind.now Opened }
-{
-    match kind {
-        EventKind::Connect { session, .. } => Some(*session),
-        EventKind::Proxied { number, .. }
-        | EventKind::DataIn { number, .. }
-        | EventKind::Accepted { number, .. } => Some(*number),
-        _ => None,
-    }
-}
-
 /// Takes the next entry.
 pub(crate) fn hear(
     guests: &mut HashMap<u64, Guest>,
@@ -131,7 +116,7 @@ fn open(guests: &mut HashMap<u64, Guest>, alloc: Global, entry: &Entry) -> Resul
     ensures heard { OnOk result ((s : ℕ) → map.get nat_eq guests.new s ≡ guest_by_life Opens entry.now s (map.get nat_eq guests.old s)) }
     ensures unchanged { OnErr result ((s : ℕ) → map.get nat_eq guests.new s ≡ map.get nat_eq guests.old s) }
 {
-    let Some(number) = opened_number(&entry.event.kind) else {
+    let Some(number) = entry.event.kind.new_number(Decision::Opened) else {
         return Ok(());
     };
     let Some(client) = client_by(&entry.event.kind, entry.answer) else {

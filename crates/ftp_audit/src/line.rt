@@ -6,7 +6,7 @@ ghost use Rattle.std.specs.Option.{option_copied};
 ghost use Rattle.ftp_audit.specs.Lines.{plain_line, client_of_guest, failure_line, failure_result, line_by_decision, line_by_notice, line_by_action, ending_result, line_result_of, completed_result, completed_bytes, cancelled_bytes, moved_of, settled_line};
 ghost use Rattle.ftp_audit.specs.Tickets.{request_at};
 
-use crate::guest::{Guest, client_by, opened_number};
+use crate::guest::{Guest, client_by};
 use crate::request::{Request, Requests, find};
 use ftp_base::{Bytes, DataEvent, ErrorKind, EventMeta, IpAddr, LockState, Notice, PresenceEvent};
 use ftp_events::{Action, Answer, CommandWord, Decision, Entry};
@@ -191,7 +191,7 @@ pub(crate) fn line_by_decision(
 {
     match entry.decision {
         Decision::Opened => {
-            let Some(session) = opened_number(&entry.event.kind) else {
+            let Some(session) = entry.event.kind.new_number(Decision::Opened) else {
                 return Ok(None);
             };
             let client = client_by(&entry.event.kind, entry.answer);

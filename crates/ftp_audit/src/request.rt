@@ -15,7 +15,7 @@ ghost use Rattle.ftp_audit.specs.Requests.{begun_at, more_moved, request_acted, 
 ghost use Rattle.ftp_audit.specs.Tickets.{request_at};
 
 use crate::guest::Guest;
-use ftp_base::{Bytes, DataChanCmd, IpAddr};
+use ftp_base::{Bytes, IpAddr};
 use ftp_events::{
     Action, Answer, CommandWord, Decision, Entry, EventKind, Login, command_path, unique_name,
 };
