@@ -1,23 +1,26 @@
-use Rattle.std.proofs.Common.{ℕ, List, length, Some, ◌≡◌, ◌∙◌, ap, sym, subst, refl}
-use Rattle.std.specs.Prelude.{slice_get}
+use Rattle.std.proofs.Common.{ℕ, ◌<◌, List, length, get_or, Some, ◌≡◌, ◌∙◌, ap, sym, subst, refl}
+use Rattle.std.specs.Prelude.{slice_get, Result, Ok, IfOk}
 use Rattle.std.proofs.lemmas.Option.{slice_get_read, same_Some}
 use Rattle.ftp_options.specs.declared.options.Options.{Options}
 use Rattle.ftp_events.specs.declared.decision.Decision.TheVariants as decision
 use Rattle.ftp_events.specs.declared.entry.Entry.{Entry}
 use Rattle.ftp_check_log.specs.declared.evidence.Evidence.{Evidence}
+use Rattle.ftp_check_log.specs.declared.evidence.Evidence.TheVariants.{Plain}
 use Rattle.ftp_check_log.specs.Evidence.{past_at, named_client, Matter, TellsOf, matter_of, IsEvidence}
 use Rattle.ftp_check_log.specs.Grants.{AreHeld}
 use Rattle.ftp_check_log.proofs.Results.{if_ok, if_some}
 use Rattle.ftp_check_log.proofs.RightLemmas.{attached-matter, turned-matter, other-matter, full-held}
 use Rattle.ftp_check_log.proofs.evidence.evidence_at.Goals as goal
 
--- what tells of what the decision rests on is evidence for the entry
+-- what tells of what the decision of the entry at a place rests on is evidence for it
 as-evidence :
-    (o : Options) (log : List Entry) (k : ℕ) (e : Entry) (m : Matter) (x : Evidence) →
-    slice_get log k ≡ Some e →
-    matter_of o (past_at log k) e e.decision ≡ m →
-    TellsOf o log k m x → IsEvidence o log k x
-as-evidence o log k e m x at same told = (e, at, subst (λ (n : Matter). TellsOf o log k n x) (sym same) told)
+    {E : Type 0} (o : Options) (log : List Entry) (k : ℕ) (e : Entry) (r : Result Evidence E) (m : Matter) →
+    k < length log → e ≡ get_or log k e →
+    (slice_get log k ≡ Some e → matter_of o (past_at log k) e e.decision ≡ m) →
+    (slice_get log k ≡ Some e → IfOk r (TellsOf o log k m)) → IfOk r (IsEvidence o log k)
+as-evidence o log k e r m below is rests told =
+    let at : slice_get log k ≡ Some e = slice_get_read log (length log) k e refl below is in
+    if_ok (TellsOf o log k m) (IsEvidence o log k) r (λ x so. (e, at, subst (λ (n : Matter). TellsOf o log k n x) (sym (rests at)) so)) (told at)
 
 pub of_full-requires-clause-held : goal.of_full-requires-clause-held
 of_full-requires-clause-held c = λ e at.
@@ -30,38 +33,24 @@ of_full-requires-clause-held c = λ e at.
 
 pub returns-in-Attached : goal.returns-in-Attached
 returns-in-Attached c =
-    let o = c.args.options.now in
-    let log = c.args.entries.now in
-    let e = c.index-entries-k.result in
-    let at : slice_get log c.args.k ≡ Some e = slice_get_read log (length log) c.args.k e refl c.requires.entry c.index-entries-k.is in
-    if_ok _ (IsEvidence o log c.args.k) c.of_connection.result
-    (λ x told. as-evidence o log c.args.k e _ x at (attached-matter o log c.args.k e c.in-Attached.session c.requires.right at c.in-Attached.is) told)
-    (c.of_connection.ensures e at)
+    as-evidence c.args.options.now c.args.entries.now c.args.k c.index-entries-k.result c.of_connection.result _ c.requires.entry c.index-entries-k.is
+    (λ at. attached-matter c.args.options.now c.args.entries.now c.args.k c.index-entries-k.result c.in-Attached.session c.requires.right at c.in-Attached.is)
+    (c.of_connection.ensures c.index-entries-k.result)
 
 pub returns-in-Turned : goal.returns-in-Turned
 returns-in-Turned c =
-    let o = c.args.options.now in
-    let log = c.args.entries.now in
-    let e = c.index-entries-k.result in
-    let at : slice_get log c.args.k ≡ Some e = slice_get_read log (length log) c.args.k e refl c.requires.entry c.index-entries-k.is in
-    if_ok _ (IsEvidence o log c.args.k) c.of_turned.result
-    (λ x told. as-evidence o log c.args.k e _ x at (turned-matter o log c.args.k e c.requires.right at c.in-Turned.is) told)
-    (c.of_turned.ensures e at)
+    as-evidence c.args.options.now c.args.entries.now c.args.k c.index-entries-k.result c.of_turned.result _ c.requires.entry c.index-entries-k.is
+    (λ at. turned-matter c.args.options.now c.args.entries.now c.args.k c.index-entries-k.result c.requires.right at c.in-Turned.is)
+    (c.of_turned.ensures c.index-entries-k.result)
 
 pub returns-in-Full : goal.returns-in-Full
 returns-in-Full c =
-    let o = c.args.options.now in
-    let log = c.args.entries.now in
-    let e = c.index-entries-k.result in
-    let at : slice_get log c.args.k ≡ Some e = slice_get_read log (length log) c.args.k e refl c.requires.entry c.index-entries-k.is in
-    if_ok _ (IsEvidence o log c.args.k) c.of_full.result
-    (λ x told. as-evidence o log c.args.k e _ x at (ap (matter_of o (past_at log c.args.k) e) c.in-Full.is) told)
-    (c.of_full.ensures e at)
+    as-evidence c.args.options.now c.args.entries.now c.args.k c.index-entries-k.result c.of_full.result _ c.requires.entry c.index-entries-k.is
+    (λ at. ap (matter_of c.args.options.now (past_at c.args.entries.now c.args.k) c.index-entries-k.result) c.in-Full.is)
+    (c.of_full.ensures c.index-entries-k.result)
 
 pub returns-in_default : goal.returns-in_default
 returns-in_default c =
-    let o = c.args.options.now in
-    let log = c.args.entries.now in
-    let e = c.index-entries-k.result in
-    let at : slice_get log c.args.k ≡ Some e = slice_get_read log (length log) c.args.k e refl c.requires.entry c.index-entries-k.is in
-    as-evidence o log c.args.k e _ _ at (other-matter o (past_at log c.args.k) e e.decision c.in_default.not-Attached c.in_default.not-Turned c.in_default.not-Full) tt
+    as-evidence {E = Unit {0}} c.args.options.now c.args.entries.now c.args.k c.index-entries-k.result (Ok Plain) _ c.requires.entry c.index-entries-k.is
+    (λ at. other-matter c.args.options.now (past_at c.args.entries.now c.args.k) c.index-entries-k.result c.index-entries-k.result.decision c.in_default.not-Attached c.in_default.not-Turned c.in_default.not-Full)
+    (λ at. tt)
