@@ -46,14 +46,8 @@ fn client_of(before: &[Entry], session: u64) -> Option<IpAddr>
 pub(crate) fn opened_session(entry: &Entry) -> Option<u64>
     ensures { result ≡ opened_number entry.now.event.kind entry.now.decision }
 {
-    match (entry.decision, &entry.event.kind) {
-        (Decision::Opened, EventKind::Connect { session, .. }) => Some(*session),
-        (
-            Decision::Opened,
-            EventKind::Proxied { number, .. }
-            | EventKind::DataIn { number, .. }
-            | EventKind::Accepted { number, .. },
-        ) => Some(*number),
+    match entry.decision {
+        Decision::Opened => entry.event.kind.new_number(Decision::Opened),
         _ => None,
     }
 }
