@@ -3,18 +3,18 @@ use Rattle.std.proofs.Common.{◌≡◌, ℕ, Bool, true, false, cond, List, [],
 use Rattle.std.specs.Prelude.{IfSome, IsSomeAnd, Result, Ok, Err, IsErrOf, OnOk, OnErr, map as map_list, unwrap_or}
 use Rattle.std.specs.FinMap as map
 use Rattle.std.specs.FinMap.Entries.{find}
-use Rattle.std.specs.Option.{option_map, option_or}
+use Rattle.std.specs.Option.{option_map}
 use Rattle.std.specs.Ordering.{nat_cmp, eq_by_cmp}
 use Rattle.std.specs.Cmp.Lexicographic.{slice_cmp, nat_list_cmp_total}
 use Rattle.ftp_base.specs.declared.error_kind.ErrorKind.{ErrorKind}
-use Rattle.ftp_base.specs.Storage.{BegunFile, Files, Call, Metadata, Listing, ReadAt, Begin, Append, Rule, once_begun, meaning_of, Answers}
+use Rattle.ftp_base.specs.Storage.{BegunFile, Files, Call, Begin, Append, Meaning, Rule, once_begun, meaning_of, Answers}
 use Rattle.ftp_base.specs.declared.storage.StoreError.{StoreError}
 use Rattle.ftp_base.specs.declared.storage.StoreError.TheVariants as store
 use Rattle.ftp_base.proofs.Files.{paths_apart}
 use Rattle.ftp_audit.specs.declared.quota_book.Held.{Held}
 use Rattle.ftp_audit.specs.Usage.{Owners, bytes_at, Agrees}
 use Rattle.ftp_audit.specs.Book.{Book, own_refusal, refusal}
-use Rattle.ftp_audit.specs.Quota.{own_refusal_of, refusal_of, book_after, after_call, relengthed, owners_over, owner_or, owned_by, owned_after, quota_rule, IfTrueTo, IsUnused}
+use Rattle.ftp_audit.specs.Quota.{refusal_of, book_after, after_call, relengthed, owners_over, owner_or, owned_by, owned_after, quota_rule, IfTrueTo, IsUnused}
 use Rattle.ftp_audit.proofs.ByName.{tied, itself}
 use Rattle.ftp_audit.proofs.Begun.{begin-owner, append-owner, agrees-new}
 
@@ -137,14 +137,24 @@ rule-answers (Some book) rule None call result agrees answers = λ told. cc
 rule-answers (Some book) rule (Some files) call result agrees answers =
     subst (λ (refused : Option ErrorKind). Answers (Some files) refused result) (sym (rule-now book rule files call agrees)) answers
 
--- a reading is refused by the storage alone
-pub rule-passes : {A : Type 0} (book : Option Book) (rule : Rule) (told : Option Files) (call : Call) (result : Result A StoreError) → IfTrueTo told book → own_refusal_of book call ≡ None →
+-- a call that reads
+abbrev pub IsReading : Call → Type 0
+IsReading (Begin user path start) = ⊥
+IsReading (Append user path bytes) = ⊥
+IsReading call = Unit {0}
+
+-- none is refused for the book's sake
+reads-own : (book : Option Book) (meaning : Meaning) (call : Call) → IsReading call → refusal_of book meaning call ≡ meaning call
+reads-own None meaning call reads = refl
+reads-own (Some book) meaning (Begin user path start) reads = absurd reads
+reads-own (Some book) meaning (Append user path bytes) reads = absurd reads
+reads-own (Some book) meaning call reads = refl
+
+-- so it is refused by the storage alone
+pub rule-passes : {A : Type 0} (book : Option Book) (rule : Rule) (told : Option Files) (call : Call) (result : Result A StoreError) → IfTrueTo told book → IsReading call →
     Answers told (meaning_of rule told call) result → Answers told (meaning_of (quota_rule book rule) told call) result
-rule-passes book rule told call result agrees none answers =
-    rule-answers book rule told call result agrees (subst (λ (refused : Option ErrorKind). Answers told refused result) (sym (passes book none)) answers) where
-      passes : (book : Option Book) → own_refusal_of book call ≡ None → refusal_of book (meaning_of rule told) call ≡ meaning_of rule told call
-      passes None none = refl
-      passes (Some book) none = ap (λ (own : Option ErrorKind). option_or own (meaning_of rule told call)) none
+rule-passes book rule told call result agrees reads answers =
+    rule-answers book rule told call result agrees (subst (λ (refused : Option ErrorKind). Answers told refused result) (sym (reads-own book (meaning_of rule told) call reads)) answers)
 
 -- after a call the files agree with what was given, if they are told
 pub agrees-on : (old new : Option Files) (before after : Book) → (old ≡ None → new ≡ None) → (IsSomeAnd old (Agrees before.owners) → IsSomeAnd new (Agrees after.owners)) →
@@ -191,17 +201,3 @@ grown-so (Ok x) book new rule now user path bytes own owned same stays =
     ap (λ (b : Book). quota_rule (Some b) now) owned
     ∙ ap (quota_rule (Some (book_after book (Append user path bytes)))) stays
     ∙ rule-grown book rule user path bytes (not_own x (own_refusal book (Append user path bytes)) own)
-
--- ---- readings
--- none is refused for the book's sake
-pub metadata-own : (book : Option Book) (user path : List ℕ) → own_refusal_of book (Metadata user path) ≡ None
-metadata-own None user path = refl
-metadata-own (Some book) user path = refl
-
-pub list-own : (book : Option Book) (user path : List ℕ) → own_refusal_of book (Listing user path) ≡ None
-list-own None user path = refl
-list-own (Some book) user path = refl
-
-pub read-own : (book : Option Book) (user path : List ℕ) (place : ℕ) → own_refusal_of book (ReadAt user path place) ≡ None
-read-own None user path place = refl
-read-own (Some book) user path place = refl

@@ -1,6 +1,4 @@
-use Rattle.std.proofs.Common.{Some}
 use Rattle.ftp_base.specs.Storage.{Begin}
-use Rattle.ftp_audit.specs.Quota.{IfTrueTo}
 use Rattle.ftp_audit.proofs.Rules.{rule-answers, agrees-on, begun-so}
 use Rattle.ftp_audit.proofs.quota.storage.QuotaStorage.begin.Goals as goal
 
@@ -14,10 +12,8 @@ invariant_of-self-in-None g c = rw c.in-None.is tt
 
 pub returns-in-Some-clause-by_rule : goal.returns-in-Some-clause-by_rule
 returns-in-Some-clause-by_rule g c =
-    let agrees : IfTrueTo (g.S.Storage.files c.self.inside.inner) (Some c.in-Some.accounts) = rw c.in-Some.is at c.self.invariant in
-    rw (← c.self.view_is, c.in-Some.is)
-    (rule-answers (Some c.in-Some.accounts) (g.S.Storage.rule c.self.inside.inner) (g.S.Storage.files c.self.inside.inner)
-    (Begin c.args.user.now c.args.path.now c.args.start) c.begin_owned.result agrees c.begin_owned.ensures.refused)
+    rw (← c.self.view_is)
+    (rule-answers c.self.inside.accounts (g.S.Storage.rule c.self.inside.inner) (g.S.Storage.files c.self.inside.inner) (Begin c.args.user.now c.args.path.now c.args.start) c.begin_owned.result c.self.invariant (rw c.in-Some.is c.begin_owned.ensures.refused))
 
 pub returns-in-Some-clause-new_rule : goal.returns-in-Some-clause-new_rule
 returns-in-Some-clause-new_rule g c =

@@ -1,20 +1,16 @@
-use Rattle.std.proofs.Common.{Option, ap, sym, subst}
-use Rattle.ftp_base.specs.Storage.{Files, Metadata}
-use Rattle.ftp_audit.specs.Quota.{quota_rule, IfTrueTo}
-use Rattle.ftp_audit.proofs.Rules.{rule-passes, metadata-own}
+use Rattle.std.proofs.Common.{ap}
+use Rattle.ftp_base.specs.Storage.{Metadata}
+use Rattle.ftp_audit.specs.Quota.{quota_rule}
+use Rattle.ftp_audit.proofs.Rules.{rule-passes}
 use Rattle.ftp_audit.proofs.quota.storage.QuotaStorage.metadata.Goals as goal
 
 pub invariant_of-self : goal.invariant_of-self
-invariant_of-self g c =
-    subst (λ (told : Option Files). IfTrueTo told c.self.inside.accounts) (sym c.metadata.ensures.unchanged) c.self.invariant
+invariant_of-self g c = rw c.metadata.ensures.unchanged c.self.invariant
 
 pub returns-clause-refused : goal.returns-clause-refused
 returns-clause-refused g c =
     rw (← c.self.view_is)
-    (rule-passes c.self.inside.accounts (g.S.Storage.rule c.self.inside.inner) (g.S.Storage.files c.self.inside.inner)
-    (Metadata c.args.user.now c.args.path.now) c.metadata.result c.self.invariant
-    (metadata-own c.self.inside.accounts c.args.user.now c.args.path.now) c.metadata.ensures.refused)
+    (rule-passes c.self.inside.accounts (g.S.Storage.rule c.self.inside.inner) (g.S.Storage.files c.self.inside.inner) (Metadata c.args.user.now c.args.path.now) c.metadata.result c.self.invariant tt c.metadata.ensures.refused)
 
 pub returns-clause-same_rule : goal.returns-clause-same_rule
-returns-clause-same_rule g c =
-    rw (← c.self.view_is) (ap (quota_rule c.self.inside.accounts) c.metadata.ensures.storage_kept.same_rule)
+returns-clause-same_rule g c = rw (← c.self.view_is) (ap (quota_rule c.self.inside.accounts) c.metadata.ensures.storage_kept.same_rule)
