@@ -1,10 +1,14 @@
 //! Headers from sources that give them in pieces, and what a header of either version counts as.
 
+ghost use Rattle.std.specs.Prelude.{◌≤◌};
+
 use ftp_base::{IpAddr, MemorySource, SocketAddr, SocketAddrPair, Source};
 use ftp_proxy::{
-    Body, Field, Fields, Header2, ProxyError, ProxyHeader, ReadError, encode2, read_header2,
-    read_proxy_any, to_answer,
+    Body, Field, ProxyError, ProxyHeader, ReadError, encode2, read_header2, read_proxy_any,
+    to_answer,
 };
+use std::alloc::Global;
+use std::process::Abort;
 use std::test::Fail;
 
 /// From 192.0.2.7:40000 to 198.51.100.1:2121, over a stream of version 4, without fields.
@@ -34,39 +38,33 @@ const PAIR: SocketAddrPair = SocketAddrPair {
     destination: DESTINATION,
 };
 
-#[test]
-fn a_header_is_read_whatever_the_pieces_and_written_again(rt: HostRuntime) -> Result<(), Fail> {
-    let alloc = rt.alloc();
-    for chunk in PIECES {
-        let mut source = MemorySource::new(HEADER.to_vec(alloc)?, chunk, Vec::new(alloc));
-        let header = read_header2(alloc, &mut source)?;
-        let fields = Fields::from_vec(Vec::new(alloc));
-        let body = Body::Inet { pair: PAIR, fields };
-        assert_eq!(rt; header, Header2 { family: 0x11, body });
-        let written = encode2(alloc, &header)?;
-        assert_eq!(rt; written.as_slice(), HEADER);
+/// Compares a header that a source gives in pieces: the kinds of its fields, and the header as it is written again.
+fn compare(rt: &impl Abort, alloc: Global, bytes: &[u8], kinds: &[u8], chunk: u32)
+    requires { 1 ≤ chunk }
+{
+    let given = bytes.to_vec(alloc).expect(rt, "bytes");
+    let mut source = MemorySource::new(given, chunk, Vec::new(alloc));
+    let header = read_header2(alloc, &mut source).expect(rt, "a header");
+    let Body::Inet { pair, fields } = &header.body else {
+        panic!(rt; "another body");
+    };
+    assert_eq!(rt; (header.family, *pair), (0x11, PAIR));
+    let mut found = Vec::new(alloc);
+    for field in fields.as_slice() {
+        found.push(field.kind).expect(rt, "room");
     }
-    Ok(())
+    assert_eq!(rt; found.as_slice(), kinds);
+    let written = encode2(alloc, &header).expect(rt, "a header");
+    assert_eq!(rt; written.as_slice(), bytes);
 }
 
 #[test]
-fn a_field_is_kept_and_written_again(rt: HostRuntime) -> Result<(), Fail> {
-    let alloc = rt.alloc();
-    for chunk in PIECES {
-        let mut source = MemorySource::new(WITH_FIELD.to_vec(alloc)?, chunk, Vec::new(alloc));
-        let header = read_header2(alloc, &mut source)?;
-        let mut kinds = Vec::new(alloc);
-        if let Body::Inet { fields, .. } = &header.body {
-            for field in fields.as_slice() {
-                assert_eq!(rt; field.value.as_slice(), b"".as_slice());
-                kinds.push(field.kind)?;
-            }
+fn a_header_is_read_whatever_the_pieces_and_written_again(rt: HostRuntime) {
+    for (bytes, kinds) in [(HEADER, b"".as_slice()), (WITH_FIELD, &[4])] {
+        for chunk in PIECES {
+            compare(&rt, rt.alloc(), bytes, kinds, chunk);
         }
-        assert_eq!(rt; kinds.as_slice(), [4].as_slice());
-        let written = encode2(alloc, &header)?;
-        assert_eq!(rt; written.as_slice(), WITH_FIELD);
     }
-    Ok(())
 }
 
 #[test]
