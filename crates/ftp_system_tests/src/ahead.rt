@@ -4,7 +4,6 @@ use ftp_base::{Control, IpAddr, LinkFault, MemoryLink, SocketAddr, Source};
 use ftp_proxy::{ProxyHeader, read_proxy_header};
 use ftp_system::{Ahead, Gathered, gathering_buffer};
 use std::alloc::{AllocError, Global};
-use std::test::Fail;
 
 const HEADER: ProxyHeader = ProxyHeader {
     source: SocketAddr {
@@ -25,11 +24,14 @@ fn passed_on(alloc: Global) -> Result<MemoryLink, AllocError> {
 }
 
 #[test]
-fn a_header_is_read_in_one_call_and_then_what_came_with_it(rt: HostRuntime) -> Result<(), Fail> {
+fn a_header_is_read_in_one_call_and_then_what_came_with_it(rt: HostRuntime) {
     let alloc = rt.alloc();
-    let mut gathered = Gathered::new(passed_on(alloc)?, gathering_buffer(alloc)?);
+    let mut gathered = Gathered::new(
+        passed_on(alloc).expect(&rt, "a link"),
+        gathering_buffer(alloc).expect(&rt, "a buffer"),
+    );
     assert_eq!(rt; read_proxy_header(&mut gathered), Ok(HEADER));
-    let (link, _, rest) = gathered.into_rest(alloc)?;
+    let (link, _, rest) = gathered.into_rest(alloc).expect(&rt, "the rest");
     let mut ahead = Ahead::new(link, rest);
     let mut taken = [0; 3];
     assert_eq!(rt;
@@ -43,5 +45,4 @@ fn a_header_is_read_in_one_call_and_then_what_came_with_it(rt: HostRuntime) -> R
     // Then it is the connection that is asked.
     assert!(rt; ahead.read(&mut taken).is_err());
     assert!(rt; ahead.inner().sent().is_empty());
-    Ok(())
 }

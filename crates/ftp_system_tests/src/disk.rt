@@ -1,12 +1,14 @@
-//! The storage over a real directory, beside the one in memory.
+//! The storage and archive over a real directory, beside the one in memory.
 
+use crate::calls::{Call, Row, answer, archive_answer, call_of, compare, draw};
 use ftp_base::{Bytes, Looks, MemoryStorage, Storage};
 use ftp_disk::{Below, Budget, DiskStorage, Home, Homes, remove_leftovers, usage};
+use ftp_extras::Archive;
 use std::alloc::{AllocError, Global};
 use std::fs::{File, Files, Permissions};
 use std::os::unix::fs::{PermissionsExt, symlink};
+use std::process::Abort;
 use std::sync::{Arc, Wait};
-use std::test::Fail;
 use std::time::{Clock, Duration, UNIX_EPOCH};
 use std::{env, fs, io, process};
 
@@ -16,22 +18,30 @@ pub(crate) fn make_base(rt: &HostRuntime, test: &str) -> io::Result<String> {
     let temp = env::temp_dir(rt)?;
     let base = format!(in rt.alloc(); "{}/ftp_disk_{test}_{id}", temp.as_str())?;
     for dir in ["", "/home", "/home/d", "/home/d/e"] {
-        fs::create_dir(rt, below(rt.alloc(), base.as_str(), dir)?.as_str())?;
+        fs::create_dir(rt, format!(in rt.alloc(); "{base}{dir}")?.as_str())?;
     }
-    symlink(
-        rt,
-        "home",
-        below(rt.alloc(), base.as_str(), "/link")?.as_str(),
-    )?;
+    symlink(rt, "home", format!(in rt.alloc(); "{base}/link")?.as_str())?;
     Ok(base)
 }
 
-pub(crate) fn below(alloc: Global, root: &str, path: &str) -> Result<String, AllocError> {
-    format!(in alloc; "{root}{path}")
+pub(crate) fn below(rt: &impl Abort, alloc: Global, root: &str, path: &str) -> String {
+    format!(in alloc; "{root}{path}").expect(rt, "a path")
+}
+
+/// A file of a base.
+pub(crate) fn write<R: Files<File = File> + Abort>(
+    rt: &R,
+    alloc: Global,
+    base: &str,
+    path: &str,
+    bytes: &[u8],
+) {
+    let path = below(rt, alloc, base, path);
+    fs::write(rt, path.as_str(), bytes).expect(rt, "a file");
 }
 
 /// The home of ann, who may write, and of bob, who may not. Carl comes to it by the link. They have one budget.
-pub(crate) fn homes_within(
+fn homes_within(
     alloc: Global,
     base: &str,
     budget: &Budget,
@@ -43,7 +53,7 @@ pub(crate) fn homes_within(
         ("carl", "/link", false),
     ] {
         let home = Home {
-            root: below(alloc, base, root)?,
+            root: format!(in alloc; "{base}{root}")?,
             may_write,
             budget: budget.share()?,
         };
@@ -53,123 +63,36 @@ pub(crate) fn homes_within(
 }
 
 /// A storage over the homes of a base.
-pub(crate) fn storage_within<R: Files<File = File> + Clock + Wait + Copy + Drop>(
+pub(crate) fn storage_within<R: Files<File = File> + Clock + Wait + Abort + Copy + Drop>(
     rt: R,
     alloc: Global,
     base: &str,
     budget: &Budget,
-) -> Result<DiskStorage<R, Below<R>>, AllocError> {
-    let homes = homes_within(alloc, base, budget)?;
-    Ok(DiskStorage::new(rt, alloc, Below::new(rt), homes))
+) -> DiskStorage<R, Below<R>> {
+    let homes = homes_within(alloc, base, budget).expect(&rt, "homes");
+    DiskStorage::new(rt, alloc, Below::new(rt), homes)
 }
 
 /// The same without a budget.
-fn storage<R: Files<File = File> + Clock + Wait + Copy + Drop>(
+pub(crate) fn storage<R: Files<File = File> + Clock + Wait + Abort + Copy + Drop>(
     rt: R,
     alloc: Global,
     base: &str,
-) -> Result<DiskStorage<R, Below<R>>, AllocError> {
+) -> DiskStorage<R, Below<R>> {
     storage_within(rt, alloc, base, &Budget::none())
 }
 
-/// What is asked of a storage.
-#[derive(Clone, Copy)]
-pub(crate) struct Call {
-    pub(crate) kind: u64,
-    pub(crate) path: &'static str,
-    pub(crate) number: u8,
-}
-
-/// Which of two storages is called, the kind, path and number of the call, and the answer that is due.
-pub(crate) type Row = (bool, u64, &'static str, u8, &'static str);
-
-/// What a storage answers, as a text without modes and dates.
-fn answer<S: Storage>(
-    storage: &mut S,
+/// How many bytes a directory holds.
+fn held<R: Files<File = File> + Clock + Abort + Copy + Drop>(
+    rt: R,
     alloc: Global,
-    user: &str,
-    call: Call,
-) -> Result<String, AllocError> {
-    let user = Bytes::from_slice(alloc, user.as_bytes())?;
-    let path = Bytes::from_slice(alloc, call.path.as_bytes())?;
-    match call.kind {
-        0 => {
-            let found = storage.metadata(&user, &path);
-            format!(in alloc; "{found:?}")
-        }
-        1 => {
-            let mut found = storage.list(&user, &path);
-            if let Ok(infos) = &mut found {
-                for info in infos.iter_mut() {
-                    info.looks = None;
-                }
-            }
-            format!(in alloc; "{found:?}")
-        }
-        2 => {
-            let mut out = [0; 4];
-            let n = storage.read_at(&user, &path, u64::from(call.number), &mut out);
-            format!(in alloc; "{n:?} {out:?}")
-        }
-        3 => {
-            let begun = storage.begin(&user, &path, u64::from(call.number));
-            format!(in alloc; "{begun:?}")
-        }
-        _ => {
-            let bytes = [call.number, call.number ^ 1, call.number ^ 2];
-            let grown = storage.append(&user, &path, &bytes);
-            format!(in alloc; "{grown:?}")
-        }
-    }
-}
-
-/// The first answer of two storages that is not the one that is due, with its call.
-pub(crate) fn first_wrong<S: Storage>(
-    alloc: Global,
-    first: &mut S,
-    second: &mut S,
-    rows: &[Row],
-) -> Result<Option<String>, AllocError> {
-    for (is_first, kind, path, number, due) in rows {
-        let storage = if *is_first { &mut *first } else { &mut *second };
-        let call = Call {
-            kind: *kind,
-            path,
-            number: *number,
-        };
-        let given = answer(storage, alloc, "ann", call)?;
-        if given.as_str() != *due {
-            return Ok(Some(format!(in alloc; "{kind} {path} {number}: {given}")?));
-        }
-    }
-    Ok(None)
-}
-
-fn call_of(kind: u64, path: &'static str) -> Call {
-    Call {
-        kind,
-        path,
-        number: 0,
-    }
-}
-
-const PATHS: [&str; 8] = ["/", "/a", "/b", "/d", "/d/a", "/d/e", "/x/y", "/a/c"];
-
-/// The next call of those that are drawn.
-fn draw(state: &mut u64) -> Call {
-    *state = state
-        .wrapping_mul(6_364_136_223_846_793_005)
-        .wrapping_add(1_442_695_040_888_963_407);
-    let drawn = *state >> 33;
-    Call {
-        kind: drawn % 6,
-        path: PATHS[(drawn / 8 % 8) as usize],
-        number: (drawn / 64 % 9) as u8,
-    }
+    root: &str,
+) -> u64 {
+    usage(&Below::new(rt), alloc, root).expect(&rt, "a count")
 }
 
 /// Whether the files in memory are on disk.
-pub(crate) fn is_same(rt: &HostRuntime, base: &str, memory: &MemoryStorage) -> io::Result<bool> {
+fn is_same(rt: &HostRuntime, base: &str, memory: &MemoryStorage) -> io::Result<bool> {
     for (path, bytes) in memory.files() {
         let path = String::from_utf8_lossy(rt.alloc(), path)?;
         let path = format!(in rt.alloc(); "{base}/home{path}")?;
@@ -181,53 +104,78 @@ pub(crate) fn is_same(rt: &HostRuntime, base: &str, memory: &MemoryStorage) -> i
 }
 
 /// Whether a call lists a file, which a directory shows by itself.
-fn lists_a_file(memory: &mut MemoryStorage, alloc: Global, call: Call) -> Result<bool, AllocError> {
-    let user = Bytes::from_slice(alloc, b"ann")?;
-    let path = Bytes::from_slice(alloc, call.path.as_bytes())?;
+fn lists_a_file(rt: &impl Abort, memory: &mut MemoryStorage, alloc: Global, call: Call) -> bool {
+    let user = Bytes::from_slice(alloc, b"ann").expect(rt, "a name");
+    let path = Bytes::from_slice(alloc, call.path.as_bytes()).expect(rt, "a path");
     let is_file = match memory.metadata(&user, &path) {
         Ok(meta) => !meta.is_dir,
         Err(_) => false,
     };
-    Ok(call.kind == 1 && is_file)
+    call.kind == 1 && is_file
 }
 
-#[test]
-fn a_directory_answers_as_a_storage_in_memory(rt: HostRuntime) -> Result<(), Fail> {
-    let alloc = rt.alloc();
-    let base = make_base(&rt, "same")?;
-    let mut disk = storage(rt, alloc, base.as_str())?;
+/// What a storage, or a storage as an archive, answers to a call.
+fn answer_as<A: Abort, S: Storage + Archive>(
+    rt: &A,
+    storage: &mut S,
+    alloc: Global,
+    is_archive: bool,
+    call: Call,
+) -> String {
+    if is_archive {
+        archive_answer(rt, storage, alloc, call)
+    } else {
+        answer(rt, storage, alloc, "ann", call)
+    }
+}
+
+/// A storage in memory with the directories of a home.
+fn memory_storage(rt: &impl Abort, alloc: Global) -> MemoryStorage {
     let mut memory = MemoryStorage::new(alloc, u64::MAX, Vec::new(alloc));
     for dir in ["/d", "/d/e"] {
-        memory.mkdir(Bytes::from_slice(alloc, dir.as_bytes())?)?;
+        let dir = Bytes::from_slice(alloc, dir.as_bytes()).expect(rt, "a path");
+        memory.mkdir(dir).expect(rt, "a directory");
     }
-    let mut state = 7;
-    for _ in 0..400 {
-        let call = draw(&mut state);
-        if lists_a_file(&mut memory, alloc, call)? {
-            continue;
-        }
-        let due = answer(&mut memory, alloc, "ann", call)?;
-        let given = answer(&mut disk, alloc, "ann", call)?;
-        let same = is_same(&rt, base.as_str(), &memory)?;
-        assert!(rt;
-            given == due && same,
-            "{} {}: {given} for {due}",
-            call.kind,
-            call.path
-        );
-    }
-    fs::remove_dir_all(&rt, base.as_str())?;
-    Ok(())
+    memory
 }
 
 #[test]
-fn links_strangers_and_readers_are_refused(rt: HostRuntime) -> Result<(), Fail> {
+fn a_directory_answers_as_a_storage_in_memory(rt: HostRuntime) {
     let alloc = rt.alloc();
-    let base = make_base(&rt, "refused")?;
-    for (to, link) in [("/etc/passwd", "/home/passwd"), ("/etc", "/home/d/etc")] {
-        symlink(&rt, to, below(alloc, base.as_str(), link)?.as_str())?;
+    for (test, is_archive, seed) in [("same", false, 7), ("archive", true, 11)] {
+        let base = make_base(&rt, test).expect(&rt, "a base");
+        let mut disk = storage(rt, alloc, base.as_str());
+        let mut memory = memory_storage(&rt, alloc);
+        let mut state = seed;
+        for _ in 0..400 {
+            let call = draw(&mut state);
+            if !is_archive && lists_a_file(&rt, &mut memory, alloc, call) {
+                continue;
+            }
+            let due = answer_as(&rt, &mut memory, alloc, is_archive, call);
+            let given = answer_as(&rt, &mut disk, alloc, is_archive, call);
+            let same = is_same(&rt, base.as_str(), &memory).expect(&rt, "files");
+            assert!(rt;
+                given == due && same,
+                "{test} {} {} {}: {given} for {due}",
+                call.kind,
+                call.path,
+                call.other
+            );
+        }
+        fs::remove_dir_all(&rt, base.as_str()).expect(&rt, "an end");
     }
-    let mut storage = storage(rt, alloc, base.as_str())?;
+}
+
+#[test]
+fn links_strangers_and_readers_are_refused(rt: HostRuntime) {
+    let alloc = rt.alloc();
+    let base = make_base(&rt, "refused").expect(&rt, "a base");
+    for (to, link) in [("/etc/passwd", "/home/passwd"), ("/etc", "/home/d/etc")] {
+        let link = below(&rt, alloc, base.as_str(), link);
+        symlink(&rt, to, link.as_str()).expect(&rt, "a link");
+    }
+    let mut storage = storage(rt, alloc, base.as_str());
     let denied = "Err(Kind(PermissionDenied))";
     let missing = "Err(Kind(PermanentFileNotAvailable))";
     let only_d =
@@ -247,45 +195,38 @@ fn links_strangers_and_readers_are_refused(rt: HostRuntime) -> Result<(), Fail> 
         ("carl", 1, "/", only_d),
         ("eve", 1, "/", denied),
     ] {
-        let given = answer(&mut storage, alloc, user, call_of(kind, path))?;
+        let given = answer(&rt, &mut storage, alloc, user, call_of(kind, path));
         assert_eq!(rt; given.as_str(), due, "{user} {kind} {path}");
     }
-    fs::remove_dir_all(&rt, base.as_str())?;
-    Ok(())
+    fs::remove_dir_all(&rt, base.as_str()).expect(&rt, "an end");
 }
 
 #[test]
-fn a_path_has_one_upload_at_a_time(rt: HostRuntime) -> Result<(), Fail> {
+fn a_path_has_one_upload_at_a_time(rt: HostRuntime) {
     let alloc = rt.alloc();
-    let base = make_base(&rt, "busy")?;
-    let mut first = storage(rt, alloc, base.as_str())?;
-    let mut second = storage(rt, alloc, base.as_str())?;
-    let begun = answer(&mut first, alloc, "ann", call_of(3, "/b"))?;
-    let busy = answer(&mut second, alloc, "ann", call_of(3, "/b"))?;
+    let base = make_base(&rt, "busy").expect(&rt, "a base");
+    let mut first = storage(rt, alloc, base.as_str());
+    let mut second = storage(rt, alloc, base.as_str());
+    let begun = answer(&rt, &mut first, alloc, "ann", call_of(3, "/b"));
+    let busy = answer(&rt, &mut second, alloc, "ann", call_of(3, "/b"));
     drop(first);
-    let free = answer(&mut second, alloc, "ann", call_of(3, "/b"))?;
-    let given = format!(in alloc; "{begun} {busy} {free}")?;
+    let free = answer(&rt, &mut second, alloc, "ann", call_of(3, "/b"));
     assert_eq!(rt;
-        given.as_str(),
-        "Ok(()) Err(Kind(TransientFileNotAvailable)) Ok(())"
+        (begun.as_str(), busy.as_str(), free.as_str()),
+        ("Ok(())", "Err(Kind(TransientFileNotAvailable))", "Ok(())")
     );
-    fs::remove_dir_all(&rt, base.as_str())?;
-    Ok(())
+    fs::remove_dir_all(&rt, base.as_str()).expect(&rt, "an end");
 }
 
 #[test]
-fn uploads_share_the_budget_of_a_home(rt: HostRuntime) -> Result<(), Fail> {
+fn uploads_share_the_budget_of_a_home(rt: HostRuntime) {
     let alloc = rt.alloc();
-    let base = make_base(&rt, "budget")?;
-    let root = below(alloc, base.as_str(), "/home")?;
-    fs::write(
-        &rt,
-        below(alloc, base.as_str(), "/home/d/old")?.as_str(),
-        b"1234",
-    )?;
-    let budget = Budget::new(alloc, 10, usage(&Below::new(rt), alloc, root.as_str())?)?;
-    let mut first = storage_within(rt, alloc, base.as_str(), &budget)?;
-    let mut second = storage_within(rt, alloc, base.as_str(), &budget)?;
+    let base = make_base(&rt, "budget").expect(&rt, "a base");
+    let root = below(&rt, alloc, base.as_str(), "/home");
+    write(&rt, alloc, base.as_str(), "/home/d/old", b"1234");
+    let budget = Budget::new(alloc, 10, held(rt, alloc, root.as_str())).expect(&rt, "a budget");
+    let mut first = storage_within(rt, alloc, base.as_str(), &budget);
+    let mut second = storage_within(rt, alloc, base.as_str(), &budget);
     let full = "Err(Kind(ExceededStorageAllocationError))";
     // Four of the ten bytes are taken. Each call appends three, or cuts a file at a place or fills it up to there.
     let rows: [Row; 11] = [
@@ -301,50 +242,60 @@ fn uploads_share_the_budget_of_a_home(rt: HostRuntime) -> Result<(), Fail> {
         (true, 3, "/a", 1, "Ok(())"),
         (true, 4, "/a", 5, "Ok(())"),
     ];
-    assert_eq!(rt; first_wrong(alloc, &mut first, &mut second, &rows)?, None);
-    assert_eq!(rt; usage(&Below::new(rt), alloc, root.as_str())?, 9);
-    fs::remove_dir_all(&rt, base.as_str())?;
-    Ok(())
+    compare(&rt, alloc, &mut first, &mut second, &rows);
+    assert_eq!(rt; held(rt, alloc, root.as_str()), 9);
+    fs::remove_dir_all(&rt, base.as_str()).expect(&rt, "an end");
 }
 
 /// How the first file of a directory looks.
-fn looks_in<S: Storage>(storage: &mut S, alloc: Global, dir: &[u8]) -> Result<Option<Looks>, Fail> {
-    let user = Bytes::from_slice(alloc, b"ann")?;
-    let path = Bytes::from_slice(alloc, dir)?;
-    let infos = storage.list(&user, &path)?;
+fn looks_in<A: Abort, S: Storage>(
+    rt: &A,
+    storage: &mut S,
+    alloc: Global,
+    dir: &[u8],
+) -> Option<Looks> {
+    let user = Bytes::from_slice(alloc, b"ann").expect(rt, "a name");
+    let path = Bytes::from_slice(alloc, dir).expect(rt, "a path");
+    let infos = storage.list(&user, &path).expect(rt, "a listing");
     let [info, ..] = infos.as_slice() else {
-        return Err(Fail::from("nothing is listed"));
+        panic!(rt; "nothing is listed");
     };
-    Ok(info.looks)
+    info.looks
+}
+
+/// A file with this mode, last changed so long after the first day of 1970.
+fn make_looks(rt: &HostRuntime, path: &str, mode: u32, date: Duration) -> io::Result<()> {
+    let file = File::create(rt, path)?;
+    file.set_permissions(Permissions::from_mode(mode))?;
+    file.set_modified(UNIX_EPOCH + date)
 }
 
 #[test]
-fn a_listing_shows_the_mode_and_the_date(rt: HostRuntime) -> Result<(), Fail> {
+fn a_listing_shows_the_mode_and_the_date(rt: HostRuntime) {
     let alloc = rt.alloc();
-    let base = make_base(&rt, "looks")?;
-    let file = File::create(&rt, below(alloc, base.as_str(), "/home/d/a")?.as_str())?;
-    file.set_permissions(Permissions::from_mode(0o640))?;
+    let base = make_base(&rt, "looks").expect(&rt, "a base");
     // The 28th of November 2020, 13:57:09 UTC.
-    file.set_modified(UNIX_EPOCH + Duration::from_secs(1_606_571_829))?;
+    let date = Duration::from_secs(1_606_571_829);
+    let path = below(&rt, alloc, base.as_str(), "/home/d/a");
+    make_looks(&rt, path.as_str(), 0o640, date).expect(&rt, "a file");
     let looks = Looks {
         mode: *b"rw-r-----",
         shown: *b"Nov 28  2020",
         modify: *b"20201128135709",
     };
-    let mut storage = storage(rt, alloc, base.as_str())?;
-    assert_eq!(rt; looks_in(&mut storage, alloc, b"/d")?, Some(looks));
-    fs::remove_dir_all(&rt, base.as_str())?;
-    Ok(())
+    let mut storage = storage(rt, alloc, base.as_str());
+    assert_eq!(rt; looks_in(&rt, &mut storage, alloc, b"/d"), Some(looks));
+    fs::remove_dir_all(&rt, base.as_str()).expect(&rt, "an end");
 }
 
 #[test]
-fn a_name_of_two_lines_is_in_no_listing(rt: HostRuntime) -> Result<(), Fail> {
+fn a_name_of_two_lines_is_in_no_listing(rt: HostRuntime) {
     let alloc = rt.alloc();
-    let base = make_base(&rt, "lines")?;
+    let base = make_base(&rt, "lines").expect(&rt, "a base");
     for name in ["/home/d/e/a\nb", "/home/d/e/a\rb", "/home/d/e/ab"] {
-        fs::write(&rt, below(alloc, base.as_str(), name)?.as_str(), b"1")?;
+        write(&rt, alloc, base.as_str(), name, b"1");
     }
-    let mut storage = storage(rt, alloc, base.as_str())?;
+    let mut storage = storage(rt, alloc, base.as_str());
     let only_ab =
         "Ok([FileInfo { name: Bytes { items: [97, 98] }, meta: Meta { is_dir: false, len: 1 }, looks: None }])";
     let refused = "Err(Kind(FileNameNotAllowedError))";
@@ -353,99 +304,96 @@ fn a_name_of_two_lines_is_in_no_listing(rt: HostRuntime) -> Result<(), Fail> {
         (0, "/d/e/a\nb", refused),
         (3, "/d/e/a\rb", refused),
     ] {
-        let given = answer(&mut storage, alloc, "ann", call_of(kind, path))?;
+        let given = answer(&rt, &mut storage, alloc, "ann", call_of(kind, path));
         assert_eq!(rt; given.as_str(), due, "{kind} {path}");
     }
-    fs::remove_dir_all(&rt, base.as_str())?;
-    Ok(())
+    fs::remove_dir_all(&rt, base.as_str()).expect(&rt, "an end");
 }
 
 /// What a storage answers to an upload of three bytes to `/a`.
-fn upload<S: Storage>(storage: &mut S, alloc: Global, byte: u8) -> Result<String, AllocError> {
-    let begun = answer(storage, alloc, "ann", call_of(3, "/a"))?;
+fn upload<A: Abort, S: Storage>(rt: &A, storage: &mut S, alloc: Global, byte: u8) -> String {
+    let begun = answer(rt, storage, alloc, "ann", call_of(3, "/a"));
     let call = Call {
-        kind: 4,
-        path: "/a",
         number: byte,
+        ..call_of(4, "/a")
     };
-    let grown = answer(storage, alloc, "ann", call)?;
-    format!(in alloc; "{begun} {grown}")
+    let grown = answer(rt, storage, alloc, "ann", call);
+    format!(in alloc; "{begun} {grown}").expect(rt, "a text")
 }
 
-/// What two storages answer to uploads of the same file at once, and what the file has meanwhile. The first upload ends with it.
-fn upload_twice<S: Storage + Drop>(
-    rt: &HostRuntime,
-    file: &str,
-    first: S,
-    second: &mut S,
-) -> io::Result<String> {
-    let mut first = first;
-    let begun = upload(&mut first, rt.alloc(), b'x')?;
-    let busy = upload(second, rt.alloc(), b'y')?;
-    let stands = fs::read_to_string(rt, file)?;
-    Ok(format!(in rt.alloc(); "{begun}, {busy}, {stands}")?)
-}
-
-/// What a storage answers to an upload that comes to its end, and to three bytes behind it, and what the file has then.
-fn upload_whole<S: Storage>(rt: &HostRuntime, file: &str, storage: &mut S) -> io::Result<String> {
-    let alloc = rt.alloc();
-    let begun = upload(storage, alloc, b'y')?;
-    let user = Bytes::from_slice(alloc, b"ann")?;
-    let path = Bytes::from_slice(alloc, b"/a")?;
+/// What a storage answers to the end of an upload to `/a`, and to three bytes behind it.
+fn settle<A: Abort, S: Storage>(rt: &A, storage: &mut S, alloc: Global) -> String {
+    let user = Bytes::from_slice(alloc, b"ann").expect(rt, "a name");
+    let path = Bytes::from_slice(alloc, b"/a").expect(rt, "a path");
     let settled = storage.settle(&user, &path);
     let grown = storage.append(&user, &path, b"zzz");
-    let after = fs::read_to_string(rt, file)?;
-    Ok(format!(in alloc; "{begun}, {settled:?} {grown:?} {after}")?)
+    format!(in alloc; "{settled:?} {grown:?}").expect(rt, "a text")
 }
 
 #[test]
-fn a_whole_upload_takes_its_place_at_its_end(rt: HostRuntime) -> Result<(), Fail> {
+fn a_whole_upload_takes_its_place_at_its_end(rt: HostRuntime) {
     let alloc = rt.alloc();
-    let base = make_base(&rt, "whole")?;
-    let root = below(alloc, base.as_str(), "/home")?;
-    let file = below(alloc, root.as_str(), "/a")?;
-    fs::write(&rt, file.as_str(), b"old")?;
+    let base = make_base(&rt, "whole").expect(&rt, "a base");
+    let root = below(&rt, alloc, base.as_str(), "/home");
+    let file = below(&rt, alloc, root.as_str(), "/a");
+    write(&rt, alloc, root.as_str(), "/a", b"old");
     // It has room for two uploads of three, of which one takes the place of the other.
-    let budget = Budget::new(alloc, 8, usage(&Below::new(rt), alloc, root.as_str())?)?;
-    let first = storage_within(rt, alloc, base.as_str(), &budget)?.whole_uploads(true);
-    let mut second = storage_within(rt, alloc, base.as_str(), &budget)?.whole_uploads(true);
-    let busy = upload_twice(&rt, file.as_str(), first, &mut second)?;
+    let budget = Budget::new(alloc, 8, held(rt, alloc, root.as_str())).expect(&rt, "a budget");
+    let mut first = storage_within(rt, alloc, base.as_str(), &budget).whole_uploads(true);
+    let mut second = storage_within(rt, alloc, base.as_str(), &budget).whole_uploads(true);
+    let busy = "Err(Kind(TransientFileNotAvailable)) Err(Kind(TransientFileNotAvailable))";
     assert_eq!(rt;
-        busy.as_str(),
-        "Ok(()) Ok(()), Err(Kind(TransientFileNotAvailable)) Err(Kind(TransientFileNotAvailable)), old"
+        upload(&rt, &mut first, alloc, b'x').as_str(),
+        "Ok(()) Ok(())"
     );
-    assert_eq!(rt; usage(&Below::new(rt), alloc, root.as_str())?, 3);
-    let after = upload_whole(&rt, file.as_str(), &mut second)?;
-    assert_eq!(rt; after.as_str(), "Ok(()) Ok(()), Ok(()) Ok(()) yx{zzz");
-    fs::remove_dir_all(&rt, base.as_str())?;
-    Ok(())
+    assert_eq!(rt; upload(&rt, &mut second, alloc, b'y').as_str(), busy);
+    let stands = fs::read(&rt, file.as_str()).expect(&rt, "a file");
+    assert_eq!(rt; stands.as_slice(), b"old".as_slice());
+    drop(first);
+    assert_eq!(rt; held(rt, alloc, root.as_str()), 3);
+    assert_eq!(rt;
+        upload(&rt, &mut second, alloc, b'y').as_str(),
+        "Ok(()) Ok(())"
+    );
+    assert_eq!(rt; settle(&rt, &mut second, alloc).as_str(), "Ok(()) Ok(())");
+    let stands = fs::read(&rt, file.as_str()).expect(&rt, "a file");
+    assert_eq!(rt; stands.as_slice(), b"yx{zzz".as_slice());
+    fs::remove_dir_all(&rt, base.as_str()).expect(&rt, "an end");
 }
 
-/// How many bytes a home of ann has with what killed uploads left in it, and without.
-fn cleared(rt: HostRuntime, homes: &Homes, root: &str) -> Result<(u64, u64), Fail> {
-    let alloc = rt.alloc();
-    let system = Below::new(rt);
-    let held = usage(&system, alloc, root)?;
-    if let Ok(home) = homes.find(&Bytes::from_slice(alloc, b"ann")?) {
-        remove_leftovers(&system, alloc, home)?;
-    }
-    Ok((held, usage(&system, alloc, root)?))
+/// Removes from the home of ann what killed uploads left there.
+fn clear<R: Files<File = File> + Clock + Abort + Copy + Drop>(rt: R, alloc: Global, homes: &Homes) {
+    let ann = Bytes::from_slice(alloc, b"ann").expect(&rt, "a name");
+    let home = homes.find(&ann).ok().expect(&rt, "a home");
+    remove_leftovers(&Below::new(rt), alloc, home).expect(&rt, "no leftovers");
 }
 
 #[test]
-fn what_a_killed_upload_left_is_hidden_and_removed(rt: HostRuntime) -> Result<(), Fail> {
+fn what_a_killed_upload_left_is_hidden_and_removed(rt: HostRuntime) {
     let alloc = rt.alloc();
-    let base = make_base(&rt, "left")?;
-    let file = below(alloc, base.as_str(), "/home/d/e/.ftp-upload-a")?;
-    fs::write(&rt, file.as_str(), b"part")?;
-    let mut storage = storage(rt, alloc, base.as_str())?;
-    let shown = answer(&mut storage, alloc, "ann", call_of(1, "/d/e"))?;
-    let asked = answer(&mut storage, alloc, "ann", call_of(0, "/d/e/.ftp-upload-a"))?;
+    let base = make_base(&rt, "left").expect(&rt, "a base");
+    write(
+        &rt,
+        alloc,
+        base.as_str(),
+        "/home/d/e/.ftp-upload-a",
+        b"part",
+    );
+    let mut storage = storage(rt, alloc, base.as_str());
+    let shown = answer(&rt, &mut storage, alloc, "ann", call_of(1, "/d/e"));
+    let asked = answer(
+        &rt,
+        &mut storage,
+        alloc,
+        "ann",
+        call_of(0, "/d/e/.ftp-upload-a"),
+    );
     assert_eq!(rt; shown.as_str(), "Ok([])");
     assert_eq!(rt; asked.as_str(), "Err(Kind(FileNameNotAllowedError))");
-    let homes = homes_within(alloc, base.as_str(), &Budget::none())?;
-    let root = below(alloc, base.as_str(), "/home")?;
-    assert_eq!(rt; cleared(rt, &homes, root.as_str())?, (4, 0));
-    fs::remove_dir_all(&rt, base.as_str())?;
-    Ok(())
+    let homes = homes_within(alloc, base.as_str(), &Budget::none()).expect(&rt, "homes");
+    let root = below(&rt, alloc, base.as_str(), "/home");
+    assert_eq!(rt; held(rt, alloc, root.as_str()), 4);
+    clear(rt, alloc, &homes);
+    assert_eq!(rt; held(rt, alloc, root.as_str()), 0);
+    fs::remove_dir_all(&rt, base.as_str()).expect(&rt, "an end");
 }

@@ -1,11 +1,10 @@
 //! Keys that passwords derive.
 
 use ftp_config::{derived_key, hash_line};
-use std::test::Fail;
 
 // The first is of RFC 7914, section 11, cut to 32 bytes; the others are OpenSSL's.
 #[test]
-fn a_key_is_the_one_that_was_published(rt: HostRuntime) -> Result<(), Fail> {
+fn a_key_is_the_one_that_was_published(rt: HostRuntime) {
     let long = [b'x'; 65];
     for (password, rounds, due) in [
         (
@@ -25,19 +24,17 @@ fn a_key_is_the_one_that_was_published(rt: HostRuntime) -> Result<(), Fail> {
         ),
     ] {
         let key = derived_key(password, b"salt", rounds);
-        let text = hex::encode(rt.alloc(), key.as_slice())?;
+        let text = hex::encode(rt.alloc(), key.as_slice()).expect(&rt, "a text");
         assert_eq!(rt; text.as_str(), due);
     }
-    Ok(())
 }
 
 // The key is OpenSSL's.
 #[test]
-fn a_hash_is_printed_as_a_line_has_it(rt: HostRuntime) -> Result<(), Fail> {
-    let text = hash_line(rt.alloc(), b"password", b"salt", 2)?;
+fn a_hash_is_printed_as_a_line_has_it(rt: HostRuntime) {
+    let text = hash_line(rt.alloc(), b"password", b"salt", 2).expect(&rt, "a text");
     assert_eq!(rt;
         text.as_str(),
         "$pbkdf2-sha256$2$73616c74$ae4d0c95af6b46d32d0adff928f06dd02a303f8ef3c251dfd6e2d85a95474c43"
     );
-    Ok(())
 }

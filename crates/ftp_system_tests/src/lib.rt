@@ -2,13 +2,15 @@
 //! that were published, and a real directory, with ample memory.
 //!
 //! They stand here and not beside the code, since a crate with tests is proved twice. This one has no code but tests.
-//! Begin with `link`, `users`, `disk` and `server_log`.
+//! Begin with `link`, `users` and `disk`.
 #![tactic(auto)]
 
 #[cfg(test)]
 mod ahead;
 #[cfg(test)]
 mod archive;
+#[cfg(test)]
+mod calls;
 #[cfg(test)]
 mod control;
 #[cfg(test)]
@@ -31,8 +33,6 @@ mod loopback;
 mod open;
 #[cfg(test)]
 mod queue;
-#[cfg(test)]
-mod server_log;
 #[cfg(test)]
 mod shared;
 #[cfg(test)]

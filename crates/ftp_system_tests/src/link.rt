@@ -6,7 +6,7 @@ use ftp_system::SocketLink;
 use mio::net::TcpStream;
 use std::alloc::Global;
 use std::net::{self, Net, Shutdown};
-use std::test::Fail;
+use std::process::Abort;
 use std::time::{Clock, Duration};
 use std::{io, thread};
 
@@ -23,72 +23,67 @@ fn link<N: Net + Drop>(
 }
 
 #[test]
-fn bytes_go_both_ways_up_to_the_end(rt: HostRuntime) -> Result<(), Fail> {
-    let (client, server) = pair(&rt)?;
-    let mut link = link(rt, rt.alloc(), server, 10_000)?;
+fn bytes_go_both_ways_up_to_the_end(rt: HostRuntime) {
+    let (client, server) = pair(&rt);
+    let mut link = link(rt, rt.alloc(), server, 10_000).expect(&rt, "a link");
     let mut taken = [0; 4];
-    send(&client, b"abcdef")?;
+    send(&rt, &client, b"abcdef");
     assert_eq!(rt; (link.read(&mut taken), &taken), (Ok(4), b"abcd"));
     assert_eq!(rt; (link.read(&mut taken), &taken), (Ok(2), b"efcd"));
     assert_eq!(rt; link.write(b"wxyz"), Ok(4));
-    receive(&client, &mut taken)?;
+    receive(&rt, &client, &mut taken);
     assert_eq!(rt; &taken, b"wxyz");
-    client.shutdown(Shutdown::Write)?;
+    client.shutdown(Shutdown::Write).expect(&rt, "an end");
     assert_eq!(rt; link.read(&mut taken), Ok(0));
     assert_eq!(rt; (link.close(), link.last_fault()), (Ok(()), None));
-    assert!(rt; is_at_end(&client)?);
-    Ok(())
+    assert!(rt; is_at_end(&rt, &client));
 }
 
 /// Sends bytes after so many milliseconds.
-fn send_later<C: Clock>(clock: &C, client: &net::TcpStream, bytes: &[u8], millis: u64) -> bool {
-    thread::sleep(clock, Duration::from_millis(millis));
-    send(client, bytes).is_ok()
+fn send_later<R: Clock + Abort>(rt: &R, client: &net::TcpStream, bytes: &[u8], millis: u64) {
+    thread::sleep(rt, Duration::from_millis(millis));
+    send(rt, client, bytes);
 }
 
 #[test]
-fn a_read_waits_for_what_comes(rt: HostRuntime) -> Result<(), Fail> {
-    let (client, server) = pair(&rt)?;
-    let mut link = link(rt, rt.alloc(), server, 30_000)?;
+fn a_read_waits_for_what_comes(rt: HostRuntime) {
+    let (client, server) = pair(&rt);
+    let mut link = link(rt, rt.alloc(), server, 30_000).expect(&rt, "a link");
     let mut taken = [0; 4];
-    let (sent, read) = thread::join(
+    let (_, read) = thread::join(
         &rt,
         || send_later(&rt, &client, b"late", 50),
         || link.read(&mut taken),
     );
-    assert_eq!(rt; (sent, read, &taken), (true, Ok(4), b"late"));
-    Ok(())
+    assert_eq!(rt; (read, &taken), (Ok(4), b"late"));
 }
 
 #[test]
-fn a_wait_beyond_the_limit_is_a_fault(rt: HostRuntime) -> Result<(), Fail> {
-    let (client, server) = pair(&rt)?;
-    let mut link = link(rt, rt.alloc(), server, 50)?;
+fn a_wait_beyond_the_limit_is_a_fault(rt: HostRuntime) {
+    let (client, server) = pair(&rt);
+    let mut link = link(rt, rt.alloc(), server, 50).expect(&rt, "a link");
     assert_eq!(rt; link.read(&mut [0; 4]), Err(Failed::Fault));
     assert_eq!(rt; link.last_fault(), Some(LinkFault::Other));
     drop(client);
-    Ok(())
 }
 
 #[test]
-fn a_peer_that_resets_is_a_fault(rt: HostRuntime) -> Result<(), Fail> {
-    let (client, server) = pair(&rt)?;
-    let mut link = link(rt, rt.alloc(), server, 10_000)?;
+fn a_peer_that_resets_is_a_fault(rt: HostRuntime) {
+    let (client, server) = pair(&rt);
+    let mut link = link(rt, rt.alloc(), server, 10_000).expect(&rt, "a link");
     // A connection that is closed with bytes which were not read is reset.
     assert_eq!(rt; link.write(b"x"), Ok(1));
     drop(client);
     assert_eq!(rt; link.read(&mut [0; 4]), Err(Failed::Fault));
     assert_eq!(rt; link.last_fault(), Some(LinkFault::Reset));
-    Ok(())
 }
 
 #[test]
-fn a_write_to_a_closed_connection_is_a_fault(rt: HostRuntime) -> Result<(), Fail> {
-    let (client, server) = pair(&rt)?;
-    let mut link = link(rt, rt.alloc(), server, 10_000)?;
+fn a_write_to_a_closed_connection_is_a_fault(rt: HostRuntime) {
+    let (client, server) = pair(&rt);
+    let mut link = link(rt, rt.alloc(), server, 10_000).expect(&rt, "a link");
     assert_eq!(rt; link.close(), Ok(()));
     assert_eq!(rt; link.write(b"x"), Err(Failed::Fault));
     assert_eq!(rt; link.last_fault(), Some(LinkFault::BrokenPipe));
-    assert!(rt; is_at_end(&client)?);
-    Ok(())
+    assert!(rt; is_at_end(&rt, &client));
 }

@@ -3,7 +3,6 @@
 use crate::loopback::loopback;
 use ftp_base::{IpAddr, SocketAddr};
 use ftp_system::{bind_address, port_of, std_address, told_address};
-use std::test::Fail;
 
 /// The address `::1` and a port.
 fn loopback_6(port: u16) -> SocketAddr {
@@ -14,7 +13,7 @@ fn loopback_6(port: u16) -> SocketAddr {
 }
 
 #[test]
-fn an_address_is_read_with_its_port(rt: HostRuntime) -> Result<(), Fail> {
+fn an_address_is_read_with_its_port(rt: HostRuntime) {
     for (text, at) in [
         (b"127.0.0.1:21".as_slice(), Some(loopback(21))),
         (b"127.0.0.1:0", Some(loopback(0))),
@@ -33,18 +32,21 @@ fn an_address_is_read_with_its_port(rt: HostRuntime) -> Result<(), Fail> {
         assert_eq!(rt; bind_address(text), at);
     }
     assert_eq!(rt; (port_of(b"2121"), port_of(b"+1")), (Some(2121), None));
-    Ok(())
 }
 
 #[test]
-fn an_address_is_the_same_in_both_spellings(rt: HostRuntime) -> Result<(), Fail> {
+fn an_address_is_the_same_in_both_spellings(rt: HostRuntime) {
     for (at, text) in [
         (loopback(21), "127.0.0.1:21"),
         (loopback_6(2121), "[::1]:2121"),
     ] {
         let systems = std_address(at);
-        assert_eq!(rt; format!(in rt.alloc(); "{systems}")?.as_str(), text);
+        assert_eq!(rt;
+            format!(in rt.alloc(); "{systems}")
+                .expect(&rt, "a text")
+                .as_str(),
+            text
+        );
         assert_eq!(rt; told_address(systems), at);
     }
-    Ok(())
 }

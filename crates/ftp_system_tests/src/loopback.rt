@@ -1,9 +1,11 @@
 //! Connections over the loopback address, and the time that calls take.
 
 use ftp_base::{IpAddr, SocketAddr};
+use ftp_system::told_address;
 use std::io;
 use std::io::{Read, Write};
 use std::net::{Net, TcpListener, TcpStream};
+use std::process::Abort;
 use std::time::{Clock, Duration};
 
 /// How long a client waits for bytes, in seconds.
@@ -17,8 +19,19 @@ pub fn loopback(port: u16) -> SocketAddr {
     }
 }
 
+/// Where a listener listens.
+pub fn address(rt: &impl Abort, listener: &TcpListener) -> SocketAddr {
+    told_address(listener.local_addr().expect(rt, "an address"))
+}
+
 /// Both ends of a connection: the client's, which waits for bytes a while, and the server's.
-pub fn pair<N: Net<Listener = TcpListener, Stream = TcpStream>>(
+pub fn pair<R: Net<Listener = TcpListener, Stream = TcpStream> + Abort>(
+    rt: &R,
+) -> (TcpStream, TcpStream) {
+    connected(rt).expect(rt, "a connection")
+}
+
+fn connected<N: Net<Listener = TcpListener, Stream = TcpStream>>(
     net: &N,
 ) -> io::Result<(TcpStream, TcpStream)> {
     let listener = TcpListener::bind(net, "127.0.0.1:0")?;
@@ -29,26 +42,26 @@ pub fn pair<N: Net<Listener = TcpListener, Stream = TcpStream>>(
 }
 
 /// Sends all of the bytes.
-pub fn send(mut stream: &TcpStream, bytes: &[u8]) -> io::Result<()> {
-    stream.write_all(bytes)
+pub fn send(rt: &impl Abort, mut stream: &TcpStream, bytes: &[u8]) {
+    stream.write_all(bytes).expect(rt, "sent bytes");
 }
 
 /// Receives as many bytes as there is room for.
-pub fn receive(mut stream: &TcpStream, out: &mut [u8]) -> io::Result<()> {
-    stream.read_exact(out)
+pub fn receive(rt: &impl Abort, mut stream: &TcpStream, out: &mut [u8]) {
+    stream.read_exact(out).expect(rt, "received bytes");
 }
 
 /// Says whether the peer has closed the connection, with no byte before.
-pub fn is_at_end(mut stream: &TcpStream) -> io::Result<bool> {
-    Ok(stream.read(&mut [0; 1])? == 0)
+pub fn is_at_end(rt: &impl Abort, mut stream: &TcpStream) -> bool {
+    stream.read(&mut [0; 1]).expect(rt, "an end") == 0
 }
 
 /// The moment in milliseconds.
-pub fn now<C: Clock>(clock: &C) -> io::Result<u128> {
-    Ok(clock.monotonic()?.as_millis())
+pub fn now<R: Clock + Abort>(rt: &R) -> u128 {
+    rt.monotonic().expect(rt, "a moment").as_millis()
 }
 
 /// How many milliseconds have gone by since a moment.
-pub fn since<C: Clock>(clock: &C, begun: u128) -> io::Result<u128> {
-    Ok(now(clock)?.saturating_sub(begun))
+pub fn since<R: Clock + Abort>(rt: &R, begun: u128) -> u128 {
+    now(rt).saturating_sub(begun)
 }

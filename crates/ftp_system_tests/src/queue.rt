@@ -3,12 +3,11 @@
 use ftp_system::{PutError, Queue};
 use std::alloc::{AllocError, Global};
 use std::sync::Wait;
-use std::test::Fail;
 use std::thread;
 use std::time::{Clock, Duration};
 
 #[test]
-fn the_oldest_value_comes_first(rt: HostRuntime) -> Result<(), Fail> {
+fn the_oldest_value_comes_first(rt: HostRuntime) {
     let queue = Queue::new(rt.alloc());
     // Nobody sleeps, so a thread is wanted for each.
     for value in [1, 2, 3] {
@@ -23,7 +22,6 @@ fn the_oldest_value_comes_first(rt: HostRuntime) -> Result<(), Fail> {
     for value in [Some(3), None] {
         assert_eq!(rt; queue.take(&rt), value);
     }
-    Ok(())
 }
 
 /// Takes all values up to the end.
@@ -53,7 +51,7 @@ fn put_until_asleep<R: Wait + Clock>(rt: &R, queue: &Queue<u64>) -> Option<u64> 
 }
 
 #[test]
-fn a_thread_that_sleeps_takes_the_next_value(rt: HostRuntime) -> Result<(), Fail> {
+fn a_thread_that_sleeps_takes_the_next_value(rt: HostRuntime) {
     let queue = Queue::new(rt.alloc());
     let alloc = rt.alloc();
     let (taken, put) = thread::join(
@@ -61,17 +59,16 @@ fn a_thread_that_sleeps_takes_the_next_value(rt: HostRuntime) -> Result<(), Fail
         || take_all(&rt, alloc, &queue),
         || put_until_asleep(&rt, &queue),
     );
-    let put = put.ok_or("nobody slept")?;
+    let put = put.expect(&rt, "nobody slept");
     let mut wanted = Vec::new(alloc);
     for value in 0..put {
-        wanted.push(value)?;
+        wanted.push(value).expect(&rt, "room");
     }
-    assert_eq!(rt; taken?.as_slice(), wanted.as_slice());
-    Ok(())
+    assert_eq!(rt; taken.expect(&rt, "values").as_slice(), wanted.as_slice());
 }
 
 #[test]
-fn a_thread_that_rests_too_long_ends(rt: HostRuntime) -> Result<(), Fail> {
+fn a_thread_that_rests_too_long_ends(rt: HostRuntime) {
     let queue = Queue::new(rt.alloc());
     assert!(rt; matches!(queue.put(&rt, 1), Ok(true)));
     for value in [Some(1), None] {
@@ -79,5 +76,4 @@ fn a_thread_that_rests_too_long_ends(rt: HostRuntime) -> Result<(), Fail> {
     }
     // It sleeps no more.
     assert!(rt; matches!(queue.put(&rt, 2), Ok(true)));
-    Ok(())
 }

@@ -3,7 +3,6 @@
 use ftp_base::Spawner;
 use ftp_system::{Queue, SystemThreads, start};
 use std::sync::Arc;
-use std::test::Fail;
 
 /// Lets no thread be started, and counts those that were asked for.
 #[derive(Drop)]
@@ -25,28 +24,26 @@ impl Spawner for NoThreads {
 }
 
 #[test]
-fn work_is_done_by_a_thread_of_its_own(rt: HostRuntime) -> Result<(), Fail> {
-    let queue = Arc::new(rt.alloc(), Queue::new(rt.alloc()))?;
-    let theirs = Arc::try_clone(&queue)?;
+fn work_is_done_by_a_thread_of_its_own(rt: HostRuntime) {
+    let queue = Arc::new(rt.alloc(), Queue::new(rt.alloc())).expect(&rt, "a value");
+    let theirs = Arc::try_clone(&queue).expect(&rt, "a copy");
     let refused = start(&rt, &mut SystemThreads::new(), move || {
         let _ = theirs.put(&rt, 7u64);
     });
     assert!(rt; refused.is_none());
     // It comes from the other thread, for which this one waits.
     assert_eq!(rt; queue.take(&rt), Some(7));
-    Ok(())
 }
 
 #[test]
-fn work_that_no_thread_takes_comes_back(rt: HostRuntime) -> Result<(), Fail> {
-    let queue = Arc::new(rt.alloc(), Queue::new(rt.alloc()))?;
-    let theirs = Arc::try_clone(&queue)?;
+fn work_that_no_thread_takes_comes_back(rt: HostRuntime) {
+    let queue = Arc::new(rt.alloc(), Queue::new(rt.alloc())).expect(&rt, "a value");
+    let theirs = Arc::try_clone(&queue).expect(&rt, "a copy");
     let mut none = NoThreads { faults: 0 };
     let refused = start(&rt, &mut none, move || {
         let _ = theirs.put(&rt, 7u64);
     });
-    let work = refused.ok_or("the work is gone")?;
+    let work = refused.expect(&rt, "the work is gone");
     work();
     assert_eq!(rt; (queue.take(&rt), none.faults), (Some(7), 1));
-    Ok(())
 }

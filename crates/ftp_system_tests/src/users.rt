@@ -3,7 +3,7 @@
 use ftp_base::{AuthAnswer, Authenticator, Bytes, IpAddr};
 use ftp_config::{Rights, Users, UsersError};
 use std::alloc::Global;
-use std::test::Fail;
+use std::process::Abort;
 
 // The keys of ann and bob are OpenSSL's for the password `password` and the salt `salt`, in one round and in two.
 const FILE: &[u8] = b"# NAME:HASH:RIGHTS:HOME[:BUDGET]\n\
@@ -13,21 +13,22 @@ const FILE: &[u8] = b"# NAME:HASH:RIGHTS:HOME[:BUDGET]\n\
     anonymous:*:ro:/srv/pub:0\n\
     eve:!:rw:/srv/eve e:640K\n";
 
-fn check<A: Authenticator>(
+fn check<R: Abort, A: Authenticator>(
+    rt: &R,
     alloc: Global,
     who: &A,
     name: &[u8],
     password: &[u8],
-) -> Result<AuthAnswer, Fail> {
-    let name = Bytes::from_slice(alloc, name)?;
-    let password = Bytes::from_slice(alloc, password)?;
-    Ok(who.check(&name, &password, IpAddr::V4(0)))
+) -> AuthAnswer {
+    let name = Bytes::from_slice(alloc, name).expect(rt, "a name");
+    let password = Bytes::from_slice(alloc, password).expect(rt, "a password");
+    who.check(&name, &password, IpAddr::V4(0))
 }
 
 #[test]
-fn a_user_logs_in_with_its_password(rt: HostRuntime) -> Result<(), Fail> {
+fn a_user_logs_in_with_its_password(rt: HostRuntime) {
     let alloc = rt.alloc();
-    let users = Users::read(alloc, FILE)?;
+    let users = Users::read(alloc, FILE).expect(&rt, "users");
     for (name, password, due) in [
         (b"ann".as_slice(), b"password".as_slice(), AuthAnswer::Good),
         (b"ann", b"Password", AuthAnswer::Refused),
@@ -39,9 +40,8 @@ fn a_user_logs_in_with_its_password(rt: HostRuntime) -> Result<(), Fail> {
         (b"Ann", b"password", AuthAnswer::BadUser),
         (b"# NAME", b"password", AuthAnswer::BadUser),
     ] {
-        assert_eq!(rt; check(alloc, &users, name, password)?, due);
+        assert_eq!(rt; check(&rt, alloc, &users, name, password), due);
     }
-    Ok(())
 }
 
 fn has_user(users: &Users, name: &[u8], home: &str, rights: Rights, budget: Option<u64>) -> bool {
@@ -54,8 +54,8 @@ fn has_user(users: &Users, name: &[u8], home: &str, rights: Rights, budget: Opti
 }
 
 #[test]
-fn a_user_has_the_home_of_its_line(rt: HostRuntime) -> Result<(), Fail> {
-    let users = Users::read(rt.alloc(), FILE)?;
+fn a_user_has_the_home_of_its_line(rt: HostRuntime) {
+    let users = Users::read(rt.alloc(), FILE).expect(&rt, "users");
     for (name, home, rights, budget) in [
         (
             b"ann".as_slice(),
@@ -69,7 +69,6 @@ fn a_user_has_the_home_of_its_line(rt: HostRuntime) -> Result<(), Fail> {
     ] {
         assert!(rt; has_user(&users, name, home, rights, budget), "{home}");
     }
-    Ok(())
 }
 
 fn bad_line(alloc: Global, text: &[u8]) -> u64 {
@@ -80,7 +79,7 @@ fn bad_line(alloc: Global, text: &[u8]) -> u64 {
 }
 
 #[test]
-fn the_first_bad_line_is_named(rt: HostRuntime) -> Result<(), Fail> {
+fn the_first_bad_line_is_named(rt: HostRuntime) {
     for (text, due) in [
         // Good files, and notes.
         (b"".as_slice(), 0),
@@ -122,11 +121,10 @@ fn the_first_bad_line_is_named(rt: HostRuntime) -> Result<(), Fail> {
     ] {
         assert_eq!(rt; bad_line(rt.alloc(), text), due);
     }
-    Ok(())
 }
 
 #[test]
-fn the_line_of_a_bad_hash_is_named(rt: HostRuntime) -> Result<(), Fail> {
+fn the_line_of_a_bad_hash_is_named(rt: HostRuntime) {
     for (text, due) in [
         (
             b"#\nann:$pbkdf2-sha256$1$00$120fb6cffcf8b32c43e7225256c4f837a86548c92ccc35480805987cb70be17b:ro:/".as_slice(),
@@ -159,5 +157,4 @@ fn the_line_of_a_bad_hash_is_named(rt: HostRuntime) -> Result<(), Fail> {
     ] {
         assert_eq!(rt; bad_line(rt.alloc(), text), due);
     }
-    Ok(())
 }
