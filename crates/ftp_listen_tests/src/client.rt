@@ -6,6 +6,8 @@ use std::net::{Net, SocketAddr, TcpStream};
 use std::time::{Clock, Duration};
 use std::{io, thread};
 
+pub const GREETING: &str = "220 Welcome to the libunftp FTP server\r\n";
+
 /// How long it waits for a line, in milliseconds.
 const PATIENCE: u64 = 20_000;
 
@@ -22,8 +24,10 @@ pub enum Met {
     Other(Vec<u8>),
     /// A count was another than was due.
     OtherCount,
-    /// A reply came before its time, or something did not come to be in time.
-    NotInTime,
+    /// A reply came before its time.
+    TooEarly,
+    /// No client is there, or no data connection of it.
+    Nobody,
     OutOfMemory,
 }
 
@@ -39,11 +43,12 @@ impl From<AllocError> for Met {
     }
 }
 
-/// One end of a control connection.
+/// One end of a control connection, and of a data connection where there is one.
 #[derive(Drop)]
 pub struct Client {
     alloc: Global,
     stream: TcpStream,
+    data: Option<TcpStream>,
 }
 
 /// A connection to a door that may not be open yet.
@@ -58,34 +63,48 @@ fn connected<R: Net<Stream = TcpStream> + Clock>(rt: &R, to: SocketAddr) -> io::
     Err(io::Error::from(ErrorKind::ConnectionRefused))
 }
 
+/// The same, on which this is sent ahead.
+fn connected_behind<R: Net<Stream = TcpStream> + Clock>(
+    rt: &R,
+    to: SocketAddr,
+    header: &[u8],
+) -> io::Result<TcpStream> {
+    let mut stream = connected(rt, to)?;
+    stream.write_all(header)?;
+    Ok(stream)
+}
+
 impl Client {
-    /// Connects, sends what stands before the first line, and is greeted.
-    pub fn greeted<R: Net<Stream = TcpStream> + Clock>(
+    /// Connects, sends what stands before the first line, and is told this line first.
+    pub fn told<R: Net<Stream = TcpStream> + Clock>(
         rt: &R,
         alloc: Global,
         door: SocketAddr,
-        header: &str,
+        header: &[u8],
+        line: &str,
     ) -> Result<Client, Met> {
-        Client::greeted_behind(rt, alloc, door, header.as_bytes())
+        let mut client = Client {
+            alloc,
+            stream: connected_behind(rt, door, header)?,
+            data: None,
+        };
+        client.hear(line)?;
+        Ok(client)
     }
 
-    /// The same, where it is no text that stands before the first line.
-    pub fn greeted_behind<R: Net<Stream = TcpStream> + Clock>(
+    /// Connects, sends what stands before the first line, is greeted, and logs in.
+    pub fn entered<R: Net<Stream = TcpStream> + Clock>(
         rt: &R,
         alloc: Global,
         door: SocketAddr,
         header: &[u8],
     ) -> Result<Client, Met> {
-        first_line(
-            rt,
-            alloc,
-            door,
-            header,
-            "220 Welcome to the libunftp FTP server\r\n",
-        )
+        let mut client = Client::told(rt, alloc, door, header, GREETING)?;
+        client.log_in()?;
+        Ok(client)
     }
 
-    /// Waits for a line, with its end, which has to be this one.
+    /// Waits for a line, with its end, or for the end, where nothing is due; it has to be this one.
     pub fn hear(&mut self, line: &str) -> Result<(), Met> {
         let mut heard = Vec::new(self.alloc);
         let mut byte = [0u8; 1];
@@ -107,24 +126,32 @@ impl Client {
         }
     }
 
-    /// Waits for the end, before which nothing may come.
-    pub fn hear_end(&mut self) -> Result<(), Met> {
-        self.hear("")
-    }
-
     /// Sends a line, and waits for its reply, both with their ends.
     pub fn ask(&mut self, line: &str, reply: &str) -> Result<(), Met> {
         self.stream.write_all(line.as_bytes())?;
         self.hear(reply)
     }
 
-    /// Closes the connection with a reply that it has not read, which resets it.
-    pub fn vanish(self) -> Result<(), Met> {
-        let Client { alloc: _, stream } = self;
-        let mut stream = stream;
-        stream.write_all(b"NOOP\r\n")?;
-        // The reply has come, and is left where it is.
-        stream.peek(&mut [0; 1])?;
+    /// The same, where the reply may not come before so many milliseconds have gone by.
+    pub fn ask_slow<C: Clock>(
+        &mut self,
+        clock: &C,
+        line: &str,
+        reply: &str,
+        least: u128,
+    ) -> Result<(), Met> {
+        let begun = clock.monotonic()?.as_millis();
+        self.ask(line, reply)?;
+        if clock.monotonic()?.as_millis().saturating_sub(begun) < least {
+            return Err(Met::TooEarly);
+        }
+        Ok(())
+    }
+
+    /// Sends a line, and leaves the reply where it has come.
+    pub fn ask_in_vain(&mut self, line: &str) -> Result<(), Met> {
+        self.stream.write_all(line.as_bytes())?;
+        self.stream.peek(&mut [0; 1])?;
         Ok(())
     }
 
@@ -133,53 +160,38 @@ impl Client {
         self.ask("USER ann\r\n", "331 Password Required\r\n")?;
         self.ask("PASS x\r\n", "230 User logged in, proceed\r\n")
     }
-}
 
-/// Connects, sends what stands before the first line, and is told this line first.
-pub fn first_line<R: Net<Stream = TcpStream> + Clock>(
-    rt: &R,
-    alloc: Global,
-    door: SocketAddr,
-    header: &[u8],
-    line: &str,
-) -> Result<Client, Met> {
-    let mut client = Client {
-        alloc,
-        stream: connected(rt, door)?,
-    };
-    client.stream.write_all(header)?;
-    client.hear(line)?;
-    Ok(client)
-}
-
-/// A data connection, on which this is sent first.
-pub fn data_connection<R: Net<Stream = TcpStream> + Clock>(
-    rt: &R,
-    to: SocketAddr,
-    header: &str,
-) -> Result<TcpStream, Met> {
-    data_connection_behind(rt, to, header.as_bytes())
-}
-
-/// The same, where it is no text that is sent first.
-pub fn data_connection_behind<R: Net<Stream = TcpStream> + Clock>(
-    rt: &R,
-    to: SocketAddr,
-    header: &[u8],
-) -> Result<TcpStream, Met> {
-    let mut stream = connected(rt, to)?;
-    stream.write_all(header)?;
-    Ok(stream)
-}
-
-/// Reads a data connection to its end, which has to give these bytes.
-pub fn fetch(alloc: Global, stream: TcpStream, file: &[u8]) -> Result<(), Met> {
-    let mut stream = stream;
-    let mut fetched = Vec::new(alloc);
-    stream.read_to_end(&mut fetched)?;
-    if fetched.as_slice() == file {
+    /// Makes a data connection, on which this is sent ahead.
+    pub fn connect<R: Net<Stream = TcpStream> + Clock>(
+        &mut self,
+        rt: &R,
+        to: SocketAddr,
+        header: &[u8],
+    ) -> Result<(), Met> {
+        self.data = Some(connected_behind(rt, to, header)?);
         Ok(())
-    } else {
-        Err(Met::Other(fetched))
+    }
+
+    /// Sends these bytes on the data connection, and closes it.
+    pub fn send(&mut self, bytes: &[u8]) -> Result<(), Met> {
+        let mut data = self.take_data()?;
+        data.write_all(bytes)?;
+        Ok(())
+    }
+
+    /// Reads the data connection to its end, which has to give these bytes.
+    pub fn fetch(&mut self, file: &[u8]) -> Result<(), Met> {
+        let mut data = self.take_data()?;
+        let mut fetched = Vec::new(self.alloc);
+        data.read_to_end(&mut fetched)?;
+        if fetched.as_slice() == file {
+            Ok(())
+        } else {
+            Err(Met::Other(fetched))
+        }
+    }
+
+    fn take_data(&mut self) -> Result<TcpStream, Met> {
+        self.data.take().ok_or(Met::Nobody)
     }
 }

@@ -27,8 +27,8 @@ pub struct Board {
     pub strange_polls: AtomicU64,
     /// The indicator asks for a shutdown.
     pub asks: AtomicBool,
-    /// A transfer has come to the gate, and the gate is open.
-    pub has_come: AtomicBool,
+    /// How many transfers have come to the gate, and whether it is open.
+    pub arrivals: AtomicU64,
     pub is_open: AtomicBool,
     /// What listeners were told: logins, ends of sessions, downloads, uploads and all else.
     pub logins: AtomicU64,
@@ -42,6 +42,41 @@ pub struct Board {
 
 pub type SharedBoard = Arc<Board, Global>;
 
+/// What is counted on a board.
+#[derive(Clone, Copy, Debug, PartialEq, Eq)]
+pub enum Sign {
+    Polls,
+    Arrivals,
+    Logins,
+    Logouts,
+    Gots,
+    Puts,
+}
+
+impl Board {
+    pub fn count(&self, sign: Sign) -> &AtomicU64 {
+        match sign {
+            Sign::Polls => &self.polls,
+            Sign::Arrivals => &self.arrivals,
+            Sign::Logins => &self.logins,
+            Sign::Logouts => &self.logouts,
+            Sign::Gots => &self.gots,
+            Sign::Puts => &self.puts,
+        }
+    }
+
+    /// The front's clock goes forward by so many milliseconds, and polls are counted anew.
+    pub fn go_forward(&self, millis: u64) {
+        self.leap.store(millis, Ordering::SeqCst);
+        self.polls.store(0, Ordering::SeqCst);
+    }
+
+    /// Says whether the indicator was asked, and each time with the moment that the front gave last.
+    pub fn polls_agree(&self) -> bool {
+        self.polls.load(Ordering::SeqCst) > 0 && self.strange_polls.load(Ordering::SeqCst) == 0
+    }
+}
+
 /// A board on which nothing stands yet.
 pub fn new_board(alloc: Global) -> Result<SharedBoard, AllocError> {
     let board = Board {
@@ -50,7 +85,7 @@ pub fn new_board(alloc: Global) -> Result<SharedBoard, AllocError> {
         polls: AtomicU64::new(0),
         strange_polls: AtomicU64::new(0),
         asks: AtomicBool::new(false),
-        has_come: AtomicBool::new(false),
+        arrivals: AtomicU64::new(0),
         is_open: AtomicBool::new(false),
         logins: AtomicU64::new(0),
         logouts: AtomicU64::new(0),
@@ -153,33 +188,6 @@ impl<F: Front + Drop> Front for Watched<F> {
     }
 }
 
-/// A front whose doors stay shut.
-#[derive(Drop)]
-pub struct Shut {
-    pub faults: u64,
-    pub latest: u64,
-}
-
-impl Front for Shut {
-    ghost faults = { λ s. s.faults };
-
-    ghost latest = { λ s. s.latest };
-
-    fn open_doors(
-        &mut self,
-        _at: SocketAddr,
-        _ports: Option<(u16, u16)>,
-    ) -> Result<Option<Doors>, AllocError> {
-        self.faults = self.faults.saturating_add(1);
-        Ok(None)
-    }
-
-    fn now(&mut self) -> u64 {
-        self.latest = self.latest.saturating_add(1);
-        self.latest
-    }
-}
-
 /// Asks for a shutdown from when the board says so, and looks at the moments that it is given.
 #[derive(Drop)]
 pub struct Asks {
@@ -219,7 +227,7 @@ pub struct Held<C: Clock + Drop> {
 
 impl<C: Clock + Drop> Gate for Held<C> {
     fn pass(&self, _call: u64) {
-        self.board.has_come.store(true, Ordering::SeqCst);
+        self.board.arrivals.fetch_add(1, Ordering::SeqCst);
         for _ in 0..u64::MAX {
             if self.board.is_open.load(Ordering::SeqCst) {
                 return;
@@ -232,22 +240,21 @@ impl<C: Clock + Drop> Gate for Held<C> {
 /// How many turns the first transfer waits for the second.
 const TURNS: u32 = 1_000_000;
 
-/// Holds the first transfer back until the second has come, and says whether the first came and did not wait in vain.
+/// Holds the first transfer back until the second has come, and opens the gate on the board where the first did not wait in vain.
 #[derive(Drop)]
 pub struct InPairs {
-    pub second_has_come: AtomicBool,
-    pub have_met: Arc<AtomicBool, Global>,
+    pub board: SharedBoard,
 }
 
 impl Gate for InPairs {
     fn pass(&self, call: u64) {
         if call != 1 {
-            self.second_has_come.store(true, Ordering::SeqCst);
+            self.board.arrivals.fetch_add(1, Ordering::SeqCst);
             return;
         }
         for _ in 0..TURNS {
-            if self.second_has_come.load(Ordering::SeqCst) {
-                self.have_met.store(true, Ordering::SeqCst);
+            if self.board.arrivals.load(Ordering::SeqCst) > 0 {
+                self.board.is_open.store(true, Ordering::SeqCst);
                 return;
             }
             thread::yield_now();

@@ -6,55 +6,43 @@ use ftp_base::{Bytes, ErrorKind, FileInfo, MemoryStorage, Meta, Storage, StoreEr
 #[derive(Drop)]
 pub struct AnnsFiles {
     files: MemoryStorage,
-    features: u32,
-    faults: u64,
 }
 
 impl AnnsFiles {
     pub fn new(files: MemoryStorage) -> AnnsFiles {
-        let features = files.features();
-        AnnsFiles {
-            files,
-            features,
-            faults: 0,
-        }
+        AnnsFiles { files }
     }
 }
 
 impl Storage for AnnsFiles {
     ghost use Rattle.std.specs.Prelude.{None, true};
+    ghost use Rattle.ftp_base.specs.MemoryStorage.{storage_faults, storage_limit};
 
-    ghost abilities = { λ s. s.features };
+    ghost abilities = { λ _. 1 };
 
     ghost files = { λ _. None };
 
     ghost rule = { λ _ _ _ _. None };
 
-    ghost faults = { λ s. s.faults };
+    ghost faults = { λ s. storage_faults s.files };
+
+    ghost fault_limit = { λ s. storage_limit s.files };
 
     ghost reads_take_memory = { true };
 
     fn features(&self) -> u32 {
-        self.features
+        self.files.features()
     }
 
     fn metadata(&mut self, user: &Bytes, path: &Bytes) -> Result<Meta, StoreError> {
         if user.as_slice() != b"ann".as_slice() {
             return Err(StoreError::Kind(ErrorKind::PermissionDenied));
         }
-        let found = self.files.metadata(user, path);
-        if let Err(StoreError::Failed) = &found {
-            self.faults = self.faults.saturating_add(1);
-        }
-        found
+        self.files.metadata(user, path)
     }
 
     fn list(&mut self, user: &Bytes, path: &Bytes) -> Result<Vec<FileInfo>, StoreError> {
-        let found = self.files.list(user, path);
-        if let Err(StoreError::Failed) = &found {
-            self.faults = self.faults.saturating_add(1);
-        }
-        found
+        self.files.list(user, path)
     }
 
     fn read_at(
@@ -64,34 +52,18 @@ impl Storage for AnnsFiles {
         at: u64,
         out: &mut [u8],
     ) -> Result<usize, StoreError> {
-        let read = self.files.read_at(user, path, at, out);
-        if let Err(StoreError::Failed) = &read {
-            self.faults = self.faults.saturating_add(1);
-        }
-        read
+        self.files.read_at(user, path, at, out)
     }
 
     fn begin(&mut self, user: &Bytes, path: &Bytes, start: u64) -> Result<(), StoreError> {
-        let begun = self.files.begin(user, path, start);
-        if let Err(StoreError::Failed) = &begun {
-            self.faults = self.faults.saturating_add(1);
-        }
-        begun
+        self.files.begin(user, path, start)
     }
 
     fn append(&mut self, user: &Bytes, path: &Bytes, bytes: &[u8]) -> Result<(), StoreError> {
-        let grown = self.files.append(user, path, bytes);
-        if let Err(StoreError::Failed) = &grown {
-            self.faults = self.faults.saturating_add(1);
-        }
-        grown
+        self.files.append(user, path, bytes)
     }
 
     fn settle(&mut self, user: &Bytes, path: &Bytes) -> Result<(), StoreError> {
-        let settled = self.files.settle(user, path);
-        if let Err(StoreError::Failed) = &settled {
-            self.faults = self.faults.saturating_add(1);
-        }
-        settled
+        self.files.settle(user, path)
     }
 }

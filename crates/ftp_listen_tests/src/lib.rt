@@ -1,11 +1,9 @@
 //! Tests of a server that listens, over loopback: each mode from its first reply to its last, and why it ends.
 //!
 //! They stand here and not beside the code, since a crate with tests is proved twice.
-//! Begin with `sessions`.
+//! Begin with `visits`.
 #![tactic(auto)]
 
-#[cfg(test)]
-mod aborts;
 #[cfg(test)]
 mod client;
 #[cfg(test)]
@@ -17,17 +15,11 @@ mod endings;
 #[cfg(test)]
 mod files;
 #[cfg(test)]
-mod limits;
-#[cfg(test)]
-mod listeners;
-#[cfg(test)]
 mod logins;
 #[cfg(test)]
 mod pairs;
 #[cfg(test)]
 mod place;
-#[cfg(test)]
-mod proxy2;
 #[cfg(test)]
 mod refusals;
 #[cfg(test)]
@@ -35,6 +27,6 @@ mod sessions;
 #[cfg(test)]
 mod setting;
 #[cfg(test)]
-mod strangers;
+mod steps;
 #[cfg(test)]
-mod uploads;
+mod visits;

@@ -3,7 +3,7 @@
 use crate::client::Met;
 use crate::doubles::new_board;
 use crate::place::Place;
-use crate::setting::{Stopped, listen, listen_behind_proxy, listen_pooled, serve};
+use crate::setting::{Door, Setting, Stopped};
 use ftp_options::{ListenerMode, ServerError};
 use ftp_system::ServerRuntime;
 use std::alloc::Global;
@@ -17,16 +17,20 @@ fn an_address_in_use_is_a_fault(rt: HostRuntime) -> Result<(), Fail> {
     let types: Option<(TcpListener, TcpStream)> = None;
     drop(types);
     let alloc = rt.alloc();
-    let place = Place::drawn(&rt)?;
+    let place = Place::drawn(&rt, ListenerMode::Legacy)?;
     let text = place.text(alloc)?;
     let owner = TcpListener::bind(&rt, place.door())?;
     let board = new_board(alloc)?;
-    let legacy = listen(&rt, alloc, &board, ListenerMode::Legacy, text.as_str())?;
-    assert_eq!(rt; legacy, Err(ServerError::Io));
-    let pooled = listen_pooled(&rt, alloc, &board, text.as_str())?;
-    assert_eq!(rt; pooled, Err(ServerError::Io));
-    let proxy = listen_behind_proxy(&rt, alloc, &board, 21, text.as_str())?;
-    assert_eq!(rt; proxy, Err(ServerError::Io));
+    let legacy = Setting::new(alloc, &board, ListenerMode::Legacy);
+    let ended = legacy.serve(&rt, Door::At(text.as_str()))?;
+    assert_eq!(rt; ended, Err(ServerError::Io));
+    for mode in [
+        ListenerMode::Pooled,
+        ListenerMode::Proxy { control_port: 21 },
+    ] {
+        let ended = Setting::new(alloc, &board, mode).serve_prebound(&rt, text.as_str())?;
+        assert_eq!(rt; ended, Err(ServerError::Io));
+    }
     drop(owner);
     Ok(())
 }
@@ -50,17 +54,19 @@ fn what_is_no_address_is_told(rt: HostRuntime) -> Result<(), Fail> {
     ];
     let board = new_board(rt.alloc())?;
     for text in texts {
-        let ended = listen(&rt, rt.alloc(), &board, ListenerMode::Legacy, text)?;
+        let legacy = Setting::new(rt.alloc(), &board, ListenerMode::Legacy);
+        let ended = legacy.serve(&rt, Door::At(text))?;
         assert_eq!(rt; ended, Err(ServerError::Address), "at {text}");
     }
-    let ended = listen_pooled(&rt, rt.alloc(), &board, "[::1]:2121")?;
+    let pooled = Setting::new(rt.alloc(), &board, ListenerMode::Pooled);
+    let ended = pooled.serve_prebound(&rt, "[::1]:2121")?;
     assert_eq!(rt; ended, Err(ServerError::Ipv6OutsideLegacy));
     Ok(())
 }
 
 /// The two ends of a connection, of which the first sends nothing more.
 fn ended_stream<R: ServerRuntime>(rt: &R) -> io::Result<(TcpStream, TcpStream)> {
-    let listener = TcpListener::bind(rt, Place::drawn(rt)?.door())?;
+    let listener = TcpListener::bind(rt, Place::drawn(rt, ListenerMode::Pooled)?.door())?;
     let client = TcpStream::connect(rt, listener.local_addr()?)?;
     client.shutdown(Shutdown::Write)?;
     let (stream, _) = listener.accept()?;
@@ -73,7 +79,8 @@ fn serve_ended<R: ServerRuntime>(rt: &R, alloc: Global) -> Result<Vec<u8>, Stopp
         return Err(Stopped::NoPlace);
     };
     let board = new_board(alloc)?;
-    if let Err(error) = serve(rt, alloc, &board, stream)? {
+    let pooled = Setting::new(alloc, &board, ListenerMode::Pooled);
+    if let Err(error) = pooled.serve(rt, Door::Within(stream))? {
         return Err(Stopped::Server(error));
     }
     let mut client = client;

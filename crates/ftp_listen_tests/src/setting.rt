@@ -1,22 +1,21 @@
 //! What several tests serve, and how a client and its server meet.
 
 use crate::client::Met;
-use crate::doubles::{Asks, Board, CountedDepot, Counting, OnlyAnn, SharedBoard, Watched};
+use crate::doubles::{Asks, CountedDepot, Counting, OnlyAnn, SharedBoard, Watched, new_board};
 use crate::files::AnnsFiles;
 use crate::place::{PASSIVE, Place};
+use crate::steps::{Phase, pay};
 use ftp_base::{Bytes, Gate, MemoryStorage};
 use ftp_listen::{Parts, PreboundListener, Server};
 use ftp_options::{
     FailedLoginsBlock, FailedLoginsPolicy, Indicator, ListenerMode, Options, ServerBuilder,
     ServerError, Shutdown,
 };
-use ftp_system::{Front, ServerRuntime, SharedDepot, SystemThreads};
+use ftp_system::{OpenGate, ServerRuntime, SharedDepot, SystemFront, SystemThreads};
 use std::alloc::{AllocError, Global};
-use std::net::{Net, TcpStream};
+use std::net::TcpStream;
 use std::sync::Arc;
-use std::sync::atomic::Ordering;
 use std::thread;
-use std::time::Clock;
 
 /// What the files hold: `/a.txt` and `/b.txt`; `/big` has so many bytes.
 pub const FILE: &[u8] = b"hello";
@@ -77,17 +76,6 @@ fn storage(alloc: Global) -> Result<AnnsFiles, Stopped> {
     Ok(AnnsFiles::new(files))
 }
 
-/// What both said where both came to their ends.
-pub fn agreed(met: Result<(), Met>, ended: Result<(), ServerError>) -> Result<(), Stopped> {
-    if let Err(met) = met {
-        return Err(Stopped::Client(met));
-    }
-    match ended {
-        Ok(()) => Ok(()),
-        Err(error) => Err(Stopped::Server(error)),
-    }
-}
-
 /// Ann may log in, the board counts what is told and says when to shut down, and there are three files of hers.
 macro_rules! parts {
     ($alloc:expr, $board:expr) => {
@@ -125,172 +113,185 @@ macro_rules! parts {
 /// How a server ended, where it was set up.
 pub type Ended = Result<Result<(), ServerError>, Stopped>;
 
-/// Listens at the text in this mode.
-pub fn listen<R: ServerRuntime>(
-    rt: &R,
-    alloc: Global,
-    board: &SharedBoard,
-    mode: ListenerMode,
-    text: &str,
-) -> Ended {
-    let server = Server::with_options(alloc, options(alloc, mode)?, parts!(alloc, board));
-    Ok(server.listen(rt, text.as_bytes()))
+/// Where a server meets its clients.
+#[derive(Drop)]
+pub enum Door<'a> {
+    /// It listens at a text.
+    At(&'a str),
+    /// A connection that was taken in.
+    Within(TcpStream),
 }
 
-/// Listens at the text in this mode, with at most so many sessions of one client, and a checkpoint after each third entry.
-pub fn listen_to_few<R: ServerRuntime>(
-    rt: &R,
-    alloc: Global,
-    board: &SharedBoard,
-    mode: ListenerMode,
-    text: &str,
-    most: u64,
-) -> Ended {
-    let mut server = Server::with_options(alloc, options(alloc, mode)?, parts!(alloc, board));
-    server.most_sessions_of_one(most);
-    server.checkpoint_every(3);
-    Ok(server.listen(rt, text.as_bytes()))
+/// What is served: a mode, and a board that is watched.
+#[derive(Clone, Copy)]
+pub struct Setting<'a> {
+    pub alloc: Global,
+    pub board: &'a SharedBoard,
+    pub mode: ListenerMode,
+    /// At most so many sessions of one client, and then with a checkpoint after each third entry.
+    pub most: Option<u64>,
 }
 
-/// Listens at the text in this mode, over a depot that counts the storages that it gives, and with a checkpoint after each entry.
-pub fn listen_over<R: ServerRuntime>(
-    rt: &R,
-    alloc: Global,
-    board: &SharedBoard,
-    mode: ListenerMode,
-    text: &str,
-) -> Ended {
-    let depot = CountedDepot {
-        files: SharedDepot::new(*rt, alloc, storage(alloc)?)?,
-        board: Arc::try_clone(board)?,
-    };
-    let mut server = Server::over(alloc, options(alloc, mode)?, parts!(alloc, board, depot));
-    server.checkpoint_every(1);
-    Ok(server.listen_over(rt, text.as_bytes()))
-}
+impl<'a> Setting<'a> {
+    pub fn new(alloc: Global, board: &'a SharedBoard, mode: ListenerMode) -> Setting<'a> {
+        Setting {
+            alloc,
+            board,
+            mode,
+            most: None,
+        }
+    }
 
-/// What a client does at a server.
-pub trait Visit {
-    fn pay<R: Net<Stream = TcpStream> + Clock>(
+    pub fn serve<R: ServerRuntime>(&self, rt: &R, door: Door<'_>) -> Ended {
+        let alloc = self.alloc;
+        let options = options(alloc, self.mode)?;
+        let mut server = Server::with_options(alloc, options, parts!(alloc, self.board));
+        if let Some(most) = self.most {
+            server.most_sessions_of_one(most);
+            server.checkpoint_every(3);
+        }
+        match door {
+            Door::At(text) => Ok(server.listen(rt, text.as_bytes())),
+            Door::Within(stream) => Ok(server.service(rt, stream)),
+        }
+    }
+
+    /// Serves as a server whose sessions share the ports.
+    pub fn serve_prebound<R: ServerRuntime>(&self, rt: &R, text: &str) -> Ended {
+        let alloc = self.alloc;
+        let options = options(alloc, self.mode)?;
+        let (is_pooled, is_proxy) = (options.mode.is_pooled(), options.mode.is_proxy());
+        let server = PreboundListener::with_options(alloc, options, parts!(alloc, self.board));
+        if is_pooled {
+            Ok(server.listen_pooled(rt, text.as_bytes()))
+        } else if is_proxy {
+            Ok(server.listen_proxy_protocol(rt, text.as_bytes()))
+        } else {
+            Err(Stopped::NotSet)
+        }
+    }
+
+    /// Serves over a depot that counts the storages that it gives, with a checkpoint after each entry.
+    fn serve_over<R: ServerRuntime>(&self, rt: &R, text: &str) -> Ended {
+        let alloc = self.alloc;
+        let depot = CountedDepot {
+            files: SharedDepot::new(*rt, alloc, storage(alloc)?)?,
+            board: Arc::try_clone(self.board)?,
+        };
+        let options = options(alloc, self.mode)?;
+        let mut server = Server::over(alloc, options, parts!(alloc, self.board, depot));
+        server.checkpoint_every(1);
+        Ok(server.listen_over(rt, text.as_bytes()))
+    }
+
+    /// Serves with this gate, and with an indicator that looks at the moments that it is given.
+    fn serve_watched<R: ServerRuntime, G: Gate + Send + Sync + Drop + 'static>(
         &self,
         rt: &R,
-        alloc: Global,
-        place: Place,
-        board: &Board,
-    ) -> Result<(), Met>;
+        text: &str,
+        gate: G,
+        shutdown: Shutdown,
+    ) -> Ended {
+        let alloc = self.alloc;
+        let options = options(alloc, self.mode)?;
+        let server = Server::with_options(alloc, options, parts!(alloc, self.board));
+        let mut front = Watched {
+            front: SystemFront::new(*rt, alloc),
+            board: Arc::try_clone(self.board)?,
+            latest: 0,
+        };
+        let asks = Asks {
+            board: Arc::try_clone(self.board)?,
+            shutdown,
+            asked: None,
+        };
+        let (Ok(gate), Ok(asks)) = (Arc::new(alloc, gate), Box::new(alloc, asks)) else {
+            return Err(Stopped::OutOfMemory);
+        };
+        let mut indicator: Box<dyn Indicator + Drop> = asks;
+        let mut threads = SystemThreads::new();
+        Ok(server.listen_with(
+            rt,
+            text.as_bytes(),
+            gate,
+            &mut threads,
+            &mut front,
+            &mut indicator,
+        ))
+    }
 }
 
-/// Serves a visit in this mode with at most so many sessions of one client, and shuts down then.
-pub fn served<R: ServerRuntime, V: Visit + Sync>(
+/// What both said where both came to their ends.
+fn agreed(met: Result<(), Met>, ended: Result<(), ServerError>) -> Result<(), Stopped> {
+    if let Err(met) = met {
+        return Err(Stopped::Client(met));
+    }
+    match ended {
+        Ok(()) => Ok(()),
+        Err(error) => Err(Stopped::Server(error)),
+    }
+}
+
+/// Which server is visited.
+#[derive(Drop)]
+pub enum Host<G: Gate + Drop> {
+    Plain,
+    Prebound,
+    OverDepot,
+    /// It is watched, and has this gate and this shutdown.
+    Watched(G, Shutdown),
+}
+
+/// Listens as this server.
+fn serve_as<R: ServerRuntime, G: Gate + Send + Sync + Drop + 'static>(
     rt: &R,
-    alloc: Global,
-    board: &SharedBoard,
-    mode: ListenerMode,
-    most: u64,
-    visit: &V,
+    setting: &Setting<'_>,
+    host: Host<G>,
+    text: &str,
+) -> Ended {
+    match host {
+        Host::Plain => setting.serve(rt, Door::At(text)),
+        Host::Prebound => setting.serve_prebound(rt, text),
+        Host::OverDepot => setting.serve_over(rt, text),
+        Host::Watched(gate, shutdown) => setting.serve_watched(rt, text, gate, shutdown),
+    }
+}
+
+/// Pays a visit to this server.
+pub fn visited<R: ServerRuntime, G: Gate + Send + Sync + Drop + 'static>(
+    rt: &R,
+    setting: &Setting<'_>,
+    host: Host<G>,
+    visit: &[Phase<'_>],
 ) -> Result<(), Stopped> {
-    let place = Place::drawn(rt).ok().ok_or(Stopped::NoPlace)?;
+    let Setting {
+        alloc,
+        board,
+        mode,
+        most: _,
+    } = *setting;
+    let place = Place::drawn(rt, mode).ok().ok_or(Stopped::NoPlace)?;
     let text = place.text(alloc)?;
+    let text = text.as_str();
     let (met, ended) = thread::join(
         rt,
-        || paid(rt, alloc, place, board, visit),
-        || listen_to_few(rt, alloc, board, mode, text.as_str(), most),
+        || pay(rt, alloc, place, board, visit),
+        move || serve_as(rt, setting, host, text),
     );
     agreed(met, ended?)
 }
 
-/// The visit, after which the server is asked to shut down.
-pub fn paid<R: Net<Stream = TcpStream> + Clock, V: Visit>(
+/// Pays a visit to a server of this mode, on a board of its own.
+pub fn served<R: ServerRuntime>(
     rt: &R,
     alloc: Global,
-    place: Place,
-    board: &Board,
-    visit: &V,
-) -> Result<(), Met> {
-    let met = visit.pay(rt, alloc, place, board);
-    board.asks.store(true, Ordering::SeqCst);
-    met
-}
-
-/// Listens at the text with all ports bound before.
-pub fn listen_pooled<R: ServerRuntime>(
-    rt: &R,
-    alloc: Global,
-    board: &SharedBoard,
-    text: &str,
-) -> Ended {
-    let options = options(alloc, ListenerMode::Pooled)?;
-    if !options.mode.is_pooled() {
-        return Err(Stopped::NotSet);
-    }
-    let server = PreboundListener::with_options(alloc, options, parts!(alloc, board));
-    Ok(server.listen_pooled(rt, text.as_bytes()))
-}
-
-/// Listens at the text behind a proxy whose clients call this control port.
-pub fn listen_behind_proxy<R: ServerRuntime>(
-    rt: &R,
-    alloc: Global,
-    board: &SharedBoard,
-    control_port: u16,
-    text: &str,
-) -> Ended {
-    let options = options(alloc, ListenerMode::Proxy { control_port })?;
-    if !options.mode.is_proxy() {
-        return Err(Stopped::NotSet);
-    }
-    let server = PreboundListener::with_options(alloc, options, parts!(alloc, board));
-    Ok(server.listen_proxy_protocol(rt, text.as_bytes()))
-}
-
-/// Serves one connection to its end.
-pub fn serve<R: ServerRuntime>(
-    rt: &R,
-    alloc: Global,
-    board: &SharedBoard,
-    stream: TcpStream,
-) -> Ended {
-    let server = Server::with_options(
-        alloc,
-        options(alloc, ListenerMode::Pooled)?,
-        parts!(alloc, board),
-    );
-    Ok(server.service(rt, stream))
-}
-
-/// Listens in this mode with this front and this gate, and with an indicator that looks at the moments it is given.
-pub fn listen_watched<R: ServerRuntime, F: Front + Drop, G: Gate + Send + Sync + Drop + 'static>(
-    rt: &R,
-    alloc: Global,
-    board: &SharedBoard,
     mode: ListenerMode,
-    text: &str,
-    front: F,
-    gate: G,
-    shutdown: Shutdown,
-) -> Ended {
-    let server = Server::with_options(alloc, options(alloc, mode)?, parts!(alloc, board));
-    let mut front = Watched {
-        front,
-        board: Arc::try_clone(board)?,
-        latest: 0,
-    };
-    let asks = Asks {
-        board: Arc::try_clone(board)?,
-        shutdown,
-        asked: None,
-    };
-    let (Ok(gate), Ok(asks)) = (Arc::new(alloc, gate), Box::new(alloc, asks)) else {
-        return Err(Stopped::OutOfMemory);
-    };
-    let mut indicator: Box<dyn Indicator + Drop> = asks;
-    let mut threads = SystemThreads::new();
-    Ok(server.listen_with(
-        rt,
-        text.as_bytes(),
-        gate,
-        &mut threads,
-        &mut front,
-        &mut indicator,
-    ))
+    most: Option<u64>,
+    host: Host<OpenGate>,
+    visit: &[Phase<'_>],
+) -> Result<(), Stopped> {
+    let board = new_board(alloc)?;
+    let mut setting = Setting::new(alloc, &board, mode);
+    setting.most = most;
+    visited(rt, &setting, host, visit)
 }
