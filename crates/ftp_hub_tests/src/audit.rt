@@ -1,92 +1,61 @@
-//! An upload, more appended, a download, and a stranger's going.
+//! What a user moved, in stretches of a log, and who moved most.
 
+use crate::values::{log_of, pooled};
 use ftp_audit::{Audit, Total, audited};
-use ftp_base::{Bytes, DataEvent, EventMeta, Notice, PresenceEvent, TraceId};
-use ftp_events::{Action, Actions, Answer, Decision, Entry, EventKind, HubEvent, Log};
-use std::alloc::{AllocError, Global};
-use std::test::Fail;
+use ftp_base::Bytes;
+use std::alloc::Global;
+use std::process::Abort;
 
-/// An entry that notifies of the user alone.
-fn entry(alloc: Global, user: &[u8], what: Notice) -> Result<Entry, AllocError> {
-    let mut actions = Vec::new(alloc);
-    actions.push(Action::Notify {
-        session: 1,
-        meta: EventMeta {
-            username: Bytes::from_slice(alloc, user)?,
-            trace_id: TraceId(1),
-            sequence_number: 1,
-        },
-        what,
-    })?;
-    Ok(Entry {
-        event: HubEvent {
-            at: 1,
-            kind: EventKind::Sweep,
-        },
-        answer: Answer::None,
-        decision: Decision::Swept,
-        actions: Actions::from_vec(actions),
-    })
-}
+/// Two logins, a download of one of them, and an empty upload of the same.
+const MOVES: [&[u8]; 16] = [
+    b"0 connect 1 10.0.0.1:4000 10.0.0.9:21 1",
+    b"0 user 1 abe",
+    b"0 pass 1",
+    b"0 auth 1 good",
+    b"0 connect 2 10.0.0.1:4000 10.0.0.9:21 2",
+    b"0 user 2 ann",
+    b"0 pass 2",
+    b"0 auth 2 good",
+    b"0 pasv 2 0 - -",
+    b"0 retr 2 a",
+    b"0 data 11 10.0.0.1:4001 50000",
+    b"0 end 2.1",
+    b"0 pasv 2 0 - -",
+    b"0 stor 2 b",
+    b"0 data 12 10.0.0.1:4001 50000",
+    b"0 end 2.2",
+];
 
-fn put(alloc: Global, bytes: u64) -> Result<Notice, AllocError> {
-    let path = Bytes::from_slice(alloc, b"/a.txt")?;
-    Ok(Notice::Data(DataEvent::Put { path, bytes }))
-}
-
-fn got(alloc: Global, bytes: u64) -> Result<Notice, AllocError> {
-    let path = Bytes::from_slice(alloc, b"/a.txt")?;
-    Ok(Notice::Data(DataEvent::Got { path, bytes }))
-}
-
-/// A login, two files put, one got, and the end of a session that never logged in.
-fn log(alloc: Global) -> Result<Log, AllocError> {
-    let mut log = Log::new(alloc);
-    log.push(entry(alloc, b"ann", Notice::Presence(PresenceEvent::LoggedIn))?)?;
-    log.push(entry(alloc, b"ann", put(alloc, 5)?)?)?;
-    log.push(entry(alloc, b"ann", put(alloc, 6)?)?)?;
-    log.push(entry(alloc, b"ann", got(alloc, 11)?)?)?;
-    log.push(entry(
-        alloc,
-        b"unknown",
-        Notice::Presence(PresenceEvent::LoggedOut),
-    )?)?;
-    Ok(log)
-}
-
-fn audit(alloc: Global) -> Result<Audit, Fail> {
-    let log = log(alloc)?;
-    Ok(audited(alloc, &log).ok().ok_or("not taken")?)
+fn audit(rt: &impl Abort, alloc: Global) -> Audit {
+    let log = log_of(rt, alloc, pooled(rt, alloc), MOVES.as_slice());
+    audited(alloc, &log).ok().expect(rt, "an audit")
 }
 
 #[test]
-fn a_report_has_a_line_for_each_user(rt: HostRuntime) -> Result<(), Fail> {
-    let audit = audit(rt.alloc())?;
-    let report = audit.report()?;
-    assert_eq!(rt;
-        report.as_slice(),
-        b"got 1 11 put 2 11 in 1 out 0 ann\ngot 0 0 put 0 0 in 0 out 1 unknown\n".as_slice()
-    );
-    Ok(())
+fn a_stretch_has_what_its_entries_told(rt: HostRuntime) {
+    let ann = Bytes::from_slice(rt.alloc(), b"ann").expect(&rt, "a name");
+    let audit = audit(&rt, rt.alloc());
+    // The login is entry 7, and the ends of the transfers are the entries 11 and 15.
+    for (from, to, logins, got_files, got_bytes, put_files) in [
+        (0, 16, 1, 1, 5, 1),
+        (8, 12, 0, 1, 5, 0),
+        (12, 16, 0, 0, 0, 1),
+        (8, 11, 0, 0, 0, 0),
+    ] {
+        let told = Total {
+            got_files,
+            got_bytes,
+            put_files,
+            logins,
+            ..Total::new()
+        };
+        assert!(rt; audit.between(&ann, from, to) == told);
+    }
 }
 
 #[test]
-fn a_stretch_has_what_its_entries_told(rt: HostRuntime) -> Result<(), Fail> {
-    let audit = audit(rt.alloc())?;
-    let ann = Bytes::from_slice(rt.alloc(), b"ann")?;
-    let append = Total {
-        put_files: 1,
-        put_bytes: 6,
-        ..Total::new()
-    };
-    assert!(rt; audit.between(&ann, 2, 3) == append);
-    Ok(())
-}
-
-#[test]
-fn who_moved_most_comes_first(rt: HostRuntime) -> Result<(), Fail> {
-    let audit = audit(rt.alloc())?;
-    let top = audit.top(1)?;
+fn who_moved_most_comes_first(rt: HostRuntime) {
+    let audit = audit(&rt, rt.alloc());
+    let top = audit.top(1).expect(&rt, "a list");
     assert!(rt; matches!(top.as_slice(), [(name, _)] if name.as_slice() == b"ann".as_slice()));
-    Ok(())
 }

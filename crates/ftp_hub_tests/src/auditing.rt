@@ -1,11 +1,11 @@
 //! A caller that has an audit hear what happens on a hub.
 
-use crate::values::entry_of;
+use crate::values::{event, pooled};
 use ftp_audit::Audit;
 use ftp_events::Answer;
 use ftp_hub::Hub;
-use ftp_options::ServerBuilder;
-use std::test::Fail;
+use std::alloc::Global;
+use std::process::Abort;
 
 /// Two sessions that log in and leave, one behind the other.
 const VISITS: [&[u8]; 10] = [
@@ -21,20 +21,25 @@ const VISITS: [&[u8]; 10] = [
     b"0 quit 2",
 ];
 
+/// The line of a script happens on the hub, and the audit hears of it.
+fn hear(rt: &impl Abort, alloc: Global, hub: &mut Hub, audit: &mut Audit, line: &[u8]) {
+    let event = event(rt, alloc, line);
+    let room = hub.prepare(&event).ok().expect(rt, "room");
+    let entry = hub.step(room, event, Answer::None);
+    audit.take(&entry).ok().expect(rt, "an entry that fits");
+}
+
 #[test]
-fn an_audit_hears_what_happens_on_a_hub(rt: HostRuntime) -> Result<(), Fail> {
+fn an_audit_hears_what_happens_on_a_hub(rt: HostRuntime) {
     let alloc = rt.alloc();
-    let built = ServerBuilder::new(alloc).build().ok().ok_or("not built")?;
-    let mut hub = Hub::new(alloc, built.options);
+    let mut hub = Hub::new(alloc, pooled(&rt, alloc));
     let mut audit = Audit::new(alloc);
     for line in VISITS {
-        let entry = entry_of(alloc, &mut hub, line, Answer::None)?;
-        audit.take(&entry).ok().ok_or("not taken")?;
+        hear(&rt, alloc, &mut hub, &mut audit, line);
     }
-    let report = audit.report()?;
+    let report = audit.report().expect(&rt, "a report");
     assert_eq!(rt;
         report.as_slice(),
         b"got 0 0 put 0 0 in 2 out 2 ann\n".as_slice()
     );
-    Ok(())
 }

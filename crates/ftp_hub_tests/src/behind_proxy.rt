@@ -1,67 +1,61 @@
-//! A hub behind a proxy, event by event, by headers that were read elsewhere.
+//! A hub behind a proxy, by a header that was read elsewhere.
 
-use crate::values::{CLIENT, act};
 use ftp_base::{IpAddr, SocketAddr};
-use ftp_events::{Answer, Decision, EventKind};
+use ftp_events::{Answer, Decision, EventKind, HubEvent};
 use ftp_hub::Hub;
 use ftp_options::{Options, ServerBuilder};
-use ftp_proxy::{ProxyError, ProxyHeader};
+use ftp_proxy::ProxyHeader;
 use std::alloc::Global;
-use std::test::Fail;
-
-/// The address of the proxy, 10.9.9.9.
-const PROXY: u32 = 0x0a09_0909;
+use std::process::Abort;
 
 /// The port of the proxy that opens sessions.
 const CONTROL: u16 = 2121;
 
-fn options(alloc: Global) -> Result<Options, Fail> {
+/// The header of a client that comes to open a session.
+const HEADER: ProxyHeader = ProxyHeader {
+    source: SocketAddr {
+        ip: IpAddr::V4(0x0a00_0001),
+        port: 4000,
+    },
+    destination: SocketAddr {
+        ip: IpAddr::V4(0xc633_6401),
+        port: CONTROL,
+    },
+};
+
+fn options(rt: &impl Abort, alloc: Global) -> Options {
     let mut builder = ServerBuilder::new(alloc);
     builder.proxy_protocol_mode(CONTROL);
     builder.passive_ports(50000, 50001);
-    Ok(builder.build().ok().ok_or("not built")?.options)
+    builder.build().ok().expect(rt, "options").options
 }
 
-/// A connection that comes from the proxy.
-fn passed_on(number: u64) -> EventKind {
-    EventKind::Proxied {
-        number,
-        raw: SocketAddr {
-            ip: IpAddr::V4(PROXY),
-            port: 1,
+/// What is decided on the first connection of the proxy at 10.9.9.9.
+fn decided(rt: &impl Abort, hub: &mut Hub, header: Option<ProxyHeader>) -> Decision {
+    let raw = SocketAddr {
+        ip: IpAddr::V4(0x0a09_0909),
+        port: 1,
+    };
+    let event = HubEvent {
+        at: 0,
+        kind: EventKind::Proxied {
+            number: 1,
+            raw,
+            trace: 1,
         },
-        trace: 1,
-    }
-}
-
-/// The header of a client's connection to a port of the proxy.
-fn header(port: u16) -> Answer {
-    Answer::Header(Ok(ProxyHeader {
-        source: SocketAddr {
-            ip: IpAddr::V4(CLIENT),
-            port: 4000,
-        },
-        destination: SocketAddr {
-            ip: IpAddr::V4(0xc633_6401),
-            port,
-        },
-    }))
+    };
+    let room = hub.prepare(&event).ok().expect(rt, "room");
+    let answer = match header {
+        Some(header) => Answer::Header(Ok(header)),
+        None => Answer::None,
+    };
+    hub.step(room, event, answer).decision
 }
 
 #[test]
-fn a_header_decides_what_its_connection_is(rt: HostRuntime) -> Result<(), Fail> {
-    let alloc = rt.alloc();
-    let error = ProxyError::CrlfError;
-    let mut hub = Hub::new(alloc, options(alloc)?);
-    for (number, answer, decision) in [
-        (1, Answer::None, Decision::NotExpected),
-        (1, Answer::Header(Err(error)), Decision::HeaderFault(error)),
-        (1, header(CONTROL), Decision::UsedNumber),
-        (2, header(CONTROL), Decision::Opened),
-        (3, header(50002), Decision::Turned),
-    ] {
-        let found = act(&mut hub, passed_on(number), answer);
-        assert_eq!(rt; found, Ok(decision));
-    }
-    Ok(())
+fn a_connection_of_the_proxy_needs_its_header(rt: HostRuntime) {
+    let mut hub = Hub::new(rt.alloc(), options(&rt, rt.alloc()));
+    let early = decided(&rt, &mut hub, None);
+    let late = decided(&rt, &mut hub, Some(HEADER));
+    assert_eq!(rt; (early, late), (Decision::NotExpected, Decision::Opened));
 }

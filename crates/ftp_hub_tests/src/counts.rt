@@ -1,23 +1,13 @@
 //! What a hub counts, and what listeners hear.
 
-use crate::values::{events, links, storage};
+use crate::values::{events, links, log_of, pooled, storage};
 use ftp_base::{
     Bytes, DataChanCmd, DataEvent, DataListener, EventMeta, PresenceEvent, PresenceListener,
 };
-use ftp_events::{Log, Status7, deliver};
+use ftp_events::{Counters, Log, Status7, deliver};
 use ftp_hub::{Hub, covers, run_events};
-use ftp_options::{Options, ServerBuilder};
 use std::alloc::Global;
-use std::test::Fail;
-
-/// All sessions share two ports, and entries are counted.
-fn counted(alloc: Global) -> Result<Options, Fail> {
-    let mut builder = ServerBuilder::new(alloc);
-    builder.pooled_listener_mode();
-    builder.passive_ports(50000, 50001);
-    builder.metrics();
-    Ok(builder.build().ok().ok_or("not built")?.options)
-}
+use std::process::Abort;
 
 /// A login, and the download of a file.
 const DOWNLOAD: [&[u8]; 8] = [
@@ -31,35 +21,39 @@ const DOWNLOAD: [&[u8]; 8] = [
     b"0 end 1.1",
 ];
 
-/// A hub to which the download has happened, and its log.
-fn downloaded(alloc: Global) -> Result<(Hub, Log), Fail> {
-    let events = events(alloc, DOWNLOAD.as_slice())?;
-    let mut storage = storage(alloc)?;
-    let mut links = links(alloc)?;
-    if !covers(&links, &events) {
-        return Err(Fail::from("a link is not found"));
-    }
-    let mut hub = Hub::new(alloc, counted(alloc)?);
+/// The download happens.
+fn download(rt: &impl Abort, alloc: Global, hub: &mut Hub) {
+    let events = events(rt, alloc, DOWNLOAD.as_slice());
+    let mut storage = storage(alloc).ok().expect(rt, "a storage");
+    let mut links = links(rt, alloc);
     let mut log = Log::new(alloc);
-    run_events(&mut hub, &mut storage, &mut links, &events, &mut log)
-        .ok()
-        .ok_or("not run")?;
-    Ok((hub, log))
+    assert!(rt; covers(&links, &events));
+    let run = run_events(hub, &mut storage, &mut links, &events, &mut log);
+    assert!(rt; run.is_ok());
+}
+
+/// The sessions that are live and that there were, the files and bytes that were read, the bytes and transfers of such downloads, and
+/// the replies that begin with 2.
+fn counted(counters: &Counters, retr: &DataChanCmd) -> [u64; 7] {
+    [
+        counters.session(),
+        counters.sessions_count(),
+        counters.read_files(),
+        counters.read_bytes(),
+        counters.sent_bytes(retr),
+        counters.transferred(retr, Status7::Success),
+        counters.replies(2),
+    ]
 }
 
 #[test]
-fn a_hub_counts_what_its_entries_tell(rt: HostRuntime) -> Result<(), Fail> {
-    let (hub, _log) = downloaded(rt.alloc())?;
-    let counters = hub.counters();
-    let retr = DataChanCmd::Retr {
-        path: Bytes::from_slice(rt.alloc(), b"a")?,
-    };
-    assert_eq!(rt; (counters.session(), counters.sessions_count()), (1, 1));
-    assert_eq!(rt; (counters.read_files(), counters.read_bytes()), (1, 5));
-    assert_eq!(rt; counters.sent_bytes(&retr), 5);
-    assert_eq!(rt; counters.transferred(&retr, Status7::Success), 1);
-    assert_eq!(rt; counters.replies(2), 3);
-    Ok(())
+fn a_hub_counts_what_its_entries_tell(rt: HostRuntime) {
+    let alloc = rt.alloc();
+    let path = Bytes::from_slice(alloc, b"a").expect(&rt, "a path");
+    let retr = DataChanCmd::Retr { path };
+    let mut hub = Hub::new(alloc, pooled(&rt, alloc));
+    download(&rt, alloc, &mut hub);
+    assert_eq!(rt; counted(hub.counters(), &retr), [1, 1, 1, 5, 5, 1, 3]);
 }
 
 /// Notes the numbers of the notifications that it is told.
@@ -96,9 +90,9 @@ impl PresenceListener for Noted {
 }
 
 #[test]
-fn each_listener_hears_what_is_for_it(rt: HostRuntime) -> Result<(), Fail> {
+fn each_listener_hears_what_is_for_it(rt: HostRuntime) {
     let alloc = rt.alloc();
-    let (_hub, log) = downloaded(alloc)?;
+    let log = log_of(&rt, alloc, pooled(&rt, alloc), DOWNLOAD.as_slice());
     let mut files = Noted {
         numbers: Vec::new(alloc),
     };
@@ -110,5 +104,4 @@ fn each_listener_hears_what_is_for_it(rt: HostRuntime) -> Result<(), Fail> {
     }
     assert_eq!(rt; users.numbers.as_slice(), [1].as_slice());
     assert_eq!(rt; files.numbers.as_slice(), [2].as_slice());
-    Ok(())
 }

@@ -3,13 +3,14 @@
 ghost use Rattle.std.specs.Prelude.{◌≡◌, ◌≤◌, false};
 ghost use Rattle.ftp_shared.specs.Outbox.{has_ticket};
 
-use crate::shared_values::{Stopped, connect};
+use crate::shared_values::connect;
 use ftp_base::Bytes;
 use ftp_events::{Answer, EventKind, HubEvent};
 use ftp_options::Options;
-use ftp_shared::{AppendError, CutHub, JournalHub, Replies, Serving, Submitted, Turn};
+use ftp_shared::{CutHub, JournalHub, Replies, Serving, Submitted, Turn};
 use std::alloc::Global;
 use std::marker::Brand;
+use std::process::Abort;
 use std::sync::Wait;
 
 /// What was seen of the tail while events were submitted.
@@ -22,23 +23,20 @@ pub struct TailSeen {
 }
 
 // Submits an event of moment 0.
-fn submit<L: Serving, R: Wait>(
-    rt: &R,
-    hub: &CutHub<L>,
-    kind: EventKind,
-) -> Result<Submitted, AppendError>
+fn submit<L: Serving, R: Wait + Abort>(rt: &R, hub: &CutHub<L>, kind: EventKind) -> Submitted
     requires { has_ticket kind ≡ false }
 {
     hub.submit(rt, &mut (), HubEvent { at: 0, kind }, Answer::None)
+        .expect(rt, "an entry")
 }
 
-fn connect_over<L: Serving, R: Wait>(
+fn connect_over<L: Serving, R: Wait + Abort>(
     rt: &R,
     alloc: Global,
     options: Options,
     every: u64,
     events: u64,
-) -> Result<TailSeen, Stopped>
+) -> TailSeen
     requires options { options ≡ L.options }
     requires some { 1 ≤ every }
 {
@@ -49,41 +47,37 @@ fn connect_over<L: Serving, R: Wait>(
         is_counted: true,
     };
     for place in 0..events {
-        let submitted = submit(rt, &hub, connect(hub.draw()))?;
+        let submitted = submit(rt, &hub, connect(hub.draw()));
         seen.is_counted = seen.is_counted && submitted.receipt.place == place;
         seen.last = hub.tail(rt);
         seen.longest = seen.longest.max(seen.last);
     }
-    Ok(seen)
+    seen
 }
 
 /// What is seen of a tail of so many entries at most while so many sessions connect.
-pub fn tail_over<R: Wait>(
+pub fn tail_over<R: Wait + Abort>(
     rt: &R,
     alloc: Global,
     options: Options,
     every: u64,
     events: u64,
-) -> Result<TailSeen, Stopped>
+) -> TailSeen
     requires some { 1 ≤ every }
 {
     connect_over::<Brand, R>(rt, alloc, options, every, events)
 }
 
-fn hand_late<L: Serving, R: Wait>(
-    rt: &R,
-    alloc: Global,
-    options: Options,
-) -> Result<Replies, Stopped>
+fn hand_late<L: Serving, R: Wait + Abort>(rt: &R, alloc: Global, options: Options) -> Replies
     requires options { options ≡ L.options }
 {
     let hub = CutHub::<L>::new(alloc, options, 2);
     let session = 1000;
-    let name = Bytes::from_slice(alloc, b"ann")?;
-    submit(rt, &hub, connect(session))?;
-    submit(rt, &hub, EventKind::User { session, name })?;
+    submit(rt, &hub, connect(session));
+    let name = Bytes::from_slice(alloc, b"ann").expect(rt, "a name");
+    submit(rt, &hub, EventKind::User { session, name });
     for _ in 0..5 {
-        submit(rt, &hub, connect(hub.draw()))?;
+        submit(rt, &hub, connect(hub.draw()));
     }
     let event = HubEvent {
         at: 0,
@@ -92,11 +86,13 @@ fn hand_late<L: Serving, R: Wait>(
     let Turn {
         earlier,
         submitted: _,
-    } = hub.submit_for(rt, &mut (), event, Answer::None)?;
-    Ok(earlier)
+    } = hub
+        .submit_for(rt, &mut (), event, Answer::None)
+        .expect(rt, "a turn");
+    earlier
 }
 
 /// What a session is handed that gave its name before the last checkpoints, of which there is one after each second entry.
-pub fn handed_late<R: Wait>(rt: &R, alloc: Global, options: Options) -> Result<Replies, Stopped> {
+pub fn handed_late<R: Wait + Abort>(rt: &R, alloc: Global, options: Options) -> Replies {
     hand_late::<Brand, R>(rt, alloc, options)
 }

@@ -4,6 +4,7 @@ ghost use Rattle.std.specs.Prelude.{◌≡◌, false, IfOk, IsTrue};
 ghost use Rattle.std.specs.List.{list_all};
 ghost use Rattle.ftp_options.specs.Modes.{is_legacy};
 ghost use Rattle.ftp_events.specs.Covers.{is_covered};
+ghost use Rattle.ftp_events.specs.Right.{IsRight};
 ghost use Rattle.ftp_hub.specs.Headline.{Headline};
 ghost use Rattle.ftp_hub.specs.Runs.{is_linked};
 
@@ -24,6 +25,7 @@ pub fn run_all<S: Storage, L: Link>(
     requires shared { is_legacy options.mode ≡ false }
     requires covered { IsTrue (list_all (λ e. is_covered (is_linked links.old) e.kind) events.now) }
     ensures headline { IfOk result (λ log. Headline options events.now log.entries) }
+    ensures right { IfOk result (λ log. IsRight options log.entries) }
 {
     let mut hub = Hub::new(alloc, options);
     let mut log = Log::new(alloc);

@@ -1,12 +1,10 @@
 //! Runs with ample memory, and at the end of the count of events.
 
-use crate::headline::run_all;
-use crate::values::{events, links, pooled, storage};
+use crate::values::{decisions_of, events, log_of, pooled};
 use ftp_base::{LinkTable, MemoryLink, MemoryStorage};
 use ftp_events::{Decision, EventKind, HubEvent, Log};
 use ftp_hub::{Hub, RunError, covers, run_events};
 use ftp_transfer::Ticket;
-use std::test::Fail;
 
 const TICKET: Ticket = Ticket { session: 1, nr: 1 };
 
@@ -25,18 +23,9 @@ const EVENTS: [&[u8]; 10] = [
 ];
 
 #[test]
-fn a_client_takes_a_file_and_another_is_turned_away(rt: HostRuntime) -> Result<(), Fail> {
+fn a_client_takes_a_file_and_another_is_turned_away(rt: HostRuntime) {
     let alloc = rt.alloc();
-    let options = pooled(alloc)?;
-    let events = events(alloc, EVENTS.as_slice())?;
-    let mut storage = storage(alloc)?;
-    let mut links = links(alloc)?;
-    if !covers(&links, &events) {
-        return Err(Fail::from("a link is not found"));
-    }
-    let log = run_all(alloc, options, &mut storage, &mut links, &events)
-        .ok()
-        .ok_or("not run")?;
+    let log = log_of(&rt, alloc, pooled(&rt, alloc), EVENTS.as_slice());
     let decisions = [
         Decision::Opened,
         Decision::NeedPass,
@@ -49,33 +38,26 @@ fn a_client_takes_a_file_and_another_is_turned_away(rt: HostRuntime) -> Result<(
         Decision::Finished,
         Decision::Closed,
     ];
-    assert_eq!(rt; log.len(), 10);
-    for (entry, decision) in log.as_slice().iter().zip(decisions) {
-        assert_eq!(rt; entry.decision, decision);
-    }
-    let sent = links.get(12).ok_or("no link")?.sent();
-    assert_eq!(rt; sent, b"Hello".as_slice());
-    Ok(())
+    let found = decisions_of(alloc, &log).expect(&rt, "decisions");
+    assert_eq!(rt; found.as_slice(), decisions.as_slice());
 }
 
 #[test]
-fn a_connection_without_a_link_is_not_covered(rt: HostRuntime) -> Result<(), Fail> {
-    let events = events(rt.alloc(), EVENTS.as_slice())?;
+fn a_connection_without_a_link_is_not_covered(rt: HostRuntime) {
+    let events = events(&rt, rt.alloc(), EVENTS.as_slice());
     let links: LinkTable<MemoryLink> = LinkTable::new(rt.alloc());
     assert!(rt; !covers(&links, &events));
-    Ok(())
 }
 
 #[test]
-fn no_event_runs_at_the_end_of_the_count(rt: HostRuntime) -> Result<(), Fail> {
+fn no_event_runs_at_the_end_of_the_count(rt: HostRuntime) {
     let alloc = rt.alloc();
-    let options = pooled(alloc)?;
     let pass = [HubEvent {
         at: 0,
         kind: EventKind::Pass { session: 1 },
     }];
     let pass = pass.as_slice();
-    let mut hub = Hub::with_count(alloc, options, u64::MAX);
+    let mut hub = Hub::with_count(alloc, pooled(&rt, alloc), u64::MAX);
     let mut storage = MemoryStorage::new(alloc, 0, Vec::new(alloc));
     let mut links: LinkTable<MemoryLink> = LinkTable::new(alloc);
     let mut log = Log::new(alloc);
@@ -83,12 +65,9 @@ fn no_event_runs_at_the_end_of_the_count(rt: HostRuntime) -> Result<(), Fail> {
         (pass, Err(RunError::Exhausted { done: 0 })),
         (&pass[1..], Ok(())),
     ] {
-        if !covers(&links, events) {
-            return Err(Fail::from("a link is not found"));
-        }
+        assert!(rt; covers(&links, events));
         let run = run_events(&mut hub, &mut storage, &mut links, events, &mut log);
         assert_eq!(rt; run, answer);
         assert_eq!(rt; log.len(), 0);
     }
-    Ok(())
 }

@@ -1,9 +1,10 @@
 //! The part of a log that belongs to one client, run with nobody else there.
 
-use crate::values::{CLIENT, entry_of, pooled};
-use ftp_events::{Answer, Decision, Log, replies_of};
-use ftp_hub::{Hub, isolation};
-use std::test::Fail;
+use crate::values::{decisions_of, log_of, pooled};
+use ftp_events::{Decision, Log, replies_of};
+use ftp_hub::isolation;
+use std::alloc::{AllocError, Global};
+use std::process::Abort;
 
 /// Two clients log in, each takes a port, and a data connection of each comes to it.
 const BOTH: [&[u8]; 12] = [
@@ -21,16 +22,25 @@ const BOTH: [&[u8]; 12] = [
     b"0 data 12 10.0.0.1:1 50000",
 ];
 
-#[test]
-fn a_client_is_served_as_with_nobody_else_there(rt: HostRuntime) -> Result<(), Fail> {
-    let alloc = rt.alloc();
-    let mut hub = Hub::new(alloc, pooled(alloc)?);
-    let mut log = Log::new(alloc);
-    for line in BOTH {
-        log.make_room()?;
-        log.push_reserved(entry_of(alloc, &mut hub, line, Answer::None)?);
+/// The log of what belongs to 10.0.0.1, on a hub of its own.
+fn alone(rt: &impl Abort, alloc: Global) -> Log {
+    let log = log_of(rt, alloc, pooled(rt, alloc), BOTH.as_slice());
+    isolation(alloc, pooled(rt, alloc), &log, 0x0a00_0001).expect(rt, "a log")
+}
+
+/// What session 1 is sent.
+fn sent(alloc: Global, log: &Log) -> Result<Vec<u8>, AllocError> {
+    let replies = replies_of(alloc, log, 1)?;
+    let mut sent = Vec::new(alloc);
+    for reply in replies.as_slice() {
+        sent.extend_from_slice(reply.encode(alloc)?.as_slice())?;
     }
-    let alone = isolation(alloc, pooled(alloc)?, &log, CLIENT)?;
+    Ok(sent)
+}
+
+#[test]
+fn a_client_is_served_as_with_nobody_else_there(rt: HostRuntime) {
+    let alone = alone(&rt, rt.alloc());
     let decisions = [
         Decision::Opened,
         Decision::NeedPass,
@@ -39,19 +49,11 @@ fn a_client_is_served_as_with_nobody_else_there(rt: HostRuntime) -> Result<(), F
         Decision::Granted { port: 50000 },
         Decision::Attached { session: 1 },
     ];
-    assert_eq!(rt; alone.len(), 6);
-    for (entry, decision) in alone.as_slice().iter().zip(decisions) {
-        assert_eq!(rt; entry.decision, decision);
-    }
-    // A name, a password and a PASV have their replies (RFC 959, section 5.4).
-    let replies = replies_of(alloc, &alone, 1)?;
-    assert_eq!(rt; replies.len(), 3);
-    for (reply, code) in replies
-        .as_slice()
-        .iter()
-        .zip([b"331".as_slice(), b"230", b"227"])
-    {
-        assert!(rt; reply.encode(alloc)?.as_slice().starts_with(code));
-    }
-    Ok(())
+    let found = decisions_of(rt.alloc(), &alone).expect(&rt, "decisions");
+    assert_eq!(rt; found.as_slice(), decisions.as_slice());
+    // A name, a password and a PASV have their replies (RFC 959, sections 4.1.2 and 5.4).
+    let replies = b"331 Password Required\r\n230 User logged in, proceed\r\n\
+                    227 Entering Passive Mode (10,0,0,9,195,80)\r\n";
+    let sent = sent(rt.alloc(), &alone).expect(&rt, "replies");
+    assert_eq!(rt; sent.as_slice(), replies.as_slice());
 }

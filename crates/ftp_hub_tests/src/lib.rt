@@ -3,7 +3,7 @@
 //! memory, and what no clause says.
 //!
 //! They stand here and not beside the code, since a crate with tests is proved twice. This one has no code but tests and a few
-//! callers, whose clauses are proved. Begin with `hub`, `shared`, `lines`, `states`, `audit` and `transfers`.
+//! callers, whose clauses are proved. Begin with `hub`, `shared`, `lines`, `states` and `audit`.
 #![tactic(auto)]
 
 #[cfg(test)]
@@ -19,8 +19,6 @@ mod counting;
 mod counts;
 #[cfg(test)]
 mod cutting;
-#[cfg(test)]
-mod directories;
 #[cfg(test)]
 mod evidence;
 #[cfg(test)]
@@ -65,8 +63,6 @@ mod texts;
 mod threads;
 #[cfg(test)]
 mod ticks;
-#[cfg(test)]
-mod transfers;
 #[cfg(test)]
 mod values;
 #[cfg(test)]

@@ -3,13 +3,14 @@
 ghost use Rattle.std.specs.Prelude.{◌≡◌};
 
 use crate::jobs::{act, finish, start};
-use crate::shared_values::Stopped;
+use crate::shared_values::one_or_both;
 use ftp_events::{Action, Decision, EventKind, Log};
 use ftp_options::Options;
 use ftp_shared::{JobShare, JournalHub, Serving, SharedHub, StepShare, Submitted};
 use ftp_transfer::Ticket;
 use std::alloc::Global;
 use std::marker::Brand;
+use std::process::Abort;
 use std::sync::Wait;
 use std::sync::ledger::Blank;
 use std::thread;
@@ -19,83 +20,73 @@ use std::thread::Threads;
 const PIECES: u64 = 100;
 
 /// Tells pieces of one byte, at most so many, and gives the job back where it is not over.
-fn move_on<L: Serving, R: Wait>(
+fn move_on<L: Serving, R: Wait + Abort>(
     rt: &R,
     hub: &SharedHub<L>,
     share: &mut StepShare<L>,
     job: JobShare,
     most: u64,
-) -> Result<Option<JobShare>, Stopped> {
+) -> Option<JobShare> {
     let mut job = job;
     for _ in 0..most {
-        if !job.can_move(1) {
-            return Err(Stopped::NoJob);
-        }
-        let Ok(submitted) = hub.piece(rt, share, job, 0, 1) else {
-            return Err(Stopped::OutOfMemory);
-        };
+        assert!(rt; job.can_move(1));
         let Submitted {
             receipt: _,
             job: back,
-        } = submitted;
+        } = hub.piece(rt, share, job, 0, 1).ok().expect(rt, "a piece");
         match back {
             Some(back) => job = back,
-            None => return Ok(None),
+            None => return None,
         }
         thread::yield_now();
     }
-    Ok(Some(job))
+    Some(job)
 }
 
 /// Moves a job until it is stopped.
-fn move_until_stopped<L: Serving, R: Wait>(
+fn move_until_stopped<L: Serving, R: Wait + Abort>(
     rt: &R,
     hub: &SharedHub<L>,
     share: StepShare<L>,
     job: JobShare,
-) -> Result<StepShare<L>, Stopped> {
+) -> StepShare<L> {
     let mut share = share;
-    match move_on(rt, hub, &mut share, job, u64::MAX)? {
-        None => Ok(share),
-        Some(_) => Err(Stopped::NoJob),
-    }
+    let rest = move_on(rt, hub, &mut share, job, u64::MAX);
+    assert!(rt; rest.is_none());
+    share
 }
 
 /// Moves a job to its end.
-fn move_to_end<L: Serving, R: Wait>(
+fn move_to_end<L: Serving, R: Wait + Abort>(
     rt: &R,
     hub: &SharedHub<L>,
     share: StepShare<L>,
     job: JobShare,
-) -> Result<StepShare<L>, Stopped> {
+) -> StepShare<L> {
     let mut share = share;
-    match move_on(rt, hub, &mut share, job, PIECES)? {
-        None => Err(Stopped::NoJob),
-        Some(job) => {
-            finish(rt, hub, &mut share, job, PIECES)?;
-            Ok(share)
-        }
-    }
+    let job = move_on(rt, hub, &mut share, job, PIECES).expect(rt, "a job");
+    finish(rt, hub, &mut share, job, PIECES);
+    share
 }
 
 /// Stops the job of session 1.
-fn abort<L: Serving, R: Wait>(
+fn abort<L: Serving, R: Wait + Abort>(
     rt: &R,
     hub: &SharedHub<L>,
     share: StepShare<L>,
-) -> Result<StepShare<L>, Stopped> {
+) -> StepShare<L> {
     let mut share = share;
-    act(rt, hub, &mut share, EventKind::Abor { session: 1 })?;
-    Ok(share)
+    act(rt, hub, &mut share, EventKind::Abor { session: 1 });
+    share
 }
 
 /// The journal of two jobs, of which the first is stopped.
-fn move_shared<L: Serving + Send + Sync, R: Threads + Wait + Sync>(
+fn move_shared<L: Serving + Send + Sync, R: Threads + Wait + Abort + Sync>(
     rt: &R,
     alloc: Global,
     options: Options,
     blank: Blank,
-) -> Result<Log, Stopped>
+) -> Log
     requires name { blank.name ≡ L.name }
     requires parts { blank.parts ≡ L.parts }
     requires four { blank.parts ≡ 4 }
@@ -104,11 +95,11 @@ fn move_shared<L: Serving + Send + Sync, R: Threads + Wait + Sync>(
     let (steps, parts) = blank.open::<L>();
     let hub = SharedHub::new(alloc, options, steps, parts, 4);
     let shared = &hub;
-    let mut first = hub.share(rt).ok_or(Stopped::NoShare)?;
-    let second = hub.share(rt).ok_or(Stopped::NoShare)?;
-    let third = hub.share(rt).ok_or(Stopped::NoShare)?;
-    let stopped = start(rt, alloc, shared, &mut first, 1)?.ok_or(Stopped::NoJob)?;
-    let ended = start(rt, alloc, shared, &mut first, 2)?.ok_or(Stopped::NoJob)?;
+    let mut first = hub.share(rt).expect(rt, "a share");
+    let second = hub.share(rt).expect(rt, "a share");
+    let third = hub.share(rt).expect(rt, "a share");
+    let stopped = start(rt, alloc, shared, &mut first, 1);
+    let ended = start(rt, alloc, shared, &mut first, 2);
     let ((first, second), third) = thread::join(
         rt,
         move || {
@@ -120,19 +111,13 @@ fn move_shared<L: Serving + Send + Sync, R: Threads + Wait + Sync>(
         },
         move || abort(rt, shared, third),
     );
-    let mut shares = Vec::with_capacity(alloc, 3)?;
-    shares.push_reserved(first?);
-    shares.push_reserved(second?);
-    shares.push_reserved(third?);
-    hub.settle(shares, &[]).ok().ok_or(Stopped::OutOfMemory)
+    let mut shares = one_or_both(alloc, first, second, true).expect(rt, "shares");
+    shares.push(third).expect(rt, "shares");
+    hub.settle(shares, &[]).ok().expect(rt, "a journal")
 }
 
 /// The journal of two jobs on a hub of these options, of which the first is stopped.
-pub fn move_two<R: Threads + Wait + Sync>(
-    rt: &R,
-    alloc: Global,
-    options: Options,
-) -> Result<Log, Stopped> {
+pub fn move_two<R: Threads + Wait + Abort + Sync>(rt: &R, alloc: Global, options: Options) -> Log {
     move_shared::<Brand, R>(rt, alloc, options, Blank::new(4))
 }
 

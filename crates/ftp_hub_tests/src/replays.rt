@@ -4,7 +4,6 @@ use crate::budgets::usage_after;
 use ftp_audit::{Quota, QuotaCall, Verdict, replay};
 use ftp_base::{Bytes, ErrorKind, MemoryStorage};
 use std::alloc::{AllocError, Global};
-use std::test::Fail;
 
 fn begin(alloc: Global, user: &[u8], start: u64) -> Result<QuotaCall, AllocError> {
     Ok(QuotaCall::Begin {
@@ -34,12 +33,13 @@ fn uploads(alloc: Global) -> Result<Vec<QuotaCall>, AllocError> {
 }
 
 #[test]
-fn each_call_has_its_verdict(rt: HostRuntime) -> Result<(), Fail> {
+fn each_call_has_its_verdict(rt: HostRuntime) {
     let alloc = rt.alloc();
-    let calls = uploads(alloc)?;
+    let ann = Bytes::from_slice(alloc, b"ann").expect(&rt, "a name");
+    let calls = uploads(alloc).expect(&rt, "calls");
     let mut quota = Quota::new(alloc, MemoryStorage::new(alloc, 64, Vec::new(alloc)), 64);
-    quota.budget(Bytes::from_slice(alloc, b"ann")?, 10)?;
-    let verdicts = replay(alloc, &mut quota, calls.as_slice())?;
+    quota.budget(ann, 10).expect(&rt, "a budget");
+    let verdicts = replay(alloc, &mut quota, calls.as_slice()).expect(&rt, "verdicts");
     let due = [
         Verdict::Done,
         Verdict::Done,
@@ -48,20 +48,16 @@ fn each_call_has_its_verdict(rt: HostRuntime) -> Result<(), Fail> {
         Verdict::Refused(ErrorKind::PermissionDenied),
     ];
     assert_eq!(rt; verdicts.as_slice(), due.as_slice());
-    Ok(())
 }
 
 #[test]
-fn a_users_files_come_to_what_was_stored(rt: HostRuntime) -> Result<(), Fail> {
+fn a_users_files_come_to_what_was_stored(rt: HostRuntime) {
     let alloc = rt.alloc();
+    let calls = uploads(alloc).expect(&rt, "calls");
     for (user, usage) in [(b"ann", 5), (b"bob", 0)] {
-        let calls = uploads(alloc)?;
+        let name = Bytes::from_slice(alloc, user).expect(&rt, "a name");
         let storage = MemoryStorage::new(alloc, 64, Vec::new(alloc));
-        let name = Bytes::from_slice(alloc, user)?;
-        assert_eq!(rt;
-            usage_after(alloc, storage, calls.as_slice(), &name)?,
-            usage
-        );
+        let found = usage_after(alloc, storage, calls.as_slice(), &name);
+        assert_eq!(rt; found, Ok(usage));
     }
-    Ok(())
 }

@@ -3,9 +3,9 @@
 ghost use Rattle.std.specs.Prelude.{◌≡◌, false};
 ghost use Rattle.ftp_shared.specs.Outbox.{has_ticket};
 
-use crate::shared_values::{Stopped, connect};
+use crate::shared_values::{Stopped, connect, one_or_both};
 use ftp_base::Bytes;
-use ftp_events::{Answer, EventKind, HubEvent, Log};
+use ftp_events::{Answer, Decision, EventKind, HubEvent, Log};
 use ftp_options::Options;
 use ftp_shared::{
     AppendError, JournalHub, Receipt, Serving, SettleError, SharedHub, StepShare, Submitted,
@@ -55,21 +55,6 @@ fn submit_two<L: Serving, R: Wait>(
     Ok((one, two))
 }
 
-/// The first share, or both.
-fn shares_of<L: Serving>(
-    alloc: Global,
-    first: StepShare<L>,
-    second: StepShare<L>,
-    both: bool,
-) -> Result<Vec<StepShare<L>>, AllocError> {
-    let mut shares = Vec::with_capacity(alloc, 2)?;
-    shares.push_reserved(first);
-    if both {
-        shares.push_reserved(second);
-    }
-    Ok(shares)
-}
-
 /// The receipts that are told.
 fn receipts_of(
     alloc: Global,
@@ -77,16 +62,11 @@ fn receipts_of(
     two: Receipt,
     told: Told,
 ) -> Result<Vec<Receipt>, AllocError> {
-    let mut receipts = Vec::with_capacity(alloc, 2)?;
     match told {
-        Told::First => {}
-        Told::Both => {
-            receipts.push_reserved(two);
-            receipts.push_reserved(one);
-        }
-        Told::Strange(receipt) => receipts.push_reserved(receipt),
+        Told::First => Ok(Vec::new(alloc)),
+        Told::Both => one_or_both(alloc, two, one, true),
+        Told::Strange(receipt) => one_or_both(alloc, receipt, one, false),
     }
-    Ok(receipts)
 }
 
 /// A connection by the first share, and its user's name by the second.
@@ -111,7 +91,7 @@ fn settle_shared<L: Serving, R: Wait>(
     let mut second = second;
     let (one, two) = submit_two(rt, alloc, &hub, &mut first, &mut second)?;
     let both = !matches!(&told, Told::First);
-    let shares = shares_of(alloc, first, second, both)?;
+    let shares = one_or_both(alloc, first, second, both)?;
     let receipts = receipts_of(alloc, one, two, told)?;
     Ok(hub.settle(shares, receipts.as_slice()))
 }
@@ -124,6 +104,23 @@ pub fn settle_two<R: Wait>(
     told: Told,
 ) -> Result<Result<Log, SettleError>, Stopped> {
     settle_shared::<Brand, R>(rt, alloc, options, Blank::new(3), told)
+}
+
+/// The place where a receipt differs from the journal, what was decided there, and what by the receipt.
+pub fn difference(
+    settled: &Result<Log, SettleError>,
+) -> Result<Option<(u64, Decision, Decision)>, Stopped> {
+    match settled {
+        Err(
+            SettleError::Differs {
+                place,
+                kept: Some(kept),
+                told,
+            },
+        ) if kept != told => Ok(Some((*place, kept.decision, told.decision))),
+        Err(SettleError::OutOfMemory) => Err(Stopped::OutOfMemory),
+        _ => Ok(None),
+    }
 }
 
 /// The receipt of a session of this number on a hub of its own.

@@ -5,8 +5,8 @@ ghost use Rattle.ftp_shared.specs.Outbox.{has_ticket};
 
 use ftp_base::{IpAddr, SocketAddr};
 use ftp_events::EventKind;
-use ftp_shared::AppendError;
-use std::alloc::AllocError;
+use ftp_shared::{AppendError, Replies};
+use std::alloc::{AllocError, Global};
 
 /// Why a run came to no end.
 #[derive(Clone, Copy, Debug, PartialEq, Eq)]
@@ -16,8 +16,6 @@ pub enum Stopped {
     Exhausted,
     /// No part of the book of steps was left.
     NoShare,
-    /// No job started, or it did not end.
-    NoJob,
 }
 
 impl From<AllocError> for Stopped {
@@ -51,4 +49,30 @@ pub fn connect(session: u64) -> EventKind
         },
         trace: 1,
     }
+}
+
+/// The first, and behind it the second where both are asked for.
+pub fn one_or_both<T: Drop>(
+    alloc: Global,
+    first: T,
+    second: T,
+    both: bool,
+) -> Result<Vec<T>, AllocError> {
+    let mut items = Vec::with_capacity(alloc, 2)?;
+    items.push_reserved(first);
+    if both {
+        items.push_reserved(second);
+    }
+    Ok(items)
+}
+
+/// The bytes of those replies that are due at once.
+pub fn sent_at_once(alloc: Global, replies: &Replies) -> Result<Vec<u8>, AllocError> {
+    let mut sent = Vec::new(alloc);
+    for (delay, reply) in replies.as_slice() {
+        if *delay == 0 {
+            sent.extend_from_slice(reply.encode(alloc)?.as_slice())?;
+        }
+    }
+    Ok(sent)
 }

@@ -4,7 +4,6 @@ use ftp_base::Bytes;
 use ftp_hub::StateError;
 use ftp_text::{decode_state, encode_state};
 use std::alloc::Global;
-use std::test::Fail;
 
 // A client that logged in and asked for a passive port.
 const ANN: &[u8] = b"checkpoint 1 5 0\n\
@@ -42,12 +41,11 @@ fn is_text(alloc: Global, text: &[u8]) -> bool {
 }
 
 #[test]
-fn a_state_is_written_as_it_was_read(rt: HostRuntime) -> Result<(), Fail> {
+fn a_state_is_written_as_it_was_read(rt: HostRuntime) {
     let alloc = rt.alloc();
     for text in [ANN, MANY, b"checkpoint 1 0 0\n"] {
         assert!(rt; is_text(alloc, text));
     }
-    Ok(())
 }
 
 fn refusal(alloc: Global, text: &[u8]) -> Option<StateError> {
@@ -58,7 +56,7 @@ fn refusal(alloc: Global, text: &[u8]) -> Option<StateError> {
 }
 
 #[test]
-fn the_first_bad_line_is_told(rt: HostRuntime) -> Result<(), Fail> {
+fn the_first_bad_line_is_told(rt: HostRuntime) {
     let alloc = rt.alloc();
     for (text, due) in [
         // The last line may lack its line feed, and no line is skipped.
@@ -111,5 +109,4 @@ fn the_first_bad_line_is_told(rt: HostRuntime) -> Result<(), Fail> {
             }
         );
     }
-    Ok(())
 }

@@ -2,15 +2,16 @@
 
 ghost use Rattle.std.specs.Prelude.{◌≡◌, ◌≤◌};
 
-use crate::talk_values::{edge, pooled, serve_over, storage};
-use ftp_base::{Bytes, MemoryEdge, MemoryLink, MemoryStorage};
+use crate::talk_values::{edge, serve_over, storage};
+use crate::values::pooled;
+use ftp_base::{Bytes, MemoryEdge, MemoryLink, MemoryStorage, StoreError};
 use ftp_options::Options;
 use ftp_shared::{JobShare, Serving, SoloDesk};
 use ftp_talk::ServeEnd;
 use std::alloc::{AllocError, Global};
 use std::marker::Brand;
+use std::process::Abort;
 use std::sync::ledger::Blank;
-use std::test::Fail;
 
 /// What was seen of a talk: how it ended, what was sent, and the job that started first.
 #[derive(Drop)]
@@ -68,12 +69,12 @@ fn serve(
 }
 
 /// The talk on these lines, which come, as the replies go, in pieces of so many bytes.
-pub fn talk(alloc: Global, lines: &[u8], chunk: u32) -> Result<Talked, Fail>
+pub fn talk(rt: &impl Abort, alloc: Global, lines: &[u8], chunk: u32) -> Result<Talked, StoreError>
     requires { 1 ≤ chunk }
 {
     let lines = Vec::from_slice(alloc, lines)?;
     let edge = edge(alloc)?;
-    let options = pooled(alloc)?;
+    let options = pooled(rt, alloc);
     let storage = storage(alloc)?;
     let link = MemoryLink::new(alloc, lines, chunk, Vec::new(alloc));
     Ok(serve(alloc, options, storage, edge, link))

@@ -1,17 +1,16 @@
-//! What several tests take: who knocks, who may log in, the options, the storage and the edge.
+//! What several tests take: who knocks, who may log in, the storage and the edge.
 
 ghost use Rattle.std.specs.Prelude.{◌≡◌, true};
 ghost use Rattle.ftp_talk.specs.Control.{is_opening};
 
 use ftp_base::{
     AuthAnswer, Authenticator, Bytes, Control, IpAddr, MemoryEdge, MemoryStorage, SocketAddr,
+    StoreError,
 };
 use ftp_events::{Answer, EventKind, HubEvent};
-use ftp_options::{ActivePassiveMode, Options, ServerBuilder};
 use ftp_shared::Desk;
 use ftp_talk::{ServeEnd, serve_control};
 use std::alloc::{AllocError, Global};
-use std::test::Fail;
 
 /// Session 1, from 10.0.0.1 to 10.0.0.9.
 pub fn opening() -> HubEvent
@@ -72,17 +71,8 @@ impl Authenticator for OnlyAnn {
     }
 }
 
-/// All sessions share the ports 50000 and 50001, and PORT is on too.
-pub fn pooled(alloc: Global) -> Result<Options, Fail> {
-    let mut builder = ServerBuilder::new(alloc);
-    builder.pooled_listener_mode();
-    builder.active_passive_mode(ActivePassiveMode::ActiveAndPassive);
-    builder.passive_ports(50000, 50001);
-    Ok(builder.build().ok().ok_or("not built")?.options)
-}
-
 /// A storage with the directory `/up` and, in it, one with a carriage return in its name.
-pub fn storage(alloc: Global) -> Result<MemoryStorage, Fail> {
+pub fn storage(alloc: Global) -> Result<MemoryStorage, StoreError> {
     let up = Bytes::from_slice(alloc, b"/up")?;
     let turned = Bytes::from_slice(alloc, b"/up/a\rb")?;
     let mut storage = MemoryStorage::new(alloc, 0, Vec::new(alloc));

@@ -4,7 +4,8 @@ ghost use Rattle.std.specs.Prelude.{◌≡◌};
 
 use crate::counting::{CountingDesk, Counts};
 use crate::late::LateControl;
-use crate::talk_values::{edge, pooled, serve_over, storage};
+use crate::talk_values::{edge, serve_over, storage};
+use crate::values::pooled;
 use ftp_base::{MemoryEdge, MemoryStorage};
 use ftp_options::Options;
 use ftp_shared::{Serving, SoloDesk};
@@ -12,7 +13,6 @@ use ftp_talk::ServeEnd;
 use std::alloc::Global;
 use std::marker::Brand;
 use std::sync::ledger::Blank;
-use std::test::Fail;
 
 /// How serving the connection ended, and how many events of each kind its loop submitted.
 fn serve<L: Serving>(
@@ -36,35 +36,30 @@ fn serve<L: Serving>(
 }
 
 #[test]
-fn a_wait_is_a_look_at_the_idle_time_and_one_at_the_slot(rt: HostRuntime) -> Result<(), Fail> {
+fn a_wait_is_a_look_at_the_idle_time_and_one_at_the_slot(rt: HostRuntime) {
     let alloc = rt.alloc();
-    let mut edge = edge(alloc)?;
-    let mut control = LateControl::new(alloc, b"NOOP\r\nQUIT\r\n")?;
-    let options = pooled(alloc)?;
-    let storage = storage(alloc)?;
-    let (end, counts) = serve::<Brand>(
+    let mut edge = edge(alloc).expect(&rt, "an edge");
+    let mut control = LateControl::new(alloc, b"NOOP\r\nQUIT\r\n").expect(&rt, "lines");
+    let (end, found) = serve::<Brand>(
         alloc,
-        options,
-        storage,
+        pooled(&rt, alloc),
+        storage(alloc).ok().expect(&rt, "a storage"),
         &mut edge,
         &mut control,
         Blank::new(2),
     );
+    let counts = Counts {
+        connects: 1,
+        idle_ticks: 1,
+        slot_ticks: 1,
+        internals: 1,
+        quits: 1,
+        others: 0,
+    };
     assert_eq!(rt; end, ServeEnd::Ended);
-    assert_eq!(rt;
-        counts,
-        Counts {
-            connects: 1,
-            idle_ticks: 1,
-            slot_ticks: 1,
-            internals: 1,
-            quits: 1,
-            others: 0
-        }
-    );
+    assert_eq!(rt; found, counts);
     assert_eq!(rt;
         control.sent(),
         b"220 Welcome to the libunftp FTP server\r\n200 Successfully did nothing\r\n221 Bye!\r\n".as_slice()
     );
-    Ok(())
 }

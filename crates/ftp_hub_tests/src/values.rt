@@ -1,92 +1,81 @@
-//! What several tests take: a client, its session 1, the PASV of it, pooled options, a step of a hub, events as a script has them,
-//! and a storage with links.
+//! What several tests take: pooled options, events as a script has them, a storage with links, and the log of what happens there.
 
-ghost use Rattle.std.specs.Prelude.{◌≡◌, false, IfOk};
+ghost use Rattle.std.specs.Prelude.{◌≡◌, false};
 ghost use Rattle.ftp_options.specs.Modes.{is_legacy};
+ghost use Rattle.ftp_events.specs.Right.{IsRight};
 
-use ftp_base::{Bytes, IpAddr, LinkTable, MemoryLink, MemoryStorage, SocketAddr};
-use ftp_events::{Answer, Decision, Entry, EventKind, HubEvent};
-use ftp_hub::{Hub, PrepareError};
-use ftp_options::{Options, ServerBuilder};
+use crate::headline::run_all;
+use ftp_base::{Bytes, LinkTable, MemoryLink, MemoryStorage, StoreError};
+use ftp_events::{Decision, HubEvent, Log};
+use ftp_hub::covers;
+use ftp_options::{ActivePassiveMode, Options, ServerBuilder};
 use ftp_text::read_event;
-use std::alloc::Global;
-use std::test::Fail;
+use std::alloc::{AllocError, Global};
+use std::process::Abort;
 
-/// The client's address, 10.0.0.1.
-pub const CLIENT: u32 = 0x0a00_0001;
-
-pub const CONNECT: EventKind = EventKind::Connect {
-    session: 1,
-    raw: SocketAddr {
-        ip: IpAddr::V4(CLIENT),
-        port: 4000,
-    },
-    local: SocketAddr {
-        ip: IpAddr::V4(0x0a00_0009),
-        port: 21,
-    },
-    trace: 1,
-};
-
-pub const PASV: EventKind = EventKind::Pasv {
-    session: 1,
-    word: 0,
-    lookup: None,
-    bound: None,
-};
-
-/// All sessions share the ports 50000 and 50001.
-pub fn pooled(alloc: Global) -> Result<Options, Fail>
-    ensures { IfOk result (λ o. is_legacy o.mode ≡ false) }
+/// All sessions share the ports 50000 and 50001, PORT is on too, and entries are counted.
+pub fn pooled(rt: &impl Abort, alloc: Global) -> Options
+    ensures { is_legacy result.mode ≡ false }
 {
     let mut builder = ServerBuilder::new(alloc);
     builder.pooled_listener_mode();
+    builder.active_passive_mode(ActivePassiveMode::ActiveAndPassive);
     builder.passive_ports(50000, 50001);
-    Ok(builder.build().ok().ok_or("not built")?.options)
-}
-
-/// What is decided on an event.
-pub fn act(hub: &mut Hub, kind: EventKind, answer: Answer) -> Result<Decision, PrepareError> {
-    let event = HubEvent { at: 0, kind };
-    match hub.prepare(&event) {
-        Ok(room) => Ok(hub.step(room, event, answer).decision),
-        Err(error) => Err(error),
-    }
+    builder.metrics();
+    builder.build().ok().expect(rt, "options").options
 }
 
 /// The event of a line of a script.
-pub fn event(alloc: Global, line: &[u8]) -> Result<HubEvent, Fail> {
-    Ok(read_event(alloc, line).ok().ok_or("no line of a script")?)
+pub fn event(rt: &impl Abort, alloc: Global, line: &[u8]) -> HubEvent {
+    read_event(alloc, line).ok().expect(rt, "an event")
 }
 
-/// What happens on a hub by the line of a script.
-pub fn entry_of(alloc: Global, hub: &mut Hub, line: &[u8], answer: Answer) -> Result<Entry, Fail> {
-    let event = event(alloc, line)?;
-    let room = hub.prepare(&event).ok().ok_or("not prepared")?;
-    Ok(hub.step(room, event, answer))
-}
-
-pub fn events(alloc: Global, lines: &[&[u8]]) -> Result<Vec<HubEvent>, Fail> {
+pub fn events(rt: &impl Abort, alloc: Global, lines: &[&[u8]]) -> Vec<HubEvent> {
     let mut events = Vec::new(alloc);
     for line in lines {
-        events.push(event(alloc, line)?)?;
+        events
+            .push(event(rt, alloc, line))
+            .expect(rt, "room for an event");
     }
-    Ok(events)
+    events
 }
 
 /// A storage with `Hello` under `/a`.
-pub fn storage(alloc: Global) -> Result<MemoryStorage, Fail> {
+pub fn storage(alloc: Global) -> Result<MemoryStorage, StoreError> {
     let mut storage = MemoryStorage::new(alloc, 5, Vec::new(alloc));
     storage.put_file(Bytes::from_slice(alloc, b"/a")?, b"Hello".to_vec(alloc)?)?;
     Ok(storage)
 }
 
-/// Links for two data connections, which give nothing.
-pub fn links(alloc: Global) -> Result<LinkTable<MemoryLink>, Fail> {
+/// Links for four data connections, which give nothing.
+pub fn links(rt: &impl Abort, alloc: Global) -> LinkTable<MemoryLink> {
     let mut links = LinkTable::new(alloc);
-    for number in [11, 12] {
+    for number in 11..15 {
         let link = MemoryLink::new(alloc, Vec::new(alloc), 2, Vec::new(alloc));
-        links.insert(number, link).ok().ok_or("no link")?;
+        links.insert(number, link).ok().expect(rt, "a free number");
     }
-    Ok(links)
+    links
+}
+
+/// The log of the lines of a script on a fresh hub.
+pub fn log_of(rt: &impl Abort, alloc: Global, options: Options, lines: &[&[u8]]) -> Log
+    requires shared { is_legacy options.mode ≡ false }
+    ensures right { IsRight options result.entries }
+{
+    let events = events(rt, alloc, lines);
+    let mut storage = storage(alloc).ok().expect(rt, "a storage");
+    let mut links = links(rt, alloc);
+    assert!(rt; covers(&links, &events));
+    run_all(alloc, options, &mut storage, &mut links, &events)
+        .ok()
+        .expect(rt, "a log")
+}
+
+/// What was decided, entry by entry.
+pub fn decisions_of(alloc: Global, log: &Log) -> Result<Vec<Decision>, AllocError> {
+    let mut decisions = Vec::new(alloc);
+    for entry in log.as_slice() {
+        decisions.push(entry.decision)?;
+    }
+    Ok(decisions)
 }

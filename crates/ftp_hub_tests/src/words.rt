@@ -2,7 +2,8 @@
 
 ghost use Rattle.std.specs.Prelude.{◌≡◌};
 
-use crate::talk_values::{OnlyAnn, edge, opening, pooled, storage};
+use crate::talk_values::{OnlyAnn, edge, opening, storage};
+use crate::values::pooled;
 use ftp_base::{MemoryEdge, MemoryLink, MemoryStorage};
 use ftp_events::Answer;
 use ftp_extras::{Extras, FileExtras, Offers};
@@ -13,7 +14,6 @@ use std::alloc::Global;
 use std::marker::Brand;
 use std::process::Abort;
 use std::sync::ledger::Blank;
-use std::test::Fail;
 
 const GREETING: &[u8] = b"220 Welcome to the libunftp FTP server\r\n";
 
@@ -116,31 +116,28 @@ fn serve_shared<L: Serving>(
 }
 
 /// Compares a row with its talk, in one packet and byte by byte.
-fn compare(rt: &impl Abort, alloc: Global, row: Row<'_>) -> Result<(), Fail> {
+fn compare(rt: &impl Abort, alloc: Global, row: Row<'_>) {
     let (lines, replies) = row;
     for chunk in [1, 65536] {
-        let input = Vec::from_slice(alloc, lines)?;
-        let link = MemoryLink::new(alloc, input, chunk, Vec::new(alloc));
-        let extras = FileExtras::new(alloc, OFFERS, storage(alloc)?);
+        let input = Vec::from_slice(alloc, lines).expect(rt, "lines");
+        let files = storage(alloc).ok().expect(rt, "files");
         let (end, link) = serve_shared::<Brand>(
             alloc,
-            pooled(alloc)?,
-            storage(alloc)?,
-            edge(alloc)?,
-            link,
-            extras,
+            pooled(rt, alloc),
+            storage(alloc).ok().expect(rt, "a storage"),
+            edge(alloc).expect(rt, "an edge"),
+            MemoryLink::new(alloc, input, chunk, Vec::new(alloc)),
+            FileExtras::new(alloc, OFFERS, files),
             Blank::new(2),
         );
         assert_eq!(rt; link.sent().strip_prefix(GREETING), Some(replies));
         assert_eq!(rt; end, ServeEnd::Ended);
     }
-    Ok(())
 }
 
 #[test]
-fn words_of_clients_are_answered_in_their_order(rt: HostRuntime) -> Result<(), Fail> {
+fn words_of_clients_are_answered_in_their_order(rt: HostRuntime) {
     for row in ROWS {
-        compare(&rt, rt.alloc(), row)?;
+        compare(&rt, rt.alloc(), row);
     }
-    Ok(())
 }
