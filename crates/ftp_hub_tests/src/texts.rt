@@ -1,10 +1,12 @@
 //! What is printed: replies, numbers, paths and times.
 
 use ftp_base::{
-    Bytes, IpAddr, PortAllocationError, Reply, ReplyCode, ReplyText, SocketAddr, TraceId,
+    Bytes, ControlChanMsg, IpAddr, Meta, PortAllocationError, Reply, ReplyCode, ReplyText,
+    SocketAddr, TraceId,
 };
-use ftp_events::port_target;
-use ftp_transfer::{HumanDuration, join_path};
+use ftp_events::{make_pasv_reply, port_target, reply_of};
+use ftp_options::PassiveHost;
+use ftp_transfer::{HumanDuration, format_facts, join_path};
 use std::alloc::{AllocError, Global};
 use std::test::Fail;
 
@@ -34,7 +36,28 @@ fn a_reply_ends_in_cr_lf(rt: HostRuntime) {
 /// The address 127.0.0.1.
 const LOOPBACK: u32 = 0x7f00_0001;
 
-// RFC 959, section 4.1.2: h1,h2,h3,h4,p1,p2, and 30000 is 117 * 256 + 48.
+/// The reply to a PASV at 10.0.0.9 for port 50000, as it is sent.
+fn passive(alloc: Global, host: &PassiveHost) -> Result<Bytes, AllocError> {
+    let reply = make_pasv_reply(alloc, host, 0x0a00_0009, None, 50000)?;
+    reply.encode(alloc)
+}
+
+// RFC 959, section 4.1.2: h1,h2,h3,h4,p1,p2, and 50000 is 195 * 256 + 80.
+#[test]
+fn a_passive_reply_shows_six_numbers(rt: HostRuntime) {
+    let own = passive(rt.alloc(), &PassiveHost::FromConnection).expect(&rt, "a line");
+    assert_eq!(rt;
+        own.as_slice(),
+        b"227 Entering Passive Mode (10,0,0,9,195,80)\r\n".as_slice()
+    );
+    let fixed = passive(rt.alloc(), &PassiveHost::Ip(LOOPBACK)).expect(&rt, "a line");
+    assert_eq!(rt;
+        fixed.as_slice(),
+        b"227 Entering Passive Mode (127,0,0,1,195,80)\r\n".as_slice()
+    );
+}
+
+// And 30000 is 117 * 256 + 48.
 #[test]
 fn six_numbers_are_an_address(rt: HostRuntime) {
     let target = SocketAddr {
@@ -49,6 +72,23 @@ fn six_numbers_are_an_address(rt: HostRuntime) {
     ] {
         assert_eq!(rt; port_target(text), found);
     }
+}
+
+/// The reply to a login that succeeds, as it is sent.
+fn let_in(alloc: Global) -> Result<Bytes, AllocError> {
+    let username = Bytes::from_slice(alloc, b"ada")?;
+    let trace_id = TraceId::new(7);
+    let reply = reply_of(alloc, &ControlChanMsg::AuthSuccess { username, trace_id })?;
+    reply.encode(alloc)
+}
+
+#[test]
+fn a_login_that_succeeds_is_told_as_230(rt: HostRuntime) {
+    let told = let_in(rt.alloc()).expect(&rt, "a line");
+    assert_eq!(rt;
+        told.as_slice(),
+        b"230 User logged in, proceed\r\n".as_slice()
+    );
 }
 
 #[test]
@@ -85,6 +125,18 @@ fn leading_zero_parts_are_dropped(rt: HostRuntime) {
     for (millis, text) in rows {
         let found = HumanDuration(millis).text(rt.alloc()).expect(&rt, "a text");
         assert_eq!(rt; found.as_slice(), text);
+    }
+}
+
+// RFC 3659, section 7: a fact is a name, an equals sign, a value and a semicolon.
+#[test]
+fn a_file_tells_its_type_and_size_and_a_directory_its_type(rt: HostRuntime) {
+    for (is_dir, len, facts) in [
+        (false, 5, b"type=file;size=5;".as_slice()),
+        (true, 0, b"type=dir;"),
+    ] {
+        let text = format_facts(rt.alloc(), &Meta { is_dir, len }).expect(&rt, "facts");
+        assert_eq!(rt; text.as_slice(), facts);
     }
 }
 
