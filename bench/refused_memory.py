@@ -25,14 +25,14 @@ PROGRAM = TOP / "crates/ftp_script/out/ftp_script"
 TESTS = (
     ("ftp_hub_tests", "shared::a_hub_is_settled_with_all_shares_and_receipts"),
     ("ftp_hub_tests", "shared::steps_are_missed"),
-    ("ftp_hub_tests", "shared::the_receipt_of_another_hub_differs"),
+    ("ftp_hub_tests", "shared::a_receipt_at_another_place_differs"),
     ("ftp_hub_tests", "lines::a_client_logs_in_asks_for_a_port_and_quits"),
 )
 OUT_OF_MEMORY = 5
 # How a test ends that gave an error, and one in which a comparison failed.
 FAILED = 101, -signal.SIGABRT
 # What a test says that had no memory: an error of a call, or a talk that ended so where its next reply was due, or behind the last.
-NO_MEMORY = re.compile(rb"error: (AllocError|OutOfMemory)\n|: the end: OutOfMemory\n  left: \[\]\n|\n  left: OutOfMemory\n")
+NO_MEMORY = re.compile(rb": (Alloc(Error|Failed { .. })|OutOfMemory)\n|: the end: OutOfMemory\n  left: \[\]\n|\n  left: OutOfMemory\n")
 
 
 class Refusals:

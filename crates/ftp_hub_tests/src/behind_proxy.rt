@@ -1,27 +1,16 @@
 //! A hub behind a proxy, by a header that was read elsewhere.
 
-use ftp_base::{IpAddr, SocketAddr};
-use ftp_events::{Answer, Decision, EventKind, HubEvent};
+use crate::values::event;
+use ftp_base::MemoryLink;
+use ftp_events::{Answer, Decision};
 use ftp_hub::Hub;
 use ftp_options::{Options, ServerBuilder};
-use ftp_proxy::ProxyHeader;
+use ftp_proxy::{ProxyHeader, read_proxy_header};
 use std::alloc::Global;
 use std::process::Abort;
 
 /// The port of the proxy that opens sessions.
 const CONTROL: u16 = 2121;
-
-/// The header of a client that comes to open a session.
-const HEADER: ProxyHeader = ProxyHeader {
-    source: SocketAddr {
-        ip: IpAddr::V4(0x0a00_0001),
-        port: 4000,
-    },
-    destination: SocketAddr {
-        ip: IpAddr::V4(0xc633_6401),
-        port: CONTROL,
-    },
-};
 
 fn options(rt: &impl Abort, alloc: Global) -> Options {
     let mut builder = ServerBuilder::new(alloc);
@@ -30,32 +19,27 @@ fn options(rt: &impl Abort, alloc: Global) -> Options {
     builder.build().ok().expect(rt, "options").options
 }
 
-/// What is decided on the first connection of the proxy at 10.9.9.9.
-fn decided(rt: &impl Abort, hub: &mut Hub, header: Option<ProxyHeader>) -> Decision {
-    let raw = SocketAddr {
-        ip: IpAddr::V4(0x0a09_0909),
-        port: 1,
-    };
-    let event = HubEvent {
-        at: 0,
-        kind: EventKind::Proxied {
-            number: 1,
-            raw,
-            trace: 1,
-        },
-    };
+/// The header of a client that comes to open a session.
+fn header(rt: &impl Abort, alloc: Global) -> ProxyHeader {
+    let text = b"PROXY TCP4 10.0.0.1 198.51.100.1 4000 2121\r\n";
+    let text = text.to_vec(alloc).expect(rt, "a text");
+    let mut link = MemoryLink::new(alloc, text, 2, Vec::new(alloc));
+    read_proxy_header(&mut link).ok().expect(rt, "a header")
+}
+
+/// What is decided on the first connection of the proxy.
+fn decided(rt: &impl Abort, alloc: Global, hub: &mut Hub, answer: Answer) -> Decision {
+    let event = event(rt, alloc, b"0 proxied 1 10.9.9.9:1 1");
     let room = hub.prepare(&event).ok().expect(rt, "room");
-    let answer = match header {
-        Some(header) => Answer::Header(Ok(header)),
-        None => Answer::None,
-    };
     hub.step(room, event, answer).decision
 }
 
 #[test]
 fn a_connection_of_the_proxy_needs_its_header(rt: HostRuntime) {
-    let mut hub = Hub::new(rt.alloc(), options(&rt, rt.alloc()));
-    let early = decided(&rt, &mut hub, None);
-    let late = decided(&rt, &mut hub, Some(HEADER));
+    let alloc = rt.alloc();
+    let mut hub = Hub::new(alloc, options(&rt, alloc));
+    let early = decided(&rt, alloc, &mut hub, Answer::None);
+    let header = Answer::Header(Ok(header(&rt, alloc)));
+    let late = decided(&rt, alloc, &mut hub, header);
     assert_eq!(rt; (early, late), (Decision::NotExpected, Decision::Opened));
 }

@@ -35,8 +35,8 @@ impl Counts {
 /// Passes each call on to another desk, and counts the kinds of the events.
 #[derive(Drop)]
 pub struct CountingDesk<D: Desk + Drop> {
-    desk: D,
-    counts: Counts,
+    pub desk: D,
+    pub counts: Counts,
 }
 
 impl<D: Desk + Drop> CountingDesk<D> {
@@ -52,10 +52,6 @@ impl<D: Desk + Drop> CountingDesk<D> {
                 others: 0,
             },
         }
-    }
-
-    pub fn counts(&self) -> Counts {
-        self.counts
     }
 }
 

@@ -3,30 +3,17 @@
 ghost use Rattle.std.specs.Prelude.{◌≡◌, false};
 ghost use Rattle.ftp_shared.specs.Outbox.{has_ticket};
 
-use crate::shared_values::connect;
+use crate::hubs::share;
+use crate::shared_values::{connect, sent_at_once};
 use ftp_base::{AuthAnswer, Bytes, DataChanCmd, IpAddr, SocketAddr};
-use ftp_events::{Answer, Decision, EventKind, HubEvent};
-use ftp_options::Options;
-use ftp_shared::{JobShare, JournalHub, Replies, Serving, SharedHub, StepShare, Submitted, Turn};
+use ftp_events::{Answer, EventKind, HubEvent, Log};
+use ftp_shared::{
+    JobShare, JournalHub, Serving, SettleError, SharedHub, StepShare, Submitted, Turn,
+};
 use ftp_transfer::{Completion, Outcome};
 use std::alloc::Global;
-use std::marker::Brand;
 use std::process::Abort;
 use std::sync::Wait;
-use std::sync::ledger::Blank;
-
-/// What was seen.
-#[derive(Clone, Copy, Debug, PartialEq, Eq)]
-pub struct Course {
-    /// Whether the hub was drained while the job was out.
-    pub drained_early: bool,
-    /// What was decided on the end of the job.
-    pub end: Decision,
-    /// The session that was to be woken by then.
-    pub woken: Option<u64>,
-    /// Whether the hub is drained at the end.
-    pub drained: bool,
-}
 
 /// One event of a session.
 pub fn act<L: Serving, R: Wait + Abort>(
@@ -121,51 +108,36 @@ pub fn finish<L: Serving, R: Wait + Abort>(
         .expect(rt, "the end of a job")
 }
 
-/// The job is out while its session goes on, or the server is stopped; then the session's last event, if that did not come. What was
-/// seen, and what the session is handed with that event.
-fn transfer_shared<L: Serving, R: Wait + Abort>(
+/// The journal of a session that takes a file. Its job is out while the session goes on, or the server is stopped; then comes the
+/// session's last event, if the stop was not that.
+pub fn take_a_file<L: Serving, R: Wait + Abort>(
     rt: &R,
     alloc: Global,
-    options: Options,
-    blank: Blank,
+    hub: SharedHub<L>,
     stops_early: bool,
-) -> (Course, Replies)
-    requires name { blank.name ≡ L.name }
-    requires parts { blank.parts ≡ L.parts }
-    requires two { blank.parts ≡ 2 }
-    requires options { options ≡ L.options }
-{
-    let (steps, parts) = blank.open::<L>();
-    let hub = SharedHub::new(alloc, options, steps, parts, 2);
-    let mut share = hub.share(rt).expect(rt, "a share");
+) -> Result<Log, SettleError> {
+    let mut share = share(rt, &hub);
     let job = start(rt, alloc, &hub, &mut share, 1);
     if stops_early {
         act(rt, &hub, &mut share, EventKind::Shutdown);
     }
     let drained_early = hub.drained(rt);
-    let submitted = finish(rt, &hub, &mut share, job, 5);
-    let end = submitted.receipt.entry.decision;
-    let woken = submitted.others().next();
+    let woken = finish(rt, &hub, &mut share, job, 5).others().next();
     let Turn {
         earlier,
         submitted: _,
     } = act(rt, &hub, &mut share, EventKind::Quit { session: 1 });
-    let course = Course {
-        drained_early,
-        end,
-        woken,
-        drained: hub.drained(rt),
+    // A session that the stop has ended is handed nothing more.
+    let (to_wake, handed) = if stops_early {
+        (None, b"".as_slice())
+    } else {
+        (Some(1), b"226 Successfully sent\r\n".as_slice())
     };
-    (course, earlier)
-}
-
-/// A transfer on a hub of these options, which is stopped before it has ended, or not: what was seen, and what the session is handed
-/// with its last event.
-pub fn transfer<R: Wait + Abort>(
-    rt: &R,
-    alloc: Global,
-    options: Options,
-    stops_early: bool,
-) -> (Course, Replies) {
-    transfer_shared::<Brand, R>(rt, alloc, options, Blank::new(2), stops_early)
+    assert_eq!(rt;
+        (drained_early, woken, hub.drained(rt)),
+        (false, to_wake, true)
+    );
+    let sent = sent_at_once(alloc, &earlier).expect(rt, "a text");
+    assert_eq!(rt; sent.as_slice(), handed);
+    hub.settle(vec![in alloc; share].expect(rt, "shares"), &[])
 }

@@ -22,11 +22,11 @@ mod cutting;
 #[cfg(test)]
 mod evidence;
 #[cfg(test)]
-mod feeding;
-#[cfg(test)]
 mod headline;
 #[cfg(test)]
 mod hub;
+#[cfg(test)]
+mod hubs;
 #[cfg(test)]
 mod isolation;
 #[cfg(test)]
@@ -43,6 +43,8 @@ mod logs;
 mod pieces;
 #[cfg(test)]
 mod replays;
+#[cfg(test)]
+mod server_log;
 #[cfg(test)]
 mod settled;
 #[cfg(test)]

@@ -1,10 +1,12 @@
 //! Lines of a client, and what it is sent.
 
-use crate::talk::talk;
+ghost use Rattle.std.specs.Prelude.{◌≤◌};
+
+use crate::talk::{FileWords, talk};
+use ftp_base::MemoryLink;
 use ftp_talk::ServeEnd;
 use std::alloc::{AllocError, Global};
 use std::process::Abort;
-use std::test::Fail;
 
 const GREETING: &[u8] = b"220 Welcome to the libunftp FTP server\r\n";
 
@@ -73,22 +75,29 @@ const ROWS: [Row<'static>; 10] = [
     (b"USER Dolores\r", b"", None),
 ];
 
-/// Compares a row with its talk, in one packet and byte by byte.
-fn compare(rt: &impl Abort, alloc: Global, row: Row<'_>) {
+/// Compares a row with its talk, which comes, as the replies go, in pieces of so many bytes.
+pub fn compare(rt: &impl Abort, alloc: Global, row: Row<'_>, chunk: u32, words: Option<FileWords>)
+    requires { 1 ≤ chunk }
+{
     let (lines, replies, path) = row;
+    let lines = Vec::from_slice(alloc, lines).expect(rt, "lines");
+    let mut link = MemoryLink::new(alloc, lines, chunk, Vec::new(alloc));
+    let talked = talk(rt, alloc, &mut link, words);
+    assert_eq!(rt; talked.end, ServeEnd::Ended);
+    assert_eq!(rt; link.sent().strip_prefix(GREETING), Some(replies));
+    let started = talked.path(alloc).expect(rt, "a path");
+    assert_eq!(rt; started.as_ref().map(|path| path.as_slice()), path);
+}
+
+/// Compares a row with its talk, in one packet and byte by byte.
+fn compare_both(rt: &impl Abort, alloc: Global, row: Row<'_>) {
     for chunk in [1, 65536] {
-        let talked = talk(rt, alloc, lines, chunk).ok().expect(rt, "a talk");
-        let started = talked.path(alloc).expect(rt, "a path");
-        let started = started.as_ref().map(|path| path.as_slice());
-        let sent = talked.link.sent().strip_prefix(GREETING);
-        assert_eq!(rt; sent, Some(replies));
-        assert_eq!(rt; started, path);
-        assert_eq!(rt; talked.end, ServeEnd::Ended);
+        compare(rt, alloc, row, chunk, None);
     }
 }
 
 #[test]
-fn a_client_logs_in_asks_for_a_port_and_quits(rt: HostRuntime) -> Result<(), Fail> {
+fn a_client_logs_in_asks_for_a_port_and_quits(rt: HostRuntime) {
     let replies = [
         GREETING,
         b"331 Password Required\r\n",
@@ -96,28 +105,25 @@ fn a_client_logs_in_asks_for_a_port_and_quits(rt: HostRuntime) -> Result<(), Fai
         b"227 Entering Passive Mode (10,0,0,9,195,80)\r\n",
         b"221 Bye!\r\n",
     ];
-    let talked = talk(
-        &rt,
-        rt.alloc(),
-        b"USER ann\r\nPASS x\r\nPASV\r\nQUIT\r\n",
-        65536,
-    )?;
-    let mut rest = talked.link.sent();
+    let lines = Vec::from_slice(rt.alloc(), b"USER ann\r\nPASS x\r\nPASV\r\nQUIT\r\n");
+    let lines = lines.expect(&rt, "lines");
+    let mut link = MemoryLink::new(rt.alloc(), lines, 65536, Vec::new(rt.alloc()));
+    let end = talk(&rt, rt.alloc(), &mut link, None).end;
+    let mut rest = link.sent();
     for reply in replies {
         let n = reply.len().min(rest.len());
         let (line, behind) = rest.split_at(n);
-        assert_eq!(rt; line, reply, "the end: {:?}", talked.end);
+        assert_eq!(rt; line, reply, "the end: {end:?}");
         rest = behind;
     }
     assert_eq!(rt; rest, b"".as_slice());
-    assert_eq!(rt; talked.end, ServeEnd::Ended);
-    Ok(())
+    assert_eq!(rt; end, ServeEnd::Ended);
 }
 
 #[test]
 fn lines_are_answered_in_their_order_whatever_their_pieces(rt: HostRuntime) {
     for row in ROWS {
-        compare(&rt, rt.alloc(), row);
+        compare_both(&rt, rt.alloc(), row);
     }
 }
 
@@ -156,6 +162,6 @@ fn a_line_has_at_most_8192_bytes_also_behind_a_short_one(rt: HostRuntime) {
         (b"", 8191, CLOSED),
     ] {
         let lines = with_long_word(rt.alloc(), front, letters).expect(&rt, "lines");
-        compare(&rt, rt.alloc(), (lines.as_slice(), replies, None));
+        compare_both(&rt, rt.alloc(), (lines.as_slice(), replies, None));
     }
 }

@@ -1,18 +1,13 @@
 //! Two jobs move piece by piece, each by a thread of its own, while a third thread stops one of them.
 
-ghost use Rattle.std.specs.Prelude.{◌≡◌};
-
+use crate::hubs::share;
 use crate::jobs::{act, finish, start};
-use crate::shared_values::one_or_both;
 use ftp_events::{Action, Decision, EventKind, Log};
-use ftp_options::Options;
-use ftp_shared::{JobShare, JournalHub, Serving, SharedHub, StepShare, Submitted};
+use ftp_shared::{JobShare, JournalHub, Serving, SettleError, SharedHub, StepShare, Submitted};
 use ftp_transfer::Ticket;
 use std::alloc::Global;
-use std::marker::Brand;
 use std::process::Abort;
 use std::sync::Wait;
-use std::sync::ledger::Blank;
 use std::thread;
 use std::thread::Threads;
 
@@ -60,44 +55,29 @@ fn move_until_stopped<L: Serving, R: Wait + Abort>(
 fn move_to_end<L: Serving, R: Wait + Abort>(
     rt: &R,
     hub: &SharedHub<L>,
-    share: StepShare<L>,
     job: JobShare,
 ) -> StepShare<L> {
-    let mut share = share;
+    let mut share = share(rt, hub);
     let job = move_on(rt, hub, &mut share, job, PIECES).expect(rt, "a job");
     finish(rt, hub, &mut share, job, PIECES);
     share
 }
 
 /// Stops the job of session 1.
-fn abort<L: Serving, R: Wait + Abort>(
-    rt: &R,
-    hub: &SharedHub<L>,
-    share: StepShare<L>,
-) -> StepShare<L> {
-    let mut share = share;
+fn abort<L: Serving, R: Wait + Abort>(rt: &R, hub: &SharedHub<L>) -> StepShare<L> {
+    let mut share = share(rt, hub);
     act(rt, hub, &mut share, EventKind::Abor { session: 1 });
     share
 }
 
 /// The journal of two jobs, of which the first is stopped.
-fn move_shared<L: Serving + Send + Sync, R: Threads + Wait + Abort + Sync>(
+pub fn move_two<L: Serving + Send + Sync, R: Threads + Wait + Abort + Sync>(
     rt: &R,
     alloc: Global,
-    options: Options,
-    blank: Blank,
-) -> Log
-    requires name { blank.name ≡ L.name }
-    requires parts { blank.parts ≡ L.parts }
-    requires four { blank.parts ≡ 4 }
-    requires options { options ≡ L.options }
-{
-    let (steps, parts) = blank.open::<L>();
-    let hub = SharedHub::new(alloc, options, steps, parts, 4);
+    hub: SharedHub<L>,
+) -> Result<Log, SettleError> {
     let shared = &hub;
-    let mut first = hub.share(rt).expect(rt, "a share");
-    let second = hub.share(rt).expect(rt, "a share");
-    let third = hub.share(rt).expect(rt, "a share");
+    let mut first = share(rt, shared);
     let stopped = start(rt, alloc, shared, &mut first, 1);
     let ended = start(rt, alloc, shared, &mut first, 2);
     let ((first, second), third) = thread::join(
@@ -106,19 +86,13 @@ fn move_shared<L: Serving + Send + Sync, R: Threads + Wait + Abort + Sync>(
             thread::join(
                 rt,
                 move || move_until_stopped(rt, shared, first, stopped),
-                move || move_to_end(rt, shared, second, ended),
+                move || move_to_end(rt, shared, ended),
             )
         },
-        move || abort(rt, shared, third),
+        move || abort(rt, shared),
     );
-    let mut shares = one_or_both(alloc, first, second, true).expect(rt, "shares");
-    shares.push(third).expect(rt, "shares");
-    hub.settle(shares, &[]).ok().expect(rt, "a journal")
-}
-
-/// The journal of two jobs on a hub of these options, of which the first is stopped.
-pub fn move_two<R: Threads + Wait + Abort + Sync>(rt: &R, alloc: Global, options: Options) -> Log {
-    move_shared::<Brand, R>(rt, alloc, options, Blank::new(4))
+    let shares = vec![in alloc; first, second, third].expect(rt, "shares");
+    hub.settle(shares, &[])
 }
 
 /// What was decided by the entry that completes or cancels a ticket.

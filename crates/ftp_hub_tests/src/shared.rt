@@ -1,25 +1,36 @@
 //! The locked hub, used by one thread and by two.
 
 use crate::cutting::{TailSeen, handed_late, tail_over};
-use crate::feeding::gives_the_journal;
-use crate::jobs::{Course, transfer};
-use crate::pieces::{move_two, settled_by};
-use crate::settled::{Told, difference, settle_two, strange_receipt};
+use crate::hubs::{Course, settled_after};
+use crate::pieces::settled_by;
+use crate::settled::{Told, difference};
 use crate::shared_values::sent_at_once;
-use crate::threads::connect_two;
+use crate::threads::gives_the_journal;
 use crate::values::{decisions_of, pooled};
-use ftp_events::Decision;
+use ftp_events::{Decision, Log};
 use ftp_shared::{Notifier, SettleError};
 use ftp_transfer::Ticket;
+use std::alloc::Global;
+use std::process::Abort;
+use std::sync::Wait;
 use std::test::Fail;
 use std::thread;
+use std::thread::Threads;
+
+/// The journal of a hub after this.
+fn journal_after<R: Threads + Wait + Abort + Sync>(rt: &R, alloc: Global, course: Course) -> Log {
+    settled_after(rt, alloc, course)
+        .ok()
+        .expect(rt, "a journal")
+}
 
 #[test]
 fn two_threads_make_one_journal(rt: HostRuntime) {
-    let options = pooled(&rt, rt.alloc());
-    let log = connect_two(&rt, rt.alloc(), options, 1000)
-        .ok()
-        .expect(&rt, "a journal");
+    let course = Course::Connect {
+        each: 1000,
+        feed: None,
+    };
+    let log = journal_after(&rt, rt.alloc(), course);
     assert_eq!(rt; log.len(), 2000);
     // Each is a session of its own, so the numbers drawn are 2,000 different ones.
     for entry in log.as_slice() {
@@ -31,9 +42,7 @@ fn two_threads_make_one_journal(rt: HostRuntime) {
 fn a_feed_gives_what_two_threads_append(rt: HostRuntime) {
     // With an entry too many the writer is told of a loss.
     for (most, is_whole) in [(200, true), (199, false)] {
-        let options = pooled(&rt, rt.alloc());
-        let given = gives_the_journal(&rt, rt.alloc(), options, 100, most);
-        assert_eq!(rt; given, is_whole);
+        assert_eq!(rt; gives_the_journal(&rt, rt.alloc(), 100, most), is_whole);
     }
 }
 
@@ -62,64 +71,48 @@ fn replies_outlive_the_tail(rt: HostRuntime) {
 }
 
 #[test]
-fn a_hub_is_settled_with_all_shares_and_receipts(rt: HostRuntime) -> Result<(), Fail> {
-    let alloc = rt.alloc();
-    let Ok(log) = settle_two(&rt, alloc, pooled(&rt, alloc), Told::Both)? else {
-        return Err(Fail::from("not settled"));
-    };
+fn a_hub_is_settled_with_all_shares_and_receipts(rt: HostRuntime) {
+    let log = journal_after(&rt, rt.alloc(), Course::Tell(Told::Both));
+    let found = decisions_of(rt.alloc(), &log).expect(&rt, "decisions");
     assert_eq!(rt;
-        decisions_of(alloc, &log)?.as_slice(),
+        found.as_slice(),
         [Decision::Opened, Decision::NeedPass].as_slice()
     );
-    Ok(())
 }
 
 #[test]
-fn steps_are_missed(rt: HostRuntime) -> Result<(), Fail> {
-    let options = pooled(&rt, rt.alloc());
-    let settled = settle_two(&rt, rt.alloc(), options, Told::First)?;
-    let Err(SettleError::Missing { counted, length }) = settled else {
-        return Err(Fail::from("nothing is missed"));
-    };
-    assert_eq!(rt; (counted, length), (1, 2));
-    Ok(())
+fn steps_are_missed(rt: HostRuntime) {
+    let settled = settled_after(&rt, rt.alloc(), Course::Tell(Told::First));
+    assert!(rt;
+        matches!(
+            settled,
+            Err(SettleError::Missing {
+                counted: 1,
+                length: 2
+            })
+        )
+    );
 }
 
 #[test]
-fn the_receipt_of_another_hub_differs(rt: HostRuntime) -> Result<(), Fail> {
-    let alloc = rt.alloc();
-    let strange = strange_receipt(&rt, alloc, pooled(&rt, alloc))?;
-    let settled = settle_two(&rt, alloc, pooled(&rt, alloc), strange)?;
-    let due = Some((0, Decision::Opened, Decision::Opened));
-    assert_eq!(rt; difference(&settled)?, due);
-    Ok(())
+fn a_receipt_at_another_place_differs(rt: HostRuntime) {
+    let settled = settled_after(&rt, rt.alloc(), Course::Tell(Told::Misplaced));
+    let found = difference(&settled).expect(&rt, "what differs");
+    assert_eq!(rt; found, Some((0, Decision::Opened, Decision::NeedPass)));
 }
 
 #[test]
 fn a_job_is_out_while_its_session_goes_on_and_across_a_stop(rt: HostRuntime) {
-    let alloc = rt.alloc();
-    // A session that the stop has ended is handed nothing more.
-    for (stops_early, woken, handed) in [
-        (false, Some(1), b"226 Successfully sent\r\n".as_slice()),
-        (true, None, b""),
-    ] {
-        let (course, earlier) = transfer(&rt, alloc, pooled(&rt, alloc), stops_early);
-        let due = Course {
-            drained_early: false,
-            end: Decision::Finished,
-            woken,
-            drained: true,
-        };
-        assert_eq!(rt; course, due);
-        let sent = sent_at_once(alloc, &earlier).expect(&rt, "a text");
-        assert_eq!(rt; sent.as_slice(), handed);
+    let ticket = Ticket { session: 1, nr: 1 };
+    for stops_early in [false, true] {
+        let log = journal_after(&rt, rt.alloc(), Course::TakeAFile { stops_early });
+        assert_eq!(rt; settled_by(&log, ticket), Some(Decision::Finished));
     }
 }
 
 #[test]
 fn a_job_is_stopped_while_two_move(rt: HostRuntime) {
-    let options = pooled(&rt, rt.alloc());
-    let log = move_two(&rt, rt.alloc(), options);
+    let log = journal_after(&rt, rt.alloc(), Course::MoveTwo);
     for (session, decision) in [(1, Decision::Cut), (2, Decision::Finished)] {
         let ticket = Ticket { session, nr: 1 };
         assert_eq!(rt; settled_by(&log, ticket), Some(decision));

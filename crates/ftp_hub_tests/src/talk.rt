@@ -1,23 +1,49 @@
 //! A talk in memory, over a desk by itself.
 
-ghost use Rattle.std.specs.Prelude.{◌≡◌, ◌≤◌};
+ghost use Rattle.std.specs.Prelude.{◌≡◌};
 
-use crate::talk_values::{edge, serve_over, storage};
+use crate::counting::{CountingDesk, Counts};
+use crate::talk_values::{OnlyAnn, edge, opening, storage};
 use crate::values::pooled;
-use ftp_base::{Bytes, MemoryEdge, MemoryLink, MemoryStorage, StoreError};
+use ftp_base::{Bytes, Control, MemoryEdge, MemoryStorage};
+use ftp_events::Answer;
+use ftp_extras::FileExtras;
 use ftp_options::Options;
-use ftp_shared::{JobShare, Serving, SoloDesk};
-use ftp_talk::ServeEnd;
+use ftp_shared::{Desk, JobShare, Serving, SoloDesk};
+use ftp_talk::{ServeEnd, serve_control, serve_control_with};
 use std::alloc::{AllocError, Global};
 use std::marker::Brand;
 use std::process::Abort;
 use std::sync::ledger::Blank;
 
-/// What was seen of a talk: how it ended, what was sent, and the job that started first.
+/// The words beside the profile's, over files in memory.
+pub type FileWords = FileExtras<MemoryStorage>;
+
+/// The talk on a connection, over a desk.
+fn serve_over<D: Desk, C: Control>(
+    alloc: Global,
+    desk: &mut D,
+    control: &mut C,
+    edge: &mut MemoryEdge,
+    words: Option<FileWords>,
+) -> ServeEnd {
+    let (first, none) = (opening(), Answer::None);
+    match words {
+        Some(words) => {
+            let mut words = words;
+            serve_control_with(
+                alloc, desk, control, edge, &OnlyAnn, &mut words, first, none,
+            )
+        }
+        None => serve_control(alloc, desk, control, edge, &OnlyAnn, first, none),
+    }
+}
+
+/// What was seen of a talk: how it ended, what was submitted, and the job that started first.
 #[derive(Drop)]
 pub struct Talked {
     pub end: ServeEnd,
-    pub link: MemoryLink,
+    pub counts: Counts,
     pub job: Option<JobShare>,
 }
 
@@ -35,12 +61,13 @@ impl Talked {
 }
 
 /// The talk on a connection, over a desk of this server.
-fn serve_shared<L: Serving>(
+fn talk_at<L: Serving, C: Control>(
     alloc: Global,
     options: Options,
     storage: MemoryStorage,
     edge: MemoryEdge,
-    link: MemoryLink,
+    control: &mut C,
+    words: Option<FileWords>,
     blank: Blank,
 ) -> Talked
     requires name { blank.name ≡ L.name }
@@ -49,33 +76,26 @@ fn serve_shared<L: Serving>(
     requires options { options ≡ L.options }
 {
     let (steps, parts) = blank.open::<L>();
-    let mut desk = SoloDesk::new(alloc, options, storage, steps, parts, 2);
+    let desk = SoloDesk::new(alloc, options, storage, steps, parts, 2);
+    let mut desk = CountingDesk::new(desk);
     let mut edge = edge;
-    let mut link = link;
-    let end = serve_over(alloc, &mut desk, &mut link, &mut edge);
-    let job = desk.take_job();
-    Talked { end, link, job }
+    let end = serve_over(alloc, &mut desk, control, &mut edge, words);
+    Talked {
+        end,
+        counts: desk.counts,
+        job: desk.desk.take_job(),
+    }
 }
 
 /// The talk on a connection.
-fn serve(
+pub fn talk<A: Abort, C: Control>(
+    rt: &A,
     alloc: Global,
-    options: Options,
-    storage: MemoryStorage,
-    edge: MemoryEdge,
-    link: MemoryLink,
+    control: &mut C,
+    words: Option<FileWords>,
 ) -> Talked {
-    serve_shared::<Brand>(alloc, options, storage, edge, link, Blank::new(2))
-}
-
-/// The talk on these lines, which come, as the replies go, in pieces of so many bytes.
-pub fn talk(rt: &impl Abort, alloc: Global, lines: &[u8], chunk: u32) -> Result<Talked, StoreError>
-    requires { 1 ≤ chunk }
-{
-    let lines = Vec::from_slice(alloc, lines)?;
-    let edge = edge(alloc)?;
+    let storage = storage(alloc).expect(rt, "a storage");
+    let edge = edge(alloc).expect(rt, "an edge");
     let options = pooled(rt, alloc);
-    let storage = storage(alloc)?;
-    let link = MemoryLink::new(alloc, lines, chunk, Vec::new(alloc));
-    Ok(serve(alloc, options, storage, edge, link))
+    talk_at::<Brand, C>(alloc, options, storage, edge, control, words, Blank::new(2))
 }

@@ -4,12 +4,9 @@ ghost use Rattle.std.specs.Prelude.{◌≡◌, true};
 ghost use Rattle.ftp_talk.specs.Control.{is_opening};
 
 use ftp_base::{
-    AuthAnswer, Authenticator, Bytes, Control, IpAddr, MemoryEdge, MemoryStorage, SocketAddr,
-    StoreError,
+    AuthAnswer, Authenticator, Bytes, IpAddr, MemoryEdge, MemoryStorage, SocketAddr, StoreError,
 };
-use ftp_events::{Answer, EventKind, HubEvent};
-use ftp_shared::Desk;
-use ftp_talk::{ServeEnd, serve_control};
+use ftp_events::{EventKind, HubEvent};
 use std::alloc::{AllocError, Global};
 
 /// Session 1, from 10.0.0.1 to 10.0.0.9.
@@ -31,24 +28,6 @@ pub fn opening() -> HubEvent
             trace: 1,
         },
     }
-}
-
-/// The talk on a connection, over a desk.
-pub fn serve_over<D: Desk, C: Control>(
-    alloc: Global,
-    desk: &mut D,
-    control: &mut C,
-    edge: &mut MemoryEdge,
-) -> ServeEnd {
-    serve_control(
-        alloc,
-        desk,
-        control,
-        edge,
-        &OnlyAnn,
-        opening(),
-        Answer::None,
-    )
 }
 
 /// Lets in `ann` with the password `x`, from 10.0.0.1.

@@ -22,7 +22,7 @@ pub fn pooled(rt: &impl Abort, alloc: Global) -> Options
     builder.active_passive_mode(ActivePassiveMode::ActiveAndPassive);
     builder.passive_ports(50000, 50001);
     builder.metrics();
-    builder.build().ok().expect(rt, "options").options
+    builder.build().expect(rt, "options").options
 }
 
 /// The event of a line of a script.
@@ -47,11 +47,17 @@ pub fn storage(alloc: Global) -> Result<MemoryStorage, StoreError> {
     Ok(storage)
 }
 
-/// Links for four data connections, which give nothing.
+/// Links for four data connections, which give nothing, but for the last, which gives `Hello`.
 pub fn links(rt: &impl Abort, alloc: Global) -> LinkTable<MemoryLink> {
     let mut links = LinkTable::new(alloc);
     for number in 11..15 {
-        let link = MemoryLink::new(alloc, Vec::new(alloc), 2, Vec::new(alloc));
+        let bytes = if number == 14 {
+            b"Hello".as_slice()
+        } else {
+            b""
+        };
+        let bytes = bytes.to_vec(alloc).expect(rt, "bytes");
+        let link = MemoryLink::new(alloc, bytes, 2, Vec::new(alloc));
         links.insert(number, link).ok().expect(rt, "a free number");
     }
     links

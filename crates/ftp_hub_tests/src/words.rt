@@ -1,21 +1,8 @@
 //! Lines with words beside the profile's.
 
-ghost use Rattle.std.specs.Prelude.{◌≡◌};
-
-use crate::talk_values::{OnlyAnn, edge, opening, storage};
-use crate::values::pooled;
-use ftp_base::{MemoryEdge, MemoryLink, MemoryStorage};
-use ftp_events::Answer;
-use ftp_extras::{Extras, FileExtras, Offers};
-use ftp_options::Options;
-use ftp_shared::{Desk, Serving, SoloDesk};
-use ftp_talk::{ServeEnd, serve_control_with};
-use std::alloc::Global;
-use std::marker::Brand;
-use std::process::Abort;
-use std::sync::ledger::Blank;
-
-const GREETING: &[u8] = b"220 Welcome to the libunftp FTP server\r\n";
+use crate::lines::compare;
+use crate::talk_values::storage;
+use ftp_extras::{FileExtras, Offers};
 
 const OFFERS: Offers = Offers {
     is_behind_tls: false,
@@ -71,73 +58,13 @@ const ROWS: [Row<'static>; 7] = [
     ),
 ];
 
-/// The talk on a connection with words about files, over a desk.
-fn serve_over<D: Desk, X: Extras>(
-    alloc: Global,
-    desk: &mut D,
-    link: &mut MemoryLink,
-    edge: &mut MemoryEdge,
-    extras: &mut X,
-) -> ServeEnd {
-    serve_control_with(
-        alloc,
-        desk,
-        link,
-        edge,
-        &OnlyAnn,
-        extras,
-        opening(),
-        Answer::None,
-    )
-}
-
-/// The talk on a connection with words about files, over a desk of this server: what was sent, and how it ended.
-fn serve_shared<L: Serving>(
-    alloc: Global,
-    options: Options,
-    storage: MemoryStorage,
-    edge: MemoryEdge,
-    link: MemoryLink,
-    extras: FileExtras<MemoryStorage>,
-    blank: Blank,
-) -> (ServeEnd, MemoryLink)
-    requires name { blank.name ≡ L.name }
-    requires parts { blank.parts ≡ L.parts }
-    requires two { blank.parts ≡ 2 }
-    requires options { options ≡ L.options }
-{
-    let (steps, parts) = blank.open::<L>();
-    let mut desk = SoloDesk::new(alloc, options, storage, steps, parts, 2);
-    let mut edge = edge;
-    let mut link = link;
-    let mut extras = extras;
-    let end = serve_over(alloc, &mut desk, &mut link, &mut edge, &mut extras);
-    (end, link)
-}
-
-/// Compares a row with its talk, in one packet and byte by byte.
-fn compare(rt: &impl Abort, alloc: Global, row: Row<'_>) {
-    let (lines, replies) = row;
-    for chunk in [1, 65536] {
-        let input = Vec::from_slice(alloc, lines).expect(rt, "lines");
-        let files = storage(alloc).ok().expect(rt, "files");
-        let (end, link) = serve_shared::<Brand>(
-            alloc,
-            pooled(rt, alloc),
-            storage(alloc).ok().expect(rt, "a storage"),
-            edge(alloc).expect(rt, "an edge"),
-            MemoryLink::new(alloc, input, chunk, Vec::new(alloc)),
-            FileExtras::new(alloc, OFFERS, files),
-            Blank::new(2),
-        );
-        assert_eq!(rt; link.sent().strip_prefix(GREETING), Some(replies));
-        assert_eq!(rt; end, ServeEnd::Ended);
-    }
-}
-
 #[test]
 fn words_of_clients_are_answered_in_their_order(rt: HostRuntime) {
-    for row in ROWS {
-        compare(&rt, rt.alloc(), row);
+    for (lines, replies) in ROWS {
+        for chunk in [1, 65536] {
+            let files = storage(rt.alloc()).expect(&rt, "files");
+            let words = FileExtras::new(rt.alloc(), OFFERS, files);
+            compare(&rt, rt.alloc(), (lines, replies, None), chunk, Some(words));
+        }
     }
 }
