@@ -3,6 +3,7 @@
 use ftp_base::{Failed, Link, LinkFault, MemoryLink, Source};
 use ftp_system::{Gathered, gathering_buffer};
 use std::alloc::{AllocError, Global};
+use std::test::Fail;
 
 /// A transfer's piece, which is gathered. What is shorter goes at once.
 const PIECE: usize = 8192;
@@ -50,7 +51,7 @@ fn sent_pieces(alloc: Global, letters: &[u8], end: &[u8]) -> Result<Vec<u8>, All
 }
 
 #[test]
-fn pieces_go_together_in_their_order(rt: HostRuntime) {
+fn pieces_go_together_in_their_order(rt: HostRuntime) -> Result<(), Fail> {
     let alloc = rt.alloc();
     // How many pieces the buffer takes, which call fails, what is done last, whether that goes well; what was sent then,
     // and whether the link is closed.
@@ -80,55 +81,47 @@ fn pieces_go_together_in_their_order(rt: HostRuntime) {
         // What the buffer has no more room for goes ahead of what comes.
         (2, 2, Last::Nothing, true, b"xy", b"", false),
     ] {
-        let buffer = Vec::from_elem(alloc, 0u8, room * PIECE).expect(&rt, "bytes");
-        let mut gathered = Gathered::new(link(alloc, fails).expect(&rt, "a link"), buffer);
+        let buffer = Vec::from_elem(alloc, 0u8, room * PIECE)?;
+        let mut gathered = Gathered::new(link(alloc, fails)?, buffer);
         for letter in b"xyz" {
             assert_eq!(rt;
-                gathered.write(piece(alloc, *letter).expect(&rt, "a piece").as_slice()),
+                gathered.write(piece(alloc, *letter)?.as_slice()),
                 Ok(PIECE)
             );
         }
         assert_eq!(rt; done(&mut gathered, last), goes, "{last:?}, {fails}");
-        let (link, _, _) = gathered.into_rest(alloc).expect(&rt, "the rest");
+        let (link, _, _) = gathered.into_rest(alloc)?;
         assert_eq!(rt;
             (link.sent(), link.is_closed()),
-            (
-                sent_pieces(alloc, letters, end)
-                    .expect(&rt, "pieces")
-                    .as_slice(),
-                is_closed
-            ),
+            (sent_pieces(alloc, letters, end)?.as_slice(), is_closed),
             "{last:?}, {fails}"
         );
     }
+    Ok(())
 }
 
 #[test]
-fn small_reads_are_answered_from_a_large_one(rt: HostRuntime) {
+fn small_reads_are_answered_from_a_large_one(rt: HostRuntime) -> Result<(), Fail> {
     let alloc = rt.alloc();
-    let mut gathered = Gathered::new(
-        link(alloc, 2).expect(&rt, "a link"),
-        gathering_buffer(alloc).expect(&rt, "a buffer"),
-    );
+    let mut gathered = Gathered::new(link(alloc, 2)?, gathering_buffer(alloc)?);
     let mut taken = [0; 2];
     for pair in [b"ab", b"cd"] {
         assert_eq!(rt; (gathered.read(&mut taken), &taken), (Ok(2), pair));
     }
-    let (_, buffer, rest) = gathered.into_rest(alloc).expect(&rt, "the rest");
+    let (_, buffer, rest) = gathered.into_rest(alloc)?;
     assert_eq!(rt;
         (buffer.len(), rest.as_slice()),
         (131_072, b"ef".as_slice())
     );
+    Ok(())
 }
 
 #[test]
-fn a_fault_of_the_link_is_told(rt: HostRuntime) {
+fn a_fault_of_the_link_is_told(rt: HostRuntime) -> Result<(), Fail> {
     let alloc = rt.alloc();
-    let mut gathered = Gathered::new(
-        link(alloc, 1).expect(&rt, "a link"),
-        gathering_buffer(alloc).expect(&rt, "a buffer"),
-    );
+    let mut gathered = Gathered::new(link(alloc, 1)?, gathering_buffer(alloc)?);
     assert_eq!(rt; gathered.last_fault(), None);
     assert_eq!(rt; gathered.read(&mut [0; 2]), Err(Failed::Fault));
     assert_eq!(rt; gathered.last_fault(), Some(LinkFault::Reset));
+    Ok(())
 }
