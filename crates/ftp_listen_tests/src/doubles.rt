@@ -43,7 +43,7 @@ pub struct Board {
 pub type SharedBoard = Arc<Board, Global>;
 
 /// What is counted on a board.
-#[derive(Clone, Copy, Debug, PartialEq, Eq)]
+#[derive(Clone, Copy)]
 pub enum Sign {
     Polls,
     Arrivals,

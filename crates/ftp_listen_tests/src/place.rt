@@ -13,7 +13,7 @@ pub const DOOR: u16 = 2121;
 pub const PASSIVE: u16 = 50000;
 
 /// A loopback address that was drawn, so that tests which run at a time do not meet, behind a proxy or not.
-#[derive(Clone, Copy, Debug)]
+#[derive(Clone, Copy)]
 pub struct Place {
     ip: Ipv4Addr,
     is_proxied: bool,

@@ -15,7 +15,7 @@ const LOOKS: u32 = 2000;
 const PAUSE: u64 = 10;
 
 /// What a client does. Lines and replies have their ends.
-#[derive(Clone, Copy, Debug)]
+#[derive(Clone, Copy)]
 pub enum Step {
     /// Connects, sends what a proxy sends ahead, and is told this first.
     Come(&'static [u8], &'static str),
@@ -48,7 +48,7 @@ pub enum Step {
 }
 
 /// What happens at a server.
-#[derive(Clone, Copy, Debug)]
+#[derive(Clone, Copy)]
 pub enum Act {
     /// The first client does this.
     One(Step),
