@@ -35,6 +35,7 @@ mod reply;
 mod reply_text;
 mod storage;
 mod trace;
+mod word_table;
 mod worker;
 
 pub use authenticator::{Authenticator, SameAnswer};
@@ -65,4 +66,5 @@ pub use reply::{Reply, ReplyCode};
 pub use reply_text::ReplyText;
 pub use storage::{FEATURE_RESTART, FileInfo, Looks, Meta, Storage, StoreError, count_failed};
 pub use trace::TraceId;
+pub use word_table::{value_named, value_named_in_any_case};
 pub use worker::{Gate, Spawner};
