@@ -1,5 +1,5 @@
 -- Worked examples: lines and what they ask for, each by computation.
-use Rattle.std.proofs.Common.{◌≡◌, ℕ, ◌-◌, ◌^◌, List, [], ◌∷◌, ◌++◌, Option, Some, None, Result, Ok, Err, refl}
+use Rattle.std.proofs.Common.{◌≡◌, ℕ, ◌-◌, ◌^◌, List, [], ◌∷◌, ◌++◌, map, Option, Some, None, Result, Ok, Err, refl}
 use Rattle.std.specs.Prelude.{codes}
 use Rattle.std.specs.Str.{is_utf8, chars}
 use Rattle.std.specs.Fmt.{digits}
@@ -16,9 +16,9 @@ use Rattle.ftp_control.specs.Line.{parsed}
 abbrev ended : List ℕ → List ℕ
 ended text = text ++ 13 ∷ 10 ∷ []
 
--- what a text asks for as a line
-abbrev asked : List ℕ → Result Command LineError
-asked text = parsed (ended text)
+-- what each of these lines asks for
+abbrev Parses : List (List ℕ × Result Command LineError) → Type 0
+Parses rows = map (λ row. parsed row.0) rows ≡ map (λ row. row.1) rows
 
 -- a password
 abbrev pass : List ℕ → Result Command LineError
@@ -28,205 +28,92 @@ pass password = Ok (command.Pass (record { 0 = password }))
 abbrev list : Option (List ℕ) → Result Command LineError
 list path = Ok (command.Data (move.List None path))
 
--- ---- the end of a line
-
-no_line_feed : parsed (codes "USER Dolores" ++ 13 ∷ []) ≡ Err error.InvalidEol
-no_line_feed = refl
-
-nothing : parsed [] ≡ Err error.InvalidEol
-nothing = refl
-
-no_carriage_return : parsed (codes "USER Dolores" ++ 10 ∷ []) ≡ Ok (command.User (codes "Dolores"))
+-- where a line ends
+the_end_of_a_line : Parses (
+    (codes "USER Dolores" ++ 13 ∷ [], Err error.InvalidEol) ∷  -- no line feed
+    ([], Err error.InvalidEol) ∷  -- nothing
+    (codes "USER Dolores" ++ 10 ∷ [], Ok (command.User (codes "Dolores"))) ∷  -- no carriage return
+    (ended (codes "USER a" ++ 10 ∷ codes "b"), Ok (command.User (codes "a" ++ 10 ∷ codes "b"))) ∷  -- earlier line feed
+    (ended (codes "USER a" ++ 13 ∷ codes "b"), Ok (command.User (codes "a" ++ 13 ∷ codes "b"))) ∷  -- earlier carriage return
+    (ended (codes "USER a" ++ 13 ∷ []), Ok (command.User (codes "a" ++ 13 ∷ []))) ∷  -- two carriage returns
+    [])
 unfolding is_utf8 chars encode without_nul
-no_carriage_return = refl
+the_end_of_a_line = refl
 
-earlier_line_feed : asked (codes "USER a" ++ 10 ∷ codes "b") ≡ Ok (command.User (codes "a" ++ 10 ∷ codes "b"))
+-- bytes that are no text
+bytes_that_are_no_text : Parses (
+    (ended (codes "USER " ++ 255 ∷ []), Err error.Utf8) ∷  -- no text
+    (codes "USER " ++ 255 ∷ [], Err error.InvalidEol) ∷  -- no text without line feed
+    (ended (codes "QUIT " ++ 255 ∷ []), Err error.Utf8) ∷  -- no text in a bad parameter
+    (ended (codes "USER " ++ 195 ∷ 169 ∷ []), Ok (command.User (195 ∷ 169 ∷ []))) ∷  -- two bytes of text
+    [])
 unfolding is_utf8 chars encode without_nul
-earlier_line_feed = refl
+bytes_that_are_no_text = refl
 
-earlier_carriage_return : asked (codes "USER a" ++ 13 ∷ codes "b") ≡ Ok (command.User (codes "a" ++ 13 ∷ codes "b"))
+-- how the word is read
+the_word : Parses (
+    (ended (codes "uSeR Dolores"), Ok (command.User (codes "Dolores"))) ∷  -- in any case
+    (ended (codes "USER" ++ 9 ∷ codes "Dolores x"), Ok (command.Other (codes "USER" ++ 9 ∷ codes "Dolores"))) ∷  -- a tab belongs to it
+    (ended [], Ok (command.Other [])) ∷  -- no word
+    (ended (codes "sIte x"), Ok (command.Other (codes "sIte"))) ∷  -- as it was sent
+    (ended (codes "PASV" ++ 13 ∷ 0 ∷ []), Ok (command.Other (codes "PASV" ++ 13 ∷ 0 ∷ []))) ∷  -- a NUL in it
+    [])
 unfolding is_utf8 chars encode without_nul
-earlier_carriage_return = refl
+the_word = refl
 
-two_carriage_returns : asked (codes "USER a" ++ 13 ∷ []) ≡ Ok (command.User (codes "a" ++ 13 ∷ []))
+-- what is read of a parameter
+the_parameter : Parses (
+    (ended (codes "USER"), Err error.InvalidCommand) ∷  -- missing
+    (ended (codes "USER "), Err error.InvalidCommand) ∷  -- empty
+    (ended (codes "CWD  a"), Ok (command.Cwd (codes " a"))) ∷  -- one space is skipped
+    (ended (codes "RETR a" ++ 13 ∷ 0 ∷ codes "b"), Ok (command.Data (move.Retr (codes "a" ++ 13 ∷ codes "b")))) ∷  -- a NUL behind a carriage return
+    (ended (codes "RETR " ++ 13 ∷ 0 ∷ 0 ∷ []), Ok (command.Data (move.Retr (13 ∷ 0 ∷ [])))) ∷  -- one NUL alone goes
+    (ended (codes "RETR " ++ 13 ∷ 13 ∷ 0 ∷ []), Ok (command.Data (move.Retr (13 ∷ 13 ∷ [])))) ∷  -- two carriage returns
+    (ended (codes "RETR a" ++ 0 ∷ []), Ok (command.Data (move.Retr (codes "a" ++ 0 ∷ [])))) ∷  -- a NUL by itself
+    (codes "RETR a" ++ 13 ∷ 0 ∷ 10 ∷ [], Ok (command.Data (move.Retr (codes "a" ++ 13 ∷ [])))) ∷  -- the end of the line goes first
+    (ended (codes "PASS"), pass []) ∷  -- no password
+    (ended (codes "PASS "), pass []) ∷  -- empty password
+    (ended (codes "PASS  a b "), pass (codes " a b ")) ∷  -- spaces in a password
+    [])
 unfolding is_utf8 chars encode without_nul
-two_carriage_returns = refl
+the_parameter = refl
 
--- ---- bytes that are no text
-
-no_text : asked (codes "USER " ++ 255 ∷ []) ≡ Err error.Utf8
-unfolding is_utf8 chars encode
-no_text = refl
-
-no_text_without_line_feed : parsed (codes "USER " ++ 255 ∷ []) ≡ Err error.InvalidEol
-no_text_without_line_feed = refl
-
-no_text_in_a_bad_parameter : asked (codes "QUIT " ++ 255 ∷ []) ≡ Err error.Utf8
-unfolding is_utf8 chars encode
-no_text_in_a_bad_parameter = refl
-
-two_bytes_of_text : asked (codes "USER " ++ 195 ∷ 169 ∷ []) ≡ Ok (command.User (195 ∷ 169 ∷ []))
+-- commands without a parameter
+commands_without_a_parameter : Parses (
+    (ended (codes "PASV"), Ok command.Pasv) ∷  -- bare
+    (ended (codes "PASV "), Ok command.Pasv) ∷  -- with one space
+    (ended (codes "PASV  "), Err error.InvalidCommand) ∷  -- with two spaces
+    (ended (codes "QUIT x"), Err error.InvalidCommand) ∷  -- quit with a parameter
+    (ended (codes "bye"), Ok command.Quit) ∷  -- bye is quit
+    (ended (codes "TYPE"), Ok command.TypeCmd) ∷  -- any type
+    [])
 unfolding is_utf8 chars encode without_nul
-two_bytes_of_text = refl
+commands_without_a_parameter = refl
 
--- ---- the word
-
-in_any_case : asked (codes "uSeR Dolores") ≡ Ok (command.User (codes "Dolores"))
-unfolding is_utf8 chars encode without_nul
-in_any_case = refl
-
-a_tab_belongs_to_it : asked (codes "USER" ++ 9 ∷ codes "Dolores x") ≡ Ok (command.Other (codes "USER" ++ 9 ∷ codes "Dolores"))
-unfolding is_utf8 chars encode
-a_tab_belongs_to_it = refl
-
-no_word : asked [] ≡ Ok (command.Other [])
-unfolding is_utf8 chars encode
-no_word = refl
-
-as_it_was_sent : asked (codes "sIte x") ≡ Ok (command.Other (codes "sIte"))
-unfolding is_utf8 chars encode
-as_it_was_sent = refl
-
-a_nul_in_it : asked (codes "PASV" ++ 13 ∷ 0 ∷ []) ≡ Ok (command.Other (codes "PASV" ++ 13 ∷ 0 ∷ []))
-unfolding is_utf8 chars encode
-a_nul_in_it = refl
-
--- ---- the parameter
-
-missing : asked (codes "USER") ≡ Err error.InvalidCommand
-unfolding is_utf8 chars encode without_nul
-missing = refl
-
-empty : asked (codes "USER ") ≡ Err error.InvalidCommand
-unfolding is_utf8 chars encode without_nul
-empty = refl
-
-one_space_is_skipped : asked (codes "CWD  a") ≡ Ok (command.Cwd (codes " a"))
-unfolding is_utf8 chars encode without_nul
-one_space_is_skipped = refl
-
-nul_behind_carriage_return : asked (codes "RETR a" ++ 13 ∷ 0 ∷ codes "b") ≡ Ok (command.Data (move.Retr (codes "a" ++ 13 ∷ codes "b")))
-unfolding is_utf8 chars encode without_nul
-nul_behind_carriage_return = refl
-
-from_the_left : asked (codes "RETR " ++ 13 ∷ 0 ∷ 0 ∷ []) ≡ Ok (command.Data (move.Retr (13 ∷ 0 ∷ [])))
-unfolding is_utf8 chars encode without_nul
-from_the_left = refl
-
-two_of_them : asked (codes "RETR " ++ 13 ∷ 13 ∷ 0 ∷ []) ≡ Ok (command.Data (move.Retr (13 ∷ 13 ∷ [])))
-unfolding is_utf8 chars encode without_nul
-two_of_them = refl
-
-nul_alone : asked (codes "RETR a" ++ 0 ∷ []) ≡ Ok (command.Data (move.Retr (codes "a" ++ 0 ∷ [])))
-unfolding is_utf8 chars encode without_nul
-nul_alone = refl
-
-the_end_goes_first : parsed (codes "RETR a" ++ 13 ∷ 0 ∷ 10 ∷ []) ≡ Ok (command.Data (move.Retr (codes "a" ++ 13 ∷ [])))
-unfolding is_utf8 chars encode without_nul
-the_end_goes_first = refl
-
-no_password : asked (codes "PASS") ≡ pass []
-unfolding is_utf8 chars encode without_nul
-no_password = refl
-
-empty_password : asked (codes "PASS ") ≡ pass []
-unfolding is_utf8 chars encode without_nul
-empty_password = refl
-
-spaces_in_a_password : asked (codes "PASS  a b ") ≡ pass (codes " a b ")
-unfolding is_utf8 chars encode without_nul
-spaces_in_a_password = refl
-
--- ---- commands without a parameter
-
-bare : asked (codes "PASV") ≡ Ok command.Pasv
-unfolding is_utf8 chars encode without_nul
-bare = refl
-
-with_one_space : asked (codes "PASV ") ≡ Ok command.Pasv
-unfolding is_utf8 chars encode without_nul
-with_one_space = refl
-
-with_two_spaces : asked (codes "PASV  ") ≡ Err error.InvalidCommand
-unfolding is_utf8 chars encode without_nul
-with_two_spaces = refl
-
-quit_with_a_parameter : asked (codes "QUIT x") ≡ Err error.InvalidCommand
-unfolding is_utf8 chars encode without_nul
-quit_with_a_parameter = refl
-
-bye_is_quit : asked (codes "bye") ≡ Ok command.Quit
-unfolding is_utf8 chars encode without_nul
-bye_is_quit = refl
-
-any_type : asked (codes "TYPE") ≡ Ok command.TypeCmd
-unfolding is_utf8 chars encode without_nul
-any_type = refl
-
--- ---- the options of a listing
-
-behind_two_hyphens : asked (codes "LIST -la -- folder with space") ≡ list (Some (codes "folder with space"))
+-- the options of a listing
+the_options_of_a_listing : Parses (
+    (ended (codes "LIST -la -- folder with space"), list (Some (codes "folder with space"))) ∷  -- behind two hyphens
+    (ended (codes "LIST -a  -b"), list (Some (codes " -b"))) ∷  -- behind two spaces
+    (ended (codes "LIST - a"), list (Some (codes "a"))) ∷  -- a hyphen alone
+    (ended (codes "LIST -- -a"), list (Some (codes "-a"))) ∷  -- hyphens after the two
+    (ended (codes "LIST a -b"), list (Some (codes "a -b"))) ∷  -- hyphens in the path
+    (ended (codes "LIST -la -a"), list None) ∷  -- options alone
+    (ended (codes "NLST -a"), Ok (command.Data (move.Nlst (Some (codes "-a"))))) ∷  -- no options of names
+    (ended (codes "MLSD"), Ok (command.Data (move.Mlsd None))) ∷  -- no path
+    [])
 unfolding is_utf8 chars encode without_nul behind_options
-behind_two_hyphens = refl
+the_options_of_a_listing = refl
 
-behind_two_spaces : asked (codes "LIST -a  -b") ≡ list (Some (codes " -b"))
-unfolding is_utf8 chars encode without_nul behind_options
-behind_two_spaces = refl
-
-a_hyphen_alone : asked (codes "LIST - a") ≡ list (Some (codes "a"))
-unfolding is_utf8 chars encode without_nul behind_options
-a_hyphen_alone = refl
-
-hyphens_after_the_two : asked (codes "LIST -- -a") ≡ list (Some (codes "-a"))
-unfolding is_utf8 chars encode without_nul behind_options
-hyphens_after_the_two = refl
-
-hyphens_in_the_path : asked (codes "LIST a -b") ≡ list (Some (codes "a -b"))
-unfolding is_utf8 chars encode without_nul behind_options
-hyphens_in_the_path = refl
-
-options_alone : asked (codes "LIST -la -a") ≡ list None
-unfolding is_utf8 chars encode without_nul behind_options
-options_alone = refl
-
-no_options_of_names : asked (codes "NLST -a") ≡ Ok (command.Data (move.Nlst (Some (codes "-a"))))
-unfolding is_utf8 chars encode without_nul
-no_options_of_names = refl
-
-no_path : asked (codes "MLSD") ≡ Ok (command.Data (move.Mlsd None))
-unfolding is_utf8 chars encode without_nul
-no_path = refl
-
--- ---- the number to restart at
-
-an_offset : asked (codes "REST 1303343") ≡ Ok (command.Rest 1303343)
+-- the number to restart at
+the_number_to_restart_at : Parses (
+    (ended (codes "REST 1303343"), Ok (command.Rest 1303343)) ∷  -- an offset
+    (ended (codes "REST 0"), Ok (command.Rest 0)) ∷  -- zero offset
+    (ended (codes "REST 18446744073709551615"), Ok (command.Rest (2 ^ 64 - 1))) ∷  -- the largest
+    (ended (codes "REST 18446744073709551616"), Err error.InvalidCommand) ∷  -- above the largest
+    (ended (codes "REST 1303 343"), Err error.InvalidCommand) ∷  -- two numbers
+    (ended (codes "REST 007"), Err error.InvalidCommand) ∷  -- leading zeros
+    (ended (codes "REST +7"), Err error.InvalidCommand) ∷  -- with a sign
+    (ended (codes "REST"), Err error.InvalidCommand) ∷  -- no offset
+    [])
 unfolding is_utf8 chars encode without_nul digits
-an_offset = refl
-
-zero_offset : asked (codes "REST 0") ≡ Ok (command.Rest 0)
-unfolding is_utf8 chars encode without_nul digits
-zero_offset = refl
-
-the_largest : asked (codes "REST 18446744073709551615") ≡ Ok (command.Rest (2 ^ 64 - 1))
-unfolding is_utf8 chars encode without_nul digits
-the_largest = refl
-
-above_the_largest : asked (codes "REST 18446744073709551616") ≡ Err error.InvalidCommand
-unfolding is_utf8 chars encode without_nul digits
-above_the_largest = refl
-
-two_numbers : asked (codes "REST 1303 343") ≡ Err error.InvalidCommand
-unfolding is_utf8 chars encode without_nul digits
-two_numbers = refl
-
-leading_zeros : asked (codes "REST 007") ≡ Err error.InvalidCommand
-unfolding is_utf8 chars encode without_nul digits
-leading_zeros = refl
-
-with_a_sign : asked (codes "REST +7") ≡ Err error.InvalidCommand
-unfolding is_utf8 chars encode without_nul digits
-with_a_sign = refl
-
-no_offset : asked (codes "REST") ≡ Err error.InvalidCommand
-unfolding is_utf8 chars encode without_nul digits
-no_offset = refl
+the_number_to_restart_at = refl
