@@ -1,5 +1,5 @@
 -- A header of either version.
-use Rattle.std.proofs.Common.{◌≡◌, ℕ, zero, suc, ◌<◌, ◌≤◌, Bool, true, false, cond, get_or, lit<, List, [], ◌∷◌, length, take, drop, Option, Some, None, Result, Ok, Err, refl, sym, ap, subst, ◌∙◌, arith}
+use Rattle.std.proofs.Common.{◌≡◌, ℕ, zero, suc, ◌<◌, Bool, true, false, cond, get_or, lit<, List, [], ◌∷◌, take, Option, Some, None, Result, Ok, Err, refl, sym, ap, subst, ◌∙◌, arith}
 use Rattle.std.specs.Prelude.{◌==◌, IfSome}
 use Rattle.std.proofs.lemmas.Option.{IfSome_then}
 use Rattle.ftp_base.specs.declared.fault.LinkFault.{LinkFault}
@@ -17,7 +17,7 @@ use Rattle.ftp_proxy.specs.declared.v2_error.Proxy2Error.TheVariants as block_er
 use Rattle.ftp_proxy.specs.declared.any.AnyHeader.{AnyHeader}
 use Rattle.ftp_proxy.specs.declared.any.AnyError.{AnyError}
 use Rattle.ftp_proxy.specs.declared.any.AnyError.TheVariants as error
-use Rattle.ftp_proxy.specs.Reading.{ReadsWell, ReadsToFault, IsRefused, IsRead, ReadsFrom, Begun, refusal_at}
+use Rattle.ftp_proxy.specs.Reading.{ReadsWell, ReadsToFault, IsRead, ReadsFrom, Begun, refusal_at}
 use Rattle.ftp_proxy.specs.Any.{begins_with_cr, IsAnyAnswer, IsAnyTaken, IsAnyRead, any_failed, IsLineRefused, IsLineRead, as_version1, as_version2}
 use Rattle.ftp_proxy.proofs.ReadLemmas.{IfSome_by, ReadsWell-more, ReadsToFault-more}
 

@@ -1,17 +1,17 @@
 -- What is spelled as a header is read, and what is read is spelled so.
-use Rattle.std.proofs.Common.{◌≡◌, ℕ, zero, suc, ◌+◌, ◌-◌, ◌^◌, ◌<◌, ◌≤◌, Bool, true, false, cond, eqb, ltb, leb, List, [], ◌∷◌, ◌++◌, length, get_or, take, drop, Option, Some, None, Result, Ok, Err, refl, sym, ap, subst, ◌∙◌, arith}
+use Rattle.std.proofs.Common.{◌≡◌, ℕ, zero, suc, ◌+◌, ◌^◌, ◌<◌, ◌≤◌, Bool, true, false, cond, eqb, ltb, leb, List, [], ◌∷◌, ◌++◌, length, get_or, take, drop, Option, Some, None, Result, Ok, Err, refl, sym, ap, subst, ◌∙◌, arith}
 use Rattle.std.specs.Prelude.{is_some, ◌||◌, IfOk, IfSome}
 use Rattle.std.specs.Option.{option_map_or}
 use Rattle.std.specs.Int.{w16, to_be_bytes, from_be_bytes}
 use Rattle.std.proofs.lemmas.Bool.Decides.{nat_tests}
-use Rattle.std.proofs.lemmas.List.{length-append, length-take, length-drop, get_or-take, take_at, drop_at, drop-drop, drop-take, drop_more, take-append-drop}
+use Rattle.std.proofs.lemmas.List.{length-append, length-take, length-drop, get_or-take, take_at, drop-drop, drop-take, drop_more, take-append-drop}
 use Rattle.std.proofs.lemmas.Nat.{be_bytes_2, from_be_bytes-to_be_bytes_2}
 use Rattle.ftp_proxy.specs.declared.v2_header.Header2.{Header2}
 use Rattle.ftp_proxy.specs.declared.v2_header.Body.{Body}
 use Rattle.ftp_proxy.specs.declared.v2_error.Proxy2Error.{Proxy2Error}
 use Rattle.ftp_proxy.specs.declared.v2_error.Proxy2Error.TheVariants as error
 use Rattle.ftp_proxy.specs.V2Header.{signature, command_of, block_of, header_bytes, IsHeader}
-use Rattle.ftp_proxy.specs.Reading.{at, number_at, addresses_len, block_len, needed, body_of, mapped, refusal_at, refusal, taken_len, header_of, outcome, IsAnswer, IsTaken, IsFound, IsReadAs, IsBytes, ReadsFrom}
+use Rattle.ftp_proxy.specs.Reading.{at, addresses_len, block_len, needed, body_of, mapped, refusal_at, refusal, taken_len, header_of, outcome, IsAnswer, IsFound, IsReadAs, IsBytes, ReadsFrom}
 use Rattle.ftp_proxy.proofs.WideLemmas.{IsBytes-drop}
 use Rattle.ftp_proxy.proofs.ReadLemmas.{IfSome_by}
 use Rattle.ftp_proxy.proofs.FieldsReading.{mapped_fine, two_bytes}

@@ -1,8 +1,8 @@
 -- A header and its bytes.
-use Rattle.std.proofs.Common.{◌≡◌, ℕ, ◌^◌, ◌<◌, true, List, [], ◌∷◌, ◌++◌, length, Some, refl, sym, ap, ◌∙◌, append_assoc, arith}
+use Rattle.std.proofs.Common.{◌≡◌, ℕ, true, List, [], ◌∷◌, ◌++◌, length, Some, ap, ◌∙◌, append_assoc, arith}
 use Rattle.std.specs.Int.{w16, to_be_bytes}
 use Rattle.ftp_proxy.specs.declared.v2_header.Header2.{Header2}
-use Rattle.ftp_proxy.specs.V2Header.{signature, command_of, block_of, header_bytes, suits, in_two_bytes, NumbersFit, IsHeader}
+use Rattle.ftp_proxy.specs.V2Header.{signature, command_of, block_of, suits, in_two_bytes, NumbersFit, IsHeader}
 use Rattle.ftp_proxy.proofs.FieldsLemmas.{in_two_bytes_some}
 
 regroup : (a b c d e : List ℕ) → a ++ b ++ c ++ d ++ e ≡ a ++ (b ++ (c ++ (d ++ e)))

@@ -1,5 +1,5 @@
 -- The first sixteen bytes: which of them is refused first.
-use Rattle.std.proofs.Common.{◌≡◌, ℕ, zero, suc, ◌+◌, ◌-◌, ◌<◌, ◌≤◌, Bool, true, false, cond, eqb, ltb, leb, List, [], ◌∷◌, ◌++◌, length, get_or, take, drop, Option, Some, None, Result, Ok, Err, refl, sym, ap, subst, ◌∙◌, arith, inl, inr, below_more, lit<}
+use Rattle.std.proofs.Common.{◌≡◌, ℕ, zero, suc, ◌+◌, ◌<◌, ◌≤◌, Bool, true, false, cond, eqb, ltb, leb, List, [], ◌∷◌, ◌++◌, length, get_or, take, drop, Option, Some, None, Result, Ok, Err, refl, sym, ap, subst, ◌∙◌, arith, inl, inr, below_more, lit<}
 use Rattle.std.specs.Option.{option_map_or}
 use Rattle.std.specs.Prelude.{is_some, ◌||◌, IfSome}
 use Rattle.std.specs.Int.{w16, from_be_bytes}
@@ -7,13 +7,13 @@ use Rattle.std.proofs.Math.Seq.{take-add}
 use borrow.Rule.Slice.PartMut.{put_mid}
 use Rattle.std.proofs.lemmas.Bool.{cases_lt, cases_eq}
 use Rattle.std.proofs.lemmas.Bool.Decides.{nat_tests}
-use Rattle.std.proofs.lemmas.List.{length-take, length-drop, get_or-take, take-take, drop-drop, drop_all}
+use Rattle.std.proofs.lemmas.List.{length-drop, get_or-take, take-take, drop-drop, drop_all}
 use Rattle.ftp_proxy.specs.declared.v2_header.Header2.{Header2}
 use Rattle.ftp_proxy.specs.declared.v2_header.Body.{Body}
 use Rattle.ftp_proxy.specs.declared.v2_error.Proxy2Error.{Proxy2Error}
 use Rattle.ftp_proxy.specs.declared.v2_error.Proxy2Error.TheVariants as error
 use Rattle.ftp_proxy.specs.V2Header.{signature}
-use Rattle.ftp_proxy.specs.Reading.{at, addresses_len, is_local, needed, block_len, refusal_at, refusal_from, refusal, taken_len, header_of, outcome, mapped, body_of, made, ReadsAll, Reads, ReadsFrom, IsAnswer, IsTaken, IsPart, IsBytes, FillsAll, Fills, Begun}
+use Rattle.ftp_proxy.specs.Reading.{at, addresses_len, block_len, refusal_at, refusal_from, refusal, taken_len, header_of, outcome, mapped, body_of, made, ReadsAll, Reads, ReadsFrom, IsAnswer, IsTaken, IsPart, IsBytes, FillsAll, Fills, Begun}
 use Rattle.ftp_proxy.proofs.BodyLemmas.{needed_by, body_by}
 use Rattle.ftp_proxy.proofs.ReadLemmas.{IsBytes-append, front_more, made_short, made_long}
 

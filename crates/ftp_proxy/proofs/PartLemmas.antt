@@ -4,9 +4,9 @@ use Rattle.std.specs.Prelude.{IfSome}
 use Rattle.std.proofs.lemmas.Option.{IfSome_then}
 use Rattle.ftp_proxy.specs.declared.v2_error.Proxy2Error.{Proxy2Error}
 use Rattle.ftp_proxy.specs.declared.v2_header.Field.{Field}
-use Rattle.ftp_proxy.specs.Reading.{mapped, fields_at, IsPart, ReadsAll, Reads}
+use Rattle.ftp_proxy.specs.Reading.{mapped, fields_at, ReadsAll, Reads}
 use Rattle.ftp_proxy.proofs.FieldsReading.{fine}
-use Rattle.ftp_proxy.proofs.ReadLemmas.{reads_then_refused, reads_then, reads_no_memory}
+use Rattle.ftp_proxy.proofs.ReadLemmas.{reads_then_refused, reads_then}
 
 module _ {A : Type 0} (n len : ℕ) (now mid left : Option (List ℕ)) (x : List ℕ) (make : List ℕ → Result A Proxy2Error) (f : List Field → A) where
   -- the first bytes were read, and the fields behind them refused
@@ -22,9 +22,3 @@ module _ {A : Type 0} (n len : ℕ) (now mid left : Option (List ℕ)) (x : List
       IfSome mid (λ l. ReadsAll (len - n) (λ bytes. fields_at (length bytes) n bytes) l (Ok fields) left) → IfSome now (λ l. ReadsAll len make l (Ok (f fields)) left)
   fields_read fields le first same next =
       IfSome_then now first (λ all r. reads_then n (len - n) len all x mid left (λ bytes. fields_at (length bytes) n bytes) make f fields (omega arith) r same next)
-
-  -- both were read, and no memory was left for the body
-  pub fields_lost : (fields : List Field) → n ≤ len → IfSome now (λ l. ReadsAll n fine l (Ok x) mid) →
-      (length x ≡ n → (y : List ℕ) → make (x ++ y) ≡ mapped f (fields_at (length y) n y)) →
-      IfSome mid (λ l. ReadsAll (len - n) (λ bytes. fields_at (length bytes) n bytes) l (Ok fields) left) → IfSome now (λ l. IsPart len l left)
-  fields_lost fields le first same next = IfSome_then now (fields_read fields le first same next) (λ all r. reads_no_memory len make all _ left r)

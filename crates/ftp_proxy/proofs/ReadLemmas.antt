@@ -1,5 +1,5 @@
 -- Reads of a source, one after the other.
-use Rattle.std.proofs.Common.{◌≡◌, ℕ, zero, suc, ◌+◌, ◌-◌, ◌^◌, ◌<◌, ◌≤◌, Bool, true, false, cond, ltb, List, [], ◌∷◌, ◌++◌, length, get_or, take, drop, Option, Some, None, Result, Ok, Err, refl, sym, ap, subst, ◌∙◌, arith, inl, inr}
+use Rattle.std.proofs.Common.{◌≡◌, ℕ, zero, suc, ◌+◌, ◌-◌, ◌^◌, ◌<◌, ◌≤◌, Bool, true, false, cond, ltb, List, [], ◌∷◌, ◌++◌, length, take, drop, Option, Some, None, Result, Ok, Err, refl, sym, ap, subst, ◌∙◌, arith, inl, inr}
 use Rattle.std.specs.Prelude.{IfSome}
 use Rattle.std.proofs.Math.Seq.{take-add, take-append-add}
 use Rattle.std.proofs.lemmas.Bool.{cases_lt}
@@ -7,9 +7,7 @@ use Rattle.std.proofs.lemmas.Bool.Decides.{nat_tests}
 use Rattle.std.proofs.lemmas.List.{length-take, length-drop, take-append-le, drop-drop, drop_all, take_all}
 use borrow.Rule.Slice.PartMut.{put_mid, post_of}
 use Rattle.ftp_base.specs.declared.fault.LinkFault.{LinkFault}
-use Rattle.ftp_base.specs.Calls.{Calls, AllWell}
-use Rattle.ftp_base.specs.Kept.{OnlyReads}
-use Rattle.ftp_base.specs.Memory.{LinkMet}
+use Rattle.ftp_base.specs.Calls.{Calls}
 use Rattle.ftp_base.specs.Outside.{Sending, ReadsFront}
 use Rattle.ftp_base.proofs.CallsMade.{AllWell-more, LinkMet-more}
 use Rattle.ftp_base.proofs.KeptLemmas.{OnlyReads-more}

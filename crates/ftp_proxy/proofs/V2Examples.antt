@@ -1,12 +1,12 @@
 -- Worked examples: headers and their outcomes, each by computation.
-use Rattle.std.proofs.Common.{◌≡◌, ℕ, true, List, [], ◌∷◌, ◌++◌, length, drop, Ok, Err, refl}
+use Rattle.std.proofs.Common.{◌≡◌, ℕ, List, [], ◌∷◌, ◌++◌, drop, Ok, Err, refl}
 use Rattle.ftp_base.specs.declared.net.IpAddr.TheVariants.{V4}
 use Rattle.ftp_base.specs.declared.net.SocketAddrPair.{SocketAddrPair}
 use Rattle.ftp_proxy.specs.declared.v2_header.Header2.{Header2}
 use Rattle.ftp_proxy.specs.declared.v2_header.Body.TheVariants.{LocalBlock, Inet}
 use Rattle.ftp_proxy.specs.declared.v2_header.Field.{Field}
 use Rattle.ftp_proxy.specs.declared.v2_error.Proxy2Error.TheVariants as error
-use Rattle.ftp_proxy.specs.V2Header.{signature, header_bytes, suits}
+use Rattle.ftp_proxy.specs.V2Header.{signature, header_bytes}
 use Rattle.ftp_proxy.specs.Reading.{refusal_from, fields_at, outcome, taken_len}
 
 -- 192.0.2.7:40000 to 198.51.100.1:2121

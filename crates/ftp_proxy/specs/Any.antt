@@ -11,7 +11,7 @@ use Rattle.ftp_base.specs.Outside.{Sending}
 use Rattle.ftp_proxy.specs.Line as line
 use Rattle.ftp_proxy.specs.declared.v2_header.Header2.{Header2}
 use Rattle.ftp_proxy.specs.declared.v2_header.Body.{Body}
-use Rattle.ftp_proxy.specs.declared.v2_header.Body.TheVariants.{LocalBlock, UnspecBlock, Inet, Inet6, Unix}
+use Rattle.ftp_proxy.specs.declared.v2_header.Body.TheVariants.{Inet, Inet6}
 use Rattle.ftp_proxy.specs.declared.v2_error.Proxy2Error.{Proxy2Error}
 use Rattle.ftp_proxy.specs.declared.v2_error.Proxy2Error.TheVariants as block_error
 use Rattle.ftp_proxy.specs.declared.any.AnyHeader.{AnyHeader}

@@ -4,11 +4,10 @@
 --   fields_at    the fields of the end of a block, or the place of the first that passes the end
 --   taken_len    how many bytes are taken
 --   outcome      the header, or why there is none
-use Rattle.std.specs.Prelude.{◌≡◌, ℕ, zero, suc, ◌+◌, ◌<◌, ◌≤◌, ◌==◌, ◌||◌, nat_lt, nat_le, Bool, true, IsSome, IsOk, List, [], ◌∷◌, ◌++◌, length, get_or, take, drop, is_some, Option, Some, None, Result, Ok, Err, if◌then◌else◌}
+use Rattle.std.specs.Prelude.{◌≡◌, ℕ, zero, suc, ◌+◌, ◌<◌, ◌≤◌, ◌==◌, ◌||◌, nat_lt, nat_le, Bool, true, IsSome, IfSome, IsOk, List, [], ◌∷◌, ◌++◌, length, get_or, take, drop, is_some, Option, Some, None, Result, Ok, Err, if◌then◌else◌}
 use Rattle.std.specs.Int.{w16, w32, w128, from_be_bytes}
 use Rattle.std.specs.Option.{option_map_or}
 use Rattle.ftp_base.specs.declared.net.IpAddr.TheVariants.{V4, V6}
-use Rattle.ftp_base.specs.declared.net.SocketAddr.{SocketAddr}
 use Rattle.ftp_base.specs.declared.net.SocketAddrPair.{SocketAddrPair}
 use Rattle.ftp_base.specs.declared.fault.LinkFault.{LinkFault}
 use Rattle.ftp_base.specs.Calls.{Calls, AllWell}
@@ -253,6 +252,13 @@ abbrev pub Reads : {A : Type 0} → ℕ → (List ℕ → Result A Proxy2Error) 
 Reads len make bytes (Err error.Fault) left = IsPart len bytes left
 Reads len make bytes (Err error.OutOfMemory) left = IsPart len bytes left
 Reads len make bytes answer left = ReadsAll len make bytes answer left
+
+-- a block of so many bytes was read, its first n and the fields behind them: a body that is made of these two is read so
+abbrev pub ReadsParts : ℕ → ℕ → Option (List ℕ) → Result (List ℕ × List Field) Proxy2Error → Option (List ℕ) → Type 0
+ReadsParts n len now answer left =
+    (make : List ℕ → Result Body Proxy2Error) (join : List ℕ → List Field → Body) →
+    ((front : List ℕ) → length front ≡ n → (rest : List ℕ) → make (front ++ rest) ≡ mapped (join front) (fields_at (length rest) n rest)) →
+    IfSome now (λ bytes. Reads len make bytes (mapped (λ parts. join parts.0 parts.1) answer) left)
 
 -- so many of all bytes were read to the front of a buffer, and none of them is refused
 pub record Begun (all buffer : List ℕ) (n : ℕ) (left : Option (List ℕ)) : Type 0 where

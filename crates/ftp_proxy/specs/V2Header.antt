@@ -10,7 +10,6 @@ use Rattle.std.specs.List.{flat_map}
 use Rattle.std.specs.Int.{w16, w32, w128, to_be_bytes}
 use Rattle.ftp_base.specs.declared.net.IpAddr.{IpAddr}
 use Rattle.ftp_base.specs.declared.net.IpAddr.TheVariants.{V4, V6}
-use Rattle.ftp_base.specs.declared.net.SocketAddr.{SocketAddr}
 use Rattle.ftp_base.specs.declared.net.SocketAddrPair.{SocketAddrPair}
 use Rattle.ftp_base.specs.Net.{is_v6}
 use Rattle.ftp_proxy.specs.declared.v2_header.Header2.{Header2}

@@ -7,7 +7,7 @@ ghost use Rattle.ftp_base.specs.Kept.{OnlyReads};
 ghost use Rattle.ftp_base.specs.Memory.{LinkMet};
 ghost use Rattle.ftp_base.specs.Outside.{HasRisen};
 ghost use Rattle.ftp_proxy.specs.V2Header.{IsHeader};
-ghost use Rattle.ftp_proxy.specs.Reading.{needed, block_len, body_of, inet, inet6, unix, pair4, pair6, fields_at, IsAnswer, IsTaken, IsFound, IsReadAs, IsRead, Begun, HeadIs, Fills, Reads, ReadsFrom};
+ghost use Rattle.ftp_proxy.specs.Reading.{needed, block_len, body_of, unix, pair4, pair6, fields_at, IsAnswer, IsTaken, IsFound, IsReadAs, IsRead, Begun, HeadIs, Fills, Reads, ReadsParts, ReadsFrom};
 
 use crate::fields::fields;
 use crate::head::{self, HEAD, INET, INET6, NAME, UNIX};
@@ -105,39 +105,19 @@ fn read_body<S: Source>(
     }
     let family = head[13];
     if head::is_family(INET, family) {
-        return read_inet(alloc, source, len);
+        let (addresses, fields) = read_front::<S, 12>(alloc, source, len)?;
+        let pair = pair4(&addresses);
+        return Ok(Body::Inet { pair, fields });
     }
     if head::is_family(INET6, family) {
-        return read_inet6(alloc, source, len);
+        let (addresses, fields) = read_front::<S, 36>(alloc, source, len)?;
+        let pair = pair6(&addresses);
+        return Ok(Body::Inet6 { pair, fields });
     }
     if head::is_family(UNIX, family) {
         return read_unix(alloc, source, len);
     }
     Ok(Body::UnspecBlock(read_bytes(alloc, source, len)?))
-}
-
-fn read_inet<S: Source>(alloc: Global, source: &mut S, len: usize) -> Result<Body, Proxy2Error>
-    requires long { 12 ≤ len }
-    requires small { len ≤ 65535 }
-    ensures block { IfSome (S.left source.old) (λ left. Reads len inet left result (S.left source.new)) }
-    ensures went { IsRead S.sending S.faults S.fault_limit S.calls S.is_link source.old source.new result }
-{
-    let addresses = read_array::<S, 12>(source)?;
-    let fields = read_fields(alloc, source, 12, len - 12)?;
-    let pair = pair4(&addresses);
-    Ok(Body::Inet { pair, fields })
-}
-
-fn read_inet6<S: Source>(alloc: Global, source: &mut S, len: usize) -> Result<Body, Proxy2Error>
-    requires long { 36 ≤ len }
-    requires small { len ≤ 65535 }
-    ensures block { IfSome (S.left source.old) (λ left. Reads len inet6 left result (S.left source.new)) }
-    ensures went { IsRead S.sending S.faults S.fault_limit S.calls S.is_link source.old source.new result }
-{
-    let addresses = read_array::<S, 36>(source)?;
-    let fields = read_fields(alloc, source, 36, len - 36)?;
-    let pair = pair6(&addresses);
-    Ok(Body::Inet6 { pair, fields })
 }
 
 fn read_unix<S: Source>(alloc: Global, source: &mut S, len: usize) -> Result<Body, Proxy2Error>
@@ -146,8 +126,7 @@ fn read_unix<S: Source>(alloc: Global, source: &mut S, len: usize) -> Result<Bod
     ensures block { IfSome (S.left source.old) (λ left. Reads len unix left result (S.left source.new)) }
     ensures went { IsRead S.sending S.faults S.fault_limit S.calls S.is_link source.old source.new result }
 {
-    let names = read_array::<S, 216>(source)?;
-    let fields = read_fields(alloc, source, 216, len - 216)?;
+    let (names, fields) = read_front::<S, 216>(alloc, source, len)?;
     let (from, to) = names.split_at(NAME);
     let source = Bytes::from_slice(alloc, from)?;
     let destination = Bytes::from_slice(alloc, to)?;
@@ -156,6 +135,23 @@ fn read_unix<S: Source>(alloc: Global, source: &mut S, len: usize) -> Result<Bod
         destination,
         fields,
     })
+}
+
+// A block whose first bytes are addresses or names, and the others fields.
+fn read_front<S: Source, const N: usize>(
+    alloc: Global,
+    source: &mut S,
+    len: usize,
+) -> Result<([u8; N], Fields), Proxy2Error>
+    requires near { N ≤ 216 }
+    requires long { N ≤ len }
+    requires small { len ≤ 65535 }
+    ensures block { ReadsParts N len (S.left source.old) result (S.left source.new) }
+    ensures went { IsRead S.sending S.faults S.fault_limit S.calls S.is_link source.old source.new result }
+{
+    let front = read_array::<S, N>(source)?;
+    let fields = read_fields(alloc, source, N, len - N)?;
+    Ok((front, fields))
 }
 
 // So many bytes of a block from this place on, as fields.

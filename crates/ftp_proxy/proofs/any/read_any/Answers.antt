@@ -1,5 +1,5 @@
 use Rattle.std.proofs.lemmas.Result.{err_from_is_err_and}
-use Rattle.std.proofs.Common.{◌≡◌, sym, subst}
+use Rattle.std.proofs.Common.{sym, subst}
 use Rattle.ftp_proxy.specs.declared.error.ProxyError.{ProxyError}
 use Rattle.ftp_proxy.specs.Any.{IsAnyRead, any_failed}
 use Rattle.ftp_proxy.proofs.AnyLemmas.{any_more, first_failed, first_ended, first_read, refused_line}

@@ -1,4 +1,4 @@
-use Rattle.std.proofs.Common.{◌≡◌, ℕ, ◌+◌, ◌-◌, ◌≤◌, length}
+use Rattle.std.proofs.Common.{◌≡◌, ◌+◌, ◌-◌, ◌≤◌, length}
 use Rattle.ftp_proxy.specs.Reading.{fields_at}
 use Rattle.ftp_proxy.proofs.FieldsReading.{with_front}
 use Rattle.ftp_proxy.proofs.fields.fields.Given as goal

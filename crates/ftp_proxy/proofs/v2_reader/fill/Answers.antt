@@ -1,4 +1,4 @@
-use Rattle.std.proofs.Common.{◌≡◌, arith}
+use Rattle.std.proofs.Common.{arith}
 use Rattle.std.proofs.lemmas.Option.{IfSome_then}
 use Rattle.ftp_proxy.proofs.ReadLemmas.{ReadsWell-more, ReadsToFault-more, fill_more, fill_all}
 use Rattle.ftp_proxy.proofs.v2_reader.fill.Goals as goal

@@ -1,4 +1,4 @@
-use Rattle.std.proofs.Common.{ℕ, ◌-◌, ◌≤◌, length}
+use Rattle.std.proofs.Common.{◌-◌, ◌≤◌, length}
 use Rattle.std.specs.Prelude.{IfSome}
 use Rattle.ftp_proxy.specs.Reading.{IsBytes, Filling, ReadsWell}
 use Rattle.ftp_proxy.proofs.v2_reader.fill.Given as goal

@@ -1,4 +1,4 @@
-use Rattle.std.proofs.Common.{◌≡◌, ◌∷◌}
+use Rattle.std.proofs.Common.{◌∷◌}
 use Rattle.std.proofs.lemmas.Option.{IfSome_then}
 use Rattle.ftp_proxy.proofs.LineLemmas.{answer_front}
 use Rattle.ftp_proxy.proofs.version1.read_behind.Goals as goal

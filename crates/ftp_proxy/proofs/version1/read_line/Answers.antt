@@ -1,4 +1,4 @@
-use Rattle.std.proofs.Common.{◌≡◌, ℕ, ◌∷◌, get_or, arith}
+use Rattle.std.proofs.Common.{◌∷◌, get_or, arith}
 use Rattle.std.proofs.lemmas.Option.{IfSome_then}
 use Rattle.std.proofs.lemmas.Result.{err_from_is_err_and}
 use Rattle.ftp_proxy.proofs.ReadLemmas.{ReadsWell-more}

@@ -1,4 +1,4 @@
-use Rattle.std.proofs.Common.{◌≤◌, ◌∷◌, get_or}
+use Rattle.std.proofs.Common.{◌∷◌, get_or}
 use Rattle.std.specs.Prelude.{IfSome}
 use Rattle.ftp_proxy.specs.Any.{IsReadTo}
 use Rattle.ftp_proxy.specs.Reading.{ReadsWell}
