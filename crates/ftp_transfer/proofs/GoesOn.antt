@@ -81,9 +81,7 @@ sent-file (command.Stor p) path offset done b m files files' x y z l same silent
     ((λ e. cc e), sends-nothing files x z (b + m) (silent refl))
 sent-file (command.Appe p) path offset done b m files files' x y z l same silent w1 s1 w2 s2 =
     ((λ e. cc e), sends-nothing files x z (b + m) (silent refl))
-sent-file (command.List o p) path offset done b m files files' x y z l same silent w1 s1 w2 s2 = cc l
-sent-file (command.Nlst p) path offset done b m files files' x y z l same silent w1 s1 w2 s2 = cc l
-sent-file (command.Mlsd p) path offset done b m files files' x y z l same silent w1 s1 w2 s2 = cc l
+sent-file c path offset done b m files files' x y z l same silent w1 s1 w2 s2 = cc l
 
 -- what is sent whole in the second run is sent whole
 sent-whole : (c : DataChanCmd) (r : Completion) (path : List ℕ) (offset done b m : ℕ) (files files' : Option Files) →
@@ -99,19 +97,11 @@ sent-whole (command.Retr p) r path offset done b m (Some f) files' l fits same w
     omega (arith, rest, le, ap length (get-get (old_bytes f path) (offset + done) b), length-drop b (get (old_bytes f path) (offset + done)))
 sent-whole (command.Stor p) result.Sent path offset done b m files files' l fits same w whole sent = cc fits
 sent-whole (command.Stor p) result.Listed path offset done b m files files' l fits same w whole sent = cc fits
-sent-whole (command.Stor p) result.Written path offset done b m files files' l fits same w whole sent = absurd sent
-sent-whole (command.Stor p) result.WriteFailed path offset done b m files files' l fits same w whole sent = absurd sent
-sent-whole (command.Stor p) (result.Refused k) path offset done b m files files' l fits same w whole sent = absurd sent
-sent-whole (command.Stor p) result.OutOfMemory path offset done b m files files' l fits same w whole sent = absurd sent
+sent-whole (command.Stor p) r path offset done b m files files' l fits same w whole sent = absurd sent
 sent-whole (command.Appe p) result.Sent path offset done b m files files' l fits same w whole sent = cc fits
 sent-whole (command.Appe p) result.Listed path offset done b m files files' l fits same w whole sent = cc fits
-sent-whole (command.Appe p) result.Written path offset done b m files files' l fits same w whole sent = absurd sent
-sent-whole (command.Appe p) result.WriteFailed path offset done b m files files' l fits same w whole sent = absurd sent
-sent-whole (command.Appe p) (result.Refused k) path offset done b m files files' l fits same w whole sent = absurd sent
-sent-whole (command.Appe p) result.OutOfMemory path offset done b m files files' l fits same w whole sent = absurd sent
-sent-whole (command.List o p) r path offset done b m files files' l fits same w whole sent = cc l
-sent-whole (command.Nlst p) r path offset done b m files files' l fits same w whole sent = cc l
-sent-whole (command.Mlsd p) r path offset done b m files files' l fits same w whole sent = cc l
+sent-whole (command.Appe p) r path offset done b m files files' l fits same w whole sent = absurd sent
+sent-whole c r path offset done b m files files' l fits same w whole sent = cc l
 
 -- a file that was begun and grew in a first run, and grew in a second one
 put-more : (f : Files) (mid new : Option Files) (path : List ℕ) (place : ℕ) (l : List ℕ) (b m : ℕ) →
@@ -164,9 +154,7 @@ stored-more (command.Stor p) job f meaning mid new l left' b m r fault some goes
 stored-more (command.Appe p) job f meaning mid new l left' b m r fault some goes same taken first next =
     appends-more f mid new job.path (append_place (meaning (Metadata job.user job.path)) (length (old_bytes f job.path))) l b m r fault _ _ some (λ h. h.1.0) first
     (IfSome_then mid (next refl) (λ g h. rw (taken refl) at h))
-stored-more (command.List o p) job f meaning mid new l left' b m r fault some goes same taken first next = cc goes
-stored-more (command.Nlst p) job f meaning mid new l left' b m r fault some goes same taken first next = cc goes
-stored-more (command.Mlsd p) job f meaning mid new l left' b m r fault some goes same taken first next = cc goes
+stored-more c job f meaning mid new l left' b m r fault some goes same taken first next = cc goes
 
 -- where files and link are told
 stored-told : (job : Job) (files : Option Files) (rule : Rule) (mid new : Option Files) (left left' : Option (List ℕ)) (b m : ℕ) (r : Completion) (fault : Option LinkFault) →
@@ -278,9 +266,7 @@ refused-more (command.Appe p) job rule rule' f mid new left left' later b m k so
                 (stored zero) (first-refuses job rule rule' mid new left' later m k zero (owned refl) more),
           )
     ]
-refused-more (command.List o p) job rule rule' f mid new left left' later b m k some goes kept owned same taken told stored grown first next = cc goes
-refused-more (command.Nlst p) job rule rule' f mid new left left' later b m k some goes kept owned same taken told stored grown first next = cc goes
-refused-more (command.Mlsd p) job rule rule' f mid new left left' later b m k some goes kept owned same taken told stored grown first next = cc goes
+refused-more c job rule rule' f mid new left left' later b m k some goes kept owned same taken told stored grown first next = cc goes
 
 -- where the files are told
 refused-told : (job : Job) (rule rule' : Rule) (files mid new : Option Files) (left left' later : Option (List ℕ)) (b m : ℕ) (k : ErrorKind) →
@@ -309,12 +295,9 @@ stores-written c r fits is = rw is at fits
 
 -- a RETR is no store
 retrieves : (c : DataChanCmd) (r : Completion) → suits r c ≡ true → r ≡ result.Sent → is_store c ≡ false
-retrieves (command.Retr p) r fits is = refl
 retrieves (command.Stor p) r fits is = cc (rw is at fits)
 retrieves (command.Appe p) r fits is = cc (rw is at fits)
-retrieves (command.List o p) r fits is = refl
-retrieves (command.Nlst p) r fits is = refl
-retrieves (command.Mlsd p) r fits is = refl
+retrieves c r fits is = refl
 
 -- the rest of what was left after a first run is the rest of all
 last-more : (rose rose' : Type 0) (meaning : Meaning) (user path : List ℕ) (left left' later : Option (List ℕ)) (b m : ℕ) (r : Completion) → (rose → rose') →

@@ -69,11 +69,7 @@ RefusedBy_later s s' r r' m k rose refuses (inr h) = inr (refuses k h)
 IfRefused_later : (p q : ErrorKind → Type 0) (c : Completion) →
     ((k : ErrorKind) → p k → q k) → IfRefused p c → IfRefused q c
 IfRefused_later p q (result.Refused k) more h = more k h
-IfRefused_later p q result.WriteFailed more h = h
-IfRefused_later p q result.Sent more h = h
-IfRefused_later p q result.Written more h = h
-IfRefused_later p q result.Listed more h = h
-IfRefused_later p q result.OutOfMemory more h = h
+IfRefused_later p q c more h = h
 
 -- an end has its cause in the longer run too
 pub Caused_later : (failure : Completion) (l l' s s' : Type 0) (r r' : ErrorKind → Type 0)

@@ -47,6 +47,14 @@ told files rule storage_faults storage_calls left sending link_faults link_calls
       link_calls = link_calls;
     }
 
+-- the same, by what tells each of it
+abbrev pub told_by :
+    {S L : Type 0} → (S → Option Files) → (S → Rule) → (S → ℕ) → (S → Option (Calls ℕ)) →
+    (L → Option (List ℕ)) → (L → Sending) → (L → ℕ) → (L → Option (Calls (ℕ × LinkFault))) → S → L → Told
+told_by files rule storage_faults storage_calls left sending link_faults link_calls storage link =
+    told (files storage) (rule storage) (storage_faults storage) (storage_calls storage)
+    (left link) (sending link) (link_faults link) (link_calls link)
+
 -- what failed of the storage from one to the other
 abbrev pub StorageFailed : Told → Told → Type 0
 StorageFailed old new = StorageRose old.storage_faults new.storage_faults old.storage_calls new.storage_calls

@@ -1,5 +1,5 @@
 -- What stops a turn.
-use Rattle.std.specs.Prelude.{◌≡◌, ◌⊎◌, ℕ, ◌-◌, ◌^◌, Option, Some, None, Result, Ok, Err}
+use Rattle.std.specs.Prelude.{◌≡◌, ◌⊎◌, ℕ, ◌+◌, ◌-◌, ◌^◌, ◌<◌, ◌≤◌, true, List, [], length, Option, Some, None, IsNone, IfSome, Result, Ok, Err}
 use Rattle.ftp_base.specs.declared.command.DataChanCmd.{DataChanCmd}
 use Rattle.ftp_base.specs.declared.command.DataChanCmd.TheVariants as command
 use Rattle.ftp_base.specs.declared.fault.LinkFault.{LinkFault}
@@ -10,8 +10,12 @@ use Rattle.ftp_base.specs.declared.storage.StoreError.{StoreError}
 use Rattle.ftp_base.specs.declared.storage.StoreError.TheVariants.{Kind, Failed, OutOfMemory}
 use Rattle.ftp_transfer.specs.declared.job.Completion.{Completion}
 use Rattle.ftp_transfer.specs.declared.job.Completion.TheVariants as result
+use Rattle.ftp_transfer.specs.declared.job.Job.{Job}
 use Rattle.ftp_transfer.specs.declared.turn.End.{End}
-use Rattle.ftp_transfer.specs.Run.{LinkFailed, LinkHeld}
+use Rattle.ftp_transfer.specs.declared.turn.Turn.{Turn}
+use Rattle.ftp_transfer.specs.Ran.{IsDone}
+use Rattle.ftp_transfer.specs.Run.{LinkFailed, LinkHeld, TakesFront}
+use Rattle.ftp_transfer.specs.Transfer.{suits}
 
 -- the result of a turn that ended a transfer, and want of memory, which has no cause, where it did not
 abbrev pub result_of : Option End → Completion
@@ -22,6 +26,17 @@ result_of (Some end) = end.result
 abbrev pub fault_of : Option End → Option LinkFault
 fault_of None = None
 fault_of (Some end) = end.fault
+
+-- what a turn of a store takes of the link: a front of it, and all of it where the result says so
+pub record Took (job : Job) (left later : Option (List ℕ)) (turn : Turn) : Type 0 where
+  pub some : IsNone turn.end → 0 < turn.bytes
+  pub short : turn.bytes ≤ 8192
+  pub in_range : job.done + turn.bytes < 2 ^ 64
+  pub taken : IsNone turn.end → IfSome left (λ l. TakesFront l later turn.bytes)
+  pub within : IfSome left (λ l. turn.bytes ≤ length l)
+  pub whole : result_of turn.end ≡ result.Written → IfSome left (λ l. (turn.bytes ≡ length l) × (later ≡ Some []))
+  pub countable : IsDone (result_of turn.end) → job.done + turn.bytes < 2 ^ 64 - 1
+  pub suits : suits (result_of turn.end) job.command ≡ true
 
 -- the result of a transfer that a storage stopped
 abbrev pub completion_of : StoreError → Completion

@@ -15,17 +15,16 @@ ghost use Rattle.ftp_transfer.specs.Transfer.{is_retrieve, suits};
 
 use crate::job::{Completion, Job};
 use crate::send::send;
-use crate::turn::{PIECE_LEN, Turn, piece_room, stopped_by};
+use crate::turn::{PIECE_LEN, Room, Turn, piece_room, stopped_by};
 use ftp_base::{ErrorKind, Failed, Link, Storage, StoreError};
 
 /// Sends what one read of the file gives, from where earlier pieces ended; past the end what the link gathered.
 pub fn retrieve<S: Storage, L: Link>(
     job: &Job,
-    buffer: &mut [u8],
+    out: &mut Room,
     storage: &mut S,
     link: &mut L,
 ) -> Turn
-    requires buffer { length buffer.old ≡ PIECE_LEN }
     requires command { is_retrieve job.now.command ≡ true }
 
     ensures some { IsNone result.end → 0 < result.bytes }
@@ -57,7 +56,7 @@ pub fn retrieve<S: Storage, L: Link>(
     ensures link_well { fault_of result.end ≡ None → AllWell (λ call. call.0) (L.calls link.old) (L.calls link.new) }
 {
     let room = piece_room(job.done);
-    match read_next(job, &mut buffer[..room], storage) {
+    match read_next(job, &mut out[..room], storage) {
         Ok(0) if room == 0 => Turn::last(0, Completion::Refused(ErrorKind::LocalError), None),
         Ok(0) => match link.flush() {
             Ok(()) => Turn::last(0, Completion::Sent, None),
@@ -67,7 +66,7 @@ pub fn retrieve<S: Storage, L: Link>(
                 link.last_fault(),
             ),
         },
-        Ok(n) => send_read(link, &buffer[..n]),
+        Ok(n) => send_read(link, &out[..n]),
         Err(error) => Turn::last(0, stopped_by(error), None),
     }
 }

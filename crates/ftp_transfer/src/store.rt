@@ -10,37 +10,28 @@ ghost use Rattle.ftp_transfer.specs.declared.job.Completion.TheVariants as done;
 ghost use Rattle.ftp_transfer.specs.Ran.{IsDone};
 ghost use Rattle.ftp_transfer.specs.Run.{NotBegun, LinkRose, StorageRose, StorageWent, Caused, EndsRefused, RefusedFirst, RefusedLast, GrowsFront, RefusesAppend, TakesFront, Stores, RefusesStore, Appends, RefusesAppe, append_refusal};
 ghost use Rattle.ftp_transfer.specs.Transfer.{is_store, suits};
-ghost use Rattle.ftp_transfer.specs.Turn.{StopsStoring, start_after, result_of, fault_of};
+ghost use Rattle.ftp_transfer.specs.Turn.{StopsStoring, Took, start_after, result_of, fault_of};
 
 use crate::job::{Completion, Job};
-use crate::turn::{PIECE_LEN, Turn, piece_room, stopped_by};
+use crate::turn::{PIECE_LEN, Room, Turn, piece_room, stopped_by};
 use ftp_base::{ErrorKind, Link, Meta, Storage, StoreError};
 
 /// Begins a file at a place, and puts there what one read of the link gives.
 pub fn store<S: Storage, L: Link>(
     job: &Job,
     start: u64,
-    buffer: &mut [u8],
+    out: &mut Room,
     storage: &mut S,
     link: &mut L,
 ) -> Turn
-    requires buffer { length buffer.old ≡ PIECE_LEN }
     requires command { is_store job.now.command ≡ true }
     requires first { job.now.done ≡ 0 }
 
-    ensures some { IsNone result.end → 0 < result.bytes }
-    ensures short { result.bytes ≤ PIECE_LEN }
-    ensures in_range { job.now.done + result.bytes < 2 ^ 64 }
-    ensures taken { IsNone result.end → IfSome (L.left link.old) (λ l. TakesFront l (L.left link.new) result.bytes) }
+    ensures took { Took job.now (L.left link.old) (L.left link.new) result }
     ensures told { IsSome (S.files storage.old) → IsSome (S.files storage.new) }
     ensures stored { IfSome (S.files storage.old) (λ f. IfSome (L.left link.old) (λ l.
         Stores f (S.files storage.new) job.now.path start l result.bytes (result_of result.end) (fault_of result.end))) }
-    ensures within { IfSome (L.left link.old) (λ l. result.bytes ≤ length l) }
-    ensures whole { result_of result.end ≡ done.Written →
-        IfSome (L.left link.old) (λ l. (result.bytes ≡ length l) × (L.left link.new ≡ Some [])) }
-    ensures countable { IsDone (result_of result.end) → job.now.done + result.bytes < 2 ^ 64 - 1 }
 
-    ensures suits { suits (result_of result.end) job.now.command ≡ true }
     ensures settled { result_of result.end ≡ done.Written → S.is_settled storage.new ≡ true }
     ensures cause { Caused (done.Refused kind.ConnectionClosed)
         (LinkRose (L.faults link.old) (L.faults link.new) (L.calls link.old) (L.calls link.new) (L.sending link.new).last_fault) (L.sending link.old).last_fault (L.sending link.new).last_fault
@@ -66,35 +57,21 @@ pub fn store<S: Storage, L: Link>(
     ensures link_well { fault_of result.end ≡ None → AllWell (λ call. call.0) (L.calls link.old) (L.calls link.new) }
 {
     match storage.begin(&job.user, &job.path, start) {
-        Ok(()) => fill(job, buffer, storage, link),
+        Ok(()) => fill(job, out, storage, link),
         Err(error) => Turn::last(0, stopped_by(error), None),
     }
 }
 
 /// Begins behind a file, and puts there what one read of the link gives.
-pub fn append<S: Storage, L: Link>(
-    job: &Job,
-    buffer: &mut [u8],
-    storage: &mut S,
-    link: &mut L,
-) -> Turn
-    requires buffer { length buffer.old ≡ PIECE_LEN }
+pub fn append<S: Storage, L: Link>(job: &Job, out: &mut Room, storage: &mut S, link: &mut L) -> Turn
     requires command { is_store job.now.command ≡ true }
     requires first { job.now.done ≡ 0 }
 
-    ensures some { IsNone result.end → 0 < result.bytes }
-    ensures short { result.bytes ≤ PIECE_LEN }
-    ensures in_range { job.now.done + result.bytes < 2 ^ 64 }
-    ensures taken { IsNone result.end → IfSome (L.left link.old) (λ l. TakesFront l (L.left link.new) result.bytes) }
+    ensures took { Took job.now (L.left link.old) (L.left link.new) result }
     ensures told { IsSome (S.files storage.old) → IsSome (S.files storage.new) }
     ensures stored { IfSome (S.files storage.old) (λ f. IfSome (L.left link.old) (λ l.
         Appends (S.rule storage.old [] f) job.now.user f (S.files storage.new) job.now.path l result.bytes (result_of result.end) (fault_of result.end))) }
-    ensures within { IfSome (L.left link.old) (λ l. result.bytes ≤ length l) }
-    ensures whole { result_of result.end ≡ done.Written →
-        IfSome (L.left link.old) (λ l. (result.bytes ≡ length l) × (L.left link.new ≡ Some [])) }
-    ensures countable { IsDone (result_of result.end) → job.now.done + result.bytes < 2 ^ 64 - 1 }
 
-    ensures suits { suits (result_of result.end) job.now.command ≡ true }
     ensures settled { result_of result.end ≡ done.Written → S.is_settled storage.new ≡ true }
     ensures cause { Caused (done.Refused kind.ConnectionClosed)
         (LinkRose (L.faults link.old) (L.faults link.new) (L.calls link.old) (L.calls link.new) (L.sending link.new).last_fault) (L.sending link.old).last_fault (L.sending link.new).last_fault
@@ -120,7 +97,7 @@ pub fn append<S: Storage, L: Link>(
     ensures link_well { fault_of result.end ≡ None → AllWell (λ call. call.0) (L.calls link.old) (L.calls link.new) }
 {
     match start_after(storage.metadata(&job.user, &job.path)) {
-        Ok(start) => store(job, start, buffer, storage, link),
+        Ok(start) => store(job, start, out, storage, link),
         Err(completion) => Turn::last(0, completion, None),
     }
 }
@@ -137,28 +114,14 @@ fn start_after(found: Result<Meta, StoreError>) -> Result<u64, Completion>
 }
 
 /// Puts what one read of the link gives behind what the file has.
-pub fn fill<S: Storage, L: Link>(
-    job: &Job,
-    buffer: &mut [u8],
-    storage: &mut S,
-    link: &mut L,
-) -> Turn
-    requires buffer { length buffer.old ≡ PIECE_LEN }
+pub fn fill<S: Storage, L: Link>(job: &Job, out: &mut Room, storage: &mut S, link: &mut L) -> Turn
     requires command { is_store job.now.command ≡ true }
 
-    ensures some { IsNone result.end → 0 < result.bytes }
-    ensures short { result.bytes ≤ PIECE_LEN }
-    ensures in_range { job.now.done + result.bytes < 2 ^ 64 }
     ensures grown { IfSome (S.files storage.old) (λ f. IfSome (L.left link.old) (λ l.
         GrowsFront f (S.files storage.new) job.now.path l result.bytes)) }
-    ensures within { IfSome (L.left link.old) (λ l. result.bytes ≤ length l) }
-    ensures taken { IsNone result.end → IfSome (L.left link.old) (λ l. TakesFront l (L.left link.new) result.bytes) }
+    ensures took { Took job.now (L.left link.old) (L.left link.new) result }
     ensures told { IsSome (S.files storage.old) → IsSome (S.files storage.new) }
-    ensures whole { result_of result.end ≡ done.Written →
-        IfSome (L.left link.old) (λ l. (result.bytes ≡ length l) × (L.left link.new ≡ Some [])) }
-    ensures countable { IsDone (result_of result.end) → job.now.done + result.bytes < 2 ^ 64 - 1 }
 
-    ensures suits { suits (result_of result.end) job.now.command ≡ true }
     ensures settled { result_of result.end ≡ done.Written → S.is_settled storage.new ≡ true }
     ensures cause { Caused (done.Refused kind.ConnectionClosed)
         (LinkRose (L.faults link.old) (L.faults link.new) (L.calls link.old) (L.calls link.new) (L.sending link.new).last_fault) (L.sending link.old).last_fault (L.sending link.new).last_fault
@@ -175,17 +138,11 @@ pub fn fill<S: Storage, L: Link>(
     ensures storage_well { StorageWent (S.calls storage.old) (S.calls storage.new) (result_of result.end) }
     ensures link_well { fault_of result.end ≡ None → AllWell (λ call. call.0) (L.calls link.old) (L.calls link.new) }
 {
-    store_piece(job, buffer, storage, link)
+    put_piece(job, out, storage, link)
 }
 
 /// Appends what one read of the link gives.
-fn store_piece<S: Storage, L: Link>(
-    job: &Job,
-    buffer: &mut [u8],
-    storage: &mut S,
-    link: &mut L,
-) -> Turn
-    requires buffer { length buffer.old ≡ PIECE_LEN }
+fn put_piece<S: Storage, L: Link>(job: &Job, out: &mut Room, storage: &mut S, link: &mut L) -> Turn
     requires command { is_store job.now.command ≡ true }
 
     ensures some { IsNone result.end → 0 < result.bytes }
@@ -225,9 +182,9 @@ fn store_piece<S: Storage, L: Link>(
     if room == 0 {
         return Turn::last(0, Completion::Refused(ErrorKind::LocalError), None);
     }
-    match link.read(&mut buffer[..room]) {
+    match link.read(&mut out[..room]) {
         Ok(0) => settle(job, storage),
-        Ok(n) => append_read(job, &buffer[..n], storage),
+        Ok(n) => append_read(job, &out[..n], storage),
         Err(_) => Turn::last(
             0,
             Completion::Refused(ErrorKind::ConnectionClosed),

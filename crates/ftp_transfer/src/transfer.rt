@@ -1,9 +1,9 @@
 //! Runs a job on its storage and its link, whole or piece by piece.
 
-ghost use Rattle.std.specs.Prelude.{◌≡◌, ◌+◌, ◌-◌, ◌<◌, ◌≤◌, ◌^◌, true, false, length, IsSome, IsNone, IfSome};
+ghost use Rattle.std.specs.Prelude.{◌≡◌, ◌+◌, ◌-◌, ◌<◌, ◌≤◌, ◌^◌, true, false, IsSome, IsNone, IfSome};
 ghost use Rattle.ftp_base.specs.Kept.{CountsOn};
 ghost use Rattle.ftp_transfer.specs.declared.job.Completion.TheVariants as done;
-ghost use Rattle.ftp_transfer.specs.Ran.{told, Moves, Ran, RanPiece, IsClean, IsDone, next_job};
+ghost use Rattle.ftp_transfer.specs.Ran.{told, told_by, Moves, Ran, RanPiece, IsClean, IsDone, next_job};
 ghost use Rattle.ftp_transfer.specs.Run.{TakesFront};
 ghost use Rattle.ftp_transfer.specs.Transfer.{is_listing, is_retrieve, is_store, suits, IfEnded};
 ghost use Rattle.ftp_transfer.specs.Turn.{result_of, fault_of};
@@ -12,7 +12,7 @@ use crate::job::{Job, Outcome, PieceResult};
 use crate::list::list;
 use crate::retrieve::retrieve;
 use crate::store::{append, fill, store};
-use crate::turn::{PIECE_LEN, Turn};
+use crate::turn::{PIECE_LEN, Room, Turn};
 use ftp_base::{DataChanCmd, Link, Storage};
 use std::alloc::Global;
 
@@ -134,10 +134,8 @@ pub fn execute_piece<S: Storage, L: Link>(
 fn run<S: Storage, L: Link>(alloc: Global, job: Job, storage: &mut S, link: &mut L) -> Outcome
     ensures counted { job.done ≤ result.bytes }
     ensures moves { Moves job
-        (told (S.files storage.old) (S.rule storage.old) (S.faults storage.old) (S.calls storage.old)
-        (L.left link.old) (L.sending link.old) (L.faults link.old) (L.calls link.old))
-        (told (S.files storage.new) (S.rule storage.new) (S.faults storage.new) (S.calls storage.new)
-        (L.left link.new) (L.sending link.new) (L.faults link.new) (L.calls link.new))
+        (told_by S.files S.rule S.faults S.calls L.left L.sending L.faults L.calls storage.old link.old)
+        (told_by S.files S.rule S.faults S.calls L.left L.sending L.faults L.calls storage.new link.new)
         (result.bytes - job.done) result.result result.fault }
     ensures suits { suits result.result job.command ≡ true }
     ensures no_memory { is_retrieve job.command ≡ true → S.reads_take_memory ≡ false → L.takes_memory ≡ false → result.result ≡ done.OutOfMemory → ⊥ }
@@ -166,17 +164,13 @@ fn run<S: Storage, L: Link>(alloc: Global, job: Job, storage: &mut S, link: &mut
 fn take_turn<S: Storage, L: Link>(
     alloc: Global,
     job: &Job,
-    buffer: &mut [u8],
+    out: &mut Room,
     storage: &mut S,
     link: &mut L,
 ) -> Turn
-    requires buffer { length buffer.old ≡ PIECE_LEN }
-
     ensures moves { Moves job.now
-        (told (S.files storage.old) (S.rule storage.old) (S.faults storage.old) (S.calls storage.old)
-        (L.left link.old) (L.sending link.old) (L.faults link.old) (L.calls link.old))
-        (told (S.files storage.new) (S.rule storage.new) (S.faults storage.new) (S.calls storage.new)
-        (L.left link.new) (L.sending link.new) (L.faults link.new) (L.calls link.new))
+        (told_by S.files S.rule S.faults S.calls L.left L.sending L.faults L.calls storage.old link.old)
+        (told_by S.files S.rule S.faults S.calls L.left L.sending L.faults L.calls storage.new link.new)
         result.bytes (result_of result.end) (fault_of result.end) }
     ensures in_range { job.now.done + result.bytes < 2 ^ 64 }
     ensures some { IsNone result.end → 0 < result.bytes }
@@ -190,16 +184,13 @@ fn take_turn<S: Storage, L: Link>(
     ensures storage_counts { CountsOn S.faults S.fault_limit storage.old storage.new }
     ensures closed { (L.sending link.new).closed ≡ (L.sending link.old).closed }
     ensures link_counts { CountsOn L.faults L.fault_limit link.old link.new }
-    ensures same_length { length buffer.new ≡ length buffer.old }
 {
     match &job.command {
-        DataChanCmd::Retr { .. } => retrieve(job, buffer, storage, link),
-        DataChanCmd::Stor { .. } if job.done == 0 => {
-            store(job, job.offset, buffer, storage, link)
-        }
-        DataChanCmd::Appe { .. } if job.done == 0 => append(job, buffer, storage, link),
-        DataChanCmd::Stor { .. } => fill(job, buffer, storage, link),
-        DataChanCmd::Appe { .. } => fill(job, buffer, storage, link),
+        DataChanCmd::Retr { .. } => retrieve(job, out, storage, link),
+        DataChanCmd::Stor { .. } if job.done == 0 => store(job, job.offset, out, storage, link),
+        DataChanCmd::Appe { .. } if job.done == 0 => append(job, out, storage, link),
+        DataChanCmd::Stor { .. } => fill(job, out, storage, link),
+        DataChanCmd::Appe { .. } => fill(job, out, storage, link),
         DataChanCmd::List { .. } => list(alloc, job, storage, link),
         DataChanCmd::Nlst { .. } => list(alloc, job, storage, link),
         DataChanCmd::Mlsd { .. } => list(alloc, job, storage, link),

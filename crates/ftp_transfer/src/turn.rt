@@ -9,6 +9,9 @@ use ftp_base::{ErrorKind, LinkFault, StoreError};
 /// How many bytes a piece has at most.
 pub const PIECE_LEN: usize = 8192;
 
+/// Room for a piece.
+pub type Room = [u8; PIECE_LEN];
+
 /// Why a transfer is over.
 #[derive(Clone, Copy, Debug, PartialEq, Eq)]
 pub struct End {

@@ -20,21 +20,13 @@ any_first (Some k) P h = h k
 
 -- a listing ends so whatever the command
 ends_failed : (c : DataChanCmd) → listing_end c Failed ≡ result.Refused kind.LocalError
-ends_failed (command.Retr p) = refl
-ends_failed (command.Stor p) = refl
-ends_failed (command.Appe p) = refl
-ends_failed (command.List o p) = refl
 ends_failed (command.Nlst p) = refl
-ends_failed (command.Mlsd p) = refl
+ends_failed c = refl
 
 -- a listing ends so whatever the command
 ends_memory : (c : DataChanCmd) → listing_end c OutOfMemory ≡ result.OutOfMemory
-ends_memory (command.Retr p) = refl
-ends_memory (command.Stor p) = refl
-ends_memory (command.Appe p) = refl
-ends_memory (command.List o p) = refl
 ends_memory (command.Nlst p) = refl
-ends_memory (command.Mlsd p) = refl
+ends_memory c = refl
 
 -- a listing that is refused ends so
 refused_so : (c : DataChanCmd) (refusal : Option ErrorKind) (e : StoreError) (rose : Type 0) → Refuses refusal e → (e ≡ Failed → rose) →

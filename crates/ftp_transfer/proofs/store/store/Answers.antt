@@ -10,7 +10,7 @@ pub returns-in-Ok-clause-stored : goal.returns-in-Ok-clause-stored
 returns-in-Ok-clause-stored g c =
     Stores-begun (g.S.Storage.files c.args.storage.now) (g.S.Storage.files c.begin.new.self) (g.S.Storage.files c.fill.new.storage) c.args.job.now.path c.args.start (g.L.Source.left c.args.link.now) c.fill.result.bytes (result_of c.fill.result.end) (fault_of c.fill.result.end)
     c.in-Ok.ensures.begun
-    c.fill.ensures.within
+    c.fill.ensures.took.within
     c.fill.ensures.grown
 
 pub returns-in-Ok-clause-cause : goal.returns-in-Ok-clause-cause

@@ -56,7 +56,6 @@ returns-in-Some-clause-moves g c =
 pub pieces-preserved : goal.pieces-preserved
 pieces-preserved g c =
     record {
-      length = search rules;
       more = omega (arith, c.pieces.invariant.more);
       job = ap (λ (j : Job). record j { done = c.pieces.next.done + c.take_turn-turn.result.bytes }) c.pieces.invariant.job;
       went = inr

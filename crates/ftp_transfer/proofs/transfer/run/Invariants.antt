@@ -1,5 +1,5 @@
 use Rattle.std.proofs.Common.{◌≡◌, ◌≤◌, ◌-◌, ◌^◌}
-use Rattle.std.specs.Prelude.{◌⊎◌, length}
+use Rattle.std.specs.Prelude.{◌⊎◌}
 use Rattle.ftp_base.specs.Kept.{CountsOn}
 use Rattle.ftp_transfer.specs.Ran.{told, Went}
 use Rattle.ftp_transfer.proofs.transfer.run.Given as goal
@@ -7,7 +7,6 @@ use Rattle.ftp_transfer.proofs.transfer.run.Given as goal
 -- nothing moved so far, or a part of the run went on
 abbrev pub invariant-pieces : goal.invariant-pieces
 invariant-pieces g l = record {
-  length : length l.buffer ≡ 8192;
   more : l.fn.job.done ≤ l.next.done;
   job : l.next ≡ record l.fn.job { done = l.next.done };
   went : ((l.next ≡ l.fn.job) × ((told (g.S.Storage.files l.storage) (g.S.Storage.rule l.storage) (g.S.Storage.faults l.storage) (g.S.Storage.calls l.storage)

@@ -1,7 +1,7 @@
 use Rattle.std.proofs.Common.{refl}
 use Rattle.ftp_base.specs.Storage.{meaning_of}
 use Rattle.ftp_transfer.proofs.StoreLemmas.{RefusedLast-none}
-use Rattle.ftp_transfer.proofs.store.store_piece.Goals as goal
+use Rattle.ftp_transfer.proofs.store.put_piece.Goals as goal
 
 pub returns-then-room-eq0-clause-refused_last : goal.returns-then-room-eq0-clause-refused_last
 returns-then-room-eq0-clause-refused_last g c =
