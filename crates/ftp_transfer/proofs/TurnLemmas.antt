@@ -1,5 +1,5 @@
 -- Turns that ended a transfer, or did not.
-use Rattle.std.proofs.Common.{◌≡◌, inl, inr, ℕ, List, drop, Option, Some, None, refl, sym}
+use Rattle.std.proofs.Common.{◌≡◌, inl, inr, ℕ, List, drop, Option, Some, None, refl}
 use Rattle.std.specs.Prelude.{IsSome, IsNone, IfSome}
 use Rattle.std.specs.Option.{option_map}
 use Rattle.ftp_base.specs.declared.error_kind.ErrorKind.{ErrorKind}

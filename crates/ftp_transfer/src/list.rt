@@ -15,7 +15,7 @@ use crate::job::{Completion, Job};
 use crate::listing::listing_text;
 use crate::send::send_out;
 use crate::turn::{Turn, stopped_by};
-use ftp_base::{DataChanCmd, ErrorKind, Failed, FileInfo, Link, Storage, StoreError};
+use ftp_base::{DataChanCmd, ErrorKind, Failed, Link, Storage, StoreError};
 use std::alloc::Global;
 
 /// Sends the text of a listing, whole.
@@ -47,36 +47,12 @@ pub fn list<S: Storage, L: Link>(alloc: Global, job: &Job, storage: &mut S, link
 {
     let moved = job.done;
     match storage.list(&job.user, &job.path) {
-        Ok(children) => send_children(alloc, &job.command, moved, children.as_slice(), link),
+        Ok(children) => match listing_text(alloc, &job.command, children.as_slice()) {
+            Ok(text) => send_text(text.as_slice(), moved, link),
+            Err(_) => Turn::last(0, Completion::OutOfMemory, None),
+        },
         Err(error) => Turn::last(0, listing_end(&job.command, error), None),
     }
-}
-
-/// Sends the lines of a directory's children.
-fn send_children<L: Link>(
-    alloc: Global,
-    command: &DataChanCmd,
-    moved: u64,
-    children: &[FileInfo],
-    link: &mut L,
-) -> Turn
-    requires command { is_listing command.now ≡ true }
-
-    ensures over { IsSome result.end }
-    ensures in_range { moved + result.bytes < 2 ^ 64 }
-    ensures sent { SendsFront (text_of command.now children.now) result.bytes (L.sending link.old).sent (L.sending link.new).sent }
-    ensures whole { result_of result.end ≡ done.Listed → result.bytes ≡ length (text_of command.now children.now) }
-    ensures countable { IsDone (result_of result.end) → moved + result.bytes < 2 ^ 64 - 1 }
-    ensures end { StopsListing
-        (LinkRose (L.faults link.old) (L.faults link.new) (L.calls link.old) (L.calls link.new) (L.sending link.new).last_fault) (L.sending link.old).last_fault (L.sending link.new).last_fault
-        (moved + result.bytes) (result_of result.end) (fault_of result.end) }
-    ensures only_sends { OnlySends L.left L.sending L.faults L.fault_limit link.old link.new }
-    ensures link_well { fault_of result.end ≡ None → AllWell (λ call. call.0) (L.calls link.old) (L.calls link.new) }
-{
-    let Ok(text) = listing_text(alloc, command, children) else {
-        return Turn::last(0, Completion::OutOfMemory, None);
-    };
-    send_text(text.as_slice(), moved, link)
 }
 
 /// Sends the text of a listing, or as much of it as can be counted.

@@ -45,19 +45,19 @@ stopped_so c (Kind k) meaning user path link rose told last m refused failed = i
 stopped_so c Failed meaning user path link rose told last m refused failed = rw (ends_failed c) (inr ((refl, refl), inl (refl, inl (failed refl))))
 stopped_so c OutOfMemory meaning user path link rose told last m refused failed = rw (ends_memory c) (inr ((refl, refl), tt))
 
-pub returns-in-Err-clause-cause : goal.returns-in-Err-clause-cause
-returns-in-Err-clause-cause g c =
-    rw (c.last.ensures.end, c.last.ensures.bytes, c.listing_end.ensures)
+pub returns-clause-cause : goal.returns-clause-cause
+returns-clause-cause g c =
+    rw (c.last-in-Err.ensures.end, c.last-in-Err.ensures.bytes, c.listing_end.ensures)
     (stopped_so c.args.job.now.command c.in-Err.error (meaning_of (g.S.Storage.rule c.args.storage.now) (g.S.Storage.files c.args.storage.now)) c.args.job.now.user c.args.job.now.path _ _ _ _ _
     c.in-Err.ensures.refused
     (λ e. (c.in-Err.ensures.fault_rose (ap Err e), c.in-Err.ensures.as_listed (ap Err e))))
 
-pub returns-in-Err-clause-refused : goal.returns-in-Err-clause-refused
-returns-in-Err-clause-refused g c told =
-    rw (c.last.ensures.end, c.last.ensures.bytes, c.listing_end.ensures)
+pub returns-clause-refused : goal.returns-clause-refused
+returns-clause-refused g c told =
+    rw (c.last-in-Err.ensures.end, c.last-in-Err.ensures.bytes, c.listing_end.ensures)
     (refused_so c.args.job.now.command (meaning_of (g.S.Storage.rule c.args.storage.now) (g.S.Storage.files c.args.storage.now) (Listing c.args.job.now.user c.args.job.now.path)) c.in-Err.error _
     (c.in-Err.ensures.refused told)
     (λ e. (c.in-Err.ensures.fault_rose (ap Err e), c.in-Err.ensures.as_listed (ap Err e))))
 
-pub returns-in-Err-clause-in_range : goal.returns-in-Err-clause-in_range
-returns-in-Err-clause-in_range g c = rw c.last.ensures.bytes (search rules)
+pub returns-clause-in_range : goal.returns-clause-in_range
+returns-clause-in_range g c = rw c.last-in-Err.ensures.bytes (search rules)
