@@ -4,7 +4,7 @@ mod CountLemmas
 mod DeliveryLemmas
 mod Examples
 mod Exact
-mod Equal
+pub mod Equal
 mod EndingExamples
 mod CountExamples
 mod PieceExamples

@@ -3,7 +3,7 @@ use Rattle.std.specs.Prelude.{◌≡◌, ◌⊎◌, ℕ, ◌≤◌, ◌&&◌, tr
 use Rattle.std.specs.FinMap as map
 use Rattle.ftp_base.specs.declared.fault.LinkFault.{LinkFault}
 use Rattle.ftp_base.specs.Calls.{Calls, AllWell}
-use Rattle.ftp_base.specs.Kept.{OnlyReads}
+use Rattle.ftp_base.specs.Kept.{CountsOn, OnlyReads}
 use Rattle.ftp_base.specs.Memory.{LinkMet}
 use Rattle.ftp_base.specs.LinkTable.{Numbered}
 use Rattle.ftp_base.specs.Net.{is_v6}
@@ -135,10 +135,8 @@ pub record RunsJob {S L : Type 0} (v : Views S L) (job : Job) (given : Answer) (
   pub ran : Ran job (told_by v old.storage before) (told_by v new.storage after) outcome
   -- a job of which the storage's rule refused no call, and that nothing stopped, is done
   pub complete : IsClean job (told_by v old.storage before) (told_by v new.storage after) outcome → IsDone outcome.result
-  pub storage_count : v.storage_faults old.storage ≤ v.storage_faults new.storage
-  pub link_count : v.link_faults before ≤ v.link_faults after
-  pub storage_limit : v.storage_limit new.storage ≤ v.storage_limit old.storage
-  pub link_limit : v.link_limit after ≤ v.link_limit before
+  pub storage_counts : CountsOn v.storage_faults v.storage_limit old.storage new.storage
+  pub link_counts : CountsOn v.link_faults v.link_limit before after
 
 -- a piece of a job moved on the link that it started on, and on no other, and more may come
 pub record MovesPiece {S L : Type 0} (v : Views S L) (job : Job) (given : Answer) (old new : Outside S L) : Type 0 where
@@ -151,10 +149,8 @@ pub record MovesPiece {S L : Type 0} (v : Views S L) (job : Job) (given : Answer
   pub there : map.get old.links job.number ≡ Some before
   pub links : new.links ≡ map.insert old.links job.number after
   pub went : Went job (told_by v old.storage before) (told_by v new.storage after) bytes
-  pub storage_count : v.storage_faults old.storage ≤ v.storage_faults new.storage
-  pub link_count : v.link_faults before ≤ v.link_faults after
-  pub storage_limit : v.storage_limit new.storage ≤ v.storage_limit old.storage
-  pub link_limit : v.link_limit after ≤ v.link_limit before
+  pub storage_counts : CountsOn v.storage_faults v.storage_limit old.storage new.storage
+  pub link_counts : CountsOn v.link_faults v.link_limit before after
 
 -- nothing was asked, read, written or stored
 pub record LeavesAll {S L : Type 0} (given : Answer) (old new : Outside S L) : Type 0 where

@@ -36,5 +36,5 @@ pub use session::{Login, Opening, Pending, Running, Session, Slot};
 pub use status::{CommandWord, Ended, Status7};
 pub use text::{
     make_pasv_reply, refusal, reply_of, unique_name, words_of, write_offset_text,
-    write_passive_text,
+    write_passive_text, write_words,
 };

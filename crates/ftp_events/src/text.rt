@@ -201,9 +201,9 @@ pub fn write_offset_text(text: &mut Vec<u8>, offset: u64)
     requires { vec_len text.old + 64 ≤ vec_capacity text.old }
     ensures { text.new.items ≡ text.old.items ++ offset_text offset }
 {
-    write(text, b"Restarting at ");
+    write_words(text, b"Restarting at ");
     write_offset(text, offset);
-    write(text, b". Now send STORE or RETRIEVE.");
+    write_words(text, b". Now send STORE or RETRIEVE.");
 }
 
 // Writes the digits of an offset.
@@ -214,7 +214,7 @@ fn write_offset(text: &mut Vec<u8>, offset: u64)
     ensures capacity { vec_capacity text.old ≤ vec_capacity text.new }
 {
     let mut buffer = Buffer::new();
-    write(text, buffer.format(offset).as_bytes());
+    write_words(text, buffer.format(offset).as_bytes());
 }
 
 // Writes six numbers in their frame.
@@ -222,7 +222,7 @@ fn write_numbers(text: &mut Vec<u8>, a: u8, b: u8, c: u8, d: u8, high: u8, low: 
     requires { vec_len text.old + 64 ≤ vec_capacity text.old }
     ensures { text.new.items ≡ text.old.items ++ passive_numbers (a ∷ b ∷ c ∷ d ∷ high ∷ low ∷ []) }
 {
-    write(text, b"Entering Passive Mode (");
+    write_words(text, b"Entering Passive Mode (");
     write_number(text, a, b",");
     write_number(text, b, b",");
     write_number(text, c, b",");
@@ -231,8 +231,8 @@ fn write_numbers(text: &mut Vec<u8>, a: u8, b: u8, c: u8, d: u8, high: u8, low: 
     write_number(text, low, b")");
 }
 
-// Writes the words behind the text.
-fn write(text: &mut Vec<u8>, words: &[u8])
+/// Writes words behind the text, in room that it has.
+pub fn write_words(text: &mut Vec<u8>, words: &[u8])
     requires { vec_len text.old + length words.now ≤ vec_capacity text.old }
     ensures items { text.new.items ≡ text.old.items ++ words.now }
     ensures len { vec_len text.new ≡ vec_len text.old + length words.now }
@@ -253,6 +253,6 @@ fn write_number(text: &mut Vec<u8>, n: u8, mark: &[u8])
     ensures capacity { vec_capacity text.old ≤ vec_capacity text.new }
 {
     let mut buffer = Buffer::new();
-    write(text, buffer.format(n).as_bytes());
-    write(text, mark);
+    write_words(text, buffer.format(n).as_bytes());
+    write_words(text, mark);
 }

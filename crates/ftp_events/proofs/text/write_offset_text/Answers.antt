@@ -8,5 +8,5 @@ joined t w digits tail = simp append_assoc
 
 pub returns : goal.returns
 returns c =
-    rw (c.write-2.ensures.items, c.write_offset.ensures.items, c.write.ensures.items)
+    rw (c.write_words-2.ensures.items, c.write_offset.ensures.items, c.write_words.ensures.items)
     (joined c.args.text.now.items (codes "Restarting at ") (decimal c.args.offset) (codes ". Now send STORE or RETRIEVE."))
