@@ -17,14 +17,14 @@ use Rattle.ftp_laws.proofs.SubjectLemmas.{one-concerns, named-one, not-all, name
 use Rattle.ftp_laws.specs.Census.{IsAscending}
 use Rattle.ftp_laws.specs.Fates.{queues, settles}
 use Rattle.ftp_laws.proofs.TicketLemmas.{same_ticket-other}
-use Rattle.ftp_laws.proofs.ClassLemmas.{queues-is, finishes-is, queued-as}
+use Rattle.ftp_laws.proofs.ClassLemmas.{queues-is, queued-as}
 use Rattle.ftp_laws.proofs.QuestionLemmas.{session-told}
 use Rattle.ftp_laws.proofs.HoldLemmas.{live-used}
 use Rattle.ftp_laws.proofs.LaneLemmas.{IsQueue, queued-live, named-concern, IsBare}
 use Rattle.ftp_laws.proofs.SoundLemmas.{IsSound, queue-made}
 use Rattle.ftp_laws.proofs.CountLemmas.{count-about, count-nobody, count-completions}
 use Rattle.ftp_laws.proofs.Cases.{job-named}
-use Rattle.ftp_laws.proofs.BalanceLemmas.{one, IsOnCancelled, settles-on-transfers, settles-on-cancelled, count-start_acts, count-drop_acts-own, settles-drop_acts, IsEnd, finished-known, cut-known, IsFit, lost}
+use Rattle.ftp_laws.proofs.BalanceLemmas.{one, IsOnCancelled, settles-on-transfers, settles-on-cancelled, count-start_acts, count-drop_acts-own, settles-drop_acts, IsEnd, ended-known, IsFit, lost}
 use Rattle.ftp_laws.proofs.PartLemmas.{count-stop_acts, count-concern}
 
 -- the slot and the transfer of a session, as its history tells them, also where it is not live
@@ -67,15 +67,11 @@ entry-fit o past e s fit c = record { queue = queue; end = end }
         let same : (lane (history o past s)).pending ≡ v.pending = ap (λ (w : Session). w.pending) (session-told o past s v known).told in
         (same ∙ queue-free v.slot v.pending q.room, queue-made (history o past s) e t q.command d q.asked)
 
-    known : (e.decision ≡ decision.Finished) ⊎ (e.decision ≡ decision.Cut) → IsEnd o past e.event.kind
-    known (inl d) = finished-known o past e.event.at e.event.kind e.answer (sym fit ∙ d)
-    known (inr d) = cut-known o past e.event.at e.event.kind e.answer (sym fit ∙ d)
-
     end :
         slot_move e.decision ≡ Finishes →
         (t : Ticket) × (job_ticket e.event.kind ≡ Some t) × ((j : Running) × ((lane (history o past s)).running ≡ Some j) × (j.job.ticket ≡ t))
     end m =
-        let x : IsEnd o past e.event.kind = known (finishes-is e.decision m) in
+        let x : IsEnd o past e.event.kind = ended-known o past e.event.at e.event.kind e.answer e.decision (sym fit) m in
         let own : x.ticket.session ≡ s = named-concern o past e x.ticket.session s fit (job-named e.event.kind x.ticket x.kind_is) c in
         (x.ticket, x.kind_is, (x.job, subst (λ (n : ℕ). running_job o past n ≡ Some x.job) own x.ran, x.same))
 

@@ -119,6 +119,10 @@ ran-known :
 ran-known o past k ticket d row j true t n x y h = record { ticket = ticket; kind_is = t; job = j; ran = x; same = same_ticket-equal j.job.ticket ticket y }
 ran-known o past k ticket d row j false t n x y h = absurd (n h)
 
+-- a decision that ends a job is not that none of this number is known
+unknown : (d : Decision) → decision.UnknownNumber ≡ d → slot_move d ≡ Finishes → ⊥
+unknown d z m = let w : slot_move decision.UnknownNumber ≡ Finishes = ap slot_move z ∙ m in cc
+
 -- where the end of a job, or its piece, is decided as one that runs, it ran
 end-known :
     (o : Options) (past : List Entry) (ticket : Ticket) (answer : Answer) (d : Decision) (j : Option Running) → (decision.UnknownNumber ≡ d → ⊥) →
@@ -132,23 +136,18 @@ pub piece-known :
 piece-known o past ticket answer d None n x h = absurd (n h)
 piece-known o past ticket answer d (Some j) n x h = ran-known o past (kind.Piece ticket) ticket d (unless_marked j (moved_row j.job answer)) j (same_ticket j.job.ticket ticket) refl n x refl h
 
--- only the end of a job that ran is decided as one
-pub finished-known :
-    (o : Options) (past : List Entry) (at : ℕ) (k : EventKind) (answer : Answer) →
-    due o past at k answer ≡ decision.Finished →
+-- only a job that ran is decided as one that has ended or is cut
+pub ended-known :
+    (o : Options) (past : List Entry) (at : ℕ) (k : EventKind) (answer : Answer) (d : Decision) →
+    due o past at k answer ≡ d → slot_move d ≡ Finishes →
     IsEnd o past k
-finished-known o past at (kind.End ticket) answer e = end-known o past ticket answer decision.Finished (running_job o past ticket.session) (λ z. cc) refl e
-finished-known o past at (kind.Piece ticket) answer e = piece-known o past ticket answer decision.Finished (running_job o past ticket.session) (λ z. cc) refl e
-finished-known o past at k answer e = grind arith
-
--- and only a job that ran is cut
-pub cut-known :
-    (o : Options) (past : List Entry) (at : ℕ) (k : EventKind) (answer : Answer) →
-    due o past at k answer ≡ decision.Cut →
-    IsEnd o past k
-cut-known o past at (kind.End ticket) answer e = end-known o past ticket answer decision.Cut (running_job o past ticket.session) (λ z. cc) refl e
-cut-known o past at (kind.Piece ticket) answer e = piece-known o past ticket answer decision.Cut (running_job o past ticket.session) (λ z. cc) refl e
-cut-known o past at k answer e = grind arith
+ended-known o past at (kind.End ticket) answer d e m = end-known o past ticket answer d (running_job o past ticket.session) (λ z. unknown d z m) refl e
+ended-known o past at (kind.Piece ticket) answer d e m = piece-known o past ticket answer d (running_job o past ticket.session) (λ z. unknown d z m) refl e
+ended-known o past at k answer d e m = by (finishes-is d m) e
+  where
+    by : (d ≡ decision.Finished) ⊎ (d ≡ decision.Cut) → due o past at k answer ≡ d → IsEnd o past k
+    by (inl is) e = grind arith
+    by (inr is) e = grind arith
 
 -- what an entry needs, so that no transfer is lost or doubled: one that queues finds a free slot, one that ends a job names it
 pub record IsFit (k : EventKind) (m : SlotMove) (queued : Option Pending) (l : Lane) : Type 0 where

@@ -29,7 +29,7 @@ use Rattle.ftp_laws.proofs.PortLemmas.{opened-subject, session-before, opened-no
 use Rattle.ftp_laws.proofs.LaneLemmas.{named-concern}
 use Rattle.ftp_laws.proofs.TableLemmas.{same-both}
 use Rattle.ftp_laws.proofs.CountLemmas.{IsOnTransfers, IsOnStarts, started_in, count-cuttings, count-about, count-starts, count-drop_acts, count-nobody}
-use Rattle.ftp_laws.proofs.BalanceLemmas.{one, IsFit, no-completion, cut-known}
+use Rattle.ftp_laws.proofs.BalanceLemmas.{one, IsFit, no-completion, ended-known}
 use Rattle.ftp_laws.proofs.AccountLemmas.{entry-fit}
 use Rattle.ftp_laws.proofs.JobLemmas.{IsBalanced, jobs-balance, uncut, cut-is, cuts-own, started_in-owned, starts_for-on-starts, completes_for-on-transfers, completes_for-start_acts}
 use Rattle.ftp_laws.proofs.EntryLemmas.{Comes, right-past, acted-past}
@@ -212,22 +212,22 @@ live-counted o log r =
     (λ log e comes h. live-step o (past_of log) e comes.fit h) log r
 
 -- the action starts a job
-abbrev is_start : Action → Bool
+abbrev pub is_start : Action → Bool
 is_start (action.Start ticket number) = true
 is_start _ = false
 
 -- the action completes one
-abbrev is_completed : Action → Bool
+abbrev pub is_completed : Action → Bool
 is_completed (action.Completed ticket delivered) = true
 is_completed _ = false
 
 -- the test on starts is one on starts
-start-on-starts : IsOnStarts is_start
+pub start-on-starts : IsOnStarts is_start
 start-on-starts =
     record { plain = λ q. record { closes = λ m. refl; notifies = λ meta what. refl; replies = λ delay r. refl }; completed = λ t b. refl; cancelled = λ t. refl }
 
 -- that on completions is one on transfers
-completed-on-transfers : (q : ℕ) → IsOnTransfers q is_completed
+pub completed-on-transfers : (q : ℕ) → IsOnTransfers q is_completed
 completed-on-transfers q = record { closes = λ m. refl; notifies = λ meta what. refl; replies = λ delay r. refl }
 
 -- a sum of what actions tell is a count of those that tell one
@@ -235,21 +235,19 @@ total-counts : (tells : Action → ℕ) (p : Action → Bool) → ((x : Action) 
 total-counts tells p same [] = refl
 total-counts tells p same (x ∷ xs) = omega (arith, total-counts tells p same xs, same x, sum_by-cons (λ y. one (p y)) x xs)
 
+-- an action starts or ends one job, or none
+one-each : (x : Action) → (started x ≡ one (is_start x)) × (ended x ≡ one (is_completed x))
+one-each (action.Start ticket number) = (refl, refl)
+one-each (action.Completed ticket delivered) = (refl, refl)
+one-each _ = (refl, refl)
+
 -- so the jobs that start are counted
-starts-counted : (xs : List Action) → total started xs ≡ count_by is_start xs
-starts-counted xs = total-counts started is_start one_each xs
-  where
-    one_each : (x : Action) → started x ≡ one (is_start x)
-    one_each (action.Start ticket number) = refl
-    one_each _ = refl
+pub starts-counted : (xs : List Action) → total started xs ≡ count_by is_start xs
+starts-counted xs = total-counts started is_start (λ x. (one-each x).0) xs
 
 -- and those that end
-ends-counted : (xs : List Action) → total ended xs ≡ count_by is_completed xs
-ends-counted xs = total-counts ended is_completed one_each xs
-  where
-    one_each : (x : Action) → ended x ≡ one (is_completed x)
-    one_each (action.Completed ticket delivered) = refl
-    one_each _ = refl
+pub ends-counted : (xs : List Action) → total ended xs ≡ count_by is_completed xs
+ends-counted xs = total-counts ended is_completed (λ x. (one-each x).1) xs
 
 -- a decision stops a job where it cuts one
 stopped-cut : (d : Decision) → stopped d ≡ one (is_cut d)
@@ -333,7 +331,7 @@ running-step o log e comes acted h =
         by_test (is_cut e.decision)
         (λ n.
         let d : e.decision ≡ decision.Cut = cut-is e.decision n in
-        let end = cut-known o past e.event.at e.event.kind e.answer (sym comes.fit ∙ d) in
+        let end = ended-known o past e.event.at e.event.kind e.answer decision.Cut (sym comes.fit ∙ d) refl in
         let named = named-one o past e end.ticket.session (rw d refl) (job-named e.event.kind end.ticket end.kind_is) in
         let z : Nobody ≡ One end.ticket.session = sym x ∙ named in
         cc)

@@ -20,7 +20,7 @@ use Rattle.ftp_laws.proofs.LaneLemmas.{IsBare, ended-empty, named-concern}
 use Rattle.ftp_laws.proofs.RunningLemmas.{runs-started, running-after, unused-idle}
 use Rattle.ftp_laws.proofs.CountLemmas.{IsOnTransfers, IsOnStarts, started_in, count-cuttings, count-completions, count-drop_acts, count-about, count-starts, count-nobody}
 use Rattle.ftp_laws.proofs.LinkLemmas.{startable-is, starting-told}
-use Rattle.ftp_laws.proofs.BalanceLemmas.{one, finishes, no-completion, IsFit, cut-known}
+use Rattle.ftp_laws.proofs.BalanceLemmas.{one, finishes, no-completion, IsFit, ended-known}
 use Rattle.ftp_laws.proofs.PartLemmas.{count-stop-idle}
 use Rattle.ftp_laws.proofs.AccountLemmas.{entry-fit}
 use Rattle.ftp_laws.proofs.SoundLemmas.{sound, entry-sound}
@@ -197,7 +197,7 @@ pub cuts-own :
 cuts-own o past e s fit c =
     by_test (is_cut e.decision)
     (λ n.
-    let end = cut-known o past e.event.at e.event.kind e.answer (sym fit ∙ cut-is e.decision n) in
+    let end = ended-known o past e.event.at e.event.kind e.answer decision.Cut (sym fit ∙ cut-is e.decision n) refl in
     let named = job-named e.event.kind end.ticket end.kind_is in
     rw (n, named, named-concern o past e end.ticket.session s fit named c, eq-eqb s s refl) refl)
     (λ n. ap (λ b. b && is_number (named_session e.event.kind) s) n ∙ sym n)
@@ -240,7 +240,7 @@ jobs-balance o log e s r fit counts acted =
 
     cut-named : is_cut e.decision ≡ true → (t : Ticket) × (job_ticket e.event.kind ≡ Some t)
     cut-named n =
-        let end = cut-known o past e.event.at e.event.kind e.answer (sym fit ∙ cut-is e.decision n) in
+        let end = ended-known o past e.event.at e.event.kind e.answer decision.Cut (sym fit ∙ cut-is e.decision n) refl in
         (end.ticket, end.kind_is)
 
     uncuts : is_cut e.decision ≡ false → cuts_for s e ≡ false

@@ -27,8 +27,10 @@ pub mod ClientLemmas
 pub mod LogLemmas
 pub mod AloneLemmas
 pub mod SameLemmas
+pub mod WithoutLemmas
 pub mod SweepLemmas
 pub mod ScavengeLemmas
+pub mod TakenLemmas
 pub mod NoticeLemmas
 pub mod NotificationLemmas
 pub mod LaneLemmas

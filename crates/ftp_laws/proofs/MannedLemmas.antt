@@ -24,13 +24,11 @@ use Rattle.ftp_events.specs.Slot.{asked_command, queued_by}
 use Rattle.ftp_events.specs.Transfer.{pending_of}
 use Rattle.ftp_events.specs.Login.{login_by, name_by, logged_user}
 use Rattle.ftp_laws.proofs.Common.{SlotMove, slot_move, Options, Answer, Decision, Entry, EventKind, Pending, Running, Session, Slot, Ticket, Lane, concerns, due, empties, history, subject, is_used, lane, lane_of, moved, named_session, new_number, opens, past_of, pending_in, queued_in, running_job, session, starts_by, with_link, holder, IsRight}
-use Rattle.ftp_laws.proofs.Cases.{by_test, by_part}
 use Rattle.ftp_laws.proofs.ClassLemmas.{awaits-is, connects-is, queues-is}
 use Rattle.ftp_laws.proofs.DecisionLemmas.{first-chosen, live-row}
-use Rattle.ftp_laws.proofs.EntryLemmas.{right-past}
 use Rattle.ftp_laws.proofs.LaneLemmas.{fills, named-concern, queue-placed, queued-live}
-use Rattle.ftp_laws.proofs.PortLemmas.{opened-subject, session-before}
-use Rattle.ftp_laws.proofs.QuestionLemmas.{lane-opened, session-other, session-told, session_by}
+use Rattle.ftp_laws.proofs.PortLemmas.{opened-subject, each-session}
+use Rattle.ftp_laws.proofs.QuestionLemmas.{lane-opened, session-told, session_by}
 use Rattle.ftp_laws.proofs.SubjectLemmas.{nobody-concerns}
 
 -- what is known of a decision on a session's own command: the session is live, and its row decides so
@@ -297,16 +295,7 @@ manned-step o past e s v fit c known mv =
 
 -- in every right log it is so of each live session
 pub session-manned : (o : Options) (log : List Entry) → IsRight o log → (s : ℕ) (v : Session) → session o (past_of log) s ≡ Some v → IsManned v
-session-manned o log r =
-    right-past o (λ past. (s : ℕ) (v : Session) → session o past s ≡ Some v → IsManned v) (λ s v known. let z : None ≡ Some v = known in cc)
-    (λ log e comes ih s v known.
-    let past : List Entry = past_of log in
-    by_part o past e s
-    (λ n. new past e s v n known)
-    (λ n c.
-    let after = session-before o past e s v comes.fit n c known in
-    subst IsManned after.after (manned-step o past e s after.before comes.fit c after.known (ih s after.before after.known)))
-    (λ n c. ih s v (sym (session-other o past e s n c) ∙ known))) log r
+session-manned o = each-session o IsManned new (manned-step o)
   where
     new : (past : List Entry) (e : Entry) (s : ℕ) (v : Session) → opens e s ≡ true → session o (e ∷ past) s ≡ Some v → IsManned v
     new past e s v n known =

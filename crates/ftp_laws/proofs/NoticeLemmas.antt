@@ -1,29 +1,23 @@
 -- What an entry tells of a session.
-use Rattle.std.proofs.Common.{◌≡◌, refl, sym, ◌∙◌, ap, ap₂, ℕ, ◌+◌, Bool, true, false, cond, List, [], ◌∷◌, ◌++◌, length, Option, Some, None, arith, eqb-true, eq-eqb, append-nil}
-use Rattle.std.specs.Prelude.{◌==◌, count_by, filter_map, is_some, unwrap_or}
-use Rattle.std.specs.Option.{option_map_or, option_and_then}
-use Rattle.std.proofs.lemmas.List.Elements.{filter_map-append}
+use Rattle.std.proofs.Common.{◌≡◌, refl, sym, ◌∙◌, ap, ap₂, ℕ, ◌+◌, Bool, true, false, cond, List, [], ◌∷◌, length, Option, Some, None, arith, eqb-true, eq-eqb}
+use Rattle.std.specs.Prelude.{◌==◌, count_by, filter_map, is_some}
+use Rattle.std.specs.Option.{option_map_or}
 use Rattle.std.proofs.lemmas.List.Recursion.{is_count_by}
-use Rattle.ftp_base.specs.declared.message.ControlChanMsg.{ControlChanMsg}
 use Rattle.ftp_base.specs.declared.notice.Notice.{Notice}
 use Rattle.ftp_base.specs.declared.reply.Reply.{Reply}
-use Rattle.ftp_base.specs.declared.reply.Reply.TheVariants as reply
 use Rattle.ftp_events.specs.declared.action.Action.TheVariants as action
-use Rattle.ftp_events.specs.declared.decision.Decision.TheVariants as decision
-use Rattle.ftp_events.specs.Login.{login_by, logged_user}
 use Rattle.ftp_events.specs.Notices.{is_notice_to}
 use Rattle.ftp_events.specs.Session.{live_sessions}
-use Rattle.ftp_events.specs.Reply.{message_for, reply_for, delay_of}
-use Rattle.ftp_events.specs.Acts.{session_acts, notice_and_reply, notifications, reply_acts, notice_for, presence_for, farewells, cuttings}
+use Rattle.ftp_events.specs.Acts.{session_acts, notifications}
 use Rattle.ftp_events.specs.History.{Nobody, One, All}
-use Rattle.ftp_laws.proofs.Common.{Subject, subject_acts, is_ending, Options, Running, Action, Decision, Entry, EventKind, Answer, Pending, Session, Slot, is_refusal, new_number, subject, concerns, drops, session, running_job, acts_of, acts_for, completions, cancellations, stays, drop_acts, pending_in, start_acts, starting, link_in, closings, refused_link, slot_of}
+use Rattle.ftp_laws.proofs.Common.{Subject, subject_acts, Options, Running, Action, Decision, Entry, EventKind, Answer, Session, is_refusal, subject, concerns, session, running_job, acts_of, acts_for}
 use Rattle.ftp_laws.proofs.SubjectLemmas.{nobody-concerns, one-concerns, stop-concerns, all-stop}
 use Rattle.ftp_laws.proofs.LiveLemmas.{live_sessions-has}
 use Rattle.ftp_laws.proofs.PartLemmas.{taken-parts-one}
 use Rattle.ftp_laws.specs.Census.{IsAscending}
 use Rattle.ftp_laws.specs.Notices.{notice_to}
 use Rattle.ftp_laws.proofs.TableLemmas.{same-both}
-use Rattle.ftp_laws.proofs.Cases.{by_completion}
+use Rattle.ftp_laws.proofs.TakenLemmas.{IsQuiet, notified, notify_acts, taken-notified, taken-refused_link, user_then}
 
 -- as many notifications are counted as are listed
 pub length-notices :
@@ -47,67 +41,6 @@ length-notices s xs = is_count_by (λ ys. length (filter_map (notice_to s) ys)) 
     step (action.Reply session delay reply) ys = refl
     step (action.Start ticket number) ys = refl
 
--- the end of a job tells no listener
-pub notices-completions :
-    (s t : ℕ) (k : EventKind) (d : Decision) (delivered : Bool) (job : Option Running) →
-    filter_map (notice_to s) (completions t k d delivered job) ≡ []
-notices-completions s t k d delivered job =
-    by_completion (λ xs. filter_map (notice_to s) xs ≡ []) t k d delivered job refl (λ u x y. refl) (λ r x y. cut delivered r)
-  where
-    cut : (b : Bool) (r : Running) → filter_map (notice_to s) (cuttings t b (Some r)) ≡ []
-    cut true r = refl
-    cut false r = refl
-
--- nor does what a session loses with its slot
-pub notices-drop_acts :
-    (s t : ℕ) (staying : Bool) (d : Decision) (slot : Slot) (pending : Option Pending) →
-    filter_map (notice_to s) (drop_acts t staying d slot pending) ≡ []
-notices-drop_acts s t staying d slot pending = go (drops d slot) staying pending (link_in slot)
-  where
-    go :
-        (b stays : Bool) (pending : Option Pending) (link : Option ℕ) →
-        filter_map (notice_to s) (cond b (cancellations t stays pending ++ closings link) []) ≡ []
-    go true stays None None = refl
-    go true stays None (Some n) = refl
-    go true true (Some p) None = refl
-    go true true (Some p) (Some n) = refl
-    go true false (Some p) None = refl
-    go true false (Some p) (Some n) = refl
-    go false stays pending link = refl
-
--- nor a job that starts
-pub notices-start_acts : (s : ℕ) (job : Option Running) → filter_map (notice_to s) (start_acts job) ≡ []
-notices-start_acts s None = refl
-notices-start_acts s (Some job) = refl
-
--- nor a link that is closed
-pub notices-closings : (s : ℕ) (link : Option ℕ) → filter_map (notice_to s) (closings link) ≡ []
-notices-closings s None = refl
-notices-closings s (Some n) = refl
-
--- nor a connection that is closed as soon as it came
-pub notices-refused_link :
-    (s : ℕ) (k : EventKind) (d : Decision) →
-    filter_map (notice_to s) (refused_link k d) ≡ []
-notices-refused_link s k decision.Turned = notices-closings s (new_number k decision.Turned)
-notices-refused_link s k (decision.HeaderFault fault) = notices-closings s (new_number k (decision.HeaderFault fault))
-notices-refused_link s k d = refl
-
--- nor a connection that is closed at the end
-pub notices-farewells : (s t : ℕ) (d : Decision) → filter_map (notice_to s) (farewells t d) ≡ []
-notices-farewells s t d = go (is_ending d)
-  where
-    go : (b : Bool) → filter_map (notice_to s) (cond b (action.Close t ∷ []) []) ≡ []
-    go true = refl
-    go false = refl
-
--- nor a reply
-pub notices-reply_acts :
-    (s t delay : ℕ) (r : Reply) →
-    filter_map (notice_to s) (reply_acts t delay r) ≡ []
-notices-reply_acts s t delay reply.None = refl
-notices-reply_acts s t delay (reply.CodeAndMsg c msg) = refl
-
 -- a notification under the number after n, where there is one
 abbrev pub under : ℕ → Option Notice → List (ℕ × Notice)
 under n what = option_map_or (λ what. (n + 1, what) ∷ []) what []
@@ -115,7 +48,7 @@ under n what = option_map_or (λ what. (n + 1, what) ∷ []) what []
 -- what is told of a session by an event and its decision, from the job that ran and the session before it
 abbrev pub told_by : EventKind → Answer → Decision → Option Running → Option Session → List (ℕ × Notice)
 told_by k answer d job None = []
-told_by k answer d job (Some v) = under v.notices (notice_for (message_for v job k answer d) (presence_for d))
+told_by k answer d job (Some v) = under v.notices (notified k answer d job v)
 
 -- a session's notification is its own
 pub notices-notifications :
@@ -130,27 +63,19 @@ notices-notifications s t v user (Some what) = go (t == s) refl
     go true x = rw x refl
     go false x = rw x refl
 
+-- nothing else tells of one
+notices-quiet : (s : ℕ) → IsQuiet (notice_to s)
+notices-quiet s = record { cancels = λ t. refl; closes = λ n. refl; replies = λ t delay r. refl }
+
 -- what an event does for session t tells of session t
 pub notices-session_acts :
     (o : Options) (s t : ℕ) (k : EventKind) (answer : Answer) (d : Decision) (job : Option Running) (v : Option Session) →
     filter_map (notice_to s) (session_acts o t k answer d job v) ≡ cond (t == s) (told_by k answer d job v) []
-notices-session_acts o s t k answer d job v =
-    rw (split, notices-completions s t k d (stays d v) job, notices-drop_acts s t (stays d v) d (slot_of v) (pending_in v), notices-refused_link s k d, notices-start_acts s (option_and_then (starting k d job) v), notices-farewells s t d) (append-nil (filter_map (notice_to s) (option_map_or (notice_and_reply o t k answer d job) v []) ++ []) ∙ (append-nil (filter_map (notice_to s) (option_map_or (notice_and_reply o t k answer d job) v [])) ∙ told v))
+notices-session_acts o s t k answer d job v = taken-notified (notices-quiet s) (λ t delivered. refl) (λ t n. refl) o t k answer d job v ∙ told v
   where
-    split : filter_map (notice_to s) (session_acts o t k answer d job v) ≡ filter_map (notice_to s) (completions t k d (stays d v) job) ++ filter_map (notice_to s) (drop_acts t (stays d v) d (slot_of v) (pending_in v)) ++ filter_map (notice_to s) (refused_link k d) ++ filter_map (notice_to s) (option_map_or (notice_and_reply o t k answer d job) v []) ++ filter_map (notice_to s) (start_acts (option_and_then (starting k d job) v)) ++ filter_map (notice_to s) (farewells t d)
-    split = simp filter_map-append
-
-    told :
-        (v : Option Session) →
-        filter_map (notice_to s) (option_map_or (notice_and_reply o t k answer d job) v []) ≡ cond (t == s) (told_by k answer d job v) []
+    told : (v : Option Session) → filter_map (notice_to s) (notify_acts t k answer d job v) ≡ cond (t == s) (told_by k answer d job v) []
     told None = sym (same-both (t == s) [])
-    told (Some v) =
-        let m : Option ControlChanMsg = message_for v job k answer d in
-        let user : List ℕ = logged_user (unwrap_or (login_by d) v.login) v.name in
-        let what : Option Notice = notice_for m (presence_for d) in
-        filter_map-append (notice_to s) (notifications t v user what) (reply_acts t (delay_of d) (reply_for o v m k d)) ∙
-        (rw (notices-reply_acts s t (delay_of d) (reply_for o v m k d)) (append-nil (filter_map (notice_to s) (notifications t v user what))) ∙
-        notices-notifications s t v user what)
+    told (Some v) = notices-notifications s t v (user_then d v) (notified k answer d job v)
 
 -- so many notifications of session s are among what an event does for session t
 pub count-notices :
@@ -205,7 +130,7 @@ notices-entry o past e s counts acted ascends = ap (filter_map (notice_to s)) do
         (λ t n. part t ∙ ap (λ b. cond b (told_in o past e t) []) n)
         ∙ (ap₂ (λ b ns. cond b ns []) (live_sessions-has o past s) own
         ∙ (known (session o past s) ∙ ap (λ b. cond b (told_in o past e s) []) (sym (stop-concerns o past e s (all-stop o past e h)))))
-    go Nobody h = notices-refused_link s e.event.kind e.decision ∙ ap (λ b. cond b (told_in o past e s) []) (sym (nobody-concerns o past e s h))
+    go Nobody h = taken-refused_link (notices-quiet s) e.event.kind e.decision ∙ ap (λ b. cond b (told_in o past e s) []) (sym (nobody-concerns o past e s h))
     go (One t) h =
         part t ∙
         (by_number t (t == s) refl ∙ ap (λ b. cond b (told_in o past e s) []) (sym (one-concerns o past e t s h)))

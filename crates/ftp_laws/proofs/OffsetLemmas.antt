@@ -15,7 +15,7 @@ use Rattle.ftp_laws.specs.Offsets.{TakesRest, EndsWell}
 use Rattle.ftp_laws.proofs.QuestionLemmas.{counting-refused, counting-counts, session-own, session-other, session_by}
 use Rattle.ftp_laws.proofs.HoldLemmas.{live-unopened}
 use Rattle.ftp_laws.proofs.LaneLemmas.{named-concern}
-use Rattle.ftp_laws.proofs.BalanceLemmas.{IsEnd, finished-known}
+use Rattle.ftp_laws.proofs.BalanceLemmas.{IsEnd, ended-known}
 use Rattle.ftp_laws.proofs.Cases.{job-named}
 
 -- a value that is there in one case
@@ -103,7 +103,7 @@ offset-lasts o log e s v w r known after = by_refusal (is_refusal e.decision) re
         let own : i.0 ≡ s = named-concern o past e i.0 s r.1 (ap named_session i.2) c in
         inr (inl (i.1, i.2 ∙ ap (λ q. Rest q i.1) own, i.3))
     by_case c x (inr (inr i)) =
-        let end : IsEnd o past e.event.kind = finished-known o past e.event.at e.event.kind e.answer (sym r.1 ∙ i.2) in
+        let end : IsEnd o past e.event.kind = ended-known o past e.event.at e.event.kind e.answer Finished (sym r.1 ∙ i.2) refl in
         let named : named_session e.event.kind ≡ Some end.ticket.session = job-named e.event.kind end.ticket end.kind_is in
         let own : end.ticket.session ≡ s = named-concern o past e end.ticket.session s r.1 named c in
         inr (inr (i.0, named ∙ ap Some own, i.1, i.2, i.3))

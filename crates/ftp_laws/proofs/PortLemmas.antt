@@ -154,6 +154,24 @@ session-before o past e s v fit n c known =
     go w k true l h = record { before = w; known = k; after = same_Some _ _ h; lives = l }
     go w k false l h = cc
 
+-- what holds of each session that opens, and still does after each entry about it, holds of the live sessions of every right log
+pub each-session :
+    (o : Options) (P : Session → Type 0) →
+    ((past : List Entry) (e : Entry) (s : ℕ) (v : Session) → opens e s ≡ true → session o (e ∷ past) s ≡ Some v → P v) →
+    ((past : List Entry) (e : Entry) (s : ℕ) (v : Session) → e.decision ≡ due o past e.event.at e.event.kind e.answer →
+    concerns o past e s ≡ true → session o past s ≡ Some v → P v → P (session_by s e (running_job o past s) v)) →
+    (log : List Entry) → IsRight o log → (s : ℕ) (v : Session) → session o (past_of log) s ≡ Some v → P v
+each-session o P opened own log r =
+    right-past o (λ past. (s : ℕ) (v : Session) → session o past s ≡ Some v → P v) (λ s v known. let z : None ≡ Some v = known in cc)
+    (λ log e comes ih s v known.
+    let past : List Entry = past_of log in
+    by_part o past e s
+    (λ n. opened past e s v n known)
+    (λ n c.
+    let after = session-before o past e s v comes.fit n c known in
+    subst P after.after (own past e s after.before comes.fit c after.known (ih s after.before after.known)))
+    (λ n c. ih s v (sym (session-other o past e s n c) ∙ known))) log r
+
 -- a slot that was given a link waits for nothing
 pub port-linked : (slot : Slot) (n : ℕ) → waiting_port (with_link slot (Some n)) ≡ None
 port-linked Empty n = refl
