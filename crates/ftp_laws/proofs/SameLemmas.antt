@@ -11,7 +11,7 @@ use Rattle.ftp_events.specs.Lockout.{failures}
 use Rattle.ftp_events.specs.Log.{is_stopped}
 use Rattle.ftp_events.specs.LoginRows.{auth_row}
 use Rattle.ftp_events.specs.Session.{opened_sessions, live_sessions}
-use Rattle.ftp_laws.proofs.Common.{IpAddr, Options, Answer, Entry, EventKind, Opening, Session, Target, same_ip, named_session, new_number, granted_port, is_used, is_number, opened_number, opener, is_client, target, holder, holder_of_target, history, lane, session, running_job, due, acts_of}
+use Rattle.ftp_laws.proofs.Common.{IpAddr, Options, Answer, Decision, Entry, EventKind, Opening, Session, Target, same_ip, named_session, new_number, granted_port, is_used, is_number, opened_number, opener, is_client, target, holder, holder_of_target, history, lane, session, running_job, due, acts_of}
 use Rattle.ftp_laws.proofs.SubjectLemmas.{concerns-plain}
 use Rattle.ftp_laws.proofs.QuestionLemmas.{opener-other, history-other}
 use Rattle.ftp_laws.proofs.TableLemmas.{holder-other}
@@ -105,16 +105,16 @@ same-more o P K e same =
     client-same (Some s) a = ap (λ (x : Option Opening). option_map_or (λ opening. same_ip opening.client a) x false) (same.openers s)
 
 -- an entry that is for nobody: it names no session and carries no number
-pub record IsForNobody (e : Entry) : Type 0 where
-  pub unnamed : named_session e.event.kind ≡ None
-  pub untargeted : (o : Options) → target o e.event.kind e.answer ≡ None
-  pub unnumbered : new_number e.event.kind e.decision ≡ None
-  pub unopened : opened_number e.event.kind e.decision ≡ None
-  pub ungranted : granted_port e.decision ≡ None
-  pub plain : is_stop e.decision ≡ false
+pub record IsForNobody (k : EventKind) (answer : Answer) (d : Decision) : Type 0 where
+  pub unnamed : named_session k ≡ None
+  pub untargeted : (o : Options) → target o k answer ≡ None
+  pub unnumbered : new_number k d ≡ None
+  pub unopened : opened_number k d ≡ None
+  pub ungranted : granted_port d ≡ None
+  pub plain : is_stop d ≡ false
 
 -- without it a past is the same
-pub nobody-same : (o : Options) (past : List Entry) (e : Entry) → IsForNobody e → AreSame o (e ∷ past) past
+pub nobody-same : (o : Options) (past : List Entry) (e : Entry) → IsForNobody e.event.kind e.answer e.decision → AreSame o (e ∷ past) past
 nobody-same o past e nobody =
     record {
       openers = λ s. sym (opener-other past e s (ap (λ n. is_number n s) nobody.unopened));

@@ -1,5 +1,5 @@
 -- Without an entry that scavenges a log decides and does the same.
-use Rattle.std.proofs.Common.{◌≡◌, refl, ◌∙◌, ap, ℕ, false, cond, List, ◌∷◌, ◌++◌, Option, Some, None}
+use Rattle.std.proofs.Common.{◌≡◌, refl, ◌∙◌, ap, ℕ, cond, List, ◌∷◌, ◌++◌, Option, Some, None}
 use Rattle.std.specs.Prelude.{⊤}
 use Rattle.std.specs.Option.{option_and_then}
 use Rattle.ftp_base.specs.declared.login.AuthAnswer.{AuthAnswer}
@@ -9,26 +9,12 @@ use Rattle.ftp_lockout.specs.declared.key.LoginKey.{LoginKey}
 use Rattle.ftp_events.specs.declared.decision.Decision.TheVariants as decision
 use Rattle.ftp_events.specs.declared.event.EventKind.TheVariants as kind
 use Rattle.ftp_events.specs.declared.event.HubEvent.{HubEvent}
-use Rattle.ftp_events.specs.Classes.{is_stop}
 use Rattle.ftp_events.specs.Lockout.{login_key, is_login_for, failures_by, failures_after, tally, failures}
 use Rattle.ftp_events.specs.CommandRows.{own_failures}
 use Rattle.ftp_events.specs.LoginRows.{auth_row}
 use Rattle.ftp_events.specs.Right.{next_entry}
-use Rattle.ftp_laws.proofs.Common.{Options, Answer, Entry, EventKind, Session, named_session, new_number, granted_port, opened_number, past_of, session, is_refusal, target, decide, IsRight, IsActed}
-use Rattle.ftp_laws.proofs.SameLemmas.{IsForNobody, nobody-same}
-use Rattle.ftp_laws.proofs.WithoutLemmas.{AreAlike, StayClose, alike-next, alike-without}
-
--- a look at what is held for nobody is for nobody
-scavenge-nobody : (e : Entry) → e.event.kind ≡ kind.Scavenge → e.decision ≡ decision.Scavenged → IsForNobody e
-scavenge-nobody e k d =
-    record {
-      unnamed = ap named_session k;
-      untargeted = λ o. ap (λ x. target o x e.answer) k;
-      unnumbered = ap (λ x. new_number x e.decision) k;
-      unopened = ap (opened_number e.event.kind) d;
-      ungranted = ap granted_port d;
-      plain = ap is_stop d;
-    }
+use Rattle.ftp_laws.proofs.Common.{Options, Answer, Entry, EventKind, Session, past_of, session, decide, IsRight, IsActed}
+use Rattle.ftp_laws.proofs.WithoutLemmas.{AreAlike, StayClose, alike-first, alike-next, alike-without}
 
 -- failures are told the same
 abbrev AreEqual : List Entry → FailedLoginsPolicy → Option Failures → Option Failures → Type 0
@@ -82,11 +68,6 @@ scavenges-nothing o newer older e k r a =
   where
     first : IsRight o (e ∷ older) → IsActed o (e ∷ older) → AreAlike o AreEqual (e ∷ older) older
     first r a =
-        let d : e.decision ≡ decision.Scavenged = r.1 ∙ rw k refl in
-        let counts : is_refusal e.decision ≡ false = ap is_refusal d in
-        record {
-          same = rw counts (nobody-same o (past_of older) e (scavenge-nobody e k d));
-          failed = λ p key. rw (counts, k) refl;
-          right = r.0;
-          acted = a.0;
-        }
+        alike-first o AreEqual AtAny (stay-equal o) older e kind.Scavenge decision.Scavenged k (r.1 ∙ rw k refl) refl
+        (record { unnamed = refl; untargeted = λ o. refl; unnumbered = refl; unopened = refl; ungranted = refl; plain = refl })
+        (λ counts p key. rw (counts, k) refl) r a

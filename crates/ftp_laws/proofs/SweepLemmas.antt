@@ -10,28 +10,14 @@ use Rattle.ftp_lockout.specs.Failures.{swept, one_more, let_in}
 use Rattle.ftp_events.specs.declared.decision.Decision.TheVariants as decision
 use Rattle.ftp_events.specs.declared.event.EventKind.TheVariants as kind
 use Rattle.ftp_events.specs.declared.event.HubEvent.{HubEvent}
-use Rattle.ftp_events.specs.Classes.{is_stop}
 use Rattle.ftp_events.specs.CommandRows.{own_failures}
 use Rattle.ftp_events.specs.LoginRows.{auth_row}
 use Rattle.ftp_events.specs.Lockout.{login_key, is_login_for, failures_by, failures_after, tally, failures}
 use Rattle.ftp_events.specs.Right.{next_entry}
-use Rattle.ftp_laws.proofs.Common.{Options, Answer, Entry, EventKind, Session, named_session, new_number, granted_port, past_of, is_refusal, opened_number, target, session, decide, IsRight, IsActed}
+use Rattle.ftp_laws.proofs.Common.{Options, Answer, Entry, EventKind, Session, past_of, session, decide, IsRight, IsActed}
 use Rattle.ftp_laws.specs.Moments.{IsLatest, NeverFalls}
-use Rattle.ftp_laws.proofs.SameLemmas.{IsForNobody, nobody-same}
-use Rattle.ftp_laws.proofs.WithoutLemmas.{AreAlike, StayClose, alike-next, alike-without}
+use Rattle.ftp_laws.proofs.WithoutLemmas.{AreAlike, StayClose, alike-first, alike-next, alike-without}
 use Rattle.ftp_laws.proofs.LockoutLemmas.{failures-tally, let_in-swept, one_more-swept, swept-later, password-swept}
-
--- a sweep is for nobody
-sweep-nobody : (e : Entry) → e.event.kind ≡ kind.Sweep → e.decision ≡ decision.Swept → IsForNobody e
-sweep-nobody e k d =
-    record {
-      unnamed = ap named_session k;
-      untargeted = λ o. ap (λ x. target o x e.answer) k;
-      unnumbered = ap (λ x. new_number x e.decision) k;
-      unopened = ap (opened_number e.event.kind) d;
-      ungranted = ap granted_port d;
-      plain = ap is_stop d;
-    }
 
 -- of the failures of a key, which differ by a sweep at the moment, an event leaves such as differ by a sweep at any later moment
 after-swept :
@@ -113,11 +99,6 @@ sweeps-nothing o newer older e k n r a =
   where
     first : IsRight o (e ∷ older) → IsActed o (e ∷ older) → AreAlike o AreClose (e ∷ older) older
     first r a =
-        let d : e.decision ≡ decision.Swept = r.1 ∙ rw k refl in
-        let counts : is_refusal e.decision ≡ false = ap is_refusal d in
-        record {
-          same = rw counts (nobody-same o (past_of older) e (sweep-nobody e k d));
-          failed = λ p key at le. rw (counts, k) (sym (swept-later p e.event.at at (tally o p (past_of older) key) le));
-          right = r.0;
-          acted = a.0;
-        }
+        alike-first o AreClose IsLatest (stay-close o) older e kind.Sweep decision.Swept k (r.1 ∙ rw k refl) refl
+        (record { unnamed = refl; untargeted = λ o. refl; unnumbered = refl; unopened = refl; ungranted = refl; plain = refl })
+        (λ counts p key at le. rw (counts, k) (sym (swept-later p e.event.at at (tally o p (past_of older) key) le))) r a

@@ -10,7 +10,7 @@ use Rattle.ftp_events.specs.LoginRows.{auth_row}
 use Rattle.ftp_events.specs.Lockout.{failures_after, tally, failures}
 use Rattle.ftp_events.specs.Right.{with_decision, next_entry}
 use Rattle.ftp_laws.proofs.Common.{Options, Action, Answer, Decision, Entry, EventKind, Session, past_of, is_refusal, session, due, decide, acts, acts_of, IsRight, IsActed}
-use Rattle.ftp_laws.proofs.SameLemmas.{TellSame, decided-same, done-same, AreSame, same-told, same-more}
+use Rattle.ftp_laws.proofs.SameLemmas.{decided-same, done-same, AreSame, same-told, same-more, IsForNobody, nobody-same}
 
 -- a right and acted log, and another that tells the same, of failures but for what makes them close
 pub record AreAlike (o : Options) (IsClose : List Entry → FailedLoginsPolicy → Option Failures → Option Failures → Type 0) (log rest : List Entry) : Type 0 where
@@ -81,7 +81,22 @@ module _
             acted = still_acted;
           }
 
-  -- so are a log and what is left of it without an entry, if they were when that came
+  -- so are a log that ends with an entry for nobody, and what was before it, where that leaves the failures close
+  pub alike-first :
+      (older : List Entry) (e : Entry) (k : EventKind) (d : Decision) →
+      e.event.kind ≡ k → e.decision ≡ d → is_refusal d ≡ false → IsForNobody k e.answer d →
+      (is_refusal e.decision ≡ false → (p : FailedLoginsPolicy) (key : LoginKey) → IsClose (e ∷ older) p (tally o p (past_of older) key) (tally o p (past_of (e ∷ older)) key)) →
+      IsRight o (e ∷ older) → IsActed o (e ∷ older) → AreAlike o IsClose (e ∷ older) older
+  alike-first older e k d is decided counts nobody close r a =
+      let counted : is_refusal e.decision ≡ false = ap is_refusal decided ∙ counts in
+      record {
+        same = rw counted (nobody-same o (past_of older) e (rw (is, decided) nobody));
+        failed = close counted;
+        right = r.0;
+        acted = a.0;
+      }
+
+  -- and what is left of a log without the entry, whatever came after it
   pub alike-without :
       (AreMoments : List Entry → Type 0) → ((x : Entry) (log : List Entry) → AreMoments (x ∷ log) → AreMoments log × IsMoment x.event.at log) →
       (newer older : List Entry) (e : Entry) →
