@@ -15,8 +15,8 @@ use Rattle.ftp_text.proofs.Exact.{Ends, IsNil, Ends-from_nil, IsExact, pair_exac
 use Rattle.ftp_text.proofs.FieldLemmas.{number_is, small_is, ticket_is}
 use Rattle.ftp_text.proofs.Values.{text_exact}
 use Rattle.ftp_text.specs.Printing.{notify_fields, reply_fields, delivered_text, action_fields}
-use Rattle.ftp_text.specs.declared.action.ActionWord.{ActionWord}
-use Rattle.ftp_text.specs.declared.action.ActionWord.TheVariants as word
+use Rattle.ftp_text.specs.LineWords.{ActionWord}
+use Rattle.ftp_text.specs.LineWords as word
 use Rattle.ftp_text.specs.LogLines.{IsAction}
 use Rattle.ftp_text.specs.ActionReading.{notify_at, action_word_text, action_words, deliveries, completed_at, start_at, reply_at, action_behind, action_at}
 use Rattle.ftp_text.proofs.NoticeLemmas.{notify_takes, notify_again}

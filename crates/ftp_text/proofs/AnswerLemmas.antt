@@ -27,10 +27,10 @@ use Rattle.ftp_text.proofs.Exact.{Ends, IsNil, Ends-from_nil, IsExact, exact_wea
 use Rattle.ftp_text.proofs.FieldLemmas.{number_is, address_is, proxy_error_is}
 use Rattle.ftp_text.proofs.Numerals.{own}
 use Rattle.ftp_text.specs.Printing.{result_text, header_fields, outcome_fields}
-use Rattle.ftp_text.specs.declared.answer.AnswerWord.{AnswerWord}
-use Rattle.ftp_text.specs.declared.answer.AnswerWord.TheVariants as word
+use Rattle.ftp_text.specs.LineWords.{AnswerWord}
+use Rattle.ftp_text.specs.LineWords as word
 use Rattle.ftp_text.specs.LogLines.{answer_word_text, maybe_fault_text, answer_text, IsAnswer}
-use Rattle.ftp_text.specs.AnswerReading.{answer_words, results, maybe_faults, has_letter, addresses_at, error_at, header_at, outcome_at, answer_behind, asked_at, answer_at}
+use Rattle.ftp_text.specs.AnswerReading.{answer_words, results, maybe_faults, has_letter, addresses_at, error_at, header_at, outcome_at, answer_behind, answer_at}
 use Rattle.ftp_text.proofs.WordThen.{Behind, word_then, exact_spelled}
 
 -- ---- the header of a proxy

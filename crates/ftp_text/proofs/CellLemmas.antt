@@ -10,17 +10,15 @@ use Rattle.ftp_hub.specs.declared.state.LoginState.{LoginState}
 use Rattle.ftp_hub.specs.declared.state.LoginState.TheVariants as login
 use Rattle.ftp_events.specs.declared.status.CommandWord.{CommandWord}
 use Rattle.ftp_events.specs.declared.status.CommandWord.TheVariants as command_word
-use Rattle.ftp_text.specs.declared.state_word.LineWord.{LineWord}
-use Rattle.ftp_text.specs.declared.state_word.LineWord.TheVariants as line_word
-use Rattle.ftp_text.specs.declared.state_word.SlotWord.{SlotWord}
-use Rattle.ftp_text.specs.declared.state_word.SlotWord.TheVariants as slot_word
+use Rattle.ftp_text.specs.LineWords.{LineWord, SlotWord}
+use Rattle.ftp_text.specs.LineWords as word
 use Rattle.ftp_text.specs.Spelling.{line_word_text, login_state_text, slot_word_text, command_word_text, bit}
 use Rattle.ftp_text.specs.StateLineReading.{line_words, login_states, slot_words, command_words, bit_field, Lengths, lengths_at, command_word_field}
 
 -- ---- words
 
 line_word_found : (w : LineWord) → find_word line_word_text line_words (line_word_text w) ≡ Some w
-line_word_found line_word.Checkpoint = refl
+line_word_found word.Checkpoint = refl
 line_word_found _ = refl
 
 pub line_word_is : IsExact (λ (w : LineWord). 32 ∷ line_word_text w) (λ w. Unit {0}) Ends (word_value line_word_text line_words)
@@ -34,8 +32,8 @@ pub login_is : IsExact (λ (w : LoginState). field (login_state_text w)) (λ w. 
 login_is = table_exact login_state_text login_states refl login_found
 
 slot_word_found : (w : SlotWord) → find_word slot_word_text slot_words (slot_word_text w) ≡ Some w
-slot_word_found slot_word.Waits = refl
-slot_word_found slot_word.Link = refl
+slot_word_found word.Waits = refl
+slot_word_found word.Link = refl
 
 pub slot_word_is : IsExact (λ (w : SlotWord). field (slot_word_text w)) (λ w. Unit {0}) Ends (word_value slot_word_text slot_words)
 slot_word_is = table_exact slot_word_text slot_words refl slot_word_found

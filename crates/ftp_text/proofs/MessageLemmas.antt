@@ -10,8 +10,8 @@ use Rattle.ftp_base.specs.declared.reply.ReplyCode.{ReplyCode}
 use Rattle.ftp_base.specs.declared.reply.ReplyCode.TheVariants as code
 use Rattle.ftp_base.specs.declared.reply.Reply.TheVariants as reply
 use Rattle.ftp_base.specs.Reply.{code_text}
-use Rattle.ftp_text.specs.declared.message.MessageWord.{MessageWord}
-use Rattle.ftp_text.specs.declared.message.MessageWord.TheVariants as word
+use Rattle.ftp_text.specs.LineWords.{MessageWord}
+use Rattle.ftp_text.specs.LineWords as word
 use Rattle.ftp_text.specs.Fields.{field, number, escape, kind_text, IsText, IsNumber}
 use Rattle.ftp_text.specs.Reading.{find_word, word_value, kinds}
 use Rattle.ftp_text.specs.Message.{message_word_text, message_word, two_paths, code_and_text, message_fields, ArePaths, IsMessage, message_words, reply_codes, has_first, cut, two_paths_at, code_and_text_at, nothing_more, message_behind, message_at}
@@ -117,8 +117,8 @@ behind_takes word.Renamed bytes y e =
     made_takes two_paths_is (λ x. message.RenameSuccess x.0 x.1) message_fields IsMessage (message_word word.Renamed) (λ x. refl) (λ x f. f) bytes y e
 behind_takes word.Kind bytes y e =
     made_takes kind_is message.StorageError message_fields IsMessage (message_word word.Kind) (λ x. refl) (λ x f. f) bytes y e
-behind_takes word.Reply bytes y e =
-    made_takes code_and_text_is (λ x. message.CommandChannelReply (reply.CodeAndMsg x.0 x.1)) message_fields IsMessage (message_word word.Reply)
+behind_takes word.AsItIs bytes y e =
+    made_takes code_and_text_is (λ x. message.CommandChannelReply (reply.CodeAndMsg x.0 x.1)) message_fields IsMessage (message_word word.AsItIs)
     (λ x. refl) (λ x f. f.1) bytes y e
 
 message_takes : (bytes : List ℕ) (y : ControlChanMsg × List ℕ) → message_at bytes ≡ Some y → (bytes ≡ message_fields y.0 ++ y.1) × IsMessage y.0
@@ -156,7 +156,7 @@ message_again (message.RenameSuccess old_path new_path) rest fits h =
 message_again (message.StorageError kind) rest fits h =
     said word.Kind (field (kind_text kind)) rest (message.StorageError kind) refl (made_again kind_is message.StorageError kind rest tt h)
 message_again (message.CommandChannelReply (reply.CodeAndMsg code text)) rest fits h =
-    said word.Reply (code_and_text (code, text)) rest (message.CommandChannelReply (reply.CodeAndMsg code text)) refl
+    said word.AsItIs (code_and_text (code, text)) rest (message.CommandChannelReply (reply.CodeAndMsg code text)) refl
     (made_again code_and_text_is (λ x. message.CommandChannelReply (reply.CodeAndMsg x.0 x.1)) (code, text) rest (tt, fits) h)
 message_again _ rest fits h = absurd fits
 

@@ -21,8 +21,8 @@ use Rattle.ftp_hub.specs.declared.state.SlotKind.{SlotKind}
 use Rattle.ftp_hub.specs.declared.state.SlotKind.TheVariants as kept
 use Rattle.ftp_text.specs.declared.state_line.StateLine.TheVariants as says
 use Rattle.ftp_events.specs.declared.status.CommandWord.{CommandWord}
-use Rattle.ftp_text.specs.declared.state_word.SlotWord.{SlotWord}
-use Rattle.ftp_text.specs.declared.state_word.SlotWord.TheVariants as slot_word
+use Rattle.ftp_text.specs.LineWords.{SlotWord}
+use Rattle.ftp_text.specs.LineWords as word
 use Rattle.ftp_events.specs.Statuses.{word_of}
 use Rattle.ftp_text.specs.Spelling.{login_state_text, slot_word_text, command_word_text, bit, bytes_or_none, slot_kind_fields, command_options, command_lengths, command_parts, command_field, record_fields, session_fields, queued_fields, job_fields, is_from_root, has_key, HasPieces, IsSessionLine, IsSlotKind, IsQueuedLine, IsJobLine, IsStateLine}
 use Rattle.ftp_text.specs.StateLineReading.{slot_words, cut_at, cut_off, bit_field, Lengths, command_in, has_number, RecordFields, record_of, record_at, OpeningFields, opening_at, ProgressFields, progress_at, SessionFields, session_with, session_of, session_at, slot_kind_behind, slot_kind_at, QueuedFields, queued_of, queued_at, RunFields, run_at, JobFields, job_with, job_of, job_at}
@@ -40,17 +40,17 @@ used_is = tested_exact has_number (pair_exact number_is (exact_weaker number_is 
 
 -- what a slot has, behind its word
 kind_takes : (w : SlotWord) (bytes : List ℕ) (y : SlotKind × List ℕ) → slot_kind_behind w bytes ≡ Some y → (field (slot_word_text w) ++ bytes ≡ slot_kind_fields y.0 ++ y.1) × IsSlotKind y.0
-kind_takes slot_word.Waits bytes y e = made_takes port_is kept.Waits slot_kind_fields IsSlotKind (field (slot_word_text slot_word.Waits)) (λ x. refl) (λ x f. f) bytes y e
-kind_takes slot_word.Link bytes y e = made_takes number_is kept.HasLink slot_kind_fields IsSlotKind (field (slot_word_text slot_word.Link)) (λ x. refl) (λ x f. f) bytes y e
+kind_takes word.Waits bytes y e = made_takes port_is kept.Waits slot_kind_fields IsSlotKind (field (slot_word_text word.Waits)) (λ x. refl) (λ x f. f) bytes y e
+kind_takes word.Link bytes y e = made_takes number_is kept.HasLink slot_kind_fields IsSlotKind (field (slot_word_text word.Link)) (λ x. refl) (λ x f. f) bytes y e
 
 kind_again : (v : SlotKind) (rest : List ℕ) → IsSlotKind v → IsNil rest → slot_kind_at (slot_kind_fields v ++ rest) ≡ Some (v, rest)
 unfolding slot_kind_at
 kind_again (kept.Waits port) rest fits follows =
-    ap slot_kind_at (append_assoc (field (slot_word_text slot_word.Waits)) (number port) rest)
-    ∙ rw (slot_word_is.again slot_word.Waits (number port ++ rest) tt refl) (made_again port_is kept.Waits port rest fits (Ends-from_nil rest follows))
+    ap slot_kind_at (append_assoc (field (slot_word_text word.Waits)) (number port) rest)
+    ∙ rw (slot_word_is.again word.Waits (number port ++ rest) tt refl) (made_again port_is kept.Waits port rest fits (Ends-from_nil rest follows))
 kind_again (kept.HasLink n) rest fits follows =
-    ap slot_kind_at (append_assoc (field (slot_word_text slot_word.Link)) (number n) rest)
-    ∙ rw (slot_word_is.again slot_word.Link (number n ++ rest) tt refl) (made_again number_is kept.HasLink n rest fits (Ends-from_nil rest follows))
+    ap slot_kind_at (append_assoc (field (slot_word_text word.Link)) (number n) rest)
+    ∙ rw (slot_word_is.again word.Link (number n ++ rest) tt refl) (made_again number_is kept.HasLink n rest fits (Ends-from_nil rest follows))
 
 kind_is : IsExact slot_kind_fields IsSlotKind IsNil slot_kind_at
 unfolding slot_kind_at

@@ -16,8 +16,8 @@ use Rattle.ftp_text.specs.declared.state_line.StateLine.{StateLine}
 use Rattle.ftp_text.specs.declared.state_line.StateLine.TheVariants as says
 use Rattle.ftp_events.specs.declared.status.CommandWord.{CommandWord}
 use Rattle.ftp_events.specs.declared.status.CommandWord.TheVariants as command_word
-use Rattle.ftp_text.specs.declared.state_word.LineWord.{LineWord}
-use Rattle.ftp_text.specs.declared.state_word.LineWord.TheVariants as line_word
+use Rattle.ftp_text.specs.LineWords.{LineWord}
+use Rattle.ftp_text.specs.LineWords as word
 use Rattle.ftp_events.specs.Statuses.{word_of}
 use Rattle.ftp_text.specs.Spelling.{line_word_text, login_state_text, command_word_text, bit, bytes_or_none, length_field, slot_kind_fields, command_options, command_lengths, command_parts, command_field, line_fields, line_word_of, state_line, IsPiece, HasPieces, IsSlotKind, IsStateLine}
 use Rattle.ftp_text.proofs.Pieces.{text-append, piece-length, piece-text, parts-text}
@@ -104,13 +104,13 @@ fields_none (says.Job j) f =
     (text-append j.job.user (command_parts j.job.command j.job.path) f.user.0 (parts-text j.job.command j.job.path f.command f.path.0))))))
 
 word_none : (w : LineWord) → HasNone (line_word_text w)
-word_none line_word.Checkpoint = passes_true is_line_byte (line_word_text line_word.Checkpoint) refl
-word_none line_word.Used = passes_true is_line_byte (line_word_text line_word.Used) refl
-word_none line_word.Record = passes_true is_line_byte (line_word_text line_word.Record) refl
-word_none line_word.Session = passes_true is_line_byte (line_word_text line_word.Session) refl
-word_none line_word.Slot = passes_true is_line_byte (line_word_text line_word.Slot) refl
-word_none line_word.Queued = passes_true is_line_byte (line_word_text line_word.Queued) refl
-word_none line_word.Job = passes_true is_line_byte (line_word_text line_word.Job) refl
+word_none word.Checkpoint = passes_true is_line_byte (line_word_text word.Checkpoint) refl
+word_none word.Used = passes_true is_line_byte (line_word_text word.Used) refl
+word_none word.Record = passes_true is_line_byte (line_word_text word.Record) refl
+word_none word.Session = passes_true is_line_byte (line_word_text word.Session) refl
+word_none word.Slot = passes_true is_line_byte (line_word_text word.Slot) refl
+word_none word.Queued = passes_true is_line_byte (line_word_text word.Queued) refl
+word_none word.Job = passes_true is_line_byte (line_word_text word.Job) refl
 
 pub line_none : (x : StateLine) → IsStateLine x → HasNone (state_line x)
 line_none x fits = both (line_word_text (line_word_of x)) (line_fields x) (word_none (line_word_of x)) (fields_none x fits)

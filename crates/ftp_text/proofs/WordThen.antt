@@ -1,6 +1,9 @@
 -- A word, and what stands behind it, by the word: what is spelled so is read exactly.
-use Rattle.std.proofs.Common.{◌≡◌, ℕ, List, ◌∷◌, ◌++◌, Option, Some, sym, ap, ◌∙◌, append_assoc}
-use Rattle.ftp_text.specs.Reading.{◌>>=◌, Reader, word_value}
+use Rattle.std.proofs.Common.{◌≡◌, ◌≢◌, ℕ, Bool, true, false, List, [], ◌∷◌, ◌++◌, Option, Some, refl, sym, ap, ◌∙◌, append_assoc}
+use Rattle.std.specs.List.{AllByRecursion}
+use Rattle.std.specs.Str.{bytes_eq}
+use Rattle.std.proofs.lemmas.Slice.Eq.{bytes_eq-Decides}
+use Rattle.ftp_text.specs.Reading.{◌>>=◌, Reader, find_word, word_value, by_word}
 use Rattle.ftp_text.proofs.Exact.{Ends, IsNil, IsExact, bind_ok}
 
 -- what stands behind each word is read exactly, and tells the word
@@ -42,3 +45,19 @@ exact_spelled {A} {s} {t} {F} {W} {r} a same = record {
       let p = a.takes bytes x e in (p.0 ∙ ap (λ (u : List ℕ). u ++ x.1) (same x.0 p.1), p.1);
   again = λ x rest fits follows. ap (λ (u : List ℕ). r (u ++ rest)) (sym (same x fits)) ∙ a.again x rest fits follows;
 }
+
+differs : (p w : List ℕ) → w ≢ p → bytes_eq p w ≡ false
+differs p w n = by (bytes_eq p w) (λ e. (bytes_eq-Decides p w).0 e) where
+  by : (b : Bool) → (b ≡ true → p ≡ w) → b ≡ false
+  by true f = absurd (n (sym (f refl)))
+  by false f = refl
+
+-- a word that is none of these is looked for behind them
+find_word-past : {V : Type 0} (text : V → List ℕ) (others table : List V) (w : List ℕ) →
+    AllByRecursion (λ v. w ≢ text v) others → find_word text (others ++ table) w ≡ find_word text table w
+find_word-past text [] table w differ = refl
+find_word-past text (v ∷ others) table w differ = rw (differs (text v) w differ.0) (find_word-past text others table w differ.1)
+
+pub by_word-past : {V A : Type 0} (text : V → List ℕ) (others table : List V) (read : V → Reader A) (w bytes : List ℕ) →
+    AllByRecursion (λ v. w ≢ text v) others → by_word text (others ++ table) read w bytes ≡ by_word text table read w bytes
+by_word-past text others table read w bytes differ = rw (find_word-past text others table w differ) refl

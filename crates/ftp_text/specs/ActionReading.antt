@@ -14,13 +14,13 @@ use Rattle.ftp_base.specs.Trace.{trace_text}
 use Rattle.ftp_events.specs.declared.action.Action.{Action}
 use Rattle.ftp_events.specs.declared.action.Action.TheVariants as action
 use Rattle.ftp_text.specs.Message.{reply_codes}
-use Rattle.ftp_text.specs.Reading.{◌>>=◌, Reader, pair, made, behind_text, number_field, small_field, ticket_field, text_field, word_as, word_value}
+use Rattle.ftp_text.specs.Reading.{◌>>=◌, Reader, pair, made, behind_text, number_field, small_field, ticket_field, text_field, word_as, word_value, worded}
 use Rattle.ftp_text.specs.Printing.{delivered_text}
 use Rattle.ftp_text.specs.declared.notice.NoticeWord.{NoticeWord}
 use Rattle.ftp_text.specs.declared.notice.NoticeWord.TheVariants as told
 use Rattle.ftp_text.specs.declared.notice.About.{About}
-use Rattle.ftp_text.specs.declared.action.ActionWord.{ActionWord}
-use Rattle.ftp_text.specs.declared.action.ActionWord.TheVariants as word
+use Rattle.ftp_text.specs.LineWords.{ActionWord}
+use Rattle.ftp_text.specs.LineWords as word
 
 -- ---- notifications
 
@@ -164,12 +164,6 @@ action_behind word.Notify = notify_at
 action_behind word.Reply = reply_at
 action_behind word.Start = start_at
 
--- the action behind its mark
-abbrev pub done_at : Reader Action
-done_at bytes = do
-  w ← word_value action_word_text action_words bytes
-  action_behind w.0 w.1
-
 -- an action, with its mark
 unfoldable pub action_at : Reader Action
-action_at = behind_text (codes "-") done_at
+action_at = behind_text (codes "-") (worded action_word_text action_words action_behind)

@@ -9,10 +9,10 @@ use Rattle.ftp_transfer.specs.declared.job.Outcome.{Outcome}
 use Rattle.ftp_events.specs.declared.event.Answer.{Answer}
 use Rattle.ftp_events.specs.declared.event.Answer.TheVariants as answer
 use Rattle.ftp_text.specs.Fields.{proxy_error_text}
-use Rattle.ftp_text.specs.Reading.{◌>>=◌, Reader, pair, made, behind_text, number_field, address_field, word_value, kinds, faults, proxy_errors}
+use Rattle.ftp_text.specs.Reading.{Reader, pair, made, behind_text, number_field, address_field, word_value, worded, kinds, faults, proxy_errors}
 use Rattle.ftp_text.specs.Printing.{result_text}
-use Rattle.ftp_text.specs.declared.answer.AnswerWord.{AnswerWord}
-use Rattle.ftp_text.specs.declared.answer.AnswerWord.TheVariants as word
+use Rattle.ftp_text.specs.LineWords.{AnswerWord}
+use Rattle.ftp_text.specs.LineWords as word
 use Rattle.ftp_text.specs.LogLines.{answer_word_text, maybe_fault_text}
 
 -- all words of answers
@@ -56,12 +56,6 @@ answer_behind word.Header = made answer.Header header_at
 answer_behind word.Done = made answer.Done outcome_at
 answer_behind word.Moved = made answer.Moved number_field
 
--- the answer behind its mark
-abbrev pub asked_at : Reader Answer
-asked_at bytes = do
-  w ← word_value answer_word_text answer_words bytes
-  answer_behind w.0 w.1
-
 -- an answer, with its mark
 unfoldable pub answer_at : Reader Answer
-answer_at = behind_text (codes "?") asked_at
+answer_at = behind_text (codes "?") (worded answer_word_text answer_words answer_behind)

@@ -7,7 +7,7 @@ use Rattle.ftp_proxy.specs.declared.error.ProxyError.TheVariants as proxy
 use Rattle.ftp_events.specs.declared.decision.Decision.{Decision}
 use Rattle.ftp_events.specs.declared.decision.Decision.TheVariants as decision
 use Rattle.ftp_text.specs.Fields.{kind_text, proxy_error_text}
-use Rattle.ftp_text.specs.Reading.{◌>>=◌, Reader, pair, made, behind_text, number_field, small_field, ticket_field, word_value, kinds, proxy_errors}
+use Rattle.ftp_text.specs.Reading.{Reader, pair, made, behind_text, number_field, small_field, ticket_field, word_value, worded, kinds, proxy_errors}
 use Rattle.ftp_text.specs.Printing.{decision_text, lock_text}
 
 -- a decision of each name, whose fields say nothing
@@ -55,12 +55,6 @@ decision_behind (decision.Queued t) = made (λ x. decision.Queued (record { sess
 decision_behind (decision.CwdRefused kind) = made decision.CwdRefused (word_value kind_text kinds)
 decision_behind d = as_it_is d
 
--- the decision behind its mark
-abbrev pub decided_at : Reader Decision
-decided_at bytes = do
-  w ← word_value decision_text heads bytes
-  decision_behind w.0 w.1
-
 -- a decision, with its mark
 unfoldable pub decision_at : Reader Decision
-decision_at = behind_text (codes "=") decided_at
+decision_at = behind_text (codes "=") (worded decision_text heads decision_behind)

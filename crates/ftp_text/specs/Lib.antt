@@ -24,3 +24,4 @@ pub mod StateLineReading
 pub mod StateText
 pub mod ListOrder
 pub mod Walk
+pub mod LineWords

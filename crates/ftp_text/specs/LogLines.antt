@@ -24,8 +24,8 @@ use Rattle.ftp_text.specs.declared.setup.Item.TheVariants as item
 use Rattle.ftp_text.specs.Events.{event_line, IsEvent}
 use Rattle.ftp_text.specs.Setup.{item_line, IsItem}
 use Rattle.ftp_text.specs.Printing.{line, decision_text, decision_fields, header_fields, outcome_fields, action_fields}
-use Rattle.ftp_text.specs.declared.answer.AnswerWord.{AnswerWord}
-use Rattle.ftp_text.specs.declared.answer.AnswerWord.TheVariants as answer_word
+use Rattle.ftp_text.specs.LineWords.{AnswerWord}
+use Rattle.ftp_text.specs.LineWords as word
 use Rattle.ftp_text.specs.declared.line.LogLine.{LogLine}
 use Rattle.ftp_text.specs.declared.line.LogLine.TheVariants as says
 
@@ -33,9 +33,9 @@ use Rattle.ftp_text.specs.declared.line.LogLine.TheVariants as says
 
 -- the word of each answer
 abbrev pub answer_word_text : AnswerWord → List ℕ
-answer_word_text answer_word.Header = codes "header"
-answer_word_text answer_word.Done = codes "done"
-answer_word_text answer_word.Moved = codes "moved"
+answer_word_text word.Header = codes "header"
+answer_word_text word.Done = codes "done"
+answer_word_text word.Moved = codes "moved"
 
 -- what a link met, or a hyphen
 abbrev pub maybe_fault_text : Option LinkFault → List ℕ

@@ -8,10 +8,10 @@ use Rattle.ftp_base.specs.declared.reply.ReplyCode.{ReplyCode}
 use Rattle.ftp_base.specs.declared.reply.ReplyCode.TheVariants as code
 use Rattle.ftp_base.specs.declared.reply.Reply.TheVariants as reply
 use Rattle.ftp_base.specs.Reply.{code_text}
-use Rattle.ftp_text.specs.declared.message.MessageWord.{MessageWord}
-use Rattle.ftp_text.specs.declared.message.MessageWord.TheVariants as word
+use Rattle.ftp_text.specs.LineWords.{MessageWord}
+use Rattle.ftp_text.specs.LineWords as word
 use Rattle.ftp_text.specs.Fields.{field, number, escape, kind_text, IsText, IsNumber}
-use Rattle.ftp_text.specs.Reading.{◌>>=◌, Reader, pair, made, tested, number_field, text_field, word_value, kinds}
+use Rattle.ftp_text.specs.Reading.{Reader, pair, made, tested, number_field, text_field, word_value, worded, kinds}
 
 -- ---- spelling
 
@@ -26,7 +26,7 @@ message_word_text word.Removed = codes "removed"
 message_word_text word.Made = codes "made"
 message_word_text word.Renamed = codes "renamed"
 message_word_text word.Kind = codes "kind"
-message_word_text word.Reply = codes "reply"
+message_word_text word.AsItIs = codes "reply"
 
 -- the word as a field
 abbrev pub message_word : MessageWord → List ℕ
@@ -51,7 +51,7 @@ message_fields (message.RmDirSuccess path) = message_word word.Removed ++ field 
 message_fields (message.MkDirSuccess path) = message_word word.Made ++ field (escape path)
 message_fields (message.RenameSuccess old_path new_path) = message_word word.Renamed ++ two_paths (old_path, new_path)
 message_fields (message.StorageError kind) = message_word word.Kind ++ field (kind_text kind)
-message_fields (message.CommandChannelReply (reply.CodeAndMsg code text)) = message_word word.Reply ++ code_and_text (code, text)
+message_fields (message.CommandChannelReply (reply.CodeAndMsg code text)) = message_word word.AsItIs ++ code_and_text (code, text)
 message_fields _ = []
 
 -- the paths are bytes, and the length of the first fits its type
@@ -74,11 +74,13 @@ IsMessage _ = ⊥
 
 -- ---- reading
 
+-- the words of messages that have fields
+abbrev pub words_with_fields : List MessageWord
+words_with_fields = word.Deleted ∷ word.Removed ∷ word.Made ∷ word.Renamed ∷ word.Kind ∷ word.AsItIs ∷ []
+
 -- all words of messages
 abbrev pub message_words : List MessageWord
-message_words =
-    word.Denied ∷ word.NotFound ∷ word.DelFail ∷ word.MkdirFail ∷ word.Deleted ∷ word.Removed ∷ word.Made ∷ word.Renamed
-    ∷ word.Kind ∷ word.Reply ∷ []
+message_words = word.Denied ∷ word.NotFound ∷ word.DelFail ∷ word.MkdirFail ∷ words_with_fields
 
 -- all codes of replies
 abbrev pub reply_codes : List ReplyCode
@@ -121,10 +123,8 @@ message_behind word.Removed = made message.RmDirSuccess text_field
 message_behind word.Made = made message.MkDirSuccess text_field
 message_behind word.Renamed = made (λ x. message.RenameSuccess x.0 x.1) two_paths_at
 message_behind word.Kind = made message.StorageError (word_value kind_text kinds)
-message_behind word.Reply = made (λ x. message.CommandChannelReply (reply.CodeAndMsg x.0 x.1)) code_and_text_at
+message_behind word.AsItIs = made (λ x. message.CommandChannelReply (reply.CodeAndMsg x.0 x.1)) code_and_text_at
 
 -- a message up to the end
 unfoldable pub message_at : Reader ControlChanMsg
-message_at bytes = do
-  w ← word_value message_word_text message_words bytes
-  message_behind w.0 w.1
+message_at = worded message_word_text message_words message_behind

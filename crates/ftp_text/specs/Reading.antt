@@ -302,6 +302,20 @@ find_word text table w = find (λ v. bytes_eq (text v) w) table
 unfoldable pub word_value : {V : Type 0} → (V → List ℕ) → List V → Reader V
 word_value text table bytes = word_as (find_word text table) bytes
 
+-- a word of a table, and what stands behind it
+abbrev pub worded : {V A : Type 0} → (V → List ℕ) → List V → (V → Reader A) → Reader A
+worded text table read bytes = word_value text table bytes >>= λ w. read w.0 w.1
+
+-- the value of a table that a word spells, with the bytes behind the word
+abbrev pub valued : {V : Type 0} → (V → List ℕ) → List V → List ℕ → Reader V
+valued text table w bytes = do
+  v ← find_word text table w
+  Some (v, bytes)
+
+-- the same behind a word that was read
+abbrev pub by_word : {V A : Type 0} → (V → List ℕ) → List V → (V → Reader A) → List ℕ → Reader A
+by_word text table read w bytes = valued text table w bytes >>= λ v. read v.0 v.1
+
 -- all that an authenticator can say
 abbrev pub answers : List AuthAnswer
 answers = auth.Good ∷ auth.Disabled ∷ auth.NotEntered ∷ auth.BadUser ∷ auth.Refused ∷ []

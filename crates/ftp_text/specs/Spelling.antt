@@ -19,22 +19,20 @@ use Rattle.ftp_text.specs.declared.state_line.StateLine.{StateLine}
 use Rattle.ftp_text.specs.declared.state_line.StateLine.TheVariants as says
 use Rattle.ftp_events.specs.declared.status.CommandWord.{CommandWord}
 use Rattle.ftp_events.specs.declared.status.CommandWord.TheVariants as command_word
-use Rattle.ftp_text.specs.declared.state_word.SlotWord.{SlotWord}
-use Rattle.ftp_text.specs.declared.state_word.SlotWord.TheVariants as slot_word
-use Rattle.ftp_text.specs.declared.state_word.LineWord.{LineWord}
-use Rattle.ftp_text.specs.declared.state_word.LineWord.TheVariants as line_word
+use Rattle.ftp_text.specs.LineWords.{LineWord, SlotWord}
+use Rattle.ftp_text.specs.LineWords as word
 
 -- ---- words
 
 -- the word of each kind of line
 abbrev pub line_word_text : LineWord → List ℕ
-line_word_text line_word.Checkpoint = codes "checkpoint"
-line_word_text line_word.Used = codes "used"
-line_word_text line_word.Record = codes "record"
-line_word_text line_word.Session = codes "session"
-line_word_text line_word.Slot = codes "slot"
-line_word_text line_word.Queued = codes "queued"
-line_word_text line_word.Job = codes "job"
+line_word_text word.Checkpoint = codes "checkpoint"
+line_word_text word.Used = codes "used"
+line_word_text word.Record = codes "record"
+line_word_text word.Session = codes "session"
+line_word_text word.Slot = codes "slot"
+line_word_text word.Queued = codes "queued"
+line_word_text word.Job = codes "job"
 
 -- how far a login is
 abbrev pub login_state_text : LoginState → List ℕ
@@ -45,8 +43,8 @@ login_state_text login.Cmd = codes "cmd"
 
 -- what a slot has: a port that is waited for, or a link
 abbrev pub slot_word_text : SlotWord → List ℕ
-slot_word_text slot_word.Waits = codes "waits"
-slot_word_text slot_word.Link = codes "link"
+slot_word_text word.Waits = codes "waits"
+slot_word_text word.Link = codes "link"
 
 -- the word of each command
 abbrev pub command_word_text : CommandWord → List ℕ
@@ -73,8 +71,8 @@ length_field bytes = optional decimal (option_map length bytes)
 
 -- what a slot has
 abbrev pub slot_kind_fields : SlotKind → List ℕ
-slot_kind_fields (kept.Waits port) = field (slot_word_text slot_word.Waits) ++ number port
-slot_kind_fields (kept.HasLink n) = field (slot_word_text slot_word.Link) ++ number n
+slot_kind_fields (kept.Waits port) = field (slot_word_text word.Waits) ++ number port
+slot_kind_fields (kept.HasLink n) = field (slot_word_text word.Link) ++ number n
 
 -- the options of a command
 abbrev pub command_options : DataChanCmd → Option (List ℕ)
@@ -146,13 +144,13 @@ line_fields (says.Job j) = job_fields j
 
 -- the word of a line
 abbrev pub line_word_of : StateLine → LineWord
-line_word_of (says.Checkpoint events stopped) = line_word.Checkpoint
-line_word_of (says.Used i) = line_word.Used
-line_word_of (says.Record r) = line_word.Record
-line_word_of (says.Session s) = line_word.Session
-line_word_of (says.Slot l) = line_word.Slot
-line_word_of (says.Queued q) = line_word.Queued
-line_word_of (says.Job j) = line_word.Job
+line_word_of (says.Checkpoint events stopped) = word.Checkpoint
+line_word_of (says.Used i) = word.Used
+line_word_of (says.Record r) = word.Record
+line_word_of (says.Session s) = word.Session
+line_word_of (says.Slot l) = word.Slot
+line_word_of (says.Queued q) = word.Queued
+line_word_of (says.Job j) = word.Job
 
 -- a line, as it is spelled
 abbrev pub state_line : StateLine → List ℕ

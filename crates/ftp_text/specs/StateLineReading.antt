@@ -4,7 +4,7 @@ use Rattle.ftp_base.specs.declared.command.DataChanCmd.{DataChanCmd}
 use Rattle.ftp_base.specs.declared.command.DataChanCmd.TheVariants as command
 use Rattle.ftp_base.specs.declared.net.IpAddr.{IpAddr}
 use Rattle.ftp_base.specs.declared.net.SocketAddr.{SocketAddr}
-use Rattle.ftp_text.specs.Reading.{◌>>=◌, Reader, pair, made, tested, behind_text, number_at, ip_at, number_field, small_field, address_field, ip_field, optional_field, text_field, word_value}
+use Rattle.ftp_text.specs.Reading.{◌>>=◌, Reader, pair, made, tested, all_of, behind_text, number_at, ip_at, number_field, small_field, address_field, ip_field, optional_field, text_field, word_value, worded}
 use Rattle.ftp_hub.specs.declared.state.JobLine.{JobLine}
 use Rattle.ftp_hub.specs.declared.state.LoginState.{LoginState}
 use Rattle.ftp_hub.specs.declared.state.LoginState.TheVariants as login
@@ -17,22 +17,20 @@ use Rattle.ftp_text.specs.declared.state_line.StateLine.{StateLine}
 use Rattle.ftp_text.specs.declared.state_line.StateLine.TheVariants as says
 use Rattle.ftp_events.specs.declared.status.CommandWord.{CommandWord}
 use Rattle.ftp_events.specs.declared.status.CommandWord.TheVariants as command_word
-use Rattle.ftp_text.specs.declared.state_word.LineWord.{LineWord}
-use Rattle.ftp_text.specs.declared.state_word.LineWord.TheVariants as line_word
-use Rattle.ftp_text.specs.declared.state_word.SlotWord.{SlotWord}
-use Rattle.ftp_text.specs.declared.state_word.SlotWord.TheVariants as slot_word
+use Rattle.ftp_text.specs.LineWords.{LineWord, SlotWord}
+use Rattle.ftp_text.specs.LineWords as word
 use Rattle.ftp_text.specs.Spelling.{line_word_text, login_state_text, slot_word_text, command_word_text, is_from_root, has_key}
 
 -- ---- words
 
 abbrev pub line_words : List LineWord
-line_words = line_word.Checkpoint ∷ line_word.Used ∷ line_word.Record ∷ line_word.Session ∷ line_word.Slot ∷ line_word.Queued ∷ line_word.Job ∷ []
+line_words = word.Checkpoint ∷ word.Used ∷ word.Record ∷ word.Session ∷ word.Slot ∷ word.Queued ∷ word.Job ∷ []
 
 abbrev pub login_states : List LoginState
 login_states = login.New ∷ login.Pass ∷ login.Out ∷ login.Cmd ∷ []
 
 abbrev pub slot_words : List SlotWord
-slot_words = slot_word.Waits ∷ slot_word.Link ∷ []
+slot_words = word.Waits ∷ word.Link ∷ []
 
 abbrev pub command_words : List CommandWord
 command_words = command_word.Retr ∷ command_word.Stor ∷ command_word.Appe ∷ command_word.List ∷ command_word.Nlst ∷ command_word.Mlsd ∷ []
@@ -162,13 +160,11 @@ session_at = checked session_of (pair opening_at (pair progress_at (pair (option
 
 -- what a slot has, behind its word
 abbrev pub slot_kind_behind : SlotWord → Reader SlotKind
-slot_kind_behind slot_word.Waits = made kept.Waits (small_field (2 ^ 16))
-slot_kind_behind slot_word.Link = made kept.HasLink number_field
+slot_kind_behind word.Waits = made kept.Waits (small_field (2 ^ 16))
+slot_kind_behind word.Link = made kept.HasLink number_field
 
 unfoldable pub slot_kind_at : Reader SlotKind
-slot_kind_at bytes = do
-  w ← word_value slot_word_text slot_words bytes
-  slot_kind_behind w.0 w.1
+slot_kind_at = worded slot_word_text slot_words slot_kind_behind
 
 unfoldable pub slot_at : Reader StateLine
 slot_at = made (λ x. says.Slot (record { session = x.0; at = x.1.0; what = x.1.1 })) (pair number_field (pair number_field slot_kind_at))
@@ -224,21 +220,24 @@ job_at = checked job_of (pair run_at (pair command_word_field (pair number_field
 
 -- what stands behind each word
 abbrev pub line_behind : LineWord → Reader StateLine
-line_behind line_word.Checkpoint = checkpoint_at
-line_behind line_word.Used = used_at
-line_behind line_word.Record = made says.Record record_at
-line_behind line_word.Session = made says.Session session_at
-line_behind line_word.Slot = slot_at
-line_behind line_word.Queued = made says.Queued queued_at
-line_behind line_word.Job = made says.Job job_at
+line_behind word.Checkpoint = checkpoint_at
+line_behind word.Used = used_at
+line_behind word.Record = made says.Record record_at
+line_behind word.Session = made says.Session session_at
+line_behind word.Slot = slot_at
+line_behind word.Queued = made says.Queued queued_at
+line_behind word.Job = made says.Job job_at
 
 -- the word at the front of a line: it is read as one behind a space
 abbrev pub line_word_at : Reader LineWord
 line_word_at line = word_value line_word_text line_words (32 ∷ line)
 
+-- what stands at the front of a line
+abbrev pub line_at : Reader StateLine
+line_at line = do
+  w ← line_word_at line
+  line_behind w.0 w.1
+
 -- what a whole line says
 unfoldable pub state_line_of : List ℕ → Option StateLine
-state_line_of line = do
-  w ← line_word_at line
-  says ← line_behind w.0 w.1
-  if length says.1 == 0 then Some says.0 else None
+state_line_of line = all_of line_at line

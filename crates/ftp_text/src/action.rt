@@ -1,90 +1,47 @@
 //! Reading the actions of an entry.
 
 ghost use Rattle.std.specs.Prelude.{◌≡◌};
-ghost use Rattle.ftp_text.specs.Reading.{Gives, find_word, word_value};
+ghost use Rattle.ftp_text.specs.Reading.{Gives, find_word, word_value, by_word};
 ghost use Rattle.ftp_text.specs.Printing.{delivered_text};
 ghost use Rattle.ftp_text.specs.ActionReading.{action_word_text, action_words, deliveries, completed_at, start_at, reply_at, action_behind, action_at};
 
 use crate::fault::LineFault;
 use crate::field::{literal, number, small, text_to_end, ticket, word, word_value};
 use crate::notice::notify;
-use crate::word::Word;
 use ftp_base::{Reply, ReplyText};
 use ftp_events::Action;
 use ftp_transfer::Ticket;
 use std::alloc::Global;
 
-/// The word of an action.
-#[derive(Clone, Copy, Debug, PartialEq, Eq)]
-pub enum ActionWord {
-    Completed,
-    Cancelled,
-    Close,
-    Notify,
-    Reply,
-    Start,
-}
-
-const ACTION_WORDS: [ActionWord; 6] = [
-    ActionWord::Completed,
-    ActionWord::Cancelled,
-    ActionWord::Close,
-    ActionWord::Notify,
-    ActionWord::Reply,
-    ActionWord::Start,
-];
-
-impl Word for ActionWord {
-    ghost text = { action_word_text };
-
-    ghost table = { action_words };
-
-    fn text(self) -> &'static [u8] {
-        match self {
-            ActionWord::Completed => b"completed",
-            ActionWord::Cancelled => b"cancelled",
-            ActionWord::Close => b"close",
-            ActionWord::Notify => b"notify",
-            ActionWord::Reply => b"reply",
-            ActionWord::Start => b"start",
-        }
-    }
-
-    fn table() -> &'static [ActionWord] {
-        &ACTION_WORDS
-    }
-}
-
-const DELIVERIES: [bool; 2] = [true, false];
-
 /// An action, with the mark before it, up to the end of the line.
-#[tactic(auto, unfolding(crate::specs::ActionReading::action_at))]
+#[tactic(auto, unfolding(crate::specs::ActionReading::action_at, crate::specs::Reading::word_value))]
 pub fn action(alloc: Global, bytes: &[u8]) -> Result<(Action, &[u8]), LineFault>
     ensures { Gives (λ x. (x.0, x.1.now)) result (action_at bytes.now) }
 {
     let rest = literal(b"-", bytes)?;
-    let (word, rest) = word_value(rest)?;
+    let (word, rest) = word(rest)?;
     behind(alloc, word, rest)
 }
 
-// The action behind its word.
-fn behind(alloc: Global, word: ActionWord, bytes: &[u8]) -> Result<(Action, &[u8]), LineFault>
-    ensures { Gives (λ x. (x.0, x.1.now)) result (action_behind word bytes.now) }
+// The action of a word, with what stands behind it.
+fn behind<'a>(alloc: Global, word: &[u8], bytes: &'a [u8]) -> Result<(Action, &'a [u8]), LineFault>
+    ensures { Gives (λ x. (x.0, x.1.now)) result (by_word action_word_text action_words action_behind word.now bytes.now) }
 {
     match word {
-        ActionWord::Completed => completed(bytes),
-        ActionWord::Cancelled => {
+        b"completed" => completed(bytes),
+        b"cancelled" => {
             let (session, nr, rest) = ticket(bytes)?;
             let ticket = Ticket { session, nr };
             Ok((Action::Cancelled { ticket }, rest))
         }
-        ActionWord::Close => {
+        b"close" => {
             let (number, rest) = number(bytes)?;
             Ok((Action::Close { number }, rest))
         }
-        ActionWord::Notify => notify(alloc, bytes),
-        ActionWord::Reply => reply(alloc, bytes),
-        ActionWord::Start => start(bytes),
+        b"notify" => notify(alloc, bytes),
+        b"reply" => reply(alloc, bytes),
+        b"start" => start(bytes),
+        _ => Err(LineFault::Bad),
     }
 }
 
@@ -102,26 +59,19 @@ fn completed(bytes: &[u8]) -> Result<(Action, &[u8]), LineFault>
 fn delivery(bytes: &[u8]) -> Result<(bool, &[u8]), LineFault>
     ensures { Gives (λ x. (x.0, x.1.now)) result (word_value delivered_text deliveries bytes.now) }
 {
-    let (text, rest) = word(bytes)?;
-    match delivery_of(text) {
-        Some(delivered) => Ok((delivered, rest)),
-        None => Err(LineFault::Bad),
+    let (word, rest) = word(bytes)?;
+    let delivered = delivery_of(word)?;
+    Ok((delivered, rest))
+}
+
+fn delivery_of(word: &[u8]) -> Result<bool, LineFault>
+    ensures { Gives (λ x. x) result (find_word delivered_text deliveries word.now) }
+{
+    match word {
+        b"delivered" => Ok(true),
+        b"lost" => Ok(false),
+        _ => Err(LineFault::Bad),
     }
-}
-
-fn delivery_of(word: &[u8]) -> Option<bool>
-    ensures { result ≡ find_word delivered_text deliveries word.now }
-{
-    DELIVERIES
-        .iter()
-        .copied()
-        .find(|d| delivered_text(*d) == word)
-}
-
-fn delivered_text(delivered: bool) -> &'static [u8]
-    ensures { result.now ≡ delivered_text delivered }
-{
-    if delivered { b"delivered" } else { b"lost" }
 }
 
 #[tactic(auto, unfolding(crate::specs::ActionReading::start_at))]

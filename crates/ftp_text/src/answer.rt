@@ -1,46 +1,18 @@
 //! Reading the answer of an entry.
 
 ghost use Rattle.std.specs.Prelude.{◌≡◌};
-ghost use Rattle.ftp_text.specs.Reading.{Gives};
+ghost use Rattle.ftp_text.specs.Reading.{Gives, by_word};
 ghost use Rattle.ftp_text.specs.Printing.{result_text};
 ghost use Rattle.ftp_text.specs.LogLines.{answer_word_text, maybe_fault_text};
 ghost use Rattle.ftp_text.specs.AnswerReading.{answer_words, results, maybe_faults, has_letter, header_at, outcome_at, answer_behind, answer_at};
 
 use crate::fault::LineFault;
-use crate::field::{address, literal, number, word_value};
+use crate::field::{address, literal, number, word, word_value};
 use crate::word::Word;
 use ftp_base::{ErrorKind, LinkFault};
 use ftp_events::Answer;
 use ftp_proxy::{ProxyError, ProxyHeader};
 use ftp_transfer::{Completion, Outcome};
-
-/// The word of an answer.
-#[derive(Clone, Copy, Debug, PartialEq, Eq)]
-pub enum AnswerWord {
-    Header,
-    Done,
-    Moved,
-}
-
-const ANSWER_WORDS: [AnswerWord; 3] = [AnswerWord::Header, AnswerWord::Done, AnswerWord::Moved];
-
-impl Word for AnswerWord {
-    ghost text = { answer_word_text };
-
-    ghost table = { answer_words };
-
-    fn text(self) -> &'static [u8] {
-        match self {
-            AnswerWord::Header => b"header",
-            AnswerWord::Done => b"done",
-            AnswerWord::Moved => b"moved",
-        }
-    }
-
-    fn table() -> &'static [AnswerWord] {
-        &ANSWER_WORDS
-    }
-}
 
 const RESULTS: [Completion; 17] = [
     Completion::Sent,
@@ -109,32 +81,33 @@ impl Word for Option<LinkFault> {
 }
 
 /// An answer, with the mark before it.
-#[tactic(auto, unfolding(crate::specs::AnswerReading::answer_at))]
+#[tactic(auto, unfolding(crate::specs::AnswerReading::answer_at, crate::specs::Reading::word_value))]
 pub fn answer(bytes: &[u8]) -> Result<(Answer, &[u8]), LineFault>
     ensures { Gives (λ x. (x.0, x.1.now)) result (answer_at bytes.now) }
 {
     let rest = literal(b"?", bytes)?;
-    let (word, rest) = word_value(rest)?;
+    let (word, rest) = word(rest)?;
     behind(word, rest)
 }
 
-// The answer behind its word.
-fn behind(word: AnswerWord, bytes: &[u8]) -> Result<(Answer, &[u8]), LineFault>
-    ensures { Gives (λ x. (x.0, x.1.now)) result (answer_behind word bytes.now) }
+// The answer of a word, with what stands behind it.
+fn behind<'a>(word: &[u8], bytes: &'a [u8]) -> Result<(Answer, &'a [u8]), LineFault>
+    ensures { Gives (λ x. (x.0, x.1.now)) result (by_word answer_word_text answer_words answer_behind word.now bytes.now) }
 {
     match word {
-        AnswerWord::Header => {
+        b"header" => {
             let (header, rest) = header(bytes)?;
             Ok((Answer::Header(header), rest))
         }
-        AnswerWord::Done => {
+        b"done" => {
             let (outcome, rest) = outcome(bytes)?;
             Ok((Answer::Done(outcome), rest))
         }
-        AnswerWord::Moved => {
+        b"moved" => {
             let (bytes, rest) = number(bytes)?;
             Ok((Answer::Moved { bytes }, rest))
         }
+        _ => Err(LineFault::Bad),
     }
 }
 

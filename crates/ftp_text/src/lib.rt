@@ -57,7 +57,6 @@ pub use state_laws::{
     states_of_logs_begin_at_the_root,
 };
 pub use state_line::{StateLine, read_state_line};
-pub use state_word::{LineWord, SlotWord};
 pub use streams::{Input, Output};
 pub use text::whole_text;
 pub use word::Word;

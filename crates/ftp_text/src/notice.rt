@@ -1,13 +1,12 @@
 //! Reading a notification.
 
 ghost use Rattle.std.specs.Prelude.{◌≡◌, Some};
-ghost use Rattle.ftp_text.specs.Reading.{Gives};
+ghost use Rattle.ftp_text.specs.Reading.{Gives, find_word};
 ghost use Rattle.ftp_text.specs.ActionReading.{notice_word_text, notice_words, has_bytes, has_path, has_two, suits, notice_with, about_at, told_by, notify_at};
 
 use crate::fault::LineFault;
-use crate::field::{number, text_to_end, word_value};
+use crate::field::{number, text_to_end, word};
 use crate::trace::trace;
-use crate::word::Word;
 use ftp_base::{Bytes, DataEvent, EventMeta, Notice, PresenceEvent, TraceId};
 use ftp_events::Action;
 use std::alloc::Global;
@@ -23,40 +22,6 @@ pub enum NoticeWord {
     MadeDir,
     RemovedDir,
     Renamed,
-}
-
-const NOTICE_WORDS: [NoticeWord; 8] = [
-    NoticeWord::Login,
-    NoticeWord::Logout,
-    NoticeWord::Got,
-    NoticeWord::Put,
-    NoticeWord::Deleted,
-    NoticeWord::MadeDir,
-    NoticeWord::RemovedDir,
-    NoticeWord::Renamed,
-];
-
-impl Word for NoticeWord {
-    ghost text = { notice_word_text };
-
-    ghost table = { notice_words };
-
-    fn text(self) -> &'static [u8] {
-        match self {
-            NoticeWord::Login => b"login",
-            NoticeWord::Logout => b"logout",
-            NoticeWord::Got => b"got",
-            NoticeWord::Put => b"put",
-            NoticeWord::Deleted => b"deleted",
-            NoticeWord::MadeDir => b"madedir",
-            NoticeWord::RemovedDir => b"removeddir",
-            NoticeWord::Renamed => b"renamed",
-        }
-    }
-
-    fn table() -> &'static [NoticeWord] {
-        &NOTICE_WORDS
-    }
 }
 
 impl NoticeWord {
@@ -103,14 +68,15 @@ pub fn notify(alloc: Global, bytes: &[u8]) -> Result<(Action, &[u8]), LineFault>
     Ok((action, rest))
 }
 
-#[tactic(auto, unfolding(crate::specs::ActionReading::about_at))]
+#[tactic(auto, unfolding(crate::specs::ActionReading::about_at, crate::specs::Reading::word_value))]
 fn before_text(alloc: Global, bytes: &[u8]) -> Result<(About, &[u8]), LineFault>
     ensures { Gives (λ x. (x.0, x.1.now)) result (about_at bytes.now) }
 {
     let (session, rest) = number(bytes)?;
     let (place, rest) = number(rest)?;
     let (trace, rest) = trace(alloc, rest)?;
-    let (word, rest) = word_value(rest)?;
+    let (word, rest) = word(rest)?;
+    let word = notice_word(word)?;
     let (bytes, rest) = number(rest)?;
     let (user, rest) = number(rest)?;
     let (path, rest) = number(rest)?;
@@ -124,6 +90,22 @@ fn before_text(alloc: Global, bytes: &[u8]) -> Result<(About, &[u8]), LineFault>
         path,
     };
     Ok((about, rest))
+}
+
+fn notice_word(word: &[u8]) -> Result<NoticeWord, LineFault>
+    ensures { Gives (λ x. x) result (find_word notice_word_text notice_words word.now) }
+{
+    match word {
+        b"login" => Ok(NoticeWord::Login),
+        b"logout" => Ok(NoticeWord::Logout),
+        b"got" => Ok(NoticeWord::Got),
+        b"put" => Ok(NoticeWord::Put),
+        b"deleted" => Ok(NoticeWord::Deleted),
+        b"madedir" => Ok(NoticeWord::MadeDir),
+        b"removeddir" => Ok(NoticeWord::RemovedDir),
+        b"renamed" => Ok(NoticeWord::Renamed),
+        _ => Err(LineFault::Bad),
+    }
 }
 
 // The notification with this text.

@@ -2,19 +2,17 @@
 
 ghost use Rattle.std.specs.Prelude.{◌≡◌, ◌≢◌, ◌∷◌, IfOk, IsErrOf, Some};
 ghost use Rattle.ftp_text.specs.declared.fault.LineFault.TheVariants as fault;
-ghost use Rattle.ftp_text.specs.Reading.{Gives};
-ghost use Rattle.ftp_text.specs.Spelling.{IsStateLine, state_line};
-ghost use Rattle.ftp_text.specs.StateLineReading.{RecordFields, SessionFields, QueuedFields, JobFields, checkpoint_at, used_at, record_of, record_at, opening_at, progress_at, session_of, session_at, slot_kind_at, slot_at, queued_of, queued_at, run_at, job_of, job_at, line_behind, line_word_at, state_line_of};
+ghost use Rattle.ftp_text.specs.Reading.{Gives, by_word};
+ghost use Rattle.ftp_text.specs.Spelling.{IsStateLine, line_word_text, state_line};
+ghost use Rattle.ftp_text.specs.StateLineReading.{RecordFields, SessionFields, QueuedFields, JobFields, checkpoint_at, used_at, record_of, record_at, opening_at, progress_at, session_of, session_at, slot_kind_at, slot_at, queued_of, queued_at, run_at, job_of, job_at, line_words, line_behind, state_line_of};
 
 use crate::fault::LineFault;
 use crate::field::{
     address, first_word, ip, literal, number, optional_ip, optional_number, port, small,
-    text_to_end, whole, word_value,
+    text_to_end, whole, word, word_value,
 };
 use crate::state_command::{Lengths, command_in, lengths};
 use crate::state_piece::{bit, cut_at, cut_off, is_from_root};
-use crate::state_word::{LineWord, SlotWord};
-use crate::word::find;
 use ftp_base::{Bytes, IpAddr, SocketAddr};
 use ftp_events::CommandWord;
 use ftp_hub::{JobLine, LoginState, QueuedLine, RecordLine, SessionLine, SlotKind, SlotLine};
@@ -64,50 +62,43 @@ pub fn read_state_line(alloc: Global, line: &[u8]) -> Result<StateLine, LineFaul
     line_in(alloc, line)
 }
 
-#[tactic(auto, unfolding(crate::specs::StateLineReading::state_line_of))]
+#[tactic(auto, unfolding(crate::specs::StateLineReading::state_line_of, crate::specs::Reading::word_value, crate::specs::Reading::word_at,))]
 fn line_in(alloc: Global, line: &[u8]) -> Result<StateLine, LineFault>
     ensures { Gives (λ x. x) result (state_line_of line.now) }
 {
-    let (word, rest) = line_word(line)?;
+    let (word, rest) = first_word(line);
     whole(behind(alloc, word, rest)?)
 }
 
-// The word at the front.
-#[tactic(auto, unfolding(crate::specs::Reading::word_value, crate::specs::Reading::word_at))]
-fn line_word(line: &[u8]) -> Result<(LineWord, &[u8]), LineFault>
-    ensures { Gives (λ x. (x.0, x.1.now)) result (line_word_at line.now) }
-{
-    let (text, rest) = first_word(line);
-    match find(text) {
-        Some(word) => Ok((word, rest)),
-        None => Err(LineFault::Bad),
-    }
-}
-
-// What stands behind the word.
-fn behind(alloc: Global, word: LineWord, bytes: &[u8]) -> Result<(StateLine, &[u8]), LineFault>
-    ensures { Gives (λ x. (x.0, x.1.now)) result (line_behind word bytes.now) }
+// What a word and what stands behind it say.
+fn behind<'a>(
+    alloc: Global,
+    word: &[u8],
+    bytes: &'a [u8],
+) -> Result<(StateLine, &'a [u8]), LineFault>
+    ensures { Gives (λ x. (x.0, x.1.now)) result (by_word line_word_text line_words line_behind word.now bytes.now) }
 {
     match word {
-        LineWord::Checkpoint => checkpoint(bytes),
-        LineWord::Used => used(bytes),
-        LineWord::Record => {
+        b"checkpoint" => checkpoint(bytes),
+        b"used" => used(bytes),
+        b"record" => {
             let (line, rest) = record(alloc, bytes)?;
             Ok((StateLine::Record(line), rest))
         }
-        LineWord::Session => {
+        b"session" => {
             let (line, rest) = session(alloc, bytes)?;
             Ok((StateLine::Session(line), rest))
         }
-        LineWord::Slot => slot(bytes),
-        LineWord::Queued => {
+        b"slot" => slot(bytes),
+        b"queued" => {
             let (line, rest) = queued(alloc, bytes)?;
             Ok((StateLine::Queued(line), rest))
         }
-        LineWord::Job => {
+        b"job" => {
             let (line, rest) = job(alloc, bytes)?;
             Ok((StateLine::Job(line), rest))
         }
+        _ => Err(LineFault::Bad),
     }
 }
 
@@ -239,20 +230,21 @@ fn session_of(
     })
 }
 
-#[tactic(auto, unfolding(crate::specs::StateLineReading::slot_kind_at))]
+#[tactic(auto, unfolding(crate::specs::StateLineReading::slot_kind_at, crate::specs::Reading::word_value))]
 fn slot_kind(bytes: &[u8]) -> Result<(SlotKind, &[u8]), LineFault>
     ensures { Gives (λ x. (x.0, x.1.now)) result (slot_kind_at bytes.now) }
 {
-    let (word, rest) = word_value(bytes)?;
+    let (word, rest) = word(bytes)?;
     match word {
-        SlotWord::Waits => {
+        b"waits" => {
             let (port, rest) = port(rest)?;
             Ok((SlotKind::Waits { port }, rest))
         }
-        SlotWord::Link => {
+        b"link" => {
             let (number, rest) = number(rest)?;
             Ok((SlotKind::HasLink { number }, rest))
         }
+        _ => Err(LineFault::Bad),
     }
 }
 

@@ -7,7 +7,6 @@ ghost use Rattle.ftp_text.specs.Fields.{field, number, escape};
 ghost use Rattle.ftp_text.specs.StateText.{with_feed};
 
 use crate::state_piece::{put_bit, put_length};
-use crate::state_word::SlotWord;
 use crate::word::Word;
 use crate::writing::{
     put, put_address, put_byte, put_field, put_ip_field, put_number, put_optional_ip, put_text,
@@ -113,11 +112,11 @@ fn put_slot_kind(out: &mut Vec<u8>, what: SlotKind) -> Result<(), AllocError>
 {
     match what {
         SlotKind::Waits { port } => {
-            put_field(out, SlotWord::Waits.text())?;
+            put_field(out, b"waits")?;
             put_number(out, u64::from(port))
         }
         SlotKind::HasLink { number } => {
-            put_field(out, SlotWord::Link.text())?;
+            put_field(out, b"link")?;
             put_number(out, number)
         }
     }
