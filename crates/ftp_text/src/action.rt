@@ -1,12 +1,12 @@
 //! Reading the actions of an entry.
 
 ghost use Rattle.std.specs.Prelude.{◌≡◌};
-ghost use Rattle.ftp_text.specs.Reading.{Gives, find_word, word_value, by_word};
+ghost use Rattle.ftp_text.specs.Reading.{Gives, find_word, by_word};
 ghost use Rattle.ftp_text.specs.Printing.{delivered_text};
 ghost use Rattle.ftp_text.specs.ActionReading.{action_word_text, action_words, deliveries, completed_at, start_at, reply_at, action_behind, action_at};
 
 use crate::fault::LineFault;
-use crate::field::{literal, number, small, text_to_end, ticket, word, word_value};
+use crate::field::{fields, literal, number, small, text_to_end, ticket, word, word_value};
 use crate::notice::notify;
 use ftp_base::{Reply, ReplyText};
 use ftp_events::Action;
@@ -34,10 +34,7 @@ fn behind<'a>(alloc: Global, word: &[u8], bytes: &'a [u8]) -> Result<(Action, &'
             let ticket = Ticket { session, nr };
             Ok((Action::Cancelled { ticket }, rest))
         }
-        b"close" => {
-            let (number, rest) = number(bytes)?;
-            Ok((Action::Close { number }, rest))
-        }
+        b"close" => fields!(bytes; number = number() => Action::Close { number }),
         b"notify" => notify(alloc, bytes),
         b"reply" => reply(alloc, bytes),
         b"start" => start(bytes),
@@ -45,23 +42,15 @@ fn behind<'a>(alloc: Global, word: &[u8], bytes: &'a [u8]) -> Result<(Action, &'
     }
 }
 
-#[tactic(auto, unfolding(crate::specs::ActionReading::completed_at))]
+#[tactic(auto, unfolding(crate::specs::ActionReading::completed_at, crate::specs::Reading::word_value))]
 fn completed(bytes: &[u8]) -> Result<(Action, &[u8]), LineFault>
     ensures { Gives (λ x. (x.0, x.1.now)) result (completed_at bytes.now) }
 {
     let (session, nr, rest) = ticket(bytes)?;
-    let (delivered, rest) = delivery(rest)?;
+    let (word, rest) = word(rest)?;
+    let delivered = delivery_of(word)?;
     let ticket = Ticket { session, nr };
     Ok((Action::Completed { ticket, delivered }, rest))
-}
-
-#[tactic(auto, unfolding(crate::specs::Reading::word_value))]
-fn delivery(bytes: &[u8]) -> Result<(bool, &[u8]), LineFault>
-    ensures { Gives (λ x. (x.0, x.1.now)) result (word_value delivered_text deliveries bytes.now) }
-{
-    let (word, rest) = word(bytes)?;
-    let delivered = delivery_of(word)?;
-    Ok((delivered, rest))
 }
 
 fn delivery_of(word: &[u8]) -> Result<bool, LineFault>

@@ -7,7 +7,7 @@ ghost use Rattle.ftp_text.specs.LogLines.{answer_word_text, maybe_fault_text};
 ghost use Rattle.ftp_text.specs.AnswerReading.{answer_words, results, maybe_faults, has_letter, header_at, outcome_at, answer_behind, answer_at};
 
 use crate::fault::LineFault;
-use crate::field::{address, literal, number, word, word_value};
+use crate::field::{address, fields, literal, number, word, word_value};
 use crate::word::Word;
 use ftp_base::{ErrorKind, LinkFault};
 use ftp_events::Answer;
@@ -95,18 +95,9 @@ fn behind<'a>(word: &[u8], bytes: &'a [u8]) -> Result<(Answer, &'a [u8]), LineFa
     ensures { Gives (λ x. (x.0, x.1.now)) result (by_word answer_word_text answer_words answer_behind word.now bytes.now) }
 {
     match word {
-        b"header" => {
-            let (header, rest) = header(bytes)?;
-            Ok((Answer::Header(header), rest))
-        }
-        b"done" => {
-            let (outcome, rest) = outcome(bytes)?;
-            Ok((Answer::Done(outcome), rest))
-        }
-        b"moved" => {
-            let (bytes, rest) = number(bytes)?;
-            Ok((Answer::Moved { bytes }, rest))
-        }
+        b"header" => fields!(bytes; header = header() => Answer::Header(header)),
+        b"done" => fields!(bytes; outcome = outcome() => Answer::Done(outcome)),
+        b"moved" => fields!(bytes; bytes = number() => Answer::Moved { bytes }),
         _ => Err(LineFault::Bad),
     }
 }
@@ -117,16 +108,9 @@ fn header(bytes: &[u8]) -> Result<(Result<ProxyHeader, ProxyError>, &[u8]), Line
     ensures { Gives (λ x. (x.0, x.1.now)) result (header_at bytes.now) }
 {
     if has_letter(bytes) {
-        let (error, rest) = word_value(bytes)?;
-        return Ok((Err(error), rest));
+        return fields!(bytes; error = word_value() => Err(error));
     }
-    let (source, rest) = address(bytes)?;
-    let (destination, rest) = address(rest)?;
-    let header = ProxyHeader {
-        source,
-        destination,
-    };
-    Ok((Ok(header), rest))
+    fields!(bytes; source = address(), destination = address() => Ok(ProxyHeader { source, destination }))
 }
 
 // Whether the field begins with a letter.
@@ -143,13 +127,5 @@ fn has_letter(bytes: &[u8]) -> bool
 fn outcome(bytes: &[u8]) -> Result<(Outcome, &[u8]), LineFault>
     ensures { Gives (λ x. (x.0, x.1.now)) result (outcome_at bytes.now) }
 {
-    let (result, rest) = word_value(bytes)?;
-    let (bytes, rest) = number(rest)?;
-    let (fault, rest) = word_value(rest)?;
-    let outcome = Outcome {
-        result,
-        bytes,
-        fault,
-    };
-    Ok((outcome, rest))
+    fields!(bytes; result = word_value(), bytes = number(), fault = word_value() => Outcome { result, bytes, fault })
 }

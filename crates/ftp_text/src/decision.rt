@@ -6,7 +6,7 @@ ghost use Rattle.ftp_text.specs.Printing.{decision_text, lock_text};
 ghost use Rattle.ftp_text.specs.DecisionReading.{heads, locks, lock_and_delay_at, decision_behind, decision_at};
 
 use crate::fault::LineFault;
-use crate::field::{literal, number, port, small, ticket, word_value};
+use crate::field::{fields, literal, number, port, small, ticket, word_value};
 use crate::printing::decision_text;
 use crate::word::Word;
 use ftp_base::{ErrorKind, LockState};
@@ -122,31 +122,20 @@ fn behind(head: Decision, bytes: &[u8]) -> Result<(Decision, &[u8]), LineFault>
     ensures { Gives (λ x. (x.0, x.1.now)) result (decision_behind head bytes.now) }
 {
     match head {
-        Decision::HeaderFault(_) => {
-            let (error, rest) = word_value(bytes)?;
-            Ok((Decision::HeaderFault(error), rest))
-        }
-        Decision::Attached { .. } => {
-            let (session, rest) = number(bytes)?;
-            Ok((Decision::Attached { session }, rest))
-        }
-        Decision::LoginFailed { .. } => {
-            let ((lock, delay), rest) = lock_and_delay(bytes)?;
-            Ok((Decision::LoginFailed { lock, delay }, rest))
-        }
-        Decision::Granted { .. } => {
-            let (port, rest) = port(bytes)?;
-            Ok((Decision::Granted { port }, rest))
-        }
+        Decision::HeaderFault(_) =>
+            fields!(bytes; error = word_value() => Decision::HeaderFault(error)),
+        Decision::Attached { .. } =>
+            fields!(bytes; session = number() => Decision::Attached { session }),
+        Decision::LoginFailed { .. } =>
+            fields!(bytes; (lock, delay) = lock_and_delay() => Decision::LoginFailed { lock, delay }),
+        Decision::Granted { .. } => fields!(bytes; port = port() => Decision::Granted { port }),
         Decision::Queued { .. } => {
             let (session, nr, rest) = ticket(bytes)?;
             let ticket = Ticket { session, nr };
             Ok((Decision::Queued { ticket }, rest))
         }
-        Decision::CwdRefused(_) => {
-            let (kind, rest) = word_value(bytes)?;
-            Ok((Decision::CwdRefused(kind), rest))
-        }
+        Decision::CwdRefused(_) =>
+            fields!(bytes; kind = word_value() => Decision::CwdRefused(kind)),
         _ => Ok((head, bytes)),
     }
 }
@@ -155,7 +144,5 @@ fn behind(head: Decision, bytes: &[u8]) -> Result<(Decision, &[u8]), LineFault>
 fn lock_and_delay(bytes: &[u8]) -> Result<((Option<LockState>, u32), &[u8]), LineFault>
     ensures { Gives (λ x. (x.0, x.1.now)) result (lock_and_delay_at bytes.now) }
 {
-    let (lock, rest) = word_value(bytes)?;
-    let (delay, rest) = small(4_294_967_296, rest)?;
-    Ok(((lock, delay as u32), rest))
+    fields!(bytes; lock = word_value(), delay = small(4_294_967_296) => (lock, delay as u32))
 }

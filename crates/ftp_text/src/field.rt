@@ -13,6 +13,17 @@ use crate::word::{Word, find};
 use ftp_base::{Bytes, IpAddr, SocketAddr};
 use std::alloc::Global;
 
+// Reads fields, each behind the one before it, and gives what is made of them, with the bytes behind the last.
+macro_rules! fields {
+    ($bytes:expr; $($name:pat = $read:ident($($arg:expr),*)),+ => $made:expr) => {{
+        let rest = $bytes;
+        $(let ($name, rest) = $read($($arg,)* rest)?;)+
+        Ok(($made, rest))
+    }};
+}
+
+pub(crate) use fields;
+
 // Behind the byte `c`.
 //
 // # Proved

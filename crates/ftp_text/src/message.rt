@@ -9,7 +9,7 @@ ghost use Rattle.ftp_text.specs.Reading.{Gives, by_word};
 ghost use Rattle.ftp_text.specs.Message.{message_word_text, two_paths, code_and_text, message_fields, words_with_fields, message_words, two_paths_at, message_behind, message_at};
 
 use crate::fault::LineFault;
-use crate::field::{number, text_to_end, word, word_value};
+use crate::field::{fields, number, text_to_end, word, word_value};
 use crate::writing::{put_error_kind, put_field, put_number, put_text, put_text_field};
 use ftp_base::{Bytes, ControlChanMsg, Reply, ReplyCode, ReplyText};
 use std::alloc::{AllocError, Global};
@@ -49,23 +49,14 @@ fn with_fields<'a>(
     ensures { Gives (λ x. (x.0, x.1.now)) result (by_word message_word_text words_with_fields message_behind word.now bytes.now) }
 {
     match word {
-        b"deleted" => {
-            let (path, rest) = text_to_end(alloc, bytes)?;
-            Ok((ControlChanMsg::DelFileSuccess { path }, rest))
-        }
-        b"removed" => {
-            let (path, rest) = text_to_end(alloc, bytes)?;
-            Ok((ControlChanMsg::RmDirSuccess { path }, rest))
-        }
-        b"made" => {
-            let (path, rest) = text_to_end(alloc, bytes)?;
-            Ok((ControlChanMsg::MkDirSuccess { path }, rest))
-        }
+        b"deleted" =>
+            fields!(bytes; path = text_to_end(alloc) => ControlChanMsg::DelFileSuccess { path }),
+        b"removed" =>
+            fields!(bytes; path = text_to_end(alloc) => ControlChanMsg::RmDirSuccess { path }),
+        b"made" =>
+            fields!(bytes; path = text_to_end(alloc) => ControlChanMsg::MkDirSuccess { path }),
         b"renamed" => renamed(alloc, bytes),
-        b"kind" => {
-            let (kind, rest) = word_value(bytes)?;
-            Ok((ControlChanMsg::StorageError(kind), rest))
-        }
+        b"kind" => fields!(bytes; kind = word_value() => ControlChanMsg::StorageError(kind)),
         b"reply" => given_reply(alloc, bytes),
         _ => Err(LineFault::Bad),
     }
@@ -74,9 +65,7 @@ fn with_fields<'a>(
 fn renamed(alloc: Global, bytes: &[u8]) -> Result<(ControlChanMsg, &[u8]), LineFault>
     ensures { Gives (λ x. (x.0, x.1.now)) result (message_behind word.Renamed bytes.now) }
 {
-    let (paths, rest) = paths_to_end(alloc, bytes)?;
-    let (old_path, new_path) = paths;
-    Ok((ControlChanMsg::RenameSuccess { old_path, new_path }, rest))
+    fields!(bytes; (old_path, new_path) = paths_to_end(alloc) => ControlChanMsg::RenameSuccess { old_path, new_path })
 }
 
 // Two paths: the length of the first, and a text that begins with it.

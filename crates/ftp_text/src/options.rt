@@ -3,7 +3,7 @@
 ghost use Rattle.std.specs.Prelude.{◌≡◌};
 ghost use Rattle.ftp_text.specs.Reading.{Gives, find_word};
 ghost use Rattle.ftp_text.specs.Options.{active_text, block_text, restart_text};
-ghost use Rattle.ftp_text.specs.OptionsReading.{mode_of, mode_at, listening_at, host_of, host_at, actives, active_at, blocks, part_at, policy_of, lockout_of, lockout_at, restarts, restart_at, rules_at};
+ghost use Rattle.ftp_text.specs.OptionsReading.{mode_of, listening_at, host_of, actives, blocks, part_at, policy_of, lockout_of, restarts, rules_at};
 
 use crate::fault::LineFault;
 use crate::field::{self, literal};
@@ -23,26 +23,18 @@ type Rules = (
 );
 
 /// Who listens, and on which ports.
-#[tactic(auto, unfolding(crate::specs::OptionsReading::listening_at))]
+#[tactic(auto, unfolding(crate::specs::OptionsReading::listening_at, crate::specs::OptionsReading::mode_at))]
 pub fn listening(bytes: &[u8]) -> Result<(Listening, &[u8]), LineFault>
     ensures { Gives (λ x. (x.0, x.1.now)) result (listening_at bytes.now) }
 {
-    let (mode, rest) = mode(bytes)?;
+    let (word, rest) = field::word(bytes)?;
+    let mode = mode_of(word)?;
     let (lo, rest) = field::port(rest)?;
     let (hi, rest) = field::port(rest)?;
     if !mode.is_legacy() && lo < 1 || hi < lo {
         return Err(LineFault::Bad);
     }
     Ok(((mode, (lo, hi)), rest))
-}
-
-#[tactic(auto, unfolding(crate::specs::OptionsReading::mode_at))]
-fn mode(bytes: &[u8]) -> Result<(ListenerMode, &[u8]), LineFault>
-    ensures { Gives (λ x. (x.0, x.1.now)) result (mode_at bytes.now) }
-{
-    let (word, rest) = field::word(bytes)?;
-    let found = mode_of(word)?;
-    Ok((found, rest))
 }
 
 #[tactic(auto, unfolding(crate::specs::OptionsReading::mode_of))]
@@ -64,25 +56,20 @@ fn mode_of(word: &[u8]) -> Result<ListenerMode, LineFault>
 }
 
 /// What else the sessions go by.
-#[tactic(auto, unfolding(crate::specs::OptionsReading::rules_at))]
+#[tactic(auto, unfolding(crate::specs::OptionsReading::rules_at, crate::specs::OptionsReading::host_at, crate::specs::OptionsReading::active_at, crate::specs::OptionsReading::lockout_at, crate::specs::OptionsReading::restart_at))]
 pub fn rules(alloc: Global, bytes: &[u8]) -> Result<(Rules, &[u8]), LineFault>
     ensures { Gives (λ x. (x.0, x.1.now)) result (rules_at bytes.now) }
 {
-    let (host, rest) = host(alloc, bytes)?;
-    let (active, rest) = active(rest)?;
-    let (idle, rest) = field::small(4294967296, rest)?;
-    let (lockout, rest) = lockout(rest)?;
-    let (restart, rest) = restart(rest)?;
-    Ok(((host, (active, (idle as u32, (lockout, restart)))), rest))
-}
-
-#[tactic(auto, unfolding(crate::specs::OptionsReading::host_at))]
-fn host(alloc: Global, bytes: &[u8]) -> Result<(PassiveHost, &[u8]), LineFault>
-    ensures { Gives (λ x. (x.0, x.1.now)) result (host_at bytes.now) }
-{
     let (word, rest) = field::word(bytes)?;
-    let found = host_of(alloc, word)?;
-    Ok((found, rest))
+    let host = host_of(alloc, word)?;
+    let (word, rest) = field::word(rest)?;
+    let active = active_of(word)?;
+    let (idle, rest) = field::small(4294967296, rest)?;
+    let (word, rest) = field::word(rest)?;
+    let lockout = lockout_of(word)?;
+    let (word, rest) = field::word(rest)?;
+    let restart = restart_of(word)?;
+    Ok(((host, (active, (idle as u32, (lockout, restart)))), rest))
 }
 
 #[tactic(auto, unfolding(crate::specs::OptionsReading::host_of))]
@@ -108,15 +95,6 @@ fn host_of(alloc: Global, word: &[u8]) -> Result<PassiveHost, LineFault>
     }
 }
 
-#[tactic(auto, unfolding(crate::specs::OptionsReading::active_at))]
-fn active(bytes: &[u8]) -> Result<(ActivePassiveMode, &[u8]), LineFault>
-    ensures { Gives (λ x. (x.0, x.1.now)) result (active_at bytes.now) }
-{
-    let (word, rest) = field::word(bytes)?;
-    let active = active_of(word)?;
-    Ok((active, rest))
-}
-
 fn active_of(word: &[u8]) -> Result<ActivePassiveMode, LineFault>
     ensures { Gives (λ x. x) result (find_word active_text actives word.now) }
 {
@@ -126,15 +104,6 @@ fn active_of(word: &[u8]) -> Result<ActivePassiveMode, LineFault>
         b"both" => Ok(ActivePassiveMode::ActiveAndPassive),
         _ => Err(LineFault::Bad),
     }
-}
-
-#[tactic(auto, unfolding(crate::specs::OptionsReading::lockout_at))]
-fn lockout(bytes: &[u8]) -> Result<(Option<FailedLoginsPolicy>, &[u8]), LineFault>
-    ensures { Gives (λ x. (x.0, x.1.now)) result (lockout_at bytes.now) }
-{
-    let (word, rest) = field::word(bytes)?;
-    let found = lockout_of(word)?;
-    Ok((found, rest))
 }
 
 #[tactic(auto, unfolding(crate::specs::OptionsReading::lockout_of))]
@@ -176,15 +145,6 @@ fn block_of(word: &[u8]) -> Result<FailedLoginsBlock, LineFault>
         b"user" => Ok(FailedLoginsBlock::User),
         _ => Err(LineFault::Bad),
     }
-}
-
-#[tactic(auto, unfolding(crate::specs::OptionsReading::restart_at))]
-fn restart(bytes: &[u8]) -> Result<(bool, &[u8]), LineFault>
-    ensures { Gives (λ x. (x.0, x.1.now)) result (restart_at bytes.now) }
-{
-    let (word, rest) = field::word(bytes)?;
-    let restart = restart_of(word)?;
-    Ok((restart, rest))
 }
 
 fn restart_of(word: &[u8]) -> Result<bool, LineFault>

@@ -10,7 +10,7 @@ ghost use Rattle.ftp_text.specs.SetupReading.{options_at, storage_at, dir_at, fi
 use crate::calls::{FailingCalls, failing_calls};
 use crate::event::read_event;
 use crate::fault::LineFault;
-use crate::field::{self, literal, whole};
+use crate::field::{fields, hex_bytes, literal, number, small, text_to_end, whole};
 use crate::options::{listening, rules};
 use crate::writing::{put, put_byte, put_hex_bytes, put_number, put_text_field};
 use ftp_base::{Bytes, LinkFault};
@@ -144,9 +144,7 @@ fn storage(alloc: Global, bytes: &[u8]) -> Result<(Item, &[u8]), LineFault>
     ensures { Gives (λ x. (x.0, x.1.now)) result (storage_at bytes.now) }
 {
     let rest = literal(b"storage", bytes)?;
-    let (max, rest) = field::number(rest)?;
-    let (fails, rest) = failing_calls(alloc, rest)?;
-    Ok((Item::Storage { max, fails }, rest))
+    fields!(rest; max = number(), fails = failing_calls(alloc) => Item::Storage { max, fails })
 }
 
 #[tactic(auto, unfolding(crate::specs::SetupReading::dir_at))]
@@ -154,7 +152,7 @@ fn dir(alloc: Global, bytes: &[u8]) -> Result<(Item, &[u8]), LineFault>
     ensures { Gives (λ x. (x.0, x.1.now)) result (dir_at bytes.now) }
 {
     let rest = literal(b"dir", bytes)?;
-    let (path, rest) = field::text_to_end(alloc, rest)?;
+    let (path, rest) = text_to_end(alloc, rest)?;
     if !is_absolute(path.as_slice()) {
         return Err(LineFault::Bad);
     }
@@ -166,8 +164,8 @@ fn file(alloc: Global, bytes: &[u8]) -> Result<(Item, &[u8]), LineFault>
     ensures { Gives (λ x. (x.0, x.1.now)) result (file_at bytes.now) }
 {
     let rest = literal(b"file", bytes)?;
-    let (bytes, rest) = field::hex_bytes(alloc, rest)?;
-    let (path, rest) = field::text_to_end(alloc, rest)?;
+    let (bytes, rest) = hex_bytes(alloc, rest)?;
+    let (path, rest) = text_to_end(alloc, rest)?;
     if !is_absolute(path.as_slice()) {
         return Err(LineFault::Bad);
     }
@@ -179,8 +177,7 @@ fn quota(bytes: &[u8]) -> Result<(Item, &[u8]), LineFault>
     ensures { Gives (λ x. (x.0, x.1.now)) result (quota_at bytes.now) }
 {
     let rest = literal(b"quota", bytes)?;
-    let (default, rest) = field::number(rest)?;
-    Ok((Item::Quota { default }, rest))
+    fields!(rest; default = number() => Item::Quota { default })
 }
 
 #[tactic(auto, unfolding(crate::specs::SetupReading::budget_at))]
@@ -188,9 +185,7 @@ fn budget(alloc: Global, bytes: &[u8]) -> Result<(Item, &[u8]), LineFault>
     ensures { Gives (λ x. (x.0, x.1.now)) result (budget_at bytes.now) }
 {
     let rest = literal(b"budget", bytes)?;
-    let (bytes, rest) = field::number(rest)?;
-    let (user, rest) = field::text_to_end(alloc, rest)?;
-    Ok((Item::Budget { bytes, user }, rest))
+    fields!(rest; bytes = number(), user = text_to_end(alloc) => Item::Budget { bytes, user })
 }
 
 // Whether the path begins at the root.
@@ -209,7 +204,7 @@ fn link(alloc: Global, bytes: &[u8]) -> Result<(Item, &[u8]), LineFault>
 {
     let rest = literal(b"link", bytes)?;
     let (((number, chunk), fails), rest) = link_calls(alloc, rest)?;
-    let (bytes, rest) = field::hex_bytes(alloc, rest)?;
+    let (bytes, rest) = hex_bytes(alloc, rest)?;
     if chunk < 1 {
         return Err(LineFault::Bad);
     }
@@ -229,10 +224,7 @@ fn link_calls(alloc: Global, bytes: &[u8]) -> Result<(LinkCalls, &[u8]), LineFau
     ensures read { Gives (λ x. (x.0, x.1.now)) result (link_calls_at bytes.now) }
     ensures limit { IfOk result (λ x. x.0.0.1 < 65537) }
 {
-    let (number, rest) = field::number(bytes)?;
-    let (chunk, rest) = field::small(65537, rest)?;
-    let (fails, rest) = failing_calls(alloc, rest)?;
-    Ok((((number, chunk), fails), rest))
+    fields!(bytes; number = number(), chunk = small(65537), fails = failing_calls(alloc) => ((number, chunk), fails))
 }
 
 /// Writes the line on what was sent on a link.

@@ -8,7 +8,7 @@ ghost use Rattle.ftp_text.specs.StateLineReading.{RecordFields, SessionFields, Q
 
 use crate::fault::LineFault;
 use crate::field::{
-    address, first_word, ip, literal, number, optional_ip, optional_number, port, small,
+    address, fields, first_word, ip, literal, number, optional_ip, optional_number, port, small,
     text_to_end, whole, word, word_value,
 };
 use crate::state_command::{Lengths, command_in, lengths};
@@ -81,23 +81,11 @@ fn behind<'a>(
     match word {
         b"checkpoint" => checkpoint(bytes),
         b"used" => used(bytes),
-        b"record" => {
-            let (line, rest) = record(alloc, bytes)?;
-            Ok((StateLine::Record(line), rest))
-        }
-        b"session" => {
-            let (line, rest) = session(alloc, bytes)?;
-            Ok((StateLine::Session(line), rest))
-        }
+        b"record" => fields!(bytes; line = record(alloc) => StateLine::Record(line)),
+        b"session" => fields!(bytes; line = session(alloc) => StateLine::Session(line)),
         b"slot" => slot(bytes),
-        b"queued" => {
-            let (line, rest) = queued(alloc, bytes)?;
-            Ok((StateLine::Queued(line), rest))
-        }
-        b"job" => {
-            let (line, rest) = job(alloc, bytes)?;
-            Ok((StateLine::Job(line), rest))
-        }
+        b"queued" => fields!(bytes; line = queued(alloc) => StateLine::Queued(line)),
+        b"job" => fields!(bytes; line = job(alloc) => StateLine::Job(line)),
         _ => Err(LineFault::Bad),
     }
 }
@@ -107,9 +95,7 @@ fn checkpoint(bytes: &[u8]) -> Result<(StateLine, &[u8]), LineFault>
     ensures { Gives (λ x. (x.0, x.1.now)) result (checkpoint_at bytes.now) }
 {
     let rest = literal(b" 1", bytes)?;
-    let (events, rest) = number(rest)?;
-    let (stopped, rest) = bit(rest)?;
-    Ok((StateLine::Checkpoint { events, stopped }, rest))
+    fields!(rest; events = number(), stopped = bit() => StateLine::Checkpoint { events, stopped })
 }
 
 #[tactic(auto, unfolding(crate::specs::StateLineReading::used_at))]
@@ -128,13 +114,9 @@ fn used(bytes: &[u8]) -> Result<(StateLine, &[u8]), LineFault>
 fn record(alloc: Global, bytes: &[u8]) -> Result<(RecordLine, &[u8]), LineFault>
     ensures { Gives (λ x. (x.0, x.1.now)) result (record_at bytes.now) }
 {
-    let (count, rest) = small(4_294_967_296, bytes)?;
-    let (at, rest) = number(rest)?;
-    let (ip, rest) = optional_ip(rest)?;
-    let (len, rest) = optional_number(rest)?;
-    let (text, rest) = text_to_end(alloc, rest)?;
-    let line = record_of(alloc, (count as u32, (at, ip)), len, text.as_slice())?;
-    Ok((line, rest))
+    fields!(bytes; count = small(4_294_967_296), at = number(), ip = optional_ip(), len = optional_number(),
+        text = text_to_end(alloc)
+        => record_of(alloc, (count as u32, (at, ip)), len, text.as_slice())?)
 }
 
 // The record with this name.
@@ -164,36 +146,24 @@ fn record_of(
 fn opening(bytes: &[u8]) -> Result<(Opening, &[u8]), LineFault>
     ensures { Gives (λ x. (x.0, x.1.now)) result (opening_at bytes.now) }
 {
-    let (session, rest) = number(bytes)?;
-    let (raw, rest) = address(rest)?;
-    let (local, rest) = address(rest)?;
-    let (client, rest) = ip(rest)?;
-    let (trace, rest) = number(rest)?;
-    Ok(((session, (raw, (local, (client, trace)))), rest))
+    fields!(bytes; session = number(), raw = address(), local = address(), client = ip(), trace = number()
+        => (session, (raw, (local, (client, trace)))))
 }
 
 #[tactic(auto, unfolding(crate::specs::StateLineReading::progress_at))]
 fn progress(bytes: &[u8]) -> Result<(Progress, &[u8]), LineFault>
     ensures { Gives (λ x. (x.0, x.1.now)) result (progress_at bytes.now) }
 {
-    let (state, rest) = word_value(bytes)?;
-    let (active, rest) = number(rest)?;
-    let (offset, rest) = number(rest)?;
-    let (tickets, rest) = number(rest)?;
-    let (notices, rest) = number(rest)?;
-    Ok(((state, (active, (offset, (tickets, notices)))), rest))
+    fields!(bytes; state = word_value(), active = number(), offset = number(), tickets = number(), notices = number()
+        => (state, (active, (offset, (tickets, notices)))))
 }
 
 #[tactic(auto, unfolding(crate::specs::StateLineReading::session_at))]
 fn session(alloc: Global, bytes: &[u8]) -> Result<(SessionLine, &[u8]), LineFault>
     ensures { Gives (λ x. (x.0, x.1.now)) result (session_at bytes.now) }
 {
-    let (opening, rest) = opening(bytes)?;
-    let (progress, rest) = progress(rest)?;
-    let (len, rest) = optional_number(rest)?;
-    let (text, rest) = text_to_end(alloc, rest)?;
-    let line = session_of(alloc, opening, progress, len, text.as_slice())?;
-    Ok((line, rest))
+    fields!(bytes; opening = opening(), progress = progress(), len = optional_number(), text = text_to_end(alloc)
+        => session_of(alloc, opening, progress, len, text.as_slice())?)
 }
 
 // The session with this name and directory.
@@ -236,14 +206,8 @@ fn slot_kind(bytes: &[u8]) -> Result<(SlotKind, &[u8]), LineFault>
 {
     let (word, rest) = word(bytes)?;
     match word {
-        b"waits" => {
-            let (port, rest) = port(rest)?;
-            Ok((SlotKind::Waits { port }, rest))
-        }
-        b"link" => {
-            let (number, rest) = number(rest)?;
-            Ok((SlotKind::HasLink { number }, rest))
-        }
+        b"waits" => fields!(rest; port = port() => SlotKind::Waits { port }),
+        b"link" => fields!(rest; number = number() => SlotKind::HasLink { number }),
         _ => Err(LineFault::Bad),
     }
 }
@@ -252,30 +216,17 @@ fn slot_kind(bytes: &[u8]) -> Result<(SlotKind, &[u8]), LineFault>
 fn slot(bytes: &[u8]) -> Result<(StateLine, &[u8]), LineFault>
     ensures { Gives (λ x. (x.0, x.1.now)) result (slot_at bytes.now) }
 {
-    let (session, rest) = number(bytes)?;
-    let (at, rest) = number(rest)?;
-    let (what, rest) = slot_kind(rest)?;
-    Ok((StateLine::Slot(SlotLine { session, at, what }), rest))
+    fields!(bytes; session = number(), at = number(), what = slot_kind()
+        => StateLine::Slot(SlotLine { session, at, what }))
 }
 
 #[tactic(auto, unfolding(crate::specs::StateLineReading::queued_at))]
 fn queued(alloc: Global, bytes: &[u8]) -> Result<(QueuedLine, &[u8]), LineFault>
     ensures { Gives (λ x. (x.0, x.1.now)) result (queued_at bytes.now) }
 {
-    let (session, rest) = number(bytes)?;
-    let (nr, rest) = number(rest)?;
-    let (offset, rest) = number(rest)?;
-    let (word, rest) = word_value(rest)?;
-    let (lengths, rest) = lengths(rest)?;
-    let (text, rest) = text_to_end(alloc, rest)?;
-    let line = queued_of(
-        alloc,
-        (session, (nr, offset)),
-        word,
-        lengths,
-        text.as_slice(),
-    )?;
-    Ok((line, rest))
+    fields!(bytes; session = number(), nr = number(), offset = number(), word = word_value(), lengths = lengths(),
+        text = text_to_end(alloc)
+        => queued_of(alloc, (session, (nr, offset)), word, lengths, text.as_slice())?)
 }
 
 // The waiting transfer with this text.
@@ -304,26 +255,16 @@ fn queued_of(
 fn run(bytes: &[u8]) -> Result<(Run, &[u8]), LineFault>
     ensures { Gives (λ x. (x.0, x.1.now)) result (run_at bytes.now) }
 {
-    let (session, rest) = number(bytes)?;
-    let (nr, rest) = number(rest)?;
-    let (offset, rest) = number(rest)?;
-    let (done, rest) = number(rest)?;
-    let (marked, rest) = bit(rest)?;
-    let (link, rest) = number(rest)?;
-    Ok(((session, (nr, (offset, (done, (marked, link))))), rest))
+    fields!(bytes; session = number(), nr = number(), offset = number(), done = number(), marked = bit(), link = number()
+        => (session, (nr, (offset, (done, (marked, link))))))
 }
 
 #[tactic(auto, unfolding(crate::specs::StateLineReading::job_at))]
 fn job(alloc: Global, bytes: &[u8]) -> Result<(JobLine, &[u8]), LineFault>
     ensures { Gives (λ x. (x.0, x.1.now)) result (job_at bytes.now) }
 {
-    let (run, rest) = run(bytes)?;
-    let (word, rest) = word_value(rest)?;
-    let (len, rest) = number(rest)?;
-    let (lengths, rest) = lengths(rest)?;
-    let (text, rest) = text_to_end(alloc, rest)?;
-    let line = job_of(alloc, run, word, (len, lengths), text.as_slice())?;
-    Ok((line, rest))
+    fields!(bytes; run = run(), word = word_value(), len = number(), lengths = lengths(), text = text_to_end(alloc)
+        => job_of(alloc, run, word, (len, lengths), text.as_slice())?)
 }
 
 // The running transfer with this text.
