@@ -263,21 +263,20 @@ fn looks_in<A: Abort, S: Storage>(
     info.looks
 }
 
-/// A file with this mode, last changed so long after the first day of 1970.
-fn make_looks(rt: &HostRuntime, path: &str, mode: u32, date: Duration) -> io::Result<()> {
+/// A file with this mode, last changed so many seconds after the first day of 1970 began.
+fn make_looks(rt: &HostRuntime, path: &str, mode: u32, seconds: u32) -> io::Result<()> {
     let file = File::create(rt, path)?;
     file.set_permissions(Permissions::from_mode(mode))?;
-    file.set_modified(UNIX_EPOCH + date)
+    file.set_modified(UNIX_EPOCH + Duration::from_secs(u64::from(seconds)))
 }
 
 #[test]
 fn a_listing_shows_the_mode_and_the_date(rt: HostRuntime) {
     let alloc = rt.alloc();
     let base = make_base(&rt, "looks").expect(&rt, "a base");
-    // The 28th of November 2020, 13:57:09 UTC.
-    let date = Duration::from_secs(1_606_571_829);
     let path = below(&rt, alloc, base.as_str(), "/home/d/a");
-    make_looks(&rt, path.as_str(), 0o640, date).expect(&rt, "a file");
+    // The 28th of November 2020, 13:57:09 UTC.
+    make_looks(&rt, path.as_str(), 0o640, 1_606_571_829).expect(&rt, "a file");
     let looks = Looks {
         mode: *b"rw-r-----",
         shown: *b"Nov 28  2020",
