@@ -6,8 +6,6 @@ use Rattle.std.specs.HashMap as map
 use Rattle.ftp_base.specs.declared.error_kind.ErrorKind.{ErrorKind}
 use Rattle.ftp_base.specs.declared.message.ControlChanMsg.{ControlChanMsg}
 use Rattle.ftp_base.specs.declared.message.ControlChanMsg.TheVariants.{ExitControlLoop}
-use Rattle.ftp_base.specs.declared.login.AuthAnswer.{AuthAnswer}
-use Rattle.ftp_base.specs.declared.login.AuthAnswer.TheVariants.{BadUser}
 use Rattle.ftp_base.specs.Net.{ipv4}
 use Rattle.ftp_base.specs.Storage.{root}
 use Rattle.ftp_options.specs.declared.options.Options.{Options}
@@ -199,11 +197,6 @@ text_of _ = []
 abbrev pub made_of : EventKind → Option ℕ
 made_of (kind.Port s text number) = number
 made_of _ = None
-
--- what was said of a password
-abbrev pub said_of : EventKind → AuthAnswer
-said_of (kind.AuthDone s said) = said
-said_of _ = BadUser
 
 -- the holders of a client's ports, by the board; a client of version 6 holds nothing
 abbrev pub held_for : Board → Session → ℕ → Option ℕ

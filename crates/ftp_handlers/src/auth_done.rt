@@ -10,6 +10,7 @@ ghost use Rattle.ftp_lockout.specs.Keys.{same_key};
 ghost use Rattle.ftp_lockout.specs.Failures.{failures_of, is_locked, let_in, lock_state, one_more};
 ghost use Rattle.ftp_events.specs.declared.session.Running.{Running};
 ghost use Rattle.ftp_events.specs.declared.event.Answer.{Answer};
+ghost use Rattle.ftp_events.specs.declared.event.EventKind.TheVariants.{AuthDone};
 ghost use Rattle.ftp_events.specs.CommandRows.{own_failures};
 ghost use Rattle.ftp_events.specs.Lockout.{failures_by, login_key};
 ghost use Rattle.ftp_events.specs.LoginRows.{answer_row, auth_row, password_row};
@@ -17,14 +18,13 @@ ghost use Rattle.ftp_events.specs.Session.{session_after};
 ghost use Rattle.ftp_events.specs.Acts.{session_acts};
 ghost use Rattle.ftp_events.specs.Words.{◌⇒◌∣◌};
 ghost use Rattle.ftp_handlers.specs.Rooms.{IsReady, actions_in, kept_in, twice_in};
-ghost use Rattle.ftp_handlers.specs.Handlers.{is_auth, goes_on, number_of, kept_by, said_of, notices_of, failures_in, failures_left, policy_in, login_decision, CanCount, HasSpare};
+ghost use Rattle.ftp_handlers.specs.Handlers.{goes_on, kept_by, notices_of, failures_in, failures_left, policy_in, login_decision, CanCount, HasSpare};
 
 use crate::room::Room;
 use ftp_base::{AuthAnswer, LockState, PresenceEvent, ReplyCode};
-use ftp_events::{Decision, EventKind, Login, Session, wording};
+use ftp_events::{Decision, Login, Session, wording};
 use ftp_lockout::FailedLoginsCache;
 use ftp_options::Options;
-use ftp_switchboard::Switchboard;
 
 /// How long a refusal waits that is told on a locked key, in milliseconds.
 const LOCKED_DELAY: u32 = 1500;
@@ -40,41 +40,32 @@ pub(crate) struct Refusal {
 /// A password that is wrong is counted.
 pub(crate) fn handle(
     session: &mut Session,
-    args: &EventKind,
-    board: &mut Switchboard,
+    number: u64,
+    said: AuthAnswer,
     failures: &mut Option<FailedLoginsCache>,
     room: &mut Room,
     at: u64,
     options: &Options,
 ) -> Decision
-    requires of_this_event { IsTrue (is_auth args.now) }
     requires room { IsReady room.old }
-    requires kept { kept_in room.old ≡ kept_by args.now session.old }
+    requires kept { kept_in room.old ≡ kept_by (AuthDone number said) session.old }
     requires count { CanCount failures.old options.now }
     ensures goes_on { IsTrue (goes_on result) }
-    ensures decision { result ≡ auth_row options.now.lockout at (own_failures options.now (failures_in failures.old) session.old) (said_of args.now) session.old.login }
-    ensures session { session.old.notices + 1 < 2 ^ 64 → (answer : Answer) (job : Option Running) → session.new ≡ session_after at args.now answer result (notices_of args.now result answer) job session.old }
-    ensures actions { session.old.notices + 1 < 2 ^ 64 → (answer : Answer) (job : Option Running) → actions_in room.new ≡ session_acts options.now (number_of args.now) args.now answer result job (Some session.old) }
-    ensures failures { (p : FailedLoginsPolicy) → options.now.lockout ≡ Some p → (key : LoginKey) → failures_in failures.new key ≡ failures_left p session.old key args.now at (failures_in failures.old key) }
+    ensures decision { result ≡ auth_row options.now.lockout at (own_failures options.now (failures_in failures.old) session.old) said session.old.login }
+    ensures session { session.old.notices + 1 < 2 ^ 64 → (answer : Answer) (job : Option Running) → session.new ≡ session_after at (AuthDone number said) answer result (notices_of (AuthDone number said) result answer) job session.old }
+    ensures actions { session.old.notices + 1 < 2 ^ 64 → (answer : Answer) (job : Option Running) → actions_in room.new ≡ session_acts options.now number (AuthDone number said) answer result job (Some session.old) }
+    ensures failures { (p : FailedLoginsPolicy) → options.now.lockout ≡ Some p → (key : LoginKey) → failures_in failures.new key ≡ failures_left p session.old key (AuthDone number said) at (failures_in failures.old key) }
     ensures policy { policy_in failures.new ≡ policy_in failures.old }
-    ensures board { board.new ≡ board.old }
     ensures twice { twice_in room.new ≡ twice_in room.old }
 {
-    let EventKind::AuthDone {
-        session: number,
-        answer,
-    } = args
-    else {
-        unreachable!()
-    };
     if !matches!(session.login, Login::Checking) {
         return Decision::NotExpected;
     }
     session.active_at = at;
-    if let Some(refusal) = weigh(failures, *answer, session, room, at) {
+    if let Some(refusal) = weigh(failures, said, session, room, at) {
         session.login = Login::New;
         room.reply_late(
-            *number,
+            number,
             refusal.delay,
             ReplyCode::NotLoggedIn,
             wording::AUTH_FAILED,
@@ -87,12 +78,12 @@ pub(crate) fn handle(
     session.login = Login::LoggedIn;
     session.notices = session.notices.saturating_add(1);
     room.notify_presence(
-        *number,
+        number,
         session.opening.trace,
         session.notices,
         PresenceEvent::LoggedIn,
     );
-    room.reply(*number, ReplyCode::UserLoggedIn, wording::LOGGED_IN);
+    room.reply(number, ReplyCode::UserLoggedIn, wording::LOGGED_IN);
     Decision::LoggedIn
 }
 

@@ -3,6 +3,8 @@
 ghost use Rattle.std.specs.Prelude.{◌≡◌, ◌+◌, ◌<◌, ◌≤◌, ◌^◌, [], ◌∷◌, ◌++◌, ℕ, false, IsTrue, Option, Some};
 ghost use Rattle.ftp_base.specs.declared.notice.Notice.TheVariants.{Presence};
 ghost use Rattle.ftp_base.specs.declared.notice.PresenceEvent.TheVariants as presence;
+ghost use Rattle.ftp_base.specs.declared.reply.Reply.TheVariants as reply;
+ghost use Rattle.ftp_base.specs.declared.reply.ReplyCode.TheVariants as code;
 ghost use Rattle.ftp_base.specs.Net.{ipv4};
 ghost use Rattle.ftp_switchboard.specs.Board.{SameRange, holder_at};
 ghost use Rattle.ftp_events.specs.declared.session.Running.{Running};
@@ -17,7 +19,7 @@ ghost use Rattle.ftp_handlers.specs.Handlers.{is_closed, number_of, kept_by, hel
 
 use crate::pasv::waiting_port;
 use crate::room::Room;
-use ftp_base::PresenceEvent;
+use ftp_base::{PresenceEvent, ReplyCode};
 use ftp_events::{Decision, EventKind, Session};
 use ftp_options::Options;
 use ftp_switchboard::{Switchboard, SwitchboardKey};
@@ -29,7 +31,6 @@ pub fn handle(
     args: &EventKind,
     board: &mut Switchboard,
     room: &mut Room,
-    at: u64,
     options: &Options,
 ) -> Decision
     requires of_this_event { IsTrue (is_closed args.now) }
@@ -47,6 +48,27 @@ pub fn handle(
     leave(session, *number, board, room);
     room.close(*number);
     Decision::Closed
+}
+
+/// Lets go of all that the session has, and says goodbye before its own connection is closed.
+pub(crate) fn say_goodbye(
+    session: &mut Session,
+    number: u64,
+    board: &mut Switchboard,
+    room: &mut Room,
+    words: &'static [u8],
+)
+    requires room { IsReady room.old }
+    requires places { HasPlaces 5 room.old }
+    requires kept { kept_in room.old ≡ logged_user session.old.login session.old.name }
+    ensures actions { session.old.notices + 1 < 2 ^ 64 → actions_in room.new ≡ cancellations number false session.old.pending ++ closings (link_in session.old.slot) ++ action.Notify number (record { username = kept_in room.old; trace_id = record { 0 = session.old.opening.trace }; sequence_number = session.old.notices + 1 }) (Presence presence.LoggedOut) ∷ [] ++ action.Reply number 0 (reply.CodeAndMsg code.ClosingControlConnection words.now) ∷ [] ++ action.Close number ∷ [] }
+    ensures holders { (a p : ℕ) → holder_at board.new a p ≡ held_without number (ipv4 session.old.opening.client) (waiting_port session.old.slot) a p (holder_at board.old a p) }
+    ensures range { SameRange board.old board.new }
+    ensures twice { twice_in room.new ≡ twice_in room.old }
+{
+    leave(session, number, board, room);
+    room.reply(number, ReplyCode::ClosingControlConnection, words);
+    room.close(number);
 }
 
 /// Frees the passive port of a session that ends, cancels the transfer that waits, closes its link, and tells listeners.

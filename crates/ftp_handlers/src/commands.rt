@@ -62,11 +62,12 @@ pub fn command(
     ensures twice { twice_in room.new ≡ twice_in room.old }
 {
     match args {
-        EventKind::User { .. } => user::handle(session, args, board, room, at, options),
+        EventKind::User { .. } => user::handle(session, args, room, at),
         EventKind::Pass { .. } => pass::handle(session, args, board, room, at, options),
-        EventKind::AuthDone { .. } => {
-            auth_done::handle(session, args, board, failures, room, at, options)
-        }
+        EventKind::AuthDone {
+            session: number,
+            answer,
+        } => auth_done::handle(session, *number, *answer, failures, room, at, options),
         EventKind::Pasv { .. } => {
             let looks = &mut Looks::new();
             pasv::handle(session, args, board, room, at, options, looks)
@@ -75,8 +76,10 @@ pub fn command(
         EventKind::Rest { .. } => rest::handle(session, args, board, room, at, options),
         EventKind::Cwd { .. } => cwd::handle(session, args, board, room, at, options),
         EventKind::Abor { .. } => abor::handle(session, args, board, room, at, options),
-        EventKind::Internal { .. } => internal::handle(session, args, board, room, at, options),
-        EventKind::SlotTick { .. } => slot_tick::handle(session, args, board, room, at, options),
+        EventKind::Internal { .. } => internal::handle(session, args, room, at),
+        EventKind::SlotTick { session: number } => {
+            slot_tick::handle(session, *number, room, at, options)
+        }
         _ => unreachable!(),
     }
 }

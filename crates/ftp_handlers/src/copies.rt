@@ -5,7 +5,7 @@ ghost use Rattle.ftp_events.specs.Text.{passive_text, offset_text};
 ghost use Rattle.ftp_handlers.specs.Copies.{IsWide};
 
 use ftp_base::Bytes;
-use ftp_events::{Action, Actions, wording, write_offset_text, write_passive_text};
+use ftp_events::{Action, Actions, wording, write_offset_text, write_passive_text, write_words};
 use std::alloc::{AllocError, Global};
 use std::marker::Model;
 use std::mem;
@@ -181,22 +181,9 @@ fn put_unresolved(text: &mut Vec<u8>, name: &[u8])
     requires room { 64 + length name.now ≤ vec_capacity text.old }
     ensures { text.new.items ≡ codes "Could not resolve DNS address '" ++ name.now ++ codes "'" }
 {
-    put(text, wording::UNRESOLVED);
-    put(text, name);
-    put(text, b"'");
-}
-
-// Writes words behind the text.
-fn put(text: &mut Vec<u8>, words: &[u8])
-    requires room { vec_len text.old + length words.now ≤ vec_capacity text.old }
-    ensures items { text.new.items ≡ text.old.items ++ words.now }
-    ensures len { vec_len text.new ≡ vec_len text.old + length words.now }
-    ensures capacity { vec_capacity text.old ≤ vec_capacity text.new }
-{
-    match text.extend_from_slice(words) {
-        Ok(()) => {}
-        Err(_) => unreachable!(),
-    }
+    write_words(text, wording::UNRESOLVED);
+    write_words(text, name);
+    write_words(text, b"'");
 }
 
 /// The actions of an event, once or twice.

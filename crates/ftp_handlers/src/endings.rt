@@ -12,8 +12,9 @@ ghost use Rattle.ftp_events.specs.Slot.{waiting_port};
 ghost use Rattle.ftp_handlers.specs.Rooms.{IsReady, actions_in, kept_in, twice_in};
 ghost use Rattle.ftp_handlers.specs.Handlers.{ends_session, held_after, kept_by, number_of, places_for};
 
+use crate::closed::say_goodbye;
 use crate::room::Room;
-use crate::{closed, quit, timed_out};
+use crate::{closed, quit};
 use ftp_events::{Decision, EventKind, Session};
 use ftp_options::Options;
 use ftp_switchboard::Switchboard;
@@ -24,7 +25,6 @@ pub fn ending(
     args: &EventKind,
     board: &mut Switchboard,
     room: &mut Room,
-    at: u64,
     options: &Options,
 ) -> Decision
     requires of_this_event { IsTrue (ends_session args.now) }
@@ -39,9 +39,18 @@ pub fn ending(
     ensures twice { twice_in room.new ≡ twice_in room.old }
 {
     match args {
-        EventKind::Closed { .. } => closed::handle(session, args, board, room, at, options),
-        EventKind::Quit { .. } => quit::handle(session, args, board, room, at, options),
-        EventKind::IdleTick { .. } => timed_out::handle(session, args, board, room, at, options),
+        EventKind::Closed { .. } => closed::handle(session, args, board, room, options),
+        EventKind::Quit { .. } => quit::handle(session, args, board, room, options),
+        EventKind::IdleTick { session: number } => {
+            say_goodbye(
+                session,
+                *number,
+                board,
+                room,
+                b"Session timed out. Closing control connection",
+            );
+            Decision::TimedOut
+        }
         _ => unreachable!(),
     }
 }

@@ -63,7 +63,7 @@ pub fn copy_alone(alloc: Global, kind: &EventKind) -> Result<Bytes, AllocError>
 }
 
 /// Who is logged in, or `unknown`.
-pub(crate) fn copy_user(alloc: Global, session: &Session) -> Result<Bytes, AllocError>
+pub fn copy_user(alloc: Global, session: &Session) -> Result<Bytes, AllocError>
     ensures { IfOk result (λ user. user ≡ logged_user session.now.login session.now.name) }
 {
     match session.login {

@@ -3,6 +3,7 @@
 ghost use Rattle.std.specs.Prelude.{◌≡◌, ◌+◌, ◌<◌, ◌≤◌, ◌^◌, ◌++◌, is_some, IsTrue, Option, Some, if◌then◌else◌};
 ghost use Rattle.std.specs.Option.{option_map};
 ghost use Rattle.ftp_base.specs.declared.notice.Notice.TheVariants.{Data};
+ghost use Rattle.ftp_options.specs.declared.options.Options.{Options};
 ghost use Rattle.ftp_events.specs.declared.session.Running.{Running};
 ghost use Rattle.ftp_events.specs.declared.event.Answer.{Answer};
 ghost use Rattle.ftp_events.specs.CommandRows.{internal_row};
@@ -15,18 +16,9 @@ use crate::room::Room;
 use crate::telling::Told;
 use ftp_base::DataEvent;
 use ftp_events::{Decision, EventKind, Session};
-use ftp_options::Options;
-use ftp_switchboard::Switchboard;
 
 /// Tells the client a message that is the control layer's own, and listeners what it notifies.
-pub(crate) fn handle(
-    session: &mut Session,
-    args: &EventKind,
-    board: &mut Switchboard,
-    room: &mut Room,
-    at: u64,
-    options: &Options,
-) -> Decision
+pub(crate) fn handle(session: &mut Session, args: &EventKind, room: &mut Room, at: u64) -> Decision
     requires of_this_event { IsTrue (is_internal args.now) }
     requires room { IsReady room.old }
     requires kept { kept_in room.old ≡ kept_by args.now session.old }
@@ -34,8 +26,7 @@ pub(crate) fn handle(
     ensures goes_on { IsTrue (goes_on result) }
     ensures decision { result ≡ internal_row (message_of args.now) }
     ensures session { session.old.notices + 1 < 2 ^ 64 → (answer : Answer) (job : Option Running) → session.new ≡ session_after at args.now answer result (notices_of args.now result answer) job session.old }
-    ensures actions { session.old.notices + 1 < 2 ^ 64 → (answer : Answer) (job : Option Running) → actions_in room.new ≡ session_acts options.now (number_of args.now) args.now answer result job (Some session.old) }
-    ensures board { board.new ≡ board.old }
+    ensures actions { session.old.notices + 1 < 2 ^ 64 → (o : Options) (answer : Answer) (job : Option Running) → actions_in room.new ≡ session_acts o (number_of args.now) args.now answer result job (Some session.old) }
     ensures twice { twice_in room.new ≡ twice_in room.old }
 {
     let EventKind::Internal {

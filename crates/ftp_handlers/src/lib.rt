@@ -28,7 +28,6 @@ mod room;
 mod slot_tick;
 mod stops;
 mod telling;
-mod timed_out;
 pub mod transfer;
 mod user;
 
@@ -64,7 +63,7 @@ pub mod stou {
 pub use commands::command;
 pub use endings::ending;
 pub use filling::Prepared;
-pub use fixed::{copy_alone, copy_kept, fix_transfer};
+pub use fixed::{copy_alone, copy_kept, copy_user, fix_transfer};
 pub use idle_time::idle_tick;
 pub use leavers::Leavers;
 pub use room::{Extent, Need, Room};

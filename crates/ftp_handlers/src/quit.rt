@@ -11,9 +11,8 @@ ghost use Rattle.ftp_events.specs.Acts.{session_acts};
 ghost use Rattle.ftp_handlers.specs.Rooms.{HasPlaces, IsReady, actions_in, kept_in, twice_in};
 ghost use Rattle.ftp_handlers.specs.Handlers.{is_quit, number_of, kept_by, held_after};
 
-use crate::closed::leave;
+use crate::closed::say_goodbye;
 use crate::room::Room;
-use ftp_base::ReplyCode;
 use ftp_events::{Decision, EventKind, Session};
 use ftp_options::Options;
 use ftp_switchboard::Switchboard;
@@ -31,7 +30,6 @@ pub fn handle(
     args: &EventKind,
     board: &mut Switchboard,
     room: &mut Room,
-    at: u64,
     options: &Options,
 ) -> Decision
     requires of_this_event { IsTrue (is_quit args.now) }
@@ -47,8 +45,6 @@ pub fn handle(
     let EventKind::Quit { session: number } = args else {
         unreachable!()
     };
-    leave(session, *number, board, room);
-    room.reply(*number, ReplyCode::ClosingControlConnection, b"Bye!");
-    room.close(*number);
+    say_goodbye(session, *number, board, room, b"Bye!");
     Decision::Quit
 }

@@ -1,6 +1,7 @@
 //! USER (RFC 959, section 4.1.1).
 
 ghost use Rattle.std.specs.Prelude.{◌≡◌, IsTrue, Option, Some};
+ghost use Rattle.ftp_options.specs.declared.options.Options.{Options};
 ghost use Rattle.ftp_events.specs.declared.session.Running.{Running};
 ghost use Rattle.ftp_events.specs.declared.event.Answer.{Answer};
 ghost use Rattle.ftp_events.specs.LoginRows.{user_row};
@@ -12,26 +13,16 @@ ghost use Rattle.ftp_handlers.specs.Handlers.{is_user, goes_on, number_of, kept_
 use crate::room::Room;
 use ftp_base::ReplyCode;
 use ftp_events::{Decision, EventKind, Login, Session};
-use ftp_options::Options;
-use ftp_switchboard::Switchboard;
 
 /// Takes the name, unless a password is being checked or the user is logged in.
-pub(crate) fn handle(
-    session: &mut Session,
-    args: &EventKind,
-    board: &mut Switchboard,
-    room: &mut Room,
-    at: u64,
-    options: &Options,
-) -> Decision
+pub(crate) fn handle(session: &mut Session, args: &EventKind, room: &mut Room, at: u64) -> Decision
     requires of_this_event { IsTrue (is_user args.now) }
     requires room { IsReady room.old }
     requires kept { kept_in room.old ≡ kept_by args.now session.old }
     ensures goes_on { IsTrue (goes_on result) }
     ensures decision { result ≡ user_row session.old.login }
     ensures session { (answer : Answer) (job : Option Running) → session.new ≡ session_after at args.now answer result 0 job session.old }
-    ensures actions { (answer : Answer) (job : Option Running) → actions_in room.new ≡ session_acts options.now (number_of args.now) args.now answer result job (Some session.old) }
-    ensures board { board.new ≡ board.old }
+    ensures actions { (o : Options) (answer : Answer) (job : Option Running) → actions_in room.new ≡ session_acts o (number_of args.now) args.now answer result job (Some session.old) }
     ensures twice { twice_in room.new ≡ twice_in room.old }
 {
     let EventKind::User {

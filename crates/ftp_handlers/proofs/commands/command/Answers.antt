@@ -2,6 +2,7 @@ use Rattle.std.proofs.Common.{◌≡◌, sym, ap, ◌∙◌, ℕ, Option}
 use Rattle.ftp_events.specs.declared.decision.Decision.{Decision}
 use Rattle.ftp_events.specs.declared.event.Answer.{Answer}
 use Rattle.ftp_events.specs.declared.event.EventKind.{EventKind}
+use Rattle.ftp_events.specs.declared.event.EventKind.TheVariants.{SlotTick}
 use Rattle.ftp_events.specs.declared.session.Running.{Running}
 use Rattle.ftp_events.specs.declared.session.Session.{Session}
 use Rattle.ftp_events.specs.Session.{session_after}
@@ -38,4 +39,10 @@ returns-in-Abor-clause-session c few answer job =
 
 pub returns-in-SlotTick-clause-session : goal.returns-in-SlotTick-clause-session
 returns-in-SlotTick-clause-session c few answer job =
-    without_notice c.args.at c.args.args.now answer c.handle-in-SlotTick.result _ job c.args.session.now _ c.handle-in-SlotTick.ensures.decision (slot-silent c.args.args.now answer c.args.options.now c.args.at c.args.session.now) (c.handle-in-SlotTick.ensures.session answer job)
+    let k : EventKind = SlotTick c.in-SlotTick.number in
+    rw c.in-SlotTick.is
+    (without_notice c.args.at k answer c.handle-in-SlotTick.result _ job c.args.session.now _ c.handle-in-SlotTick.ensures.decision (slot-silent k answer c.args.options.now c.args.at c.args.session.now) (c.handle-in-SlotTick.ensures.session answer job))
+
+-- the answer to a password may notify
+pub returns-in-AuthDone-clause-session : goal.returns-in-AuthDone-clause-session
+returns-in-AuthDone-clause-session c few answer job = rw c.in-AuthDone.is (c.handle-in-AuthDone.ensures.session few answer job)
