@@ -40,7 +40,7 @@ use Rattle.ftp_laws.proofs.GrantLemmas.{granted-free}
 use Rattle.ftp_laws.proofs.LockoutLemmas.{same_key-equal}
 use Rattle.ftp_laws.proofs.LaneLemmas.{named-concern}
 use Rattle.ftp_laws.proofs.MannedLemmas.{IsOwn}
-use Rattle.ftp_laws.proofs.PortLemmas.{session-before}
+use Rattle.ftp_laws.proofs.PortLemmas.{each-session, session-before}
 use Rattle.ftp_laws.proofs.QuestionLemmas.{lane-opened, session-other, session-told, session_by}
 
 -- ---- the port
@@ -186,20 +186,13 @@ named-step o past e s v fit c known named = go e.decision refl
 
 -- in every right log a login that is past its first step has a name
 pub session-named : (o : Options) (log : List Entry) → IsRight o log → (s : ℕ) (v : Session) → session o (past_of log) s ≡ Some v → IsNamed v
-session-named o log r =
-    right-past o (λ past. (s : ℕ) (v : Session) → session o past s ≡ Some v → IsNamed v) (λ s v known. let z : None ≡ Some v = known in cc)
-    (λ log e comes ih s v known.
-    let past : List Entry = past_of log in
-    by_part o past e s
-    (λ n.
-    let told = (session-told o (e ∷ past) s v known).told in
-    let start : v.login ≡ login.New = sym (ap (λ (w : Session). w.login) told) ∙ login-opened past e s n in
-    λ h. absurd (h start))
-    (λ n c.
-    let after = session-before o past e s v comes.fit n c known in
-    subst IsNamed after.after (named-step o past e s after.before comes.fit c after.known (ih s after.before after.known)))
-    (λ n c. ih s v (sym (session-other o past e s n c) ∙ known))) log r
+session-named o = each-session o IsNamed new (named-step o)
   where
+    new : (past : List Entry) (e : Entry) (s : ℕ) (v : Session) → opens e s ≡ true → session o (e ∷ past) s ≡ Some v → IsNamed v
+    new past e s v n known h =
+        let told = (session-told o (e ∷ past) s v known).told in
+        absurd (h (sym (ap (λ (w : Session). w.login) told) ∙ login-opened past e s n))
+
     login-opened : (past : List Entry) (e : Entry) (s : ℕ) → opens e s ≡ true → login_state (history o (e ∷ past) s) ≡ login.New
     login-opened past e s n =
         let start : history o (e ∷ past) s ≡ e ∷ [] = rw n refl in

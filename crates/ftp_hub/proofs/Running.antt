@@ -1,7 +1,6 @@
 -- How the jobs that run change with an entry.
 use Rattle.std.proofs.Common.{◌≡◌, refl, ap, ◌∙◌, ℕ, ◌+◌, ◌-◌, Bool, false, cond, List, [], ◌∷◌, ◌++◌, Option, Some, None, arith}
-use Rattle.std.specs.Prelude.{◌==◌, count_by, flat_map, is_some}
-use Rattle.std.proofs.lemmas.List.Sums.{sum_by-cons}
+use Rattle.std.specs.Prelude.{count_by, flat_map, is_some}
 use Rattle.ftp_hub.proofs.Common.{Action, Answer, Decision, EventKind, Options, Pending, Running, Session, Ticket, running_after, session_acts, starting, stopped}
 use Rattle.ftp_events.specs.declared.action.Action.TheVariants as action
 use Rattle.ftp_events.specs.declared.decision.Decision.TheVariants as decision
@@ -10,58 +9,36 @@ use Rattle.ftp_events.specs.Words.{total}
 use Rattle.ftp_events.specs.Slot.{Lane, started_by}
 use Rattle.ftp_laws.proofs.CountLemmas.{IsOnTransfers, count-completions, count-drop_acts, count-session_acts}
 use Rattle.ftp_laws.proofs.BalanceLemmas.{is_finished, no-completion}
+use Rattle.ftp_laws.proofs.CensusLemmas.{completed-on-transfers, ends-counted, is_completed, is_start, start-on-starts, starts-counted}
 use Rattle.ftp_events.specs.Acts.{completions, start_acts, stays}
 use Rattle.ftp_events.specs.Running.{ended, started}
 
--- a count in which an action is one or nothing, and only what becomes of transfers is one, but no cancellation
-record TellsJobs (f : Action → ℕ) : Type 0 where
-  once : (x : Action) → cond (f x == 1) 1 0 ≡ f x
-  transfers : (s : ℕ) → IsOnTransfers s (λ x. f x == 1)
-  drops : (t : Ticket) → (f (action.Cancelled t) == 1) ≡ false
+-- a count is of the actions that pass a test, and only what becomes of transfers does, but no cancellation
+record TellsJobs (f : Action → ℕ) (p : Action → Bool) : Type 0 where
+  counted : (xs : List Action) → total f xs ≡ count_by p xs
+  transfers : (s : ℕ) → IsOnTransfers s p
+  drops : (t : Ticket) → p (action.Cancelled t) ≡ false
 
 -- the ends of jobs are counted so
-ended-tells : TellsJobs ended
-ended-tells =
-    record {
-      once = ended-once;
-      transfers = λ s. record { closes = λ n. refl; notifies = λ meta what. refl; replies = λ delay r. refl };
-      drops = λ t. refl;
-    }
-  where
-    ended-once : (x : Action) → cond (ended x == 1) 1 0 ≡ ended x
-    ended-once (action.Completed t delivered) = refl
-    ended-once _ = refl
+ended-tells : TellsJobs ended is_completed
+ended-tells = record { counted = ends-counted; transfers = completed-on-transfers; drops = λ t. refl }
 
 -- and so are their starts
-started-tells : TellsJobs started
-started-tells =
-    record {
-      once = started-once;
-      transfers = λ s. record { closes = λ n. refl; notifies = λ meta what. refl; replies = λ delay r. refl };
-      drops = λ t. refl;
-    }
-  where
-    started-once : (x : Action) → cond (started x == 1) 1 0 ≡ started x
-    started-once (action.Start t number) = refl
-    started-once _ = refl
-
--- the sum of such a count is how many actions are one
-total-counted : (f : Action → ℕ) → TellsJobs f → (xs : List Action) → total f xs ≡ count_by (λ x. f x == 1) xs
-total-counted f t [] = refl
-total-counted f t (x ∷ xs) = omega (arith, total-counted f t xs, t.once x, sum_by-cons (λ y. cond (f y == 1) 1 0) x xs)
+started-tells : TellsJobs started is_start
+started-tells = record { counted = starts-counted; transfers = start-on-starts.plain; drops = start-on-starts.cancelled }
 
 -- of a session's actions only the end and the start of a job count
 total-acts :
-    (f : Action → ℕ) (o : Options) (s : ℕ) (k : EventKind) (answer : Answer) (d : Decision) (job : Option Running) (v : Session) → TellsJobs f →
+    (f : Action → ℕ) {p : Action → Bool} (o : Options) (s : ℕ) (k : EventKind) (answer : Answer) (d : Decision) (job : Option Running) (v : Session) → TellsJobs f p →
     total f (session_acts o s k answer d job (Some v)) ≡ total f (completions s k d (stays d (Some v)) job) + total f (start_acts (starting k d job v))
-total-acts f o s k answer d job v t =
+total-acts f {p} o s k answer d job v t =
     omega (
       arith,
-      total-counted f t (session_acts o s k answer d job (Some v)),
-      total-counted f t (completions s k d (stays d (Some v)) job),
-      total-counted f t (start_acts (starting k d job v)),
-      count-session_acts (λ x. f x == 1) o s k answer d job (Some v) (t.transfers s),
-      count-drop_acts (λ x. f x == 1) s (stays d (Some v)) d v.slot v.pending (t.transfers s) t.drops,
+      t.counted (session_acts o s k answer d job (Some v)),
+      t.counted (completions s k d (stays d (Some v)) job),
+      t.counted (start_acts (starting k d job v)),
+      count-session_acts p o s k answer d job (Some v) (t.transfers s),
+      count-drop_acts p s (stays d (Some v)) d v.slot v.pending (t.transfers s) t.drops,
     )
 
 -- with a session's actions the job ends that completes or is cut, and the one starts that starts
@@ -83,8 +60,8 @@ running-acts o s k answer d job v n =
 
     none_starts : (b : Bool) → total started (completions s k d b job) ≡ 0
     none_starts b =
-        total-counted started started-tells (completions s k d b job)
-        ∙ count-completions (λ x. started x == 1) s k d b job (started-tells.transfers s) (λ t x. refl) (λ r x y. refl)
+        started-tells.counted (completions s k d b job)
+        ∙ count-completions is_start s k d b job (started-tells.transfers s) (λ t x. refl) (λ r x y. refl)
 
 -- a decision with which no job ends or starts
 pub record IsIdle (d : Decision) : Type 0 where
@@ -120,7 +97,7 @@ total-append f (x ∷ xs) ys = omega (arith, total-append f xs ys)
 
 -- with a stop no job of any session ends or starts
 stop-quiet :
-    (f : Action → ℕ) (o : Options) (s : ℕ) (answer : Answer) (job : Option Running) (v : Option Session) → TellsJobs f → f (action.Close s) ≡ 0 →
+    (f : Action → ℕ) {p : Action → Bool} (o : Options) (s : ℕ) (answer : Answer) (job : Option Running) (v : Option Session) → TellsJobs f p → f (action.Close s) ≡ 0 →
     total f (session_acts o s kind.Shutdown answer decision.Stopped job v) ≡ 0
 stop-quiet f o s answer job None t closes = omega (arith, closes)
 stop-quiet f o s answer job (Some v) t closes = total-acts f o s kind.Shutdown answer decision.Stopped job v t
@@ -132,7 +109,7 @@ pub running-stopped :
 running-stopped o answer jobs live numbers n = omega (arith, none ended ended-tells (λ s. refl) numbers, none started started-tells (λ s. refl) numbers)
   where
     none :
-        (f : Action → ℕ) → TellsJobs f → ((s : ℕ) → f (action.Close s) ≡ 0) → (numbers : List ℕ) →
+        (f : Action → ℕ) {p : Action → Bool} → TellsJobs f p → ((s : ℕ) → f (action.Close s) ≡ 0) → (numbers : List ℕ) →
         total f (flat_map (λ s. session_acts o s kind.Shutdown answer decision.Stopped (jobs s) (live s)) numbers) ≡ 0
     none f t closes [] = refl
     none f t closes (s ∷ numbers) =

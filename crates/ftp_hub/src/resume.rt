@@ -4,7 +4,6 @@ ghost use Rattle.std.specs.Prelude.{◌≡◌, ℕ, ◌+◌, ◌==◌, ◌↔◌
 ghost use Rattle.std.specs.Option.{option_map};
 ghost use Rattle.std.specs.HashMap as map;
 ghost use Rattle.ftp_events.specs.Counts.{CountsFrom};
-ghost use Rattle.ftp_events.specs.Login.{logged_user};
 ghost use Rattle.ftp_laws.specs.Census.{IsAscending};
 ghost use Rattle.ftp_options.specs.Modes.{is_legacy};
 ghost use Rattle.ftp_switchboard.specs.Board.{holder_at};
@@ -21,8 +20,8 @@ use crate::state::{
     HubState, JobLine, LoginState, QueuedLine, SessionLine, SlotKind, SlotLine, StateError,
 };
 use crate::tables::{put, take};
-use ftp_base::Bytes;
 use ftp_events::{Counters, Login, Opening, Pending, Running, Session, Slot};
+use ftp_handlers::copy_user;
 use ftp_options::Options;
 use ftp_switchboard::{Numbers, Switchboard};
 use ftp_transfer::Ticket;
@@ -147,21 +146,11 @@ fn waiting(alloc: Global, line: QueuedLine, session: &Session) -> Result<Pending
             session: line.session,
             nr: line.nr,
         },
-        user: user_of(alloc, session)?,
+        user: copy_user(alloc, session)?,
         command: line.command,
         path: line.path,
         offset: line.offset,
     })
-}
-
-// Who is logged in.
-fn user_of(alloc: Global, session: &Session) -> Result<Bytes, AllocError>
-    ensures { IfOk result (λ user. user ≡ logged_user session.now.login session.now.name) }
-{
-    match (session.login, &session.name) {
-        (Login::LoggedIn, Some(name)) => name.copy(alloc),
-        _ => Bytes::from_slice(alloc, b"unknown"),
-    }
 }
 
 // Puts the transfer of a line into the slot of its session.

@@ -255,7 +255,6 @@ impl Hub {
             &event.kind,
             &mut self.board,
             room,
-            event.at,
             &self.options,
         )
     }

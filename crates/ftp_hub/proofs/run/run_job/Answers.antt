@@ -21,10 +21,8 @@ returns-in-Some-clause-ran g c linked =
       links = subst (λ lent. OnSome lent (c.get_mut.follows.lender after ≡ map.insert c.args.links.now c.args.job.number after)) c.in-Some.is (c.get_mut.follows.holds after);
       ran = c.execute.ensures.ran;
       complete = c.execute.ensures.complete;
-      storage_count = c.execute.ensures.storage_counts.count;
-      link_count = c.execute.ensures.link_counts.count;
-      storage_limit = c.execute.ensures.storage_counts.limit;
-      link_limit = c.execute.ensures.link_counts.limit;
+      storage_counts = c.execute.ensures.storage_counts;
+      link_counts = c.execute.ensures.link_counts;
     }
 
 -- every number that had a link has one

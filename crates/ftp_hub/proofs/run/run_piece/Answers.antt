@@ -21,10 +21,8 @@ returns-in-More-clause-ran g c linked =
       there = sym c.get_mut.ensures.value ∙ ap option_copied_mut c.in-Some.is;
       links = subst (λ lent. OnSome lent (c.get_mut.follows.lender after ≡ map.insert c.args.links.now c.args.job.number after)) c.in-Some.is (c.get_mut.follows.holds after);
       went = went;
-      storage_count = c.execute_piece.ensures.storage_counts.count;
-      link_count = c.execute_piece.ensures.link_counts.count;
-      storage_limit = c.execute_piece.ensures.storage_counts.limit;
-      link_limit = c.execute_piece.ensures.link_counts.limit;
+      storage_counts = c.execute_piece.ensures.storage_counts;
+      link_counts = c.execute_piece.ensures.link_counts;
     })
 
 -- its last piece ended it
@@ -42,10 +40,8 @@ returns-clause-ran g c linked =
       links = subst (λ lent. OnSome lent (c.get_mut.follows.lender after ≡ map.insert c.args.links.now c.args.job.number after)) c.in-Some.is (c.get_mut.follows.holds after);
       ran = ran;
       complete = c.in-Ended.ensures.complete;
-      storage_count = c.execute_piece.ensures.storage_counts.count;
-      link_count = c.execute_piece.ensures.link_counts.count;
-      storage_limit = c.execute_piece.ensures.storage_counts.limit;
-      link_limit = c.execute_piece.ensures.link_counts.limit;
+      storage_counts = c.execute_piece.ensures.storage_counts;
+      link_counts = c.execute_piece.ensures.link_counts;
     })
 
 -- every number that had a link has one
