@@ -47,27 +47,19 @@ pub fn deliver(
     let number = job.ticket.session;
     session.active_at = at;
     room.complete(job.ticket, true);
+    let path = job.path;
+    let bytes = outcome.bytes;
     match outcome.result {
         Completion::Sent => {
-            let what = DataEvent::Got {
-                path: job.path,
-                bytes: outcome.bytes,
-            };
-            let copy = DataEvent::Got {
-                path: room.take_path(),
-                bytes: outcome.bytes,
-            };
+            let what = DataEvent::Got { path, bytes };
+            let path = room.take_path();
+            let copy = DataEvent::Got { path, bytes };
             moved(session, number, what, copy, wording::SENT, room);
         }
         Completion::Written => {
-            let what = DataEvent::Put {
-                path: job.path,
-                bytes: outcome.bytes,
-            };
-            let copy = DataEvent::Put {
-                path: room.take_path(),
-                bytes: outcome.bytes,
-            };
+            let what = DataEvent::Put { path, bytes };
+            let path = room.take_path();
+            let copy = DataEvent::Put { path, bytes };
             moved(session, number, what, copy, wording::WRITTEN, room);
         }
         Completion::Listed => {
