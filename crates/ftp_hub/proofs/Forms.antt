@@ -188,15 +188,15 @@ named-step o past e s v fit c known named = go e.decision refl
 pub session-named : (o : Options) (log : List Entry) → IsRight o log → (s : ℕ) (v : Session) → session o (past_of log) s ≡ Some v → IsNamed v
 session-named o = each-session o IsNamed new (named-step o)
   where
-    new : (past : List Entry) (e : Entry) (s : ℕ) (v : Session) → opens e s ≡ true → session o (e ∷ past) s ≡ Some v → IsNamed v
-    new past e s v n known h =
-        let told = (session-told o (e ∷ past) s v known).told in
-        absurd (h (sym (ap (λ (w : Session). w.login) told) ∙ login-opened past e s n))
-
     login-opened : (past : List Entry) (e : Entry) (s : ℕ) → opens e s ≡ true → login_state (history o (e ∷ past) s) ≡ login.New
     login-opened past e s n =
         let start : history o (e ∷ past) s ≡ e ∷ [] = rw n refl in
         ap login_state start ∙ ap (λ (d : Decision). unwrap_or (login_by d) login.New) (opened-is e.event.kind e.decision s n)
+
+    new : (past : List Entry) (e : Entry) (s : ℕ) (v : Session) → opens e s ≡ true → session o (e ∷ past) s ≡ Some v → IsNamed v
+    new past e s v n known h =
+        let told = (session-told o (e ∷ past) s v known).told in
+        absurd (h (sym (ap (λ (w : Session). w.login) told) ∙ login-opened past e s n))
 
 -- ---- the addresses
 
