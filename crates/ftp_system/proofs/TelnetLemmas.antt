@@ -1,5 +1,5 @@
 -- The text of bytes, byte by byte.
-use Rattle.std.proofs.Common.{◌≡◌, ◌≢◌, ◌≤◌, ◌<◌, ◌+◌, ◌++◌, ◌∷◌, [], suc, ℕ, List, Bool, true, false, length, get_or, take, drop, set, if◌then◌else◌, refl, sym, ap, ap₂, ◌∙◌, arith, append_assoc, drop-cons, append-nil}
+use Rattle.std.proofs.Common.{◌≡◌, ◌≢◌, ◌≤◌, ◌<◌, ◌+◌, ◌++◌, ◌∷◌, [], suc, ℕ, List, Bool, true, false, length, get_or, take, drop, set, if◌then◌else◌, refl, sym, ap, ap₂, subst, ◌∙◌, arith, append_assoc, drop-cons, append-nil}
 use Rattle.std.proofs.Math.Seq.{take-suc-set}
 use Rattle.std.proofs.lemmas.List.{drop-set-lt, drop_all}
 use Rattle.ftp_system.specs.declared.telnet.Telnet.{Telnet}
@@ -10,6 +10,20 @@ abbrev pub Steps : Telnet → ℕ → Telnet → Bool → Type 0
 Steps at byte next is_text =
     (bytes : List ℕ) → text_in at (byte ∷ bytes) ≡ (if is_text then byte ∷ text_in next bytes else text_in next bytes)
 
+-- what stands from a byte on
+step-one : (at next : Telnet) (is_text : Bool) (bytes : List ℕ) (i : ℕ) →
+    i < length bytes →
+    Steps at (get_or bytes i 0) next is_text →
+    (more : List ℕ) →
+    text_in at (drop i bytes ++ more)
+    ≡ (if is_text then get_or bytes i 0 ∷ text_in next (drop (i + 1) bytes ++ more) else text_in next (drop (i + 1) bytes ++ more))
+step-one at next is_text bytes i within steps more =
+    let next_place : suc i ≡ i + 1 = omega arith in
+    let byte : ℕ = get_or bytes i 0 in
+    ap (λ l. text_in at (l ++ more)) (drop-cons bytes i 0 within)
+    ∙ steps (drop (suc i) bytes ++ more)
+    ∙ ap (λ (n : ℕ). if is_text then byte ∷ text_in next (drop n bytes ++ more) else text_in next (drop n bytes ++ more)) next_place
+
 -- a byte that is no text is passed over
 pub step-passed : (at next : Telnet) (is_text : Bool) (bytes : List ℕ) (i : ℕ) →
     i < length bytes →
@@ -17,13 +31,8 @@ pub step-passed : (at next : Telnet) (is_text : Bool) (bytes : List ℕ) (i : �
     Steps at (get_or bytes i 0) next is_text →
     (more : List ℕ) →
     text_in at (drop i bytes ++ more) ≡ text_in next (drop (i + 1) bytes ++ more)
-step-passed at next is_text bytes i within passed steps more =
-    let next_place : suc i ≡ i + 1 = omega arith in
-    let byte : ℕ = get_or bytes i 0 in
-    ap (λ l. text_in at (l ++ more)) (drop-cons bytes i 0 within)
-    ∙ steps (drop (suc i) bytes ++ more)
-    ∙ ap (λ (b : Bool). if b then byte ∷ text_in next (drop (suc i) bytes ++ more) else text_in next (drop (suc i) bytes ++ more)) passed
-    ∙ ap (λ (n : ℕ). text_in next (drop n bytes ++ more)) next_place
+step-passed at next is_text bytes i within passed steps =
+    step-one at next false bytes i within (subst (Steps at (get_or bytes i 0) next) passed steps)
 
 -- a byte of text is what the text begins with
 pub step-first : (at next : Telnet) (is_text : Bool) (bytes : List ℕ) (i : ℕ) →
@@ -32,13 +41,8 @@ pub step-first : (at next : Telnet) (is_text : Bool) (bytes : List ℕ) (i : ℕ
     Steps at (get_or bytes i 0) next is_text →
     (more : List ℕ) →
     text_in at (drop i bytes ++ more) ≡ get_or bytes i 0 ∷ text_in next (drop (i + 1) bytes ++ more)
-step-first at next is_text bytes i within kept steps more =
-    let next_place : suc i ≡ i + 1 = omega arith in
-    let byte : ℕ = get_or bytes i 0 in
-    ap (λ l. text_in at (l ++ more)) (drop-cons bytes i 0 within)
-    ∙ steps (drop (suc i) bytes ++ more)
-    ∙ ap (λ (b : Bool). if b then byte ∷ text_in next (drop (suc i) bytes ++ more) else text_in next (drop (suc i) bytes ++ more)) kept
-    ∙ ap (λ (n : ℕ). byte ∷ text_in next (drop n bytes ++ more)) next_place
+step-first at next is_text bytes i within kept steps =
+    step-one at next true bytes i within (subst (Steps at (get_or bytes i 0) next) kept steps)
 
 -- a byte of text is kept behind the others
 pub step-kept : (at next : Telnet) (is_text : Bool) (bytes now : List ℕ) (kept count i : ℕ) →

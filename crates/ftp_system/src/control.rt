@@ -4,9 +4,7 @@ ghost use Rattle.std.specs.Prelude.{◌≡◌, ◌++◌, ℕ, List};
 ghost use Rattle.ftp_system.specs.Telnet.{text_in};
 
 use crate::faults::{Faults, link_fault};
-use crate::stream::{
-    STREAM, Seen, WAKER, is_text_next, linger, read_text, wait_ready, write_patiently,
-};
+use crate::stream::{STREAM, Seen, WAKER, Watch, is_text_next};
 use crate::telnet::Telnet;
 use ftp_base::{Control, Failed, Link, LinkFault, Source};
 use mio::net::TcpStream;
@@ -25,9 +23,7 @@ use std::sync::Arc;
 pub struct SocketControl {
     stream: Arc<TcpStream, Global>,
     waker: Arc<Waker, Global>,
-    poll: Poll,
-    events: Events,
-    seen: Seen,
+    watch: Watch,
     telnet: Telnet,
     patience: u64,
     limit: u64,
@@ -82,16 +78,10 @@ impl SocketControl {
         Ok(SocketControl {
             stream: Arc::new(alloc, stream)?,
             waker: Arc::new(alloc, waker)?,
-            poll,
-            events: Events::with_capacity(alloc, 2)?,
-            seen: Seen {
-                readable: false,
-                unsure: false,
-                urgent: false,
-                priority: false,
-                behind_cr: false,
-                ended: false,
-                woken: false,
+            watch: Watch {
+                poll,
+                events: Events::with_capacity(alloc, 2)?,
+                seen: Seen::NOTHING,
             },
             telnet: Telnet::Open,
             patience,
@@ -135,15 +125,9 @@ impl Source for SocketControl {
     ghost is_link = { true };
 
     fn read(&mut self, out: &mut [u8]) -> Result<usize, Failed> {
-        let read = read_text(
-            &self.stream,
-            &mut self.poll,
-            &mut self.events,
-            &mut self.seen,
-            &mut self.telnet,
-            self.limit,
-            out,
-        );
+        let read = self
+            .watch
+            .read_text(&self.stream, &mut self.telnet, self.limit, out);
         match read {
             Ok(n) => Ok(n),
             Err(e) => Err(self.faults.meet(link_fault(e.kind()))),
@@ -159,14 +143,7 @@ impl Link for SocketControl {
     ghost connects = { refl };
 
     fn write(&mut self, bytes: &[u8]) -> Result<usize, Failed> {
-        let written = write_patiently(
-            &self.stream,
-            &mut self.poll,
-            &mut self.events,
-            &mut self.seen,
-            self.limit,
-            bytes,
-        );
+        let written = self.watch.write_patiently(&self.stream, self.limit, bytes);
         match written {
             Ok(n) if n > 0 || bytes.is_empty() => Ok(n),
             Ok(_) => Err(self.faults.meet(LinkFault::Other)),
@@ -179,14 +156,9 @@ impl Link for SocketControl {
     }
 
     fn close(&mut self) -> Result<(), Failed> {
-        let is_lost = self.seen.ended || self.faults.last.is_some();
+        let is_lost = self.watch.seen.ended || self.faults.last.is_some();
         if !is_lost && self.stream.shutdown(Shutdown::Write).is_ok() {
-            linger(
-                &self.stream,
-                &mut self.poll,
-                &mut self.events,
-                &mut self.seen,
-            );
+            self.watch.linger(&self.stream);
         }
         match self.stream.shutdown(Shutdown::Both) {
             // Where none is connected both sides had ended.
@@ -205,15 +177,11 @@ impl Link for SocketControl {
 
 impl Control for SocketControl {
     fn ready(&mut self, millis: u64) -> Result<bool, Failed> {
-        let mut waited = wait_ready(
-            &self.stream,
-            &mut self.poll,
-            &mut self.events,
-            &mut self.seen,
-            millis.max(self.patience),
-        );
+        let mut waited = self
+            .watch
+            .wait_ready(&self.stream, millis.max(self.patience));
         if let Ok(true) = waited {
-            waited = is_text_next(&self.stream, &mut self.seen, &mut self.telnet);
+            waited = is_text_next(&self.stream, &mut self.watch.seen, &mut self.telnet);
         }
         match waited {
             Ok(is_ready) => Ok(is_ready),

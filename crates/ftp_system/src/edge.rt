@@ -4,7 +4,7 @@ ghost use Rattle.std.specs.Prelude.{◌≡◌, ◌≤◌, IfSome};
 ghost use Rattle.ftp_system.specs.Edge.{system_meaning};
 
 use crate::address::std_address;
-use crate::waiting::wait_for;
+use crate::waiting::Waiting;
 use ftp_base::{Bytes, Edge, SocketAddr};
 use mio::Interest;
 use mio::net::{TcpListener, TcpStream};
@@ -121,15 +121,7 @@ fn bound_between<R: Net + RandomSource>(
 // A connection to the address, which is made within the limit.
 fn connected<N: Net>(net: &N, alloc: Global, to: SocketAddr, limit: u64) -> io::Result<TcpStream> {
     let mut stream = TcpStream::connect(net, std_address(to))?;
-    let mut waiting = None;
-    wait_for(
-        net,
-        alloc,
-        &mut stream,
-        &mut waiting,
-        Interest::WRITABLE,
-        limit,
-    )?;
+    Waiting::new(net, alloc, &mut stream, Interest::WRITABLE)?.wait(limit)?;
     match stream.take_error()? {
         Some(e) => Err(e),
         None => Ok(stream),

@@ -3,7 +3,7 @@
 ghost use Rattle.std.specs.Io.{ReadsAtMost, WritesAtMost};
 
 use crate::faults::{Faults, link_fault};
-use crate::waiting::{Waiting, wait_for};
+use crate::waiting::Waits;
 use ftp_base::{Failed, Link, LinkFault, Source};
 use mio::Interest;
 use mio::net::TcpStream;
@@ -20,11 +20,8 @@ pub const LIMIT: u64 = 60_000;
 /// A wait beyond the limit is the fault `Other`.
 #[derive(Drop)]
 pub struct SocketLink<N: Net + Drop> {
-    net: N,
-    alloc: Global,
     stream: TcpStream,
-    waiting: Option<Waiting>,
-    limit: u64,
+    waits: Waits<N>,
     faults: Faults,
     closed: bool,
 }
@@ -33,11 +30,8 @@ impl<N: Net + Drop> SocketLink<N> {
     /// A stream that does not block. No call waits longer than `limit`, in milliseconds.
     pub fn new(net: N, alloc: Global, stream: TcpStream, limit: u64) -> SocketLink<N> {
         SocketLink {
-            net,
-            alloc,
             stream,
-            waiting: None,
-            limit,
+            waits: Waits::new(net, alloc, limit),
             faults: Faults::NONE,
             closed: false,
         }
@@ -46,11 +40,8 @@ impl<N: Net + Drop> SocketLink<N> {
     /// The stream, which does not block.
     pub fn into_stream(self) -> TcpStream {
         let SocketLink {
-            net: _,
-            alloc: _,
             stream,
-            waiting: _,
-            limit: _,
+            waits: _,
             faults: _,
             closed: _,
         } = self;
@@ -59,12 +50,9 @@ impl<N: Net + Drop> SocketLink<N> {
 }
 
 // Reads, and waits where there is nothing yet.
-fn read_patiently<N: Net>(
-    net: &N,
-    alloc: Global,
+fn read_patiently<N: Net + Drop>(
     stream: &mut TcpStream,
-    waiting: &mut Option<Waiting>,
-    limit: u64,
+    waits: &mut Waits<N>,
     out: &mut [u8],
 ) -> io::Result<usize>
     ensures within { ReadsAtMost result out.new }
@@ -77,7 +65,7 @@ fn read_patiently<N: Net>(
             Ok(n) => return Ok(n),
             Err(e) if e.kind() == ErrorKind::Interrupted => {}
             Err(e) if e.kind() == ErrorKind::WouldBlock => {
-                wait_for(net, alloc, stream, waiting, Interest::READABLE, limit)?
+                waits.wait_for(stream, Interest::READABLE)?
             }
             Err(e) => return Err(e),
         }
@@ -86,12 +74,9 @@ fn read_patiently<N: Net>(
 }
 
 // Writes some bytes, and waits where there is no room yet.
-fn write_patiently<N: Net>(
-    net: &N,
-    alloc: Global,
+fn write_patiently<N: Net + Drop>(
     stream: &mut TcpStream,
-    waiting: &mut Option<Waiting>,
-    limit: u64,
+    waits: &mut Waits<N>,
     bytes: &[u8],
 ) -> io::Result<usize>
     ensures within { WritesAtMost result bytes.now }
@@ -101,7 +86,7 @@ fn write_patiently<N: Net>(
             Ok(n) => return Ok(n),
             Err(e) if e.kind() == ErrorKind::Interrupted => {}
             Err(e) if e.kind() == ErrorKind::WouldBlock => {
-                wait_for(net, alloc, stream, waiting, Interest::WRITABLE, limit)?
+                waits.wait_for(stream, Interest::WRITABLE)?
             }
             Err(e) => return Err(e),
         }
@@ -121,14 +106,7 @@ impl<N: Net + Drop> Source for SocketLink<N> {
     ghost is_link = { true };
 
     fn read(&mut self, out: &mut [u8]) -> Result<usize, Failed> {
-        let read = read_patiently(
-            &self.net,
-            self.alloc,
-            &mut self.stream,
-            &mut self.waiting,
-            self.limit,
-            out,
-        );
+        let read = read_patiently(&mut self.stream, &mut self.waits, out);
         match read {
             Ok(n) => Ok(n),
             Err(e) => Err(self.faults.meet(link_fault(e.kind()))),
@@ -144,14 +122,7 @@ impl<N: Net + Drop> Link for SocketLink<N> {
     ghost connects = { refl };
 
     fn write(&mut self, bytes: &[u8]) -> Result<usize, Failed> {
-        let written = write_patiently(
-            &self.net,
-            self.alloc,
-            &mut self.stream,
-            &mut self.waiting,
-            self.limit,
-            bytes,
-        );
+        let written = write_patiently(&mut self.stream, &mut self.waits, bytes);
         match written {
             Ok(n) if n > 0 || bytes.is_empty() => Ok(n),
             Ok(_) => Err(self.faults.meet(LinkFault::Other)),

@@ -130,30 +130,6 @@ impl<R: Wait + Drop, S: Storage + Drop> SharedStorage<R, S> {
         Ok(is_free)
     }
 
-    // Reads under the lock, which a file that the storage lends needs no more afterwards.
-    fn read_locked(
-        &mut self,
-        user: &Bytes,
-        path: &Bytes,
-        at: u64,
-        out: &mut [u8],
-    ) -> Result<usize, StoreError>
-        ensures within { IfOk result (λ n. n ≤ length out.new) }
-        ensures in_range { IfOk result (λ n. at + n < 2 ^ 64) }
-        ensures takes_memory { IsErrOf result StoreError.OutOfMemory → S.reads_take_memory ≡ true }
-        ensures features { self.new.features ≡ self.old.features }
-        ensures faults { self.new.faults ≡ self.old.faults }
-    {
-        let mut files = self.files.lock(&self.rt);
-        let Some(bytes) = files.lend(user, path) else {
-            return files.read_at(user, path, at, out);
-        };
-        drop(files);
-        let n = bytes.read_at(at, out);
-        self.loan = Loan::new(self.alloc, user, path, bytes).ok();
-        Ok(n)
-    }
-
     // The upload that began last is over.
     fn end_upload(&mut self)
         ensures features { self.new.features ≡ self.old.features }
@@ -204,8 +180,16 @@ impl<R: Wait + Drop, S: Storage + Drop> Storage for SharedStorage<R, S> {
                 return Ok(loan.bytes.read_at(at, out));
             }
         }
-        let read = self.read_locked(user, path, at, out);
-        count_failed(&mut self.faults, read)
+        // A file that the storage lends needs the lock no more afterwards.
+        let mut files = self.files.lock(&self.rt);
+        let Some(bytes) = files.lend(user, path) else {
+            let read = files.read_at(user, path, at, out);
+            return count_failed(&mut self.faults, read);
+        };
+        drop(files);
+        let n = bytes.read_at(at, out);
+        self.loan = Loan::new(self.alloc, user, path, bytes).ok();
+        Ok(n)
     }
 
     fn begin(&mut self, user: &Bytes, path: &Bytes, start: u64) -> Result<(), StoreError> {

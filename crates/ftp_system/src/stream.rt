@@ -3,7 +3,7 @@
 ghost use Rattle.std.specs.Io.{ReadsAtMost, WritesAtMost};
 
 use crate::telnet::Telnet;
-use crate::waiting::SLICE;
+use crate::waiting::wait_slice;
 use mio::net::TcpStream;
 use mio::unix::SourceFd;
 use mio::{Events, Interest, Poll, Token};
@@ -48,6 +48,17 @@ pub(crate) struct Seen {
 }
 
 impl Seen {
+    // No wait has told anything.
+    pub(crate) const NOTHING: Seen = Seen {
+        readable: false,
+        unsure: false,
+        urgent: false,
+        priority: false,
+        behind_cr: false,
+        ended: false,
+        woken: false,
+    };
+
     // Takes note of what was read.
     fn take(&mut self, bytes: &[u8]) {
         self.behind_cr = bytes.last() == Some(&b'\r');
@@ -60,6 +71,14 @@ impl Seen {
     fn hides_lf(&self) -> bool {
         self.behind_cr && self.priority
     }
+}
+
+/// The `Poll` of a stream, and what its waits have told.
+#[derive(Drop)]
+pub(crate) struct Watch {
+    pub(crate) poll: Poll,
+    pub(crate) events: Events,
+    pub(crate) seen: Seen,
 }
 
 // Takes note of the last wait, and says whether the stream may be written.
@@ -90,119 +109,149 @@ fn reading(seen: &Seen) -> Interest {
     }
 }
 
-// From now on waits for the stream in this direction. What it can do already is told again.
-fn turn(stream: &TcpStream, poll: &Poll, interest: Interest) -> io::Result<()> {
-    let descriptor = stream.as_raw_fd();
-    poll.registry()
-        .reregister(&mut SourceFd(&descriptor), STREAM, interest)
-}
+impl Watch {
+    // From now on waits for the stream in this direction. What it can do already is told again.
+    fn turn(&self, stream: &TcpStream, interest: Interest) -> io::Result<()> {
+        let descriptor = stream.as_raw_fd();
+        self.poll
+            .registry()
+            .reregister(&mut SourceFd(&descriptor), STREAM, interest)
+    }
 
-// Waits until the stream may be read, or where that is asked for be written, so many milliseconds at most.
-fn wait(
-    poll: &mut Poll,
-    events: &mut Events,
-    seen: &mut Seen,
-    to_write: bool,
-    limit: u64,
-) -> io::Result<()> {
-    let mut left = limit;
-    for _ in 0..u64::MAX {
-        if left == 0 {
-            break;
-        }
-        let slice = left.min(SLICE);
-        poll.poll(events, Some(Duration::from_millis(slice)))?;
-        let writable = note(events, seen);
-        if (to_write && writable) || (!to_write && seen.readable) {
-            return Ok(());
-        }
-        left -= slice;
-    }
-    Err(io::Error::from(ErrorKind::TimedOut))
-}
-
-// Waits for bytes, the end, a wake or the time, and says whether there is something to read.
-pub(crate) fn wait_ready(
-    stream: &TcpStream,
-    poll: &mut Poll,
-    events: &mut Events,
-    seen: &mut Seen,
-    millis: u64,
-) -> io::Result<bool> {
-    if seen.readable {
-        return Ok(true);
-    }
-    if seen.unsure {
-        turn(stream, poll, reading(seen))?;
-        seen.unsure = false;
-    }
-    let millis = if seen.woken { 0 } else { millis };
-    poll.poll(events, Some(Duration::from_millis(millis)))?;
-    note(events, seen);
-    // Where there is something to read, the wake is left for a later call to tell.
-    seen.woken = seen.woken && seen.readable;
-    Ok(seen.readable)
-}
-
-// Reads, and waits where there is nothing yet.
-fn read_patiently(
-    stream: &TcpStream,
-    poll: &mut Poll,
-    events: &mut Events,
-    seen: &mut Seen,
-    limit: u64,
-    out: &mut [u8],
-) -> io::Result<usize>
-    ensures within { ReadsAtMost result out.new }
-{
-    if out.is_empty() {
-        return Ok(0);
-    }
-    let mut reader = stream;
-    for _ in 0..u64::MAX {
-        match reader.read(out) {
-            Ok(n) => {
-                seen.ended = seen.ended || n == 0;
-                seen.unsure = n == out.len() || seen.urgent;
-                seen.take(&out[..n]);
-                return Ok(n);
+    // Waits until the stream may be read, or where that is asked for be written, so many milliseconds at most.
+    fn wait(&mut self, to_write: bool, limit: u64) -> io::Result<()> {
+        let mut left = limit;
+        for _ in 0..u64::MAX {
+            left = wait_slice(&mut self.poll, &mut self.events, left)?;
+            let writable = note(&self.events, &mut self.seen);
+            if (to_write && writable) || (!to_write && self.seen.readable) {
+                return Ok(());
             }
-            Err(e) if e.kind() == ErrorKind::Interrupted => {}
-            Err(e) if e.kind() == ErrorKind::WouldBlock && seen.hides_lf() => {
-                out[0] = b'\n';
-                seen.take(&out[..1]);
-                return Ok(1);
-            }
-            Err(e) if e.kind() == ErrorKind::WouldBlock => {
-                seen.readable = false;
-                wait(poll, events, seen, false, limit)?
-            }
-            Err(e) => return Err(e),
         }
+        Err(io::Error::from(ErrorKind::TimedOut))
     }
-    Err(io::Error::from(ErrorKind::Other))
-}
 
-// Reads until there is text or the end, and keeps the text alone.
-pub(crate) fn read_text(
-    stream: &TcpStream,
-    poll: &mut Poll,
-    events: &mut Events,
-    seen: &mut Seen,
-    telnet: &mut Telnet,
-    limit: u64,
-    out: &mut [u8],
-) -> io::Result<usize>
-    ensures within { ReadsAtMost result out.new }
-{
-    for _ in 0..u64::MAX {
-        let n = read_patiently(stream, poll, events, seen, limit, out)?;
-        let kept = telnet.strip(&mut out[..n]);
-        if n == 0 || kept > 0 {
-            return Ok(kept);
+    // Waits for bytes, the end, a wake or the time, and says whether there is something to read.
+    pub(crate) fn wait_ready(&mut self, stream: &TcpStream, millis: u64) -> io::Result<bool> {
+        if self.seen.readable {
+            return Ok(true);
+        }
+        if self.seen.unsure {
+            self.turn(stream, reading(&self.seen))?;
+            self.seen.unsure = false;
+        }
+        let millis = if self.seen.woken { 0 } else { millis };
+        self.poll
+            .poll(&mut self.events, Some(Duration::from_millis(millis)))?;
+        note(&self.events, &mut self.seen);
+        // Where there is something to read, the wake is left for a later call to tell.
+        self.seen.woken = self.seen.woken && self.seen.readable;
+        Ok(self.seen.readable)
+    }
+
+    // Reads, and waits where there is nothing yet.
+    fn read_patiently(
+        &mut self,
+        stream: &TcpStream,
+        limit: u64,
+        out: &mut [u8],
+    ) -> io::Result<usize>
+        ensures within { ReadsAtMost result out.new }
+    {
+        if out.is_empty() {
+            return Ok(0);
+        }
+        let mut reader = stream;
+        for _ in 0..u64::MAX {
+            match reader.read(out) {
+                Ok(n) => {
+                    self.seen.ended = self.seen.ended || n == 0;
+                    self.seen.unsure = n == out.len() || self.seen.urgent;
+                    self.seen.take(&out[..n]);
+                    return Ok(n);
+                }
+                Err(e) if e.kind() == ErrorKind::Interrupted => {}
+                Err(e) if e.kind() == ErrorKind::WouldBlock && self.seen.hides_lf() => {
+                    out[0] = b'\n';
+                    self.seen.take(&out[..1]);
+                    return Ok(1);
+                }
+                Err(e) if e.kind() == ErrorKind::WouldBlock => {
+                    self.seen.readable = false;
+                    self.wait(false, limit)?
+                }
+                Err(e) => return Err(e),
+            }
+        }
+        Err(io::Error::from(ErrorKind::Other))
+    }
+
+    // Reads until there is text or the end, and keeps the text alone.
+    pub(crate) fn read_text(
+        &mut self,
+        stream: &TcpStream,
+        telnet: &mut Telnet,
+        limit: u64,
+        out: &mut [u8],
+    ) -> io::Result<usize>
+        ensures within { ReadsAtMost result out.new }
+    {
+        for _ in 0..u64::MAX {
+            let n = self.read_patiently(stream, limit, out)?;
+            let kept = telnet.strip(&mut out[..n]);
+            if n == 0 || kept > 0 {
+                return Ok(kept);
+            }
+        }
+        Err(io::Error::from(ErrorKind::Other))
+    }
+
+    // Writes some bytes, and waits where there is no room yet.
+    pub(crate) fn write_patiently(
+        &mut self,
+        stream: &TcpStream,
+        limit: u64,
+        bytes: &[u8],
+    ) -> io::Result<usize>
+        ensures within { WritesAtMost result bytes.now }
+    {
+        let mut writer = stream;
+        for _ in 0..u64::MAX {
+            match writer.write(bytes) {
+                Ok(n) => return Ok(n),
+                Err(e) if e.kind() == ErrorKind::Interrupted => {}
+                Err(e) if e.kind() == ErrorKind::WouldBlock => {
+                    self.turn(stream, Interest::WRITABLE)?;
+                    let waited = self.wait(true, limit);
+                    self.turn(stream, reading(&self.seen))?;
+                    waited?
+                }
+                Err(e) => return Err(e),
+            }
+        }
+        Err(io::Error::from(ErrorKind::Other))
+    }
+
+    // Reads what still comes once nothing more is sent, up to the end or for a while: a socket that is closed before takes from
+    // its peer what that has not read yet.
+    pub(crate) fn linger(&mut self, stream: &TcpStream) {
+        let mut piece = [0u8; 512];
+        let mut reader = stream;
+        let mut waits = 0;
+        for _ in 0..PIECES {
+            match reader.read(&mut piece) {
+                Ok(0) => return,
+                Ok(_) => {}
+                Err(e) if e.kind() == ErrorKind::WouldBlock && waits < LINGERS => {
+                    waits += 1;
+                    self.seen.readable = false;
+                    // A wait that was too long counts as any other.
+                    let _ = self.wait(false, LINGER);
+                }
+                Err(_) => return,
+            }
         }
     }
-    Err(io::Error::from(ErrorKind::Other))
 }
 
 // Takes Telnet commands off the front of a stream that may be read, and says whether text or the end stands there. Where
@@ -237,53 +286,4 @@ pub(crate) fn is_text_next(
         }
     }
     Ok(false)
-}
-
-// Writes some bytes, and waits where there is no room yet.
-pub(crate) fn write_patiently(
-    stream: &TcpStream,
-    poll: &mut Poll,
-    events: &mut Events,
-    seen: &mut Seen,
-    limit: u64,
-    bytes: &[u8],
-) -> io::Result<usize>
-    ensures within { WritesAtMost result bytes.now }
-{
-    let mut writer = stream;
-    for _ in 0..u64::MAX {
-        match writer.write(bytes) {
-            Ok(n) => return Ok(n),
-            Err(e) if e.kind() == ErrorKind::Interrupted => {}
-            Err(e) if e.kind() == ErrorKind::WouldBlock => {
-                turn(stream, poll, Interest::WRITABLE)?;
-                let waited = wait(poll, events, seen, true, limit);
-                turn(stream, poll, reading(seen))?;
-                waited?
-            }
-            Err(e) => return Err(e),
-        }
-    }
-    Err(io::Error::from(ErrorKind::Other))
-}
-
-// Reads what still comes once nothing more is sent, up to the end or for a while: a socket that is closed before takes from
-// its peer what that has not read yet.
-pub(crate) fn linger(stream: &TcpStream, poll: &mut Poll, events: &mut Events, seen: &mut Seen) {
-    let mut piece = [0u8; 512];
-    let mut reader = stream;
-    let mut waits = 0;
-    for _ in 0..PIECES {
-        match reader.read(&mut piece) {
-            Ok(0) => return,
-            Ok(_) => {}
-            Err(e) if e.kind() == ErrorKind::WouldBlock && waits < LINGERS => {
-                waits += 1;
-                seen.readable = false;
-                // A wait that was too long counts as any other.
-                let _ = wait(poll, events, seen, false, LINGER);
-            }
-            Err(_) => return,
-        }
-    }
 }

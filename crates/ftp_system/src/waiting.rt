@@ -1,5 +1,6 @@
 //! A wait for one socket, with a limit.
 
+use mio::net::TcpStream;
 use mio::{Events, Interest, Poll, Token};
 use std::alloc::Global;
 use std::io;
@@ -8,21 +9,31 @@ use std::net::Net;
 use std::time::Duration;
 
 /// The longest single wait, in milliseconds. One that a signal ended early counts as a whole one.
-pub const SLICE: u64 = 1000;
+const SLICE: u64 = 1000;
+
+/// Waits for a slice of the milliseconds that are left, and gives the others.
+pub(crate) fn wait_slice(poll: &mut Poll, events: &mut Events, left: u64) -> io::Result<u64> {
+    if left == 0 {
+        return Err(io::Error::from(ErrorKind::TimedOut));
+    }
+    let slice = left.min(SLICE);
+    poll.poll(events, Some(Duration::from_millis(slice)))?;
+    Ok(left - slice)
+}
 
 /// A wait for one socket in one direction at a time.
 #[derive(Drop)]
-pub struct Waiting {
+pub(crate) struct Waiting {
     poll: Poll,
     events: Events,
     interest: Interest,
 }
 
 impl Waiting {
-    fn new<N: Net>(
+    pub(crate) fn new<N: Net>(
         net: &N,
         alloc: Global,
-        stream: &mut mio::net::TcpStream,
+        stream: &mut TcpStream,
         interest: Interest,
     ) -> io::Result<Waiting> {
         let poll = Poll::new(net)?;
@@ -36,7 +47,7 @@ impl Waiting {
     }
 
     // From now on waits for the other direction.
-    fn turn(&mut self, stream: &mut mio::net::TcpStream, interest: Interest) -> io::Result<()> {
+    fn turn(&mut self, stream: &mut TcpStream, interest: Interest) -> io::Result<()> {
         if self.interest == interest {
             return Ok(());
         }
@@ -46,40 +57,50 @@ impl Waiting {
     }
 
     // Waits for the socket, so many milliseconds at most.
-    fn wait(&mut self, limit: u64) -> io::Result<()> {
+    pub(crate) fn wait(&mut self, limit: u64) -> io::Result<()> {
         let mut left = limit;
         for _ in 0..u64::MAX {
-            if left == 0 {
-                break;
-            }
-            let slice = left.min(SLICE);
-            self.poll
-                .poll(&mut self.events, Some(Duration::from_millis(slice)))?;
+            left = wait_slice(&mut self.poll, &mut self.events, left)?;
             if !self.events.is_empty() {
                 return Ok(());
             }
-            left -= slice;
         }
         Err(io::Error::from(ErrorKind::TimedOut))
     }
 }
 
-/// Waits until the socket may go on in a direction, so many milliseconds at most, by a `Poll` that is made at the
-/// first wait. A wait in one direction is not ended by what comes in the other.
-pub fn wait_for<N: Net>(
-    net: &N,
+/// Waits for one socket, none longer than `limit` milliseconds, by a `Poll` that is made at the first wait.
+#[derive(Drop)]
+pub(crate) struct Waits<N: Net + Drop> {
+    net: N,
     alloc: Global,
-    stream: &mut mio::net::TcpStream,
-    waiting: &mut Option<Waiting>,
-    interest: Interest,
+    waiting: Option<Waiting>,
     limit: u64,
-) -> io::Result<()> {
-    if let Some(made) = waiting {
-        made.turn(stream, interest)?;
-        return made.wait(limit);
+}
+
+impl<N: Net + Drop> Waits<N> {
+    pub(crate) fn new(net: N, alloc: Global, limit: u64) -> Waits<N> {
+        Waits {
+            net,
+            alloc,
+            waiting: None,
+            limit,
+        }
     }
-    let mut made = Waiting::new(net, alloc, stream, interest)?;
-    let waited = made.wait(limit);
-    *waiting = Some(made);
-    waited
+
+    /// Waits until the socket may go on in a direction. A wait in one direction is not ended by what comes in the other.
+    pub(crate) fn wait_for(
+        &mut self,
+        stream: &mut TcpStream,
+        interest: Interest,
+    ) -> io::Result<()> {
+        if let Some(made) = &mut self.waiting {
+            made.turn(stream, interest)?;
+            return made.wait(self.limit);
+        }
+        let mut made = Waiting::new(&self.net, self.alloc, stream, interest)?;
+        let waited = made.wait(self.limit);
+        self.waiting = Some(made);
+        waited
+    }
 }
