@@ -21,20 +21,19 @@ cut-new o hub log box k = record { base = hub; front = log; stood = k.stands; re
 
 -- memory that is taken changes nothing
 pub cut-ready :
-    (o : Options) (hub new : Hub) (tail now : List Entry) (lent : List Action) (box after : Outbox) →
+    {o : Options} {hub new : Hub} {tail now : List Entry} {lent : List Action} {box after : Outbox} →
     KeepsCut o hub tail box →
     ((log : List Entry) → Stands hub log → Stands new log) → options_of new ≡ options_of hub → count_of new ≡ count_of hub →
     lent ≡ newest tail → ((s : ℕ) → outbox_in after lent s ≡ outbox_in box lent s) →
     now ≡ tail → KeepsCut o new now after
-cut-ready o hub new tail now lent box after k stands options count is same room =
-    let before = tail ++ k.front in
+cut-ready {o = o} {new = new} {tail = tail} {after = after} k stands options count is same room =
     subst (λ l. KeepsCut o new l after) (sym room)
     (record {
       base = k.base;
       front = k.front;
       stood = k.stood;
       replay = λ log st. stands (tail ++ log) (k.replay log st);
-      kept = kept-ready o hub new before (newest tail) lent box after k.kept (stands before k.kept.stands) options count is same;
+      kept = kept-ready k.kept (stands (tail ++ k.front) k.kept.stands) options count is same;
     })
 
 -- a full tail gives way: the hub is the checkpoint from then on

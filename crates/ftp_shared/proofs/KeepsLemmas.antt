@@ -88,12 +88,12 @@ kept-step o hub new log actions e box after own k stands options count all kept 
 
 -- memory that is taken keeps it too, where an outbox has sorted in some of the actions
 pub kept-ready :
-    (o : Options) (hub new : Hub) (log : List Entry) (actions lent : List Action) (box after : Outbox) →
+    {o : Options} {hub new : Hub} {log : List Entry} {actions lent : List Action} {box after : Outbox} →
     KeepsLog o hub log actions box →
     Stands new log → options_of new ≡ options_of hub → count_of new ≡ count_of hub →
     lent ≡ actions → ((s : ℕ) → outbox_in after lent s ≡ outbox_in box lent s) →
     KeepsLog o new log actions after
-kept-ready o hub new log actions lent box after k stands options count is same =
+kept-ready {log = log} {box = box} {after = after} k stands options count is same =
     record {
       options = options ∙ k.options;
       stands = stands;
@@ -104,14 +104,13 @@ kept-ready o hub new log actions lent box after k stands options count is same =
 
 -- so it does of a journal that got room
 pub keeps-ready :
-    (o : Options) (hub new : Hub) (log now : List Entry) (lent : List Action) (box after : Outbox) →
+    {o : Options} {hub new : Hub} {log now : List Entry} {lent : List Action} {box after : Outbox} →
     Keeps o hub log box →
     ((log : List Entry) → Stands hub log → Stands new log) → options_of new ≡ options_of hub → count_of new ≡ count_of hub →
     lent ≡ newest log → ((s : ℕ) → outbox_in after lent s ≡ outbox_in box lent s) →
     now ≡ log → Keeps o new now after
-keeps-ready o hub new log now lent box after k stands options count is same room =
-    subst (λ l. Keeps o new l after) (sym room)
-    (kept-ready o hub new log (newest log) lent box after k (stands log k.stands) options count is same)
+keeps-ready {o = o} {new = new} {log = log} {after = after} k stands options count is same room =
+    subst (λ l. Keeps o new l after) (sym room) (kept-ready k (stands log k.stands) options count is same)
 
 -- a hub to which nothing has happened keeps it
 pub kept-new :

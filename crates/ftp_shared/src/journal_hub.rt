@@ -8,9 +8,8 @@ ghost use Rattle.ftp_shared.specs.Jobs.{behind};
 ghost use Rattle.ftp_shared.specs.Next.{IsNextAt, IsPieceAt, IsTurnAt, end_of, is_moved, piece_of};
 ghost use Rattle.ftp_shared.specs.Outbox.{has_ticket};
 
-use crate::JournalFeed;
-use crate::append_error::AppendError;
 use crate::receipt::{FinishError, JobShare, Submitted, Turn};
+use crate::{AppendError, JournalFeed};
 use ftp_events::{Answer, HubEvent};
 use ftp_transfer::Outcome;
 use std::alloc::Global;
@@ -81,6 +80,10 @@ pub trait JournalHub {
 
     /// Adds a piece of a job, of so many bytes, which moved before. Where the job goes on its share comes back, with these
     /// bytes counted; else it is spent, and a job that starts with the entry comes in its place.
+    ///
+    /// # Proved
+    ///
+    /// - A job of which nothing can be told comes back (`given_back`; also `JournalHub::finish`: `given_back`).
     fn piece<R: Wait>(
         &self,
         rt: &R,

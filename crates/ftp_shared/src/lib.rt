@@ -6,7 +6,6 @@
 //! Begin with `Locked::append`, `Desk`, `serve_job` and `JournalFeed`.
 #![tactic(auto)]
 
-mod append_error;
 mod beside;
 mod cut;
 mod cut_hub;
@@ -30,11 +29,11 @@ mod shared_hub;
 mod shown;
 mod solo_desk;
 
-pub use append_error::AppendError;
 pub use cut::Cut;
 pub use cut_hub::CutHub;
 pub use desk::{Desk, Told};
 pub use entry_queue::{EntryQueue, Taken};
+pub use ftp_hub::PrepareError as AppendError;
 pub use journal_feed::{EntriesLost, JournalFeed};
 pub use journal_hub::JournalHub;
 pub use locked::{Locked, Serving};

@@ -4,7 +4,7 @@ ghost use Rattle.std.specs.Prelude.{◌≡◌, length};
 ghost use Rattle.ftp_options.specs.declared.options.Options.{Options};
 ghost use Rattle.ftp_shared.specs.Keeps.{Keeps};
 
-use crate::append_error::AppendError;
+use crate::AppendError;
 use crate::marks::Marks;
 use crate::outbox::Outbox;
 use crate::ready::{make_ready, own_session, share_of};
@@ -100,11 +100,9 @@ impl<L: Serving> Locked<L> {
     /// - Each outbox grows by the entry's replies to its session (`outbox`).
     /// - A job comes exactly where the entry has a start, and is the one that starts (`job`; also `Locked::append_for`:
     ///   `job`).
-    /// - The share counts one step more (`share`; also `SharedHub::submit`: `share`; `SharedHub::finish`: `share`;
-    ///   `SharedHub::piece`: `share`).
+    /// - The share counts one step more (`share`).
     /// - An error is want of memory alone, and changes nothing (`only`, `same_journal`, `same_outbox`, `same_share`; also
-    ///   `Locked::append_for`: `only`, `same_journal`, `same_outbox`, `same_share`; `Locked::append_piece`: `only`;
-    ///   `SharedHub::submit`, `SharedHub::submit_for`, `SharedHub::piece` and `SharedHub::finish`: `only`).
+    ///   `Locked::append_for`: `only`, `same_journal`, `same_outbox`, `same_share`; `Locked::append_piece`: `only`).
     pub fn append(
         &mut self,
         share: &mut StepShare<L>,

@@ -6,7 +6,7 @@ ghost use Rattle.ftp_events.specs.EndRows.{can_move};
 ghost use Rattle.ftp_shared.specs.Jobs.{behind};
 ghost use Rattle.ftp_shared.specs.Next.{IsNextAt, IsPieceAt, end_of, is_moved, piece_of};
 
-use crate::append_error::AppendError;
+use crate::AppendError;
 use crate::cut::Cut;
 use crate::locked::{Locked, Serving};
 use crate::receipt::{FinishError, JobShare, Submitted};
@@ -47,7 +47,7 @@ impl<L: Serving> Locked<L> {
     ///
     /// - The job of a piece comes back exactly where the piece is counted, with its bytes; else what comes with it is
     ///   the job that starts with the entry, if one does, if the job moves a file, by 1 to 8,192 bytes (`job`, `back`;
-    ///   also `SharedHub::piece`: `job`, `back`).
+    ///   also `JournalHub::piece`: `job`, `back`).
     pub fn append_piece(
         &mut self,
         share: &mut StepShare<L>,

@@ -9,7 +9,7 @@ ghost use Rattle.ftp_shared.specs.Cut.{KeepsCut};
 ghost use Rattle.ftp_shared.specs.Keeps.{Keeps};
 ghost use Rattle.ftp_shared.specs.Outbox.{newest, outbox_in, own_session};
 
-use crate::append_error::AppendError;
+use crate::AppendError;
 use crate::marks::Marks;
 use crate::outbox::Outbox;
 use crate::receipt::JobShare;
@@ -73,10 +73,7 @@ pub(crate) fn ready_cut(
     marks.reserve()?;
     outbox.catch_up(newest(tail))?;
     let fresh = place_for(alloc, tail, every)?;
-    // The count is not at its end, so this is want of memory.
-    let Ok(room) = hub.prepare_twin(event, answer) else {
-        return Err(AppendError::OutOfMemory);
-    };
+    let room = hub.prepare_twin(event, answer)?;
     cut_at(tail, fresh);
     Ok(room)
 }

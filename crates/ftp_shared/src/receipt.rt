@@ -5,7 +5,7 @@ ghost use Rattle.ftp_events.specs.EndRows.{can_end, can_move};
 ghost use Rattle.ftp_shared.specs.Jobs.{behind};
 ghost use Rattle.ftp_shared.specs.Outbox.{others_in, own_session, waits};
 
-use crate::append_error::AppendError;
+use crate::AppendError;
 use crate::marks::Mark;
 use crate::ready::own_session;
 use ftp_base::{DataChanCmd, Reply};
@@ -15,7 +15,7 @@ use std::alloc::{AllocError, Global};
 use std::marker::Model;
 
 /// No piece of a job has more bytes.
-const MOST_BYTES: u64 = 8192;
+pub(crate) const MOST_BYTES: u64 = 8192;
 
 /// The entry that an append made, and its place in the journal, counted from 0.
 #[derive(Drop)]

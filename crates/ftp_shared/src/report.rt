@@ -6,13 +6,11 @@ ghost use Rattle.ftp_shared.specs.Reports.{HasTold};
 ghost use Rattle.ftp_shared.specs.Next.{is_moved};
 ghost use Rattle.ftp_transfer.specs.Transfer.{is_listing};
 
+use crate::receipt::MOST_BYTES;
 use crate::{FinishError, JobShare, JournalHub, Submitted};
 use ftp_base::Edge;
 use ftp_events::Decision;
 use std::sync::Wait;
-
-/// No piece that is told has more bytes.
-const MOST_BYTES: u64 = 8192;
 
 /// What became of a job of which a piece may have been told.
 #[derive(Drop)]

@@ -2,21 +2,15 @@
 
 ghost use Rattle.std.specs.Vec.{vec_len};
 ghost use Rattle.ftp_events.specs.Right.{IsRight, IsActed};
-ghost use Rattle.std.specs.Prelude.{◌≡◌, ◌≢◌, ◌+◌, ◌<◌, ◌≤◌, length, sum_by, All, [], IfOk, IfErr, IfSome, OnOk, OnErr, IsTrue, Some, false, true};
-ghost use Rattle.ftp_events.specs.declared.event.Answer.TheVariants as answer;
-ghost use Rattle.ftp_shared.specs.Outbox.{has_ticket};
+ghost use Rattle.std.specs.Prelude.{◌≡◌, ◌+◌, ◌<◌, ◌≤◌, length, sum_by, All, IfOk, IfErr, false, true};
 ghost use Rattle.ftp_shared.specs.Settled.{IsKept, IsOtherOf, is_missing};
-ghost use Rattle.ftp_events.specs.EndRows.{can_end, can_move};
-ghost use Rattle.ftp_shared.specs.Jobs.{behind};
-ghost use Rattle.ftp_shared.specs.Next.{IsNextAt, IsPieceAt, IsTurnAt, end_of, is_moved, piece_of};
 
-use crate::append_error::AppendError;
 use crate::beside::Beside;
 use crate::locked::{Locked, Serving};
 use crate::receipt::{FinishError, JobShare, Receipt, Submitted, Turn};
 use crate::settle::SettleError;
 use crate::share::StepShare;
-use crate::{JournalFeed, JournalHub};
+use crate::{AppendError, JournalFeed, JournalHub};
 use ftp_events::{Answer, HubEvent, Log};
 use ftp_options::Options;
 use ftp_transfer::Outcome;
@@ -72,13 +66,8 @@ impl<L: Serving> SharedHub<L> {
         // Any other error tells of the first receipt that is not the entry at its place.
         ensures differs_so { IfErr result (λ e. is_missing e ≡ false → ∥ IsOtherOf L.options receipts.now e ∥₁) }
     {
-        self.into_locked().settle(shares, receipts)
-    }
-
-    // What lay under the lock.
-    fn into_locked(self) -> Locked<L> {
         let SharedHub { lock, beside: _ } = self;
-        lock.into_inner()
+        lock.into_inner().settle(shares, receipts)
     }
 }
 
@@ -93,24 +82,13 @@ impl<L: Serving> JournalHub for SharedHub<L> {
 
     ghost exhausts = { false };
 
-    /// # Proved
-    ///
-    /// - Above the lock the entry is the next one of a right and acted journal, at its place; the replies before it are
-    ///   the last that this journal sends (`next`; also `SharedHub::finish`: `next`; `SharedHub::piece`: `next`;
-    ///   `SharedHub::submit_for`: `next`).
     fn submit<R: Wait>(
         &self,
         rt: &R,
         share: &mut StepShare<L>,
         event: HubEvent,
         answer: Answer,
-    ) -> Result<Submitted, AppendError>
-        requires { has_ticket event.kind ≡ false }
-        ensures next { IfOk result (λ s. IsNextAt L.options s.receipt event answer) }
-        ensures share { OnOk result (share.new.count ≡ share.old.count + 1) }
-        ensures same_share { OnErr result (share.new.count ≡ share.old.count) }
-        ensures only { IfErr result (λ e. e ≡ AppendError.OutOfMemory) }
-    {
+    ) -> Result<Submitted, AppendError> {
         let submitted = self.lock.lock(rt).append(share, event, answer)?;
         self.beside.tell(rt, &submitted.receipt);
         Ok(submitted)
@@ -122,13 +100,7 @@ impl<L: Serving> JournalHub for SharedHub<L> {
         share: &mut StepShare<L>,
         event: HubEvent,
         answer: Answer,
-    ) -> Result<Turn, AppendError>
-        requires { has_ticket event.kind ≡ false }
-        ensures next { IfOk result (λ t. IsTurnAt L.options t event answer) }
-        ensures share { OnOk result (share.new.count ≡ share.old.count + 1) }
-        ensures same_share { OnErr result (share.new.count ≡ share.old.count) }
-        ensures only { IfErr result (λ e. e ≡ AppendError.OutOfMemory) }
-    {
+    ) -> Result<Turn, AppendError> {
         let answered = self.lock.lock(rt).append_for(share, event, answer);
         if let Ok(turn) = &answered {
             self.beside.tell(rt, &turn.submitted.receipt);
@@ -143,25 +115,12 @@ impl<L: Serving> JournalHub for SharedHub<L> {
         job: JobShare,
         at: u64,
         bytes: u64,
-    ) -> Result<Submitted, FinishError>
-        requires { can_move job bytes ≡ true }
-        ensures next { IfOk result (λ s. IsNextAt L.options s.receipt (piece_of job at) (answer.Moved bytes)) }
-        ensures job { IfOk result (λ s. IsPieceAt L.options s job at bytes) }
-        ensures back { IfOk result (λ s. is_moved s.receipt.entry.decision ≡ true → s.job ≡ Some (behind job bytes)) }
-        ensures share { OnOk result (share.new.count ≡ share.old.count + 1) }
-        ensures same_share { OnErr result (share.new.count ≡ share.old.count) }
-        ensures given_back { IfErr result (λ e. e.job ≡ job) }
-        ensures only { IfErr result (λ e. e.cause ≡ AppendError.OutOfMemory) }
-    {
+    ) -> Result<Submitted, FinishError> {
         let submitted = self.lock.lock(rt).append_piece(share, job, at, bytes)?;
         self.beside.tell(rt, &submitted.receipt);
         Ok(submitted)
     }
 
-    /// # Proved
-    ///
-    /// - A job of which nothing can be told for want of memory comes back (`given_back`; also `SharedHub::piece`:
-    ///   `given_back`).
     fn finish<R: Wait>(
         &self,
         rt: &R,
@@ -169,14 +128,7 @@ impl<L: Serving> JournalHub for SharedHub<L> {
         job: JobShare,
         at: u64,
         outcome: Outcome,
-    ) -> Result<Submitted, FinishError>
-        requires { can_end job outcome ≡ true }
-        ensures next { IfOk result (λ s. IsNextAt L.options s.receipt (end_of job at) (answer.Done outcome)) }
-        ensures share { OnOk result (share.new.count ≡ share.old.count + 1) }
-        ensures same_share { OnErr result (share.new.count ≡ share.old.count) }
-        ensures given_back { IfErr result (λ e. e.job ≡ job) }
-        ensures only { IfErr result (λ e. e.cause ≡ AppendError.OutOfMemory) }
-    {
+    ) -> Result<Submitted, FinishError> {
         let end = job.end(at);
         let appended = self.lock.lock(rt).append(share, end, Answer::Done(outcome));
         match appended {
@@ -188,9 +140,7 @@ impl<L: Serving> JournalHub for SharedHub<L> {
         }
     }
 
-    fn share<R: Wait>(&self, rt: &R) -> Option<StepShare<L>>
-        ensures { IfSome result (λ share. share.count ≡ 0) }
-    {
+    fn share<R: Wait>(&self, rt: &R) -> Option<StepShare<L>> {
         self.lock.lock(rt).share()
     }
 

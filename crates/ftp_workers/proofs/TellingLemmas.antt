@@ -1,7 +1,7 @@
 -- What is true of a turn is true of what is told of it.
 use Rattle.std.proofs.Common.{◌≡◌, sym, subst, refl}
 use Rattle.std.specs.Prelude.{Result, Ok, Err, IfOk, OnOk, IsErrOf}
-use Rattle.ftp_shared.specs.declared.append_error.AppendError.{AppendError}
+use Rattle.ftp_hub.specs.declared.prepare.PrepareError.{PrepareError as AppendError}
 use Rattle.ftp_shared.specs.declared.desk.Told.{Told}
 use Rattle.ftp_shared.specs.declared.receipt.Turn.{Turn}
 use Rattle.ftp_workers.specs.Telling.{telling_of, IsTelling}

@@ -1,6 +1,6 @@
 -- What a session is told of a turn.
 use Rattle.std.specs.Prelude.{◌≡◌, Result, Ok, Err}
-use Rattle.ftp_shared.specs.declared.append_error.AppendError.{AppendError}
+use Rattle.ftp_hub.specs.declared.prepare.PrepareError.{PrepareError as AppendError}
 use Rattle.ftp_shared.specs.declared.desk.Told.{Told}
 use Rattle.ftp_shared.specs.declared.receipt.Turn.{Turn}
 

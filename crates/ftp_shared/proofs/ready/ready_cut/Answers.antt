@@ -9,22 +9,18 @@ use Rattle.ftp_shared.proofs.ready.ready_cut.Goals as goal
 
 -- no outbox has changed
 pub returns-in_err-catch_up-clause-keeps : goal.returns-in_err-catch_up-clause-keeps
-returns-in_err-catch_up-clause-keeps c o k =
-    cut-ready o c.args.hub.now c.args.hub.now c.args.tail.now.entries c.args.tail.now.entries c.newest.result.now c.args.outbox.now c.catch_up.new.self k
-    (λ log st. st) refl refl c.newest.ensures c.catch_up.ensures.same refl
+returns-in_err-catch_up-clause-keeps c o k = cut-ready k (λ log st. st) refl refl c.newest.ensures c.catch_up.ensures.same refl
 
 -- nor has the tail
 pub returns-in_err-fresh-clause-keeps : goal.returns-in_err-fresh-clause-keeps
 returns-in_err-fresh-clause-keeps c o k =
-    cut-ready o c.args.hub.now c.args.hub.now c.args.tail.now.entries c.place_for.new.tail.entries c.newest.result.now c.args.outbox.now c.catch_up.new.self k
-    (λ log st. st) refl refl c.newest.ensures c.catch_up.ensures.same c.place_for.ensures.same
+    cut-ready k (λ log st. st) refl refl c.newest.ensures c.catch_up.ensures.same c.place_for.ensures.same
 
 -- nor has what the hub stands for
-pub returns-in_default-clause-keeps : goal.returns-in_default-clause-keeps
-returns-in_default-clause-keeps c o k =
+pub returns-in_err-room-clause-keeps : goal.returns-in_err-room-clause-keeps
+returns-in_err-room-clause-keeps c o k =
     let taken = c.prepare_twin.ensures in
-    cut-ready o c.args.hub.now c.prepare_twin.new.self c.args.tail.now.entries c.place_for.new.tail.entries c.newest.result.now c.args.outbox.now c.catch_up.new.self k
-    taken.stands taken.same.head.options taken.same.head.count c.newest.ensures c.catch_up.ensures.same c.place_for.ensures.same
+    cut-ready k taken.stands taken.same.head.options taken.same.head.count c.newest.ensures c.catch_up.ensures.same c.place_for.ensures.same
 
 -- a full tail has given way
 pub returns-clause-keeps : goal.returns-clause-keeps
@@ -32,8 +28,7 @@ returns-clause-keeps c o k =
     let before : List Entry = c.args.tail.now.entries in
     let all : length (newest before) ≤ c.catch_up.new.self.next = subst (λ (xs : List Action). length xs ≤ c.catch_up.new.self.next) c.newest.ensures c.in_ok-catch_up.ensures.all in
     let ready : KeepsCut o c.prepare_twin.new.self before c.catch_up.new.self =
-    cut-ready o c.args.hub.now c.prepare_twin.new.self before before c.newest.result.now c.args.outbox.now c.catch_up.new.self k
-    c.prepare_twin.ensures.stands c.prepare_twin.ensures.same.head.options c.prepare_twin.ensures.same.head.count c.newest.ensures c.catch_up.ensures.same refl
+    cut-ready k c.prepare_twin.ensures.stands c.prepare_twin.ensures.same.head.options c.prepare_twin.ensures.same.head.count c.newest.ensures c.catch_up.ensures.same refl
     in
     let left : c.cut_at.new.tail.entries ≡ cond (nat_lt (length before) c.args.every) before [] =
     ap (λ t. t.entries) c.cut_at.ensures

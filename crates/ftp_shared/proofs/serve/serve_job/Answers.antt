@@ -2,7 +2,6 @@ use Rattle.std.proofs.Common.{◌≡◌, inr, ap, subst, ℕ, ◌+◌, ◌-◌, 
 use Rattle.std.proofs.lemmas.Result.{IfOk-weaker}
 use Rattle.ftp_events.specs.declared.event.Answer.TheVariants.{Done, Moved}
 use Rattle.ftp_events.specs.declared.event.EventKind.TheVariants.{End, Piece}
-use Rattle.ftp_events.specs.Leads.{views}
 use Rattle.ftp_transfer.specs.declared.job.Job.{Job}
 use Rattle.ftp_shared.specs.Answers.{moved_in, outcome_in}
 use Rattle.ftp_shared.specs.Next.{end_of, piece_of}
@@ -14,20 +13,12 @@ use Rattle.ftp_shared.proofs.serve.serve_job.Goals as goal
 
 -- nothing has moved
 pub pieces-init : goal.pieces-init
-pieces-init g c =
-    progress-start (views g.S.Storage.files g.S.Storage.rule g.S.Storage.faults g.S.Storage.fault_limit g.S.Storage.calls
-    g.L.Source.left g.L.Source.sending g.L.Source.faults g.L.Source.fault_limit g.L.Source.calls)
-    c.args.job c.in-Ok.copy c.args.storage.now c.args.link.now (g.E.Edge.view c.args.edge.now) (g.H.JournalHub.made c.args.pass.now) c.in-Ok.ensures
+pieces-init g c = progress-start _ c.in-Ok.ensures
 
 -- a piece more has moved, and more may have been told
 pub pieces-preserved : goal.pieces-preserved
 pieces-preserved g c =
-    progress-more (views g.S.Storage.files g.S.Storage.rule g.S.Storage.faults g.S.Storage.fault_limit g.S.Storage.calls
-    g.L.Source.left g.L.Source.sending g.L.Source.faults g.L.Source.fault_limit g.L.Source.calls)
-    c.args.job c.pieces.next c.pieces.job c.args.storage.now c.pieces.storage c.execute_piece.new.storage c.args.link.now c.pieces.link c.execute_piece.new.link
-    (g.E.Edge.view c.args.edge.now) (g.E.Edge.view c.pieces.edge) c.pieces.count (g.H.JournalHub.made c.args.pass.now) (g.H.JournalHub.made c.pieces.pass) c.in-More.bytes
-    c.pieces.invariant c.in-More.ensures.storage_counts c.in-More.ensures.link_counts
-    c.execute_piece.new.job c.in-GoesOn.told (g.E.Edge.view c.report.new.edge) (g.H.JournalHub.made c.report.new.pass)
+    progress-more _ c.pieces.invariant c.in-More.ensures.storage_counts c.in-More.ensures.link_counts
     c.in-More.ensures.ran.1 c.in-More.ensures.raised c.in-GoesOn.ensures
 
 -- ---- the end
@@ -45,11 +36,7 @@ returns-in-Ended-clause-runs g c =
     IfOk-weaker c.finish.result _ _
     (λ s next.
     told-in outcome_in _ g.H.JournalHub.options s.receipt (end_of c.pieces.job c.now-at.result) (Done c.in-Ended.outcome) next
-    (runs-ended (views g.S.Storage.files g.S.Storage.rule g.S.Storage.faults g.S.Storage.fault_limit g.S.Storage.calls
-    g.L.Source.left g.L.Source.sending g.L.Source.faults g.L.Source.fault_limit g.L.Source.calls)
-    c.args.job c.pieces.next c.pieces.job c.args.storage.now c.pieces.storage c.execute_piece.new.storage c.args.link.now c.pieces.link c.execute_piece.new.link
-    (g.E.Edge.view c.args.edge.now) (g.E.Edge.view c.pieces.edge) c.pieces.count (g.H.JournalHub.made c.args.pass.now) (g.H.JournalHub.made c.pieces.pass) 0
-    c.pieces.invariant c.in-Ended.ensures.storage_counts c.in-Ended.ensures.link_counts g.S.Storage.reads_take_memory g.L.Link.takes_memory c.in-Ended.outcome
+    (runs-ended _ c.pieces.invariant c.in-Ended.ensures.storage_counts c.in-Ended.ensures.link_counts g.S.Storage.reads_take_memory g.L.Link.takes_memory c.in-Ended.outcome
     c.in-Ended.ensures.ran c.in-Ended.ensures.suits c.in-Ended.ensures.no_memory))
     c.finish.ensures.next
 
@@ -87,11 +74,7 @@ returns-in-Ended-clause-untold g c =
     (λ same. inr (record {
       outcome = c.in-Ended.outcome;
       runs =
-          runs-ended (views g.S.Storage.files g.S.Storage.rule g.S.Storage.faults g.S.Storage.fault_limit g.S.Storage.calls
-          g.L.Source.left g.L.Source.sending g.L.Source.faults g.L.Source.fault_limit g.L.Source.calls)
-          c.args.job c.pieces.next c.pieces.job c.args.storage.now c.pieces.storage c.execute_piece.new.storage c.args.link.now c.pieces.link c.execute_piece.new.link
-          (g.E.Edge.view c.args.edge.now) (g.E.Edge.view c.pieces.edge) c.pieces.count (g.H.JournalHub.made c.args.pass.now) (g.H.JournalHub.made c.pieces.pass) 0
-          c.pieces.invariant c.in-Ended.ensures.storage_counts c.in-Ended.ensures.link_counts g.S.Storage.reads_take_memory g.L.Link.takes_memory c.in-Ended.outcome
+          runs-ended _ c.pieces.invariant c.in-Ended.ensures.storage_counts c.in-Ended.ensures.link_counts g.S.Storage.reads_take_memory g.L.Link.takes_memory c.in-Ended.outcome
           c.in-Ended.ensures.ran c.in-Ended.ensures.suits c.in-Ended.ensures.no_memory;
       before = c.pieces.invariant.moments;
       enough = omega (arith, same, c.pieces.invariant.enough, c.pieces.invariant.kept);
@@ -122,11 +105,7 @@ returns-in-Over-clause-stops g c =
     let over = c.in-Over.ensures in
     let total : c.execute_piece.new.job.done ≡ c.pieces.next.done + c.in-More.bytes = ap (λ (j : Job). j.done) c.in-More.ensures.raised in
     told-in moved_in _ g.H.JournalHub.options c.in-Over.submitted.receipt (piece_of c.pieces.job over.at) (Moved over.bytes) over.next
-    (runs-stopped (views g.S.Storage.files g.S.Storage.rule g.S.Storage.faults g.S.Storage.fault_limit g.S.Storage.calls
-    g.L.Source.left g.L.Source.sending g.L.Source.faults g.L.Source.fault_limit g.L.Source.calls)
-    c.args.job c.pieces.next c.pieces.job c.args.storage.now c.pieces.storage c.execute_piece.new.storage c.args.link.now c.pieces.link c.execute_piece.new.link
-    (g.E.Edge.view c.args.edge.now) (g.E.Edge.view c.pieces.edge) c.pieces.count (g.H.JournalHub.made c.args.pass.now) (g.H.JournalHub.made c.pieces.pass) c.in-More.bytes
-    c.pieces.invariant c.in-More.ensures.storage_counts c.in-More.ensures.link_counts
+    (runs-stopped _ c.pieces.invariant c.in-More.ensures.storage_counts c.in-More.ensures.link_counts
     c.close.new.self over.bytes c.close.result c.in-More.ensures.ran.1 (omega (arith, over.within, total)) c.close.ensures.only_closes
     c.close.ensures.closed c.close.ensures.unlisted c.close.ensures.unchanged c.close.ensures.fault_rose c.close.ensures.as_listed
     g.S.Storage.reads_take_memory g.L.Link.takes_memory)

@@ -9,5 +9,5 @@ returns-clause-gone g c =
     IfErr-weaker c.settle.result _ _
     (λ e other missing.
     let below = lt_of_le-ne c.settle.ensures.apart (other missing) in
-    omega (arith, below, c.into_locked.result.parts.some))
+    omega (arith, below, c.into_inner.result.parts.some))
     c.settle.ensures.whole

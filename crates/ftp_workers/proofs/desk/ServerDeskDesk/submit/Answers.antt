@@ -1,7 +1,7 @@
 use Rattle.std.proofs.Common.{◌≡◌, ◌∙◌, ℕ, ◌+◌, ap, subst, true, arith}
 use Rattle.std.specs.Bool.{then_some}
 use Rattle.ftp_base.specs.Outside.{HasRisen}
-use Rattle.ftp_shared.specs.declared.append_error.AppendError.TheVariants.{Exhausted}
+use Rattle.ftp_hub.specs.declared.prepare.PrepareError.TheVariants.{Exhausted}
 use Rattle.ftp_shared.specs.Desk.{IsVouched, RisesBy}
 use Rattle.ftp_shared.specs.Next.{IsTurnAt}
 use Rattle.ftp_shared.proofs.DeskLemmas.{rises-told}
