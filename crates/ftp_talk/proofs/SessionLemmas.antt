@@ -62,55 +62,23 @@ internal-neutral : (o : Options) (earlier : List (ℕ × Reply)) (e : Entry) (s 
 internal-neutral o earlier e s m vouched is =
     ∥∥₁_elim vouched (Coded-set coded_bool (is_neutral e.decision) true) (λ v. ap (λ (x : Entry). is_neutral x.decision) v.due ∙ internal-decided o v.past e.event e.answer s m is)
 
--- what it leaves
-neutral-login : (d : Decision) → is_neutral d ≡ true → login_by d ≡ None
-unfolding is_neutral
-neutral-login decision.Told h = refl
-neutral-login decision.NotExpected h = refl
-neutral-login decision.UnknownNumber h = refl
-neutral-login _ h = cc
+-- the session is as before behind a decision
+record LeavesAll (d : Decision) : Type 0 where
+  login : login_by d ≡ None
+  name : (k : EventKind) → name_by d k ≡ None
+  cwd : (k : EventKind) (dir : List ℕ) → cwd_after d k dir ≡ dir
+  offset : (k : EventKind) (a : Answer) → offset_by d k a ≡ None
+  queued : is_queued d ≡ false
+  lane : (k : EventKind) (queued : Option Pending) (l : Lane) → lane_after k d queued l ≡ l
+  running : (given : Answer) (job : Option Running) → kept_running d given job ≡ job
 
-neutral-name : (d : Decision) (k : EventKind) → is_neutral d ≡ true → name_by d k ≡ None
+-- so it is behind one that tells nothing
+neutral-leaves : (d : Decision) → is_neutral d ≡ true → LeavesAll d
 unfolding is_neutral
-neutral-name decision.Told k h = refl
-neutral-name decision.NotExpected k h = refl
-neutral-name decision.UnknownNumber k h = refl
-neutral-name _ k h = cc
-
-neutral-cwd : (d : Decision) (k : EventKind) (dir : List ℕ) → is_neutral d ≡ true → cwd_after d k dir ≡ dir
-unfolding is_neutral
-neutral-cwd decision.Told k dir h = refl
-neutral-cwd decision.NotExpected k dir h = refl
-neutral-cwd decision.UnknownNumber k dir h = refl
-neutral-cwd _ k dir h = cc
-
-neutral-offset : (d : Decision) (k : EventKind) (a : Answer) → is_neutral d ≡ true → offset_by d k a ≡ None
-unfolding is_neutral
-neutral-offset decision.Told k a h = refl
-neutral-offset decision.NotExpected k a h = refl
-neutral-offset decision.UnknownNumber k a h = refl
-neutral-offset _ k a h = cc
-
-neutral-queued : (d : Decision) → is_neutral d ≡ true → is_queued d ≡ false
-unfolding is_neutral
-neutral-queued decision.Told h = refl
-neutral-queued decision.NotExpected h = refl
-neutral-queued decision.UnknownNumber h = refl
-neutral-queued _ h = cc
-
-neutral-lane : (d : Decision) (k : EventKind) (queued : Option Pending) (l : Lane) → is_neutral d ≡ true → lane_after k d queued l ≡ l
-unfolding is_neutral
-neutral-lane decision.Told k queued l h = refl
-neutral-lane decision.NotExpected k queued l h = refl
-neutral-lane decision.UnknownNumber k queued l h = refl
-neutral-lane _ k queued l h = cc
-
-neutral-running : (d : Decision) (given : Answer) (job : Option Running) → is_neutral d ≡ true → kept_running d given job ≡ job
-unfolding is_neutral
-neutral-running decision.Told given job h = refl
-neutral-running decision.NotExpected given job h = refl
-neutral-running decision.UnknownNumber given job h = refl
-neutral-running _ given job h = cc
+neutral-leaves decision.Told h = record { login = refl; name = λ k. refl; cwd = λ k dir. refl; offset = λ k a. refl; queued = refl; lane = λ k queued l. refl; running = λ given job. refl }
+neutral-leaves decision.NotExpected h = record { login = refl; name = λ k. refl; cwd = λ k dir. refl; offset = λ k a. refl; queued = refl; lane = λ k queued l. refl; running = λ given job. refl }
+neutral-leaves decision.UnknownNumber h = record { login = refl; name = λ k. refl; cwd = λ k dir. refl; offset = λ k a. refl; queued = refl; lane = λ k queued l. refl; running = λ given job. refl }
+neutral-leaves _ h = absurd (cc)
 
 -- slot and transfer after an entry, and what becomes of the job that runs
 abbrev job_kept : Entry → Lane → Lane
@@ -132,10 +100,10 @@ lane-both e a b s =
 job-still : (e : Entry) (l : Lane) → is_neutral e.decision ≡ true → job_kept e l ≡ l
 job-still e l neutral =
     let with_job : Option Running → Lane = λ x. record { slot = l.slot; pending = l.pending; running = x } in
-    ap with_job (neutral-running e.decision e.answer l.running neutral)
+    ap with_job ((neutral-leaves e.decision neutral).running e.answer l.running)
 
 lane-one : (e : Entry) (a : List Entry) → is_neutral e.decision ≡ true → lane (e ∷ a) ≡ lane a
-lane-one e a neutral = ap (job_kept e) (neutral-lane e.decision e.event.kind _ (lane a) neutral) ∙ job-still e (lane a) neutral
+lane-one e a neutral = ap (job_kept e) ((neutral-leaves e.decision neutral).lane e.event.kind _ (lane a)) ∙ job-still e (lane a) neutral
 
 same-latest : {B : Type 0} (tells tells1 : Option B) (x y : B) → tells ≡ tells1 → x ≡ y → unwrap_or tells x ≡ unwrap_or tells1 y
 same-latest {B = B} tells tells1 x y e f = ap (λ (t : Option B). unwrap_or t x) e ∙ ap (λ (z : B). unwrap_or tells1 z) f
@@ -160,13 +128,14 @@ none-queued n queues is =
 -- one that tells nothing
 same-one : (e : Entry) (a b : List Entry) → is_neutral e.decision ≡ true → TellTheSame a b → TellTheSame (e ∷ a) b
 same-one e a b neutral s =
+    let leaves = neutral-leaves e.decision neutral in
     record {
-      login = same-latest (login_by e.decision) None _ _ (neutral-login e.decision neutral) s.login;
-      name = same-latest (name_by e.decision e.event.kind) None _ _ (neutral-name e.decision e.event.kind neutral) s.name;
-      cwd = neutral-cwd e.decision e.event.kind _ neutral ∙ s.cwd;
-      offset = same-latest (offset_by e.decision e.event.kind e.answer) None _ _ (neutral-offset e.decision e.event.kind e.answer neutral) s.offset;
+      login = same-latest (login_by e.decision) None _ _ leaves.login s.login;
+      name = same-latest (name_by e.decision e.event.kind) None _ _ (leaves.name e.event.kind) s.name;
+      cwd = leaves.cwd e.event.kind _ ∙ s.cwd;
+      offset = same-latest (offset_by e.decision e.event.kind e.answer) None _ _ (leaves.offset e.event.kind e.answer) s.offset;
       slot = lane-one e a neutral ∙ s.slot;
-      transfers = none-queued (ticket_count a) (is_queued e.decision) (neutral-queued e.decision neutral) ∙ s.transfers;
+      transfers = none-queued (ticket_count a) (is_queued e.decision) leaves.queued ∙ s.transfers;
     }
 
 -- a message that is told, and bytes that are said, are an internal event
