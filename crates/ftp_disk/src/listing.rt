@@ -95,28 +95,6 @@ pub(crate) fn parts(alloc: Global, names: &[u8]) -> Result<Vec<&[u8]>, AllocErro
     names.split(|b| *b == 0).collect(alloc)
 }
 
-// What is shown of the names in a directory that match a pattern. A NUL stands behind each name.
-fn children<S: FileSystem>(
-    system: &S,
-    alloc: Global,
-    place: &Place,
-    pattern: &[u8],
-    names: &[u8],
-) -> Result<Vec<FileInfo>, AllocError>
-    ensures shown { IfOk result (λ infos. All (IsShownOf (S.told system.now) place.now pattern.now) infos.items) }
-{
-    let parts = parts(alloc, names)?;
-    let now = system.now();
-    let mut row = Vec::new(alloc);
-    let mut infos = Vec::new(alloc);
-    for name in &parts {
-        show(
-            &mut infos, &mut row, system, alloc, place, pattern, *name, now,
-        )?;
-    }
-    Ok(infos)
-}
-
 // The order of names.
 fn compare(a: &FileInfo, b: &FileInfo) -> Ordering
     ensures { result ≡ slice_cmp nat_cmp a.now.name b.now.name }
@@ -124,7 +102,7 @@ fn compare(a: &FileInfo, b: &FileInfo) -> Ordering
     a.name.as_slice().cmp(b.name.as_slice())
 }
 
-// The same in order.
+// What is shown of the names in a directory that match a pattern, in order. A NUL stands behind each name.
 fn list_children<S: FileSystem>(
     system: &S,
     alloc: Global,
@@ -135,7 +113,15 @@ fn list_children<S: FileSystem>(
     ensures shown { IfOk result (λ infos. All (IsShownOf (S.told system.now) place.now pattern.now) infos.items) }
     ensures in_order { IfOk result (λ infos. IsSortedByKey (λ info. info.name) (slice_cmp nat_cmp) infos.items) }
 {
-    let mut infos = children(system, alloc, place, pattern, names)?;
+    let parts = parts(alloc, names)?;
+    let now = system.now();
+    let mut row = Vec::new(alloc);
+    let mut infos = Vec::new(alloc);
+    for name in &parts {
+        show(
+            &mut infos, &mut row, system, alloc, place, pattern, *name, now,
+        )?;
+    }
     infos.sort_unstable_by(|a, b| compare(a, b));
     Ok(infos)
 }
