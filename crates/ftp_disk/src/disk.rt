@@ -2,6 +2,7 @@
 
 ghost use Rattle.std.specs.Prelude.{◌≡◌, ◌+◌, ◌^◌, ◌<◌, ◌≤◌, ◌&&◌, nat_eq, true, false, is_some, length, Some, IfOk, OnOk, IsErrOf};
 ghost use Rattle.ftp_base.specs.declared.error_kind.ErrorKind.TheVariants.{PermissionDenied};
+ghost use Rattle.ftp_base.specs.Outside.{HasRisen};
 ghost use Rattle.ftp_places.specs.Names.{names_of};
 ghost use Rattle.ftp_disk.specs.Disk.{place_in_home, IsReached, WasFound, WasListed};
 ghost use Rattle.ftp_disk.specs.Home.{has_home, may_write};
@@ -18,12 +19,15 @@ use crate::opening::{open_to_append, open_to_begin, open_to_read};
 use crate::refusals::refusal;
 use crate::standing::resolve;
 use crate::writing::{check_reach, cut, go_to, put};
-use ftp_base::{Bytes, ErrorKind, FileInfo, Meta, StoreError};
+use ftp_base::{Bytes, ErrorKind, FileInfo, Meta, StoreError, count_failed};
 use ftp_places::Place;
 use std::alloc::Global;
 use std::io::{Read, SeekFrom};
 use std::marker::Model;
 use std::sync::{Arc, Wait};
+
+// What a call comes to.
+type Answer<T> = Result<T, StoreError>;
 
 /// The files of users' homes, for one transfer: the file that it reads or writes is kept open between its pieces, and an
 /// upload's is locked. It tells no content.
@@ -65,6 +69,15 @@ impl<R: Wait + Drop, S: FileSystem + Drop> Drop for DiskStorage<R, S> {
     }
 }
 
+// An answer as it is, with a fault more where its call failed.
+fn counted<T>(answer: Answer<T>, faults: &mut u64) -> Answer<T>
+    ensures same { result ≡ answer }
+    ensures fault_rose { IsErrOf answer StoreError.Failed → HasRisen faults.old faults.new }
+    ensures count { faults.old ≤ faults.new }
+{
+    count_failed(faults, answer)
+}
+
 impl<R: Wait + Drop, S: FileSystem + Drop> DiskStorage<R, S> {
     ghost use Rattle.std.specs.Arc.{arc_value};
 
@@ -95,7 +108,7 @@ impl<R: Wait + Drop, S: FileSystem + Drop> DiskStorage<R, S> {
     }
 
     // Where a user's path leads.
-    fn place(&self, user: &Bytes, path: &Bytes) -> Result<Place, StoreError>
+    fn place(&self, user: &Bytes, path: &Bytes) -> Answer<Place>
         ensures place { IfOk result (λ place. place_in_home self.now.homes user.now path.now ≡ Some place) }
         ensures names { IfOk result (λ place. place.names ≡ names_of path.now) }
         ensures homeless { has_home self.now.homes user.now ≡ false → IsErrOf result (StoreError.Kind PermissionDenied) }
@@ -128,7 +141,7 @@ impl<R: Wait + Drop, S: FileSystem + Drop> DiskStorage<R, S> {
     }
 
     // What stands at a path.
-    fn look(&self, user: &Bytes, path: &Bytes) -> Result<Meta, StoreError>
+    fn look(&self, user: &Bytes, path: &Bytes) -> Answer<Meta>
         ensures found { IfOk result (WasFound (S.told self.now.system) self.now.homes user.now path.now) }
         ensures homeless { has_home self.now.homes user.now ≡ false → IsErrOf result (StoreError.Kind PermissionDenied) }
     {
@@ -140,7 +153,7 @@ impl<R: Wait + Drop, S: FileSystem + Drop> DiskStorage<R, S> {
     }
 
     // What a listing of a path shows.
-    fn children(&self, user: &Bytes, path: &Bytes) -> Result<Vec<FileInfo>, StoreError>
+    fn children(&self, user: &Bytes, path: &Bytes) -> Answer<Vec<FileInfo>>
         ensures listed { IfOk result (λ found. WasListed (S.told self.now.system) self.now.homes user.now path.now found.items) }
         ensures homeless { has_home self.now.homes user.now ≡ false → IsErrOf result (StoreError.Kind PermissionDenied) }
     {
@@ -149,12 +162,7 @@ impl<R: Wait + Drop, S: FileSystem + Drop> DiskStorage<R, S> {
     }
 
     // The file that is open to be read at a place, or which is opened there; none past its end.
-    fn reader(
-        &mut self,
-        user: &Bytes,
-        path: &Bytes,
-        at: u64,
-    ) -> Result<Option<Opened<S::File>>, StoreError>
+    fn reader(&mut self, user: &Bytes, path: &Bytes, at: u64) -> Answer<Option<Opened<S::File>>>
         ensures homeless { has_home self.old.homes user.now ≡ false → IsErrOf result (StoreError.Kind PermissionDenied) }
         ensures others { self.new ≡ record self.old { is_apart = self.new.is_apart } }
     {
@@ -173,7 +181,7 @@ impl<R: Wait + Drop, S: FileSystem + Drop> DiskStorage<R, S> {
         user: &Bytes,
         path: &Bytes,
         at: u64,
-    ) -> Result<Option<Opened<S::File>>, StoreError> {
+    ) -> Answer<Option<Opened<S::File>>> {
         let place = home.place(self.alloc, path.as_slice())?;
         let by = Use::new(self.alloc, user, path, Access::Read)?;
         let (mut file, len) = open_to_read(&self.system, self.alloc, &place)?;
@@ -190,13 +198,7 @@ impl<R: Wait + Drop, S: FileSystem + Drop> DiskStorage<R, S> {
     }
 
     // Reads from a place in a file, and keeps it open behind what was read.
-    fn read(
-        &mut self,
-        user: &Bytes,
-        path: &Bytes,
-        at: u64,
-        out: &mut [u8],
-    ) -> Result<usize, StoreError>
+    fn read(&mut self, user: &Bytes, path: &Bytes, at: u64, out: &mut [u8]) -> Answer<usize>
         ensures within { IfOk result (λ n. n ≤ length out.new) }
         ensures in_range { IfOk result (λ n. at + n < 2 ^ 64) }
         ensures homeless { has_home self.old.homes user.now ≡ false → IsErrOf result (StoreError.Kind PermissionDenied) }
@@ -218,7 +220,7 @@ impl<R: Wait + Drop, S: FileSystem + Drop> DiskStorage<R, S> {
     }
 
     // Cuts a file at a place, and opens it there.
-    fn open_at(&self, user: &Bytes, path: &Bytes, start: u64) -> Result<Opened<S::File>, StoreError>
+    fn open_at(&self, user: &Bytes, path: &Bytes, start: u64) -> Answer<Opened<S::File>>
         ensures reached { OnOk result (IsReached (S.told self.now.system) self.now.homes user.now path.now) }
         ensures read_only { may_write self.now.homes user.now ≡ false → IsErrOf result (StoreError.Kind PermissionDenied) }
         ensures in_place { IfOk result (λ opened. is_some opened.apart ≡ false) }
@@ -245,7 +247,7 @@ impl<R: Wait + Drop, S: FileSystem + Drop> DiskStorage<R, S> {
     }
 
     // Opens a file beside a path.
-    fn open_beside(&self, user: &Bytes, path: &Bytes) -> Result<Opened<S::File>, StoreError>
+    fn open_beside(&self, user: &Bytes, path: &Bytes) -> Answer<Opened<S::File>>
         ensures reached { OnOk result (IsReached (S.told self.now.system) self.now.homes user.now path.now) }
         ensures read_only { may_write self.now.homes user.now ≡ false → IsErrOf result (StoreError.Kind PermissionDenied) }
         ensures beside { IfOk result (λ opened. is_some opened.apart ≡ true) }
@@ -259,12 +261,7 @@ impl<R: Wait + Drop, S: FileSystem + Drop> DiskStorage<R, S> {
     }
 
     // Opens a file for an upload: beside its path if it is to come whole.
-    fn open_upload(
-        &self,
-        user: &Bytes,
-        path: &Bytes,
-        start: u64,
-    ) -> Result<Opened<S::File>, StoreError>
+    fn open_upload(&self, user: &Bytes, path: &Bytes, start: u64) -> Answer<Opened<S::File>>
         ensures reached { OnOk result (IsReached (S.told self.now.system) self.now.homes user.now path.now) }
         ensures read_only { may_write self.now.homes user.now ≡ false → IsErrOf result (StoreError.Kind PermissionDenied) }
         ensures beside { IfOk result (λ opened. is_some opened.apart ≡ (self.now.is_whole && nat_eq start 0)) }
@@ -277,7 +274,7 @@ impl<R: Wait + Drop, S: FileSystem + Drop> DiskStorage<R, S> {
     }
 
     // Begins an upload, and keeps its file open.
-    fn start(&mut self, user: &Bytes, path: &Bytes, start: u64) -> Result<(), StoreError>
+    fn start(&mut self, user: &Bytes, path: &Bytes, start: u64) -> Answer<()>
         ensures reached { OnOk result (IsReached (S.told self.old.system) self.old.homes user.now path.now) }
         ensures read_only { may_write self.old.homes user.now ≡ false → IsErrOf result (StoreError.Kind PermissionDenied) }
         ensures beside { OnOk result (self.new.is_apart ≡ (self.old.is_whole && nat_eq start 0)) }
@@ -290,7 +287,7 @@ impl<R: Wait + Drop, S: FileSystem + Drop> DiskStorage<R, S> {
     }
 
     // Opens a file at its end.
-    fn open_end(&self, user: &Bytes, path: &Bytes) -> Result<Opened<S::File>, StoreError>
+    fn open_end(&self, user: &Bytes, path: &Bytes) -> Answer<Opened<S::File>>
         ensures read_only { may_write self.now.homes user.now ≡ false → IsErrOf result (StoreError.Kind PermissionDenied) }
     {
         let home = self.homes.find(user)?;
@@ -307,12 +304,7 @@ impl<R: Wait + Drop, S: FileSystem + Drop> DiskStorage<R, S> {
     }
 
     // Puts bytes at the end of a file that is open.
-    fn put_at_end(
-        &self,
-        user: &Bytes,
-        opened: &mut Opened<S::File>,
-        bytes: &[u8],
-    ) -> Result<(), StoreError> {
+    fn put_at_end(&self, user: &Bytes, opened: &mut Opened<S::File>, bytes: &[u8]) -> Answer<()> {
         let home = self.homes.find(user)?;
         put(
             &self.rt,
@@ -327,7 +319,7 @@ impl<R: Wait + Drop, S: FileSystem + Drop> DiskStorage<R, S> {
     }
 
     // Puts bytes at the end of a file, and keeps it open there.
-    fn write(&mut self, user: &Bytes, path: &Bytes, bytes: &[u8]) -> Result<(), StoreError>
+    fn write(&mut self, user: &Bytes, path: &Bytes, bytes: &[u8]) -> Answer<()>
         ensures read_only { may_write self.old.homes user.now ≡ false → IsErrOf result (StoreError.Kind PermissionDenied) }
         ensures others { self.new ≡ record self.old { is_apart = self.new.is_apart } }
     {
@@ -345,7 +337,7 @@ impl<R: Wait + Drop, S: FileSystem + Drop> DiskStorage<R, S> {
     }
 
     // Has an upload that came whole stand at its path.
-    fn end(&mut self, user: &Bytes, path: &Bytes) -> Result<(), StoreError>
+    fn end(&mut self, user: &Bytes, path: &Bytes) -> Answer<()>
         ensures settled { self.new ≡ record self.old { is_apart = false } }
     {
         let Some(opened) = self.take_open(user, path, Access::Write) else {

@@ -21,6 +21,9 @@ use ftp_places::{Place, PlaceError, names_of};
 use std::alloc::{AllocError, Global};
 use std::cmp::Ordering;
 
+/// What a listing shows, or why there is none.
+pub(crate) type Listed = Result<Vec<FileInfo>, StoreError>;
+
 /// What is shown of what stands at a place.
 pub(crate) fn meta_of(found: Standing) -> Option<Meta>
     ensures { result ≡ shown_meta found }
@@ -162,12 +165,7 @@ fn only(alloc: Global, info: FileInfo) -> Result<Vec<FileInfo>, AllocError>
 }
 
 // What is shown of a file by a listing of its path.
-fn list_file<S: FileSystem>(
-    system: &S,
-    alloc: Global,
-    place: &Place,
-    path: &[u8],
-) -> Result<Vec<FileInfo>, StoreError>
+fn list_file<S: FileSystem>(system: &S, alloc: Global, place: &Place, path: &[u8]) -> Listed
     requires names { place.now.names ≡ led_through path.now }
     ensures shown { IfOk result (λ infos. ListsFile (S.told system.now) place.now infos.items) }
 {
@@ -191,12 +189,7 @@ fn any_wild(names: &[&[u8]]) -> bool
 }
 
 // What is shown by a listing of a path at which nothing stands: what matches the pattern in its last name.
-fn list_matches<S: FileSystem>(
-    system: &S,
-    alloc: Global,
-    place: &Place,
-    path: &[u8],
-) -> Result<Vec<FileInfo>, StoreError>
+fn list_matches<S: FileSystem>(system: &S, alloc: Global, place: &Place, path: &[u8]) -> Listed
     requires names { place.now.names ≡ led_through path.now }
     ensures shown { IfOk result (λ infos. ListsMatches (S.told system.now) place.now infos.items) }
     ensures in_order { IfOk result (λ infos. IsSortedByKey (λ info. info.name) (slice_cmp nat_cmp) infos.items) }
@@ -217,12 +210,7 @@ fn list_matches<S: FileSystem>(
 
 /// What a listing of a path shows: the children of a directory; of a file that alone; and where nothing stands, the children of
 /// the directory before that match the last name, which is a pattern.
-pub(crate) fn list<S: FileSystem>(
-    system: &S,
-    alloc: Global,
-    place: &Place,
-    path: &[u8],
-) -> Result<Vec<FileInfo>, StoreError>
+pub(crate) fn list<S: FileSystem>(system: &S, alloc: Global, place: &Place, path: &[u8]) -> Listed
     requires names { place.now.names ≡ led_through path.now }
     ensures listed { IfOk result (λ infos. IsListingOf (S.told system.now) place.now infos.items) }
 {

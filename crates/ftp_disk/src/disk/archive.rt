@@ -9,11 +9,11 @@ ghost use Rattle.ftp_disk.specs.Home.{has_home, may_write};
 
 use crate::changing;
 use crate::dating::modified_told;
-use crate::disk::DiskStorage;
+use crate::disk::{DiskStorage, counted};
 use crate::file_system::FileSystem;
 use crate::listing::meta_of;
 use crate::standing::resolve;
-use ftp_base::{Bytes, ErrorKind, StoreError, count_failed};
+use ftp_base::{Bytes, ErrorKind, StoreError};
 use ftp_extras::{Archive, Found};
 use std::sync::Wait;
 
@@ -95,8 +95,7 @@ impl<R: Wait + Drop, S: FileSystem + Drop> Archive for DiskStorage<R, S> {
         ensures count { self.old.faults ≤ self.new.faults }
         ensures others { self.new ≡ record self.old { faults = self.new.faults } }
     {
-        let found = self.find(user, path);
-        count_failed(&mut self.faults, found)
+        counted(self.find(user, path), &mut self.faults)
     }
 
     fn remove(&mut self, user: &Bytes, path: &Bytes) -> Result<(), StoreError>
@@ -105,8 +104,7 @@ impl<R: Wait + Drop, S: FileSystem + Drop> Archive for DiskStorage<R, S> {
         ensures count { self.old.faults ≤ self.new.faults }
         ensures others { self.new ≡ record self.old { faults = self.new.faults } }
     {
-        let done = self.remove_file(user, path);
-        count_failed(&mut self.faults, done)
+        counted(self.remove_file(user, path), &mut self.faults)
     }
 
     fn make_directory(&mut self, user: &Bytes, path: &Bytes) -> Result<(), StoreError>
@@ -115,8 +113,7 @@ impl<R: Wait + Drop, S: FileSystem + Drop> Archive for DiskStorage<R, S> {
         ensures count { self.old.faults ≤ self.new.faults }
         ensures others { self.new ≡ record self.old { faults = self.new.faults } }
     {
-        let done = self.create_dir(user, path);
-        count_failed(&mut self.faults, done)
+        counted(self.create_dir(user, path), &mut self.faults)
     }
 
     fn remove_directory(&mut self, user: &Bytes, path: &Bytes) -> Result<(), StoreError>
@@ -125,8 +122,7 @@ impl<R: Wait + Drop, S: FileSystem + Drop> Archive for DiskStorage<R, S> {
         ensures count { self.old.faults ≤ self.new.faults }
         ensures others { self.new ≡ record self.old { faults = self.new.faults } }
     {
-        let done = self.remove_dir(user, path);
-        count_failed(&mut self.faults, done)
+        counted(self.remove_dir(user, path), &mut self.faults)
     }
 
     fn rename(&mut self, user: &Bytes, from: &Bytes, to: &Bytes) -> Result<(), StoreError>
@@ -135,8 +131,7 @@ impl<R: Wait + Drop, S: FileSystem + Drop> Archive for DiskStorage<R, S> {
         ensures count { self.old.faults ≤ self.new.faults }
         ensures others { self.new ≡ record self.old { faults = self.new.faults } }
     {
-        let done = self.move_to(user, from, to);
-        count_failed(&mut self.faults, done)
+        counted(self.move_to(user, from, to), &mut self.faults)
     }
 
     fn set_modified(&mut self, user: &Bytes, path: &Bytes, at: &Bytes) -> Result<(), StoreError>
@@ -146,7 +141,6 @@ impl<R: Wait + Drop, S: FileSystem + Drop> Archive for DiskStorage<R, S> {
         ensures count { self.old.faults ≤ self.new.faults }
         ensures others { self.new ≡ record self.old { faults = self.new.faults } }
     {
-        let done = self.set_date(user, path, at);
-        count_failed(&mut self.faults, done)
+        counted(self.set_date(user, path, at), &mut self.faults)
     }
 }

@@ -6,9 +6,9 @@ ghost use Rattle.ftp_base.specs.Outside.{HasRisen};
 ghost use Rattle.ftp_disk.specs.Disk.{IsReached, WasFound, WasListed};
 ghost use Rattle.ftp_disk.specs.Home.{has_home, may_write};
 
-use crate::disk::DiskStorage;
+use crate::disk::{DiskStorage, counted};
 use crate::file_system::FileSystem;
-use ftp_base::{Bytes, FEATURE_RESTART, FileInfo, Meta, Storage, StoreError, count_failed};
+use ftp_base::{Bytes, FEATURE_RESTART, FileInfo, Meta, Storage, StoreError};
 use std::sync::Wait;
 
 impl<R: Wait + Drop, S: FileSystem + Drop> Storage for DiskStorage<R, S> {
@@ -47,8 +47,7 @@ impl<R: Wait + Drop, S: FileSystem + Drop> Storage for DiskStorage<R, S> {
         ensures count { self.old.faults ≤ self.new.faults }
         ensures others { self.new ≡ record self.old { faults = self.new.faults } }
     {
-        let found = self.look(user, path);
-        count_failed(&mut self.faults, found)
+        counted(self.look(user, path), &mut self.faults)
     }
 
     fn list(&mut self, user: &Bytes, path: &Bytes) -> Result<Vec<FileInfo>, StoreError>
@@ -58,8 +57,7 @@ impl<R: Wait + Drop, S: FileSystem + Drop> Storage for DiskStorage<R, S> {
         ensures count { self.old.faults ≤ self.new.faults }
         ensures others { self.new ≡ record self.old { faults = self.new.faults } }
     {
-        let found = self.children(user, path);
-        count_failed(&mut self.faults, found)
+        counted(self.children(user, path), &mut self.faults)
     }
 
     fn read_at(
@@ -76,8 +74,7 @@ impl<R: Wait + Drop, S: FileSystem + Drop> Storage for DiskStorage<R, S> {
         ensures count { self.old.faults ≤ self.new.faults }
         ensures others { self.new ≡ record self.old { is_apart = self.new.is_apart; faults = self.new.faults } }
     {
-        let read = self.read(user, path, at, out);
-        count_failed(&mut self.faults, read)
+        counted(self.read(user, path, at, out), &mut self.faults)
     }
 
     fn begin(&mut self, user: &Bytes, path: &Bytes, start: u64) -> Result<(), StoreError>
@@ -88,8 +85,7 @@ impl<R: Wait + Drop, S: FileSystem + Drop> Storage for DiskStorage<R, S> {
         ensures count { self.old.faults ≤ self.new.faults }
         ensures others { self.new ≡ record self.old { is_apart = self.new.is_apart; faults = self.new.faults } }
     {
-        let begun = self.start(user, path, start);
-        count_failed(&mut self.faults, begun)
+        counted(self.start(user, path, start), &mut self.faults)
     }
 
     fn append(&mut self, user: &Bytes, path: &Bytes, bytes: &[u8]) -> Result<(), StoreError>
@@ -98,8 +94,7 @@ impl<R: Wait + Drop, S: FileSystem + Drop> Storage for DiskStorage<R, S> {
         ensures count { self.old.faults ≤ self.new.faults }
         ensures others { self.new ≡ record self.old { is_apart = self.new.is_apart; faults = self.new.faults } }
     {
-        let grown = self.write(user, path, bytes);
-        count_failed(&mut self.faults, grown)
+        counted(self.write(user, path, bytes), &mut self.faults)
     }
 
     fn settle(&mut self, user: &Bytes, path: &Bytes) -> Result<(), StoreError>
@@ -108,7 +103,6 @@ impl<R: Wait + Drop, S: FileSystem + Drop> Storage for DiskStorage<R, S> {
         ensures count { self.old.faults ≤ self.new.faults }
         ensures others { self.new ≡ record self.old { is_apart = self.new.is_apart; faults = self.new.faults } }
     {
-        let ended = self.end(user, path);
-        count_failed(&mut self.faults, ended)
+        counted(self.end(user, path), &mut self.faults)
     }
 }
