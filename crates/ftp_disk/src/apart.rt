@@ -8,7 +8,7 @@ use crate::file_system::FileSystem;
 use crate::home::Writable;
 use crate::opened::{Apart, Opened, Use};
 use crate::opening::{create, in_directory, resolve_writable};
-use crate::refusals::refusal;
+use crate::refusals::{Answer, refusal};
 use crate::standing::Standing;
 use crate::writing::cut;
 use ftp_base::{ErrorKind, StoreError};
@@ -20,7 +20,7 @@ pub(crate) fn open_replaced<S: FileSystem>(
     system: &S,
     alloc: Global,
     onto: &Writable,
-) -> Result<Option<S::File>, StoreError>
+) -> Answer<Option<S::File>>
     ensures unlinked { OnOk result (IsUnlinked (S.told system.now) onto.now) }
 {
     let found = resolve_writable(system, alloc, onto)?;
@@ -39,7 +39,7 @@ pub(crate) fn open_beside<S: FileSystem>(
     system: &S,
     alloc: Global,
     from: &Writable,
-) -> Result<S::File, StoreError>
+) -> Answer<S::File>
     ensures unlinked { OnOk result (IsUnlinked (S.told system.now) from.now) }
 {
     let found = resolve_writable(system, alloc, from)?;
@@ -81,7 +81,7 @@ pub(crate) fn begin_beside<R: Wait, S: FileSystem>(
     from: Writable,
     onto: Writable,
     budget: Budget,
-) -> Result<Opened<S::File>, StoreError>
+) -> Answer<Opened<S::File>>
     ensures unlinked { OnOk result (IsUnlinked (S.told system.now) onto) }
     ensures apart { IfOk result (λ opened. is_some opened.apart ≡ true) }
 {
@@ -128,7 +128,7 @@ pub(crate) fn finish<R: Wait, S: FileSystem>(
     system: &S,
     alloc: Global,
     opened: &Opened<S::File>,
-) -> Result<(), StoreError>
+) -> Answer<()>
     ensures renamed { OnOk result (IfSome opened.now.apart (λ apart. S.renamed system.now apart.from apart.onto)) }
 {
     let Some(apart) = &opened.apart else {

@@ -9,7 +9,7 @@ use crate::dating::seconds_at;
 use crate::file_system::FileSystem;
 use crate::home::Writable;
 use crate::opening::{create, file_at, in_directory, resolve_writable};
-use crate::refusals::told;
+use crate::refusals::{Answer, told};
 use crate::standing::Standing;
 use ftp_base::{ErrorKind, StoreError};
 use std::alloc::Global;
@@ -22,7 +22,7 @@ pub(crate) fn remove_file<R: Wait, S: FileSystem>(
     alloc: Global,
     budget: &Budget,
     place: &Writable,
-) -> Result<(), StoreError>
+) -> Answer<()>
     ensures unlinked { OnOk result (IsUnlinked (S.told system.now) place.now) }
 {
     let len = file_at(system, alloc, place)?;
@@ -37,7 +37,7 @@ pub(crate) fn make_directory<S: FileSystem>(
     system: &S,
     alloc: Global,
     place: &Writable,
-) -> Result<(), StoreError>
+) -> Answer<()>
     ensures unlinked { OnOk result (IsUnlinked (S.told system.now) place.now) }
 {
     let found = resolve_writable(system, alloc, place)?;
@@ -52,7 +52,7 @@ pub(crate) fn remove_directory<S: FileSystem>(
     system: &S,
     alloc: Global,
     place: &Writable,
-) -> Result<(), StoreError>
+) -> Answer<()>
     ensures unlinked { OnOk result (IsUnlinked (S.told system.now) place.now) }
 {
     let found = resolve_writable(system, alloc, place)?;
@@ -83,7 +83,7 @@ pub(crate) fn rename<R: Wait, S: FileSystem>(
     budget: &Budget,
     from: &Writable,
     onto: &Writable,
-) -> Result<(), StoreError>
+) -> Answer<()>
     ensures unlinked { OnOk result (IsUnlinked (S.told system.now) from.now) }
     ensures onto { OnOk result (IsUnlinked (S.told system.now) onto.now) }
 {
@@ -115,7 +115,7 @@ pub(crate) fn set_modified<S: FileSystem>(
     alloc: Global,
     place: &Writable,
     at: &[u8],
-) -> Result<(), StoreError>
+) -> Answer<()>
     ensures unlinked { OnOk result (IsUnlinked (S.told system.now) place.now) }
 {
     file_at(system, alloc, place)?;

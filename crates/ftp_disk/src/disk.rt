@@ -16,7 +16,7 @@ use crate::home::{Home, Homes};
 use crate::listing::{list, meta_of};
 use crate::opened::{Access, Opened, Use};
 use crate::opening::{open_to_append, open_to_begin, open_to_read};
-use crate::refusals::refusal;
+use crate::refusals::{Answer, refusal};
 use crate::standing::resolve;
 use crate::writing::{check_reach, cut, go_to, put};
 use ftp_base::{Bytes, ErrorKind, FileInfo, Meta, StoreError, count_failed};
@@ -25,9 +25,6 @@ use std::alloc::Global;
 use std::io::{Read, SeekFrom};
 use std::marker::Model;
 use std::sync::{Arc, Wait};
-
-// What a call comes to.
-type Answer<T> = Result<T, StoreError>;
 
 /// The files of users' homes, for one transfer: the file that it reads or writes is kept open between its pieces, and an
 /// upload's is locked. It tells no content.

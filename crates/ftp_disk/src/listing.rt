@@ -13,7 +13,7 @@ use crate::file_system::FileSystem;
 use crate::looks::looks_told;
 use crate::opening::in_directory;
 use crate::pattern::{is_wild, matches, pattern_in};
-use crate::refusals::told;
+use crate::refusals::{Answer, told};
 use crate::standing::{Standing, resolve, standing_of};
 use crate::visible::is_visible;
 use ftp_base::{Bytes, ErrorKind, FileInfo, Meta, StoreError};
@@ -22,7 +22,7 @@ use std::alloc::{AllocError, Global};
 use std::cmp::Ordering;
 
 /// What a listing shows, or why there is none.
-pub(crate) type Listed = Result<Vec<FileInfo>, StoreError>;
+pub(crate) type Listed = Answer<Vec<FileInfo>>;
 
 /// What is shown of what stands at a place.
 pub(crate) fn meta_of(found: Standing) -> Option<Meta>
@@ -130,18 +130,14 @@ fn list_children<S: FileSystem>(
 }
 
 // The names in a directory, each with a NUL behind it.
-fn names_at<S: FileSystem>(system: &S, alloc: Global, place: &Place) -> Result<Vec<u8>, StoreError>
+fn names_at<S: FileSystem>(system: &S, alloc: Global, place: &Place) -> Answer<Vec<u8>>
     requires unlinked { IsUnlinked (S.told system.now) place.now }
 {
     in_directory(told(system.names(alloc, place)))
 }
 
 /// The names in a directory, each with a NUL behind it.
-pub(crate) fn names_in<S: FileSystem>(
-    system: &S,
-    alloc: Global,
-    place: &Place,
-) -> Result<Vec<u8>, StoreError>
+pub(crate) fn names_in<S: FileSystem>(system: &S, alloc: Global, place: &Place) -> Answer<Vec<u8>>
     ensures unlinked { OnOk result (IsUnlinked (S.told system.now) place.now) }
 {
     let Standing::Directory = resolve(system, alloc, place)? else {

@@ -7,7 +7,7 @@ ghost use Rattle.ftp_disk.specs.Standing.{Stood};
 use crate::budget::Budget;
 use crate::file_system::FileSystem;
 use crate::home::Writable;
-use crate::refusals::{refusal, told};
+use crate::refusals::{Answer, refusal, told};
 use crate::standing::{Standing, resolve};
 use ftp_base::{ErrorKind, StoreError};
 use ftp_places::Place;
@@ -20,7 +20,7 @@ pub(crate) fn open_to_read<S: FileSystem>(
     system: &S,
     alloc: Global,
     place: &Place,
-) -> Result<(S::File, u64), StoreError>
+) -> Answer<(S::File, u64)>
     ensures unlinked { OnOk result (IsUnlinked (S.told system.now) place.now) }
 {
     let found = resolve(system, alloc, place)?;
@@ -36,7 +36,7 @@ pub(crate) fn resolve_writable<S: FileSystem>(
     system: &S,
     alloc: Global,
     place: &Writable,
-) -> Result<Standing, StoreError>
+) -> Answer<Standing>
     ensures found { IfOk result (Stood (S.told system.now) place.now) }
     ensures unlinked { OnOk result (IsUnlinked (S.told system.now) place.now) }
 {
@@ -44,11 +44,7 @@ pub(crate) fn resolve_writable<S: FileSystem>(
 }
 
 /// How long the file is that stands at a place that may be changed.
-pub(crate) fn file_at<S: FileSystem>(
-    system: &S,
-    alloc: Global,
-    place: &Writable,
-) -> Result<u64, StoreError>
+pub(crate) fn file_at<S: FileSystem>(system: &S, alloc: Global, place: &Writable) -> Answer<u64>
     ensures unlinked { OnOk result (IsUnlinked (S.told system.now) place.now) }
     ensures file { OnOk result (WasFileOrNothing (S.told system.now) place.now) }
 {
@@ -69,7 +65,7 @@ pub(crate) fn open_to_begin<R: Wait, S: FileSystem>(
     place: &Writable,
     budget: &Budget,
     start: u64,
-) -> Result<S::File, StoreError>
+) -> Answer<S::File>
     ensures unlinked { OnOk result (IsUnlinked (S.told system.now) place.now) }
 {
     let found = resolve_writable(system, alloc, place)?;
@@ -88,7 +84,7 @@ pub(crate) fn open_to_append<S: FileSystem>(
     system: &S,
     alloc: Global,
     place: &Writable,
-) -> Result<S::File, StoreError>
+) -> Answer<S::File>
     ensures unlinked { OnOk result (IsUnlinked (S.told system.now) place.now) }
 {
     file_at(system, alloc, place)?;
@@ -96,7 +92,7 @@ pub(crate) fn open_to_append<S: FileSystem>(
 }
 
 /// The file at a place with its lock, unless another upload has that.
-pub(crate) fn create<S: FileSystem>(system: &S, place: &Writable) -> Result<S::File, StoreError>
+pub(crate) fn create<S: FileSystem>(system: &S, place: &Writable) -> Answer<S::File>
     requires unlinked { IsUnlinked (S.told system.now) place.now }
     requires file { WasFileOrNothing (S.told system.now) place.now }
 {
@@ -111,7 +107,7 @@ pub(crate) fn create<S: FileSystem>(system: &S, place: &Writable) -> Result<S::F
 }
 
 /// The same, where what is missing is a directory.
-pub(crate) fn in_directory<T>(answer: Result<T, StoreError>) -> Result<T, StoreError> {
+pub(crate) fn in_directory<T>(answer: Answer<T>) -> Answer<T> {
     match answer {
         Ok(given) => Ok(given),
         Err(StoreError::Kind(ErrorKind::PermanentFileNotAvailable)) => {

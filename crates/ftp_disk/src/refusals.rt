@@ -6,6 +6,9 @@ ghost use Rattle.ftp_disk.specs.Refusal.{refusal_of};
 use ftp_base::{ErrorKind, StoreError};
 use std::io;
 
+/// What a call of a storage comes to.
+pub(crate) type Answer<T> = Result<T, StoreError>;
+
 /// How an error of the system refuses a call of a storage.
 ///
 /// # Proved
@@ -39,7 +42,7 @@ pub fn refusal(kind: io::ErrorKind) -> StoreError
 }
 
 /// What the system gave, or how its error refuses a call of a storage.
-pub(crate) fn told<T>(answer: io::Result<T>) -> Result<T, StoreError>
+pub(crate) fn told<T>(answer: io::Result<T>) -> Answer<T>
     ensures { IfOk result (λ given. answer ≡ Ok given) }
 {
     match answer {

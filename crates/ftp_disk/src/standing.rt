@@ -6,7 +6,7 @@ ghost use Rattle.ftp_disk.specs.FileSystem.{IsUnlinked};
 ghost use Rattle.ftp_disk.specs.Standing.{ShowsStanding, ShowsRefusal, Stood, WasRefused};
 
 use crate::file_system::FileSystem;
-use crate::refusals::refusal;
+use crate::refusals::{Answer, refusal};
 use ftp_base::{ErrorKind, StoreError};
 use ftp_places::Place;
 use std::alloc::Global;
@@ -23,7 +23,7 @@ pub enum Standing {
 }
 
 // What stands where the system answers so; a link is refused, as is a device, a FIFO or a socket.
-pub(crate) fn standing_of(answer: io::Result<Metadata>) -> Result<Standing, StoreError>
+pub(crate) fn standing_of(answer: io::Result<Metadata>) -> Answer<Standing>
     ensures found { IfOk result (ShowsStanding answer) }
     ensures refused { IfErr result (ShowsRefusal answer) }
 {

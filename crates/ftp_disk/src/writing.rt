@@ -4,19 +4,19 @@ ghost use Rattle.std.specs.Prelude.{◌≡◌};
 
 use crate::budget::Budget;
 use crate::file_system::FileSystem;
-use crate::refusals::{refusal, told};
+use crate::refusals::{Answer, refusal, told};
 use ftp_base::StoreError;
 use std::io;
 use std::io::{Seek, SeekFrom};
 use std::sync::Wait;
 
 /// Goes to a place of a file.
-pub(crate) fn go_to<F: Seek>(file: &mut F, to: SeekFrom) -> Result<u64, StoreError> {
+pub(crate) fn go_to<F: Seek>(file: &mut F, to: SeekFrom) -> Answer<u64> {
     told(file.seek(to))
 }
 
 /// Refuses a place that no file of the system reaches.
-pub(crate) fn check_reach(at: u64) -> Result<(), StoreError> {
+pub(crate) fn check_reach(at: u64) -> Answer<()> {
     match i64::try_from(at) {
         Ok(_) => Ok(()),
         Err(_) => Err(refusal(io::ErrorKind::FileTooLarge)),
@@ -31,7 +31,7 @@ pub(crate) fn cut<R: Wait, S: FileSystem>(
     budget: &Budget,
     file: &mut S::File,
     start: u64,
-) -> Result<(), StoreError> {
+) -> Answer<()> {
     let len = go_to(file, SeekFrom::End(0))?;
     if len == start {
         return Ok(());
@@ -55,7 +55,7 @@ pub(crate) fn put<R: Wait, S: FileSystem>(
     file: &mut S::File,
     at: u64,
     bytes: &[u8],
-) -> Result<(), StoreError> {
+) -> Answer<()> {
     let grant = budget.grant(rt, bytes.len() as u64)?;
     let Err(error) = system.write(file, bytes, &grant) else {
         grant.spend();

@@ -12,6 +12,7 @@ use crate::dating::modified_told;
 use crate::disk::{DiskStorage, counted};
 use crate::file_system::FileSystem;
 use crate::listing::meta_of;
+use crate::refusals::Answer;
 use crate::standing::resolve;
 use ftp_base::{Bytes, ErrorKind, StoreError};
 use ftp_extras::{Archive, Found};
@@ -19,7 +20,7 @@ use std::sync::Wait;
 
 impl<R: Wait + Drop, S: FileSystem + Drop> DiskStorage<R, S> {
     // What stands at a path, and when it was last changed.
-    fn find(&self, user: &Bytes, path: &Bytes) -> Result<Found, StoreError>
+    fn find(&self, user: &Bytes, path: &Bytes) -> Answer<Found>
         ensures dated { IfOk result IsDated }
         ensures homeless { has_home self.now.homes user.now ≡ false → IsErrOf result (StoreError.Kind PermissionDenied) }
     {
@@ -31,7 +32,7 @@ impl<R: Wait + Drop, S: FileSystem + Drop> DiskStorage<R, S> {
         Ok(Found { meta, modified })
     }
 
-    fn remove_file(&self, user: &Bytes, path: &Bytes) -> Result<(), StoreError>
+    fn remove_file(&self, user: &Bytes, path: &Bytes) -> Answer<()>
         ensures read_only { may_write self.now.homes user.now ≡ false → IsErrOf result (StoreError.Kind PermissionDenied) }
     {
         let home = self.homes.find(user)?;
@@ -39,7 +40,7 @@ impl<R: Wait + Drop, S: FileSystem + Drop> DiskStorage<R, S> {
         changing::remove_file(&self.rt, &self.system, self.alloc, &home.budget, &place)
     }
 
-    fn create_dir(&self, user: &Bytes, path: &Bytes) -> Result<(), StoreError>
+    fn create_dir(&self, user: &Bytes, path: &Bytes) -> Answer<()>
         ensures read_only { may_write self.now.homes user.now ≡ false → IsErrOf result (StoreError.Kind PermissionDenied) }
     {
         let home = self.homes.find(user)?;
@@ -47,7 +48,7 @@ impl<R: Wait + Drop, S: FileSystem + Drop> DiskStorage<R, S> {
         changing::make_directory(&self.system, self.alloc, &place)
     }
 
-    fn remove_dir(&self, user: &Bytes, path: &Bytes) -> Result<(), StoreError>
+    fn remove_dir(&self, user: &Bytes, path: &Bytes) -> Answer<()>
         ensures read_only { may_write self.now.homes user.now ≡ false → IsErrOf result (StoreError.Kind PermissionDenied) }
     {
         let home = self.homes.find(user)?;
@@ -55,7 +56,7 @@ impl<R: Wait + Drop, S: FileSystem + Drop> DiskStorage<R, S> {
         changing::remove_directory(&self.system, self.alloc, &place)
     }
 
-    fn move_to(&self, user: &Bytes, from: &Bytes, to: &Bytes) -> Result<(), StoreError>
+    fn move_to(&self, user: &Bytes, from: &Bytes, to: &Bytes) -> Answer<()>
         ensures read_only { may_write self.now.homes user.now ≡ false → IsErrOf result (StoreError.Kind PermissionDenied) }
     {
         let home = self.homes.find(user)?;
@@ -71,7 +72,7 @@ impl<R: Wait + Drop, S: FileSystem + Drop> DiskStorage<R, S> {
         )
     }
 
-    fn set_date(&self, user: &Bytes, path: &Bytes, at: &Bytes) -> Result<(), StoreError>
+    fn set_date(&self, user: &Bytes, path: &Bytes, at: &Bytes) -> Answer<()>
         ensures read_only { may_write self.now.homes user.now ≡ false → IsErrOf result (StoreError.Kind PermissionDenied) }
     {
         let home = self.homes.find(user)?;
@@ -88,7 +89,7 @@ impl<R: Wait + Drop, S: FileSystem + Drop> Archive for DiskStorage<R, S> {
     // - A user without a home is refused a look, and one who may not write each change (`homeless`; also `DiskStorage::remove`:
     //   `read_only`; `DiskStorage::make_directory`: `read_only`; `DiskStorage::remove_directory`: `read_only`;
     //   `DiskStorage::rename`: `read_only`; `DiskStorage::set_modified`: `read_only`).
-    fn look(&mut self, user: &Bytes, path: &Bytes) -> Result<Found, StoreError>
+    fn look(&mut self, user: &Bytes, path: &Bytes) -> Answer<Found>
         ensures dated { IfOk result IsDated }
         ensures homeless { has_home self.old.homes user.now ≡ false → IsErrOf result (StoreError.Kind PermissionDenied) }
         ensures fault_rose { IsErrOf result StoreError.Failed → HasRisen self.old.faults self.new.faults }
@@ -98,7 +99,7 @@ impl<R: Wait + Drop, S: FileSystem + Drop> Archive for DiskStorage<R, S> {
         counted(self.find(user, path), &mut self.faults)
     }
 
-    fn remove(&mut self, user: &Bytes, path: &Bytes) -> Result<(), StoreError>
+    fn remove(&mut self, user: &Bytes, path: &Bytes) -> Answer<()>
         ensures read_only { may_write self.old.homes user.now ≡ false → IsErrOf result (StoreError.Kind PermissionDenied) }
         ensures fault_rose { IsErrOf result StoreError.Failed → HasRisen self.old.faults self.new.faults }
         ensures count { self.old.faults ≤ self.new.faults }
@@ -107,7 +108,7 @@ impl<R: Wait + Drop, S: FileSystem + Drop> Archive for DiskStorage<R, S> {
         counted(self.remove_file(user, path), &mut self.faults)
     }
 
-    fn make_directory(&mut self, user: &Bytes, path: &Bytes) -> Result<(), StoreError>
+    fn make_directory(&mut self, user: &Bytes, path: &Bytes) -> Answer<()>
         ensures read_only { may_write self.old.homes user.now ≡ false → IsErrOf result (StoreError.Kind PermissionDenied) }
         ensures fault_rose { IsErrOf result StoreError.Failed → HasRisen self.old.faults self.new.faults }
         ensures count { self.old.faults ≤ self.new.faults }
@@ -116,7 +117,7 @@ impl<R: Wait + Drop, S: FileSystem + Drop> Archive for DiskStorage<R, S> {
         counted(self.create_dir(user, path), &mut self.faults)
     }
 
-    fn remove_directory(&mut self, user: &Bytes, path: &Bytes) -> Result<(), StoreError>
+    fn remove_directory(&mut self, user: &Bytes, path: &Bytes) -> Answer<()>
         ensures read_only { may_write self.old.homes user.now ≡ false → IsErrOf result (StoreError.Kind PermissionDenied) }
         ensures fault_rose { IsErrOf result StoreError.Failed → HasRisen self.old.faults self.new.faults }
         ensures count { self.old.faults ≤ self.new.faults }
@@ -125,7 +126,7 @@ impl<R: Wait + Drop, S: FileSystem + Drop> Archive for DiskStorage<R, S> {
         counted(self.remove_dir(user, path), &mut self.faults)
     }
 
-    fn rename(&mut self, user: &Bytes, from: &Bytes, to: &Bytes) -> Result<(), StoreError>
+    fn rename(&mut self, user: &Bytes, from: &Bytes, to: &Bytes) -> Answer<()>
         ensures read_only { may_write self.old.homes user.now ≡ false → IsErrOf result (StoreError.Kind PermissionDenied) }
         ensures fault_rose { IsErrOf result StoreError.Failed → HasRisen self.old.faults self.new.faults }
         ensures count { self.old.faults ≤ self.new.faults }
@@ -134,7 +135,7 @@ impl<R: Wait + Drop, S: FileSystem + Drop> Archive for DiskStorage<R, S> {
         counted(self.move_to(user, from, to), &mut self.faults)
     }
 
-    fn set_modified(&mut self, user: &Bytes, path: &Bytes, at: &Bytes) -> Result<(), StoreError>
+    fn set_modified(&mut self, user: &Bytes, path: &Bytes, at: &Bytes) -> Answer<()>
         requires moment { is_moment at.now ≡ true }
         ensures read_only { may_write self.old.homes user.now ≡ false → IsErrOf result (StoreError.Kind PermissionDenied) }
         ensures fault_rose { IsErrOf result StoreError.Failed → HasRisen self.old.faults self.new.faults }

@@ -8,6 +8,7 @@ ghost use Rattle.ftp_disk.specs.Home.{has_home, may_write};
 
 use crate::disk::{DiskStorage, counted};
 use crate::file_system::FileSystem;
+use crate::refusals::Answer;
 use ftp_base::{Bytes, FEATURE_RESTART, FileInfo, Meta, Storage, StoreError};
 use std::sync::Wait;
 
@@ -40,7 +41,7 @@ impl<R: Wait + Drop, S: FileSystem + Drop> Storage for DiskStorage<R, S> {
     //   `read_only`; `DiskStorage::append`: `read_only`).
     // - Where uploads are to come whole, one from the front of a file stands beside its path until it is settled (also
     //   `DiskStorage::begin`: `beside`; `DiskStorage::settle`: `settled`).
-    fn metadata(&mut self, user: &Bytes, path: &Bytes) -> Result<Meta, StoreError>
+    fn metadata(&mut self, user: &Bytes, path: &Bytes) -> Answer<Meta>
         ensures found { IfOk result (WasFound (S.told self.old.system) self.old.homes user.now path.now) }
         ensures homeless { has_home self.old.homes user.now ≡ false → IsErrOf result (StoreError.Kind PermissionDenied) }
         ensures fault_rose { IsErrOf result StoreError.Failed → HasRisen self.old.faults self.new.faults }
@@ -50,7 +51,7 @@ impl<R: Wait + Drop, S: FileSystem + Drop> Storage for DiskStorage<R, S> {
         counted(self.look(user, path), &mut self.faults)
     }
 
-    fn list(&mut self, user: &Bytes, path: &Bytes) -> Result<Vec<FileInfo>, StoreError>
+    fn list(&mut self, user: &Bytes, path: &Bytes) -> Answer<Vec<FileInfo>>
         ensures listed { IfOk result (λ found. WasListed (S.told self.old.system) self.old.homes user.now path.now found.items) }
         ensures homeless { has_home self.old.homes user.now ≡ false → IsErrOf result (StoreError.Kind PermissionDenied) }
         ensures fault_rose { IsErrOf result StoreError.Failed → HasRisen self.old.faults self.new.faults }
@@ -60,13 +61,7 @@ impl<R: Wait + Drop, S: FileSystem + Drop> Storage for DiskStorage<R, S> {
         counted(self.children(user, path), &mut self.faults)
     }
 
-    fn read_at(
-        &mut self,
-        user: &Bytes,
-        path: &Bytes,
-        at: u64,
-        out: &mut [u8],
-    ) -> Result<usize, StoreError>
+    fn read_at(&mut self, user: &Bytes, path: &Bytes, at: u64, out: &mut [u8]) -> Answer<usize>
         ensures within { IfOk result (λ n. n ≤ length out.new) }
         ensures in_range { IfOk result (λ n. at + n < 2 ^ 64) }
         ensures homeless { has_home self.old.homes user.now ≡ false → IsErrOf result (StoreError.Kind PermissionDenied) }
@@ -77,7 +72,7 @@ impl<R: Wait + Drop, S: FileSystem + Drop> Storage for DiskStorage<R, S> {
         counted(self.read(user, path, at, out), &mut self.faults)
     }
 
-    fn begin(&mut self, user: &Bytes, path: &Bytes, start: u64) -> Result<(), StoreError>
+    fn begin(&mut self, user: &Bytes, path: &Bytes, start: u64) -> Answer<()>
         ensures reached { OnOk result (IsReached (S.told self.old.system) self.old.homes user.now path.now) }
         ensures read_only { may_write self.old.homes user.now ≡ false → IsErrOf result (StoreError.Kind PermissionDenied) }
         ensures beside { OnOk result (self.new.is_apart ≡ (self.old.is_whole && nat_eq start 0)) }
@@ -88,7 +83,7 @@ impl<R: Wait + Drop, S: FileSystem + Drop> Storage for DiskStorage<R, S> {
         counted(self.start(user, path, start), &mut self.faults)
     }
 
-    fn append(&mut self, user: &Bytes, path: &Bytes, bytes: &[u8]) -> Result<(), StoreError>
+    fn append(&mut self, user: &Bytes, path: &Bytes, bytes: &[u8]) -> Answer<()>
         ensures read_only { may_write self.old.homes user.now ≡ false → IsErrOf result (StoreError.Kind PermissionDenied) }
         ensures fault_rose { IsErrOf result StoreError.Failed → HasRisen self.old.faults self.new.faults }
         ensures count { self.old.faults ≤ self.new.faults }
@@ -97,7 +92,7 @@ impl<R: Wait + Drop, S: FileSystem + Drop> Storage for DiskStorage<R, S> {
         counted(self.write(user, path, bytes), &mut self.faults)
     }
 
-    fn settle(&mut self, user: &Bytes, path: &Bytes) -> Result<(), StoreError>
+    fn settle(&mut self, user: &Bytes, path: &Bytes) -> Answer<()>
         ensures settled { OnOk result (self.new.is_apart ≡ false) }
         ensures fault_rose { IsErrOf result StoreError.Failed → HasRisen self.old.faults self.new.faults }
         ensures count { self.old.faults ≤ self.new.faults }
