@@ -80,14 +80,6 @@ fn within(n: i64, lo: u32, hi: u32) -> Option<u32>
     if lo <= n && n <= hi { Some(n) } else { None }
 }
 
-// A port that can be named.
-fn port_in(n: i64) -> Option<u16>
-    ensures { result ≡ within 1 65535 n }
-{
-    let n = u16::try_from(n).ok()?;
-    if n >= 1 { Some(n) } else { None }
-}
-
 // The number at a key, or the usual one.
 pub(crate) fn number(
     table: &Table,
@@ -115,13 +107,9 @@ pub(crate) fn port(table: &Table, key: Key, usual: u16) -> Result<u16, ConfigErr
     ensures written { IfOk result (λ n. number_or 1 65535 usual (value_at key (table_view table.now)) ≡ Some n) }
     ensures refused { IfErr result (IsFaultIn (table_view table.now)) }
 {
-    let Some(value) = at(table, key) else {
-        return Ok(usual);
-    };
-    let Some(n) = value.as_integer() else {
-        return Err(ConfigError::Value(key));
-    };
-    port_in(n).ok_or(ConfigError::Value(key))
+    let n = number(table, key, 1, 65535, u32::from(usual))?;
+    let port = n as u16;
+    Ok(port)
 }
 
 // The yes or no at a key, or the usual one.
