@@ -46,7 +46,8 @@ pub(crate) fn resolve_writable<S: FileSystem>(
 /// How long the file is that stands at a place that may be changed.
 pub(crate) fn file_at<S: FileSystem>(system: &S, alloc: Global, place: &Writable) -> Answer<u64>
     ensures unlinked { OnOk result (IsUnlinked (S.told system.now) place.now) }
-    ensures file { OnOk result (WasFileOrNothing (S.told system.now) place.now) }
+    ensures found { IfOk result (λ len. Stood (S.told system.now) place.now (Standing.File len)) }
+    ensures may_create { OnOk result (WasFileOrNothing (S.told system.now) place.now) }
 {
     let found = resolve_writable(system, alloc, place)?;
     match found {
