@@ -1,5 +1,5 @@
 -- The lines by which a running gateway is asked for something.
-use Rattle.std.specs.Prelude.{ℕ, List, ◌++◌, ◌∷◌, [], Option, Some, None, codes, if◌then◌else◌}
+use Rattle.std.specs.Prelude.{ℕ, List, ◌∷◌, [], find, Option, codes}
 use Rattle.std.specs.Str.{bytes_eq}
 use Rattle.ftp_gateway.specs.declared.request.Request.{Request}
 use Rattle.ftp_gateway.specs.declared.request.Request.TheVariants.{Stop, Reload, Status}
@@ -12,7 +12,4 @@ request_text Status = codes "status\n"
 
 -- what a line asks for
 abbrev pub line_request : List ℕ → Option Request
-line_request line =
-    if bytes_eq line (request_text Stop) then Some Stop else
-    (if bytes_eq line (request_text Reload) then Some Reload else
-    (if bytes_eq line (request_text Status) then Some Status else None))
+line_request line = find (λ request. bytes_eq (request_text request) line) (Stop ∷ Reload ∷ Status ∷ [])

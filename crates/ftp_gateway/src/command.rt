@@ -4,6 +4,7 @@ ghost use Rattle.std.specs.Prelude.{◌≡◌, map, string_bytes};
 ghost use Rattle.ftp_gateway.specs.Words.{command_of, command_of_word, command_of_two};
 
 use crate::request::Request;
+use ftp_base::value_named;
 
 /// What is asked for. A command with a file has it as its second word.
 #[derive(Clone, Copy, Debug, PartialEq, Eq)]
@@ -19,6 +20,22 @@ pub enum Command {
     /// Asks a running gateway for something, at its control socket.
     Ask(Request),
 }
+
+// What a word by itself asks for.
+const WORDS: [(&[u8], Command); 3] = [
+    (b"--help", Command::Help),
+    (b"--version", Command::Version),
+    (b"mkpasswd", Command::MakePassword),
+];
+
+// What a word with a file behind it asks for.
+const FILE_WORDS: [(&[u8], Command); 5] = [
+    (b"serve", Command::Serve),
+    (b"check", Command::Check),
+    (b"stop", Command::Ask(Request::Stop)),
+    (b"reload", Command::Ask(Request::Reload)),
+    (b"status", Command::Ask(Request::Status)),
+];
 
 impl Command {
     /// What the words behind the program's name ask for, where they are a command.
@@ -36,37 +53,17 @@ impl Command {
         }
     }
 
-    // What a word by itself asks for.
+    #[tactic(auto, unfolding(crate::specs::Words::command_of_word))]
     fn of_word(word: &[u8]) -> Option<Command>
         ensures { result ≡ command_of_word word.now }
     {
-        if word == b"--help".as_slice() {
-            Some(Command::Help)
-        } else if word == b"--version".as_slice() {
-            Some(Command::Version)
-        } else if word == b"mkpasswd".as_slice() {
-            Some(Command::MakePassword)
-        } else {
-            None
-        }
+        value_named(&WORDS, word)
     }
 
-    // What a word with a file behind it asks for.
+    #[tactic(auto, unfolding(crate::specs::Words::command_of_two))]
     fn of_two(word: &[u8]) -> Option<Command>
         ensures { result ≡ command_of_two word.now }
     {
-        if word == b"serve".as_slice() {
-            Some(Command::Serve)
-        } else if word == b"check".as_slice() {
-            Some(Command::Check)
-        } else if word == b"stop".as_slice() {
-            Some(Command::Ask(Request::Stop))
-        } else if word == b"reload".as_slice() {
-            Some(Command::Ask(Request::Reload))
-        } else if word == b"status".as_slice() {
-            Some(Command::Ask(Request::Status))
-        } else {
-            None
-        }
+        value_named(&FILE_WORDS, word)
     }
 }

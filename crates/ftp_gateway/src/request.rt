@@ -13,6 +13,8 @@ pub enum Request {
     Status,
 }
 
+const REQUESTS: [Request; 3] = [Request::Stop, Request::Reload, Request::Status];
+
 impl Request {
     /// The line that asks for it.
     pub fn text(self) -> &'static [u8]
@@ -34,14 +36,9 @@ impl Request {
     pub fn of(line: &[u8]) -> Option<Request>
         ensures { result ≡ line_request line.now }
     {
-        if line == Request::Stop.text() {
-            Some(Request::Stop)
-        } else if line == Request::Reload.text() {
-            Some(Request::Reload)
-        } else if line == Request::Status.text() {
-            Some(Request::Status)
-        } else {
-            None
-        }
+        REQUESTS
+            .iter()
+            .copied()
+            .find(|request| request.text() == line)
     }
 }
