@@ -1,7 +1,8 @@
 -- The words of the program.
 --   IsMode word mode       the word names the mode
 --   Asks words command     the words behind the program's name ask for the command
-use Rattle.std.specs.Prelude.{◌≡◌, ℕ, ◌^◌, ◌≤◌, IsSomeAnd, List, [], ◌∷◌, ◌++◌, Option, Some, None, codes, if◌then◌else◌}
+use Rattle.std.specs.Prelude.{◌≡◌, ℕ, ◌^◌, ◌≤◌, IsSomeAnd, List, [], ◌∷◌, ◌++◌, Option, Some, None, codes}
+use Rattle.std.specs.Map.{lookup}
 use Rattle.std.specs.Str.{bytes_eq}
 use Rattle.ftp_options.specs.declared.options.ListenerMode.{ListenerMode}
 use Rattle.ftp_options.specs.declared.options.ListenerMode.TheVariants.{Legacy, Pooled, Proxy}
@@ -11,9 +12,8 @@ use Rattle.ftp_serve.specs.declared.service.Service.{Service}
 use Rattle.ftp_serve.specs.declared.command.Command.TheVariants.{Help, Version, Serve}
 
 -- what a word by itself asks for
-abbrev pub command_of : List ℕ → Option Command
-command_of word =
-    if bytes_eq word (codes "--help") then Some Help else if bytes_eq word (codes "--version") then Some Version else None
+unfoldable pub command_of : List ℕ → Option Command
+command_of word = lookup (λ name. bytes_eq name word) ((codes "--help", Help) ∷ (codes "--version", Version) ∷ [])
 
 -- a word is a port in decimal digits, of which a zero leads no other
 abbrev pub IsPort : List ℕ → ℕ → Type 0

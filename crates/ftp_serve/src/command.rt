@@ -7,7 +7,7 @@ ghost use Rattle.ftp_serve.specs.declared.service.Service.{Service};
 ghost use Rattle.ftp_serve.specs.Words.{Asks, AsksService, IsCount, IsMode, command_of};
 
 use crate::service::Service;
-use ftp_base::decimal_in;
+use ftp_base::{decimal_in, value_named};
 use ftp_options::ListenerMode;
 use ftp_system::port_of;
 
@@ -18,6 +18,9 @@ pub enum Command {
     /// It listens at the address that the first word says.
     Serve(Service),
 }
+
+// What a word by itself asks for.
+const WORDS: [(&[u8], Command); 2] = [(b"--help", Command::Help), (b"--version", Command::Version)];
 
 impl Service {
     // What three words ask for, where they are a mode and two ports.
@@ -85,17 +88,11 @@ impl Command {
         }
     }
 
-    // What a word by itself asks for.
+    #[tactic(auto, unfolding(crate::specs::Words::command_of))]
     fn of_word(word: &[u8]) -> Option<Command>
         ensures { result ≡ command_of word.now }
     {
-        if word == b"--help".as_slice() {
-            Some(Command::Help)
-        } else if word == b"--version".as_slice() {
-            Some(Command::Version)
-        } else {
-            None
-        }
+        value_named(&WORDS, word)
     }
 }
 
