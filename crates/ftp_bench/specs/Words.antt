@@ -1,6 +1,8 @@
 -- The words of the program.
-use Rattle.std.specs.Prelude.{◌≡◌, ℕ, ◌^◌, ◌<◌, IsTrue, List, [], ◌∷◌, Option, Some, None, codes, decimal, if◌then◌else◌}
+use Rattle.std.specs.Prelude.{◌≡◌, ℕ, ◌^◌, ◌<◌, IsTrue, List, [], ◌∷◌, Option, Some, codes}
+use Rattle.std.specs.Map.{lookup}
 use Rattle.std.specs.Str.{bytes_eq}
+use Rattle.ftp_base.specs.Decimal.{decimal_below}
 use Rattle.ftp_bench.specs.declared.command.Kind.{Kind}
 use Rattle.ftp_bench.specs.declared.command.Kind.TheVariants.{Retr, Stor, Quota, Copy}
 use Rattle.ftp_bench.specs.declared.command.Command.{Command}
@@ -12,32 +14,23 @@ use Rattle.ftp_bench.specs.declared.command.Way.TheVariants.{Run, Log, Shared}
 use Rattle.ftp_bench.specs.declared.command.Command.TheVariants.{Help, Version, Talk, Move, Reserve, Append}
 
 -- what a word says is moved
-abbrev pub kind_of : List ℕ → Option Kind
+unfoldable pub kind_of : List ℕ → Option Kind
 kind_of word =
-    if bytes_eq word (codes "retr") then Some Retr
-    else if bytes_eq word (codes "stor") then Some Stor
-    else if bytes_eq word (codes "quota") then Some Quota
-    else if bytes_eq word (codes "copy") then Some Copy
-    else None
+    lookup (λ name. bytes_eq name word) ((codes "retr", Retr) ∷ (codes "stor", Stor) ∷ (codes "quota", Quota) ∷ (codes "copy", Copy) ∷ [])
 
 -- whose hub a word says takes the events
-abbrev pub way_of : List ℕ → Option Way
+unfoldable pub way_of : List ℕ → Option Way
 way_of word =
-    if bytes_eq word (codes "run") then Some Run
-    else if bytes_eq word (codes "log") then Some Log
-    else if bytes_eq word (codes "one") then Some (Shared One)
-    else if bytes_eq word (codes "two") then Some (Shared Two)
-    else if bytes_eq word (codes "four") then Some (Shared Four)
-    else None
+    lookup (λ name. bytes_eq name word)
+    ((codes "run", Run) ∷ (codes "log", Log) ∷ (codes "one", Shared One) ∷ (codes "two", Shared Two) ∷ (codes "four", Shared Four) ∷ [])
 
 -- what a word by itself asks for
-abbrev pub command_of : List ℕ → Option Command
-command_of word =
-    if bytes_eq word (codes "--help") then Some Help else if bytes_eq word (codes "--version") then Some Version else None
+unfoldable pub command_of : List ℕ → Option Command
+command_of word = lookup (λ name. bytes_eq name word) ((codes "--help", Help) ∷ (codes "--version", Version) ∷ [])
 
 -- a word is a number below a limit in decimal digits, without a sign or a leading zero
-abbrev pub IsNumber : ℕ → List ℕ → ℕ → Type 0
-IsNumber limit word n = (word ≡ decimal n) × (n < limit)
+unfoldable pub IsNumber : ℕ → List ℕ → ℕ → Type 0
+IsNumber limit word n = (decimal_below (2 ^ 64) word ≡ Some n) × (n < limit)
 
 -- the words ask for the held ports from one on and below another, the word, and so many rounds
 abbrev pub AsksSearch : List ℕ → List ℕ → List ℕ → List ℕ → Search → Type 0

@@ -1,11 +1,13 @@
 //! What the words of the program ask for.
 
-ghost use Rattle.std.specs.Prelude.{◌≡◌, ℕ, map, string_bytes, IfSome, IsNone};
+ghost use Rattle.std.specs.Prelude.{◌≡◌, ◌<◌, ℕ, map, string_bytes, IfSome, IsNone};
 ghost use Rattle.ftp_bench.specs.declared.command.Command.{Command};
 ghost use Rattle.ftp_bench.specs.declared.command.Search.{Search};
 ghost use Rattle.ftp_bench.specs.declared.command.Appends.{Appends};
 ghost use Rattle.ftp_bench.specs.Appending.{threads_of};
 ghost use Rattle.ftp_bench.specs.Words.{command_of, kind_of, way_of, IsNumber, Asks, AsksAppends, AsksSearch};
+
+use ftp_base::{decimal_in, value_named};
 
 /// What is moved.
 #[derive(Clone, Copy, Debug, PartialEq, Eq)]
@@ -73,21 +75,30 @@ pub enum Command {
     Append(Appends),
 }
 
+// What a word by itself asks for.
+const WORDS: [(&[u8], Command); 2] = [(b"--help", Command::Help), (b"--version", Command::Version)];
+
+const KINDS: [(&[u8], Kind); 4] = [
+    (b"retr", Kind::Retr),
+    (b"stor", Kind::Stor),
+    (b"quota", Kind::Quota),
+    (b"copy", Kind::Copy),
+];
+
+const WAYS: [(&[u8], Way); 5] = [
+    (b"run", Way::Run),
+    (b"log", Way::Log),
+    (b"one", Way::Shared(Crew::One)),
+    (b"two", Way::Shared(Crew::Two)),
+    (b"four", Way::Shared(Crew::Four)),
+];
+
 impl Kind {
+    #[tactic(auto, unfolding(crate::specs::Words::kind_of))]
     pub fn named(word: &[u8]) -> Option<Kind>
         ensures { result ≡ kind_of word.now }
     {
-        if word == b"retr".as_slice() {
-            Some(Kind::Retr)
-        } else if word == b"stor".as_slice() {
-            Some(Kind::Stor)
-        } else if word == b"quota".as_slice() {
-            Some(Kind::Quota)
-        } else if word == b"copy".as_slice() {
-            Some(Kind::Copy)
-        } else {
-            None
-        }
+        value_named(&KINDS, word)
     }
 }
 
@@ -104,28 +115,17 @@ impl Crew {
 }
 
 impl Way {
+    #[tactic(auto, unfolding(crate::specs::Words::way_of))]
     pub fn named(word: &[u8]) -> Option<Way>
         ensures { result ≡ way_of word.now }
     {
-        if word == b"run".as_slice() {
-            Some(Way::Run)
-        } else if word == b"log".as_slice() {
-            Some(Way::Log)
-        } else if word == b"one".as_slice() {
-            Some(Way::Shared(Crew::One))
-        } else if word == b"two".as_slice() {
-            Some(Way::Shared(Crew::Two))
-        } else if word == b"four".as_slice() {
-            Some(Way::Shared(Crew::Four))
-        } else {
-            None
-        }
+        value_named(&WAYS, word)
     }
 }
 
 impl Appends {
     /// What three words ask for, where they are a way and two numbers.
-    fn of(way: &[u8], sessions: &str, rounds: &str) -> Option<Appends>
+    fn of(way: &[u8], sessions: &[u8], rounds: &[u8]) -> Option<Appends>
         ensures found { IfSome result (AsksAppends way.now sessions.now rounds.now) }
         ensures none { IsNone result → (appends : Appends) → AsksAppends way.now sessions.now rounds.now appends → ⊥ }
     {
@@ -139,7 +139,7 @@ impl Appends {
 
 impl Search {
     /// What four words ask for, where they are numbers.
-    fn of(first: &str, end: &str, word: &str, rounds: &str) -> Option<Search>
+    fn of(first: &[u8], end: &[u8], word: &[u8], rounds: &[u8]) -> Option<Search>
         ensures found { IfSome result (AsksSearch first.now end.now word.now rounds.now) }
         ensures none { IsNone result → (search : Search) → AsksSearch first.now end.now word.now rounds.now search → ⊥ }
     {
@@ -170,18 +170,18 @@ impl Command {
                 if name.as_bytes() != b"talk".as_slice() {
                     return None;
                 }
-                Some(Command::Talk(number(packets.as_str(), 1 << 16)? as u16))
+                Some(Command::Talk(number(packets.as_bytes(), 1 << 16)? as u16))
             }
             [kind, mebibytes, rounds] => Some(Command::Move(Load {
                 kind: Kind::named(kind.as_bytes())?,
-                mebibytes: number(mebibytes.as_str(), 1 << 8)? as u8,
-                rounds: number(rounds.as_str(), 1 << 16)? as u16,
+                mebibytes: number(mebibytes.as_bytes(), 1 << 8)? as u8,
+                rounds: number(rounds.as_bytes(), 1 << 16)? as u16,
             })),
             [name, way, sessions, rounds] => {
                 if name.as_bytes() != b"append".as_slice() {
                     return None;
                 }
-                let appends = Appends::of(way.as_bytes(), sessions.as_str(), rounds.as_str())?;
+                let appends = Appends::of(way.as_bytes(), sessions.as_bytes(), rounds.as_bytes())?;
                 Some(Command::Append(appends))
             }
             [name, first, end, word, rounds] => {
@@ -189,10 +189,10 @@ impl Command {
                     return None;
                 }
                 let search = Search::of(
-                    first.as_str(),
-                    end.as_str(),
-                    word.as_str(),
-                    rounds.as_str(),
+                    first.as_bytes(),
+                    end.as_bytes(),
+                    word.as_bytes(),
+                    rounds.as_bytes(),
                 )?;
                 Some(Command::Reserve(search))
             }
@@ -200,32 +200,23 @@ impl Command {
         }
     }
 
-    /// What a word by itself asks for.
+    #[tactic(auto, unfolding(crate::specs::Words::command_of))]
     fn of_word(word: &[u8]) -> Option<Command>
         ensures { result ≡ command_of word.now }
     {
-        if word == b"--help".as_slice() {
-            Some(Command::Help)
-        } else if word == b"--version".as_slice() {
-            Some(Command::Version)
-        } else {
-            None
-        }
+        value_named(&WORDS, word)
     }
 }
 
 /// The number below a limit that a word spells in decimal digits, without a sign or a leading zero.
-fn number(word: &str, limit: u32) -> Option<u32>
+#[tactic(auto, unfolding(crate::specs::Words::IsNumber))]
+fn number(word: &[u8], limit: u32) -> Option<u32>
     ensures found { IfSome result (IsNumber limit word.now) }
+    ensures below { IfSome result (λ n. n < limit) }
     ensures none { IsNone result → (n : ℕ) → IsNumber limit word.now n → ⊥ }
 {
-    let digits = word.as_bytes();
-    let first = *digits.first()?;
-    if first == b'+' || (first == b'0' && digits.len() > 1) {
-        return None;
-    }
-    match word.parse::<u32>() {
-        Ok(n) if n < limit => Some(n),
+    match decimal_in(word) {
+        Some(n) if n < u64::from(limit) => Some(n as u32),
         _ => None,
     }
 }
