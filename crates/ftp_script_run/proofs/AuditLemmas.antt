@@ -14,7 +14,6 @@ use Rattle.ftp_text.specs.declared.setup.Item.{Item}
 use Rattle.ftp_script_run.specs.declared.text_script.ScriptReader.{ScriptReader}
 use Rattle.ftp_script_run.specs.Script.{IsScriptOf}
 use Rattle.ftp_script_run.specs.ScriptReader.{HasRead, ReadsAhead, StopsBehind, IsLetIn}
-use Rattle.ftp_script_run.proofs.Reading.{script-once}
 use Rattle.ftp_audit.specs.Heard.{AuditState, HasHeard, Stands}
 use Rattle.ftp_script_run.specs.declared.run.Run.{Run}
 use Rattle.ftp_script_run.specs.declared.status.Status.{Status}
@@ -23,8 +22,9 @@ use Rattle.ftp_script_run.specs.Statuses.{ended_by}
 use Rattle.ftp_script_run.specs.Outcome.{bad_line}
 use Rattle.ftp_script_run.specs.Runs.{Keeps}
 use Rattle.ftp_script_run.specs.Audited.{IsNoted, Hearing, Reports, ReportsPart, behind_report, AuditsPart, AuditOutcome}
-use Rattle.ftp_script_run.proofs.RunLemmas.{kept-legal, stands-anew}
-use Rattle.ftp_control.proofs.WritingLemmas.{front-more, front-longer}
+use Rattle.ftp_script_run.proofs.OutcomeLemmas.{ends-so, reads-writes, front-writes, all-writes}
+use Rattle.ftp_script_run.proofs.RunLemmas.{stands-anew}
+use Rattle.ftp_control.proofs.WritingLemmas.{front-more, front-longer, on_ok-then, on_err-then}
 
 -- the audit stands for the log of the run
 heard-stands : (run : Run) (items : List Item) (log : List Entry) (audit : AuditState) → Keeps None run items log → HasHeard audit log → Stands (options_of run.hub) audit log
@@ -66,72 +66,7 @@ pub heard-memory : (failed : Type 0) (all left later old new : Option (List ℕ)
     new ≡ old →
     IfSome all (λ bytes. AuditsPart failed bytes later old new)
 heard-memory failed all left later old new reader run audit buffer r ahead same =
-    IfSome_then all r.read
-    (λ bytes h. record {
-      read = h.read;
-      rest = h.bytes;
-      items = r.items;
-      bad = None;
-      log = r.log;
-      all_is = h.all_is;
-      whole = h.whole;
-      script = h.items;
-      reads = ahead bytes h;
-      links = run.links;
-      storage = run.storage;
-      legal = kept-legal run r.items r.log r.kept;
-      begun = inl same;
-      reported = inl same;
-    })
-
--- all bytes were read, and the report was begun
-part-all : (failed : Type 0) (bytes : List ℕ) (later old new : Option (List ℕ)) (run : Run) (items : List Item) (log : List Entry) (bad : Option ℕ) →
-    IsScriptOf bytes items bad →
-    ReadsAhead items bytes later →
-    Keeps None run items log →
-    ReportsPart (options_of run.hub) log (behind_report bad) old new →
-    AuditsPart failed bytes later old new
-part-all failed bytes later old new run items log bad script ahead kept part = record {
-  read = bytes;
-  rest = [];
-  items = items;
-  bad = bad;
-  log = log;
-  all_is = append-nil bytes;
-  whole = inr refl;
-  script = script;
-  reads = ahead;
-  links = run.links;
-  storage = run.storage;
-  legal = kept-legal run items log kept;
-  begun = inr (inl refl);
-  reported = part;
-}
-
--- the source has failed, and the report was begun
-part-failed : (failed : Type 0) (bytes : List ℕ) (left later old new : Option (List ℕ)) (reader : ScriptReader) (buffer : List ℕ) (run : Run) (items : List Item) (log : List Entry) →
-    failed →
-    HasRead items bytes reader buffer left →
-    ReadsAhead items bytes later →
-    Keeps None run items log →
-    ReportsPart (options_of run.hub) log [] old new →
-    AuditsPart failed bytes later old new
-part-failed failed bytes left later old new reader buffer run items log risen h ahead kept part = record {
-  read = h.read;
-  rest = h.bytes;
-  items = items;
-  bad = None;
-  log = log;
-  all_is = h.all_is;
-  whole = h.whole;
-  script = h.items;
-  reads = ahead;
-  links = run.links;
-  storage = run.storage;
-  legal = kept-legal run items log kept;
-  begun = inr (inr risen);
-  reported = part;
-}
+    IfSome_then all r.read (λ bytes h. front-writes bytes later run r.items r.log (ahead bytes h) r.kept h (inl same, inl same))
 
 pub heard-end : (failed : Type 0) (all left later old new : Option (List ℕ)) (reader : ScriptReader) (run : Run) (audit : AuditState) (buffer : List ℕ) (last : Result Unit Failed) (r : Hearing all reader run audit buffer left) →
     ((bytes : List ℕ) → HasRead r.items bytes reader buffer left → IsScriptOf bytes r.items None × (later ≡ Some [])) →
@@ -139,22 +74,12 @@ pub heard-end : (failed : Type 0) (all left later old new : Option (List ℕ)) (
     OnOk last ((o : Options) (log : List Entry) → Stands o audit log → Reports o log [] old new) →
     OnErr last ((o : Options) (log : List Entry) → Stands o audit log → ReportsPart o log [] old new) →
     IfSome all (λ bytes. AuditOutcome (ended_by last status.Done) failed bytes later old new)
-heard-end failed all left later old new reader run audit buffer (Ok x) r told ahead wrote front =
+heard-end failed all left later old new reader run audit buffer last r told ahead wrote front =
+    let stands = heard-stands run r.items r.log audit r.kept r.heard in
     IfSome_then all r.read
-    (λ bytes h. record {
-      items = r.items;
-      log = r.log;
-      script = (told bytes h).0;
-      end = (told bytes h).1;
-      links = run.links;
-      storage = run.storage;
-      legal = kept-legal run r.items r.log r.kept;
-      reported = wrote (options_of run.hub) r.log (heard-stands run r.items r.log audit r.kept r.heard);
-    })
-heard-end failed all left later old new reader run audit buffer (Err Fault) r told ahead wrote front =
-    IfSome_then all r.read (λ bytes h. part-all failed bytes later old new run r.items r.log None (told bytes h).0 (ahead bytes h) r.kept (front (options_of run.hub) r.log (heard-stands run r.items r.log audit r.kept r.heard)))
-heard-end failed all left later old new reader run audit buffer (Err Memory) r told ahead wrote front =
-    IfSome_then all r.read (λ bytes h. part-all failed bytes later old new run r.items r.log None (told bytes h).0 (ahead bytes h) r.kept (front (options_of run.hub) r.log (heard-stands run r.items r.log audit r.kept r.heard)))
+    (λ bytes h. ends-so status.Done last bytes later
+    (on_ok-then last wrote (λ wrote. reads-writes run r.items r.log r.kept (told bytes h) (wrote (options_of run.hub) r.log stands)))
+    (on_err-then last front (λ front. all-writes bytes later run r.items r.log (ahead bytes h) r.kept None (told bytes h).0 (inr (inl refl), front (options_of run.hub) r.log stands))))
 
 pub heard-bad : (failed : Type 0) (all left later old new : Option (List ℕ)) (reader : ScriptReader) (run : Run) (audit : AuditState) (buffer : List ℕ) (k : ℕ) (last : Result Unit Failed) (r : Hearing all reader run audit buffer left) →
     ((bytes : List ℕ) → HasRead r.items bytes reader buffer left → IsScriptOf bytes r.items (Some k)) →
@@ -162,22 +87,12 @@ pub heard-bad : (failed : Type 0) (all left later old new : Option (List ℕ)) (
     OnOk last ((o : Options) (log : List Entry) → Stands o audit log → Reports o log (bad_line k) old new) →
     OnErr last ((o : Options) (log : List Entry) → Stands o audit log → ReportsPart o log (bad_line k) old new) →
     IfSome all (λ bytes. AuditOutcome (ended_by last (status.BadLine k)) failed bytes later old new)
-heard-bad failed all left later old new reader run audit buffer k (Ok x) r told ahead wrote front =
+heard-bad failed all left later old new reader run audit buffer k last r told ahead wrote front =
+    let stands = heard-stands run r.items r.log audit r.kept r.heard in
     IfSome_then all r.read
-    (λ bytes h. record {
-      items = r.items;
-      log = r.log;
-      script = told bytes h;
-      reads = ahead bytes h;
-      links = run.links;
-      storage = run.storage;
-      legal = kept-legal run r.items r.log r.kept;
-      reported = wrote (options_of run.hub) r.log (heard-stands run r.items r.log audit r.kept r.heard);
-    })
-heard-bad failed all left later old new reader run audit buffer k (Err Fault) r told ahead wrote front =
-    IfSome_then all r.read (λ bytes h. part-all failed bytes later old new run r.items r.log (Some k) (told bytes h) (ahead bytes h) r.kept (front (options_of run.hub) r.log (heard-stands run r.items r.log audit r.kept r.heard)))
-heard-bad failed all left later old new reader run audit buffer k (Err Memory) r told ahead wrote front =
-    IfSome_then all r.read (λ bytes h. part-all failed bytes later old new run r.items r.log (Some k) (told bytes h) (ahead bytes h) r.kept (front (options_of run.hub) r.log (heard-stands run r.items r.log audit r.kept r.heard)))
+    (λ bytes h. ends-so (status.BadLine k) last bytes later
+    (on_ok-then last wrote (λ wrote. reads-writes run r.items r.log r.kept (told bytes h, ahead bytes h) (wrote (options_of run.hub) r.log stands)))
+    (on_err-then last front (λ front. all-writes bytes later run r.items r.log (ahead bytes h) r.kept (Some k) (told bytes h) (inr (inl refl), front (options_of run.hub) r.log stands))))
 
 pub heard-fault : (failed : Type 0) (all left later old new : Option (List ℕ)) (reader : ScriptReader) (run : Run) (audit : AuditState) (buffer : List ℕ) (last : Result Unit Failed) (r : Hearing all reader run audit buffer left) →
     failed →
@@ -186,26 +101,14 @@ pub heard-fault : (failed : Type 0) (all left later old new : Option (List ℕ))
     OnOk last ((o : Options) (log : List Entry) → Stands o audit log → Reports o log [] old new) →
     OnErr last ((o : Options) (log : List Entry) → Stands o audit log → ReportsPart o log [] old new) →
     IfSome all (λ bytes. AuditOutcome (ended_by last status.ReadFault) failed bytes later old new)
-heard-fault failed all left later old new reader run audit buffer (Ok x) r risen told ahead wrote front =
+heard-fault failed all left later old new reader run audit buffer last r risen told ahead wrote front =
+    let stands = heard-stands run r.items r.log audit r.kept r.heard in
     IfSome_then all r.read
-    (λ bytes h. record {
-      items = r.items;
-      log = r.log;
-      stopped = told bytes h;
-      links = run.links;
-      storage = run.storage;
-      legal = kept-legal run r.items r.log r.kept;
-      reported = wrote (options_of run.hub) r.log (heard-stands run r.items r.log audit r.kept r.heard);
-    })
-heard-fault failed all left later old new reader run audit buffer (Err Fault) r risen told ahead wrote front =
-    IfSome_then all r.read (λ bytes h. part-failed failed bytes left later old new reader buffer run r.items r.log risen h (ahead bytes h) r.kept (front (options_of run.hub) r.log (heard-stands run r.items r.log audit r.kept r.heard)))
-heard-fault failed all left later old new reader run audit buffer (Err Memory) r risen told ahead wrote front =
-    IfSome_then all r.read (λ bytes h. part-failed failed bytes left later old new reader buffer run r.items r.log risen h (ahead bytes h) r.kept (front (options_of run.hub) r.log (heard-stands run r.items r.log audit r.kept r.heard)))
+    (λ bytes h. ends-so status.ReadFault last bytes later
+    (on_ok-then last wrote (λ wrote. reads-writes run r.items r.log r.kept (told bytes h) (wrote (options_of run.hub) r.log stands)))
+    (on_err-then last front (λ front. front-writes bytes later run r.items r.log (ahead bytes h) r.kept h (inr (inr risen), front (options_of run.hub) r.log stands))))
 
--- ---- what a status says
-
-pub audited-of : (failed : Type 0) (all left old new : Option (List ℕ)) (s t : Status) → s ≡ t → IfSome all (λ bytes. AuditOutcome s failed bytes left old new) → IfSome all (λ bytes. AuditOutcome t failed bytes left old new)
-audited-of failed all left old new s t same h = subst (λ (u : Status). IfSome all (λ bytes. AuditOutcome u failed bytes left old new)) same h
+-- ---- a source that fails
 
 -- a source that failed later has failed since
 pub risen-earlier : (old now new : ℕ) → old ≤ now → HasRisen now new → now ≤ new → HasRisen old new
@@ -228,8 +131,7 @@ part-earlier failed since bytes left old new f p = record {
   links = p.links;
   storage = p.storage;
   legal = p.legal;
-  begun = begun-earlier p.begun;
-  reported = p.reported;
+  wrote = (begun-earlier p.wrote.0, p.wrote.1);
 } where
   begun-earlier : (new ≡ old) ⊎ ((p.rest ≡ []) ⊎ failed) → (new ≡ old) ⊎ ((p.rest ≡ []) ⊎ since)
   begun-earlier (inl same) = inl same
@@ -255,34 +157,3 @@ audit-ends all left now old new first since last s up more same out =
     IfSome_then all out
     (λ bytes o. subst (λ (w : Option (List ℕ)). AuditOutcome s (HasRisen first last) bytes left w new) same
     (audited-earlier s (HasRisen since last) (HasRisen first last) bytes left now new (λ risen. risen-earlier first since last up risen more) o))
-
--- of a script that was audited while nothing failed, all was run
-pub audits_whole : (s : Status) (failed : Type 0) (bytes : List ℕ) (left old new : Option (List ℕ)) (items : List Item) →
-    AuditOutcome s failed bytes left old new →
-    IsScriptOf bytes items None →
-    (s ≡ status.ReadFault → ⊥) →
-    (s ≡ status.WriteFault → ⊥) →
-    (s ≡ status.Done) ⊎ (s ≡ status.OutOfMemory)
-audits_whole status.Done failed bytes left old new items out is no_read no_write = inl refl
-audits_whole (status.BadLine k) failed bytes left old new items out is no_read no_write =
-    let other : Some k ≡ None = (script-once bytes items out.items None (Some k) is out.script).1 in absurd cc
-audits_whole status.ReadFault failed bytes left old new items out is no_read no_write = absurd (no_read refl)
-audits_whole status.WriteFault failed bytes left old new items out is no_read no_write = absurd (no_write refl)
-audits_whole status.OutOfMemory failed bytes left old new items out is no_read no_write = inr refl
-audits_whole status.Usage failed bytes left old new items out is no_read no_write = absurd out
-
--- and of other bytes the first bad line was named
-pub audits_to_bad : (s : Status) (k : ℕ) (failed : Type 0) (bytes : List ℕ) (left old new : Option (List ℕ)) (items : List Item) →
-    AuditOutcome s failed bytes left old new →
-    IsScriptOf bytes items (Some k) →
-    (s ≡ status.ReadFault → ⊥) →
-    (s ≡ status.WriteFault → ⊥) →
-    (s ≡ status.BadLine k) ⊎ (s ≡ status.OutOfMemory)
-audits_to_bad status.Done k failed bytes left old new items out is no_read no_write =
-    let other : None ≡ Some k = (script-once bytes items out.items (Some k) None is out.script).1 in absurd cc
-audits_to_bad (status.BadLine j) k failed bytes left old new items out is no_read no_write =
-    let same : Some j ≡ Some k = (script-once bytes items out.items (Some k) (Some j) is out.script).1 in inl cc
-audits_to_bad status.ReadFault k failed bytes left old new items out is no_read no_write = absurd (no_read refl)
-audits_to_bad status.WriteFault k failed bytes left old new items out is no_read no_write = absurd (no_write refl)
-audits_to_bad status.OutOfMemory k failed bytes left old new items out is no_read no_write = inr refl
-audits_to_bad status.Usage k failed bytes left old new items out is no_read no_write = absurd out

@@ -10,7 +10,6 @@ use Rattle.ftp_hub.specs.declared.state.StateError.{StateError}
 use Rattle.ftp_hub.specs.declared.state.StateError.TheVariants.{OutOfMemory}
 use Rattle.ftp_hub.specs.Refused.{HasCause, IsFirstRefusal}
 use Rattle.ftp_text.specs.declared.setup.Item.{Item}
-use Rattle.ftp_text.specs.declared.setup.Item.TheVariants as item
 use Rattle.ftp_text.specs.Setup.{IsItem}
 use Rattle.ftp_text.specs.StateText.{IsFirstBadStateLine, IsSpelledBy, before_first, lines_in}
 use Rattle.ftp_script_run.specs.declared.head.Head.{Head}
@@ -21,6 +20,7 @@ use Rattle.ftp_script_run.specs.Legal.{start_of}
 use Rattle.ftp_script_run.specs.Resumed.{AreOptionsOf, FindsHead, HasStateLines, IsBadHead, IsHead, IsOpenHead, KeepsLines, bar_place, sets_options}
 use Rattle.ftp_script_run.specs.Resuming.{IsBegunAt, GivesState}
 use Rattle.ftp_script_run.specs.Runs.{Keeps, MayCome, MayTake, outside}
+use Rattle.ftp_script_run.proofs.HeadLemmas.{by-options}
 
 -- ---- how far a bad line can be
 
@@ -51,51 +51,19 @@ near-bad k bytes first = by (cases_lt (length bytes + 1) k) where
 -- ---- the options
 
 -- an options line may come first
-pub options-come : (run : Run) (i : Item) → IsItem i → sets_options i ≡ true → Keeps None run [] [] → MayTake run i
-options-come run (item.Options mode lo hi host active idle lockout restart) is sets kept = (is, (None, [], [], kept, record { stands = refl; goes_on = tt }))
-options-come run item.Skip is sets kept = absurd cc
-options-come run (item.Storage max fails) is sets kept = absurd cc
-options-come run (item.Dir path) is sets kept = absurd cc
-options-come run (item.File bytes path) is sets kept = absurd cc
-options-come run (item.Quota default) is sets kept = absurd cc
-options-come run (item.Budget bytes user) is sets kept = absurd cc
-options-come run (item.Link n chunk fails bytes) is sets kept = absurd cc
-options-come run (item.Event e) is sets kept = absurd cc
-
 pub options-first : (run : Run) (i : Item) → sets_options i ≡ true → Keeps None run [] [] → MayCome None run [] i
-options-first run (item.Options mode lo hi host active idle lockout restart) sets kept = record { stands = refl; goes_on = tt }
-options-first run item.Skip sets kept = absurd cc
-options-first run (item.Storage max fails) sets kept = absurd cc
-options-first run (item.Dir path) sets kept = absurd cc
-options-first run (item.File bytes path) sets kept = absurd cc
-options-first run (item.Quota default) sets kept = absurd cc
-options-first run (item.Budget bytes user) sets kept = absurd cc
-options-first run (item.Link n chunk fails bytes) sets kept = absurd cc
-options-first run (item.Event e) sets kept = absurd cc
+options-first run i sets kept = by-options (λ i. MayCome None run [] i) (λ mode lo hi host active idle lockout restart. record { stands = refl; goes_on = tt }) i sets
+
+pub options-come : (run : Run) (i : Item) → IsItem i → sets_options i ≡ true → Keeps None run [] [] → MayTake run i
+options-come run i is sets kept = (is, (None, [], [], kept, options-first run i sets kept))
 
 -- it is no event
 pub options-quiet : (i : Item) → sets_options i ≡ true → event_in i ≡ None
-options-quiet (item.Options mode lo hi host active idle lockout restart) sets = refl
-options-quiet item.Skip sets = absurd cc
-options-quiet (item.Storage max fails) sets = absurd cc
-options-quiet (item.Dir path) sets = absurd cc
-options-quiet (item.File bytes path) sets = absurd cc
-options-quiet (item.Quota default) sets = absurd cc
-options-quiet (item.Budget bytes user) sets = absurd cc
-options-quiet (item.Link n chunk fails bytes) sets = absurd cc
-options-quiet (item.Event e) sets = absurd cc
+options-quiet = by-options (λ i. event_in i ≡ None) (λ mode lo hi host active idle lockout restart. refl)
 
 -- it sets up no storage and no link
 pub options-start : (run : Run) (i : Item) → sets_options i ≡ true → Keeps None run (i ∷ []) [] → outside run ≡ start_of []
-options-start run (item.Options mode lo hi host active idle lockout restart) sets kept = kept.start refl
-options-start run item.Skip sets kept = absurd cc
-options-start run (item.Storage max fails) sets kept = absurd cc
-options-start run (item.Dir path) sets kept = absurd cc
-options-start run (item.File bytes path) sets kept = absurd cc
-options-start run (item.Quota default) sets kept = absurd cc
-options-start run (item.Budget bytes user) sets kept = absurd cc
-options-start run (item.Link n chunk fails bytes) sets kept = absurd cc
-options-start run (item.Event e) sets kept = absurd cc
+options-start run = by-options (λ i. Keeps None run (i ∷ []) [] → outside run ≡ start_of []) (λ mode lo hi host active idle lockout restart kept. kept.start refl)
 
 -- ---- the state
 

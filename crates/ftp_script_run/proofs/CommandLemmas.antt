@@ -14,12 +14,10 @@ use Rattle.ftp_base.specs.declared.fault.Failed.TheVariants.{Fault, Memory}
 use Rattle.ftp_control.specs.Writing.{WritesFront}
 use Rattle.ftp_text.proofs.Numerals.{own}
 use Rattle.ftp_script_run.specs.declared.command.Command.{Command}
-use Rattle.ftp_script_run.specs.declared.command.Command.TheVariants.{Run, Audit, Tell}
-use Rattle.ftp_script_run.specs.declared.command.Ending.{Ending}
-use Rattle.ftp_script_run.specs.declared.command.Told.{Told}
 use Rattle.ftp_script_run.specs.declared.status.Status.{Status}
 use Rattle.ftp_script_run.specs.declared.status.Status.TheVariants as status
-use Rattle.ftp_script_run.specs.Commands.{Asks, text_of}
+use Rattle.ftp_script_run.specs.CommandOutcome.{TellOutcome}
+use Rattle.ftp_script_run.specs.Commands.{Asks}
 use Rattle.ftp_script_run.specs.Statuses.{IsCutShort, ended_by}
 
 -- ---- numbers
@@ -122,36 +120,12 @@ IsCommandOf words found = (c : Command) → (found ≡ Some c) ↔ Asks words c
 pub no_command : {X : Type 0} (words : List (List ℕ)) (found : Option Command) (c : Command) → IsCommandOf words found → found ≡ None → Asks words c → X
 no_command words found c same none asks = let is : found ≡ Some c = (same c).1 asks in absurd (cc)
 
--- where one was found, they ask for no other
-pub one_command : (words : List (List ℕ)) (found : Option Command) (c d : Command) → IsCommandOf words found → found ≡ Some c → Asks words d → c ≡ d
-one_command words found c d same is asks = let other : found ≡ Some d = (same d).1 asks in cc
-
--- it is that command or another
-pub other_command : {X : Type 0} (words : List (List ℕ)) (found : Option Command) (c d : Command) → IsCommandOf words found → found ≡ Some c → (c ≡ d → ⊥) → Asks words d → X
-other_command words found c d same is apart asks = absurd (apart (one_command words found c d same is asks))
-
--- the log and the audit are two commands
-pub run_is_no_audit : {X : Type 0} (words : List (List ℕ)) (found : Option Command) (e : Ending) → IsCommandOf words found → found ≡ Some (Run e) → Asks words Audit → X
-run_is_no_audit words found e same is asks = other_command words found (Run e) Audit same is (λ one. cc) asks
-
-pub audit_is_no_run : {X : Type 0} (words : List (List ℕ)) (found : Option Command) (e : Ending) → IsCommandOf words found → found ≡ Some Audit → Asks words (Run e) → X
-audit_is_no_run words found e same is asks = other_command words found Audit (Run e) same is (λ one. cc) asks
-
-pub run_tells_nothing : {X : Type 0} (words : List (List ℕ)) (found : Option Command) (e : Ending) (t : Told) → IsCommandOf words found → found ≡ Some (Run e) → Asks words (Tell t) → X
-run_tells_nothing words found e t same is asks = other_command words found (Run e) (Tell t) same is (λ one. cc) asks
-
-pub told_is_no_run : {X : Type 0} (words : List (List ℕ)) (found : Option Command) (t : Told) (e : Ending) → IsCommandOf words found → found ≡ Some (Tell t) → Asks words (Run e) → X
-told_is_no_run words found t e same is asks = other_command words found (Tell t) (Run e) same is (λ one. cc) asks
-
--- the log with one thing behind it and the log with another
-pub same_ending : (words : List (List ℕ)) (found : Option Command) (d e : Ending) → IsCommandOf words found → found ≡ Some (Run d) → Asks words (Run e) → d ≡ e
-same_ending words found d e same is asks = let one : Run d ≡ Run e = one_command words found (Run d) (Run e) same is asks in cc
-
-pub audit_tells_nothing : {X : Type 0} (words : List (List ℕ)) (found : Option Command) (t : Told) → IsCommandOf words found → found ≡ Some Audit → Asks words (Tell t) → X
-audit_tells_nothing words found t same is asks = let one : Audit ≡ Tell t = one_command words found Audit (Tell t) same is asks in absurd (cc)
-
-pub told_is_no_audit : {X : Type 0} (words : List (List ℕ)) (found : Option Command) (t : Told) → IsCommandOf words found → found ≡ Some (Tell t) → Asks words Audit → X
-told_is_no_audit words found t same is asks = let one : Tell t ≡ Audit = one_command words found (Tell t) Audit same is asks in absurd (cc)
+-- where one was found, they ask for no other, and what is so of its run is so of what they ask for
+pub asked : (P : Command → Type 0) (words : List (List ℕ)) (found : Option Command) (c d : Command) → IsCommandOf words found → found ≡ Some c → P c → Asks words d → P d
+asked P words found c d same is holds asks =
+    let other : found ≡ Some d = (same d).1 asks in
+    let one : c ≡ d = cc in
+    subst P one holds
 
 -- where a command was found, the status is no other
 pub usage-asked : (words : List (List ℕ)) (found : Option Command) (c : Command) (s : Status) →
@@ -163,44 +137,31 @@ usage-asked words found c s same is never = (λ usage. absurd (never usage), λ 
 
 -- ---- what is told
 
-pub told-done : (words : List (List ℕ)) (found : Option Command) (t u : Told) (last : Result Unit Failed) (s : Status) (old new : Option (List ℕ)) →
-    IsCommandOf words found →
-    found ≡ Some (Tell t) →
-    OnOk last (Writes old new (text_of t)) →
-    s ≡ ended_by last status.Done →
-    Asks words (Tell u) →
-    s ≡ status.Done →
-    Writes old new (text_of u)
-told-done words found t u (Ok x) s old new same is wrote ended asks done =
-    let one : Tell t ≡ Tell u = one_command words found (Tell t) (Tell u) same is asks in
-    let told : t ≡ u = cc in
-    subst (λ (v : Told). Writes old new (text_of v)) told wrote
-told-done words found t u (Err Fault) s old new same is wrote ended asks done = absurd (cc)
-told-done words found t u (Err Memory) s old new same is wrote ended asks done = absurd (cc)
+-- a text was written, or a part of it
+pub told-so : (text : List ℕ) (last : Result Unit Failed) (s : Status) (old new : Option (List ℕ)) →
+    s ≡ ended_by last status.Done → OnOk last (Writes old new text) → OnErr last (WritesFront old new text) → TellOutcome text s old new
+told-so text (Ok x) s old new ended wrote front = inl (ended, wrote)
+told-so text (Err Fault) s old new ended wrote front = inr (inl ended, front)
+told-so text (Err Memory) s old new ended wrote front = inr (inr ended, front)
 
 not_short : (s : Status) → s ≡ status.Done → IsCutShort s → ⊥
 not_short s done (inl e) = cc
 not_short s done (inr e) = cc
 
-pub told-cut : (words : List (List ℕ)) (found : Option Command) (t u : Told) (last : Result Unit Failed) (s : Status) (old new : Option (List ℕ)) →
-    IsCommandOf words found →
-    found ≡ Some (Tell t) →
-    OnErr last (WritesFront old new (text_of t)) →
-    s ≡ ended_by last status.Done →
-    Asks words (Tell u) →
-    IsCutShort s →
-    WritesFront old new (text_of u)
-told-cut words found t u (Ok x) s old new same is front ended asks short = absurd (not_short s ended short)
-told-cut words found t u (Err f) s old new same is front ended asks short =
-    let one : Tell t ≡ Tell u = one_command words found (Tell t) (Tell u) same is asks in
-    let told : t ≡ u = cc in
-    subst (λ (v : Told). WritesFront old new (text_of v)) told front
+-- all of it where the run is done
+pub told-done : (text : List ℕ) (s : Status) (old new : Option (List ℕ)) → TellOutcome text s old new → s ≡ status.Done → Writes old new text
+told-done text s old new (inl told) done = told.1
+told-done text s old new (inr part) done = absurd (not_short s done part.0)
+
+-- and else a part
+pub told-cut : (text : List ℕ) (s : Status) (old new : Option (List ℕ)) → TellOutcome text s old new → IsCutShort s → WritesFront old new text
+told-cut text s old new (inl told) short = absurd (not_short s told.0 short)
+told-cut text s old new (inr part) short = part.1
 
 -- how it ends
-pub told-ends : (last : Result Unit Failed) (s : Status) → s ≡ ended_by last status.Done → (s ≡ status.Done) ⊎ IsCutShort s
-told-ends (Ok x) s ended = inl ended
-told-ends (Err Fault) s ended = inr (inl ended)
-told-ends (Err Memory) s ended = inr (inr ended)
+pub told-ends : (text : List ℕ) (s : Status) (old new : Option (List ℕ)) → TellOutcome text s old new → (s ≡ status.Done) ⊎ IsCutShort s
+told-ends text s old new (inl told) = inl told.0
+told-ends text s old new (inr part) = inr part.0
 
 pub told-no_usage : (last : Result Unit Failed) (s : Status) → s ≡ ended_by last status.Done → s ≡ status.Usage → ⊥
 told-no_usage (Ok x) s ended usage = cc

@@ -10,6 +10,10 @@ use Rattle.std.proofs.Math.Seq.{take-append-add, drop-append-add, take-length}
 use Rattle.ftp_base.specs.Outside.{ReadsFront}
 use Rattle.ftp_control.specs.Lines.{is_line_feed, first_line, behind_line, HasNoFeed, Rest}
 use Rattle.ftp_control.proofs.LineLemmas.{length-bytes_in, line_feed_found, line_feed_none, pos_found, pos_none}
+use Rattle.ftp_options.specs.declared.host.PassiveHost.{PassiveHost}
+use Rattle.ftp_options.specs.declared.lockout.FailedLoginsPolicy.{FailedLoginsPolicy}
+use Rattle.ftp_options.specs.declared.options.ActivePassiveMode.{ActivePassiveMode}
+use Rattle.ftp_options.specs.declared.options.ListenerMode.{ListenerMode}
 use Rattle.ftp_text.specs.declared.setup.Item.{Item}
 use Rattle.ftp_text.specs.declared.setup.Item.TheVariants as item
 use Rattle.ftp_text.specs.Setup.{IsItem, IsItemOf}
@@ -335,20 +339,26 @@ pub options-found : (line : List ℕ) (i : Item) (found : Option Item) → IsIte
 options-found line i None is short told = tt
 options-found line i (Some j) is short told = record { spelled = subst (IsItemOf line) (sym told.0) is; sets = told.1; short = short }
 
-lawful-options : (line : List ℕ) (i : Item) → IsItemOf line i → sets_options i ≡ true → IsItem i
-lawful-options line (item.Options mode lo hi host active idle lockout restart) is sets = is.1
-lawful-options line item.Skip is sets = absurd cc
-lawful-options line (item.Storage max fails) is sets = absurd cc
-lawful-options line (item.Dir path) is sets = absurd cc
-lawful-options line (item.File bytes path) is sets = absurd cc
-lawful-options line (item.Quota default) is sets = absurd cc
-lawful-options line (item.Budget bytes user) is sets = absurd cc
-lawful-options line (item.Link n chunk fails bytes) is sets = absurd cc
-lawful-options line (item.Event e) is sets = absurd cc
+-- what sets options is an options line
+pub by-options : (P : Item → Type 0) →
+    ((mode : ListenerMode) (lo hi : ℕ) (host : PassiveHost) (active : ActivePassiveMode) (idle : ℕ) (lockout : Option FailedLoginsPolicy) (restart : Bool) → P (item.Options mode lo hi host active idle lockout restart)) →
+    (i : Item) → sets_options i ≡ true → P i
+by-options P each (item.Options mode lo hi host active idle lockout restart) sets = each mode lo hi host active idle lockout restart
+by-options P each item.Skip sets = absurd cc
+by-options P each (item.Storage max fails) sets = absurd cc
+by-options P each (item.Dir path) sets = absurd cc
+by-options P each (item.File bytes path) sets = absurd cc
+by-options P each (item.Quota default) sets = absurd cc
+by-options P each (item.Budget bytes user) sets = absurd cc
+by-options P each (item.Link n chunk fails bytes) sets = absurd cc
+by-options P each (item.Event e) sets = absurd cc
+
+lawful-options : (line : List ℕ) (i : Item) → sets_options i ≡ true → IsItemOf line i → IsItem i
+lawful-options line = by-options (λ i. IsItemOf line i → IsItem i) (λ mode lo hi host active idle lockout restart is. is.1)
 
 pub options-lawful : (line : List ℕ) (i : Item) (found : Option Item) → IsItemOf line i → IfSome found (λ j. (j ≡ i) × (sets_options j ≡ true)) → AreOfOptions found
 options-lawful line i None is told = tt
-options-lawful line i (Some j) is told = (lawful-options line j (subst (IsItemOf line) (sym told.0) is) told.1, told.1)
+options-lawful line i (Some j) is told = (lawful-options line j told.1 (subst (IsItemOf line) (sym told.0) is), told.1)
 
 -- none that sets options
 pub options-none : (line : List ℕ) (i : Item) (found : Option Item) → ((j : Item) → IsItemOf line j → i ≡ j) → IfNone found (sets_options i ≡ false) → IfNone found ((j : Item) → IsOptionsLine line j → ⊥)

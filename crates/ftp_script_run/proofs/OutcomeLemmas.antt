@@ -2,9 +2,12 @@
 use Rattle.std.proofs.Common.{◌≡◌, ◌⊎◌, ℕ, inl, inr, List, [], ◌∷◌, ◌++◌, Option, Some, None, refl, sym, subst, ◌∙◌, append-nil}
 use Rattle.std.specs.Prelude.{IfSome, Result, Ok, Err, OnOk, OnErr}
 use Rattle.std.proofs.lemmas.Option.{IfSome_then}
+use Rattle.ftp_base.specs.LinkTable.{Numbered}
+use Rattle.ftp_base.specs.Memory.{LinkState}
 use Rattle.ftp_base.specs.Outside.{Writes}
 use Rattle.ftp_base.specs.declared.fault.Failed.{Failed}
 use Rattle.ftp_base.specs.declared.fault.Failed.TheVariants.{Fault, Memory}
+use Rattle.ftp_options.specs.declared.options.Options.{Options}
 use Rattle.ftp_events.specs.declared.entry.Entry.{Entry}
 use Rattle.ftp_control.specs.Writing.{WritesFront}
 use Rattle.ftp_text.specs.declared.setup.Item.{Item}
@@ -20,11 +23,11 @@ use Rattle.ftp_script_run.specs.Statuses.{IsCutShort, ended_by}
 use Rattle.ftp_script_run.specs.SetUp.{StorageState, IsSetUp}
 use Rattle.ftp_hub.specs.Stands.{Stands, options_of}
 use Rattle.ftp_script_run.specs.declared.command.Ending.{Ending}
-use Rattle.ftp_script_run.specs.Outcome.{log_lines, bad_line, WritesWhole, WritesPart, IsBehindFront, Ends, EndsPart, Outcome}
+use Rattle.ftp_script_run.specs.Outcome.{log_lines, bad_line, ReadsAndWrites, ReadsFrontAndWrites, ScriptOutcome, WritesWhole, WritesPart, Ends, EndsPart, Outcome}
 use Rattle.ftp_script_run.specs.Resuming.{IsResumeCut, ResumeOutcome}
 use Rattle.ftp_script_run.specs.Runs.{Before, Keeps, IsTaken, IsPartlyTaken, Running}
 use Rattle.ftp_script_run.proofs.RunLemmas.{kept-legal, kept-storage, stands-anew}
-use Rattle.ftp_control.proofs.WritingLemmas.{writes-more, front-all, front-more}
+use Rattle.ftp_control.proofs.WritingLemmas.{writes-more, front-all, front-more, on_ok-then, on_err-then}
 use Rattle.ftp_script_run.proofs.Written.{log_lines-append}
 
 -- what was told where there is something to tell
@@ -53,34 +56,63 @@ running-more before all left later first now new reader next run after buffer ou
       (writes-more first now new (log_lines r.log) (log_lines took.0) r.written took.2);
 }
 
--- of the whole output, all that came so far was written
-part-whole : (e : Ending) (bytes : List ℕ) (left later before now : Option (List ℕ)) (reader : ScriptReader) (buffer : List ℕ) (run : Run) (items : List Item) (log : List Entry) →
-    HasRead items bytes reader buffer left →
-    ReadsAhead items bytes later →
-    Keeps None run items log →
-    Writes before now (log_lines log) →
-    WritesPart e bytes later before now
-part-whole e bytes left later before now reader buffer run items log h ahead kept written = record {
-  read = h.read;
-  rest = h.bytes;
-  items = items;
-  bad = None;
-  log = log;
-  all_is = h.all_is;
-  whole = h.whole;
-  script = h.items;
-  reads = ahead;
-  links = run.links;
-  storage = run.storage;
-  legal = kept-legal run items log kept;
-  written = inl (front-all before now (log_lines log) written);
-}
+-- ---- what was read of a script, and written
+
+module _ {Wrote : Options → List Entry → Numbered LinkState → StorageState → Type 0} (run : Run) (items : List Item) (log : List Entry) (kept : Keeps None run items log) where
+  -- of what was read so the log is the one that is kept
+  pub reads-writes : {Read : List Item → Type 0} → Read items → Wrote (options_of run.hub) log run.links run.storage → ReadsAndWrites Read Wrote
+  reads-writes read wrote = record { items = items; log = log; read = read; links = run.links; storage = run.storage; legal = kept-legal run items log kept; wrote = wrote }
+
+module _ {Wrote : Options → List Entry → Numbered LinkState → StorageState → Option ℕ → List ℕ → Type 0} (bytes : List ℕ) (later : Option (List ℕ)) (run : Run) (items : List Item) (log : List Entry) (ahead : ReadsAhead items bytes later) (kept : Keeps None run items log) where
+  -- a front of the bytes was read, to the end of a line
+  pub front-writes : {left : Option (List ℕ)} {reader : ScriptReader} {buffer : List ℕ} (h : HasRead items bytes reader buffer left) →
+      Wrote (options_of run.hub) log run.links run.storage None h.bytes → ReadsFrontAndWrites bytes later Wrote
+  front-writes h wrote = record {
+    read = h.read;
+    rest = h.bytes;
+    items = items;
+    bad = None;
+    log = log;
+    all_is = h.all_is;
+    whole = h.whole;
+    script = h.items;
+    reads = ahead;
+    links = run.links;
+    storage = run.storage;
+    legal = kept-legal run items log kept;
+    wrote = wrote;
+  }
+
+  -- all bytes were read
+  pub all-writes : (bad : Option ℕ) → IsScriptOf bytes items bad → Wrote (options_of run.hub) log run.links run.storage bad [] → ReadsFrontAndWrites bytes later Wrote
+  all-writes bad script wrote = record {
+    read = bytes;
+    rest = [];
+    items = items;
+    bad = bad;
+    log = log;
+    all_is = append-nil bytes;
+    whole = inr refl;
+    script = script;
+    reads = ahead;
+    links = run.links;
+    storage = run.storage;
+    legal = kept-legal run items log kept;
+    wrote = wrote;
+  }
+
+-- a run that ends with a write ends so where that is done, and else with a part
+pub ends-so : {Wrote : Status → Options → List Entry → Numbered LinkState → StorageState → Type 0} {Part : Options → List Entry → Numbered LinkState → StorageState → Option ℕ → List ℕ → Type 0} (s : Status) (last : Result Unit Failed) (bytes : List ℕ) (left : Option (List ℕ)) →
+    OnOk last (ScriptOutcome Wrote Part s bytes left) → OnErr last (ReadsFrontAndWrites bytes left Part) → ScriptOutcome Wrote Part (ended_by last s) bytes left
+ends-so s (Ok x) bytes left whole part = whole
+ends-so s (Err Fault) bytes left whole part = part
+ends-so s (Err Memory) bytes left whole part = part
 
 pub out-memory : (e : Ending) (all left later before now : Option (List ℕ)) (reader : ScriptReader) (run : Run) (buffer : List ℕ) (r : Running None all reader run buffer left before now) →
     ((bytes : List ℕ) → HasRead r.items bytes reader buffer left → ReadsAhead r.items bytes later) →
     IfSome all (λ bytes. WritesPart e bytes later before now)
 out-memory e all left later before now reader run buffer r ahead =
-    IfSome_then all r.read (λ bytes h. part-whole e bytes left later before now reader buffer run r.items r.log h (ahead bytes h) r.kept r.written)
+    IfSome_then all r.read (λ bytes h. front-writes bytes later run r.items r.log (ahead bytes h) r.kept h (inl (front-all before now (log_lines r.log) r.written)))
 
 -- of an item that was read, at most a part of its lines was written
 pub out-cut : (e : Ending) (all left later before now new : Option (List ℕ)) (reader next : ScriptReader) (run after : Run) (buffer out : List ℕ) (i : Item) (s : Status) (r : Running None all reader run buffer left before now) →
@@ -97,49 +129,14 @@ out-cut e all left later before now new reader next run after buffer out i s r l
       cut_short bytes s (inr is) p = subst (λ (t : Status). Outcome e t bytes later before new) (sym is) p
 
       of_part : (bytes : List ℕ) → HasRead r.items bytes reader buffer left → HasRead (r.items ++ i ∷ []) bytes next out later → IsPartlyTaken None after (r.items ++ i ∷ []) r.log now new → WritesPart e bytes later before new
-      of_part bytes h more (inl same) = part-whole e bytes left later before new reader buffer run r.items r.log h (ahead bytes h) r.kept (subst (λ (w : Option (List ℕ)). Writes before w (log_lines r.log)) (sym same) r.written)
-      of_part bytes h more (inr taken) = record {
-        read = more.read;
-        rest = more.bytes;
-        items = r.items ++ i ∷ [];
-        bad = None;
-        log = taken.0 ++ r.log;
-        all_is = more.all_is;
-        whole = more.whole;
-        script = more.items;
-        reads = between_told (r.items ++ i ∷ []) bytes next out later lawful.len lawful.within more;
-        links = after.links;
-        storage = after.storage;
-        legal = kept-legal after (r.items ++ i ∷ []) (taken.0 ++ r.log) taken.1;
-        written = inl
-            (subst (WritesFront before new) (sym (log_lines-append taken.0 r.log))
-            (front-more before now new (log_lines r.log) (log_lines taken.0) r.written taken.2));
-      }
-
--- all bytes were read, and what is written behind the log was begun
-part-closing : (e : Ending) (bytes : List ℕ) (later before now new : Option (List ℕ)) (run : Run) (items : List Item) (log : List Entry) (bad : Option ℕ) (behind : List ℕ) →
-    IsScriptOf bytes items bad →
-    ReadsAhead items bytes later →
-    Keeps None run items log →
-    Writes before now (log_lines log) →
-    IsBehindFront e (options_of run.hub) log run.links run.storage bad [] behind →
-    WritesFront now new behind →
-    WritesPart e bytes later before new
-part-closing e bytes later before now new run items log bad behind script ahead kept written closing more = record {
-  read = bytes;
-  rest = [];
-  items = items;
-  bad = bad;
-  log = log;
-  all_is = append-nil bytes;
-  whole = inr refl;
-  script = script;
-  reads = ahead;
-  links = run.links;
-  storage = run.storage;
-  legal = kept-legal run items log kept;
-  written = inr (behind, closing, front-more before now new (log_lines log) behind written more);
-}
+      of_part bytes h more (inl same) =
+          front-writes bytes later run r.items r.log (ahead bytes h) r.kept h
+          (inl (front-all before new (log_lines r.log) (subst (λ (w : Option (List ℕ)). Writes before w (log_lines r.log)) (sym same) r.written)))
+      of_part bytes h more (inr taken) =
+          front-writes bytes later after (r.items ++ i ∷ []) (taken.0 ++ r.log) (between_told (r.items ++ i ∷ []) bytes next out later lawful.len lawful.within more) taken.1 more
+          (inl
+          (subst (WritesFront before new) (sym (log_lines-append taken.0 r.log))
+          (front-more before now new (log_lines r.log) (log_lines taken.0) r.written taken.2)))
 
 -- all bytes were read, and nothing of what is written behind the log, or a part of it
 part-end : (e : Ending) (bytes : List ℕ) (left later before now new : Option (List ℕ)) (reader : ScriptReader) (buffer : List ℕ) (run : Run) (items : List Item) (log : List Entry) →
@@ -151,9 +148,10 @@ part-end : (e : Ending) (bytes : List ℕ) (left later before now new : Option (
     EndsPart e (options_of run.hub) log run.links run.storage now new →
     WritesPart e bytes later before new
 part-end e bytes left later before now new reader buffer run items log h script ahead kept written (inl same) =
-    part-whole e bytes left later before new reader buffer run items log h ahead kept (subst (λ (w : Option (List ℕ)). Writes before w (log_lines log)) (sym same) written)
+    front-writes bytes later run items log ahead kept h
+    (inl (front-all before new (log_lines log) (subst (λ (w : Option (List ℕ)). Writes before w (log_lines log)) (sym same) written)))
 part-end e bytes left later before now new reader buffer run items log h script ahead kept written (inr ends) =
-    part-closing e bytes later before now new run items log None ends.0 script ahead kept written ends.1 ends.2
+    all-writes bytes later run items log ahead kept None script (inr (ends.0, ends.1, front-more before now new (log_lines log) ends.0 written ends.2))
 
 pub out-end : (e : Ending) (all left later before now new : Option (List ℕ)) (reader : ScriptReader) (run : Run) (buffer : List ℕ) (last : Result Unit Failed) (r : Running None all reader run buffer left before now) →
     ((bytes : List ℕ) → HasRead r.items bytes reader buffer left → IsScriptOf bytes r.items None × (later ≡ Some [])) →
@@ -161,27 +159,15 @@ pub out-end : (e : Ending) (all left later before now new : Option (List ℕ)) (
     OnOk last ((log : List Entry) → Stands run.hub log → Ends e (options_of run.hub) log run.links run.storage now new) →
     OnErr last ((log : List Entry) → Stands run.hub log → EndsPart e (options_of run.hub) log run.links run.storage now new) →
     IfSome all (λ bytes. Outcome e (ended_by last status.Done) bytes later before new)
-out-end e all left later before now new reader run buffer (Ok x) r told ahead wrote front =
-    let ends = wrote r.log (stands-anew run r.items r.log r.kept) in
+out-end e all left later before now new reader run buffer last r told ahead wrote front =
+    let stands = stands-anew run r.items r.log r.kept in
     IfSome_then all r.read
-    (λ bytes h. record {
-      items = r.items;
-      log = r.log;
-      script = (told bytes h).0;
-      end = (told bytes h).1;
-      links = run.links;
-      storage = run.storage;
-      legal = kept-legal run r.items r.log r.kept;
-      behind = ends.0;
-      ends = ends.1;
-      written = writes-more before now new (log_lines r.log) ends.0 r.written ends.2;
-    })
-out-end e all left later before now new reader run buffer (Err Fault) r told ahead wrote front =
-    IfSome_then all r.read
-    (λ bytes h. part-end e bytes left later before now new reader buffer run r.items r.log h (told bytes h).0 (ahead bytes h) r.kept r.written (front r.log (stands-anew run r.items r.log r.kept)))
-out-end e all left later before now new reader run buffer (Err Memory) r told ahead wrote front =
-    IfSome_then all r.read
-    (λ bytes h. part-end e bytes left later before now new reader buffer run r.items r.log h (told bytes h).0 (ahead bytes h) r.kept r.written (front r.log (stands-anew run r.items r.log r.kept)))
+    (λ bytes h. ends-so status.Done last bytes later
+    (on_ok-then last wrote (λ wrote.
+    let ends = wrote r.log stands in
+    reads-writes run r.items r.log r.kept (told bytes h) (ends.0, ends.1, writes-more before now new (log_lines r.log) ends.0 r.written ends.2)))
+    (on_err-then last front (λ front.
+    part-end e bytes left later before now new reader buffer run r.items r.log h (told bytes h).0 (ahead bytes h) r.kept r.written (front r.log stands))))
 
 pub out-bad : (e : Ending) (all left later before now new : Option (List ℕ)) (reader : ScriptReader) (run : Run) (buffer : List ℕ) (k : ℕ) (last : Result Unit Failed) (r : Running None all reader run buffer left before now) →
     ((bytes : List ℕ) → HasRead r.items bytes reader buffer left → IsScriptOf bytes r.items (Some k)) →
@@ -189,39 +175,18 @@ pub out-bad : (e : Ending) (all left later before now new : Option (List ℕ)) (
     OnOk last (Writes now new (bad_line k)) →
     OnErr last (WritesFront now new (bad_line k)) →
     IfSome all (λ bytes. Outcome e (ended_by last (status.BadLine k)) bytes later before new)
-out-bad e all left later before now new reader run buffer k (Ok x) r told ahead wrote front =
+out-bad e all left later before now new reader run buffer k last r told ahead wrote front =
     IfSome_then all r.read
-    (λ bytes h. record {
-      items = r.items;
-      log = r.log;
-      script = told bytes h;
-      reads = ahead bytes h;
-      links = run.links;
-      storage = run.storage;
-      legal = kept-legal run r.items r.log r.kept;
-      written = writes-more before now new (log_lines r.log) (bad_line k) r.written wrote;
-    })
-out-bad e all left later before now new reader run buffer k (Err Fault) r told ahead wrote front =
-    IfSome_then all r.read
-    (λ bytes h. part-closing e bytes later before now new run r.items r.log (Some k) (bad_line k) (told bytes h) (ahead bytes h) r.kept r.written refl front)
-out-bad e all left later before now new reader run buffer k (Err Memory) r told ahead wrote front =
-    IfSome_then all r.read
-    (λ bytes h. part-closing e bytes later before now new run r.items r.log (Some k) (bad_line k) (told bytes h) (ahead bytes h) r.kept r.written refl front)
+    (λ bytes h. ends-so (status.BadLine k) last bytes later
+    (on_ok-then last wrote (λ wrote. reads-writes run r.items r.log r.kept (told bytes h, ahead bytes h) (writes-more before now new (log_lines r.log) (bad_line k) r.written wrote)))
+    (on_err-then last front (λ front.
+    all-writes bytes later run r.items r.log (ahead bytes h) r.kept (Some k) (told bytes h) (inr (bad_line k, refl, front-more before now new (log_lines r.log) (bad_line k) r.written front)))))
 
 pub out-fault : (all left later before now : Option (List ℕ)) (reader : ScriptReader) (run : Run) (buffer : List ℕ) (r : Running None all reader run buffer left before now) →
     ((bytes : List ℕ) → HasRead r.items bytes reader buffer left → StopsBehind r.items bytes later) →
     IfSome all (λ bytes. WritesWhole bytes later before now)
 out-fault all left later before now reader run buffer r told =
-    IfSome_then all r.read
-    (λ bytes h. record {
-      items = r.items;
-      log = r.log;
-      stopped = told bytes h;
-      links = run.links;
-      storage = run.storage;
-      legal = kept-legal run r.items r.log r.kept;
-      written = r.written;
-    })
+    IfSome_then all r.read (λ bytes h. reads-writes run r.items r.log r.kept (told bytes h) r.written)
 
 -- until an event comes, the storage of a run is the one that its items set up
 pub kept-set_up : (before : Before) (run : Run) (items : List Item) (log : List Entry) (storage : StorageState) → Keeps before run items log → storage ≡ run.storage → IsSetUp storage items
@@ -229,47 +194,49 @@ kept-set_up before run items log storage kept same = λ no_event. same ∙ kept-
 
 -- ---- what a status says
 
-pub outcome-of : (e : Ending) (all left old new : Option (List ℕ)) (s t : Status) → s ≡ t → IfSome all (λ bytes. Outcome e s bytes left old new) → IfSome all (λ bytes. Outcome e t bytes left old new)
-outcome-of e all left old new s t same h = subst (λ (u : Status). IfSome all (λ bytes. Outcome e u bytes left old new)) same h
-
--- a run that was cut short wrote a part
-pub cut-part : (e : Ending) (s : Status) (all left old new : Option (List ℕ)) → IsCutShort s → IfSome all (λ bytes. Outcome e s bytes left old new) → IfSome all (λ bytes. WritesPart e bytes left old new)
-cut-part e s all left old new (inl is) h = subst (λ (t : Status). IfSome all (λ bytes. Outcome e t bytes left old new)) is h
-cut-part e s all left old new (inr is) h = subst (λ (t : Status). IfSome all (λ bytes. Outcome e t bytes left old new)) is h
-
--- so did one that goes on from a state, or nothing
+-- a run that goes on from a state and was cut short wrote a part, or nothing
 pub resume-cut : (s : Status) (all left old new : Option (List ℕ)) → (s ≡ status.ReadFault) ⊎ IsCutShort s → IfSome all (λ bytes. ResumeOutcome s bytes left old new) → IfSome all (λ bytes. IsResumeCut bytes old new)
 resume-cut s all left old new (inl is) h = subst (λ (t : Status). IfSome all (λ bytes. ResumeOutcome t bytes left old new)) is h
 resume-cut s all left old new (inr (inl is)) h = subst (λ (t : Status). IfSome all (λ bytes. ResumeOutcome t bytes left old new)) is h
 resume-cut s all left old new (inr (inr is)) h = subst (λ (t : Status). IfSome all (λ bytes. ResumeOutcome t bytes left old new)) is h
 
--- of a script that was run while nothing failed, all was run
-pub runs_whole : (e : Ending) (s : Status) (bytes : List ℕ) (left old new : Option (List ℕ)) (items : List Item) →
-    Outcome e s bytes left old new →
-    IsScriptOf bytes items None →
-    (s ≡ status.ReadFault → ⊥) →
-    (s ≡ status.WriteFault → ⊥) →
-    (s ≡ status.Done) ⊎ (s ≡ status.OutOfMemory)
-runs_whole e status.Done bytes left old new items out is no_read no_write = inl refl
-runs_whole e (status.BadLine k) bytes left old new items out is no_read no_write =
-    let other : Some k ≡ None = (script-once bytes items out.items None (Some k) is out.script).1 in absurd cc
-runs_whole e status.ReadFault bytes left old new items out is no_read no_write = absurd (no_read refl)
-runs_whole e status.WriteFault bytes left old new items out is no_read no_write = absurd (no_write refl)
-runs_whole e status.OutOfMemory bytes left old new items out is no_read no_write = inr refl
-runs_whole e status.Usage bytes left old new items out is no_read no_write = absurd out
+module _ {Wrote : Status → Options → List Entry → Numbered LinkState → StorageState → Type 0} {Part : Options → List Entry → Numbered LinkState → StorageState → Option ℕ → List ℕ → Type 0} where
+  -- of two names of a status
+  pub outcome-of : (all left : Option (List ℕ)) (s t : Status) → s ≡ t → IfSome all (λ bytes. ScriptOutcome Wrote Part s bytes left) → IfSome all (λ bytes. ScriptOutcome Wrote Part t bytes left)
+  outcome-of all left s t same h = subst (λ (u : Status). IfSome all (λ bytes. ScriptOutcome Wrote Part u bytes left)) same h
 
--- and of other bytes the first bad line was named
-pub names_bad : (e : Ending) (s : Status) (k : ℕ) (bytes : List ℕ) (left old new : Option (List ℕ)) (items : List Item) →
-    Outcome e s bytes left old new →
-    IsScriptOf bytes items (Some k) →
-    (s ≡ status.ReadFault → ⊥) →
-    (s ≡ status.WriteFault → ⊥) →
-    (s ≡ status.BadLine k) ⊎ (s ≡ status.OutOfMemory)
-names_bad e status.Done k bytes left old new items out is no_read no_write =
-    let other : None ≡ Some k = (script-once bytes items out.items (Some k) None is out.script).1 in absurd cc
-names_bad e (status.BadLine j) k bytes left old new items out is no_read no_write =
-    let same : Some j ≡ Some k = (script-once bytes items out.items (Some k) (Some j) is out.script).1 in inl cc
-names_bad e status.ReadFault k bytes left old new items out is no_read no_write = absurd (no_read refl)
-names_bad e status.WriteFault k bytes left old new items out is no_read no_write = absurd (no_write refl)
-names_bad e status.OutOfMemory k bytes left old new items out is no_read no_write = inr refl
-names_bad e status.Usage k bytes left old new items out is no_read no_write = absurd out
+  -- a run that was cut short wrote a part
+  pub cut-part : (s : Status) (bytes : List ℕ) (left : Option (List ℕ)) → IsCutShort s → ScriptOutcome Wrote Part s bytes left → ReadsFrontAndWrites bytes left Part
+  cut-part s bytes left (inl is) out = subst (λ (t : Status). ScriptOutcome Wrote Part t bytes left) is out
+  cut-part s bytes left (inr is) out = subst (λ (t : Status). ScriptOutcome Wrote Part t bytes left) is out
+
+  -- of a script that was run while nothing failed, all was run
+  pub runs_whole : (s : Status) (bytes : List ℕ) (left : Option (List ℕ)) (items : List Item) →
+      ScriptOutcome Wrote Part s bytes left →
+      IsScriptOf bytes items None →
+      (s ≡ status.ReadFault → ⊥) →
+      (s ≡ status.WriteFault → ⊥) →
+      (s ≡ status.Done) ⊎ (s ≡ status.OutOfMemory)
+  runs_whole status.Done bytes left items out is no_read no_write = inl refl
+  runs_whole (status.BadLine k) bytes left items out is no_read no_write =
+      let other : Some k ≡ None = (script-once bytes items out.items None (Some k) is out.read.0).1 in absurd cc
+  runs_whole status.ReadFault bytes left items out is no_read no_write = absurd (no_read refl)
+  runs_whole status.WriteFault bytes left items out is no_read no_write = absurd (no_write refl)
+  runs_whole status.OutOfMemory bytes left items out is no_read no_write = inr refl
+  runs_whole status.Usage bytes left items out is no_read no_write = absurd out
+
+  -- and of other bytes the first bad line was named
+  pub names_bad : (s : Status) (k : ℕ) (bytes : List ℕ) (left : Option (List ℕ)) (items : List Item) →
+      ScriptOutcome Wrote Part s bytes left →
+      IsScriptOf bytes items (Some k) →
+      (s ≡ status.ReadFault → ⊥) →
+      (s ≡ status.WriteFault → ⊥) →
+      (s ≡ status.BadLine k) ⊎ (s ≡ status.OutOfMemory)
+  names_bad status.Done k bytes left items out is no_read no_write =
+      let other : None ≡ Some k = (script-once bytes items out.items (Some k) None is out.read.0).1 in absurd cc
+  names_bad (status.BadLine j) k bytes left items out is no_read no_write =
+      let same : Some j ≡ Some k = (script-once bytes items out.items (Some k) (Some j) is out.read.0).1 in inl cc
+  names_bad status.ReadFault k bytes left items out is no_read no_write = absurd (no_read refl)
+  names_bad status.WriteFault k bytes left items out is no_read no_write = absurd (no_write refl)
+  names_bad status.OutOfMemory k bytes left items out is no_read no_write = inr refl
+  names_bad status.Usage k bytes left items out is no_read no_write = absurd out

@@ -1,25 +1,20 @@
 -- What an audit of a script has read and written, by the status of its run.
 use Rattle.std.specs.Prelude.{◌≡◌, ℕ, ◌⊎◌, List, [], ◌++◌, Option, Some, None, IfSome}
 use Rattle.std.specs.List.{flat_map}
-use Rattle.ftp_base.specs.LinkTable.{Numbered}
-use Rattle.ftp_base.specs.Memory.{LinkState}
 use Rattle.ftp_base.specs.Outside.{Writes}
 use Rattle.ftp_options.specs.declared.options.Options.{Options}
 use Rattle.ftp_events.specs.declared.entry.Entry.{Entry}
 use Rattle.ftp_control.specs.Writing.{WritesFront}
 use Rattle.ftp_text.specs.declared.setup.Item.{Item}
 use Rattle.ftp_script_run.specs.declared.text_script.ScriptReader.{ScriptReader}
-use Rattle.ftp_script_run.specs.Script.{IsScriptOf}
-use Rattle.ftp_script_run.specs.ScriptReader.{AreWhole, Follows, HasRead, ReadsAhead, StopsBehind}
-use Rattle.ftp_script_run.specs.SetUp.{StorageState}
+use Rattle.ftp_script_run.specs.ScriptReader.{Follows, HasRead, StopsBehind}
 use Rattle.ftp_audit.specs.declared.total.Total.{Total}
 use Rattle.ftp_audit.specs.Listing.{IsListing, row_line}
 use Rattle.ftp_audit.specs.Heard.{AuditState, HasHeard, total_in}
 use Rattle.ftp_script_run.specs.declared.run.Run.{Run}
 use Rattle.ftp_script_run.specs.declared.status.Status.{Status}
 use Rattle.ftp_script_run.specs.declared.status.Status.TheVariants as status
-use Rattle.ftp_script_run.specs.Legal.{IsLegal}
-use Rattle.ftp_script_run.specs.Outcome.{bad_line}
+use Rattle.ftp_script_run.specs.Outcome.{bad_line, ReadsAndWrites, IsReadWhole, IsReadToBad, ScriptOutcome}
 use Rattle.ftp_script_run.specs.Runs.{Keeps}
 
 -- ---- while it goes on
@@ -56,65 +51,36 @@ abbrev pub behind_report : Option ℕ → List ℕ
 behind_report (Some k) = bad_line k
 behind_report None = []
 
+-- what stands behind the report of a run that ended so
+abbrev pub behind_status : Status → List ℕ
+behind_status (status.BadLine k) = bad_line k
+behind_status _ = []
+
 -- ---- how it ends
-
--- all bytes are a script, and are read; the report on its legal log was written, and nothing else
-pub record IsAudited (bytes : List ℕ) (left old new : Option (List ℕ)) : Type 0 where
-  pub items : List Item
-  pub log : List Entry
-  pub script : IsScriptOf bytes items None
-  pub end : left ≡ Some []
-  pub links : Numbered LinkState
-  pub storage : StorageState
-  pub legal : IsLegal items log links storage
-  pub reported : Reports legal.due.options log [] old new
-
--- line k is the first bad one; behind the lines before it at most one buffer was taken from the source; the report on the legal
--- log of these lines was written, and the line that names the bad one
-pub record IsAuditedTo (k : ℕ) (bytes : List ℕ) (left old new : Option (List ℕ)) : Type 0 where
-  pub items : List Item
-  pub log : List Entry
-  pub script : IsScriptOf bytes items (Some k)
-  pub reads : ReadsAhead items bytes left
-  pub links : Numbered LinkState
-  pub storage : StorageState
-  pub legal : IsLegal items log links storage
-  pub reported : Reports legal.due.options log (bad_line k) old new
-
--- whole lines were read, and of the line behind them a part, at most one buffer; exactly the report on the legal log of the
--- whole lines was written
-pub record AuditsWhole (bytes : List ℕ) (left old new : Option (List ℕ)) : Type 0 where
-  pub items : List Item
-  pub log : List Entry
-  pub stopped : StopsBehind items bytes left
-  pub links : Numbered LinkState
-  pub storage : StorageState
-  pub legal : IsLegal items log links storage
-  pub reported : Reports legal.due.options log [] old new
-
--- a part from the front of the whole output was written, as a front of whole lines tells it; nothing, unless these are all
--- lines, or the source has failed
-pub record AuditsPart (failed : Type 0) (bytes : List ℕ) (left old new : Option (List ℕ)) : Type 0 where
-  pub read : List ℕ
-  pub rest : List ℕ
-  pub items : List Item
-  pub bad : Option ℕ
-  pub log : List Entry
-  pub all_is : read ++ rest ≡ bytes
-  pub whole : AreWhole read rest
-  pub script : IsScriptOf read items bad
-  pub reads : ReadsAhead items bytes left
-  pub links : Numbered LinkState
-  pub storage : StorageState
-  pub legal : IsLegal items log links storage
-  pub begun : (new ≡ old) ⊎ ((rest ≡ []) ⊎ failed)
-  pub reported : ReportsPart legal.due.options log (behind_report bad) old new
 
 -- what was read of these bytes and what was written, by the status, where a source may have failed
 abbrev pub AuditOutcome : Status → Type 0 → List ℕ → Option (List ℕ) → Option (List ℕ) → Option (List ℕ) → Type 0
-AuditOutcome status.Done failed bytes left old new = IsAudited bytes left old new
-AuditOutcome (status.BadLine k) failed bytes left old new = IsAuditedTo k bytes left old new
-AuditOutcome status.ReadFault failed bytes left old new = AuditsWhole bytes left old new
-AuditOutcome status.WriteFault failed bytes left old new = AuditsPart failed bytes left old new
-AuditOutcome status.OutOfMemory failed bytes left old new = AuditsPart failed bytes left old new
-AuditOutcome status.Usage failed bytes left old new = ⊥
+AuditOutcome s failed bytes left old new =
+    ScriptOutcome
+    (λ t o log links storage. Reports o log (behind_status t) old new)
+    (λ o log links storage bad rest. ((new ≡ old) ⊎ ((rest ≡ []) ⊎ failed)) × ReportsPart o log (behind_report bad) old new)
+    s bytes left
+
+-- all bytes are a script, and are read; the report on its legal log was written, and nothing else
+abbrev pub IsAudited : List ℕ → Option (List ℕ) → Option (List ℕ) → Option (List ℕ) → Type 0
+IsAudited bytes left old new = ReadsAndWrites (IsReadWhole bytes left) (λ o log links storage. Reports o log [] old new)
+
+-- line k is the first bad one; behind the lines before it at most one buffer was taken from the source; the report on the legal
+-- log of these lines was written, and the line that names the bad one
+abbrev pub IsAuditedTo : ℕ → List ℕ → Option (List ℕ) → Option (List ℕ) → Option (List ℕ) → Type 0
+IsAuditedTo k bytes left old new = ReadsAndWrites (IsReadToBad k bytes left) (λ o log links storage. Reports o log (bad_line k) old new)
+
+-- whole lines were read, and of the line behind them a part, at most one buffer; exactly the report on the legal log of the
+-- whole lines was written
+abbrev pub AuditsWhole : List ℕ → Option (List ℕ) → Option (List ℕ) → Option (List ℕ) → Type 0
+AuditsWhole bytes left old new = ReadsAndWrites (λ items. StopsBehind items bytes left) (λ o log links storage. Reports o log [] old new)
+
+-- a part from the front of the whole output was written, as a front of whole lines tells it; nothing, unless these are all
+-- lines, or the source has failed
+abbrev pub AuditsPart : Type 0 → List ℕ → Option (List ℕ) → Option (List ℕ) → Option (List ℕ) → Type 0
+AuditsPart failed bytes left old new = AuditOutcome status.WriteFault failed bytes left old new

@@ -23,3 +23,4 @@ pub mod Clean
 pub mod Determined
 pub mod Listed
 pub mod Commands
+pub mod CommandOutcome

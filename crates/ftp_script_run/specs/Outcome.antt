@@ -65,44 +65,28 @@ EndsPart e o log links storage old new = (new ≡ old) ⊎ ((text : List ℕ) ×
 
 -- ---- how it ends
 
--- all bytes are a script, and are read; its legal log was written, and what stands behind it
-pub record IsDone (e : Ending) (bytes : List ℕ) (left old new : Option (List ℕ)) : Type 0 where
+-- items were read so, and so was written of what their legal log is
+pub record ReadsAndWrites (Read : List Item → Type 0) (Wrote : Options → List Entry → Numbered LinkState → StorageState → Type 0) : Type 0 where
   pub items : List Item
   pub log : List Entry
-  pub script : IsScriptOf bytes items None
-  pub end : left ≡ Some []
+  pub read : Read items
   pub links : Numbered LinkState
   pub storage : StorageState
   pub legal : IsLegal items log links storage
-  pub behind : List ℕ
-  pub ends : IsEnd e legal.due.options log links storage behind
-  pub written : Writes old new (log_lines log ++ behind)
+  pub wrote : Wrote legal.due.options log links storage
 
--- line k is the first bad one; behind the lines before it at most one buffer was taken from the source; the legal log of these
--- lines was written, and the line that names the bad one
-pub record HasBadLine (k : ℕ) (bytes : List ℕ) (left old new : Option (List ℕ)) : Type 0 where
-  pub items : List Item
-  pub log : List Entry
-  pub script : IsScriptOf bytes items (Some k)
-  pub reads : ReadsAhead items bytes left
-  pub links : Numbered LinkState
-  pub storage : StorageState
-  pub legal : IsLegal items log links storage
-  pub written : Writes old new (log_lines log ++ bad_line k)
+-- all bytes are a script of these items, and are read
+abbrev pub IsReadWhole : List ℕ → Option (List ℕ) → List Item → Type 0
+IsReadWhole bytes left items = IsScriptOf bytes items None × (left ≡ Some [])
 
--- whole lines were read, and of the line behind them a part, at most one buffer; exactly the legal log of the whole lines was written
-pub record WritesWhole (bytes : List ℕ) (left old new : Option (List ℕ)) : Type 0 where
-  pub items : List Item
-  pub log : List Entry
-  pub stopped : StopsBehind items bytes left
-  pub links : Numbered LinkState
-  pub storage : StorageState
-  pub legal : IsLegal items log links storage
-  pub written : Writes old new (log_lines log)
+-- line k is the first bad one; behind the lines before it, which are those of the items, at most one buffer was taken from the
+-- source
+abbrev pub IsReadToBad : ℕ → List ℕ → Option (List ℕ) → List Item → Type 0
+IsReadToBad k bytes left items = IsScriptOf bytes items (Some k) × ReadsAhead items bytes left
 
--- a part from the front of the whole output was written, as a front of whole lines tells it; behind the lines of its items at
--- most one buffer was taken from the source
-pub record WritesPart (e : Ending) (bytes : List ℕ) (left old new : Option (List ℕ)) : Type 0 where
+-- a front of whole lines was read, of which line k may be the first bad one, and so was written of what the legal log of its
+-- items is; behind their lines at most one buffer was taken from the source
+pub record ReadsFrontAndWrites (bytes : List ℕ) (left : Option (List ℕ)) (Wrote : Options → List Entry → Numbered LinkState → StorageState → Option ℕ → List ℕ → Type 0) : Type 0 where
   pub read : List ℕ
   pub rest : List ℕ
   pub items : List Item
@@ -115,16 +99,49 @@ pub record WritesPart (e : Ending) (bytes : List ℕ) (left old new : Option (Li
   pub links : Numbered LinkState
   pub storage : StorageState
   pub legal : IsLegal items log links storage
-  -- a part of the log, or the log and a part of what stands behind it
-  pub written :
-      WritesFront old new (log_lines log)
-      ⊎ ((behind : List ℕ) × IsBehindFront e legal.due.options log links storage bad rest behind × WritesFront old new (log_lines log ++ behind))
+  pub wrote : Wrote legal.due.options log links storage bad rest
+
+-- what was read of these bytes, by the status, and what was written of the legal log, of a script or a front of its lines
+abbrev pub ScriptOutcome :
+    (Status → Options → List Entry → Numbered LinkState → StorageState → Type 0) →
+    (Options → List Entry → Numbered LinkState → StorageState → Option ℕ → List ℕ → Type 0) → Status → List ℕ → Option (List ℕ) → Type 0
+ScriptOutcome Wrote Part status.Done bytes left = ReadsAndWrites (IsReadWhole bytes left) (Wrote status.Done)
+ScriptOutcome Wrote Part (status.BadLine k) bytes left = ReadsAndWrites (IsReadToBad k bytes left) (Wrote (status.BadLine k))
+ScriptOutcome Wrote Part status.ReadFault bytes left = ReadsAndWrites (λ items. StopsBehind items bytes left) (Wrote status.ReadFault)
+ScriptOutcome Wrote Part status.WriteFault bytes left = ReadsFrontAndWrites bytes left Part
+ScriptOutcome Wrote Part status.OutOfMemory bytes left = ReadsFrontAndWrites bytes left Part
+ScriptOutcome Wrote Part status.Usage bytes left = ⊥
+
+-- the log was written, and behind that of a whole script what stands there, or the line that names a bad line
+abbrev pub WritesLog : Ending → Option (List ℕ) → Option (List ℕ) → Status → Options → List Entry → Numbered LinkState → StorageState → Type 0
+WritesLog e old new status.Done o log links storage = (behind : List ℕ) × IsEnd e o log links storage behind × Writes old new (log_lines log ++ behind)
+WritesLog e old new (status.BadLine k) o log links storage = Writes old new (log_lines log ++ bad_line k)
+WritesLog e old new _ o log links storage = Writes old new (log_lines log)
+
+-- a part of the log was written, or the log and a part of what stands behind it
+abbrev pub WritesLogPart : Ending → Option (List ℕ) → Option (List ℕ) → Options → List Entry → Numbered LinkState → StorageState → Option ℕ → List ℕ → Type 0
+WritesLogPart e old new o log links storage bad rest =
+    WritesFront old new (log_lines log)
+    ⊎ ((behind : List ℕ) × IsBehindFront e o log links storage bad rest behind × WritesFront old new (log_lines log ++ behind))
 
 -- what was read of these bytes and what was written, by the status
 abbrev pub Outcome : Ending → Status → List ℕ → Option (List ℕ) → Option (List ℕ) → Option (List ℕ) → Type 0
-Outcome e status.Done bytes left old new = IsDone e bytes left old new
-Outcome e (status.BadLine k) bytes left old new = HasBadLine k bytes left old new
-Outcome e status.ReadFault bytes left old new = WritesWhole bytes left old new
-Outcome e status.WriteFault bytes left old new = WritesPart e bytes left old new
-Outcome e status.OutOfMemory bytes left old new = WritesPart e bytes left old new
-Outcome e status.Usage bytes left old new = ⊥
+Outcome e s bytes left old new = ScriptOutcome (WritesLog e old new) (WritesLogPart e old new) s bytes left
+
+-- all bytes are a script, and are read; its legal log was written, and what stands behind it
+abbrev pub IsDone : Ending → List ℕ → Option (List ℕ) → Option (List ℕ) → Option (List ℕ) → Type 0
+IsDone e bytes left old new = Outcome e status.Done bytes left old new
+
+-- line k is the first bad one; behind the lines before it at most one buffer was taken from the source; the legal log of these
+-- lines was written, and the line that names the bad one
+abbrev pub HasBadLine : ℕ → List ℕ → Option (List ℕ) → Option (List ℕ) → Option (List ℕ) → Type 0
+HasBadLine k bytes left old new = ReadsAndWrites (IsReadToBad k bytes left) (λ o log links storage. Writes old new (log_lines log ++ bad_line k))
+
+-- whole lines were read, and of the line behind them a part, at most one buffer; exactly the legal log of the whole lines was written
+abbrev pub WritesWhole : List ℕ → Option (List ℕ) → Option (List ℕ) → Option (List ℕ) → Type 0
+WritesWhole bytes left old new = ReadsAndWrites (λ items. StopsBehind items bytes left) (λ o log links storage. Writes old new (log_lines log))
+
+-- a part from the front of the whole output was written, as a front of whole lines tells it; behind the lines of its items at
+-- most one buffer was taken from the source
+abbrev pub WritesPart : Ending → List ℕ → Option (List ℕ) → Option (List ℕ) → Option (List ℕ) → Type 0
+WritesPart e bytes left old new = ReadsFrontAndWrites bytes left (WritesLogPart e old new)

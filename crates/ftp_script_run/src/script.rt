@@ -14,6 +14,8 @@ ghost use Rattle.ftp_script_run.specs.declared.command.Command.TheVariants.{Audi
 ghost use Rattle.ftp_script_run.specs.declared.command.Ending.{Ending};
 ghost use Rattle.ftp_script_run.specs.declared.command.Told.{Told};
 ghost use Rattle.ftp_script_run.specs.declared.command.Told.TheVariants.{Stress};
+ghost use Rattle.ftp_script_run.specs.CommandOutcome.{CommandOutcome};
+ghost use Rattle.ftp_script_run.specs.Commands as commands;
 ghost use Rattle.ftp_script_run.specs.Commands.{Asks, text_of};
 ghost use Rattle.ftp_control.specs.Writing.{WritesFront};
 ghost use Rattle.ftp_script_run.specs.Stress.{stress_lines};
@@ -157,20 +159,33 @@ pub fn run_script<S: Source, K: Sink>(
     ensures sink_count { K.faults sink.old ≤ K.faults sink.new }
 {
     match command_of(words) {
-        Some(Command::Run(ending)) => {
-            let mut buffer = [0u8; BUFFER_SIZE];
-            run_lines(alloc, ending, &mut buffer, source, sink)
-        }
-        Some(Command::Resume) => {
-            let mut buffer = [0u8; BUFFER_SIZE];
-            resume_lines(alloc, &mut buffer, source, sink)
-        }
-        Some(Command::Audit) => {
-            let mut buffer = [0u8; BUFFER_SIZE];
-            audit_lines(alloc, &mut buffer, source, sink)
-        }
-        Some(Command::Tell(told)) => Status::Done.after(tell(alloc, told, sink)),
+        Some(command) => run_command(alloc, command, source, sink),
         None => Status::Usage,
+    }
+}
+
+// Does what the command asks for.
+fn run_command<S: Source, K: Sink>(
+    alloc: Global,
+    command: Command,
+    source: &mut S,
+    sink: &mut K,
+) -> Status
+    requires { commands.IsLawful command }
+    ensures outcome { CommandOutcome command result (HasRisen (S.faults source.old) (S.faults source.new)) (S.left source.old) (S.left source.new) (K.written sink.old) (K.written sink.new) }
+    ensures no_usage { result ≢ Status.Usage }
+    ensures read_fault { result ≡ Status.ReadFault → HasRisen (S.faults source.old) (S.faults source.new) }
+    ensures write_fault { result ≡ Status.WriteFault → HasRisen (K.faults sink.old) (K.faults sink.new) }
+    ensures idle { (t : Told) → command ≡ Tell t → source.new ≡ source.old }
+    ensures source_count { S.faults source.old ≤ S.faults source.new }
+    ensures sink_count { K.faults sink.old ≤ K.faults sink.new }
+{
+    let mut buffer = [0u8; BUFFER_SIZE];
+    match command {
+        Command::Run(ending) => run_lines(alloc, ending, &mut buffer, source, sink),
+        Command::Resume => resume_lines(alloc, &mut buffer, source, sink),
+        Command::Audit => audit_lines(alloc, &mut buffer, source, sink),
+        Command::Tell(told) => Status::Done.after(tell(alloc, told, sink)),
     }
 }
 

@@ -1,0 +1,10 @@
+use Rattle.ftp_script_run.specs.Commands.{text_of}
+use Rattle.ftp_script_run.proofs.CommandLemmas.{told-so, told-no_usage}
+use Rattle.ftp_script_run.proofs.script.run_command.Goals as goal
+
+pub returns-in-Tell-clause-outcome : goal.returns-in-Tell-clause-outcome
+returns-in-Tell-clause-outcome g c =
+    rw c.in-Tell.is (told-so (text_of c.in-Tell.told) c.tell.result c.after.result (g.K.Sink.written c.args.sink.now) (g.K.Sink.written c.tell.new.sink) c.after.ensures c.tell.ensures.wrote c.tell.ensures.front)
+
+pub returns-in-Tell-clause-no_usage : goal.returns-in-Tell-clause-no_usage
+returns-in-Tell-clause-no_usage g c = told-no_usage c.tell.result c.after.result c.after.ensures
