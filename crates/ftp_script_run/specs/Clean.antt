@@ -25,17 +25,6 @@ pub record ListsNoFault (items : List Item) : Type 0 where
   pub storage : fault_limit (storage_in items).inner.calls ≡ 0
   pub links : (n : ℕ) (link : LinkState) → map.get (links_in items) n ≡ Some link → link_fault_limit link.calls ≡ 0
 
--- what each entry of a legal log of a script that lists no call that fails says, behind the past and from the place old on
-abbrev pub SaysWhereClean : (Options → List Item → List Entry → Entry → Outside StorageState LinkState → Type 0) → Type 0
-SaysWhereClean Says =
-    (o : Options) (items : List Item) (older newer : List Entry) (e : Entry) (end : Outside StorageState LinkState) →
-    ListsNoFault items →
-    Leads memory_views o [] (newer ++ e ∷ older) (start_of items) end →
-    (old new : Outside StorageState LinkState)
-    × Leads memory_views o [] older (start_of items) old
-    × LeadsOne memory_views o (past_of older) e old new
-    × Says o items older e old
-
 -- an entry that ran a job to its end from old on, of which the storage's rule refuses no call, says that it was done, or
 -- that memory ran out
 abbrev pub IsDoneWhereTaken : Options → List Entry → Entry → Outside StorageState LinkState → Type 0
@@ -52,9 +41,14 @@ IsDoneWhereTaken o past e old =
 -- once the files were begun that were begun before
 abbrev pub TakenTransfersAreDone : Type 0
 TakenTransfersAreDone =
-    SaysWhereClean (λ o items older e old.
-    IsDoneWhereTaken o (past_of older) e old
-    × ((begun : List BegunFile) × (memory_views.rule old.storage ≡ once_all begun (memory_views.rule (storage_in items)))))
+    (o : Options) (items : List Item) (older newer : List Entry) (e : Entry) (end : Outside StorageState LinkState) →
+    ListsNoFault items →
+    Leads memory_views o [] (newer ++ e ∷ older) (start_of items) end →
+    (old new : Outside StorageState LinkState)
+    × Leads memory_views o [] older (start_of items) old
+    × LeadsOne memory_views o (past_of older) e old new
+    × IsDoneWhereTaken o (past_of older) e old
+    × ((begun : List BegunFile) × (memory_views.rule old.storage ≡ once_all begun (memory_views.rule (storage_in items))))
 
 -- an entry that read a header from old on tells the line at the front of what its connection had left
 abbrev pub IsLineWhereRead : Options → List Entry → Entry → Outside StorageState LinkState → Type 0
@@ -66,4 +60,11 @@ IsLineWhereRead o past e old =
 
 -- so does each entry of a legal log of a script that lists no call that fails
 abbrev pub HeadersAreRead : Type 0
-HeadersAreRead = SaysWhereClean (λ o items older e old. IsLineWhereRead o (past_of older) e old)
+HeadersAreRead =
+    (o : Options) (items : List Item) (older newer : List Entry) (e : Entry) (end : Outside StorageState LinkState) →
+    ListsNoFault items →
+    Leads memory_views o [] (newer ++ e ∷ older) (start_of items) end →
+    (old new : Outside StorageState LinkState)
+    × Leads memory_views o [] older (start_of items) old
+    × LeadsOne memory_views o (past_of older) e old new
+    × IsLineWhereRead o (past_of older) e old
