@@ -21,7 +21,7 @@ use Rattle.ftp_script_run.specs.declared.status.Status.TheVariants as status
 use Rattle.ftp_script_run.specs.Statuses.{ended_by}
 use Rattle.ftp_script_run.specs.Outcome.{bad_line}
 use Rattle.ftp_script_run.specs.Runs.{Keeps}
-use Rattle.ftp_script_run.specs.Audited.{IsNoted, Hearing, Reports, ReportsPart, behind_report, AuditsPart, AuditOutcome}
+use Rattle.ftp_script_run.specs.Audited.{IsNoted, Hearing, Reports, ReportsPart, WritesReport, WritesReportPart, AuditsPart, AuditOutcome}
 use Rattle.ftp_script_run.proofs.OutcomeLemmas.{ends-so, reads-writes, front-writes, all-writes}
 use Rattle.ftp_script_run.proofs.RunLemmas.{stands-anew}
 use Rattle.ftp_control.proofs.WritingLemmas.{front-more, front-longer, on_ok-then, on_err-then}
@@ -77,7 +77,7 @@ pub heard-end : (failed : Type 0) (all left later old new : Option (List ℕ)) (
 heard-end failed all left later old new reader run audit buffer last r told ahead wrote front =
     let stands = heard-stands run r.items r.log audit r.kept r.heard in
     IfSome_then all r.read
-    (λ bytes h. ends-so status.Done last bytes later
+    (λ bytes h. ends-so (WritesReport old new) (WritesReportPart failed old new) status.Done last bytes later
     (on_ok-then last wrote (λ wrote. reads-writes run r.items r.log r.kept (told bytes h) (wrote (options_of run.hub) r.log stands)))
     (on_err-then last front (λ front. all-writes bytes later run r.items r.log (ahead bytes h) r.kept None (told bytes h).0 (inr (inl refl), front (options_of run.hub) r.log stands))))
 
@@ -90,7 +90,7 @@ pub heard-bad : (failed : Type 0) (all left later old new : Option (List ℕ)) (
 heard-bad failed all left later old new reader run audit buffer k last r told ahead wrote front =
     let stands = heard-stands run r.items r.log audit r.kept r.heard in
     IfSome_then all r.read
-    (λ bytes h. ends-so (status.BadLine k) last bytes later
+    (λ bytes h. ends-so (WritesReport old new) (WritesReportPart failed old new) (status.BadLine k) last bytes later
     (on_ok-then last wrote (λ wrote. reads-writes run r.items r.log r.kept (told bytes h, ahead bytes h) (wrote (options_of run.hub) r.log stands)))
     (on_err-then last front (λ front. all-writes bytes later run r.items r.log (ahead bytes h) r.kept (Some k) (told bytes h) (inr (inl refl), front (options_of run.hub) r.log stands))))
 
@@ -104,7 +104,7 @@ pub heard-fault : (failed : Type 0) (all left later old new : Option (List ℕ))
 heard-fault failed all left later old new reader run audit buffer last r risen told ahead wrote front =
     let stands = heard-stands run r.items r.log audit r.kept r.heard in
     IfSome_then all r.read
-    (λ bytes h. ends-so status.ReadFault last bytes later
+    (λ bytes h. ends-so (WritesReport old new) (WritesReportPart failed old new) status.ReadFault last bytes later
     (on_ok-then last wrote (λ wrote. reads-writes run r.items r.log r.kept (told bytes h) (wrote (options_of run.hub) r.log stands)))
     (on_err-then last front (λ front. front-writes bytes later run r.items r.log (ahead bytes h) r.kept h (inr (inr risen), front (options_of run.hub) r.log stands))))
 

@@ -23,7 +23,7 @@ use Rattle.ftp_script_run.specs.Statuses.{IsCutShort, ended_by}
 use Rattle.ftp_script_run.specs.SetUp.{StorageState, IsSetUp}
 use Rattle.ftp_hub.specs.Stands.{Stands, options_of}
 use Rattle.ftp_script_run.specs.declared.command.Ending.{Ending}
-use Rattle.ftp_script_run.specs.Outcome.{log_lines, bad_line, ReadsAndWrites, ReadsFrontAndWrites, ScriptOutcome, WritesWhole, WritesPart, Ends, EndsPart, Outcome}
+use Rattle.ftp_script_run.specs.Outcome.{log_lines, bad_line, ReadsAndWrites, ReadsFrontAndWrites, ScriptOutcome, WritesLog, WritesLogPart, WritesWhole, WritesPart, Ends, EndsPart, Outcome}
 use Rattle.ftp_script_run.specs.Resuming.{IsResumeCut, ResumeOutcome}
 use Rattle.ftp_script_run.specs.Runs.{Before, Keeps, IsTaken, IsPartlyTaken, Running}
 use Rattle.ftp_script_run.proofs.RunLemmas.{kept-legal, kept-storage, stands-anew}
@@ -102,11 +102,11 @@ module _ {Wrote : Options → List Entry → Numbered LinkState → StorageState
   }
 
 -- a run that ends with a write ends so where that is done, and else with a part
-pub ends-so : {Wrote : Status → Options → List Entry → Numbered LinkState → StorageState → Type 0} {Part : Options → List Entry → Numbered LinkState → StorageState → Option ℕ → List ℕ → Type 0} (s : Status) (last : Result Unit Failed) (bytes : List ℕ) (left : Option (List ℕ)) →
+pub ends-so : (Wrote : Status → Options → List Entry → Numbered LinkState → StorageState → Type 0) (Part : Options → List Entry → Numbered LinkState → StorageState → Option ℕ → List ℕ → Type 0) (s : Status) (last : Result Unit Failed) (bytes : List ℕ) (left : Option (List ℕ)) →
     OnOk last (ScriptOutcome Wrote Part s bytes left) → OnErr last (ReadsFrontAndWrites bytes left Part) → ScriptOutcome Wrote Part (ended_by last s) bytes left
-ends-so s (Ok x) bytes left whole part = whole
-ends-so s (Err Fault) bytes left whole part = part
-ends-so s (Err Memory) bytes left whole part = part
+ends-so Wrote Part s (Ok x) bytes left whole part = whole
+ends-so Wrote Part s (Err Fault) bytes left whole part = part
+ends-so Wrote Part s (Err Memory) bytes left whole part = part
 
 pub out-memory : (e : Ending) (all left later before now : Option (List ℕ)) (reader : ScriptReader) (run : Run) (buffer : List ℕ) (r : Running None all reader run buffer left before now) →
     ((bytes : List ℕ) → HasRead r.items bytes reader buffer left → ReadsAhead r.items bytes later) →
@@ -162,7 +162,7 @@ pub out-end : (e : Ending) (all left later before now new : Option (List ℕ)) (
 out-end e all left later before now new reader run buffer last r told ahead wrote front =
     let stands = stands-anew run r.items r.log r.kept in
     IfSome_then all r.read
-    (λ bytes h. ends-so status.Done last bytes later
+    (λ bytes h. ends-so (WritesLog e before new) (WritesLogPart e before new) status.Done last bytes later
     (on_ok-then last wrote (λ wrote.
     let ends = wrote r.log stands in
     reads-writes run r.items r.log r.kept (told bytes h) (ends.0, ends.1, writes-more before now new (log_lines r.log) ends.0 r.written ends.2)))
@@ -177,7 +177,7 @@ pub out-bad : (e : Ending) (all left later before now new : Option (List ℕ)) (
     IfSome all (λ bytes. Outcome e (ended_by last (status.BadLine k)) bytes later before new)
 out-bad e all left later before now new reader run buffer k last r told ahead wrote front =
     IfSome_then all r.read
-    (λ bytes h. ends-so (status.BadLine k) last bytes later
+    (λ bytes h. ends-so (WritesLog e before new) (WritesLogPart e before new) (status.BadLine k) last bytes later
     (on_ok-then last wrote (λ wrote. reads-writes run r.items r.log r.kept (told bytes h, ahead bytes h) (writes-more before now new (log_lines r.log) (bad_line k) r.written wrote)))
     (on_err-then last front (λ front.
     all-writes bytes later run r.items r.log (ahead bytes h) r.kept (Some k) (told bytes h) (inr (bad_line k, refl, front-more before now new (log_lines r.log) (bad_line k) r.written front)))))
@@ -200,7 +200,7 @@ resume-cut s all left old new (inl is) h = subst (λ (t : Status). IfSome all (�
 resume-cut s all left old new (inr (inl is)) h = subst (λ (t : Status). IfSome all (λ bytes. ResumeOutcome t bytes left old new)) is h
 resume-cut s all left old new (inr (inr is)) h = subst (λ (t : Status). IfSome all (λ bytes. ResumeOutcome t bytes left old new)) is h
 
-module _ {Wrote : Status → Options → List Entry → Numbered LinkState → StorageState → Type 0} {Part : Options → List Entry → Numbered LinkState → StorageState → Option ℕ → List ℕ → Type 0} where
+module _ (Wrote : Status → Options → List Entry → Numbered LinkState → StorageState → Type 0) (Part : Options → List Entry → Numbered LinkState → StorageState → Option ℕ → List ℕ → Type 0) where
   -- of two names of a status
   pub outcome-of : (all left : Option (List ℕ)) (s t : Status) → s ≡ t → IfSome all (λ bytes. ScriptOutcome Wrote Part s bytes left) → IfSome all (λ bytes. ScriptOutcome Wrote Part t bytes left)
   outcome-of all left s t same h = subst (λ (u : Status). IfSome all (λ bytes. ScriptOutcome Wrote Part u bytes left)) same h

@@ -1,6 +1,8 @@
 -- What an audit of a script has read and written, by the status of its run.
 use Rattle.std.specs.Prelude.{◌≡◌, ℕ, ◌⊎◌, List, [], ◌++◌, Option, Some, None, IfSome}
 use Rattle.std.specs.List.{flat_map}
+use Rattle.ftp_base.specs.LinkTable.{Numbered}
+use Rattle.ftp_base.specs.Memory.{LinkState}
 use Rattle.ftp_base.specs.Outside.{Writes}
 use Rattle.ftp_options.specs.declared.options.Options.{Options}
 use Rattle.ftp_events.specs.declared.entry.Entry.{Entry}
@@ -8,6 +10,7 @@ use Rattle.ftp_control.specs.Writing.{WritesFront}
 use Rattle.ftp_text.specs.declared.setup.Item.{Item}
 use Rattle.ftp_script_run.specs.declared.text_script.ScriptReader.{ScriptReader}
 use Rattle.ftp_script_run.specs.ScriptReader.{Follows, HasRead, StopsBehind}
+use Rattle.ftp_script_run.specs.SetUp.{StorageState}
 use Rattle.ftp_audit.specs.declared.total.Total.{Total}
 use Rattle.ftp_audit.specs.Listing.{IsListing, row_line}
 use Rattle.ftp_audit.specs.Heard.{AuditState, HasHeard, total_in}
@@ -58,13 +61,18 @@ behind_status _ = []
 
 -- ---- how it ends
 
+-- the report on the log was written, and what stands behind that of a run that ended so
+abbrev pub WritesReport : Option (List ℕ) → Option (List ℕ) → Status → Options → List Entry → Numbered LinkState → StorageState → Type 0
+WritesReport old new s o log links storage = Reports o log (behind_status s) old new
+
+-- a part of the report was written; nothing, unless all lines were read, or the source has failed
+abbrev pub WritesReportPart : Type 0 → Option (List ℕ) → Option (List ℕ) → Options → List Entry → Numbered LinkState → StorageState → Option ℕ → List ℕ → Type 0
+WritesReportPart failed old new o log links storage bad rest =
+    ((new ≡ old) ⊎ ((rest ≡ []) ⊎ failed)) × ReportsPart o log (behind_report bad) old new
+
 -- what was read of these bytes and what was written, by the status, where a source may have failed
 abbrev pub AuditOutcome : Status → Type 0 → List ℕ → Option (List ℕ) → Option (List ℕ) → Option (List ℕ) → Type 0
-AuditOutcome s failed bytes left old new =
-    ScriptOutcome
-    (λ t o log links storage. Reports o log (behind_status t) old new)
-    (λ o log links storage bad rest. ((new ≡ old) ⊎ ((rest ≡ []) ⊎ failed)) × ReportsPart o log (behind_report bad) old new)
-    s bytes left
+AuditOutcome s failed bytes left old new = ScriptOutcome (WritesReport old new) (WritesReportPart failed old new) s bytes left
 
 -- all bytes are a script, and are read; the report on its legal log was written, and nothing else
 abbrev pub IsAudited : List ℕ → Option (List ℕ) → Option (List ℕ) → Option (List ℕ) → Type 0

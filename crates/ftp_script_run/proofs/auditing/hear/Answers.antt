@@ -8,6 +8,7 @@ use Rattle.ftp_script_run.specs.declared.text_script.ScriptError.{ScriptError}
 use Rattle.ftp_script_run.specs.declared.text_script.ScriptError.TheVariants as error
 use Rattle.ftp_script_run.specs.ScriptReader.{Answers, IsLetIn}
 use Rattle.ftp_script_run.specs.declared.status.Status.TheVariants as status
+use Rattle.ftp_script_run.specs.Audited.{WritesReport, WritesReportPart}
 use Rattle.ftp_script_run.specs.Statuses.{ended_by}
 use Rattle.ftp_script_run.proofs.Written.{if_none-then}
 use Rattle.ftp_script_run.proofs.OutcomeLemmas.{kept-set_up, outcome-of}
@@ -42,7 +43,7 @@ returns-in-Ok-Some-clause-ended g c =
     let risen = HasRisen (g.S.Source.faults c.args.source.now) (g.S.Source.faults c.next_item.new.source) in
     let written = g.K.Sink.written c.args.sink.now in
     IfSome_then c.noted.result c.noted.ensures.only_memory (λ s e all r.
-    outcome-of all later status.OutOfMemory s (sym e)
+    outcome-of (WritesReport written written) (WritesReportPart risen written written) all later status.OutOfMemory s (sym e)
     (heard-memory risen all (g.S.Source.left c.args.source.now) later written written c.args.reader.now c.args.run.now c.args.audit.now c.args.buffer.now r
     (λ bytes h. c.next_item.ensures.ahead r.items bytes h)
     refl))
@@ -55,7 +56,7 @@ returns-in-Ok-None-clause-ended g c =
     let old = g.K.Sink.written c.args.sink.now in
     let new = g.K.Sink.written c.write_report.new.sink in
     λ all r.
-    outcome-of all later (ended_by c.write_report.result status.Done) c.after.result (sym c.after.ensures)
+    outcome-of (WritesReport old new) (WritesReportPart risen old new) all later (ended_by c.write_report.result status.Done) c.after.result (sym c.after.ensures)
     (heard-end risen all (g.S.Source.left c.args.source.now) later old new c.args.reader.now c.args.run.now c.args.audit.now c.args.buffer.now c.write_report.result r
     (λ bytes h. subst (λ (f : Found). Answers r.items bytes f c.next_item.new.self c.next_item.new.buffer later) found (c.next_item.ensures.told r.items bytes h (kept-set_up None c.args.run.now r.items r.log c.storage.result.now r.kept c.storage.ensures)))
     (λ bytes h. c.next_item.ensures.ahead r.items bytes h)
@@ -69,7 +70,7 @@ returns-in-Err-BadLine-clause-ended g c =
     let old = g.K.Sink.written c.args.sink.now in
     let new = g.K.Sink.written c.write_to.new.sink in
     λ all r.
-    outcome-of all later (ended_by c.write_to.result (status.BadLine c.in-Err-BadLine.k)) c.after-in-Err-BadLine.result (sym c.after-in-Err-BadLine.ensures)
+    outcome-of (WritesReport old new) (WritesReportPart risen old new) all later (ended_by c.write_to.result (status.BadLine c.in-Err-BadLine.k)) c.after-in-Err-BadLine.result (sym c.after-in-Err-BadLine.ensures)
     (heard-bad risen all (g.S.Source.left c.args.source.now) later old new c.args.reader.now c.args.run.now c.args.audit.now c.args.buffer.now c.in-Err-BadLine.k c.write_to.result r
     (λ bytes h. subst (λ (f : Found). Answers r.items bytes f c.next_item.new.self c.next_item.new.buffer later) found (c.next_item.ensures.told r.items bytes h (kept-set_up None c.args.run.now r.items r.log c.storage.result.now r.kept c.storage.ensures)))
     (λ bytes h. c.next_item.ensures.ahead r.items bytes h)
@@ -83,7 +84,7 @@ returns-in-Err-Fault-clause-ended g c =
     let old = g.K.Sink.written c.args.sink.now in
     let new = g.K.Sink.written c.write_report-in-Err-Fault.new.sink in
     λ all r.
-    outcome-of all later (ended_by c.write_report-in-Err-Fault.result status.ReadFault) c.after-in-Err-Fault.result (sym c.after-in-Err-Fault.ensures)
+    outcome-of (WritesReport old new) (WritesReportPart risen old new) all later (ended_by c.write_report-in-Err-Fault.result status.ReadFault) c.after-in-Err-Fault.result (sym c.after-in-Err-Fault.ensures)
     (heard-fault risen all (g.S.Source.left c.args.source.now) later old new c.args.reader.now c.args.run.now c.args.audit.now c.args.buffer.now c.write_report-in-Err-Fault.result r
     (c.next_item.ensures.fault_rose found)
     (λ bytes h. subst (λ (f : Found). Answers r.items bytes f c.next_item.new.self c.next_item.new.buffer later) found (c.next_item.ensures.told r.items bytes h (kept-set_up None c.args.run.now r.items r.log c.storage.result.now r.kept c.storage.ensures)))

@@ -6,6 +6,7 @@ use Rattle.ftp_script_run.specs.declared.text_script.ScriptError.{ScriptError}
 use Rattle.ftp_script_run.specs.declared.text_script.ScriptError.TheVariants as error
 use Rattle.ftp_script_run.specs.ScriptReader.{IsLawful, Answers, IsLetIn}
 use Rattle.ftp_script_run.specs.declared.status.Status.TheVariants as status
+use Rattle.ftp_script_run.specs.Outcome.{WritesLog, WritesLogPart}
 use Rattle.ftp_script_run.specs.Statuses.{ended_by}
 use Rattle.ftp_script_run.proofs.Written.{if_none-then, if_some-both}
 use Rattle.ftp_script_run.proofs.OutcomeLemmas.{kept-set_up, running-more, out-cut, out-end, out-bad, out-fault, out-memory, outcome-of}
@@ -59,7 +60,7 @@ returns-in-Ok-None-clause-ended g c =
     let now = g.K.Sink.written c.args.sink.now in
     let new = g.K.Sink.written c.close.new.sink in
     λ all before r.
-    outcome-of all later (ended_by c.close.result status.Done) c.after.result (sym c.after.ensures)
+    outcome-of (WritesLog c.args.ending before new) (WritesLogPart c.args.ending before new) all later (ended_by c.close.result status.Done) c.after.result (sym c.after.ensures)
     (out-end c.args.ending all left later before now new c.args.reader.now c.args.run.now c.args.buffer.now c.close.result r
     (λ bytes h. subst (λ (f : Found). Answers r.items bytes f c.next_item.new.self c.next_item.new.buffer later) found (c.next_item.ensures.told r.items bytes h (kept-set_up None c.args.run.now r.items r.log c.storage.result.now r.kept c.storage.ensures)))
     (λ bytes h. c.next_item.ensures.ahead r.items bytes h)
@@ -73,7 +74,7 @@ returns-in-Err-BadLine-clause-ended g c =
     let now = g.K.Sink.written c.args.sink.now in
     let new = g.K.Sink.written c.bad_line.new.sink in
     λ all before r.
-    outcome-of all later (ended_by c.bad_line.result (status.BadLine c.in-Err-BadLine.k)) c.after-in-Err-BadLine.result (sym (rw c.in-Err-BadLine.field-0-is at c.after-in-Err-BadLine.ensures))
+    outcome-of (WritesLog c.args.ending before new) (WritesLogPart c.args.ending before new) all later (ended_by c.bad_line.result (status.BadLine c.in-Err-BadLine.k)) c.after-in-Err-BadLine.result (sym (rw c.in-Err-BadLine.field-0-is at c.after-in-Err-BadLine.ensures))
     (out-bad c.args.ending all left later before now new c.args.reader.now c.args.run.now c.args.buffer.now c.in-Err-BadLine.k c.bad_line.result r
     (λ bytes h. subst (λ (f : Found). Answers r.items bytes f c.next_item.new.self c.next_item.new.buffer later) found (c.next_item.ensures.told r.items bytes h (kept-set_up None c.args.run.now r.items r.log c.storage.result.now r.kept c.storage.ensures)))
     (λ bytes h. c.next_item.ensures.ahead r.items bytes h)

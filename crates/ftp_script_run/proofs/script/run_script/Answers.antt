@@ -7,7 +7,9 @@ use Rattle.ftp_script_run.specs.declared.command.Command.TheVariants.{Run, Audit
 use Rattle.ftp_script_run.specs.declared.command.Told.TheVariants.{Stress}
 use Rattle.ftp_script_run.specs.declared.status.Status.{Status}
 use Rattle.ftp_script_run.specs.declared.status.Status.TheVariants as status
+use Rattle.ftp_script_run.specs.Audited.{WritesReport, WritesReportPart}
 use Rattle.ftp_script_run.specs.CommandOutcome.{CommandOutcome}
+use Rattle.ftp_script_run.specs.Outcome.{WritesLog, WritesLogPart}
 use Rattle.ftp_script_run.specs.Commands.{Asks, text_of}
 use Rattle.ftp_script_run.proofs.OutcomeLemmas.{cut-part, resume-cut, runs_whole, names_bad}
 use Rattle.ftp_script_run.proofs.CommandLemmas.{IsCommandOf, no_command, asked, usage-asked, told-done, told-cut, told-ends, told-whole}
@@ -42,15 +44,15 @@ returns-in-Some-clause-read_whole g c = λ e asks fault. ran g c _ c.command_of.
 
 pub returns-in-Some-clause-front : goal.returns-in-Some-clause-front
 returns-in-Some-clause-front g c = λ e asks short.
-    IfSome_then (g.S.Source.left c.args.source.now) (ran g c _ c.command_of.ensures (Run e) c.run_command.result asks refl) (λ bytes out. cut-part c.run_command.result bytes (g.S.Source.left c.run_command.new.source) short out)
+    IfSome_then (g.S.Source.left c.args.source.now) (ran g c _ c.command_of.ensures (Run e) c.run_command.result asks refl) (λ bytes out. cut-part (WritesLog e (g.K.Sink.written c.args.sink.now) (g.K.Sink.written c.run_command.new.sink)) (WritesLogPart e (g.K.Sink.written c.args.sink.now) (g.K.Sink.written c.run_command.new.sink)) c.run_command.result bytes (g.S.Source.left c.run_command.new.source) short out)
 
 pub returns-in-Some-clause-complete : goal.returns-in-Some-clause-complete
 returns-in-Some-clause-complete g c = λ e asks.
-    IfSome_then (g.S.Source.left c.args.source.now) (ran g c _ c.command_of.ensures (Run e) c.run_command.result asks refl) (λ bytes out items is source sink. runs_whole c.run_command.result bytes (g.S.Source.left c.run_command.new.source) items out is (λ f. source (c.run_command.ensures.read_fault f)) (λ f. sink (c.run_command.ensures.write_fault f)))
+    IfSome_then (g.S.Source.left c.args.source.now) (ran g c _ c.command_of.ensures (Run e) c.run_command.result asks refl) (λ bytes out items is source sink. runs_whole (WritesLog e (g.K.Sink.written c.args.sink.now) (g.K.Sink.written c.run_command.new.sink)) (WritesLogPart e (g.K.Sink.written c.args.sink.now) (g.K.Sink.written c.run_command.new.sink)) c.run_command.result bytes (g.S.Source.left c.run_command.new.source) items out is (λ f. source (c.run_command.ensures.read_fault f)) (λ f. sink (c.run_command.ensures.write_fault f)))
 
 pub returns-in-Some-clause-first_bad : goal.returns-in-Some-clause-first_bad
 returns-in-Some-clause-first_bad g c = λ e asks k.
-    IfSome_then (g.S.Source.left c.args.source.now) (ran g c _ c.command_of.ensures (Run e) c.run_command.result asks refl) (λ bytes out items is source sink. names_bad c.run_command.result k bytes (g.S.Source.left c.run_command.new.source) items out is (λ f. source (c.run_command.ensures.read_fault f)) (λ f. sink (c.run_command.ensures.write_fault f)))
+    IfSome_then (g.S.Source.left c.args.source.now) (ran g c _ c.command_of.ensures (Run e) c.run_command.result asks refl) (λ bytes out items is source sink. names_bad (WritesLog e (g.K.Sink.written c.args.sink.now) (g.K.Sink.written c.run_command.new.sink)) (WritesLogPart e (g.K.Sink.written c.args.sink.now) (g.K.Sink.written c.run_command.new.sink)) c.run_command.result k bytes (g.S.Source.left c.run_command.new.source) items out is (λ f. source (c.run_command.ensures.read_fault f)) (λ f. sink (c.run_command.ensures.write_fault f)))
 
 -- ---- the audit
 
@@ -65,15 +67,15 @@ returns-in-Some-clause-audit_whole g c = λ asks fault. ran g c _ c.command_of.e
 
 pub returns-in-Some-clause-audit_front : goal.returns-in-Some-clause-audit_front
 returns-in-Some-clause-audit_front g c = λ asks short.
-    IfSome_then (g.S.Source.left c.args.source.now) (ran g c _ c.command_of.ensures Audit c.run_command.result asks refl) (λ bytes out. cut-part c.run_command.result bytes (g.S.Source.left c.run_command.new.source) short out)
+    IfSome_then (g.S.Source.left c.args.source.now) (ran g c _ c.command_of.ensures Audit c.run_command.result asks refl) (λ bytes out. cut-part (WritesReport (g.K.Sink.written c.args.sink.now) (g.K.Sink.written c.run_command.new.sink)) (WritesReportPart (HasRisen (g.S.Source.faults c.args.source.now) (g.S.Source.faults c.run_command.new.source)) (g.K.Sink.written c.args.sink.now) (g.K.Sink.written c.run_command.new.sink)) c.run_command.result bytes (g.S.Source.left c.run_command.new.source) short out)
 
 pub returns-in-Some-clause-audit_complete : goal.returns-in-Some-clause-audit_complete
 returns-in-Some-clause-audit_complete g c = λ asks.
-    IfSome_then (g.S.Source.left c.args.source.now) (ran g c _ c.command_of.ensures Audit c.run_command.result asks refl) (λ bytes out items is source sink. runs_whole c.run_command.result bytes (g.S.Source.left c.run_command.new.source) items out is (λ f. source (c.run_command.ensures.read_fault f)) (λ f. sink (c.run_command.ensures.write_fault f)))
+    IfSome_then (g.S.Source.left c.args.source.now) (ran g c _ c.command_of.ensures Audit c.run_command.result asks refl) (λ bytes out items is source sink. runs_whole (WritesReport (g.K.Sink.written c.args.sink.now) (g.K.Sink.written c.run_command.new.sink)) (WritesReportPart (HasRisen (g.S.Source.faults c.args.source.now) (g.S.Source.faults c.run_command.new.source)) (g.K.Sink.written c.args.sink.now) (g.K.Sink.written c.run_command.new.sink)) c.run_command.result bytes (g.S.Source.left c.run_command.new.source) items out is (λ f. source (c.run_command.ensures.read_fault f)) (λ f. sink (c.run_command.ensures.write_fault f)))
 
 pub returns-in-Some-clause-audit_first_bad : goal.returns-in-Some-clause-audit_first_bad
 returns-in-Some-clause-audit_first_bad g c = λ asks k.
-    IfSome_then (g.S.Source.left c.args.source.now) (ran g c _ c.command_of.ensures Audit c.run_command.result asks refl) (λ bytes out items is source sink. names_bad c.run_command.result k bytes (g.S.Source.left c.run_command.new.source) items out is (λ f. source (c.run_command.ensures.read_fault f)) (λ f. sink (c.run_command.ensures.write_fault f)))
+    IfSome_then (g.S.Source.left c.args.source.now) (ran g c _ c.command_of.ensures Audit c.run_command.result asks refl) (λ bytes out items is source sink. names_bad (WritesReport (g.K.Sink.written c.args.sink.now) (g.K.Sink.written c.run_command.new.sink)) (WritesReportPart (HasRisen (g.S.Source.faults c.args.source.now) (g.S.Source.faults c.run_command.new.source)) (g.K.Sink.written c.args.sink.now) (g.K.Sink.written c.run_command.new.sink)) c.run_command.result k bytes (g.S.Source.left c.run_command.new.source) items out is (λ f. source (c.run_command.ensures.read_fault f)) (λ f. sink (c.run_command.ensures.write_fault f)))
 
 -- ---- a script that goes on
 
