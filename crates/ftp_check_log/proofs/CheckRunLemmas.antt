@@ -2,6 +2,7 @@
 use Rattle.std.proofs.Common.{◌≡◌, ℕ, ◌≤◌, ◌⊎◌, inl, inr, Bool, cond, ltb, true, false, List, Option, Some, None, refl, sym, ap, subst, ◌∙◌, arith}
 use Rattle.std.specs.Prelude.{◌↔◌, Result, Ok, Err, OnOk, OnErr, IsErrOf, IfSome}
 use Rattle.std.proofs.lemmas.Bool.{lt-ltb, ltb-true}
+use Rattle.std.proofs.lemmas.Option.{IfSome_then}
 use Rattle.ftp_base.specs.Outside.{Writes}
 use Rattle.ftp_base.specs.declared.fault.Failed.{Failed}
 use Rattle.ftp_base.specs.declared.fault.Failed.TheVariants.{Fault, Memory}
@@ -17,9 +18,10 @@ use Rattle.ftp_check_log.specs.declared.command.CheckCommand.{CheckCommand}
 use Rattle.ftp_check_log.specs.declared.command.CheckCommand.TheVariants as command
 use Rattle.ftp_check_log.specs.declared.status.CheckStatus.{CheckStatus}
 use Rattle.ftp_check_log.specs.declared.status.CheckStatus.TheVariants as status
-use Rattle.ftp_check_log.specs.CheckCommands.{AsksFor}
+use Rattle.ftp_check_log.specs.CheckCommands.{AsksFor, text_told}
 use Rattle.ftp_check_log.specs.CheckStatuses.{verdict_status, why_status, explanation_status, after_write}
-use Rattle.ftp_check_log.specs.CheckOutcome.{CheckOutcome, WhyOutcome, TellsEvidence, TellsNoEntry, TellsWrong, TellsBad, TellsWhyPart}
+use Rattle.ftp_check_log.specs.declared.telling.TheConstants.{CHECK_HELP, CHECK_VERSION}
+use Rattle.ftp_check_log.specs.CheckOutcome.{CheckOutcome, WhyOutcome, TellsText, OutcomeOfCommand}
 use Rattle.ftp_check_log.specs.VerdictLines.{verdict_text, explanation_text}
 
 -- ---- a verdict
@@ -59,30 +61,12 @@ told-status (Ok x) v w s t risen of after fault same none = inl (after ∙ of �
 told-status (Err Fault) v w s t risen of after fault same none = absurd (none (fault refl))
 told-status (Err Memory) v w s t risen of after fault same none = inr after
 
--- the status of a verdict is none of the faults, nor usage
+-- the status of a verdict is no fault of the sink
 pub of-no_write : (v : Verdict) → verdict_status v ≡ status.WriteFault → ⊥
 of-no_write (verdict.Right n) e = cc
 of-no_write (verdict.Decided n due) e = cc
 of-no_write (verdict.Acted n) e = cc
 of-no_write (verdict.BadText k) e = cc
-
-pub of-no_read : (v : Verdict) → verdict_status v ≡ status.ReadFault → ⊥
-of-no_read (verdict.Right n) e = cc
-of-no_read (verdict.Decided n due) e = cc
-of-no_read (verdict.Acted n) e = cc
-of-no_read (verdict.BadText k) e = cc
-
-pub of-no_usage : (v : Verdict) → verdict_status v ≡ status.Usage → ⊥
-of-no_usage (verdict.Right n) e = cc
-of-no_usage (verdict.Decided n due) e = cc
-of-no_usage (verdict.Acted n) e = cc
-of-no_usage (verdict.BadText k) e = cc
-
-pub of-no_entry : (v : Verdict) → verdict_status v ≡ status.NoEntry → ⊥
-of-no_entry (verdict.Right n) e = cc
-of-no_entry (verdict.Decided n due) e = cc
-of-no_entry (verdict.Acted n) e = cc
-of-no_entry (verdict.BadText k) e = cc
 
 -- ---- after the last write
 
@@ -96,38 +80,26 @@ after-write_fault (Ok x) s t risen other after fault is = absurd (other (sym aft
 after-write_fault (Err Fault) s t risen other after fault is = fault refl
 after-write_fault (Err Memory) s t risen other after fault is = absurd (cc)
 
--- a status that is no end of a write comes from before it
-pub after-other : {T : Type 0} (r : Result T Failed) (s t u : CheckStatus) → (t ≡ u → ⊥) → (status.WriteFault ≡ u → ⊥) → (status.OutOfMemory ≡ u → ⊥) → s ≡ after_write r t → s ≡ u → ⊥
-after-other (Ok x) s t u first second third after is = first (sym after ∙ is)
-after-other (Err Fault) s t u first second third after is = second (sym after ∙ is)
-after-other (Err Memory) s t u first second third after is = third (sym after ∙ is)
+-- how a run ends that has read its log, if any, where it may find no entry only if that may be
+abbrev pub IsTold : Type 0 → CheckStatus → Type 0
+IsTold unfound status.ReadFault = ⊥
+IsTold unfound status.Usage = ⊥
+IsTold unfound status.NoEntry = unfound
+IsTold unfound s = Unit {0}
 
-no_fault-read : status.WriteFault ≡ status.ReadFault → ⊥
-no_fault-read e = cc
+pub text-told : {T : Type 0} (unfound : Type 0) (r : Result T Failed) (s t : CheckStatus) → IsTold unfound t → s ≡ after_write r t → IsTold unfound s
+text-told unfound (Ok x) s t told after = subst (IsTold unfound) (sym after) told
+text-told unfound (Err Fault) s t told after = subst (IsTold unfound) (sym after) tt
+text-told unfound (Err Memory) s t told after = subst (IsTold unfound) (sym after) tt
 
-no_memory-read : status.OutOfMemory ≡ status.ReadFault → ⊥
-no_memory-read e = cc
+verdict-told : (unfound : Type 0) (v : Verdict) → IsTold unfound (verdict_status v)
+verdict-told unfound (verdict.Right n) = tt
+verdict-told unfound (verdict.Decided n due) = tt
+verdict-told unfound (verdict.Acted n) = tt
+verdict-told unfound (verdict.BadText k) = tt
 
-no_fault-usage : status.WriteFault ≡ status.Usage → ⊥
-no_fault-usage e = cc
-
-no_memory-usage : status.OutOfMemory ≡ status.Usage → ⊥
-no_memory-usage e = cc
-
-pub after-no_read : {T : Type 0} (r : Result T Failed) (s t : CheckStatus) → (t ≡ status.ReadFault → ⊥) → s ≡ after_write r t → s ≡ status.ReadFault → ⊥
-after-no_read r s t other after is = after-other r s t status.ReadFault other no_fault-read no_memory-read after is
-
-pub after-no_usage : {T : Type 0} (r : Result T Failed) (s t : CheckStatus) → (t ≡ status.Usage → ⊥) → s ≡ after_write r t → s ≡ status.Usage → ⊥
-after-no_usage r s t other after is = after-other r s t status.Usage other no_fault-usage no_memory-usage after is
-
-no_fault-entry : status.WriteFault ≡ status.NoEntry → ⊥
-no_fault-entry e = cc
-
-no_memory-entry : status.OutOfMemory ≡ status.NoEntry → ⊥
-no_memory-entry e = cc
-
-pub after-no_entry : {T : Type 0} (r : Result T Failed) (s t : CheckStatus) → (t ≡ status.NoEntry → ⊥) → s ≡ after_write r t → s ≡ status.NoEntry → ⊥
-after-no_entry r s t other after is = after-other r s t status.NoEntry other no_fault-entry no_memory-entry after is
+pub check-told : {T : Type 0} (r : Result T Failed) (v : Verdict) (s t : CheckStatus) → t ≡ verdict_status v → s ≡ after_write r t → IsTold ⊥ s
+check-told r v s t of after = text-told ⊥ r s t (subst (IsTold ⊥) (sym of) (verdict-told ⊥ v)) after
 
 -- ---- an explanation
 
@@ -136,15 +108,13 @@ explained-no_write (explanation.Found x) e = cc
 explained-no_write explanation.NoEntry e = cc
 explained-no_write (explanation.Wrong v) e = of-no_write v e
 
-pub explained-no_read : (x : Explanation) → explanation_status x ≡ status.ReadFault → ⊥
-explained-no_read (explanation.Found x) e = cc
-explained-no_read explanation.NoEntry e = cc
-explained-no_read (explanation.Wrong v) e = of-no_read v e
+explained-told : (x : Explanation) → IsTold (Unit {0}) (explanation_status x)
+explained-told (explanation.Found x) = tt
+explained-told explanation.NoEntry = tt
+explained-told (explanation.Wrong v) = verdict-told (Unit {0}) v
 
-pub explained-no_usage : (x : Explanation) → explanation_status x ≡ status.Usage → ⊥
-explained-no_usage (explanation.Found x) e = cc
-explained-no_usage explanation.NoEntry e = cc
-explained-no_usage (explanation.Wrong v) e = of-no_usage v e
+pub why-told : {T : Type 0} (r : Result T Failed) (x : Explanation) (s t : CheckStatus) → t ≡ explanation_status x → s ≡ after_write r t → IsTold (Unit {0}) s
+why-told r x s t of after = text-told (Unit {0}) r s t (subst (IsTold (Unit {0})) (sym of) (explained-told x)) after
 
 why-after : {T : Type 0} (r : Result T Failed) (k : ℕ) (x : Explanation) (bytes : List ℕ) (old new : Option (List ℕ)) →
     TellsWhy k x bytes →
@@ -225,37 +195,8 @@ Finds words found = (c : CheckCommand) → (found ≡ Some c) ↔ AsksFor words 
 pub same-command : (words : List (List ℕ)) (found : Option CheckCommand) (c d : CheckCommand) → Finds words found → found ≡ Some c → AsksFor words d → c ≡ d
 same-command words found c d is at asks = some_is c d (sym at ∙ (is d).1 asks)
 
--- what is said of another command
-pub other-command : {P : Type 0} (words : List (List ℕ)) (found : Option CheckCommand) (c d : CheckCommand) → Finds words found → found ≡ Some c → (c ≡ d → ⊥) → AsksFor words d → P
-other-command words found c d is at other asks = absurd (other (same-command words found c d is at asks))
-
 pub no-command : {P : Type 0} (words : List (List ℕ)) (found : Option CheckCommand) (c : CheckCommand) → Finds words found → found ≡ None → AsksFor words c → P
 no-command words found c is none asks = let at = (is c).1 asks in absurd (cc)
-
-pub help-no_check : command.Help ≡ command.Check → ⊥
-help-no_check e = cc
-
-pub version-no_check : command.Version ≡ command.Check → ⊥
-version-no_check e = cc
-
-pub help-no_why : (k : ℕ) → command.Help ≡ command.Why k → ⊥
-help-no_why k e = cc
-
-pub version-no_why : (k : ℕ) → command.Version ≡ command.Why k → ⊥
-version-no_why k e = cc
-
-pub check-no_why : (k : ℕ) → command.Check ≡ command.Why k → ⊥
-check-no_why k e = cc
-
-pub why-no_check : (k : ℕ) → command.Why k ≡ command.Check → ⊥
-why-no_check k e = cc
-
--- what is so at one place is so at the place that the words name
-pub same-place : (P : ℕ → Type 0) (words : List (List ℕ)) (found : Option CheckCommand) (k l : ℕ) → Finds words found → found ≡ Some (command.Why k) → AsksFor words (command.Why l) → P k → P l
-same-place P words found k l is at asks so =
-    let one : command.Why k ≡ command.Why l = same-command words found (command.Why k) (command.Why l) is at asks in
-    let same : k ≡ l = cc in
-    subst P same so
 
 -- what is so of the command that was found is so of the one that the words are
 pub of-command : (P : CheckCommand → Type 0) (words : List (List ℕ)) (found : Option CheckCommand) (c d : CheckCommand) → Finds words found → found ≡ Some c → AsksFor words d → P c → P d
@@ -270,52 +211,31 @@ pub both-some : {A : Type 0} (P Q : A → Type 0) (o : Option A) → IfSome o P 
 both-some P Q None p q = tt
 both-some P Q (Some x) p q = (p, q)
 
--- a text that is told ends in no verdict on a log
-pub text-no_entry : {T : Type 0} (r : Result T Failed) (s : CheckStatus) → s ≡ after_write r status.Done → s ≡ status.NoEntry → ⊥
-text-no_entry r s after is = after-no_entry r s status.Done (λ e. cc) after is
-
-pub text-no_wrong : {T : Type 0} (r : Result T Failed) (s : CheckStatus) → s ≡ after_write r status.Done → s ≡ status.Wrong → ⊥
-text-no_wrong r s after is = after-other r s status.Done status.Wrong (λ e. cc) (λ e. cc) (λ e. cc) after is
-
-pub text-no_bad : {T : Type 0} (r : Result T Failed) (s : CheckStatus) (k : ℕ) → s ≡ after_write r status.Done → s ≡ status.BadText k → ⊥
-text-no_bad r s k after is = after-other r s status.Done (status.BadText k) (λ e. cc) (λ e. cc) (λ e. cc) after is
-
-pub text-no_usage : {T : Type 0} (r : Result T Failed) (s : CheckStatus) → s ≡ after_write r status.Done → s ≡ status.Usage → ⊥
-text-no_usage (Ok x) s after is = cc
-text-no_usage (Err Fault) s after is = cc
-text-no_usage (Err Memory) s after is = cc
-
 -- usage is answered where no command is asked for
 pub usage-of : (words : List (List ℕ)) (found : Option CheckCommand) (c : CheckCommand) (s : CheckStatus) → Finds words found → found ≡ Some c → (s ≡ status.Usage → ⊥) → (s ≡ status.Usage) ↔ ((d : CheckCommand) → AsksFor words d → ⊥)
 usage-of words found c s is at other = (λ usage. absurd (other usage), λ none. absurd (none c ((is c).0 at)))
 
 -- ---- by the status
 
-wrong-of : (k : ℕ) (s : CheckStatus) (bytes : List ℕ) (old new : Option (List ℕ)) → WhyOutcome k s bytes old new → s ≡ status.Wrong → TellsWrong bytes old new
-wrong-of k s bytes old new so is = subst (λ (q : CheckStatus). WhyOutcome k q bytes old new) is so
+-- what came of the command that was found and ended so is what comes of the one that the words are
+pub outcome-of : (words : List (List ℕ)) (found : Option CheckCommand) (c d : CheckCommand) (s t : CheckStatus) (all old new : Option (List ℕ)) →
+    Finds words found → found ≡ Some c → OutcomeOfCommand c s all old new → AsksFor words d → s ≡ t → OutcomeOfCommand d t all old new
+outcome-of words found c d s t all old new is at so asks ends =
+    subst (λ (u : CheckStatus). OutcomeOfCommand d u all old new) ends (of-command (λ (e : CheckCommand). OutcomeOfCommand e s all old new) words found c d is at asks so)
 
-pub why-wrong : (k : ℕ) (s : CheckStatus) (all : Option (List ℕ)) (old new : Option (List ℕ)) → IfSome all (λ bytes. WhyOutcome k s bytes old new) → s ≡ status.Wrong → IfSome all (λ bytes. TellsWrong bytes old new)
-why-wrong k s None old new so is = tt
-why-wrong k s (Some bytes) old new so is = wrong-of k s bytes old new so is
+-- a log that is not as it is due is told so by either command that reads one
+pub faulty-log : (c : CheckCommand) (s t : CheckStatus) (all old new : Option (List ℕ)) →
+    ((k : ℕ) (bytes : List ℕ) → WhyOutcome k t bytes old new → CheckOutcome t bytes old new) → ((text : List ℕ) → TellsText t text old new → ⊥) →
+    OutcomeOfCommand c s all old new → s ≡ t → IfSome all (λ bytes. CheckOutcome t bytes old new)
+faulty-log c s t all old new same unlike so ends = by c (subst (λ (u : CheckStatus). OutcomeOfCommand c u all old new) ends so) where
+  by : (c : CheckCommand) → OutcomeOfCommand c t all old new → IfSome all (λ bytes. CheckOutcome t bytes old new)
+  by command.Check so = so
+  by (command.Why k) so = IfSome_then all so (same k)
+  by command.Help so = absurd (unlike CHECK_HELP.now so)
+  by command.Version so = absurd (unlike CHECK_VERSION.now so)
 
-pub why-bad : (k l : ℕ) (s : CheckStatus) (all : Option (List ℕ)) (old new : Option (List ℕ)) → IfSome all (λ bytes. WhyOutcome k s bytes old new) → s ≡ status.BadText l → IfSome all (λ bytes. TellsBad l bytes old new)
-why-bad k l s None old new so is = tt
-why-bad k l s (Some bytes) old new so is = subst (λ (q : CheckStatus). WhyOutcome k q bytes old new) is so
-
-pub why-done : (k : ℕ) (s : CheckStatus) (all : Option (List ℕ)) (old new : Option (List ℕ)) → IfSome all (λ bytes. WhyOutcome k s bytes old new) → s ≡ status.Done → IfSome all (λ bytes. TellsEvidence k bytes old new)
-why-done k s None old new so is = tt
-why-done k s (Some bytes) old new so is = subst (λ (q : CheckStatus). WhyOutcome k q bytes old new) is so
-
-pub why-no_entry : (k : ℕ) (s : CheckStatus) (all : Option (List ℕ)) (old new : Option (List ℕ)) → IfSome all (λ bytes. WhyOutcome k s bytes old new) → s ≡ status.NoEntry → IfSome all (λ bytes. TellsNoEntry k bytes old new)
-why-no_entry k s None old new so is = tt
-why-no_entry k s (Some bytes) old new so is = subst (λ (q : CheckStatus). WhyOutcome k q bytes old new) is so
-
-pub why-part : (k : ℕ) (s : CheckStatus) (all : Option (List ℕ)) (old new : Option (List ℕ)) → IfSome all (λ bytes. WhyOutcome k s bytes old new) →
-    (s ≡ status.WriteFault) ⊎ (s ≡ status.OutOfMemory) → IfSome all (λ bytes. TellsWhyPart k bytes old new)
-why-part k s None old new so is = tt
-why-part k s (Some bytes) old new so (inl is) = subst (λ (q : CheckStatus). WhyOutcome k q bytes old new) is so
-why-part k s (Some bytes) old new so (inr is) = subst (λ (q : CheckStatus). WhyOutcome k q bytes old new) is so
-
--- no check of a log ends without an entry
-pub check-no_entry : {P : Type 0} (s : CheckStatus) (bytes : List ℕ) (old new : Option (List ℕ)) → CheckOutcome s bytes old new → s ≡ status.NoEntry → P
-check-no_entry s bytes old new so is = absurd (subst (λ (q : CheckStatus). CheckOutcome q bytes old new) is so)
+pub text-of : (c : CheckCommand) (s : CheckStatus) (all old new : Option (List ℕ)) → OutcomeOfCommand c s all old new → IfSome (text_told c) (λ text. TellsText s text old new)
+text-of command.Check s all old new so = tt
+text-of (command.Why k) s all old new so = tt
+text-of command.Help s all old new so = so
+text-of command.Version s all old new so = so

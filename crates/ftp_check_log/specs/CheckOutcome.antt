@@ -1,8 +1,11 @@
 -- What a log is and what was written, by the status of a check.
-use Rattle.std.specs.Prelude.{◌≡◌, ℕ, ◌⊎◌, List, [], Option, codes}
+use Rattle.std.specs.Prelude.{◌≡◌, ℕ, ◌⊎◌, List, [], Option, IfSome, codes}
 use Rattle.ftp_base.specs.Outside.{Writes}
 use Rattle.ftp_control.specs.Writing.{WritesFront}
 use Rattle.ftp_text.specs.Printing.{line}
+use Rattle.ftp_check_log.specs.declared.command.CheckCommand.{CheckCommand}
+use Rattle.ftp_check_log.specs.declared.command.CheckCommand.TheVariants as command
+use Rattle.ftp_check_log.specs.declared.telling.TheConstants.{CHECK_HELP, CHECK_VERSION}
 use Rattle.ftp_check_log.specs.declared.evidence.Evidence.{Evidence}
 use Rattle.ftp_check_log.specs.declared.explanation.Explanation.{Explanation}
 use Rattle.ftp_check_log.specs.declared.verdict.Verdict.{Verdict}
@@ -87,3 +90,10 @@ TellsText status.Done text old new = Writes old new text
 TellsText status.WriteFault text old new = WritesFront old new text
 TellsText status.OutOfMemory text old new = WritesFront old new text
 TellsText _ text old new = ⊥
+
+-- by the command and the status
+abbrev pub OutcomeOfCommand : CheckCommand → CheckStatus → Option (List ℕ) → Option (List ℕ) → Option (List ℕ) → Type 0
+OutcomeOfCommand command.Check s left old new = IfSome left (λ bytes. CheckOutcome s bytes old new)
+OutcomeOfCommand (command.Why k) s left old new = IfSome left (λ bytes. WhyOutcome k s bytes old new)
+OutcomeOfCommand command.Help s left old new = TellsText s CHECK_HELP.now old new
+OutcomeOfCommand command.Version s left old new = TellsText s CHECK_VERSION.now old new

@@ -7,8 +7,8 @@ ghost use Rattle.ftp_check_log.specs.Verdicts.{TellsOfText};
 ghost use Rattle.ftp_check_log.specs.declared.command.CheckCommand.{CheckCommand};
 ghost use Rattle.ftp_check_log.specs.declared.command.CheckCommand.TheVariants.{Check, Why};
 ghost use Rattle.ftp_check_log.specs.CheckCommands.{AsksFor, text_told};
-ghost use Rattle.ftp_check_log.specs.CheckStatuses.{verdict_status, why_status, status_due};
-ghost use Rattle.ftp_check_log.specs.CheckOutcome.{TellsRight, TellsEvidence, TellsNoEntry, TellsWrong, TellsBad, TellsPart, TellsWhyPart, CheckOutcome, WhyOutcome, TellsText};
+ghost use Rattle.ftp_check_log.specs.CheckStatuses.{status_due};
+ghost use Rattle.ftp_check_log.specs.CheckOutcome.{TellsRight, TellsEvidence, TellsNoEntry, TellsWrong, TellsBad, TellsPart, TellsWhyPart, TellsText, OutcomeOfCommand};
 
 use crate::command::{CheckCommand, check_command};
 use crate::status::CheckStatus;
@@ -93,58 +93,45 @@ pub fn run_check<S: Source, K: Sink>(
     ensures sink_count { K.faults sink.old ≤ K.faults sink.new }
 {
     match check_command(words) {
-        Some(CheckCommand::Check) => check_and_tell(alloc, source, sink),
-        Some(CheckCommand::Why(k)) => explain_and_tell(alloc, source, k, sink),
-        Some(CheckCommand::Help) => CheckStatus::Done.after(write_all(sink, CHECK_HELP)),
-        Some(CheckCommand::Version) => CheckStatus::Done.after(write_all(sink, CHECK_VERSION)),
+        Some(command) => run_command(alloc, command, source, sink),
         None => CheckStatus::Usage,
     }
 }
 
-// Checks the log, and writes the line that tells what that comes to.
-fn check_and_tell<S: Source, K: Sink>(alloc: Global, source: &mut S, sink: &mut K) -> CheckStatus
-    ensures outcome { IfSome (S.left source.old) (λ bytes. CheckOutcome result bytes (K.written sink.old) (K.written sink.new)) }
-    ensures complete { IfSome (S.left source.old) (λ bytes. (v : Verdict) → TellsOfText v bytes →
-        (HasRisen (S.faults source.old) (S.faults source.new) → ⊥) → (HasRisen (K.faults sink.old) (K.faults sink.new) → ⊥) →
-        (result ≡ verdict_status v) ⊎ (result ≡ CheckStatus.OutOfMemory)) }
-    ensures no_usage { result ≢ CheckStatus.Usage }
-    ensures no_entry { result ≢ CheckStatus.NoEntry }
-    ensures read_fault { result ≡ CheckStatus.ReadFault → HasRisen (S.faults source.old) (S.faults source.new) }
-    ensures read_idle { result ≡ CheckStatus.ReadFault → sink.new ≡ sink.old }
-    ensures write_fault { result ≡ CheckStatus.WriteFault → HasRisen (K.faults sink.old) (K.faults sink.new) }
-    ensures source_count { S.faults source.old ≤ S.faults source.new }
-    ensures sink_count { K.faults sink.old ≤ K.faults sink.new }
-{
-    match check(alloc, source) {
-        Ok(verdict) => CheckStatus::of(verdict).after(tell(alloc, verdict, sink)),
-        Err(Failed::Fault) => CheckStatus::ReadFault,
-        Err(Failed::Memory) => CheckStatus::OutOfMemory,
-    }
-}
-
-// Checks the log, and writes the line that tells why its entry at place `k` was decided as it was.
-fn explain_and_tell<S: Source, K: Sink>(
+// Does what the command asks for.
+fn run_command<S: Source, K: Sink>(
     alloc: Global,
+    command: CheckCommand,
     source: &mut S,
-    k: u64,
     sink: &mut K,
 ) -> CheckStatus
-    ensures outcome { IfSome (S.left source.old) (λ bytes. WhyOutcome k result bytes (K.written sink.old) (K.written sink.new)) }
+    ensures outcome { OutcomeOfCommand command result (S.left source.old) (K.written sink.old) (K.written sink.new) }
     ensures complete { IfSome (S.left source.old) (λ bytes. (v : Verdict) → TellsOfText v bytes →
         (HasRisen (S.faults source.old) (S.faults source.new) → ⊥) → (HasRisen (K.faults sink.old) (K.faults sink.new) → ⊥) →
-        (result ≡ why_status k v) ⊎ (result ≡ CheckStatus.OutOfMemory)) }
+        IfSome (status_due command v) (λ due. (result ≡ due) ⊎ (result ≡ CheckStatus.OutOfMemory))) }
+    ensures idle { IfSome (text_told command) (λ _. source.new ≡ source.old) }
     ensures no_usage { result ≢ CheckStatus.Usage }
+    ensures no_entry { result ≡ CheckStatus.NoEntry → (k : ℕ) × (command ≡ Why k) }
     ensures read_fault { result ≡ CheckStatus.ReadFault → HasRisen (S.faults source.old) (S.faults source.new) }
     ensures read_idle { result ≡ CheckStatus.ReadFault → sink.new ≡ sink.old }
     ensures write_fault { result ≡ CheckStatus.WriteFault → HasRisen (K.faults sink.old) (K.faults sink.new) }
     ensures source_count { S.faults source.old ≤ S.faults source.new }
     ensures sink_count { K.faults sink.old ≤ K.faults sink.new }
 {
-    match explain(alloc, source, k) {
-        Ok(found) => CheckStatus::of_explanation(&found).after(tell_explanation(
-            alloc, &found, sink,
-        )),
-        Err(Failed::Fault) => CheckStatus::ReadFault,
-        Err(Failed::Memory) => CheckStatus::OutOfMemory,
+    match command {
+        CheckCommand::Check => match check(alloc, source) {
+            Ok(verdict) => CheckStatus::of(verdict).after(tell(alloc, verdict, sink)),
+            Err(Failed::Fault) => CheckStatus::ReadFault,
+            Err(Failed::Memory) => CheckStatus::OutOfMemory,
+        },
+        CheckCommand::Why(k) => match explain(alloc, source, k) {
+            Ok(found) => CheckStatus::of_explanation(&found).after(tell_explanation(
+                alloc, &found, sink,
+            )),
+            Err(Failed::Fault) => CheckStatus::ReadFault,
+            Err(Failed::Memory) => CheckStatus::OutOfMemory,
+        },
+        CheckCommand::Help => CheckStatus::Done.after(write_all(sink, CHECK_HELP)),
+        CheckCommand::Version => CheckStatus::Done.after(write_all(sink, CHECK_VERSION)),
     }
 }
