@@ -102,6 +102,22 @@ take-one (x ∷ xs) (suc i) a e =
 kept-same : (old new : Checker) (log : List Entry) → new.keeps ≡ old.keeps → new.log ≡ old.log → (old.keeps ≡ true → old.log.entries ≡ log) → new.keeps ≡ true → new.log.entries ≡ log
 kept-same old new log keeps same kept on = ap (λ (l : LogState). l.entries) same ∙ kept (sym keeps ∙ on)
 
+-- where the hub and the log that is kept stay, all that changes is the lines at the stage
+pub goes-on : (s u t : Stage) (old new : Checker) (before lines : List LogLine) (holds : Holds s old before) →
+    new.hub ≡ old.hub → new.keeps ≡ old.keeps → new.log ≡ old.log → Some u ≡ Some t →
+    LinesAt u holds.line holds.log new.event new.answer new.due new.came lines → Holds t new lines
+goes-on s u t old new before lines holds hub keeps log e shape =
+    subst (λ (w : Stage). Holds w new lines) (some_is u t e)
+    (record {
+      line = holds.line;
+      log = holds.log;
+      set = ap (λ (h : Hub). settings_of (options_of h)) hub ∙ holds.set;
+      stands = subst (λ (h : Hub). Stands h holds.log) (sym hub) holds.stands;
+      count = ap count_of hub ∙ holds.count;
+      shape = shape;
+      kept = kept-same old new holds.log keeps log holds.kept;
+    })
+
 -- the options make the hub anew
 pub takes-options : (old new : Checker) (i : Item) →
     settings_of (options_of new.hub) ≡ settings_in (Some i) →
@@ -153,29 +169,17 @@ pub takes-event : (old new : Checker) (d : HubEvent) →
     new.log ≡ old.log →
     Takes (says.Event d) None old new
 takes-event old new d came hub event none due keeps log s t lines fits e holds = at s e holds where
-  opens : (s : Stage) → is_whole s ≡ true → Holds s old lines → Holds stage.Happened new (lines ++ says.Event d ∷ [])
-  opens s whole holds = record {
-    line = holds.line;
-    log = holds.log;
-    set = ap (λ (h : Hub). settings_of (options_of h)) hub ∙ holds.set;
-    stands = subst (λ (h : Hub). Stands h holds.log) (sym hub) holds.stands;
-    count = ap count_of hub ∙ holds.count;
-    shape = (
-      d,
-      event,
-      none,
-      due,
-      ap (λ (l : List LogLine). l ++ says.Event d ∷ []) (whole-lines s holds.line holds.log old lines whole came holds.shape),
-    );
-    kept = kept-same old new holds.log keeps log holds.kept;
-  }
+  opens : (s : Stage) → is_whole s ≡ true → Some stage.Happened ≡ Some t → Holds s old lines → Holds t new (lines ++ says.Event d ∷ [])
+  opens s whole e holds =
+      goes-on s stage.Happened t old new lines (lines ++ says.Event d ∷ []) holds hub keeps log e
+      (d, event, none, due, ap (λ (l : List LogLine). l ++ says.Event d ∷ []) (whole-lines s holds.line holds.log old lines whole came holds.shape))
 
   at : (s : Stage) → stage_after s (says.Event d) ≡ Some t → Holds s old lines → Holds t new (lines ++ says.Event d ∷ [])
-  at stage.Start e holds = subst (λ (u : Stage). Holds u new (lines ++ says.Event d ∷ [])) (some_is stage.Happened t e) (opens stage.Start refl holds)
-  at stage.Opened e holds = subst (λ (u : Stage). Holds u new (lines ++ says.Event d ∷ [])) (some_is stage.Happened t e) (opens stage.Opened refl holds)
+  at stage.Start e holds = opens stage.Start refl e holds
+  at stage.Opened e holds = opens stage.Opened refl e holds
   at stage.Happened e holds = absurd cc
   at stage.Answered e holds = absurd cc
-  at stage.Decided e holds = subst (λ (u : Stage). Holds u new (lines ++ says.Event d ∷ [])) (some_is stage.Happened t e) (opens stage.Decided refl holds)
+  at stage.Decided e holds = opens stage.Decided refl e holds
 
 -- an answer is kept
 pub takes-answer : (old new : Checker) (a : Answer) →
@@ -192,24 +196,15 @@ takes-answer old new a hub event same due keeps log s t lines fits e holds = at 
   at stage.Opened e holds = absurd cc
   at stage.Happened e holds =
       let lines_are = lines_of holds.line (reverse holds.log) in
-      subst (λ (u : Stage). Holds u new (lines ++ says.Answer a ∷ [])) (some_is stage.Answered t e)
-      (record {
-        line = holds.line;
-        log = holds.log;
-        set = ap (λ (h : Hub). settings_of (options_of h)) hub ∙ holds.set;
-        stands = subst (λ (h : Hub). Stands h holds.log) (sym hub) holds.stands;
-        count = ap count_of hub ∙ holds.count;
-        shape = (
-          holds.shape.0,
-          event ∙ holds.shape.1,
-          subst IsAnswer (sym same) fits,
-          due ∙ holds.shape.3,
-          ap (λ (l : List LogLine). l ++ says.Answer a ∷ []) holds.shape.4
-              ∙ append_assoc lines_are (says.Event holds.shape.0 ∷ []) (says.Answer a ∷ [])
-              ∙ ap (λ (x : Answer). lines_are ++ says.Event holds.shape.0 ∷ says.Answer x ∷ []) (sym same),
-        );
-        kept = kept-same old new holds.log keeps log holds.kept;
-      })
+      goes-on stage.Happened stage.Answered t old new lines (lines ++ says.Answer a ∷ []) holds hub keeps log e (
+        holds.shape.0,
+        event ∙ holds.shape.1,
+        subst IsAnswer (sym same) fits,
+        due ∙ holds.shape.3,
+        ap (λ (l : List LogLine). l ++ says.Answer a ∷ []) holds.shape.4
+            ∙ append_assoc lines_are (says.Event holds.shape.0 ∷ []) (says.Answer a ∷ [])
+            ∙ ap (λ (x : Answer). lines_are ++ says.Event holds.shape.0 ∷ says.Answer x ∷ []) (sym same),
+      )
   at stage.Answered e holds = absurd cc
   at stage.Decided e holds = absurd cc
 
@@ -373,26 +368,17 @@ takes-action old new a found hub due came keeps log s t lines fits e holds = at 
       let older = holds.shape.0 in
       let last = holds.shape.1 in
       let one = take-one old.due old.came a found in
-      subst (λ (u : Stage). Holds u new (lines ++ says.Action a ∷ [])) (some_is stage.Decided t e)
-      (record {
-        line = holds.line;
-        log = holds.log;
-        set = ap (λ (h : Hub). settings_of (options_of h)) hub ∙ holds.set;
-        stands = subst (λ (h : Hub). Stands h holds.log) (sym hub) holds.stands;
-        count = ap count_of hub ∙ holds.count;
-        shape = (
-          older,
-          last,
-          holds.shape.2,
-          due ∙ holds.shape.3,
-          omega (arith, came, one.1, ap length due),
-          ap (λ (l : List LogLine). l ++ says.Action a ∷ []) holds.shape.5
-              ∙ so_far-more holds.line older last (take old.came old.due) (a ∷ [])
-              ∙ ap (λ (l : List Action). so_far holds.line older last l) (sym one.0)
-              ∙ (λ i. so_far holds.line older last (take (sym came i) (sym due i))),
-        );
-        kept = kept-same old new holds.log keeps log holds.kept;
-      })
+      goes-on stage.Decided stage.Decided t old new lines (lines ++ says.Action a ∷ []) holds hub keeps log e (
+        older,
+        last,
+        holds.shape.2,
+        due ∙ holds.shape.3,
+        omega (arith, came, one.1, ap length due),
+        ap (λ (l : List LogLine). l ++ says.Action a ∷ []) holds.shape.5
+            ∙ so_far-more holds.line older last (take old.came old.due) (a ∷ [])
+            ∙ ap (λ (l : List Action). so_far holds.line older last l) (sym one.0)
+            ∙ (λ i. so_far holds.line older last (take (sym came i) (sym due i))),
+      )
 
 -- where the last entry has other actions
 pub astray : (c : Checker) (lines last : List LogLine) (rest : List ℕ) → Holds stage.Decided c lines → GoesAstray (drop c.came c.due) last rest → HasOtherActions (count_of c.hub - 1) (lines ++ last) rest

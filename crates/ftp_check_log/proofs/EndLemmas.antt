@@ -1,12 +1,14 @@
 -- What a check of a printed log comes to, where it ends.
-use Rattle.std.proofs.Common.{◌≡◌, ℕ, ◌-◌, ◌<◌, ◌≤◌, inl, inr, Bool, true, false, List, [], ◌∷◌, ◌++◌, length, take, drop, map, reverse, Some, None, refl, sym, ap, subst, ◌∙◌, arith}
+use Rattle.std.proofs.Common.{◌≡◌, ◌⊎◌, ℕ, ◌-◌, ◌<◌, ◌≤◌, inl, inr, Bool, true, false, List, [], ◌∷◌, ◌++◌, length, take, drop, map, reverse, Some, None, refl, sym, ap, subst, ◌∙◌, arith}
 use Rattle.std.specs.List.{AllByRecursion}
 use Rattle.std.specs.Prelude.{Result, Ok, IfOk}
 use Rattle.std.proofs.lemmas.List.{append-nil, take-append-drop}
 use Rattle.ftp_options.specs.Builder.{settings_of}
 use Rattle.ftp_events.specs.declared.action.Action.{Action}
 use Rattle.ftp_events.specs.declared.entry.Entry.{Entry}
+use Rattle.ftp_events.specs.declared.event.Answer.{Answer}
 use Rattle.ftp_events.specs.declared.event.Answer.TheVariants as answer
+use Rattle.ftp_events.specs.declared.event.HubEvent.{HubEvent}
 use Rattle.ftp_events.specs.Right.{IsRight}
 use Rattle.ftp_hub.specs.Stands.{Stands, options_of, count_of}
 use Rattle.ftp_text.proofs.Exact.{some_is}
@@ -16,7 +18,7 @@ use Rattle.ftp_text.specs.declared.place.Place.{Place}
 use Rattle.ftp_text.specs.declared.place.Stage.{Stage}
 use Rattle.ftp_text.specs.declared.place.Stage.TheVariants as stage
 use Rattle.ftp_text.specs.LogLines.{IsLogLine}
-use Rattle.ftp_text.specs.LogText.{lines_of, text_of, IsLog, ComesNext, IsFirstBad}
+use Rattle.ftp_text.specs.LogText.{answers, lines_of, text_of, IsLog, ComesNext, IsFirstBad}
 use Rattle.ftp_text.specs.Place.{is_whole, HasRead}
 use Rattle.ftp_text.specs.Settings.{settings_in}
 use Rattle.ftp_text.proofs.PlaceLemmas.{lines-text, comes-fits, stage-between, unfinished, reached-front}
@@ -25,87 +27,57 @@ use Rattle.ftp_check_log.specs.declared.verdict.Verdict.{Verdict}
 use Rattle.ftp_check_log.specs.declared.verdict.Verdict.TheVariants as verdict
 use Rattle.ftp_check_log.specs.Verdicts.{AreLinesOf, HasOtherActions, AreDue, TellsOfLines, TellsOfText}
 use Rattle.ftp_check_log.specs.Checks.{Holds, Checks, Takes, TellsBy, KeepsRight}
-use Rattle.ftp_check_log.proofs.CheckLemmas.{so_far, so_far-all, so_far-more, answers-some, due-of, whole-lines, astray, some-missing}
+use Rattle.ftp_check_log.proofs.CheckLemmas.{goes-on, so_far, so_far-all, so_far-more, answers-some, due-of, whole-lines, astray, some-missing}
 
 -- ---- the whole text
 
 -- another place, and all else as it was
 pub holds-place : (s : Stage) (c : Checker) (lines : List LogLine) (place : Place) → Holds s c lines → Holds s (record c { place = place }) lines
-holds-place s c lines place holds = record {
-  line = holds.line;
-  log = holds.log;
-  set = holds.set;
-  stands = holds.stands;
-  count = holds.count;
-  shape = holds.shape;
-  kept = holds.kept;
-}
+holds-place s c lines place holds = goes-on s s s c (record c { place = place }) lines lines holds refl refl refl refl holds.shape
 
 no-room : (c : Checker) → c.due ≡ [] → length c.due ≤ c.came
 no-room c none = omega (arith, ap length none)
 
+-- lines are due of which these actions are missing, and these lines are not decided yet
+due-so : (s : Stage) (c : Checker) (lines : List LogLine) (holds : Holds s c lines) (missing : List Action) (undecided : List LogLine) →
+    lines ++ map says.Action missing ≡ lines_of holds.line (reverse holds.log) ++ undecided →
+    (undecided ≡ []) ⊎ ((e : HubEvent) × (a : Answer) × (undecided ≡ says.Event e ∷ answers a)) → AreDue lines
+due-so s c lines holds missing undecided parts half = record {
+  line = holds.line;
+  log = holds.log;
+  due = due-of holds.line c.hub holds.log holds.set holds.stands;
+  missing = missing;
+  undecided = undecided;
+  parts = parts;
+  half = half;
+}
+
+whole-due : (s : Stage) (c : Checker) (lines : List LogLine) → is_whole s ≡ true → length c.due ≤ c.came → Holds s c lines → AreDue lines
+whole-due s c lines whole came holds =
+    due-so s c lines holds [] []
+    (append-nil lines ∙ whole-lines s holds.line holds.log c lines whole came holds.shape ∙ sym (append-nil (lines_of holds.line (reverse holds.log))))
+    (inl refl)
+
 -- as far as they go, the lines are due
 pub holds-due : (s : Stage) (c : Checker) (lines : List LogLine) → Holds s c lines → AreDue lines
-holds-due stage.Start c lines holds = record {
-  line = holds.line;
-  log = holds.log;
-  due = due-of holds.line c.hub holds.log holds.set holds.stands;
-  missing = [];
-  undecided = [];
-  parts =
-      append-nil lines
-      ∙ whole-lines stage.Start holds.line holds.log c lines refl (no-room c holds.shape.2) holds.shape
-      ∙ sym (append-nil (lines_of holds.line (reverse holds.log)));
-  half = inl refl;
-}
-holds-due stage.Opened c lines holds = record {
-  line = holds.line;
-  log = holds.log;
-  due = due-of holds.line c.hub holds.log holds.set holds.stands;
-  missing = [];
-  undecided = [];
-  parts =
-      append-nil lines
-      ∙ whole-lines stage.Opened holds.line holds.log c lines refl (no-room c holds.shape.1) holds.shape
-      ∙ sym (append-nil (lines_of holds.line (reverse holds.log)));
-  half = inl refl;
-}
-holds-due stage.Happened c lines holds = record {
-  line = holds.line;
-  log = holds.log;
-  due = due-of holds.line c.hub holds.log holds.set holds.stands;
-  missing = [];
-  undecided = says.Event holds.shape.0 ∷ [];
-  parts = append-nil lines ∙ holds.shape.4;
-  half = inr (holds.shape.0, answer.None, refl);
-}
-holds-due stage.Answered c lines holds = record {
-  line = holds.line;
-  log = holds.log;
-  due = due-of holds.line c.hub holds.log holds.set holds.stands;
-  missing = [];
-  undecided = says.Event holds.shape.0 ∷ says.Answer c.answer ∷ [];
-  parts = append-nil lines ∙ holds.shape.4;
-  half = inr (holds.shape.0, c.answer, ap (λ (l : List LogLine). says.Event holds.shape.0 ∷ l) (sym (answers-some c.answer holds.shape.2)));
-}
+holds-due stage.Start c lines holds = whole-due stage.Start c lines refl (no-room c holds.shape.2) holds
+holds-due stage.Opened c lines holds = whole-due stage.Opened c lines refl (no-room c holds.shape.1) holds
+holds-due stage.Happened c lines holds =
+    due-so stage.Happened c lines holds [] (says.Event holds.shape.0 ∷ []) (append-nil lines ∙ holds.shape.4) (inr (holds.shape.0, answer.None, refl))
+holds-due stage.Answered c lines holds =
+    due-so stage.Answered c lines holds [] (says.Event holds.shape.0 ∷ says.Answer c.answer ∷ []) (append-nil lines ∙ holds.shape.4)
+    (inr (holds.shape.0, c.answer, ap (λ (l : List LogLine). says.Event holds.shape.0 ∷ l) (sym (answers-some c.answer holds.shape.2))))
 holds-due stage.Decided c lines holds =
     let older = holds.shape.0 in
     let last = holds.shape.1 in
-    record {
-      line = holds.line;
-      log = holds.log;
-      due = due-of holds.line c.hub holds.log holds.set holds.stands;
-      missing = drop c.came c.due;
-      undecided = [];
-      parts =
-          ap (λ (l : List LogLine). l ++ map says.Action (drop c.came c.due)) holds.shape.5
-          ∙ so_far-more holds.line older last (take c.came c.due) (drop c.came c.due)
-          ∙ ap (λ (l : List Action). so_far holds.line older last l) (take-append-drop c.came c.due ∙ holds.shape.3)
-          ∙ so_far-all holds.line older last
-          ∙ ap (λ (l : List Entry). lines_of holds.line (reverse l)) (sym holds.shape.2)
-          ∙ sym (append-nil (lines_of holds.line (reverse holds.log)));
-      half = inl refl;
-    }
+    due-so stage.Decided c lines holds (drop c.came c.due) []
+    (ap (λ (l : List LogLine). l ++ map says.Action (drop c.came c.due)) holds.shape.5
+    ∙ so_far-more holds.line older last (take c.came c.due) (drop c.came c.due)
+    ∙ ap (λ (l : List Action). so_far holds.line older last l) (take-append-drop c.came c.due ∙ holds.shape.3)
+    ∙ so_far-all holds.line older last
+    ∙ ap (λ (l : List Entry). lines_of holds.line (reverse l)) (sym holds.shape.2)
+    ∙ sym (append-nil (lines_of holds.line (reverse holds.log))))
+    (inl refl)
 
 read-lines : (lines : List LogLine) (all rest : List ℕ) (place : Place) → HasRead lines all rest place → AreLinesOf lines rest all
 read-lines lines all rest place read = record {
