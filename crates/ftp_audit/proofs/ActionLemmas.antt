@@ -4,7 +4,6 @@ use Rattle.std.specs.Prelude.{filter_map, unwrap_or}
 use Rattle.std.specs.Option.{option_map_or, option_and_then, option_to_list}
 use Rattle.std.specs.Str.{bytes_eq}
 use Rattle.std.proofs.lemmas.List.Elements.{filter_map-append}
-use Rattle.ftp_base.specs.declared.message.ControlChanMsg.{ControlChanMsg}
 use Rattle.ftp_base.specs.declared.notice.Notice.{Notice}
 use Rattle.ftp_base.specs.declared.reply.Reply.{Reply}
 use Rattle.ftp_base.specs.declared.reply.Reply.TheVariants as reply
@@ -12,8 +11,8 @@ use Rattle.ftp_events.specs.declared.action.Action.TheVariants as action
 use Rattle.ftp_events.specs.declared.decision.Decision.TheVariants as decision
 use Rattle.ftp_events.specs.Login.{login_by, logged_user}
 use Rattle.ftp_events.specs.Reply.{message_for, reply_for, delay_of}
-use Rattle.ftp_events.specs.Acts.{session_acts, notice_and_reply, notifications, reply_acts, notice_for, presence_for, farewells, cuttings}
-use Rattle.ftp_laws.proofs.Common.{Options, Running, Action, Decision, EventKind, Answer, Pending, Session, Slot, is_ending, new_number, drops, completions, cancellations, stays, drop_acts, pending_in, start_acts, starting, link_in, closings, refused_link, slot_of}
+use Rattle.ftp_events.specs.Acts.{session_acts, notice_and_reply, notifications, reply_acts, notice_for, presence_for, farewells, cancelled, cuttings}
+use Rattle.ftp_laws.proofs.Common.{Options, Running, Action, Decision, EventKind, Answer, Pending, Session, Slot, Ticket, is_ending, new_number, drops, completions, cancellations, stays, drop_acts, pending_in, start_acts, starting, link_in, closings, refused_link, slot_of}
 use Rattle.ftp_laws.proofs.Cases.{by_completion}
 use Rattle.ftp_audit.specs.Sums.{told_end}
 use Rattle.ftp_audit.specs.Heard.{notice_on, notices_on}
@@ -31,85 +30,115 @@ abbrev pub told_on : List ℕ → EventKind → Answer → Decision → Option R
 told_on user k answer d job None = []
 told_on user k answer d job (Some v) = cond (bytes_eq (user_then d v) user) (notified k answer d job v) []
 
-same-both : {A : Type 0} (b : Bool) (x : A) → cond b x x ≡ x
-same-both true x = refl
-same-both false x = refl
+-- what is notified of a session that is live
+abbrev notified_of : ℕ → EventKind → Answer → Decision → Option Running → Session → List Action
+notified_of t k answer d job v = notifications t v (user_then d v) (notice_for (message_for v job k answer d) (presence_for d))
+
+-- an action that notifies nobody, and tells no session that its transfer has ended
+abbrev pub IsQuiet : Action → Type 0
+IsQuiet (action.Completed ticket true) = ⊥
+IsQuiet (action.Notify session meta what) = ⊥
+IsQuiet a = Unit {0}
+
+-- what is sought in actions and found in no quiet one
+module _ {B : Type 0} (f : Action → Option B) (quiet : (a : Action) → IsQuiet a → f a ≡ None) where
+  in-one : (a : Action) → IsQuiet a → filter_map f (a ∷ []) ≡ []
+  in-one a h = rw (quiet a h) refl
+
+  in-both : (xs ys : List Action) → filter_map f xs ≡ [] → filter_map f ys ≡ [] → filter_map f (xs ++ ys) ≡ []
+  in-both xs ys x y = filter_map-append f xs ys ∙ rw (x, y) refl
+
+  in-some : (b : Bool) (xs : List Action) → filter_map f xs ≡ [] → filter_map f (cond b xs []) ≡ []
+  in-some true xs x = x
+  in-some false xs x = refl
+
+  in-closings : (link : Option ℕ) → filter_map f (closings link) ≡ []
+  in-closings None = refl
+  in-closings (Some n) = in-one (action.Close n) tt
+
+  in-cancelled : (t : ℕ) (staying : Bool) (ticket : Ticket) → filter_map f (cancelled t staying ticket) ≡ []
+  in-cancelled t staying ticket = rw (quiet (action.Cancelled ticket) tt) (in-some staying _ (in-one _ tt))
+
+  in-cancellations : (t : ℕ) (staying : Bool) (pending : Option Pending) → filter_map f (cancellations t staying pending) ≡ []
+  in-cancellations t staying None = refl
+  in-cancellations t staying (Some p) = in-cancelled t staying p.ticket
+
+  -- nor does a transfer that is cut
+  pub in-cuttings : (t : ℕ) (staying : Bool) (r : Running) → filter_map f (cuttings t staying (Some r)) ≡ []
+  in-cuttings t staying r = in-both (cancelled t staying r.job.ticket) (closings (Some r.job.number)) (in-cancelled t staying r.job.ticket) (in-closings (Some r.job.number))
+
+  in-drop_acts : (t : ℕ) (staying : Bool) (d : Decision) (slot : Slot) (pending : Option Pending) → filter_map f (drop_acts t staying d slot pending) ≡ []
+  in-drop_acts t staying d slot pending =
+      in-some (drops d slot) (cancellations t staying pending ++ closings (link_in slot))
+      (in-both (cancellations t staying pending) (closings (link_in slot)) (in-cancellations t staying pending) (in-closings (link_in slot)))
+
+  -- a connection that is closed as soon as it came tells nothing
+  pub in-refused_link : (k : EventKind) (d : Decision) → filter_map f (refused_link k d) ≡ []
+  in-refused_link k decision.Turned = in-closings (new_number k decision.Turned)
+  in-refused_link k (decision.HeaderFault fault) = in-closings (new_number k (decision.HeaderFault fault))
+  in-refused_link k d = refl
+
+  in-start_acts : (job : Option Running) → filter_map f (start_acts job) ≡ []
+  in-start_acts None = refl
+  in-start_acts (Some r) = in-one (action.Start r.job.ticket r.job.number) tt
+
+  in-reply_acts : (t delay : ℕ) (r : Reply) → filter_map f (reply_acts t delay r) ≡ []
+  in-reply_acts t delay reply.None = refl
+  in-reply_acts t delay (reply.CodeAndMsg c msg) = in-one (action.Reply t delay (reply.CodeAndMsg c msg)) tt
+
+  -- what an event does for a session tells what it completes and what it notifies
+  in-session_acts :
+      (o : Options) (t : ℕ) (k : EventKind) (answer : Answer) (d : Decision) (job : Option Running) (v : Option Session) →
+      filter_map f (session_acts o t k answer d job v) ≡ filter_map f (completions t k d (stays d v) job) ++ filter_map f (option_map_or (notified_of t k answer d job) v [])
+  in-session_acts o t k answer d job v =
+      rw (split, in-drop_acts t (stays d v) d (slot_of v) (pending_in v), in-refused_link k d, replied v, in-start_acts (option_and_then (starting k d job) v), parted)
+      (simp append-nil)
+    where
+      ended : List B
+      ended = filter_map f (completions t k d (stays d v) job)
+
+      told : List B
+      told = filter_map f (option_map_or (notified_of t k answer d job) v [])
+
+      split : filter_map f (session_acts o t k answer d job v) ≡ ended ++ filter_map f (drop_acts t (stays d v) d (slot_of v) (pending_in v)) ++ filter_map f (refused_link k d) ++ filter_map f (option_map_or (notice_and_reply o t k answer d job) v []) ++ filter_map f (start_acts (option_and_then (starting k d job) v)) ++ filter_map f (farewells t d)
+      split = simp filter_map-append
+
+      parted : filter_map f (farewells t d) ≡ []
+      parted = in-some (is_ending d) (action.Close t ∷ []) (in-one (action.Close t) tt)
+
+      replied : (v : Option Session) → filter_map f (option_map_or (notice_and_reply o t k answer d job) v []) ≡ filter_map f (option_map_or (notified_of t k answer d job) v [])
+      replied None = refl
+      replied (Some v) =
+          let replies : List Action = reply_acts t (delay_of d) (reply_for o v (message_for v job k answer d) k d) in
+          filter_map-append f (notified_of t k answer d job v) replies
+          ∙ rw (in-reply_acts t (delay_of d) (reply_for o v (message_for v job k answer d) k d)) (append-nil (filter_map f (notified_of t k answer d job v)))
 
 -- ---- notifications
 
-on-cuttings : (user : List ℕ) (t : ℕ) (staying : Bool) (r : Running) → notices_on user (cuttings t staying (Some r)) ≡ []
-on-cuttings user t true r = refl
-on-cuttings user t false r = refl
-
-on-completions : (user : List ℕ) (t : ℕ) (k : EventKind) (d : Decision) (delivered : Bool) (job : Option Running) → notices_on user (completions t k d delivered job) ≡ []
-on-completions user t k d delivered job = by_completion (λ xs. notices_on user xs ≡ []) t k d delivered job refl (λ u x y. refl) (λ r x y. on-cuttings user t delivered r)
-
-on-drop_acts : (user : List ℕ) (t : ℕ) (staying : Bool) (d : Decision) (slot : Slot) (pending : Option Pending) → notices_on user (drop_acts t staying d slot pending) ≡ []
-on-drop_acts user t staying d slot pending = go (drops d slot) staying pending (link_in slot)
-  where
-    go : (b stays : Bool) (pending : Option Pending) (link : Option ℕ) → notices_on user (cond b (cancellations t stays pending ++ closings link) []) ≡ []
-    go true stays None None = refl
-    go true stays None (Some n) = refl
-    go true true (Some p) None = refl
-    go true true (Some p) (Some n) = refl
-    go true false (Some p) None = refl
-    go true false (Some p) (Some n) = refl
-    go false stays pending link = refl
-
-on-start_acts : (user : List ℕ) (job : Option Running) → notices_on user (start_acts job) ≡ []
-on-start_acts user None = refl
-on-start_acts user (Some job) = refl
-
-on-closings : (user : List ℕ) (link : Option ℕ) → notices_on user (closings link) ≡ []
-on-closings user None = refl
-on-closings user (Some n) = refl
-
--- a connection that is closed as soon as it came tells of nobody
-pub on-refused_link : (user : List ℕ) (k : EventKind) (d : Decision) → notices_on user (refused_link k d) ≡ []
-on-refused_link user k decision.Turned = on-closings user (new_number k decision.Turned)
-on-refused_link user k (decision.HeaderFault fault) = on-closings user (new_number k (decision.HeaderFault fault))
-on-refused_link user k d = refl
-
-on-farewells : (user : List ℕ) (t : ℕ) (d : Decision) → notices_on user (farewells t d) ≡ []
-on-farewells user t d = go (is_ending d)
-  where
-    go : (b : Bool) → notices_on user (cond b (action.Close t ∷ []) []) ≡ []
-    go true = refl
-    go false = refl
-
-on-reply_acts : (user : List ℕ) (t delay : ℕ) (r : Reply) → notices_on user (reply_acts t delay r) ≡ []
-on-reply_acts user t delay reply.None = refl
-on-reply_acts user t delay (reply.CodeAndMsg c msg) = refl
-
-on-notifications :
-    (user : List ℕ) (t : ℕ) (v : Session) (name : List ℕ) (what : Option Notice) →
-    notices_on user (notifications t v name what) ≡ cond (bytes_eq name user) (option_to_list what) []
-on-notifications user t v name None = sym (same-both (bytes_eq name user) [])
-on-notifications user t v name (Some what) = go (bytes_eq name user) refl
-  where
-    go : (b : Bool) → bytes_eq name user ≡ b → notices_on user (notifications t v name (Some what)) ≡ cond b (what ∷ []) []
-    go true x = rw x refl
-    go false x = rw x refl
+pub quiet-notice_on : (user : List ℕ) (a : Action) → IsQuiet a → notice_on user a ≡ None
+quiet-notice_on user (action.Notify session meta what) h = absurd h
+quiet-notice_on user a h = refl
 
 -- what an event does for a session tells of its user what it notifies
 pub on-session_acts :
     (o : Options) (user : List ℕ) (t : ℕ) (k : EventKind) (answer : Answer) (d : Decision) (job : Option Running) (v : Option Session) →
     notices_on user (session_acts o t k answer d job v) ≡ told_on user k answer d job v
 on-session_acts o user t k answer d job v =
-    rw (split, on-completions user t k d (stays d v) job, on-drop_acts user t (stays d v) d (slot_of v) (pending_in v), on-refused_link user k d, on-start_acts user (option_and_then (starting k d job) v), on-farewells user t d)
-    (append-nil (notices_on user (option_map_or (notice_and_reply o t k answer d job) v []) ++ []) ∙ (append-nil (notices_on user (option_map_or (notice_and_reply o t k answer d job) v [])) ∙ told v))
+    in-session_acts (notice_on user) (quiet-notice_on user) o t k answer d job v ∙ rw ended (told v)
   where
-    split : notices_on user (session_acts o t k answer d job v) ≡ notices_on user (completions t k d (stays d v) job) ++ notices_on user (drop_acts t (stays d v) d (slot_of v) (pending_in v)) ++ notices_on user (refused_link k d) ++ notices_on user (option_map_or (notice_and_reply o t k answer d job) v []) ++ notices_on user (start_acts (option_and_then (starting k d job) v)) ++ notices_on user (farewells t d)
-    split = simp filter_map-append
+    ended : notices_on user (completions t k d (stays d v) job) ≡ []
+    ended = by_completion (λ xs. notices_on user xs ≡ []) t k d (stays d v) job refl (λ u x y. refl) (λ r x y. in-cuttings (notice_on user) (quiet-notice_on user) t (stays d v) r)
 
-    told : (v : Option Session) → notices_on user (option_map_or (notice_and_reply o t k answer d job) v []) ≡ told_on user k answer d job v
+    one : (v : Session) (what : Option Notice) (b : Bool) → bytes_eq (user_then d v) user ≡ b →
+        notices_on user (notifications t v (user_then d v) what) ≡ cond b (option_to_list what) []
+    one v None true x = refl
+    one v None false x = refl
+    one v (Some what) true x = rw x refl
+    one v (Some what) false x = rw x refl
+
+    told : (v : Option Session) → notices_on user (option_map_or (notified_of t k answer d job) v []) ≡ told_on user k answer d job v
     told None = refl
-    told (Some v) =
-        let m : Option ControlChanMsg = message_for v job k answer d in
-        let what : Option Notice = notice_for m (presence_for d) in
-        filter_map-append (notice_on user) (notifications t v (user_then d v) what) (reply_acts t (delay_of d) (reply_for o v m k d)) ∙
-        (rw (on-reply_acts user t (delay_of d) (reply_for o v m k d)) (append-nil (notices_on user (notifications t v (user_then d v) what))) ∙
-        on-notifications user t v (user_then d v) what)
+    told (Some v) = one v (notice_for (message_for v job k answer d) (presence_for d)) (bytes_eq (user_then d v) user) refl
 
 -- ---- ends that are told
 
@@ -117,67 +146,21 @@ on-session_acts o user t k answer d job v =
 abbrev pub told_ends : List Action → List ℕ
 told_ends actions = filter_map told_end actions
 
--- a transfer that is cut is told of as none that has ended
-pub ends-cuttings : (t : ℕ) (staying : Bool) (r : Running) → told_ends (cuttings t staying (Some r)) ≡ []
-ends-cuttings t true r = refl
-ends-cuttings t false r = refl
-
-ends-drop_acts : (t : ℕ) (staying : Bool) (d : Decision) (slot : Slot) (pending : Option Pending) → told_ends (drop_acts t staying d slot pending) ≡ []
-ends-drop_acts t staying d slot pending = go (drops d slot) staying pending (link_in slot)
-  where
-    go : (b stays : Bool) (pending : Option Pending) (link : Option ℕ) → told_ends (cond b (cancellations t stays pending ++ closings link) []) ≡ []
-    go true stays None None = refl
-    go true stays None (Some n) = refl
-    go true true (Some p) None = refl
-    go true true (Some p) (Some n) = refl
-    go true false (Some p) None = refl
-    go true false (Some p) (Some n) = refl
-    go false stays pending link = refl
-
-ends-start_acts : (job : Option Running) → told_ends (start_acts job) ≡ []
-ends-start_acts None = refl
-ends-start_acts (Some job) = refl
-
-ends-closings : (link : Option ℕ) → told_ends (closings link) ≡ []
-ends-closings None = refl
-ends-closings (Some n) = refl
-
--- a connection that is closed as soon as it came ends no transfer
-pub ends-refused_link : (k : EventKind) (d : Decision) → told_ends (refused_link k d) ≡ []
-ends-refused_link k decision.Turned = ends-closings (new_number k decision.Turned)
-ends-refused_link k (decision.HeaderFault fault) = ends-closings (new_number k (decision.HeaderFault fault))
-ends-refused_link k d = refl
-
-ends-farewells : (t : ℕ) (d : Decision) → told_ends (farewells t d) ≡ []
-ends-farewells t d = go (is_ending d)
-  where
-    go : (b : Bool) → told_ends (cond b (action.Close t ∷ []) []) ≡ []
-    go true = refl
-    go false = refl
-
-ends-reply_acts : (t delay : ℕ) (r : Reply) → told_ends (reply_acts t delay r) ≡ []
-ends-reply_acts t delay reply.None = refl
-ends-reply_acts t delay (reply.CodeAndMsg c msg) = refl
-
-ends-notifications : (t : ℕ) (v : Session) (name : List ℕ) (what : Option Notice) → told_ends (notifications t v name what) ≡ []
-ends-notifications t v name None = refl
-ends-notifications t v name (Some what) = refl
+pub quiet-told_end : (a : Action) → IsQuiet a → told_end a ≡ None
+quiet-told_end (action.Completed ticket true) h = absurd h
+quiet-told_end a h = refl
 
 -- what an event does for a session tells the end that it completes
 pub ends-session_acts :
     (o : Options) (t : ℕ) (k : EventKind) (answer : Answer) (d : Decision) (job : Option Running) (v : Option Session) →
     told_ends (session_acts o t k answer d job v) ≡ told_ends (completions t k d (stays d v) job)
 ends-session_acts o t k answer d job v =
-    rw (split, ends-drop_acts t (stays d v) d (slot_of v) (pending_in v), ends-refused_link k d, rest v, ends-start_acts (option_and_then (starting k d job) v), ends-farewells t d)
-    (append-nil ((((told_ends (completions t k d (stays d v) job) ++ []) ++ []) ++ []) ++ []) ∙ (append-nil (((told_ends (completions t k d (stays d v) job) ++ []) ++ []) ++ []) ∙ (append-nil ((told_ends (completions t k d (stays d v) job) ++ []) ++ []) ∙ (append-nil (told_ends (completions t k d (stays d v) job) ++ []) ∙ append-nil (told_ends (completions t k d (stays d v) job))))))
+    in-session_acts told_end quiet-told_end o t k answer d job v ∙ rw (none v) (append-nil (told_ends (completions t k d (stays d v) job)))
   where
-    split : told_ends (session_acts o t k answer d job v) ≡ told_ends (completions t k d (stays d v) job) ++ told_ends (drop_acts t (stays d v) d (slot_of v) (pending_in v)) ++ told_ends (refused_link k d) ++ told_ends (option_map_or (notice_and_reply o t k answer d job) v []) ++ told_ends (start_acts (option_and_then (starting k d job) v)) ++ told_ends (farewells t d)
-    split = simp filter_map-append
+    one : (v : Session) (what : Option Notice) → told_ends (notifications t v (user_then d v) what) ≡ []
+    one v None = refl
+    one v (Some what) = refl
 
-    rest : (v : Option Session) → told_ends (option_map_or (notice_and_reply o t k answer d job) v []) ≡ []
-    rest None = refl
-    rest (Some v) =
-        let m : Option ControlChanMsg = message_for v job k answer d in
-        let what : Option Notice = notice_for m (presence_for d) in
-        filter_map-append told_end (notifications t v (user_then d v) what) (reply_acts t (delay_of d) (reply_for o v m k d)) ∙
-        rw (ends-reply_acts t (delay_of d) (reply_for o v m k d), ends-notifications t v (user_then d v) what) refl
+    none : (v : Option Session) → told_ends (option_map_or (notified_of t k answer d job) v []) ≡ []
+    none None = refl
+    none (Some v) = one v (notice_for (message_for v job k answer d) (presence_for d))
