@@ -87,25 +87,24 @@ silent-name : (past : List Entry) (e : Entry) (s : ℕ) → IsSilent s e.decisio
 silent-name past e s h = ap (λ (n : Option (List ℕ)). unwrap_or n (last_name past s)) h.unnamed
 
 -- the entries that were refused say nothing of it
-pub let_in-past : (log : List Entry) (s : ℕ) → was_let_in log s ≡ was_let_in (past_of log) s
-let_in-past [] s = refl
-let_in-past (e ∷ log) s = go (is_refusal e.decision) refl (let_in-past log s)
+of-past : {A : Type 0} (f : List Entry → A) → ((e : Entry) (log : List Entry) → is_refusal e.decision ≡ true → f (e ∷ log) ≡ f log) →
+    ((e : Entry) (log past : List Entry) → f log ≡ f past → f (e ∷ log) ≡ f (e ∷ past)) → (log : List Entry) → f log ≡ f (past_of log)
+of-past f refused more [] = refl
+of-past f refused more (e ∷ log) = go (is_refusal e.decision) refl (of-past f refused more log)
   where
-    go :
-        (b : Bool) → is_refusal e.decision ≡ b → was_let_in log s ≡ was_let_in (past_of log) s →
-        was_let_in (e ∷ log) s ≡ was_let_in (cond (not b) (e ∷ past_of log) (past_of log)) s
-    go true x h = ap (λ (n : Option ℕ). is_number n s || was_let_in log s) (refused-let_in e.decision e.event.kind x) ∙ h
-    go false x h = ap (λ (b : Bool). is_number (let_in e.decision e.event.kind) s || b) h
+    go : (b : Bool) → is_refusal e.decision ≡ b → f log ≡ f (past_of log) → f (e ∷ log) ≡ f (cond (not b) (e ∷ past_of log) (past_of log))
+    go true x h = refused e log x ∙ h
+    go false x h = more e log (past_of log) h
+
+pub let_in-past : (log : List Entry) (s : ℕ) → was_let_in log s ≡ was_let_in (past_of log) s
+let_in-past log s =
+    of-past (λ past. was_let_in past s) (λ e past x. ap (λ (n : Option ℕ). is_number n s || was_let_in past s) (refused-let_in e.decision e.event.kind x))
+    (λ e log past h. ap (λ (b : Bool). is_number (let_in e.decision e.event.kind) s || b) h) log
 
 pub name-past : (log : List Entry) (s : ℕ) → last_name log s ≡ last_name (past_of log) s
-name-past [] s = refl
-name-past (e ∷ log) s = go (is_refusal e.decision) refl (name-past log s)
-  where
-    go :
-        (b : Bool) → is_refusal e.decision ≡ b → last_name log s ≡ last_name (past_of log) s →
-        last_name (e ∷ log) s ≡ last_name (cond (not b) (e ∷ past_of log) (past_of log)) s
-    go true x h = ap (λ (n : Option (List ℕ)). unwrap_or n (last_name log s)) (refused-name s e.decision e.event.kind x) ∙ h
-    go false x h = ap (unwrap_or (name_from s e.decision e.event.kind)) h
+name-past log s =
+    of-past (λ past. last_name past s) (λ e past x. ap (λ (n : Option (List ℕ)). unwrap_or n (last_name past s)) (refused-name s e.decision e.event.kind x))
+    (λ e log past h. ap (unwrap_or (name_from s e.decision e.event.kind)) h) log
 
 -- ---- what decisions on a login tell
 
@@ -117,26 +116,23 @@ record IsOut (o : Options) (past : List Entry) (k : EventKind) : Type 0 where
   known : session o past number ≡ Some view
   out : is_logged_in view.login ≡ false
 
+-- a row that is not chosen where somebody is logged in
+no-login : (row : Login → Decision) (d : Decision) → (row login.LoggedIn ≡ d → ⊥) → (l : Login) → row l ≡ d → is_logged_in l ≡ false
+no-login row d never login.LoggedIn x = absurd (never x)
+no-login row d never l x = refl
+
 -- a name is taken from one
 named-out : (o : Options) (past : List Entry) (at : ℕ) (k : EventKind) (answer : Answer) → due o past at k answer ≡ decision.NeedPass → IsOut o past k
 named-out o past at (kind.User s name) answer e =
     let live = live-row o past s (λ v. user_row v.login) decision.NeedPass (λ x. cc) e in
-    record { number = s; view = live.0; named = refl; known = live.1; out = go live.0.login live.2 }
-  where
-    go : (l : Login) → user_row l ≡ decision.NeedPass → is_logged_in l ≡ false
-    go login.LoggedIn x = cc
-    go l x = refl
+    record { number = s; view = live.0; named = refl; known = live.1; out = no-login user_row decision.NeedPass (λ x. cc) live.0.login live.2 }
 named-out o past at k answer e = grind arith
 
 -- a password is asked of one
 asked-out : (o : Options) (past : List Entry) (at : ℕ) (k : EventKind) (answer : Answer) → due o past at k answer ≡ decision.PassOut → IsOut o past k
 asked-out o past at (kind.Pass s) answer e =
     let live = live-row o past s (λ v. pass_row v.login) decision.PassOut (λ x. cc) e in
-    record { number = s; view = live.0; named = refl; known = live.1; out = go live.0.login live.2 }
-  where
-    go : (l : Login) → pass_row l ≡ decision.PassOut → is_logged_in l ≡ false
-    go login.LoggedIn x = cc
-    go l x = refl
+    record { number = s; view = live.0; named = refl; known = live.1; out = no-login pass_row decision.PassOut (λ x. cc) live.0.login live.2 }
 asked-out o past at k answer e = grind arith
 
 -- a login fails of one
@@ -145,11 +141,13 @@ failed-out :
     due o past at k answer ≡ decision.LoginFailed lock delay → IsOut o past k
 failed-out o past at (kind.AuthDone s said) answer lock delay e =
     let live = live-row o past s (λ v. auth_row o.lockout at (own_failures o (failures o past) v) said v.login) (decision.LoginFailed lock delay) (λ x. cc) e in
-    record { number = s; view = live.0; named = refl; known = live.1; out = go live.0 live.0.login live.2 }
-  where
-    go : (v : Session) (l : Login) → auth_row o.lockout at (own_failures o (failures o past) v) said l ≡ decision.LoginFailed lock delay → is_logged_in l ≡ false
-    go v login.LoggedIn x = cc
-    go v l x = refl
+    record {
+      number = s;
+      view = live.0;
+      named = refl;
+      known = live.1;
+      out = no-login (auth_row o.lockout at (own_failures o (failures o past) live.0) said) (decision.LoginFailed lock delay) (λ x. cc) live.0.login live.2;
+    }
 failed-out o past at k answer lock delay e = grind arith
 
 -- a user is let in by the answer on the password of a live session
