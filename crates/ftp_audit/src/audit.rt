@@ -5,10 +5,10 @@ ghost use Rattle.ftp_audit.specs.Marks.{below, UpTo};
 ghost use Rattle.ftp_audit.specs.Users.{marks_of};
 ghost use Rattle.ftp_audit.specs.Heard.{notices_on, with_all};
 
-use crate::error::AuditError;
 use crate::{Accounts, Total};
 use ftp_base::Bytes;
 use ftp_events::{Action, Entry};
+use ftp_hub::PrepareError;
 use std::alloc::{AllocError, Global};
 use std::marker::Model;
 
@@ -69,15 +69,15 @@ impl Audit {
     ///   (`heard`; also `Audit::total`: `heard`; `Audit::between`: `heard`; `audited`: `heard`).
     /// - An entry is not taken for the count's sake exactly at the end of the count, and after each error all is as it
     ///   was (`exhausted`, `unchanged`).
-    pub fn take(&mut self, entry: &Entry) -> Result<(), AuditError>
+    pub fn take(&mut self, entry: &Entry) -> Result<(), PrepareError>
         ensures heard { OnOk result ((log : List Entry) → HasHeard self.old log → HasHeard self.new (entry.now ∷ log)) }
         ensures stands { OnOk result ((o : Options) (log : List Entry) → Stands o self.old log →
             IsRight o (entry.now ∷ log) → IsActed o (entry.now ∷ log) → Stands o self.new (entry.now ∷ log)) }
-        ensures exhausted { IsErrOf result AuditError.Exhausted ↔ (self.old.taken ≡ 2 ^ 64 - 1) }
+        ensures exhausted { IsErrOf result PrepareError.Exhausted ↔ (self.old.taken ≡ 2 ^ 64 - 1) }
         ensures unchanged { OnErr result (SameAudit self.old self.new) }
     {
         if self.taken == u64::MAX {
-            return Err(AuditError::Exhausted);
+            return Err(PrepareError::Exhausted);
         }
         if let Err(error) = hear(&mut self.users, self.taken, entry.actions.as_slice()) {
             self.users.forget(self.taken);
