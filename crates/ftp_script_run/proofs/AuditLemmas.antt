@@ -46,12 +46,12 @@ part-more o log behind old now new report more =
 -- ---- the steps
 
 -- one more item was read, and its entry was heard
-pub hearing-more : (all left later : Option (List ℕ)) (reader next : ScriptReader) (run after : Run) (audit heard : AuditState) (buffer out : List ℕ) (i : Item) (r : Hearing all reader run audit buffer left) →
+pub hearing-more : {all left later : Option (List ℕ)} {reader next : ScriptReader} {run after : Run} {audit heard : AuditState} {buffer out : List ℕ} (i : Item) (r : Hearing all reader run audit buffer left) →
     IsLetIn r.items i next →
     ((bytes : List ℕ) → HasRead r.items bytes reader buffer left → HasRead (r.items ++ i ∷ []) bytes next out later) →
     IsNoted after (r.items ++ i ∷ []) r.log heard →
     Hearing all next after heard out later
-hearing-more all left later reader next run after audit heard buffer out i r in_place told noted = record {
+hearing-more {all} i r in_place told noted = record {
   items = r.items ++ i ∷ [];
   log = noted.0 ++ r.log;
   known = in_place.1;
@@ -61,47 +61,47 @@ hearing-more all left later reader next run after audit heard buffer out i r in_
 }
 
 -- nothing was written
-pub heard-memory : (failed : Type 0) (all left later old new : Option (List ℕ)) (reader : ScriptReader) (run : Run) (audit : AuditState) (buffer : List ℕ) (r : Hearing all reader run audit buffer left) →
+pub heard-memory : {all left : Option (List ℕ)} {reader : ScriptReader} {run : Run} {audit : AuditState} {buffer : List ℕ} (failed : Type 0) (later old new : Option (List ℕ)) (r : Hearing all reader run audit buffer left) →
     ((bytes : List ℕ) → HasRead r.items bytes reader buffer left → ReadsAhead r.items bytes later) →
     new ≡ old →
     IfSome all (λ bytes. AuditsPart failed bytes later old new)
-heard-memory failed all left later old new reader run audit buffer r ahead same =
+heard-memory {all} {run} failed later old new r ahead same =
     IfSome_then all r.read (λ bytes h. front-writes bytes later run r.items r.log (ahead bytes h) r.kept h (inl same, inl same))
 
-pub heard-end : (failed : Type 0) (all left later old new : Option (List ℕ)) (reader : ScriptReader) (run : Run) (audit : AuditState) (buffer : List ℕ) (last : Result Unit Failed) (r : Hearing all reader run audit buffer left) →
+pub heard-end : {all left : Option (List ℕ)} {reader : ScriptReader} {run : Run} {audit : AuditState} {buffer : List ℕ} (failed : Type 0) (later old new : Option (List ℕ)) (last : Result Unit Failed) (r : Hearing all reader run audit buffer left) →
     ((bytes : List ℕ) → HasRead r.items bytes reader buffer left → IsScriptOf bytes r.items None × (later ≡ Some [])) →
     ((bytes : List ℕ) → HasRead r.items bytes reader buffer left → ReadsAhead r.items bytes later) →
     OnOk last ((o : Options) (log : List Entry) → Stands o audit log → Reports o log [] old new) →
     OnErr last ((o : Options) (log : List Entry) → Stands o audit log → ReportsPart o log [] old new) →
     IfSome all (λ bytes. AuditOutcome (ended_by last status.Done) failed bytes later old new)
-heard-end failed all left later old new reader run audit buffer last r told ahead wrote front =
+heard-end {all} {run} {audit} failed later old new last r told ahead wrote front =
     let stands = heard-stands run r.items r.log audit r.kept r.heard in
     IfSome_then all r.read
     (λ bytes h. ends-so (WritesReport old new) (WritesReportPart failed old new) status.Done last bytes later
     (on_ok-then last wrote (λ wrote. reads-writes run r.items r.log r.kept (told bytes h) (wrote (options_of run.hub) r.log stands)))
     (on_err-then last front (λ front. all-writes bytes later run r.items r.log (ahead bytes h) r.kept None (told bytes h).0 (inr (inl refl), front (options_of run.hub) r.log stands))))
 
-pub heard-bad : (failed : Type 0) (all left later old new : Option (List ℕ)) (reader : ScriptReader) (run : Run) (audit : AuditState) (buffer : List ℕ) (k : ℕ) (last : Result Unit Failed) (r : Hearing all reader run audit buffer left) →
+pub heard-bad : {all left : Option (List ℕ)} {reader : ScriptReader} {run : Run} {audit : AuditState} {buffer : List ℕ} (failed : Type 0) (later old new : Option (List ℕ)) (k : ℕ) (last : Result Unit Failed) (r : Hearing all reader run audit buffer left) →
     ((bytes : List ℕ) → HasRead r.items bytes reader buffer left → IsScriptOf bytes r.items (Some k)) →
     ((bytes : List ℕ) → HasRead r.items bytes reader buffer left → ReadsAhead r.items bytes later) →
     OnOk last ((o : Options) (log : List Entry) → Stands o audit log → Reports o log (bad_line k) old new) →
     OnErr last ((o : Options) (log : List Entry) → Stands o audit log → ReportsPart o log (bad_line k) old new) →
     IfSome all (λ bytes. AuditOutcome (ended_by last (status.BadLine k)) failed bytes later old new)
-heard-bad failed all left later old new reader run audit buffer k last r told ahead wrote front =
+heard-bad {all} {run} {audit} failed later old new k last r told ahead wrote front =
     let stands = heard-stands run r.items r.log audit r.kept r.heard in
     IfSome_then all r.read
     (λ bytes h. ends-so (WritesReport old new) (WritesReportPart failed old new) (status.BadLine k) last bytes later
     (on_ok-then last wrote (λ wrote. reads-writes run r.items r.log r.kept (told bytes h, ahead bytes h) (wrote (options_of run.hub) r.log stands)))
     (on_err-then last front (λ front. all-writes bytes later run r.items r.log (ahead bytes h) r.kept (Some k) (told bytes h) (inr (inl refl), front (options_of run.hub) r.log stands))))
 
-pub heard-fault : (failed : Type 0) (all left later old new : Option (List ℕ)) (reader : ScriptReader) (run : Run) (audit : AuditState) (buffer : List ℕ) (last : Result Unit Failed) (r : Hearing all reader run audit buffer left) →
+pub heard-fault : {all left : Option (List ℕ)} {reader : ScriptReader} {run : Run} {audit : AuditState} {buffer : List ℕ} (failed : Type 0) (later old new : Option (List ℕ)) (last : Result Unit Failed) (r : Hearing all reader run audit buffer left) →
     failed →
     ((bytes : List ℕ) → HasRead r.items bytes reader buffer left → StopsBehind r.items bytes later) →
     ((bytes : List ℕ) → HasRead r.items bytes reader buffer left → ReadsAhead r.items bytes later) →
     OnOk last ((o : Options) (log : List Entry) → Stands o audit log → Reports o log [] old new) →
     OnErr last ((o : Options) (log : List Entry) → Stands o audit log → ReportsPart o log [] old new) →
     IfSome all (λ bytes. AuditOutcome (ended_by last status.ReadFault) failed bytes later old new)
-heard-fault failed all left later old new reader run audit buffer last r risen told ahead wrote front =
+heard-fault {all} {run} {audit} failed later old new last r risen told ahead wrote front =
     let stands = heard-stands run r.items r.log audit r.kept r.heard in
     IfSome_then all r.read
     (λ bytes h. ends-so (WritesReport old new) (WritesReportPart failed old new) status.ReadFault last bytes later

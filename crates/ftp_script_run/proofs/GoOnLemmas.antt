@@ -242,7 +242,7 @@ read-behind all left old now resumed reader run buffer bytes rest r is = subst (
 -- ---- the steps
 
 -- one more item was taken
-pub go-more : (all left later old now new : Option (List ℕ)) (resumed further : Resumed) (reader next : ScriptReader) (run after : Run) (buffer out : List ℕ) (i : Item) (r : Resuming all resumed reader run buffer left old now) →
+pub go-more : {all left later old now new : Option (List ℕ)} {resumed further : Resumed} {reader next : ScriptReader} {run after : Run} {buffer out : List ℕ} (i : Item) (r : Resuming all resumed reader run buffer left old now) →
     IsLetIn r.running.items i next →
     ((bytes : List ℕ) → HasRead r.running.items bytes reader buffer left → HasRead (r.running.items ++ i ∷ []) bytes next out later) →
     may_go_on r.state r.running.items i ≡ true →
@@ -252,24 +252,24 @@ pub go-more : (all left later old now new : Option (List ℕ)) (resumed further 
     IsTaken (Some (r.options, r.state)) after (r.running.items ++ i ∷ []) r.running.log now new →
     Resuming all further next after out later old new
 unfolding running-more
-go-more all left later old now new resumed further reader next run after buffer out i r placed told may awaits event before took = record {
+go-more {all} {further} i r placed told may awaits event before took = record {
   options = r.options;
   state = r.state;
   behind = r.behind;
-  running = running-more (Some (r.options, r.state)) r.behind left later old now new reader next run after buffer out i r.running placed told took;
+  running = running-more i r.running placed told took;
   begun = IfSome_then all r.begun (λ bytes b. (b.0, b.1, subst (λ (n : ℕ). IsBegunAt bytes b.0 n r.options r.state) (sym before) b.2));
   goes_on = goes-on-more r.state [] r.running.items i r.goes_on may;
   awaits = awaits-more further r.state r.running.items i event awaits;
 }
 
 -- of an item that was read, at most a part of its lines was written
-pub go-cut : (all left later old now new : Option (List ℕ)) (resumed : Resumed) (reader next : ScriptReader) (run after : Run) (buffer out : List ℕ) (i : Item) (s : Status) (r : Resuming all resumed reader run buffer left old now) →
+pub go-cut : {all left old now : Option (List ℕ)} {resumed : Resumed} {reader next : ScriptReader} {run after : Run} {buffer out : List ℕ} (later new : Option (List ℕ)) (i : Item) (s : Status) (r : Resuming all resumed reader run buffer left old now) →
     ((bytes : List ℕ) → HasRead r.running.items bytes reader buffer left → HasRead (r.running.items ++ i ∷ []) bytes next out later) →
     may_go_on r.state r.running.items i ≡ true →
     IsPartlyTaken (Some (r.options, r.state)) after (r.running.items ++ i ∷ []) r.running.log now new →
     IsCutShort s →
     IfSome all (λ bytes. ResumeOutcome s bytes later old new)
-go-cut all left later old now new resumed reader next run after buffer out i s r told may taken short =
+go-cut {all} {left} {old} {now} {resumed} {reader} {next} {run} {after} {buffer} {out} later new i s r told may taken short =
     IfSome_then all r.begun (λ bytes b. cut-at s bytes later old new short (inr (inr (by bytes b.0 b.2 (read-behind all left old now resumed reader run buffer bytes b.0 r b.1) taken)))) where
       items : List Item
       items = r.running.items
@@ -286,13 +286,13 @@ go-cut all left later old now new resumed reader next run after buffer out i s r
           (front-more old now new (log_lines r.running.log) (log_lines part.0) r.running.written part.2))
 
 -- a bad line was named, or a part of its line was written
-pub go-bad : (all left later old now new : Option (List ℕ)) (resumed : Resumed) (reader : ScriptReader) (run : Run) (buffer : List ℕ) (k place : ℕ) (s : Status) (r : Resuming all resumed reader run buffer left old now) →
+pub go-bad : {all left old now : Option (List ℕ)} {resumed : Resumed} {reader : ScriptReader} {run : Run} {buffer : List ℕ} (later new : Option (List ℕ)) (k place : ℕ) (s : Status) (r : Resuming all resumed reader run buffer left old now) →
     k ≡ resumed.before + place →
     ((bytes : List ℕ) → HasRead r.running.items bytes reader buffer left → IsResumedScript r.state bytes r.running.items (Some place)) →
     IsRefusedSo (error.BadLine k) s now new →
     IfSome all (λ bytes. ResumeOutcome s bytes later old new)
 unfolding resumes-all
-go-bad all left later old now new resumed reader run buffer k place s r counted script refused =
+go-bad {all} {left} {old} {now} {resumed} {reader} {run} {buffer} later new k place s r counted script refused =
     IfSome_then all r.begun (λ bytes b. by bytes b.0 b.2 (script b.0 (read-behind all left old now resumed reader run buffer bytes b.0 r b.1)) refused) where
       items : List Item
       items = r.running.items
@@ -310,14 +310,14 @@ go-bad all left later old now new resumed reader run buffer k place s r counted 
           (subst (λ (n : ℕ). WritesFront now new (bad_line n)) counted part.1))))
 
 -- the script is at its end
-pub go-end : (all left later old now new : Option (List ℕ)) (resumed : Resumed) (reader : ScriptReader) (run : Run) (buffer : List ℕ) (last : Result Unit Failed) (s : Status) (r : Resuming all resumed reader run buffer left old now) →
+pub go-end : {all left old now : Option (List ℕ)} {resumed : Resumed} {reader : ScriptReader} {run : Run} {buffer : List ℕ} (later new : Option (List ℕ)) (last : Result Unit Failed) (s : Status) (r : Resuming all resumed reader run buffer left old now) →
     s ≡ ended_by last status.Done →
     ((bytes : List ℕ) → HasRead r.running.items bytes reader buffer left → IsScriptOf bytes r.running.items None × (later ≡ Some [])) →
     OnOk last (Writes now new (end_lines run.links run.storage)) →
     OnErr last (WritesFront now new (end_lines run.links run.storage)) →
     IfSome all (λ bytes. ResumeOutcome s bytes later old new)
 unfolding resumes-all
-go-end all left later old now new resumed reader run buffer last s r is script wrote front =
+go-end {all} {left} {old} {now} {resumed} {reader} {run} {buffer} later new last s r is script wrote front =
     IfSome_then all r.begun (λ bytes b. subst (λ (t : Status). ResumeOutcome t bytes later old new) (sym is) (by bytes b.0 b.2 (script b.0 (read-behind all left old now resumed reader run buffer bytes b.0 r b.1)) last wrote front)) where
       items : List Item
       items = r.running.items
@@ -335,9 +335,9 @@ go-end all left later old now new resumed reader run buffer last s r is script w
           resumes-closing bytes rest resumed.before r.options r.state old now new run items r.running.log None begun (r.goes_on, told.0) r.running.kept r.running.written front))
 
 -- nothing more was run
-pub go-kept : (all left later old now : Option (List ℕ)) (resumed : Resumed) (reader : ScriptReader) (run : Run) (buffer : List ℕ) (r : Resuming all resumed reader run buffer left old now) →
+pub go-kept : {all left old now : Option (List ℕ)} {resumed : Resumed} {reader : ScriptReader} {run : Run} {buffer : List ℕ} (r : Resuming all resumed reader run buffer left old now) →
     IfSome all (λ bytes. IsResumeCut bytes old now)
-go-kept all left later old now resumed reader run buffer r =
+go-kept {all} {left} {old} {now} {resumed} {reader} {run} {buffer} r =
     IfSome_then all r.begun
     (λ bytes b. inr (inr (
     resumes-part bytes b.0 resumed.before r.options r.state reader buffer left old now run r.running.items r.running.log b.2
@@ -345,12 +345,12 @@ go-kept all left later old now resumed reader run buffer r =
     (front-all old now (log_lines r.running.log) r.running.written))))
 
 -- behind the items stands one that may not come
-pub no-more : (x : HubState) (bytes : List ℕ) (items : List Item) (i : Item) (reader : ScriptReader) (buffer : List ℕ) (left : Option (List ℕ)) →
+pub no-more : {bytes : List ℕ} {reader : ScriptReader} {buffer : List ℕ} {left : Option (List ℕ)} (x : HubState) (items : List Item) (i : Item) →
     AllGoOn x [] items →
     may_go_on x items i ≡ false →
     HasRead (items ++ i ∷ []) bytes reader buffer left →
     IsResumedScript x bytes items (Some reader.number)
-no-more x bytes items i reader buffer left goes_on stops h = (
+no-more x items i goes_on stops h = (
   goes_on,
   inr (record {
     next = i;

@@ -40,12 +40,12 @@ told-start (Some bytes) reader buffer h = h bytes
 -- ---- the steps
 
 -- one more item was read and taken
-unfoldable pub running-more : (before : Before) (all left later first now new : Option (List ℕ)) (reader next : ScriptReader) (run after : Run) (buffer out : List ℕ) (i : Item) (r : Running before all reader run buffer left first now) →
+unfoldable pub running-more : {before : Before} {all left later first now new : Option (List ℕ)} {reader next : ScriptReader} {run after : Run} {buffer out : List ℕ} (i : Item) (r : Running before all reader run buffer left first now) →
     IsLetIn r.items i next →
     ((bytes : List ℕ) → HasRead r.items bytes reader buffer left → HasRead (r.items ++ i ∷ []) bytes next out later) →
     IsTaken before after (r.items ++ i ∷ []) r.log now new →
     Running before all next after out later first new
-running-more before all left later first now new reader next run after buffer out i r in_place told took = record {
+running-more {all} {first} {now} {new} i r in_place told took = record {
   items = r.items ++ i ∷ [];
   log = took.0 ++ r.log;
   known = in_place.1;
@@ -108,21 +108,21 @@ ends-so Wrote Part s (Ok x) bytes left whole part = whole
 ends-so Wrote Part s (Err Fault) bytes left whole part = part
 ends-so Wrote Part s (Err Memory) bytes left whole part = part
 
-pub out-memory : (e : Ending) (all left later before now : Option (List ℕ)) (reader : ScriptReader) (run : Run) (buffer : List ℕ) (r : Running None all reader run buffer left before now) →
+pub out-memory : {all left before now : Option (List ℕ)} {reader : ScriptReader} {run : Run} {buffer : List ℕ} (e : Ending) (later : Option (List ℕ)) (r : Running None all reader run buffer left before now) →
     ((bytes : List ℕ) → HasRead r.items bytes reader buffer left → ReadsAhead r.items bytes later) →
     IfSome all (λ bytes. WritesPart e bytes later before now)
-out-memory e all left later before now reader run buffer r ahead =
+out-memory {all} {before} {now} {run} e later r ahead =
     IfSome_then all r.read (λ bytes h. front-writes bytes later run r.items r.log (ahead bytes h) r.kept h (inl (front-all before now (log_lines r.log) r.written)))
 
 -- of an item that was read, at most a part of its lines was written
-pub out-cut : (e : Ending) (all left later before now new : Option (List ℕ)) (reader next : ScriptReader) (run after : Run) (buffer out : List ℕ) (i : Item) (s : Status) (r : Running None all reader run buffer left before now) →
+pub out-cut : {all left before now : Option (List ℕ)} {reader next : ScriptReader} {run after : Run} {buffer out : List ℕ} (e : Ending) (later new : Option (List ℕ)) (i : Item) (s : Status) (r : Running None all reader run buffer left before now) →
     IsLawful next out →
     ((bytes : List ℕ) → HasRead r.items bytes reader buffer left → ReadsAhead r.items bytes later) →
     ((bytes : List ℕ) → HasRead r.items bytes reader buffer left → HasRead (r.items ++ i ∷ []) bytes next out later) →
     IsPartlyTaken None after (r.items ++ i ∷ []) r.log now new →
     IsCutShort s →
     IfSome all (λ bytes. Outcome e s bytes later before new)
-out-cut e all left later before now new reader next run after buffer out i s r lawful ahead told part short =
+out-cut {all} {left} {before} {now} {reader} {next} {run} {after} {buffer} {out} e later new i s r lawful ahead told part short =
     IfSome_then all r.read (λ bytes h. cut_short bytes s short (of_part bytes h (told bytes h) part)) where
       cut_short : (bytes : List ℕ) (s : Status) → IsCutShort s → WritesPart e bytes later before new → Outcome e s bytes later before new
       cut_short bytes s (inl is) p = subst (λ (t : Status). Outcome e t bytes later before new) (sym is) p
@@ -153,13 +153,13 @@ part-end e bytes left later before now new reader buffer run items log h script 
 part-end e bytes left later before now new reader buffer run items log h script ahead kept written (inr ends) =
     all-writes bytes later run items log ahead kept None script (inr (ends.0, ends.1, front-more before now new (log_lines log) ends.0 written ends.2))
 
-pub out-end : (e : Ending) (all left later before now new : Option (List ℕ)) (reader : ScriptReader) (run : Run) (buffer : List ℕ) (last : Result Unit Failed) (r : Running None all reader run buffer left before now) →
+pub out-end : {all left before now : Option (List ℕ)} {reader : ScriptReader} {run : Run} {buffer : List ℕ} (e : Ending) (later new : Option (List ℕ)) (last : Result Unit Failed) (r : Running None all reader run buffer left before now) →
     ((bytes : List ℕ) → HasRead r.items bytes reader buffer left → IsScriptOf bytes r.items None × (later ≡ Some [])) →
     ((bytes : List ℕ) → HasRead r.items bytes reader buffer left → ReadsAhead r.items bytes later) →
     OnOk last ((log : List Entry) → Stands run.hub log → Ends e (options_of run.hub) log run.links run.storage now new) →
     OnErr last ((log : List Entry) → Stands run.hub log → EndsPart e (options_of run.hub) log run.links run.storage now new) →
     IfSome all (λ bytes. Outcome e (ended_by last status.Done) bytes later before new)
-out-end e all left later before now new reader run buffer last r told ahead wrote front =
+out-end {all} {left} {before} {now} {reader} {run} {buffer} e later new last r told ahead wrote front =
     let stands = stands-anew run r.items r.log r.kept in
     IfSome_then all r.read
     (λ bytes h. ends-so (WritesLog e before new) (WritesLogPart e before new) status.Done last bytes later
@@ -169,28 +169,28 @@ out-end e all left later before now new reader run buffer last r told ahead wrot
     (on_err-then last front (λ front.
     part-end e bytes left later before now new reader buffer run r.items r.log h (told bytes h).0 (ahead bytes h) r.kept r.written (front r.log stands))))
 
-pub out-bad : (e : Ending) (all left later before now new : Option (List ℕ)) (reader : ScriptReader) (run : Run) (buffer : List ℕ) (k : ℕ) (last : Result Unit Failed) (r : Running None all reader run buffer left before now) →
+pub out-bad : {all left before now : Option (List ℕ)} {reader : ScriptReader} {run : Run} {buffer : List ℕ} (e : Ending) (later new : Option (List ℕ)) (k : ℕ) (last : Result Unit Failed) (r : Running None all reader run buffer left before now) →
     ((bytes : List ℕ) → HasRead r.items bytes reader buffer left → IsScriptOf bytes r.items (Some k)) →
     ((bytes : List ℕ) → HasRead r.items bytes reader buffer left → ReadsAhead r.items bytes later) →
     OnOk last (Writes now new (bad_line k)) →
     OnErr last (WritesFront now new (bad_line k)) →
     IfSome all (λ bytes. Outcome e (ended_by last (status.BadLine k)) bytes later before new)
-out-bad e all left later before now new reader run buffer k last r told ahead wrote front =
+out-bad {all} {before} {now} {run} e later new k last r told ahead wrote front =
     IfSome_then all r.read
     (λ bytes h. ends-so (WritesLog e before new) (WritesLogPart e before new) (status.BadLine k) last bytes later
     (on_ok-then last wrote (λ wrote. reads-writes run r.items r.log r.kept (told bytes h, ahead bytes h) (writes-more before now new (log_lines r.log) (bad_line k) r.written wrote)))
     (on_err-then last front (λ front.
     all-writes bytes later run r.items r.log (ahead bytes h) r.kept (Some k) (told bytes h) (inr (bad_line k, refl, front-more before now new (log_lines r.log) (bad_line k) r.written front)))))
 
-pub out-fault : (all left later before now : Option (List ℕ)) (reader : ScriptReader) (run : Run) (buffer : List ℕ) (r : Running None all reader run buffer left before now) →
+pub out-fault : {all left before now : Option (List ℕ)} {reader : ScriptReader} {run : Run} {buffer : List ℕ} (later : Option (List ℕ)) (r : Running None all reader run buffer left before now) →
     ((bytes : List ℕ) → HasRead r.items bytes reader buffer left → StopsBehind r.items bytes later) →
     IfSome all (λ bytes. WritesWhole bytes later before now)
-out-fault all left later before now reader run buffer r told =
+out-fault {all} {run} later r told =
     IfSome_then all r.read (λ bytes h. reads-writes run r.items r.log r.kept (told bytes h) r.written)
 
 -- until an event comes, the storage of a run is the one that its items set up
-pub kept-set_up : (before : Before) (run : Run) (items : List Item) (log : List Entry) (storage : StorageState) → Keeps before run items log → storage ≡ run.storage → IsSetUp storage items
-kept-set_up before run items log storage kept same = λ no_event. same ∙ kept-storage before run items log kept no_event
+pub kept-set_up : {before : Before} {run : Run} {items : List Item} {log : List Entry} {storage : StorageState} → Keeps before run items log → storage ≡ run.storage → IsSetUp storage items
+kept-set_up {before} {run} {items} {log} kept same = λ no_event. same ∙ kept-storage before run items log kept no_event
 
 -- ---- what a status says
 

@@ -185,16 +185,16 @@ goes-on-more x before (j ∷ items) i all may =
     (all.0, goes-on-more x (before ++ j ∷ []) items i all.1 (subst (λ (front : List Item). may_go_on x front i ≡ true) (sym (append_assoc before (j ∷ []) items)) may))
 
 -- an item that goes on may come
-pub comes : (o : Options) (x : HubState) (run : Run) (items : List Item) (log : List Entry) (i : Item) → Keeps (Some (o, x)) run items log → may_stand items i ≡ true → may_go_on x items i ≡ true → MayCome (Some (o, x)) run items i
-comes o x run items log item.Skip kept stands may = record { stands = stands; goes_on = tt }
-comes o x run items log (item.Options mode lo hi host active idle lockout restart) kept stands may = absurd cc
-comes o x run items log (item.Storage max fails) kept stands may = record { stands = stands; goes_on = tt }
-comes o x run items log (item.Dir path) kept stands may = record { stands = stands; goes_on = tt }
-comes o x run items log (item.File bytes path) kept stands may = record { stands = stands; goes_on = tt }
-comes o x run items log (item.Quota default) kept stands may = record { stands = stands; goes_on = tt }
-comes o x run items log (item.Budget bytes user) kept stands may = record { stands = stands; goes_on = tt }
-comes o x run items log (item.Link n chunk fails bytes) kept stands may = record { stands = stands; goes_on = tt }
-comes o x run items log (item.Event e) kept stands may = record {
+pub comes : {o : Options} {x : HubState} {run : Run} {items : List Item} {log : List Entry} (i : Item) → Keeps (Some (o, x)) run items log → may_stand items i ≡ true → may_go_on x items i ≡ true → MayCome (Some (o, x)) run items i
+comes item.Skip kept stands may = record { stands = stands; goes_on = tt }
+comes (item.Options mode lo hi host active idle lockout restart) kept stands may = absurd cc
+comes (item.Storage max fails) kept stands may = record { stands = stands; goes_on = tt }
+comes (item.Dir path) kept stands may = record { stands = stands; goes_on = tt }
+comes (item.File bytes path) kept stands may = record { stands = stands; goes_on = tt }
+comes (item.Quota default) kept stands may = record { stands = stands; goes_on = tt }
+comes (item.Budget bytes user) kept stands may = record { stands = stands; goes_on = tt }
+comes (item.Link n chunk fails bytes) kept stands may = record { stands = stands; goes_on = tt }
+comes {o} {x} {run} {items} (item.Event e) kept stands may = record {
   stands = stands;
   goes_on = λ front has. state-linked o front x run.links has.state
       (all-more (λ n. has_link n items) (is_linked run.links) (links_named x) kept.links

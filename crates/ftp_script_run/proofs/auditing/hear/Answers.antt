@@ -1,12 +1,8 @@
-use Rattle.std.proofs.Common.{◌≡◌, ◌∙◌, Option, Some, None, ap, refl, subst, sym}
-use Rattle.std.specs.Prelude.{Result, Ok, Err, IfOk, IfSome}
+use Rattle.std.proofs.Common.{◌≡◌, ◌∙◌, Some, None, ap, refl, sym}
+use Rattle.std.specs.Prelude.{Ok, Err}
 use Rattle.std.proofs.lemmas.Option.{IfSome_then}
 use Rattle.ftp_base.specs.Outside.{HasRisen}
-use Rattle.ftp_text.specs.declared.setup.Item.{Item}
-use Rattle.ftp_text.specs.Setup.{IsItem}
-use Rattle.ftp_script_run.specs.declared.text_script.ScriptError.{ScriptError}
 use Rattle.ftp_script_run.specs.declared.text_script.ScriptError.TheVariants as error
-use Rattle.ftp_script_run.specs.ScriptReader.{Answers, IsLetIn}
 use Rattle.ftp_script_run.specs.declared.status.Status.TheVariants as status
 use Rattle.ftp_script_run.specs.Audited.{WritesReport, WritesReportPart}
 use Rattle.ftp_script_run.specs.Statuses.{ended_by}
@@ -15,26 +11,20 @@ use Rattle.ftp_script_run.proofs.OutcomeLemmas.{kept-set_up, outcome-of}
 use Rattle.ftp_script_run.proofs.AuditLemmas.{hearing-more, heard-memory, heard-end, heard-bad, heard-fault}
 use Rattle.ftp_script_run.proofs.auditing.hear.Goals as goal
 
-abbrev Found : Type 0
-Found = Result (Option Item) ScriptError
-
 pub noted-requires : goal.noted-requires
 noted-requires g c =
     let found : c.next_item.result ≡ Ok (Some c.in-Ok-Some.item) = c.in-Ok-Some.is ∙ ap Ok c.in-Ok-Some.field-0-is in
     let r = c.requires.hearing.1 in
-    let placed = subst (λ (f : Found). IfOk f (λ o. IfSome o (λ i. IsLetIn r.items i c.next_item.new.self))) found (c.next_item.ensures.let_in r.items r.known (kept-set_up None c.args.run.now r.items r.log c.storage.result.now r.kept c.storage.ensures)) in
-    (subst (λ (f : Found). IfOk f (λ o. IfSome o IsItem)) found c.next_item.ensures.item, (None, r.items, r.log, r.kept, record { stands = placed.0; goes_on = tt }))
+    let placed = rw found at (c.next_item.ensures.let_in r.items r.known (kept-set_up r.kept c.storage.ensures)) in
+    (rw found at c.next_item.ensures.item, (None, r.items, r.log, r.kept, record { stands = placed.0; goes_on = tt }))
 
 pub returns-in-Ok-Some-clause-goes_on : goal.returns-in-Ok-Some-clause-goes_on
 returns-in-Ok-Some-clause-goes_on g c =
     let found : c.next_item.result ≡ Ok (Some c.in-Ok-Some.item) = c.in-Ok-Some.is ∙ ap Ok c.in-Ok-Some.field-0-is in
-    let left = g.S.Source.left c.args.source.now in
-    let later = g.S.Source.left c.next_item.new.source in
     if_none-then c.noted.result c.noted.ensures.noted (λ noted all r.
-    let placed = subst (λ (f : Found). IfOk f (λ o. IfSome o (λ i. IsLetIn r.items i c.next_item.new.self))) found (c.next_item.ensures.let_in r.items r.known (kept-set_up None c.args.run.now r.items r.log c.storage.result.now r.kept c.storage.ensures)) in
-    hearing-more all left later c.args.reader.now c.next_item.new.self c.args.run.now c.noted.new.run c.args.audit.now c.noted.new.audit c.args.buffer.now c.next_item.new.buffer c.in-Ok-Some.item r
-    placed
-    (λ bytes h. subst (λ (f : Found). Answers r.items bytes f c.next_item.new.self c.next_item.new.buffer later) found (c.next_item.ensures.told r.items bytes h (kept-set_up None c.args.run.now r.items r.log c.storage.result.now r.kept c.storage.ensures)))
+    let placed = rw found at (c.next_item.ensures.let_in r.items r.known (kept-set_up r.kept c.storage.ensures)) in
+    hearing-more c.in-Ok-Some.item r placed
+    (λ bytes h. rw found at (c.next_item.ensures.told r.items bytes h (kept-set_up r.kept c.storage.ensures)))
     (noted r.items r.log r.kept placed.0 r.heard))
 
 pub returns-in-Ok-Some-clause-ended : goal.returns-in-Ok-Some-clause-ended
@@ -44,8 +34,8 @@ returns-in-Ok-Some-clause-ended g c =
     let written = g.K.Sink.written c.args.sink.now in
     IfSome_then c.noted.result c.noted.ensures.only_memory (λ s e all r.
     outcome-of (WritesReport written written) (WritesReportPart risen written written) all later status.OutOfMemory s (sym e)
-    (heard-memory risen all (g.S.Source.left c.args.source.now) later written written c.args.reader.now c.args.run.now c.args.audit.now c.args.buffer.now r
-    (λ bytes h. c.next_item.ensures.ahead r.items bytes h)
+    (heard-memory risen later written written r
+    (c.next_item.ensures.ahead r.items)
     refl))
 
 pub returns-in-Ok-None-clause-ended : goal.returns-in-Ok-None-clause-ended
@@ -57,9 +47,9 @@ returns-in-Ok-None-clause-ended g c =
     let new = g.K.Sink.written c.write_report.new.sink in
     λ all r.
     outcome-of (WritesReport old new) (WritesReportPart risen old new) all later (ended_by c.write_report.result status.Done) c.after.result (sym c.after.ensures)
-    (heard-end risen all (g.S.Source.left c.args.source.now) later old new c.args.reader.now c.args.run.now c.args.audit.now c.args.buffer.now c.write_report.result r
-    (λ bytes h. subst (λ (f : Found). Answers r.items bytes f c.next_item.new.self c.next_item.new.buffer later) found (c.next_item.ensures.told r.items bytes h (kept-set_up None c.args.run.now r.items r.log c.storage.result.now r.kept c.storage.ensures)))
-    (λ bytes h. c.next_item.ensures.ahead r.items bytes h)
+    (heard-end risen later old new c.write_report.result r
+    (λ bytes h. rw found at (c.next_item.ensures.told r.items bytes h (kept-set_up r.kept c.storage.ensures)))
+    (c.next_item.ensures.ahead r.items)
     c.write_report.ensures.wrote c.write_report.ensures.front)
 
 pub returns-in-Err-BadLine-clause-ended : goal.returns-in-Err-BadLine-clause-ended
@@ -71,9 +61,9 @@ returns-in-Err-BadLine-clause-ended g c =
     let new = g.K.Sink.written c.write_to.new.sink in
     λ all r.
     outcome-of (WritesReport old new) (WritesReportPart risen old new) all later (ended_by c.write_to.result (status.BadLine c.in-Err-BadLine.k)) c.after-in-Err-BadLine.result (sym c.after-in-Err-BadLine.ensures)
-    (heard-bad risen all (g.S.Source.left c.args.source.now) later old new c.args.reader.now c.args.run.now c.args.audit.now c.args.buffer.now c.in-Err-BadLine.k c.write_to.result r
-    (λ bytes h. subst (λ (f : Found). Answers r.items bytes f c.next_item.new.self c.next_item.new.buffer later) found (c.next_item.ensures.told r.items bytes h (kept-set_up None c.args.run.now r.items r.log c.storage.result.now r.kept c.storage.ensures)))
-    (λ bytes h. c.next_item.ensures.ahead r.items bytes h)
+    (heard-bad risen later old new c.in-Err-BadLine.k c.write_to.result r
+    (λ bytes h. rw found at (c.next_item.ensures.told r.items bytes h (kept-set_up r.kept c.storage.ensures)))
+    (c.next_item.ensures.ahead r.items)
     c.write_to.ensures.wrote c.write_to.ensures.front)
 
 pub returns-in-Err-Fault-clause-ended : goal.returns-in-Err-Fault-clause-ended
@@ -85,14 +75,14 @@ returns-in-Err-Fault-clause-ended g c =
     let new = g.K.Sink.written c.write_report-in-Err-Fault.new.sink in
     λ all r.
     outcome-of (WritesReport old new) (WritesReportPart risen old new) all later (ended_by c.write_report-in-Err-Fault.result status.ReadFault) c.after-in-Err-Fault.result (sym c.after-in-Err-Fault.ensures)
-    (heard-fault risen all (g.S.Source.left c.args.source.now) later old new c.args.reader.now c.args.run.now c.args.audit.now c.args.buffer.now c.write_report-in-Err-Fault.result r
+    (heard-fault risen later old new c.write_report-in-Err-Fault.result r
     (c.next_item.ensures.fault_rose found)
-    (λ bytes h. subst (λ (f : Found). Answers r.items bytes f c.next_item.new.self c.next_item.new.buffer later) found (c.next_item.ensures.told r.items bytes h (kept-set_up None c.args.run.now r.items r.log c.storage.result.now r.kept c.storage.ensures)))
-    (λ bytes h. c.next_item.ensures.ahead r.items bytes h)
+    (λ bytes h. rw found at (c.next_item.ensures.told r.items bytes h (kept-set_up r.kept c.storage.ensures)))
+    (c.next_item.ensures.ahead r.items)
     c.write_report-in-Err-Fault.ensures.wrote c.write_report-in-Err-Fault.ensures.front)
 
 pub returns-in-Err-Memory-clause-ended : goal.returns-in-Err-Memory-clause-ended
 returns-in-Err-Memory-clause-ended g c = λ all r.
-    heard-memory _ all (g.S.Source.left c.args.source.now) (g.S.Source.left c.next_item.new.source) (g.K.Sink.written c.args.sink.now) (g.K.Sink.written c.args.sink.now) c.args.reader.now c.args.run.now c.args.audit.now c.args.buffer.now r
-    (λ bytes h. c.next_item.ensures.ahead r.items bytes h)
+    heard-memory _ (g.S.Source.left c.next_item.new.source) (g.K.Sink.written c.args.sink.now) (g.K.Sink.written c.args.sink.now) r
+    (c.next_item.ensures.ahead r.items)
     refl

@@ -1,10 +1,6 @@
-use Rattle.std.proofs.Common.{◌≡◌, ◌∙◌, Option, Some, None, ap, subst, sym}
-use Rattle.std.specs.Prelude.{Result, Ok, Err, IfOk, OnOk, IfSome}
-use Rattle.ftp_text.specs.declared.setup.Item.{Item}
-use Rattle.ftp_text.specs.Setup.{IsItem}
-use Rattle.ftp_script_run.specs.declared.text_script.ScriptError.{ScriptError}
+use Rattle.std.proofs.Common.{◌≡◌, ◌∙◌, Some, None, ap, sym}
+use Rattle.std.specs.Prelude.{Ok, Err}
 use Rattle.ftp_script_run.specs.declared.text_script.ScriptError.TheVariants as error
-use Rattle.ftp_script_run.specs.ScriptReader.{IsLawful, Answers, IsLetIn}
 use Rattle.ftp_script_run.specs.declared.status.Status.TheVariants as status
 use Rattle.ftp_script_run.specs.Outcome.{WritesLog, WritesLogPart}
 use Rattle.ftp_script_run.specs.Statuses.{ended_by}
@@ -12,84 +8,69 @@ use Rattle.ftp_script_run.proofs.Written.{if_none-then, if_some-both}
 use Rattle.ftp_script_run.proofs.OutcomeLemmas.{kept-set_up, running-more, out-cut, out-end, out-bad, out-fault, out-memory, outcome-of}
 use Rattle.ftp_script_run.proofs.script.advance.Goals as goal
 
-abbrev Found : Type 0
-Found = Result (Option Item) ScriptError
-
 pub taken-requires : goal.taken-requires
 taken-requires g c =
     let found : c.next_item.result ≡ Ok (Some c.in-Ok-Some.item) = c.in-Ok-Some.is ∙ ap Ok c.in-Ok-Some.field-0-is in
     let r = c.requires.running.2 in
-    let placed = subst (λ (f : Found). IfOk f (λ o. IfSome o (λ i. IsLetIn r.items i c.next_item.new.self))) found (c.next_item.ensures.let_in r.items r.known (kept-set_up None c.args.run.now r.items r.log c.storage.result.now r.kept c.storage.ensures)) in
-    (subst (λ (f : Found). IfOk f (λ o. IfSome o IsItem)) found c.next_item.ensures.item, (None, r.items, r.log, r.kept, record { stands = placed.0; goes_on = tt }))
+    let placed = rw found at (c.next_item.ensures.let_in r.items r.known (kept-set_up r.kept c.storage.ensures)) in
+    (rw found at c.next_item.ensures.item, (None, r.items, r.log, r.kept, record { stands = placed.0; goes_on = tt }))
 
 pub returns-in-Ok-Some-clause-goes_on : goal.returns-in-Ok-Some-clause-goes_on
 returns-in-Ok-Some-clause-goes_on g c =
     let found : c.next_item.result ≡ Ok (Some c.in-Ok-Some.item) = c.in-Ok-Some.is ∙ ap Ok c.in-Ok-Some.field-0-is in
-    let left = g.S.Source.left c.args.source.now in
-    let later = g.S.Source.left c.next_item.new.source in
-    let now = g.K.Sink.written c.args.sink.now in
-    let new = g.K.Sink.written c.taken.new.sink in
     if_none-then c.taken.result c.taken.ensures.took (λ took all before r.
-    let placed = subst (λ (f : Found). IfOk f (λ o. IfSome o (λ i. IsLetIn r.items i c.next_item.new.self))) found (c.next_item.ensures.let_in r.items r.known (kept-set_up None c.args.run.now r.items r.log c.storage.result.now r.kept c.storage.ensures)) in
-    running-more None all left later before now new c.args.reader.now c.next_item.new.self c.args.run.now c.taken.new.run c.args.buffer.now c.next_item.new.buffer c.in-Ok-Some.item r
-    placed
-    (λ bytes h. subst (λ (f : Found). Answers r.items bytes f c.next_item.new.self c.next_item.new.buffer later) found (c.next_item.ensures.told r.items bytes h (kept-set_up None c.args.run.now r.items r.log c.storage.result.now r.kept c.storage.ensures)))
+    let placed = rw found at (c.next_item.ensures.let_in r.items r.known (kept-set_up r.kept c.storage.ensures)) in
+    running-more c.in-Ok-Some.item r placed
+    (λ bytes h. rw found at (c.next_item.ensures.told r.items bytes h (kept-set_up r.kept c.storage.ensures)))
     (took None r.items r.log r.kept (record { stands = placed.0; goes_on = tt })))
 
 pub returns-in-Ok-Some-clause-ended : goal.returns-in-Ok-Some-clause-ended
 returns-in-Ok-Some-clause-ended g c =
     let found : c.next_item.result ≡ Ok (Some c.in-Ok-Some.item) = c.in-Ok-Some.is ∙ ap Ok c.in-Ok-Some.field-0-is in
-    let left = g.S.Source.left c.args.source.now in
     let later = g.S.Source.left c.next_item.new.source in
-    let now = g.K.Sink.written c.args.sink.now in
     let new = g.K.Sink.written c.taken.new.sink in
     if_some-both c.taken.result c.taken.ensures.front c.taken.ensures.cut_short (λ s front short all before r.
-    let placed = subst (λ (f : Found). IfOk f (λ o. IfSome o (λ i. IsLetIn r.items i c.next_item.new.self))) found (c.next_item.ensures.let_in r.items r.known (kept-set_up None c.args.run.now r.items r.log c.storage.result.now r.kept c.storage.ensures)) in
-    out-cut c.args.ending all left later before now new c.args.reader.now c.next_item.new.self c.args.run.now c.taken.new.run c.args.buffer.now c.next_item.new.buffer c.in-Ok-Some.item s r
-    (subst (λ (f : Found). OnOk f (IsLawful c.next_item.new.self c.next_item.new.buffer)) found c.next_item.ensures.lawful)
-    (λ bytes h. c.next_item.ensures.ahead r.items bytes h)
-    (λ bytes h. subst (λ (f : Found). Answers r.items bytes f c.next_item.new.self c.next_item.new.buffer later) found (c.next_item.ensures.told r.items bytes h (kept-set_up None c.args.run.now r.items r.log c.storage.result.now r.kept c.storage.ensures)))
+    let placed = rw found at (c.next_item.ensures.let_in r.items r.known (kept-set_up r.kept c.storage.ensures)) in
+    out-cut c.args.ending later new c.in-Ok-Some.item s r
+    (rw found at c.next_item.ensures.lawful)
+    (c.next_item.ensures.ahead r.items)
+    (λ bytes h. rw found at (c.next_item.ensures.told r.items bytes h (kept-set_up r.kept c.storage.ensures)))
     (front None r.items r.log r.kept (record { stands = placed.0; goes_on = tt }))
     short)
 
 pub returns-in-Ok-None-clause-ended : goal.returns-in-Ok-None-clause-ended
 returns-in-Ok-None-clause-ended g c =
     let found : c.next_item.result ≡ Ok None = c.in-Ok-None.is ∙ ap Ok c.in-Ok-None.field-0-is in
-    let left = g.S.Source.left c.args.source.now in
     let later = g.S.Source.left c.next_item.new.source in
-    let now = g.K.Sink.written c.args.sink.now in
     let new = g.K.Sink.written c.close.new.sink in
     λ all before r.
     outcome-of (WritesLog c.args.ending before new) (WritesLogPart c.args.ending before new) all later (ended_by c.close.result status.Done) c.after.result (sym c.after.ensures)
-    (out-end c.args.ending all left later before now new c.args.reader.now c.args.run.now c.args.buffer.now c.close.result r
-    (λ bytes h. subst (λ (f : Found). Answers r.items bytes f c.next_item.new.self c.next_item.new.buffer later) found (c.next_item.ensures.told r.items bytes h (kept-set_up None c.args.run.now r.items r.log c.storage.result.now r.kept c.storage.ensures)))
-    (λ bytes h. c.next_item.ensures.ahead r.items bytes h)
+    (out-end c.args.ending later new c.close.result r
+    (λ bytes h. rw found at (c.next_item.ensures.told r.items bytes h (kept-set_up r.kept c.storage.ensures)))
+    (c.next_item.ensures.ahead r.items)
     c.close.ensures.wrote c.close.ensures.front)
 
 pub returns-in-Err-BadLine-clause-ended : goal.returns-in-Err-BadLine-clause-ended
 returns-in-Err-BadLine-clause-ended g c =
     let found : c.next_item.result ≡ Err (error.BadLine c.in-Err-BadLine.k) = c.in-Err-BadLine.is ∙ ap Err c.in-Err-BadLine.field-0-is in
-    let left = g.S.Source.left c.args.source.now in
     let later = g.S.Source.left c.next_item.new.source in
-    let now = g.K.Sink.written c.args.sink.now in
     let new = g.K.Sink.written c.bad_line.new.sink in
     λ all before r.
     outcome-of (WritesLog c.args.ending before new) (WritesLogPart c.args.ending before new) all later (ended_by c.bad_line.result (status.BadLine c.in-Err-BadLine.k)) c.after-in-Err-BadLine.result (sym (rw c.in-Err-BadLine.field-0-is at c.after-in-Err-BadLine.ensures))
-    (out-bad c.args.ending all left later before now new c.args.reader.now c.args.run.now c.args.buffer.now c.in-Err-BadLine.k c.bad_line.result r
-    (λ bytes h. subst (λ (f : Found). Answers r.items bytes f c.next_item.new.self c.next_item.new.buffer later) found (c.next_item.ensures.told r.items bytes h (kept-set_up None c.args.run.now r.items r.log c.storage.result.now r.kept c.storage.ensures)))
-    (λ bytes h. c.next_item.ensures.ahead r.items bytes h)
+    (out-bad c.args.ending later new c.in-Err-BadLine.k c.bad_line.result r
+    (λ bytes h. rw found at (c.next_item.ensures.told r.items bytes h (kept-set_up r.kept c.storage.ensures)))
+    (c.next_item.ensures.ahead r.items)
     (rw c.in-Err-BadLine.field-0-is at c.bad_line.ensures.wrote) (rw c.in-Err-BadLine.field-0-is at c.bad_line.ensures.front))
 
 pub returns-in-Err-Fault-clause-ended : goal.returns-in-Err-Fault-clause-ended
 returns-in-Err-Fault-clause-ended g c =
     let found : c.next_item.result ≡ Err error.Fault = c.in-Err-Fault.is ∙ ap Err c.in-Err-Fault.field-0-is in
-    let left = g.S.Source.left c.args.source.now in
     let later = g.S.Source.left c.next_item.new.source in
     λ all before r.
-    out-fault all left later before (g.K.Sink.written c.args.sink.now) c.args.reader.now c.args.run.now c.args.buffer.now r
-    (λ bytes h. subst (λ (f : Found). Answers r.items bytes f c.next_item.new.self c.next_item.new.buffer later) found (c.next_item.ensures.told r.items bytes h (kept-set_up None c.args.run.now r.items r.log c.storage.result.now r.kept c.storage.ensures)))
+    out-fault later r
+    (λ bytes h. rw found at (c.next_item.ensures.told r.items bytes h (kept-set_up r.kept c.storage.ensures)))
 
 pub returns-in-Err-Memory-clause-ended : goal.returns-in-Err-Memory-clause-ended
 returns-in-Err-Memory-clause-ended g c = λ all before r.
-    out-memory c.args.ending all (g.S.Source.left c.args.source.now) (g.S.Source.left c.next_item.new.source) before (g.K.Sink.written c.args.sink.now) c.args.reader.now c.args.run.now c.args.buffer.now r
-    (λ bytes h. c.next_item.ensures.ahead r.items bytes h)
+    out-memory c.args.ending (g.S.Source.left c.next_item.new.source) r
+    (c.next_item.ensures.ahead r.items)
