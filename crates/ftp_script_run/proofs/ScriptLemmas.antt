@@ -142,11 +142,11 @@ end_told before all reader buffer held left later h told =
     )
 
 -- whatever is answered, no more than a buffer is taken behind the lines
-pub ahead_told : (before : List Item) (all : List ℕ) (reader : ScriptReader) (buffer : List ℕ) (left later : Option (List ℕ)) →
+pub ahead_told : {before : List Item} {all : List ℕ} {reader : ScriptReader} {buffer : List ℕ} {left later : Option (List ℕ)} →
     HasRead before all reader buffer left →
     IfSome left (λ l. TakesAtMost 65537 (bytes_in buffer reader.held ++ l) later) →
     ReadsAhead before all later
-ahead_told before all reader buffer left later h told =
+ahead_told {reader} {buffer} {left} {later} h told =
     let gone : TakesAtMost 65537 h.bytes later = with_rest (bytes_in buffer reader.held) left h.bytes (λ b. TakesAtMost 65537 b later) h.rest told in
     record {
       read = h.read;

@@ -52,25 +52,19 @@ returns-in-Err-Bad-clause-told g c =
     (c.args.self.now.taken + (c.advance.new.held.start - c.in-Line.line.start)) (c.args.self.now.number + 1) h c.in-Line.ensures.told c.in-Line.ensures.taken refl bad.0 refl
 
 pub returns-in-End-clause-ahead : goal.returns-in-End-clause-ahead
-returns-in-End-clause-ahead g c =
-    λ before all h. ahead_told before all c.args.self.now c.args.buffer.now (g.S.Source.left c.args.source.now) (g.S.Source.left c.advance.new.source) h c.in-End.ensures.ahead
+returns-in-End-clause-ahead g c = λ before all h. ahead_told h c.in-End.ensures.ahead
 
 pub returns-in-Fault-clause-ahead : goal.returns-in-Fault-clause-ahead
-returns-in-Fault-clause-ahead g c =
-    λ before all h. ahead_told before all c.args.self.now c.args.buffer.now (g.S.Source.left c.args.source.now) (g.S.Source.left c.advance.new.source) h c.in-Fault.ensures.ahead
+returns-in-Fault-clause-ahead g c = λ before all h. ahead_told h c.in-Fault.ensures.ahead
 
 pub returns-in-Long-clause-ahead : goal.returns-in-Long-clause-ahead
-returns-in-Long-clause-ahead g c =
-    λ before all h. ahead_told before all c.args.self.now c.args.buffer.now (g.S.Source.left c.args.source.now) (g.S.Source.left c.advance.new.source) h c.in-Long.ensures.ahead
+returns-in-Long-clause-ahead g c = λ before all h. ahead_told h c.in-Long.ensures.ahead
 
 pub returns-in-Ok-clause-ahead : goal.returns-in-Ok-clause-ahead
-returns-in-Ok-clause-ahead g c =
-    λ before all h. ahead_told before all c.args.self.now c.args.buffer.now (g.S.Source.left c.args.source.now) (g.S.Source.left c.advance.new.source) h c.in-Line.ensures.ahead
+returns-in-Ok-clause-ahead g c = λ before all h. ahead_told h c.in-Line.ensures.ahead
 
 pub returns-in-Err-Bad-clause-ahead : goal.returns-in-Err-Bad-clause-ahead
-returns-in-Err-Bad-clause-ahead g c =
-    λ before all h. ahead_told before all c.args.self.now c.args.buffer.now (g.S.Source.left c.args.source.now) (g.S.Source.left c.advance.new.source) h c.in-Line.ensures.ahead
+returns-in-Err-Bad-clause-ahead g c = λ before all h. ahead_told h c.in-Line.ensures.ahead
 
 pub returns-in-Err-Memory-clause-ahead : goal.returns-in-Err-Memory-clause-ahead
-returns-in-Err-Memory-clause-ahead g c =
-    λ before all h. ahead_told before all c.args.self.now c.args.buffer.now (g.S.Source.left c.args.source.now) (g.S.Source.left c.advance.new.source) h c.in-Line.ensures.ahead
+returns-in-Err-Memory-clause-ahead g c = λ before all h. ahead_told h c.in-Line.ensures.ahead
