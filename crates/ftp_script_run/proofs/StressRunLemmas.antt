@@ -1,6 +1,6 @@
 -- A run, and more events.
 use Rattle.std.specs.Coded.{le_prop}
-use Rattle.std.specs.Prelude.{Result, Ok, Err, OnOk, IfOk, codes}
+use Rattle.std.specs.Prelude.{Result, Ok, Err, IfOk, codes}
 use Rattle.std.specs.List.{flat_map, range_with_len}
 use Rattle.std.proofs.Common.{◌≡◌, ℕ, zero, suc, ◌+◌, ◌-◌, ◌*◌, ◌≤◌, false, List, [], ◌∷◌, ◌++◌, length, map, reverse, refl, sym, ap, subst, ◌∙◌, append_assoc, length-append, arith}
 use Rattle.std.proofs.lemmas.List.{append-nil, map-append, reverse-append}
@@ -109,10 +109,6 @@ length-logins a zero = refl
 length-logins a (suc n) = omega (arith, length-logins (a + 1) n)
 
 -- ---- what follows from what is said of a result
-
-pub on_ok-then : {T E P Q : Type 0} (r : Result T E) → OnOk r P → (P → Q) → OnOk r Q
-on_ok-then (Ok x) p f = f p
-on_ok-then (Err e) p f = tt
 
 pub if_ok-then : {T E : Type 0} {P Q : T → Type 0} (r : Result T E) → IfOk r P → ((x : T) → P x → Q x) → IfOk r Q
 if_ok-then (Ok x) p f = f x p

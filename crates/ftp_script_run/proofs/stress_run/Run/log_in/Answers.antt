@@ -1,6 +1,7 @@
 use Rattle.std.proofs.Common.{[], ◌∷◌, arith}
 use Rattle.ftp_events.specs.declared.event.EventKind.TheVariants.{User, Pass}
-use Rattle.ftp_script_run.proofs.StressRunLemmas.{on_ok-then, place-after, logged-in}
+use Rattle.ftp_control.proofs.WritingLemmas.{on_ok-then}
+use Rattle.ftp_script_run.proofs.StressRunLemmas.{place-after, logged-in}
 use Rattle.ftp_script_run.proofs.stress_run.Run.log_in.Goals as goal
 
 pub take-requires : goal.take-requires
