@@ -109,11 +109,13 @@ taken-done o items older newer e end none led =
       x.1,
       x.2,
       one,
-      λ job link outcome runs there takes is below.
-          (let run : RunsJob memory_views job e.answer x.0 x.1 = job-ran memory_views o (past_of older) e x.0 x.1 job outcome runs is one in
-          let was = x.3.links job.number link there in
-          let storage : fault_limit x.0.storage.inner.calls ≡ 0 = omega (arith, x.3.storage, none.storage) in
-          let links : link_fault_limit link.calls ≡ 0 = omega (arith, was.2.limit, none.links job.number was.0 was.1) in
-          runs-done job e.answer x.0 x.1 link outcome run there storage links takes is below),
-      rule,
+      (
+        λ job link outcome runs there takes is below.
+            (let run : RunsJob memory_views job e.answer x.0 x.1 = job-ran memory_views o (past_of older) e x.0 x.1 job outcome runs is one in
+            let was = x.3.links job.number link there in
+            let storage : fault_limit x.0.storage.inner.calls ≡ 0 = omega (arith, x.3.storage, none.storage) in
+            let links : link_fault_limit link.calls ≡ 0 = omega (arith, was.2.limit, none.links job.number was.0 was.1) in
+            runs-done job e.answer x.0 x.1 link outcome run there storage links takes is below),
+        rule,
+      ),
     )

@@ -37,18 +37,25 @@ IsDoneWhereTaken o past e old =
     outcome.bytes < 2 ^ 64 - 1 →
     IsDone outcome.result ⊎ (outcome.result ≡ result.OutOfMemory)
 
--- so does each entry of a legal log of a script that lists no call that fails; the rule is the one that the script sets up,
--- once the files were begun that were begun before
-abbrev pub TakenTransfersAreDone : Type 0
-TakenTransfersAreDone =
+-- each entry of a legal log of a script that lists no call that fails does so, from what the entries before it have left on
+abbrev pub EachDoes : (Options → List Item → List Entry → Entry → Outside StorageState LinkState → Type 0) → Type 0
+EachDoes Does =
     (o : Options) (items : List Item) (older newer : List Entry) (e : Entry) (end : Outside StorageState LinkState) →
     ListsNoFault items →
     Leads memory_views o [] (newer ++ e ∷ older) (start_of items) end →
     (old new : Outside StorageState LinkState)
     × Leads memory_views o [] older (start_of items) old
     × LeadsOne memory_views o (past_of older) e old new
-    × IsDoneWhereTaken o (past_of older) e old
-    × ((begun : List BegunFile) × (memory_views.rule old.storage ≡ once_all begun (memory_views.rule (storage_in items))))
+    × Does o items older e old
+
+-- the transfer that an entry runs is done where it is taken; the rule is the one that the script sets up, once the files were
+-- begun that were begun before
+abbrev pub TakenTransfersAreDone : Type 0
+TakenTransfersAreDone =
+    EachDoes
+    (λ o items older e old.
+    IsDoneWhereTaken o (past_of older) e old
+    × ((begun : List BegunFile) × (memory_views.rule old.storage ≡ once_all begun (memory_views.rule (storage_in items)))))
 
 -- an entry that read a header from old on tells the line at the front of what its connection had left
 abbrev pub IsLineWhereRead : Options → List Entry → Entry → Outside StorageState LinkState → Type 0
@@ -58,13 +65,6 @@ IsLineWhereRead o past e old =
     map.get old.links number ≡ Some link →
     e.answer ≡ answer.Header (line link.left)
 
--- so does each entry of a legal log of a script that lists no call that fails
+-- so does each entry
 abbrev pub HeadersAreRead : Type 0
-HeadersAreRead =
-    (o : Options) (items : List Item) (older newer : List Entry) (e : Entry) (end : Outside StorageState LinkState) →
-    ListsNoFault items →
-    Leads memory_views o [] (newer ++ e ∷ older) (start_of items) end →
-    (old new : Outside StorageState LinkState)
-    × Leads memory_views o [] older (start_of items) old
-    × LeadsOne memory_views o (past_of older) e old new
-    × IsLineWhereRead o (past_of older) e old
+HeadersAreRead = EachDoes (λ o items older e old. IsLineWhereRead o (past_of older) e old)
