@@ -68,43 +68,46 @@ pub heard-memory : {all left : Option (List ℕ)} {reader : ScriptReader} {run :
 heard-memory {all} {run} failed later old new r ahead same =
     IfSome_then all r.read (λ bytes h. front-writes bytes later run r.items r.log (ahead bytes h) r.kept h (inl same, inl same))
 
-pub heard-end : {all left : Option (List ℕ)} {reader : ScriptReader} {run : Run} {audit : AuditState} {buffer : List ℕ} (failed : Type 0) (later old new : Option (List ℕ)) (last : Result Unit Failed) (r : Hearing all reader run audit buffer left) →
+pub heard-end : {all left : Option (List ℕ)} {reader : ScriptReader} {run : Run} {audit : AuditState} {buffer : List ℕ} (failed : Type 0) (later old new : Option (List ℕ)) (last : Result Unit Failed) (s : Status) (r : Hearing all reader run audit buffer left) →
+    s ≡ ended_by last status.Done →
     ((bytes : List ℕ) → HasRead r.items bytes reader buffer left → IsScriptOf bytes r.items None × (later ≡ Some [])) →
     ((bytes : List ℕ) → HasRead r.items bytes reader buffer left → ReadsAhead r.items bytes later) →
     OnOk last ((o : Options) (log : List Entry) → Stands o audit log → Reports o log [] old new) →
     OnErr last ((o : Options) (log : List Entry) → Stands o audit log → ReportsPart o log [] old new) →
-    IfSome all (λ bytes. AuditOutcome (ended_by last status.Done) failed bytes later old new)
-heard-end {all} {run} {audit} failed later old new last r told ahead wrote front =
+    IfSome all (λ bytes. AuditOutcome s failed bytes later old new)
+heard-end {all} {run} {audit} failed later old new last s r is told ahead wrote front =
     let stands = heard-stands run r.items r.log audit r.kept r.heard in
     IfSome_then all r.read
-    (λ bytes h. ends-so (WritesReport old new) (WritesReportPart failed old new) status.Done last bytes later
+    (λ bytes h. ends-so (WritesReport old new) (WritesReportPart failed old new) status.Done s last bytes later is
     (on_ok-then last wrote (λ wrote. reads-writes run r.items r.log r.kept (told bytes h) (wrote (options_of run.hub) r.log stands)))
     (on_err-then last front (λ front. all-writes bytes later run r.items r.log (ahead bytes h) r.kept None (told bytes h).0 (inr (inl refl), front (options_of run.hub) r.log stands))))
 
-pub heard-bad : {all left : Option (List ℕ)} {reader : ScriptReader} {run : Run} {audit : AuditState} {buffer : List ℕ} (failed : Type 0) (later old new : Option (List ℕ)) (k : ℕ) (last : Result Unit Failed) (r : Hearing all reader run audit buffer left) →
+pub heard-bad : {all left : Option (List ℕ)} {reader : ScriptReader} {run : Run} {audit : AuditState} {buffer : List ℕ} (failed : Type 0) (later old new : Option (List ℕ)) (k : ℕ) (last : Result Unit Failed) (s : Status) (r : Hearing all reader run audit buffer left) →
+    s ≡ ended_by last (status.BadLine k) →
     ((bytes : List ℕ) → HasRead r.items bytes reader buffer left → IsScriptOf bytes r.items (Some k)) →
     ((bytes : List ℕ) → HasRead r.items bytes reader buffer left → ReadsAhead r.items bytes later) →
     OnOk last ((o : Options) (log : List Entry) → Stands o audit log → Reports o log (bad_line k) old new) →
     OnErr last ((o : Options) (log : List Entry) → Stands o audit log → ReportsPart o log (bad_line k) old new) →
-    IfSome all (λ bytes. AuditOutcome (ended_by last (status.BadLine k)) failed bytes later old new)
-heard-bad {all} {run} {audit} failed later old new k last r told ahead wrote front =
+    IfSome all (λ bytes. AuditOutcome s failed bytes later old new)
+heard-bad {all} {run} {audit} failed later old new k last s r is told ahead wrote front =
     let stands = heard-stands run r.items r.log audit r.kept r.heard in
     IfSome_then all r.read
-    (λ bytes h. ends-so (WritesReport old new) (WritesReportPart failed old new) (status.BadLine k) last bytes later
+    (λ bytes h. ends-so (WritesReport old new) (WritesReportPart failed old new) (status.BadLine k) s last bytes later is
     (on_ok-then last wrote (λ wrote. reads-writes run r.items r.log r.kept (told bytes h, ahead bytes h) (wrote (options_of run.hub) r.log stands)))
     (on_err-then last front (λ front. all-writes bytes later run r.items r.log (ahead bytes h) r.kept (Some k) (told bytes h) (inr (inl refl), front (options_of run.hub) r.log stands))))
 
-pub heard-fault : {all left : Option (List ℕ)} {reader : ScriptReader} {run : Run} {audit : AuditState} {buffer : List ℕ} (failed : Type 0) (later old new : Option (List ℕ)) (last : Result Unit Failed) (r : Hearing all reader run audit buffer left) →
+pub heard-fault : {all left : Option (List ℕ)} {reader : ScriptReader} {run : Run} {audit : AuditState} {buffer : List ℕ} (failed : Type 0) (later old new : Option (List ℕ)) (last : Result Unit Failed) (s : Status) (r : Hearing all reader run audit buffer left) →
+    s ≡ ended_by last status.ReadFault →
     failed →
     ((bytes : List ℕ) → HasRead r.items bytes reader buffer left → StopsBehind r.items bytes later) →
     ((bytes : List ℕ) → HasRead r.items bytes reader buffer left → ReadsAhead r.items bytes later) →
     OnOk last ((o : Options) (log : List Entry) → Stands o audit log → Reports o log [] old new) →
     OnErr last ((o : Options) (log : List Entry) → Stands o audit log → ReportsPart o log [] old new) →
-    IfSome all (λ bytes. AuditOutcome (ended_by last status.ReadFault) failed bytes later old new)
-heard-fault {all} {run} {audit} failed later old new last r risen told ahead wrote front =
+    IfSome all (λ bytes. AuditOutcome s failed bytes later old new)
+heard-fault {all} {run} {audit} failed later old new last s r is risen told ahead wrote front =
     let stands = heard-stands run r.items r.log audit r.kept r.heard in
     IfSome_then all r.read
-    (λ bytes h. ends-so (WritesReport old new) (WritesReportPart failed old new) status.ReadFault last bytes later
+    (λ bytes h. ends-so (WritesReport old new) (WritesReportPart failed old new) status.ReadFault s last bytes later is
     (on_ok-then last wrote (λ wrote. reads-writes run r.items r.log r.kept (told bytes h) (wrote (options_of run.hub) r.log stands)))
     (on_err-then last front (λ front. front-writes bytes later run r.items r.log (ahead bytes h) r.kept h (inr (inr risen), front (options_of run.hub) r.log stands))))
 

@@ -102,11 +102,13 @@ module _ {Wrote : Options → List Entry → Numbered LinkState → StorageState
   }
 
 -- a run that ends with a write ends so where that is done, and else with a part
-pub ends-so : (Wrote : Status → Options → List Entry → Numbered LinkState → StorageState → Type 0) (Part : Options → List Entry → Numbered LinkState → StorageState → Option ℕ → List ℕ → Type 0) (s : Status) (last : Result Unit Failed) (bytes : List ℕ) (left : Option (List ℕ)) →
-    OnOk last (ScriptOutcome Wrote Part s bytes left) → OnErr last (ReadsFrontAndWrites bytes left Part) → ScriptOutcome Wrote Part (ended_by last s) bytes left
-ends-so Wrote Part s (Ok x) bytes left whole part = whole
-ends-so Wrote Part s (Err Fault) bytes left whole part = part
-ends-so Wrote Part s (Err Memory) bytes left whole part = part
+pub ends-so : (Wrote : Status → Options → List Entry → Numbered LinkState → StorageState → Type 0) (Part : Options → List Entry → Numbered LinkState → StorageState → Option ℕ → List ℕ → Type 0) (s t : Status) (last : Result Unit Failed) (bytes : List ℕ) (left : Option (List ℕ)) → t ≡ ended_by last s →
+    OnOk last (ScriptOutcome Wrote Part s bytes left) → OnErr last (ReadsFrontAndWrites bytes left Part) → ScriptOutcome Wrote Part t bytes left
+ends-so Wrote Part s t last bytes left is whole part = subst (λ (u : Status). ScriptOutcome Wrote Part u bytes left) (sym is) (by last whole part) where
+  by : (last : Result Unit Failed) → OnOk last (ScriptOutcome Wrote Part s bytes left) → OnErr last (ReadsFrontAndWrites bytes left Part) → ScriptOutcome Wrote Part (ended_by last s) bytes left
+  by (Ok x) whole part = whole
+  by (Err Fault) whole part = part
+  by (Err Memory) whole part = part
 
 pub out-memory : {all left before now : Option (List ℕ)} {reader : ScriptReader} {run : Run} {buffer : List ℕ} (e : Ending) (later : Option (List ℕ)) (r : Running None all reader run buffer left before now) →
     ((bytes : List ℕ) → HasRead r.items bytes reader buffer left → ReadsAhead r.items bytes later) →
@@ -153,31 +155,33 @@ part-end e bytes left later before now new reader buffer run items log h script 
 part-end e bytes left later before now new reader buffer run items log h script ahead kept written (inr ends) =
     all-writes bytes later run items log ahead kept None script (inr (ends.0, ends.1, front-more before now new (log_lines log) ends.0 written ends.2))
 
-pub out-end : {all left before now : Option (List ℕ)} {reader : ScriptReader} {run : Run} {buffer : List ℕ} (e : Ending) (later new : Option (List ℕ)) (last : Result Unit Failed) (r : Running None all reader run buffer left before now) →
+pub out-end : {all left before now : Option (List ℕ)} {reader : ScriptReader} {run : Run} {buffer : List ℕ} (e : Ending) (later new : Option (List ℕ)) (last : Result Unit Failed) (s : Status) (r : Running None all reader run buffer left before now) →
+    s ≡ ended_by last status.Done →
     ((bytes : List ℕ) → HasRead r.items bytes reader buffer left → IsScriptOf bytes r.items None × (later ≡ Some [])) →
     ((bytes : List ℕ) → HasRead r.items bytes reader buffer left → ReadsAhead r.items bytes later) →
     OnOk last ((log : List Entry) → Stands run.hub log → Ends e (options_of run.hub) log run.links run.storage now new) →
     OnErr last ((log : List Entry) → Stands run.hub log → EndsPart e (options_of run.hub) log run.links run.storage now new) →
-    IfSome all (λ bytes. Outcome e (ended_by last status.Done) bytes later before new)
-out-end {all} {left} {before} {now} {reader} {run} {buffer} e later new last r told ahead wrote front =
+    IfSome all (λ bytes. Outcome e s bytes later before new)
+out-end {all} {left} {before} {now} {reader} {run} {buffer} e later new last s r is told ahead wrote front =
     let stands = stands-anew run r.items r.log r.kept in
     IfSome_then all r.read
-    (λ bytes h. ends-so (WritesLog e before new) (WritesLogPart e before new) status.Done last bytes later
+    (λ bytes h. ends-so (WritesLog e before new) (WritesLogPart e before new) status.Done s last bytes later is
     (on_ok-then last wrote (λ wrote.
     let ends = wrote r.log stands in
     reads-writes run r.items r.log r.kept (told bytes h) (ends.0, ends.1, writes-more before now new (log_lines r.log) ends.0 r.written ends.2)))
     (on_err-then last front (λ front.
     part-end e bytes left later before now new reader buffer run r.items r.log h (told bytes h).0 (ahead bytes h) r.kept r.written (front r.log stands))))
 
-pub out-bad : {all left before now : Option (List ℕ)} {reader : ScriptReader} {run : Run} {buffer : List ℕ} (e : Ending) (later new : Option (List ℕ)) (k : ℕ) (last : Result Unit Failed) (r : Running None all reader run buffer left before now) →
+pub out-bad : {all left before now : Option (List ℕ)} {reader : ScriptReader} {run : Run} {buffer : List ℕ} (e : Ending) (later new : Option (List ℕ)) (k : ℕ) (last : Result Unit Failed) (s : Status) (r : Running None all reader run buffer left before now) →
+    s ≡ ended_by last (status.BadLine k) →
     ((bytes : List ℕ) → HasRead r.items bytes reader buffer left → IsScriptOf bytes r.items (Some k)) →
     ((bytes : List ℕ) → HasRead r.items bytes reader buffer left → ReadsAhead r.items bytes later) →
     OnOk last (Writes now new (bad_line k)) →
     OnErr last (WritesFront now new (bad_line k)) →
-    IfSome all (λ bytes. Outcome e (ended_by last (status.BadLine k)) bytes later before new)
-out-bad {all} {before} {now} {run} e later new k last r told ahead wrote front =
+    IfSome all (λ bytes. Outcome e s bytes later before new)
+out-bad {all} {before} {now} {run} e later new k last s r is told ahead wrote front =
     IfSome_then all r.read
-    (λ bytes h. ends-so (WritesLog e before new) (WritesLogPart e before new) (status.BadLine k) last bytes later
+    (λ bytes h. ends-so (WritesLog e before new) (WritesLogPart e before new) (status.BadLine k) s last bytes later is
     (on_ok-then last wrote (λ wrote. reads-writes run r.items r.log r.kept (told bytes h, ahead bytes h) (writes-more before now new (log_lines r.log) (bad_line k) r.written wrote)))
     (on_err-then last front (λ front.
     all-writes bytes later run r.items r.log (ahead bytes h) r.kept (Some k) (told bytes h) (inr (bad_line k, refl, front-more before now new (log_lines r.log) (bad_line k) r.written front)))))

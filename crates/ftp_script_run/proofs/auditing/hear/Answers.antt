@@ -5,7 +5,6 @@ use Rattle.ftp_base.specs.Outside.{HasRisen}
 use Rattle.ftp_script_run.specs.declared.text_script.ScriptError.TheVariants as error
 use Rattle.ftp_script_run.specs.declared.status.Status.TheVariants as status
 use Rattle.ftp_script_run.specs.Audited.{WritesReport, WritesReportPart}
-use Rattle.ftp_script_run.specs.Statuses.{ended_by}
 use Rattle.ftp_script_run.proofs.Written.{if_none-then}
 use Rattle.ftp_script_run.proofs.OutcomeLemmas.{kept-set_up, outcome-of}
 use Rattle.ftp_script_run.proofs.AuditLemmas.{hearing-more, heard-memory, heard-end, heard-bad, heard-fault}
@@ -34,9 +33,7 @@ returns-in-Ok-Some-clause-ended g c =
     let written = g.K.Sink.written c.args.sink.now in
     IfSome_then c.noted.result c.noted.ensures.only_memory (λ s e all r.
     outcome-of (WritesReport written written) (WritesReportPart risen written written) all later status.OutOfMemory s (sym e)
-    (heard-memory risen later written written r
-    (c.next_item.ensures.ahead r.items)
-    refl))
+    (heard-memory risen later written written r (c.next_item.ensures.ahead r.items) refl))
 
 pub returns-in-Ok-None-clause-ended : goal.returns-in-Ok-None-clause-ended
 returns-in-Ok-None-clause-ended g c =
@@ -46,11 +43,10 @@ returns-in-Ok-None-clause-ended g c =
     let old = g.K.Sink.written c.args.sink.now in
     let new = g.K.Sink.written c.write_report.new.sink in
     λ all r.
-    outcome-of (WritesReport old new) (WritesReportPart risen old new) all later (ended_by c.write_report.result status.Done) c.after.result (sym c.after.ensures)
-    (heard-end risen later old new c.write_report.result r
+    heard-end risen later old new c.write_report.result c.after.result r c.after.ensures
     (λ bytes h. rw found at (c.next_item.ensures.told r.items bytes h (kept-set_up r.kept c.storage.ensures)))
     (c.next_item.ensures.ahead r.items)
-    c.write_report.ensures.wrote c.write_report.ensures.front)
+    c.write_report.ensures.wrote c.write_report.ensures.front
 
 pub returns-in-Err-BadLine-clause-ended : goal.returns-in-Err-BadLine-clause-ended
 returns-in-Err-BadLine-clause-ended g c =
@@ -60,11 +56,10 @@ returns-in-Err-BadLine-clause-ended g c =
     let old = g.K.Sink.written c.args.sink.now in
     let new = g.K.Sink.written c.write_to.new.sink in
     λ all r.
-    outcome-of (WritesReport old new) (WritesReportPart risen old new) all later (ended_by c.write_to.result (status.BadLine c.in-Err-BadLine.k)) c.after-in-Err-BadLine.result (sym c.after-in-Err-BadLine.ensures)
-    (heard-bad risen later old new c.in-Err-BadLine.k c.write_to.result r
+    heard-bad risen later old new c.in-Err-BadLine.k c.write_to.result c.after-in-Err-BadLine.result r c.after-in-Err-BadLine.ensures
     (λ bytes h. rw found at (c.next_item.ensures.told r.items bytes h (kept-set_up r.kept c.storage.ensures)))
     (c.next_item.ensures.ahead r.items)
-    c.write_to.ensures.wrote c.write_to.ensures.front)
+    c.write_to.ensures.wrote c.write_to.ensures.front
 
 pub returns-in-Err-Fault-clause-ended : goal.returns-in-Err-Fault-clause-ended
 returns-in-Err-Fault-clause-ended g c =
@@ -74,15 +69,12 @@ returns-in-Err-Fault-clause-ended g c =
     let old = g.K.Sink.written c.args.sink.now in
     let new = g.K.Sink.written c.write_report-in-Err-Fault.new.sink in
     λ all r.
-    outcome-of (WritesReport old new) (WritesReportPart risen old new) all later (ended_by c.write_report-in-Err-Fault.result status.ReadFault) c.after-in-Err-Fault.result (sym c.after-in-Err-Fault.ensures)
-    (heard-fault risen later old new c.write_report-in-Err-Fault.result r
+    heard-fault risen later old new c.write_report-in-Err-Fault.result c.after-in-Err-Fault.result r c.after-in-Err-Fault.ensures
     (c.next_item.ensures.fault_rose found)
     (λ bytes h. rw found at (c.next_item.ensures.told r.items bytes h (kept-set_up r.kept c.storage.ensures)))
     (c.next_item.ensures.ahead r.items)
-    c.write_report-in-Err-Fault.ensures.wrote c.write_report-in-Err-Fault.ensures.front)
+    c.write_report-in-Err-Fault.ensures.wrote c.write_report-in-Err-Fault.ensures.front
 
 pub returns-in-Err-Memory-clause-ended : goal.returns-in-Err-Memory-clause-ended
 returns-in-Err-Memory-clause-ended g c = λ all r.
-    heard-memory _ (g.S.Source.left c.next_item.new.source) (g.K.Sink.written c.args.sink.now) (g.K.Sink.written c.args.sink.now) r
-    (c.next_item.ensures.ahead r.items)
-    refl
+    heard-memory _ (g.S.Source.left c.next_item.new.source) (g.K.Sink.written c.args.sink.now) (g.K.Sink.written c.args.sink.now) r (c.next_item.ensures.ahead r.items) refl

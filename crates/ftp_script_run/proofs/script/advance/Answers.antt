@@ -1,11 +1,8 @@
 use Rattle.std.proofs.Common.{◌≡◌, ◌∙◌, Some, None, ap, sym}
 use Rattle.std.specs.Prelude.{Ok, Err}
 use Rattle.ftp_script_run.specs.declared.text_script.ScriptError.TheVariants as error
-use Rattle.ftp_script_run.specs.declared.status.Status.TheVariants as status
-use Rattle.ftp_script_run.specs.Outcome.{WritesLog, WritesLogPart}
-use Rattle.ftp_script_run.specs.Statuses.{ended_by}
 use Rattle.ftp_script_run.proofs.Written.{if_none-then, if_some-both}
-use Rattle.ftp_script_run.proofs.OutcomeLemmas.{kept-set_up, running-more, out-cut, out-end, out-bad, out-fault, out-memory, outcome-of}
+use Rattle.ftp_script_run.proofs.OutcomeLemmas.{kept-set_up, running-more, out-cut, out-end, out-bad, out-fault, out-memory}
 use Rattle.ftp_script_run.proofs.script.advance.Goals as goal
 
 pub taken-requires : goal.taken-requires
@@ -44,11 +41,10 @@ returns-in-Ok-None-clause-ended g c =
     let later = g.S.Source.left c.next_item.new.source in
     let new = g.K.Sink.written c.close.new.sink in
     λ all before r.
-    outcome-of (WritesLog c.args.ending before new) (WritesLogPart c.args.ending before new) all later (ended_by c.close.result status.Done) c.after.result (sym c.after.ensures)
-    (out-end c.args.ending later new c.close.result r
+    out-end c.args.ending later new c.close.result c.after.result r c.after.ensures
     (λ bytes h. rw found at (c.next_item.ensures.told r.items bytes h (kept-set_up r.kept c.storage.ensures)))
     (c.next_item.ensures.ahead r.items)
-    c.close.ensures.wrote c.close.ensures.front)
+    c.close.ensures.wrote c.close.ensures.front
 
 pub returns-in-Err-BadLine-clause-ended : goal.returns-in-Err-BadLine-clause-ended
 returns-in-Err-BadLine-clause-ended g c =
@@ -56,21 +52,17 @@ returns-in-Err-BadLine-clause-ended g c =
     let later = g.S.Source.left c.next_item.new.source in
     let new = g.K.Sink.written c.bad_line.new.sink in
     λ all before r.
-    outcome-of (WritesLog c.args.ending before new) (WritesLogPart c.args.ending before new) all later (ended_by c.bad_line.result (status.BadLine c.in-Err-BadLine.k)) c.after-in-Err-BadLine.result (sym (rw c.in-Err-BadLine.field-0-is at c.after-in-Err-BadLine.ensures))
-    (out-bad c.args.ending later new c.in-Err-BadLine.k c.bad_line.result r
+    out-bad c.args.ending later new c.in-Err-BadLine.k c.bad_line.result c.after-in-Err-BadLine.result r (rw c.in-Err-BadLine.field-0-is at c.after-in-Err-BadLine.ensures)
     (λ bytes h. rw found at (c.next_item.ensures.told r.items bytes h (kept-set_up r.kept c.storage.ensures)))
     (c.next_item.ensures.ahead r.items)
-    (rw c.in-Err-BadLine.field-0-is at c.bad_line.ensures.wrote) (rw c.in-Err-BadLine.field-0-is at c.bad_line.ensures.front))
+    (rw c.in-Err-BadLine.field-0-is at c.bad_line.ensures.wrote) (rw c.in-Err-BadLine.field-0-is at c.bad_line.ensures.front)
 
 pub returns-in-Err-Fault-clause-ended : goal.returns-in-Err-Fault-clause-ended
 returns-in-Err-Fault-clause-ended g c =
     let found : c.next_item.result ≡ Err error.Fault = c.in-Err-Fault.is ∙ ap Err c.in-Err-Fault.field-0-is in
     let later = g.S.Source.left c.next_item.new.source in
     λ all before r.
-    out-fault later r
-    (λ bytes h. rw found at (c.next_item.ensures.told r.items bytes h (kept-set_up r.kept c.storage.ensures)))
+    out-fault later r (λ bytes h. rw found at (c.next_item.ensures.told r.items bytes h (kept-set_up r.kept c.storage.ensures)))
 
 pub returns-in-Err-Memory-clause-ended : goal.returns-in-Err-Memory-clause-ended
-returns-in-Err-Memory-clause-ended g c = λ all before r.
-    out-memory c.args.ending (g.S.Source.left c.next_item.new.source) r
-    (c.next_item.ensures.ahead r.items)
+returns-in-Err-Memory-clause-ended g c = λ all before r. out-memory c.args.ending (g.S.Source.left c.next_item.new.source) r (c.next_item.ensures.ahead r.items)
