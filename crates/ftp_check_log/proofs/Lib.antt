@@ -9,7 +9,6 @@ pub mod PlaceLemmas
 pub mod GrantLemmas
 pub mod EvidenceLemmas
 pub mod RightLemmas
-pub mod Results
 pub mod PendingLemmas
 pub mod SourceLemmas
 pub mod ExplanationLemmas

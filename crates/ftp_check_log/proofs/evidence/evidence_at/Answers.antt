@@ -1,6 +1,7 @@
-use Rattle.std.proofs.Common.{ℕ, ◌<◌, List, length, get_or, Some, ◌≡◌, ◌∙◌, ap, sym, subst, refl}
-use Rattle.std.specs.Prelude.{slice_get, Result, Ok, IfOk}
+use Rattle.std.proofs.Common.{ℕ, ◌<◌, List, length, get_or, Option, Some, None, ◌≡◌, ◌∙◌, ap, sym, subst, refl}
+use Rattle.std.specs.Prelude.{slice_get, Result, Ok, IfOk, IfSome}
 use Rattle.std.proofs.lemmas.Option.{slice_get_read, same_Some}
+use Rattle.std.proofs.lemmas.Result.{IfOk-weaker}
 use Rattle.ftp_options.specs.declared.options.Options.{Options}
 use Rattle.ftp_events.specs.declared.decision.Decision.TheVariants as decision
 use Rattle.ftp_events.specs.declared.entry.Entry.{Entry}
@@ -8,9 +9,13 @@ use Rattle.ftp_check_log.specs.declared.evidence.Evidence.{Evidence}
 use Rattle.ftp_check_log.specs.declared.evidence.Evidence.TheVariants.{Plain}
 use Rattle.ftp_check_log.specs.Evidence.{past_at, named_client, Matter, TellsOf, matter_of, IsEvidence}
 use Rattle.ftp_check_log.specs.Grants.{AreHeld}
-use Rattle.ftp_check_log.proofs.Results.{if_ok, if_some}
 use Rattle.ftp_check_log.proofs.RightLemmas.{attached-matter, turned-matter, other-matter, full-held}
 use Rattle.ftp_check_log.proofs.evidence.evidence_at.Goals as goal
+
+-- what holds of each value that is there
+if_some : {A : Type 0} (P : A → Type 0) (x : Option A) → ((y : A) → x ≡ Some y → P y) → IfSome x P
+if_some P (Some y) f = f y refl
+if_some P None f = tt
 
 -- what tells of what the decision of the entry at a place rests on is evidence for it
 as-evidence :
@@ -20,7 +25,7 @@ as-evidence :
     (slice_get log k ≡ Some e → IfOk r (TellsOf o log k m)) → IfOk r (IsEvidence o log k)
 as-evidence o log k e r m below is rests told =
     let at : slice_get log k ≡ Some e = slice_get_read log (length log) k e refl below is in
-    if_ok (TellsOf o log k m) (IsEvidence o log k) r (λ x so. (e, at, subst (λ (n : Matter). TellsOf o log k n x) (sym (rests at)) so)) (told at)
+    IfOk-weaker r (TellsOf o log k m) (IsEvidence o log k) (λ x so. (e, at, subst (λ (n : Matter). TellsOf o log k n x) (sym (rests at)) so)) (told at)
 
 pub of_full-requires-clause-held : goal.of_full-requires-clause-held
 of_full-requires-clause-held c = λ e at.
