@@ -17,3 +17,6 @@ loop-status-init g c = record {
   source_count = omega arith;
   sink_count = omega arith;
 }
+
+pub returns-in-Some-clause-outcome : goal.returns-in-Some-clause-outcome
+returns-in-Some-clause-outcome g c = c.in-Some.ensures.ended (g.S.Source.left c.args.source.now) (g.K.Sink.written c.args.sink.now) c.loop-status.invariant.running
