@@ -28,7 +28,7 @@ use Rattle.ftp_events.specs.Reply.{message_for, path_of_job}
 use Rattle.ftp_events.specs.Session.{live_sessions, opened_sessions}
 use Rattle.ftp_events.specs.Transfer.{same_ticket}
 use Rattle.ftp_laws.proofs.Common.{acts, acts_of, acts_for, subject_acts, due, decide, completions, stays, refused_link, ends, life, is_ending, lives_on, Options, Action, Running, Decision, Entry, EventKind, Answer, Session, Ticket, is_refusal, job_ticket, named_session, past_of, session, running_job, subject, IsRight, IsActed}
-use Rattle.ftp_laws.proofs.BalanceLemmas.{IsEnd, finished-known}
+use Rattle.ftp_laws.proofs.BalanceLemmas.{IsEnd, ended-known}
 use Rattle.ftp_laws.proofs.Cases.{by_test, by_option, by_completion, job-named}
 use Rattle.ftp_laws.proofs.ClassLemmas.{stop-is}
 use Rattle.ftp_laws.proofs.DecisionLemmas.{IsLive, live-row, first-chosen, other-chosen}
@@ -41,7 +41,8 @@ use Rattle.ftp_audit.specs.Owner.{let_in, owner}
 use Rattle.ftp_audit.specs.Sums.{one_login, one_logout, file_of, moved_file, told_end, for_each, added}
 use Rattle.ftp_audit.specs.Heard.{notice_on, notices_on, told_by_all}
 use Rattle.ftp_audit.proofs.PlusLemmas.{plus-nothing, nothing-plus, told_by_all-append}
-use Rattle.ftp_audit.proofs.ActionLemmas.{user_then, notified, told_on, in-cuttings, in-refused_link, quiet-notice_on, on-session_acts, told_ends, quiet-told_end, ends-session_acts}
+use Rattle.ftp_laws.proofs.TakenLemmas.{user_then}
+use Rattle.ftp_audit.proofs.ActionLemmas.{notified, told_on, on-session_acts, on-refused_link, told_ends, ends-session_acts, ends-refused_link, ends-cuttings}
 use Rattle.ftp_audit.proofs.OwnerLemmas.{let_in-named, let_in-decided, refused-let_in, IsLetIn, let-in-known, owner-then}
 
 -- ---- one session
@@ -173,12 +174,12 @@ ending-undone d h = refl
 
 -- no end that is lost is told
 ends-lost : (s : ℕ) (k : EventKind) (d : Decision) (job : Option Running) → told_ends (completions s k d false job) ≡ []
-ends-lost s k d job = by_completion (λ xs. told_ends xs ≡ []) s k d false job refl (λ t x y. refl) (λ r x y. in-cuttings told_end quiet-told_end s false r)
+ends-lost s k d job = by_completion (λ xs. told_ends xs ≡ []) s k d false job refl (λ t x y. refl) (λ r x y. ends-cuttings s false r)
 
 -- no other decision tells an end
 ends-none : (s : ℕ) (k : EventKind) (d : Decision) (told_to : Bool) (job : Option Running) → is_done d ≡ false → told_ends (completions s k d told_to job) ≡ []
 ends-none s k d told_to job u =
-    by_completion (λ xs. told_ends xs ≡ []) s k d told_to job refl (λ t x y. absurd (true≢false (sym (ap is_done y) ∙ u))) (λ r x y. in-cuttings told_end quiet-told_end s told_to r)
+    by_completion (λ xs. told_ends xs ≡ []) s k d told_to job refl (λ t x y. absurd (true≢false (sym (ap is_done y) ∙ u))) (λ r x y. ends-cuttings s told_to r)
 
 -- a transfer that is finished notifies what its message does, and moves its file
 finished-notified :
@@ -275,7 +276,7 @@ module _ (o : Options) (past : List Entry) (at : ℕ) (p : List Entry) (user : L
           ∙ (ap (λ t. plus nothing (plus t nothing)) (sym (one-each p user one_login s))
           ∙ sym (three p user s k a d (lives_on d) job [] (s ∷ []) [] (ends-none s k d (lives_on d) job (ap is_done x)) ins (rw lives refl)))))
       go decision.Finished x lives =
-          let end : IsEnd o past k = finished-known o past at k a (fit ∙ x) in
+          let end : IsEnd o past k = ended-known o past at k a decision.Finished (fit ∙ x) refl in
           let done = finished-done o past at k a (fit ∙ x) in
           let same : end.ticket.session ≡ s = about end.ticket.session (job-named k end.ticket end.kind_is) in
           let told_is : told_ends (completions s k d (lives_on d) job) ≡ s ∷ [] = finished-ends k d job end.ticket s x end.kind_is same in
@@ -418,8 +419,8 @@ counted-told o log e user comes acted = by_subject o past e nobody one all
         let lives : is_ending d ≡ false = by_test (is_ending d) (λ x. (let live : IsLive o past k = ending-live o past e.event.at k e.answer (ap is_stop fit ∙ plain) (ap (λ y. ends (life y)) fit ∙ x) in absurd (unnamed live.number live.named))) (λ x. x) in
         let no_login : let_in d k ≡ None = by_option (let_in d k) (λ x. x) (λ q x. absurd (unnamed q (let_in-named d k q x))) in
         ap (entry_told user) acts_is
-        ∙ (ap told_by_all (in-refused_link (notice_on user) (quiet-notice_on user) k d)
-        ∙ rw (acts_is, in-refused_link told_end quiet-told_end k d, no_login, plain, lives) refl)
+        ∙ (ap told_by_all (on-refused_link user k d)
+        ∙ rw (acts_is, ends-refused_link k d, no_login, plain, lives) refl)
 
     one : (s : ℕ) → subject o past e ≡ One s → entry_told user e.actions ≡ added o log e user
     one s h =

@@ -24,7 +24,7 @@ use Rattle.ftp_laws.proofs.NotificationLemmas.{unused-opener}
 use Rattle.ftp_laws.proofs.PortLemmas.{IsAfter, session-before, opened-subject}
 use Rattle.ftp_laws.proofs.EntryLemmas.{Comes, right-past}
 use Rattle.ftp_audit.specs.Owner.{let_in, was_let_in, name_from, last_name, owner}
-use Rattle.ftp_audit.proofs.ActionLemmas.{user_then}
+use Rattle.ftp_laws.proofs.TakenLemmas.{user_then}
 
 -- ---- whom an entry names
 
