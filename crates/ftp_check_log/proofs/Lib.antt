@@ -4,7 +4,6 @@ pub mod EndLemmas
 pub mod OnlyLemmas
 pub mod PartLemmas
 pub mod OneLemmas
-pub mod SameDecision
 pub mod PlaceLemmas
 pub mod GrantLemmas
 pub mod EvidenceLemmas
