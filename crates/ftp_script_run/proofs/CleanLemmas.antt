@@ -94,8 +94,8 @@ runs-done job given old new link outcome ran there storage links takes is below 
     ran.complete
     (record {
       unrefused = inl taken;
-      storage = λ rose. omega (arith, rose (omega (arith, storage)), storage, ran.storage_limit);
-      link = λ rose met. omega (arith, rose (omega (arith, limit)), limit, ran.link_limit);
+      storage = λ rose. omega (arith, rose (omega (arith, storage)), storage, ran.storage_counts.limit);
+      link = λ rose met. omega (arith, rose (omega (arith, limit)), limit, ran.link_counts.limit);
       memory = memory;
       count = rw told below;
     })))

@@ -157,10 +157,8 @@ one-framed {S} {L} v o past e old new n link unlinked led =
             links = put job.number ran.after other ran.links;
             ran = ran.ran;
             complete = ran.complete;
-            storage_count = ran.storage_count;
-            link_count = ran.link_count;
-            storage_limit = ran.storage_limit;
-            link_limit = ran.link_limit;
+            storage_counts = ran.storage_counts;
+            link_counts = ran.link_counts;
           }
 
       move : (job : Job) → MovesPiece v job e.answer old new → MovesPiece v job e.answer (with_link old n link) (with_link new n link)
@@ -175,10 +173,8 @@ one-framed {S} {L} v o past e old new n link unlinked led =
             there = get-insert-other old.links n link job.number other ∙ moved.there;
             links = put job.number moved.after other moved.links;
             went = moved.went;
-            storage_count = moved.storage_count;
-            link_count = moved.link_count;
-            storage_limit = moved.storage_limit;
-            link_limit = moved.link_limit;
+            storage_counts = moved.storage_counts;
+            link_counts = moved.link_counts;
           }
 
       by : (header : Option ℕ) (job part : Option Job) →
@@ -335,11 +331,11 @@ LimitsFall-one {S} {L} v o past e old new led =
     one-of v o past e old new
     (λ idle. subst (λ (x : Outside S L). LimitsFall v old x) (sym idle.same) (LimitsFall-same v old))
     (λ job moved.
-    put job.number moved.before moved.after moved.there moved.links moved.storage_limit
-    (record { limit = moved.link_limit; list = ListStays-went job (told_by v old.storage moved.before) (told_by v new.storage moved.after) moved.bytes moved.went }))
+    put job.number moved.before moved.after moved.there moved.links moved.storage_counts.limit
+    (record { limit = moved.link_counts.limit; list = ListStays-went job (told_by v old.storage moved.before) (told_by v new.storage moved.after) moved.bytes moved.went }))
     (λ job ran.
-    put job.number ran.before ran.after ran.there ran.links ran.storage_limit
-    (record { limit = ran.link_limit; list = ListStays-ran job (told_by v old.storage ran.before) (told_by v new.storage ran.after) ran.outcome ran.ran }))
+    put job.number ran.before ran.after ran.there ran.links ran.storage_counts.limit
+    (record { limit = ran.link_counts.limit; list = ListStays-ran job (told_by v old.storage ran.before) (told_by v new.storage ran.after) ran.outcome ran.ran }))
     (λ number read.
     put number read.before read.after read.there read.links
     (subst (λ (s : S). v.storage_limit s ≤ v.storage_limit old.storage) (sym read.storage) (omega arith))
