@@ -67,8 +67,8 @@ class Watch:
         rows = [[f"`{crate}`", *(round(self.spent[crate, kind]) for kind in KINDS)] for crate in crates]
         rows.append(["all", *(round(sum(self.spent[crate, kind] for crate in crates)) for kind in KINDS)])
         heads = ["crate", *(f"{kind}, s" for kind in KINDS), "together"]
-        lines = ["| " + " | ".join(heads) + " |", "|" + "---|" * len(heads)]
-        return "\n".join(lines + ["| " + " | ".join(map(str, [*row, sum(row[1:])])) + " |" for row in rows])
+        table = [heads, ["---"] * len(heads), *([*row, sum(row[1:])] for row in rows)]
+        return "\n".join("|" + "|".join(map(str, row)) + "|" for row in table)
 
 
 def main():
