@@ -1,28 +1,11 @@
 -- Worked days.
-use Rattle.std.proofs.Common.{◌≡◌, refl}
-use Rattle.ftp_audit.specs.Calendar.{date_of, month_at, year_at}
+use Rattle.std.proofs.Common.{◌≡◌, refl, ℕ, [], ◌∷◌, map}
+use Rattle.ftp_audit.specs.Calendar.{Date, date_of, month_at, year_at}
 
--- the first day
-first : date_of 0 ≡ record { year = 1970; month = 1; day = 1 }
-unfolding year_at month_at
-first = refl
+date : ℕ → ℕ → ℕ → Date
+date year month day = record { year = year; month = month; day = day }
 
--- the last day of a leap year
-last : date_of 1095 ≡ record { year = 1972; month = 12; day = 31 }
-unfolding year_at month_at
-last = refl
-
--- 2000 had a 29th of February
-leap : date_of 11016 ≡ record { year = 2000; month = 2; day = 29 }
-unfolding year_at month_at
-leap = refl
-
--- 2100 has none
-common : date_of 47541 ≡ record { year = 2100; month = 3; day = 1 }
-unfolding year_at month_at
-common = refl
-
--- 400 years after the first day
-cycle : date_of 146097 ≡ record { year = 2370; month = 1; day = 1 }
-unfolding year_at month_at
-cycle = refl
+-- the first day, the last one of a leap year, the 29th of February of 2000, the day behind the 28th of 2100, and 400 years after the first day
+days : map date_of (0 ∷ 1095 ∷ 11016 ∷ 47541 ∷ 146097 ∷ []) ≡ date 1970 1 1 ∷ date 1972 12 31 ∷ date 2000 2 29 ∷ date 2100 3 1 ∷ date 2370 1 1 ∷ []
+unfolding year_at month_at date
+days = refl
