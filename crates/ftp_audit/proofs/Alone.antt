@@ -10,7 +10,7 @@ use Rattle.std.specs.List.{AllByRecursion}
 use Rattle.std.proofs.lemmas.List.Elements.{Contains-append_left, Contains-append_right, Contains-push}
 use Rattle.ftp_base.specs.declared.error_kind.ErrorKind.{ErrorKind}
 use Rattle.ftp_base.specs.declared.error_kind.ErrorKind.TheVariants as kind
-use Rattle.ftp_base.specs.Storage.{Item, Directory, File, Files, Begin, Append, root, item, bytes_of, contents, old_bytes, cut, parent, with_file}
+use Rattle.ftp_base.specs.Storage.{Item, Directory, File, Files, Call, Begin, Append, Meaning, root, item, bytes_of, contents, old_bytes, cut, parent, with_file}
 use Rattle.ftp_base.specs.MemoryStorage.{memory_rule, file_refusal, append_refusal as end_refusal, if_directory, if_file, if_within}
 use Rattle.ftp_audit.specs.declared.quota_book.Held.{Held}
 use Rattle.ftp_audit.specs.declared.calls.QuotaCall.{QuotaCall}
@@ -75,39 +75,30 @@ contents_alike : (m n : Files) (q : List ℕ) → map.get m q ≡ map.get n q �
 contents_alike m n q same = ap (λ (o : Option Item). option_and_then bytes_of o) (item_alike m n q same)
 
 -- ---- refusals in all
-begin_alike : (P : List ℕ → Type 0) (user path : List ℕ) (start : ℕ) (A B : Option Book) (f g : Files) (max : ℕ) → BooksAlike P user A B → P path →
-    memory_rule max [] f (Begin user path start) ≡ memory_rule max [] g (Begin user path start) →
-    refusal_of A (memory_rule max [] f) (Begin user path start) ≡ refusal_of B (memory_rule max [] g) (Begin user path start)
-begin_alike P user path start None None f g max alike here same = same
-begin_alike P user path start None (Some b) f g max alike here same = absurd alike
-begin_alike P user path start (Some a) None f g max alike here same = absurd alike
-begin_alike P user path start (Some a) (Some b) f g max alike here same =
-    ap (λ (o : Option Held). option_or (begin_refusal o user (given a.owners user) (budget_of a user) start) (memory_rule max [] f (Begin user path start))) (alike.2 path here)
-    ∙ ap (λ (u : ℕ). option_or (begin_refusal (map.get b.owners path) user u (budget_of a user) start) (memory_rule max [] f (Begin user path start))) alike.1
-    ∙ ap (λ (u : ℕ). option_or (begin_refusal (map.get b.owners path) user (given b.owners user) u start) (memory_rule max [] f (Begin user path start))) alike.0
-    ∙ ap (λ (r : Option ErrorKind). option_or (begin_refusal (map.get b.owners path) user (given b.owners user) (budget_of b user) start) r) same
-
-append_alike : (P : List ℕ → Type 0) (user path bytes : List ℕ) (A B : Option Book) (f g : Files) (max : ℕ) → BooksAlike P user A B → P path →
-    memory_rule max [] f (Append user path bytes) ≡ memory_rule max [] g (Append user path bytes) →
-    refusal_of A (memory_rule max [] f) (Append user path bytes) ≡ refusal_of B (memory_rule max [] g) (Append user path bytes)
-append_alike P user path bytes None None f g max alike here same = same
-append_alike P user path bytes None (Some b) f g max alike here same = absurd alike
-append_alike P user path bytes (Some a) None f g max alike here same = absurd alike
-append_alike P user path bytes (Some a) (Some b) f g max alike here same =
-    ap (λ (o : Option Held). option_or (append_refusal o user (given a.owners user) (budget_of a user) (length bytes)) (memory_rule max [] f (Append user path bytes))) (alike.2 path here)
-    ∙ ap (λ (u : ℕ). option_or (append_refusal (map.get b.owners path) user u (budget_of a user) (length bytes)) (memory_rule max [] f (Append user path bytes))) alike.1
-    ∙ ap (λ (u : ℕ). option_or (append_refusal (map.get b.owners path) user (given b.owners user) u (length bytes)) (memory_rule max [] f (Append user path bytes))) alike.0
-    ∙ ap (λ (r : Option ErrorKind). option_or (append_refusal (map.get b.owners path) user (given b.owners user) (budget_of b user) (length bytes)) r) same
+-- two books that are alike to a user refuse a call of the user alike, in which one number counts
+books_alike : (P : List ℕ → Type 0) (user path : List ℕ) (n : ℕ) (own : Option Held → List ℕ → ℕ → ℕ → ℕ → Option ErrorKind) (call : Call) →
+    ((book : Book) → own_refusal book call ≡ own (map.get book.owners path) user (given book.owners user) (budget_of book user) n) →
+    (A B : Option Book) (f g : Meaning) → BooksAlike P user A B → P path → f call ≡ g call → refusal_of A f call ≡ refusal_of B g call
+books_alike P user path n own call is None None f g alike here same = same
+books_alike P user path n own call is None (Some b) f g alike here same = absurd alike
+books_alike P user path n own call is (Some a) None f g alike here same = absurd alike
+books_alike P user path n own call is (Some a) (Some b) f g alike here same =
+    ap (λ (r : Option ErrorKind). option_or r (f call)) (is a)
+    ∙ ap (λ (o : Option Held). option_or (own o user (given a.owners user) (budget_of a user) n) (f call)) (alike.2 path here)
+    ∙ ap (λ (u : ℕ). option_or (own (map.get b.owners path) user u (budget_of a user) n) (f call)) alike.1
+    ∙ ap (λ (u : ℕ). option_or (own (map.get b.owners path) user (given b.owners user) u n) (f call)) alike.0
+    ∙ ap (λ (r : Option ErrorKind). option_or r (f call)) (sym (is b))
+    ∙ ap (λ (r : Option ErrorKind). option_or (own_refusal b call) r) same
 
 -- a call of the user is refused alike
 refused_alike : (P : List ℕ → Type 0) (user : List ℕ) (max : ℕ) (a b : Kept) (c : QuotaCall) → Alike P user a b → user_of c ≡ user → P (path_of c) →
     refusal_in (memory_rule max) a c ≡ refusal_in (memory_rule max) b c
 refused_alike P user max a b (call.Begin who path start) alike is here =
     let books : BooksAlike P who a.book b.book = subst (λ (u : List ℕ). BooksAlike P u a.book b.book) (sym is) alike.books in
-    begin_alike P who path start a.book b.book a.files b.files max books here (file_alike a.files b.files max start path alike.dirs (alike.files path here))
+    books_alike P who path start begin_refusal (Begin who path start) (λ book. refl) a.book b.book (memory_rule max [] a.files) (memory_rule max [] b.files) books here (file_alike a.files b.files max start path alike.dirs (alike.files path here))
 refused_alike P user max a b (call.Append who path bytes) alike is here =
     let books : BooksAlike P who a.book b.book = subst (λ (u : List ℕ). BooksAlike P u a.book b.book) (sym is) alike.books in
-    append_alike P who path bytes a.book b.book a.files b.files max books here
+    books_alike P who path (length bytes) append_refusal (Append who path bytes) (λ book. refl) a.book b.book (memory_rule max [] a.files) (memory_rule max [] b.files) books here
     (ap (λ (o : Option (List ℕ)). end_refusal o max (length bytes)) (contents_alike a.files b.files path (alike.files path here)))
 
 -- ---- what is kept after a call

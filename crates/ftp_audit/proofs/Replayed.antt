@@ -91,6 +91,13 @@ was-refused rule kept c k files book now some tells = λ good. (
   subst (λ (r : Option ErrorKind). Tells rule files book now (kept_by r kept (call_of c))) (sym some) tells,
 )
 
+-- an answer as it was given, to a call as it was made
+pub told-as : {E : Type 0} (r s : Result Verdict E) (c d : QuotaCall) (told later : Option Files) (book new : Option Book) (rule now : Rule) → r ≡ s → c ≡ d →
+    IfSome told (λ f. IfOk s (Answered rule (kept_at book f) c later new now)) → IfSome told (λ f. IfOk r (Answered rule (kept_at book f) d later new now))
+told-as {E} r s c d told later book new rule now answer made so =
+    subst (λ (q : QuotaCall). IfSome told (λ f. IfOk r (Answered rule (kept_at book f) q later new now))) made
+    (subst (λ (v : Result Verdict E). IfSome told (λ f. IfOk v (Answered rule (kept_at book f) c later new now))) (sym answer) so)
+
 -- what an answer to a begin tells
 pub begin-told : (result : Result (Unit {0}) StoreError) (told later : Option Files) (book new : Option Book) (rule now : Rule) (user path : List ℕ) (start : ℕ) →
     Answers told (refusal_of book (meaning_of rule told) (Begin user path start)) result →
