@@ -2,7 +2,7 @@
 
 use crate::client::GREETING;
 use crate::doubles::Sign::{Gots, Logins, Logouts, Puts};
-use crate::setting::{FILE, Host, served};
+use crate::setting::{FILE, Host, OTHER, served};
 use crate::steps::Act::{self, One, Reach, Two};
 use crate::steps::Phase;
 use crate::steps::Step::{
@@ -106,6 +106,22 @@ const ONE_AFTER_THE_OTHER: &[Act] = &[
     One(Get(ONES_DATA, "RETR c.txt\r\n", b"second")),
 ];
 
+/// The links of two clients wait at once: each transfer has its own, and one that ABOR drops is closed.
+const LINKS_WAIT: &[Act] = &[
+    One(Enter(ONE)),
+    One(Pasv),
+    One(Connect(ONES_DATA)),
+    Two(Enter(TWO)),
+    Two(Get(TWOS_DATA, "RETR b.txt\r\n", OTHER)),
+    Two(Pasv),
+    Two(Connect(TWOS_DATA)),
+    One(Ask("RETR a.txt\r\n", SENDING)),
+    One(Fetch(FILE)),
+    One(Hear(SENT)),
+    Two(Ask("ABOR\r\n", "226 Closed data channel\r\n")),
+    Two(Fetch(b"")),
+];
+
 /// A client comes once more than he may, and one of another address.
 const ONE_TOO_MANY: &[Act] = &[
     One(Enter(ONE)),
@@ -168,6 +184,7 @@ fn clients_are_answered_as_is_due(rt: HostRuntime) -> Result<(), Fail> {
         ("a stop", POOLED, 10, [(1, STOPPED)].as_slice()),
         ("a port", ListenerMode::Legacy, 10, &[(1, ONE_PORT)]),
         ("a stranger", PROXY, 10, &[(1, BESIDE_A_STRANGER)]),
+        ("links", PROXY, 10, &[(1, LINKS_WAIT)]),
         ("uploads", PROXY, 10, &uploads),
         ("a limit", PROXY, 1, &[(1, ONE_TOO_MANY), (100, ONE_AGAIN)]),
         ("listeners", POOLED, 10, &[(1, ANN_ALONE)]),
