@@ -67,7 +67,7 @@ impl From<AllocError> for StoreError {
 }
 
 /// An answer as it is, with a fault more where its call failed. At its last value the count stands still.
-pub fn count_failed<T>(faults: &mut u64, answer: Result<T, StoreError>) -> Result<T, StoreError>
+pub fn count_failed<T>(answer: Result<T, StoreError>, faults: &mut u64) -> Result<T, StoreError>
     ensures same { result ≡ answer }
     ensures fault_rose { IsErrOf answer StoreError.Failed → HasRisen faults.old faults.new }
     ensures count { faults.old ≤ faults.new }

@@ -2,7 +2,6 @@
 
 ghost use Rattle.std.specs.Prelude.{◌≡◌, ◌+◌, ◌^◌, ◌<◌, ◌≤◌, ◌&&◌, nat_eq, true, false, is_some, length, Some, IfOk, OnOk, IsErrOf};
 ghost use Rattle.ftp_base.specs.declared.error_kind.ErrorKind.TheVariants.{PermissionDenied};
-ghost use Rattle.ftp_base.specs.Outside.{HasRisen};
 ghost use Rattle.ftp_places.specs.Names.{names_of};
 ghost use Rattle.ftp_disk.specs.Disk.{place_in_home, IsReached, WasFound, WasListed};
 ghost use Rattle.ftp_disk.specs.Home.{has_home, may_write};
@@ -19,7 +18,7 @@ use crate::opening::{open_to_append, open_to_begin, open_to_read};
 use crate::refusals::{Answer, refusal};
 use crate::standing::resolve;
 use crate::writing::{check_reach, cut, go_to, put};
-use ftp_base::{Bytes, ErrorKind, FileInfo, Meta, StoreError, count_failed};
+use ftp_base::{Bytes, ErrorKind, FileInfo, Meta, StoreError};
 use ftp_places::Place;
 use std::alloc::Global;
 use std::io::{Read, SeekFrom};
@@ -64,15 +63,6 @@ impl<R: Wait + Drop, S: FileSystem + Drop> Drop for DiskStorage<R, S> {
             leave_off(&rt, &system, alloc, &opened);
         }
     }
-}
-
-// An answer as it is, with a fault more where its call failed.
-fn counted<T>(answer: Answer<T>, faults: &mut u64) -> Answer<T>
-    ensures same { result ≡ answer }
-    ensures fault_rose { IsErrOf answer StoreError.Failed → HasRisen faults.old faults.new }
-    ensures count { faults.old ≤ faults.new }
-{
-    count_failed(faults, answer)
 }
 
 impl<R: Wait + Drop, S: FileSystem + Drop> DiskStorage<R, S> {

@@ -160,12 +160,12 @@ impl<R: Wait + Drop, S: Storage + Drop> Storage for SharedStorage<R, S> {
 
     fn metadata(&mut self, user: &Bytes, path: &Bytes) -> Result<Meta, StoreError> {
         let found = self.files.lock(&self.rt).metadata(user, path);
-        count_failed(&mut self.faults, found)
+        count_failed(found, &mut self.faults)
     }
 
     fn list(&mut self, user: &Bytes, path: &Bytes) -> Result<Vec<FileInfo>, StoreError> {
         let found = self.files.lock(&self.rt).list(user, path);
-        count_failed(&mut self.faults, found)
+        count_failed(found, &mut self.faults)
     }
 
     fn read_at(
@@ -184,7 +184,7 @@ impl<R: Wait + Drop, S: Storage + Drop> Storage for SharedStorage<R, S> {
         let mut files = self.files.lock(&self.rt);
         let Some(bytes) = files.lend(user, path) else {
             let read = files.read_at(user, path, at, out);
-            return count_failed(&mut self.faults, read);
+            return count_failed(read, &mut self.faults);
         };
         drop(files);
         let n = bytes.read_at(at, out);
@@ -201,17 +201,17 @@ impl<R: Wait + Drop, S: Storage + Drop> Storage for SharedStorage<R, S> {
         if begun.is_err() {
             self.end_upload();
         }
-        count_failed(&mut self.faults, begun)
+        count_failed(begun, &mut self.faults)
     }
 
     fn append(&mut self, user: &Bytes, path: &Bytes, bytes: &[u8]) -> Result<(), StoreError> {
         self.loan = None;
         let grown = self.files.lock(&self.rt).append(user, path, bytes);
-        count_failed(&mut self.faults, grown)
+        count_failed(grown, &mut self.faults)
     }
 
     fn settle(&mut self, user: &Bytes, path: &Bytes) -> Result<(), StoreError> {
         let settled = self.files.lock(&self.rt).settle(user, path);
-        count_failed(&mut self.faults, settled)
+        count_failed(settled, &mut self.faults)
     }
 }

@@ -9,12 +9,12 @@ ghost use Rattle.ftp_disk.specs.Home.{has_home, may_write};
 
 use crate::changing;
 use crate::dating::modified_told;
-use crate::disk::{DiskStorage, counted};
+use crate::disk::DiskStorage;
 use crate::file_system::FileSystem;
 use crate::listing::meta_of;
 use crate::refusals::Answer;
 use crate::standing::resolve;
-use ftp_base::{Bytes, ErrorKind, StoreError};
+use ftp_base::{Bytes, ErrorKind, StoreError, count_failed};
 use ftp_extras::{Archive, Found};
 use std::sync::Wait;
 
@@ -96,7 +96,7 @@ impl<R: Wait + Drop, S: FileSystem + Drop> Archive for DiskStorage<R, S> {
         ensures count { self.old.faults ≤ self.new.faults }
         ensures others { self.new ≡ record self.old { faults = self.new.faults } }
     {
-        counted(self.find(user, path), &mut self.faults)
+        count_failed(self.find(user, path), &mut self.faults)
     }
 
     fn remove(&mut self, user: &Bytes, path: &Bytes) -> Answer<()>
@@ -105,7 +105,7 @@ impl<R: Wait + Drop, S: FileSystem + Drop> Archive for DiskStorage<R, S> {
         ensures count { self.old.faults ≤ self.new.faults }
         ensures others { self.new ≡ record self.old { faults = self.new.faults } }
     {
-        counted(self.remove_file(user, path), &mut self.faults)
+        count_failed(self.remove_file(user, path), &mut self.faults)
     }
 
     fn make_directory(&mut self, user: &Bytes, path: &Bytes) -> Answer<()>
@@ -114,7 +114,7 @@ impl<R: Wait + Drop, S: FileSystem + Drop> Archive for DiskStorage<R, S> {
         ensures count { self.old.faults ≤ self.new.faults }
         ensures others { self.new ≡ record self.old { faults = self.new.faults } }
     {
-        counted(self.create_dir(user, path), &mut self.faults)
+        count_failed(self.create_dir(user, path), &mut self.faults)
     }
 
     fn remove_directory(&mut self, user: &Bytes, path: &Bytes) -> Answer<()>
@@ -123,7 +123,7 @@ impl<R: Wait + Drop, S: FileSystem + Drop> Archive for DiskStorage<R, S> {
         ensures count { self.old.faults ≤ self.new.faults }
         ensures others { self.new ≡ record self.old { faults = self.new.faults } }
     {
-        counted(self.remove_dir(user, path), &mut self.faults)
+        count_failed(self.remove_dir(user, path), &mut self.faults)
     }
 
     fn rename(&mut self, user: &Bytes, from: &Bytes, to: &Bytes) -> Answer<()>
@@ -132,7 +132,7 @@ impl<R: Wait + Drop, S: FileSystem + Drop> Archive for DiskStorage<R, S> {
         ensures count { self.old.faults ≤ self.new.faults }
         ensures others { self.new ≡ record self.old { faults = self.new.faults } }
     {
-        counted(self.move_to(user, from, to), &mut self.faults)
+        count_failed(self.move_to(user, from, to), &mut self.faults)
     }
 
     fn set_modified(&mut self, user: &Bytes, path: &Bytes, at: &Bytes) -> Answer<()>
@@ -142,6 +142,6 @@ impl<R: Wait + Drop, S: FileSystem + Drop> Archive for DiskStorage<R, S> {
         ensures count { self.old.faults ≤ self.new.faults }
         ensures others { self.new ≡ record self.old { faults = self.new.faults } }
     {
-        counted(self.set_date(user, path, at), &mut self.faults)
+        count_failed(self.set_date(user, path, at), &mut self.faults)
     }
 }

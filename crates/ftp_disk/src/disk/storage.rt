@@ -6,10 +6,10 @@ ghost use Rattle.ftp_base.specs.Outside.{HasRisen};
 ghost use Rattle.ftp_disk.specs.Disk.{IsReached, WasFound, WasListed};
 ghost use Rattle.ftp_disk.specs.Home.{has_home, may_write};
 
-use crate::disk::{DiskStorage, counted};
+use crate::disk::DiskStorage;
 use crate::file_system::FileSystem;
 use crate::refusals::Answer;
-use ftp_base::{Bytes, FEATURE_RESTART, FileInfo, Meta, Storage, StoreError};
+use ftp_base::{Bytes, FEATURE_RESTART, FileInfo, Meta, Storage, StoreError, count_failed};
 use std::sync::Wait;
 
 impl<R: Wait + Drop, S: FileSystem + Drop> Storage for DiskStorage<R, S> {
@@ -48,7 +48,7 @@ impl<R: Wait + Drop, S: FileSystem + Drop> Storage for DiskStorage<R, S> {
         ensures count { self.old.faults ≤ self.new.faults }
         ensures others { self.new ≡ record self.old { faults = self.new.faults } }
     {
-        counted(self.look(user, path), &mut self.faults)
+        count_failed(self.look(user, path), &mut self.faults)
     }
 
     fn list(&mut self, user: &Bytes, path: &Bytes) -> Answer<Vec<FileInfo>>
@@ -58,7 +58,7 @@ impl<R: Wait + Drop, S: FileSystem + Drop> Storage for DiskStorage<R, S> {
         ensures count { self.old.faults ≤ self.new.faults }
         ensures others { self.new ≡ record self.old { faults = self.new.faults } }
     {
-        counted(self.children(user, path), &mut self.faults)
+        count_failed(self.children(user, path), &mut self.faults)
     }
 
     fn read_at(&mut self, user: &Bytes, path: &Bytes, at: u64, out: &mut [u8]) -> Answer<usize>
@@ -69,7 +69,7 @@ impl<R: Wait + Drop, S: FileSystem + Drop> Storage for DiskStorage<R, S> {
         ensures count { self.old.faults ≤ self.new.faults }
         ensures others { self.new ≡ record self.old { is_apart = self.new.is_apart; faults = self.new.faults } }
     {
-        counted(self.read(user, path, at, out), &mut self.faults)
+        count_failed(self.read(user, path, at, out), &mut self.faults)
     }
 
     fn begin(&mut self, user: &Bytes, path: &Bytes, start: u64) -> Answer<()>
@@ -80,7 +80,7 @@ impl<R: Wait + Drop, S: FileSystem + Drop> Storage for DiskStorage<R, S> {
         ensures count { self.old.faults ≤ self.new.faults }
         ensures others { self.new ≡ record self.old { is_apart = self.new.is_apart; faults = self.new.faults } }
     {
-        counted(self.start(user, path, start), &mut self.faults)
+        count_failed(self.start(user, path, start), &mut self.faults)
     }
 
     fn append(&mut self, user: &Bytes, path: &Bytes, bytes: &[u8]) -> Answer<()>
@@ -89,7 +89,7 @@ impl<R: Wait + Drop, S: FileSystem + Drop> Storage for DiskStorage<R, S> {
         ensures count { self.old.faults ≤ self.new.faults }
         ensures others { self.new ≡ record self.old { is_apart = self.new.is_apart; faults = self.new.faults } }
     {
-        counted(self.write(user, path, bytes), &mut self.faults)
+        count_failed(self.write(user, path, bytes), &mut self.faults)
     }
 
     fn settle(&mut self, user: &Bytes, path: &Bytes) -> Answer<()>
@@ -98,6 +98,6 @@ impl<R: Wait + Drop, S: FileSystem + Drop> Storage for DiskStorage<R, S> {
         ensures count { self.old.faults ≤ self.new.faults }
         ensures others { self.new ≡ record self.old { is_apart = self.new.is_apart; faults = self.new.faults } }
     {
-        counted(self.end(user, path), &mut self.faults)
+        count_failed(self.end(user, path), &mut self.faults)
     }
 }
