@@ -14,5 +14,5 @@ pub mod Under
 pub mod ListingSteps
 pub mod Ranges
 pub mod KeptLemmas
-pub mod Rows
+pub mod TableRows
 pub mod Items

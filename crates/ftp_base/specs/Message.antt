@@ -1,5 +1,5 @@
 -- Messages to the control layer by their names and fields.
-use Rattle.std.specs.Prelude.{ℕ, Bool, true, false, List, codes}
+use Rattle.std.specs.Prelude.{ℕ, List, codes}
 use Rattle.ftp_base.specs.declared.message.ControlChanMsg.{ControlChanMsg}
 use Rattle.ftp_base.specs.declared.message.ControlChanMsg.TheVariants as message
 
@@ -28,16 +28,3 @@ label message.SecureControlChannel = codes "securecontrolchannel"
 label message.PlaintextControlChannel = codes "plaintextcontrolchannel"
 label (message.CommandChannelReply reply) = codes "commandchannelreply"
 label (message.StorageError kind) = codes "storageerror"
-
--- a message without fields
-abbrev pub is_bare : ControlChanMsg → Bool
-is_bare (message.SentData path bytes) = false
-is_bare (message.WrittenData path bytes) = false
-is_bare (message.DelFileSuccess path) = false
-is_bare (message.RmDirSuccess path) = false
-is_bare (message.RenameSuccess old_path new_path) = false
-is_bare (message.MkDirSuccess path) = false
-is_bare (message.AuthSuccess username trace_id) = false
-is_bare (message.CommandChannelReply reply) = false
-is_bare (message.StorageError kind) = false
-is_bare other = true

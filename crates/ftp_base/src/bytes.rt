@@ -37,6 +37,16 @@ impl Eq for Bytes {
     ghost laws = { nat_list_eq_equiv };
 }
 
+impl Clone for Bytes {
+    ghost use Rattle.std.specs.Prelude.{◌≡◌};
+
+    ghost is_clone = { λ bytes copy. copy ≡ bytes };
+
+    fn clone(&self) -> Result<Bytes, AllocError> {
+        Bytes::from_slice(*self.items.allocator(), self.items.as_slice())
+    }
+}
+
 impl Bytes {
     ghost use Rattle.std.specs.Prelude.{◌≡◌, IfOk};
 

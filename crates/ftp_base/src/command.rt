@@ -7,7 +7,7 @@ ghost use Rattle.ftp_base.specs.Command.{path_of};
 use crate::bytes::Bytes;
 use std::alloc::{AllocError, Global};
 
-#[derive(Debug, PartialEq, Eq, Drop)]
+#[derive(Clone, Debug, PartialEq, Eq, Drop)]
 pub enum DataChanCmd {
     Retr {
         path: Bytes,
@@ -45,39 +45,9 @@ impl DataChanCmd {
     }
 
     /// Gives an equal command.
-    pub fn copy(&self, alloc: Global) -> Result<DataChanCmd, AllocError>
+    pub fn copy(&self, _alloc: Global) -> Result<DataChanCmd, AllocError>
         ensures { IfOk result (λ copy. copy ≡ self.now) }
     {
-        match self {
-            DataChanCmd::Retr { path } => Ok(DataChanCmd::Retr {
-                path: path.copy(alloc)?,
-            }),
-            DataChanCmd::Stor { path } => Ok(DataChanCmd::Stor {
-                path: path.copy(alloc)?,
-            }),
-            DataChanCmd::Appe { path } => Ok(DataChanCmd::Appe {
-                path: path.copy(alloc)?,
-            }),
-            DataChanCmd::List { options, path } => Ok(DataChanCmd::List {
-                options: copy_of(alloc, options)?,
-                path: copy_of(alloc, path)?,
-            }),
-            DataChanCmd::Nlst { path } => Ok(DataChanCmd::Nlst {
-                path: copy_of(alloc, path)?,
-            }),
-            DataChanCmd::Mlsd { path } => Ok(DataChanCmd::Mlsd {
-                path: copy_of(alloc, path)?,
-            }),
-        }
-    }
-}
-
-/// Gives equal bytes, where there are any.
-fn copy_of(alloc: Global, bytes: &Option<Bytes>) -> Result<Option<Bytes>, AllocError>
-    ensures { IfOk result (λ copy. copy ≡ bytes.now) }
-{
-    match bytes {
-        Some(bytes) => Ok(Some(bytes.copy(alloc)?)),
-        None => Ok(None),
+        self.clone()
     }
 }

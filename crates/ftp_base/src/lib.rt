@@ -33,6 +33,7 @@ mod path;
 mod port_error;
 mod reply;
 mod reply_text;
+mod rows;
 mod storage;
 mod trace;
 mod word_table;
@@ -64,7 +65,10 @@ pub use path::{is_below, parent_of};
 pub use port_error::PortAllocationError;
 pub use reply::{Reply, ReplyCode};
 pub use reply_text::ReplyText;
-pub use storage::{FEATURE_RESTART, FileInfo, Looks, Meta, Storage, StoreError, count_failed};
+pub use rows::Rows;
+pub use storage::{
+    FEATURE_RESTART, FileInfo, Looks, Meta, Storage, StoreError, StoreResult, count_failed,
+};
 pub use trace::TraceId;
 pub use word_table::{value_named, value_named_in_any_case};
 pub use worker::{Gate, Spawner};

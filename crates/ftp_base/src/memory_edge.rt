@@ -76,15 +76,6 @@ impl MemoryEdge {
     {
         self.paused
     }
-
-    // Counts a call that failed, if this one did.
-    fn count_unless(&mut self, went_well: bool)
-        ensures { self.new ≡ record self.old { faults = if went_well then self.old.faults else one_more self.old.faults } }
-    {
-        if !went_well {
-            self.faults = self.faults.saturating_add(1);
-        }
-    }
 }
 
 impl Edge for MemoryEdge {
@@ -110,9 +101,7 @@ impl Edge for MemoryEdge {
         ensures unpaused { self.new.paused ≡ self.old.paused }
         ensures fault_counted { self.new.faults ≡ (if is_none result then one_more self.old.faults else self.old.faults) }
     {
-        let found = self.lookups.next().flatten();
-        self.count_unless(found.is_some());
-        found
+        count_none(self.lookups.next().flatten(), &mut self.faults)
     }
 
     fn bind(&mut self, _lo: u16, _hi: u16) -> Option<u16>
@@ -121,9 +110,7 @@ impl Edge for MemoryEdge {
         ensures unpaused { self.new.paused ≡ self.old.paused }
         ensures fault_counted { self.new.faults ≡ (if is_none result then one_more self.old.faults else self.old.faults) }
     {
-        let bound = self.ports.next().flatten();
-        self.count_unless(bound.is_some());
-        bound
+        count_none(self.ports.next().flatten(), &mut self.faults)
     }
 
     fn connect(&mut self, _to: SocketAddr, _number: u64) -> bool
@@ -133,7 +120,9 @@ impl Edge for MemoryEdge {
         ensures fault_counted { self.new.faults ≡ (if result then self.old.faults else one_more self.old.faults) }
     {
         let made = self.connects.next().unwrap_or(false);
-        self.count_unless(made);
+        if !made {
+            self.faults = self.faults.saturating_add(1);
+        }
         made
     }
 
@@ -142,4 +131,15 @@ impl Edge for MemoryEdge {
     {
         self.paused = self.paused.saturating_add(millis);
     }
+}
+
+// An answer as it is, with a fault more where there is none.
+fn count_none<T>(answer: Option<T>, faults: &mut u64) -> Option<T>
+    ensures same { result ≡ answer }
+    ensures counted { faults.new ≡ (if is_none answer then one_more faults.old else faults.old) }
+{
+    if answer.is_none() {
+        *faults = faults.saturating_add(1);
+    }
+    answer
 }

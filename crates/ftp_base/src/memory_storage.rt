@@ -10,7 +10,7 @@ use crate::calls::Calls;
 use crate::error_kind::ErrorKind;
 use crate::file_bytes::FileBytes;
 use crate::path::{is_root, parent_of};
-use crate::storage::{FileInfo, StoreError};
+use crate::storage::{FileInfo, StoreError, StoreResult};
 use listing::{infos_of, places_in};
 use std::alloc::{AllocError, Global};
 use std::collections::BTreeMap;
@@ -137,7 +137,7 @@ impl MemoryStorage {
     ///   fail (`made`, `refused`, `unchanged`; also `MemoryStorage::directory_refusal`; `MemoryStorage::put_file`:
     ///   `stored`, `refused`, `unchanged`; `MemoryStorage::begin`: `begun`, `counted`; `MemoryStorage::append`:
     ///   `grown`, `counted`; `MemoryStorage::read_at`: `read`, `counted`; `MemoryStorage::list`: `listed`, `counted`).
-    pub fn mkdir(&mut self, path: Bytes) -> Result<(), StoreError>
+    pub fn mkdir(&mut self, path: Bytes) -> StoreResult<()>
         ensures made { OnOk result (self.new ≡ record self.old { files = map.insert self.old.files path Directory }) }
         ensures refused { MatchResult result (λ _. directory_refusal self.old.files path ≡ None) (Refuses (directory_refusal self.old.files path)) }
         ensures no_fault { IfErr result (λ e. e ≢ StoreError.Failed) }
@@ -155,7 +155,7 @@ impl MemoryStorage {
     }
 
     /// Puts a file under a path, where there may be one. It is not counted among the calls.
-    pub fn put_file(&mut self, path: Bytes, bytes: Vec<u8>) -> Result<(), StoreError>
+    pub fn put_file(&mut self, path: Bytes, bytes: Vec<u8>) -> StoreResult<()>
         ensures stored { OnOk result (self.new ≡ record self.old { files = with_file self.old.files path bytes.items }) }
         ensures refused { MatchResult result (λ _. file_refusal self.old.files self.old.max_file path (length bytes.items) ≡ None) (Refuses (file_refusal self.old.files self.old.max_file path (length bytes.items))) }
         ensures no_fault { IfErr result (λ e. e ≢ StoreError.Failed) }
@@ -301,7 +301,7 @@ impl MemoryStorage {
     }
 
     /// Counts a call, and says whether it fails.
-    fn count(&mut self) -> Result<(), StoreError>
+    fn count(&mut self) -> StoreResult<()>
         ensures fails { IsErr result ↔ IsTrue (fails_next self.old.calls) }
         ensures only { IfErr result (λ e. e ≡ StoreError.Failed) }
         ensures counted { OnOk result (self.new ≡ counted self.old) }

@@ -1,7 +1,7 @@
 //! Messages to the control layer.
 
-ghost use Rattle.std.specs.Prelude.{◌≡◌, true, IfOk};
-ghost use Rattle.ftp_base.specs.Message.{label, is_bare};
+ghost use Rattle.std.specs.Prelude.{◌≡◌, IfOk};
+ghost use Rattle.ftp_base.specs.Message.{label};
 
 use crate::bytes::Bytes;
 use crate::error_kind::ErrorKind;
@@ -9,7 +9,7 @@ use crate::reply::Reply;
 use crate::trace::TraceId;
 use std::alloc::{AllocError, Global};
 
-#[derive(Debug, PartialEq, Eq, Drop)]
+#[derive(Clone, Debug, PartialEq, Eq, Drop)]
 pub enum ControlChanMsg {
     PermissionDenied,
     NotFound,
@@ -81,68 +81,9 @@ impl ControlChanMsg {
     }
 
     /// Gives an equal message.
-    pub fn copy(&self, alloc: Global) -> Result<ControlChanMsg, AllocError>
+    pub fn copy(&self, _alloc: Global) -> Result<ControlChanMsg, AllocError>
         ensures { IfOk result (λ copy. copy ≡ self.now) }
     {
-        match self {
-            ControlChanMsg::SentData { path, bytes } => Ok(ControlChanMsg::SentData {
-                path: path.copy(alloc)?,
-                bytes: *bytes,
-            }),
-            ControlChanMsg::WrittenData { path, bytes } => Ok(ControlChanMsg::WrittenData {
-                path: path.copy(alloc)?,
-                bytes: *bytes,
-            }),
-            ControlChanMsg::DelFileSuccess { path } => Ok(ControlChanMsg::DelFileSuccess {
-                path: path.copy(alloc)?,
-            }),
-            ControlChanMsg::RmDirSuccess { path } => Ok(ControlChanMsg::RmDirSuccess {
-                path: path.copy(alloc)?,
-            }),
-            ControlChanMsg::RenameSuccess { old_path, new_path } => Ok(
-                ControlChanMsg::RenameSuccess {
-                    old_path: old_path.copy(alloc)?,
-                    new_path: new_path.copy(alloc)?,
-                },
-            ),
-            ControlChanMsg::MkDirSuccess { path } => Ok(ControlChanMsg::MkDirSuccess {
-                path: path.copy(alloc)?,
-            }),
-            ControlChanMsg::AuthSuccess { username, trace_id } => Ok(ControlChanMsg::AuthSuccess {
-                username: username.copy(alloc)?,
-                trace_id: *trace_id,
-            }),
-            ControlChanMsg::CommandChannelReply(reply) => {
-                Ok(ControlChanMsg::CommandChannelReply(reply.copy(alloc)?))
-            }
-            ControlChanMsg::StorageError(kind) => Ok(ControlChanMsg::StorageError(*kind)),
-            _ => Ok(self.copy_bare()),
-        }
-    }
-
-    // Gives an equal message, for one without fields.
-    fn copy_bare(&self) -> ControlChanMsg
-        requires { is_bare self.now ≡ true }
-        ensures { result ≡ self.now }
-    {
-        match self {
-            ControlChanMsg::PermissionDenied => ControlChanMsg::PermissionDenied,
-            ControlChanMsg::NotFound => ControlChanMsg::NotFound,
-            ControlChanMsg::ConnectionReset => ControlChanMsg::ConnectionReset,
-            ControlChanMsg::DataConnectionClosedAfterStor =>
-                ControlChanMsg::DataConnectionClosedAfterStor,
-            ControlChanMsg::WriteFailed => ControlChanMsg::WriteFailed,
-            ControlChanMsg::DirectorySuccessfullyListed =>
-                ControlChanMsg::DirectorySuccessfullyListed,
-            ControlChanMsg::DirectoryListFailure => ControlChanMsg::DirectoryListFailure,
-            ControlChanMsg::CwdSuccess => ControlChanMsg::CwdSuccess,
-            ControlChanMsg::DelFail => ControlChanMsg::DelFail,
-            ControlChanMsg::MkdirFail => ControlChanMsg::MkdirFail,
-            ControlChanMsg::AuthFailed => ControlChanMsg::AuthFailed,
-            ControlChanMsg::ExitControlLoop => ControlChanMsg::ExitControlLoop,
-            ControlChanMsg::SecureControlChannel => ControlChanMsg::SecureControlChannel,
-            ControlChanMsg::PlaintextControlChannel => ControlChanMsg::PlaintextControlChannel,
-            _ => unreachable!(),
-        }
+        self.clone()
     }
 }

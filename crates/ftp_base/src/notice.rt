@@ -13,7 +13,7 @@ pub enum PresenceEvent {
 }
 
 /// What was done with a file or a directory; the path is that in the storage.
-#[derive(Debug, PartialEq, Eq, Drop)]
+#[derive(Clone, Debug, PartialEq, Eq, Drop)]
 pub enum DataEvent {
     /// A client has got so many bytes of the file.
     Got { path: Bytes, bytes: u64 },
@@ -26,14 +26,14 @@ pub enum DataEvent {
 }
 
 /// Whom a notification is about, and its place among those of the session, counted from 1.
-#[derive(Debug, PartialEq, Eq, Drop)]
+#[derive(Clone, Debug, PartialEq, Eq, Drop)]
 pub struct EventMeta {
     pub username: Bytes,
     pub trace_id: TraceId,
     pub sequence_number: u64,
 }
 
-#[derive(Debug, PartialEq, Eq, Drop)]
+#[derive(Clone, Debug, PartialEq, Eq, Drop)]
 pub enum Notice {
     Presence(PresenceEvent),
     Data(DataEvent),
@@ -41,56 +41,27 @@ pub enum Notice {
 
 impl DataEvent {
     /// Gives an equal event.
-    pub fn copy(&self, alloc: Global) -> Result<DataEvent, AllocError>
+    pub fn copy(&self, _alloc: Global) -> Result<DataEvent, AllocError>
         ensures { IfOk result (λ copy. copy ≡ self.now) }
     {
-        match self {
-            DataEvent::Got { path, bytes } => Ok(DataEvent::Got {
-                path: path.copy(alloc)?,
-                bytes: *bytes,
-            }),
-            DataEvent::Put { path, bytes } => Ok(DataEvent::Put {
-                path: path.copy(alloc)?,
-                bytes: *bytes,
-            }),
-            DataEvent::Deleted { path } => Ok(DataEvent::Deleted {
-                path: path.copy(alloc)?,
-            }),
-            DataEvent::MadeDir { path } => Ok(DataEvent::MadeDir {
-                path: path.copy(alloc)?,
-            }),
-            DataEvent::RemovedDir { path } => Ok(DataEvent::RemovedDir {
-                path: path.copy(alloc)?,
-            }),
-            DataEvent::Renamed { from, to } => Ok(DataEvent::Renamed {
-                from: from.copy(alloc)?,
-                to: to.copy(alloc)?,
-            }),
-        }
+        self.clone()
     }
 }
 
 impl EventMeta {
     /// Gives an equal value.
-    pub fn copy(&self, alloc: Global) -> Result<EventMeta, AllocError>
+    pub fn copy(&self, _alloc: Global) -> Result<EventMeta, AllocError>
         ensures { IfOk result (λ copy. copy ≡ self.now) }
     {
-        Ok(EventMeta {
-            username: self.username.copy(alloc)?,
-            trace_id: self.trace_id,
-            sequence_number: self.sequence_number,
-        })
+        self.clone()
     }
 }
 
 impl Notice {
     /// Gives an equal notification.
-    pub fn copy(&self, alloc: Global) -> Result<Notice, AllocError>
+    pub fn copy(&self, _alloc: Global) -> Result<Notice, AllocError>
         ensures { IfOk result (λ copy. copy ≡ self.now) }
     {
-        match self {
-            Notice::Presence(event) => Ok(Notice::Presence(*event)),
-            Notice::Data(event) => Ok(Notice::Data(event.copy(alloc)?)),
-        }
+        self.clone()
     }
 }

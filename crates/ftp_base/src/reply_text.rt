@@ -45,6 +45,19 @@ impl Eq for ReplyText {
     ghost laws = { nat_list_eq_equiv };
 }
 
+impl Clone for ReplyText {
+    ghost use Rattle.std.specs.Prelude.{◌≡◌};
+
+    ghost is_clone = { λ text copy. copy ≡ text };
+
+    fn clone(&self) -> Result<ReplyText, AllocError> {
+        match &self.words {
+            Words::Own(bytes) => Ok(ReplyText::from_bytes(bytes.clone()?)),
+            Words::Fixed(words) => Ok(ReplyText::from_static(words)),
+        }
+    }
+}
+
 impl ReplyText {
     ghost use Rattle.std.specs.Prelude.{◌≡◌, IfOk};
 
@@ -84,12 +97,9 @@ impl ReplyText {
     }
 
     /// Gives an equal value. Words of the program take no memory.
-    pub fn copy(&self, alloc: Global) -> Result<ReplyText, AllocError>
+    pub fn copy(&self, _alloc: Global) -> Result<ReplyText, AllocError>
         ensures { IfOk result (λ copy. copy ≡ self.now) }
     {
-        match &self.words {
-            Words::Own(bytes) => Ok(ReplyText::from_bytes(bytes.copy(alloc)?)),
-            Words::Fixed(words) => Ok(ReplyText::from_static(words)),
-        }
+        self.clone()
     }
 }

@@ -58,6 +58,9 @@ pub enum StoreError {
     OutOfMemory,
 }
 
+/// An answer of a storage.
+pub type StoreResult<T> = Result<T, StoreError>;
+
 impl From<AllocError> for StoreError {
     ghost from_gives = { λ _ e. e ≡ OutOfMemory };
 
@@ -67,7 +70,7 @@ impl From<AllocError> for StoreError {
 }
 
 /// An answer as it is, with a fault more where its call failed. At its last value the count stands still.
-pub fn count_failed<T>(answer: Result<T, StoreError>, faults: &mut u64) -> Result<T, StoreError>
+pub fn count_failed<T>(answer: StoreResult<T>, faults: &mut u64) -> StoreResult<T>
     ensures same { result ≡ answer }
     ensures fault_rose { IsErrOf answer StoreError.Failed → HasRisen faults.old faults.new }
     ensures count { faults.old ≤ faults.new }
@@ -117,7 +120,7 @@ pub trait Storage {
     ///   `Storage::list`: `listed`, `refused`, `storage_kept`; `Storage::read_at`: `read`, `refused`, `storage_kept`;
     ///   `Storage::begin`: `begun`, `refused`, `fault_rose`, `unchanged`, `storage_kept`; `Storage::append`: `grown`,
     ///   `refused`, `fault_rose`, `unchanged`, `storage_kept`).
-    fn metadata(&mut self, user: &Bytes, path: &Bytes) -> Result<Meta, StoreError>
+    fn metadata(&mut self, user: &Bytes, path: &Bytes) -> StoreResult<Meta>
         ensures found { IfOk result (λ meta. IfSome (files self.old) (λ f. IsSomeAnd (item f path.now) (λ i. meta ≡ meta_of i))) }
         ensures refused { Answers (files self.old) (meaning_of (rule self.old) (files self.old) (Metadata user.now path.now)) result }
         ensures fault_rose { IsErrOf result StoreError.Failed → HasRisen (faults self.old) (faults self.new) }
@@ -128,7 +131,7 @@ pub trait Storage {
         ensures storage_kept { StorageKept rule faults fault_limit self.old self.new };
 
     /// The direct children of a directory in byte order of their names, equal names in byte order of their paths.
-    fn list(&mut self, user: &Bytes, path: &Bytes) -> Result<Vec<FileInfo>, StoreError>
+    fn list(&mut self, user: &Bytes, path: &Bytes) -> StoreResult<Vec<FileInfo>>
         ensures listed { IfOk result (λ found. IfSome (files self.old) (λ f. found.items ≡ listing f path.now)) }
         ensures refused { Answers (files self.old) (meaning_of (rule self.old) (files self.old) (Listing user.now path.now)) result }
         ensures fault_rose { IsErrOf result StoreError.Failed → HasRisen (faults self.old) (faults self.new) }
@@ -140,13 +143,7 @@ pub trait Storage {
 
     /// Reads to the front of `out` from a place in a file, and says how many bytes: none exactly at or past the end,
     /// where `out` has room.
-    fn read_at(
-        &mut self,
-        user: &Bytes,
-        path: &Bytes,
-        at: u64,
-        out: &mut [u8],
-    ) -> Result<usize, StoreError>
+    fn read_at(&mut self, user: &Bytes, path: &Bytes, at: u64, out: &mut [u8]) -> StoreResult<usize>
         ensures within { IfOk result (λ n. n ≤ length out.new) }
         ensures in_range { IfOk result (λ n. at + n < 2 ^ 64) }
         ensures read { IfOk result (λ n. IfSome (files self.old) (λ f. ReadsFile f path.now at n out.new)) }
@@ -182,7 +179,7 @@ pub trait Storage {
     /// - A file that is begun changes the rule as the rule says, by who began it and its path; a begin that is refused or fails
     ///   leaves the rule; a storage that does not tell its files does not do so afterwards (`owned`, `storage_kept`, `counts`,
     ///   `untold`; also `Storage::append`: `untold`).
-    fn begin(&mut self, user: &Bytes, path: &Bytes, start: u64) -> Result<(), StoreError>
+    fn begin(&mut self, user: &Bytes, path: &Bytes, start: u64) -> StoreResult<()>
         ensures begun { OnOk result (Begins (files self.old) (files self.new) path.now start) }
         ensures refused { Answers (files self.old) (meaning_of (rule self.old) (files self.old) (Begin user.now path.now start)) result }
         ensures fault_rose { IsErrOf result StoreError.Failed → HasRisen (faults self.old) (faults self.new) }
@@ -203,7 +200,7 @@ pub trait Storage {
     ///   refused; it went well only where it is not listed, and a call that failed is one that is listed, of a link with a fault that is listed for it
     ///   (`made`, `unlisted`, `as_listed`; also `Sink::write`, `Link::write`, `Link::close`, `Storage::metadata`,
     ///   `Storage::list`, `Storage::read_at`, `Storage::begin`, `Storage::append`).
-    fn append(&mut self, user: &Bytes, path: &Bytes, bytes: &[u8]) -> Result<(), StoreError>
+    fn append(&mut self, user: &Bytes, path: &Bytes, bytes: &[u8]) -> StoreResult<()>
         ensures grown { OnOk result (Grows (files self.old) (files self.new) path.now bytes.now) }
         ensures refused { Answers (files self.old) (meaning_of (rule self.old) (files self.old) (Append user.now path.now bytes.now)) result }
         ensures fault_rose { IsErrOf result StoreError.Failed → HasRisen (faults self.old) (faults self.new) }
@@ -221,7 +218,7 @@ pub trait Storage {
     /// - An upload that came whole is settled, or the call fails, finds no memory, or is refused, which a storage that tells its
     ///   files does not do; files and rule stay (`settled`, `refused`, `fault_rose`, `unlisted`, `as_listed`, `unchanged`,
     ///   `storage_kept`).
-    fn settle(&mut self, user: &Bytes, path: &Bytes) -> Result<(), StoreError>
+    fn settle(&mut self, user: &Bytes, path: &Bytes) -> StoreResult<()>
         ensures settled { OnOk result (is_settled self.new ≡ true) }
         ensures refused { Answers (files self.old) None result }
         ensures fault_rose { IsErrOf result StoreError.Failed → HasRisen (faults self.old) (faults self.new) }

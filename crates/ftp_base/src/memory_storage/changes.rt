@@ -10,7 +10,7 @@ use super::storage::meta_at;
 use super::{MemoryStorage, Node};
 use crate::bytes::Bytes;
 use crate::path::is_below;
-use crate::storage::{Meta, StoreError};
+use crate::storage::{Meta, StoreError, StoreResult};
 use std::alloc::{AllocError, Global};
 use std::collections::BTreeMap;
 
@@ -40,7 +40,7 @@ impl MemoryStorage {
     }
 
     /// Makes a directory, as `MemoryStorage::mkdir`.
-    pub fn mkdir_at(&mut self, path: &[u8]) -> Result<(), StoreError>
+    pub fn mkdir_at(&mut self, path: &[u8]) -> StoreResult<()>
         ensures made { OnOk result (self.new ≡ record self.old { files = map.insert self.old.files path.now Directory }) }
         ensures refused { MatchResult result (λ _. directory_refusal self.old.files path.now ≡ None) (Refuses (directory_refusal self.old.files path.now)) }
         ensures no_fault { IfErr result (λ e. e ≢ StoreError.Failed) }

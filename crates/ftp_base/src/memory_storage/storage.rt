@@ -8,7 +8,7 @@ use super::{MemoryStorage, Standing};
 use crate::bytes::Bytes;
 use crate::error_kind::ErrorKind;
 use crate::file_bytes::FileBytes;
-use crate::storage::{FEATURE_RESTART, FileInfo, Meta, Storage, StoreError};
+use crate::storage::{FEATURE_RESTART, FileInfo, Meta, Storage, StoreError, StoreResult};
 
 impl Storage for MemoryStorage {
     ghost use Rattle.std.specs.Prelude.{◌≡◌, ℕ, ◌+◌, ◌^◌, ◌<◌, ◌≤◌, [], length, Some, None, IsSome, IfSome, IsSomeAnd, false, IsOk, IfOk, OnOk, OnErr, IsErrOf};
@@ -37,7 +37,7 @@ impl Storage for MemoryStorage {
         FEATURE_RESTART
     }
 
-    fn metadata(&mut self, user: &Bytes, path: &Bytes) -> Result<Meta, StoreError>
+    fn metadata(&mut self, user: &Bytes, path: &Bytes) -> StoreResult<Meta>
         ensures found { IfOk result (λ meta. IsSomeAnd (item self.old.files path.now) (λ i. meta ≡ meta_of i)) }
         ensures refused { Answers (Some self.old.files) (memory_meaning self.old.files self.old.max_file (Metadata user.now path.now)) result }
         ensures fault_rose { IsErrOf result StoreError.Failed → HasRisen self.old.calls.faults self.new.calls.faults }
@@ -47,7 +47,6 @@ impl Storage for MemoryStorage {
         ensures unlisted { (IsErrOf result StoreError.Failed → ⊥) → NoneFailed (λ call. call) self.old.calls self.new.calls }
         ensures as_listed { IsErrOf result StoreError.Failed → StorageMet (Some self.old.calls) (Some self.new.calls) }
     {
-        let _ = user;
         self.count()?;
         match self.find(path.as_slice()) {
             Some(standing) => Ok(meta_at(standing)),
@@ -55,7 +54,7 @@ impl Storage for MemoryStorage {
         }
     }
 
-    fn list(&mut self, user: &Bytes, path: &Bytes) -> Result<Vec<FileInfo>, StoreError>
+    fn list(&mut self, user: &Bytes, path: &Bytes) -> StoreResult<Vec<FileInfo>>
         ensures listed { IfOk result (λ found. found.items ≡ listing self.old.files path.now) }
         ensures refused { Answers (Some self.old.files) (memory_meaning self.old.files self.old.max_file (Listing user.now path.now)) result }
         ensures fault_rose { IsErrOf result StoreError.Failed → HasRisen self.old.calls.faults self.new.calls.faults }
@@ -65,7 +64,6 @@ impl Storage for MemoryStorage {
         ensures unlisted { (IsErrOf result StoreError.Failed → ⊥) → NoneFailed (λ call. call) self.old.calls self.new.calls }
         ensures as_listed { IsErrOf result StoreError.Failed → StorageMet (Some self.old.calls) (Some self.new.calls) }
     {
-        let _ = user;
         self.count()?;
         let Some(Standing::Directory) = self.find(path.as_slice()) else {
             return Err(StoreError::Kind(ErrorKind::PermanentDirectoryNotAvailable));
@@ -73,13 +71,7 @@ impl Storage for MemoryStorage {
         Ok(self.children(path.as_slice())?)
     }
 
-    fn read_at(
-        &mut self,
-        user: &Bytes,
-        path: &Bytes,
-        at: u64,
-        out: &mut [u8],
-    ) -> Result<usize, StoreError>
+    fn read_at(&mut self, user: &Bytes, path: &Bytes, at: u64, out: &mut [u8]) -> StoreResult<usize>
         ensures within { IfOk result (λ n. n ≤ length out.new) }
         ensures in_range { IfOk result (λ n. at + n < 2 ^ 64) }
         ensures read { IfOk result (λ n. ReadsFile self.old.files path.now at n out.new) }
@@ -92,7 +84,6 @@ impl Storage for MemoryStorage {
         ensures unlisted { (IsErrOf result StoreError.Failed → ⊥) → NoneFailed (λ call. call) self.old.calls self.new.calls }
         ensures as_listed { IsErrOf result StoreError.Failed → StorageMet (Some self.old.calls) (Some self.new.calls) }
     {
-        let _ = user;
         self.count()?;
         match self.find(path.as_slice()) {
             Some(Standing::File(bytes)) => Ok(bytes.read_at(at, out)),
@@ -106,7 +97,6 @@ impl Storage for MemoryStorage {
         ensures unrefused { IsSome result → (at : ℕ) → memory_meaning self.now.files self.now.max_file (ReadAt user.now path.now at) ≡ None }
         ensures none_listed { IsSome result → self.now.calls.failing ≡ [] }
     {
-        let _ = user;
         if self.calls.may_fail() {
             return None;
         }
@@ -116,7 +106,7 @@ impl Storage for MemoryStorage {
         }
     }
 
-    fn begin(&mut self, user: &Bytes, path: &Bytes, start: u64) -> Result<(), StoreError>
+    fn begin(&mut self, user: &Bytes, path: &Bytes, start: u64) -> StoreResult<()>
         ensures begun { OnOk result (self.new.files ≡ with_file self.old.files path.now (cut (old_bytes self.old.files path.now) start)) }
         ensures refused { Answers (Some self.old.files) (memory_meaning self.old.files self.old.max_file (Begin user.now path.now start)) result }
         ensures fault_rose { IsErrOf result StoreError.Failed → HasRisen self.old.calls.faults self.new.calls.faults }
@@ -127,7 +117,6 @@ impl Storage for MemoryStorage {
         ensures unlisted { (IsErrOf result StoreError.Failed → ⊥) → NoneFailed (λ call. call) self.old.calls self.new.calls }
         ensures as_listed { IsErrOf result StoreError.Failed → StorageMet (Some self.old.calls) (Some self.new.calls) }
     {
-        let _ = user;
         self.count()?;
         if let Some(kind) = self.file_refusal(path.as_slice(), start) {
             return Err(StoreError::Kind(kind));
@@ -136,7 +125,7 @@ impl Storage for MemoryStorage {
         Ok(())
     }
 
-    fn append(&mut self, user: &Bytes, path: &Bytes, bytes: &[u8]) -> Result<(), StoreError>
+    fn append(&mut self, user: &Bytes, path: &Bytes, bytes: &[u8]) -> StoreResult<()>
         ensures grown { OnOk result (Grows (Some self.old.files) (Some self.new.files) path.now bytes.now) }
         ensures refused { Answers (Some self.old.files) (memory_meaning self.old.files self.old.max_file (Append user.now path.now bytes.now)) result }
         ensures fault_rose { IsErrOf result StoreError.Failed → HasRisen self.old.calls.faults self.new.calls.faults }
@@ -146,7 +135,6 @@ impl Storage for MemoryStorage {
         ensures unlisted { (IsErrOf result StoreError.Failed → ⊥) → NoneFailed (λ call. call) self.old.calls self.new.calls }
         ensures as_listed { IsErrOf result StoreError.Failed → StorageMet (Some self.old.calls) (Some self.new.calls) }
     {
-        let _ = user;
         self.count()?;
         if let Some(kind) = self.append_refusal(path.as_slice(), bytes.len()) {
             return Err(StoreError::Kind(kind));
@@ -156,7 +144,7 @@ impl Storage for MemoryStorage {
     }
 
     // Nothing is left to be done, and no call is counted.
-    fn settle(&mut self, _user: &Bytes, _path: &Bytes) -> Result<(), StoreError>
+    fn settle(&mut self, _user: &Bytes, _path: &Bytes) -> StoreResult<()>
         ensures done { IsOk result }
         ensures unchanged { self.new ≡ self.old }
     {

@@ -2,7 +2,7 @@ use Rattle.std.proofs.Common.{rules}
 use Rattle.std.proofs.lemmas.Iterator.{YieldsList-from_slice}
 use Rattle.std.proofs.lemmas.Iterator.Search.{find_from_yields_List}
 use Rattle.std.specs.Str.{str_eq_ignore_ascii_case}
-use Rattle.ftp_base.proofs.Rows.{value-lent}
+use Rattle.ftp_base.proofs.TableRows.{value-lent}
 use Rattle.ftp_base.proofs.word_table.value_named_in_any_case.Goals as goal
 
 pub returns : goal.returns
