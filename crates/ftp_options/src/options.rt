@@ -119,14 +119,14 @@ impl Options {
     /// # Proved
     ///
     /// - Copies are equal (also `PassiveHost::copy`).
-    pub fn copy(&self, alloc: Global) -> Result<Options, AllocError>
+    pub fn copy(&self, _alloc: Global) -> Result<Options, AllocError>
         ensures { IfOk result (λ copy. copy ≡ self.now) }
     {
         Ok(Options {
             mode: self.mode,
             lo: self.lo,
             hi: self.hi,
-            host: self.host.copy(alloc)?,
+            host: self.host.clone()?,
             active_passive: self.active_passive,
             idle_ms: self.idle_ms,
             lockout: self.lockout,
@@ -134,7 +134,7 @@ impl Options {
             site_md5: self.site_md5,
             tls_flags: self.tls_flags,
             collect_metrics: self.collect_metrics,
-            greeting: copy_of(alloc, &self.greeting)?,
+            greeting: self.greeting.clone()?,
         })
     }
 
@@ -147,15 +147,5 @@ impl Options {
         ensures { result ≡ has_restart self.now.features }
     {
         self.features & FEATURE_RESTART == FEATURE_RESTART
-    }
-}
-
-// Gives equal bytes, where there are any.
-fn copy_of(alloc: Global, bytes: &Option<Bytes>) -> Result<Option<Bytes>, AllocError>
-    ensures { IfOk result (λ copy. copy ≡ bytes.now) }
-{
-    match bytes {
-        Some(bytes) => Ok(Some(bytes.copy(alloc)?)),
-        None => Ok(None),
     }
 }
