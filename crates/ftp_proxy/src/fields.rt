@@ -6,7 +6,7 @@ ghost use Rattle.ftp_proxy.specs.declared.v2_error.Proxy2Error.TheVariants.{Faul
 
 use crate::v2_error::Proxy2Error;
 use crate::v2_header::{Field, Fields};
-use ftp_base::Bytes;
+use ftp_base::{Bytes, Rows};
 use std::alloc::Global;
 
 // How many bytes stand before a field's value: its kind, and the value's length.
@@ -33,7 +33,7 @@ pub fn fields(alloc: Global, place: usize, bytes: &[u8]) -> Result<Fields, Proxy
         };
         rest = after;
     }
-    Ok(Fields::from_vec(fields))
+    Ok(Rows::from_vec(fields))
 }
 
 // How many bytes the field at the front has, where it does not pass the end.

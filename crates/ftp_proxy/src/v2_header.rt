@@ -1,7 +1,6 @@
 //! What a header of version 2 says.
 
-use ftp_base::{Bytes, SocketAddrPair};
-use std::marker::Model;
+use ftp_base::{Bytes, Rows, SocketAddrPair};
 
 /// A header of version 2.
 #[derive(Debug, PartialEq, Eq, Drop)]
@@ -54,63 +53,4 @@ impl Field {
 }
 
 /// Fields in their order, which contracts see as a list.
-#[derive(Debug, Drop)]
-pub struct Fields {
-    items: Vec<Field>,
-}
-
-impl Model for Fields {
-    ghost use Rattle.std.specs.Prelude.{List};
-    ghost use Rattle.ftp_proxy.specs.declared.v2_header.Field.{Field};
-
-    ghost Value = { List Field };
-
-    ghost view = { λ f. f.items.items };
-}
-
-impl PartialEq for Fields {
-    ghost use Rattle.std.specs.Cmp.{partial_equiv_from_equiv};
-    ghost use Rattle.std.specs.Cmp.Lexicographic.{pointwise, lists_equiv};
-    ghost use Rattle.ftp_proxy.specs.contracts.v2_header.FieldPartialEq.TheImpl.{ghosts};
-    ghost use Rattle.ftp_proxy.specs.contracts.v2_header.FieldEq.TheImpl.Laws.{laws-law};
-
-    ghost eq = { pointwise ghosts.eq };
-
-    ghost laws = { partial_equiv_from_equiv (lists_equiv laws-law) };
-
-    fn eq(&self, other: &Fields) -> bool {
-        self.items.as_slice() == other.items.as_slice()
-    }
-}
-
-impl Eq for Fields {
-    ghost use Rattle.std.specs.Cmp.Lexicographic.{lists_equiv};
-    ghost use Rattle.ftp_proxy.specs.contracts.v2_header.FieldEq.TheImpl.Laws.{laws-law};
-
-    ghost laws = { lists_equiv laws-law };
-}
-
-impl Fields {
-    ghost use Rattle.std.specs.Prelude.{◌≡◌};
-
-    /// Takes over the fields of a vector.
-    pub fn from_vec(items: Vec<Field>) -> Fields
-        ensures { result ≡ items.items }
-    {
-        Fields { items }
-    }
-
-    /// Lends the fields.
-    pub fn as_slice(&self) -> &[Field]
-        ensures { result.now ≡ self.now }
-    {
-        self.items.as_slice()
-    }
-
-    /// Gives the vector back.
-    pub fn into_vec(self) -> Vec<Field>
-        ensures { result.items ≡ self }
-    {
-        self.items
-    }
-}
+pub type Fields = Rows<Field>;
