@@ -1,6 +1,6 @@
 -- Runs that go on from where a piece ended.
-use Rattle.std.proofs.Common.{◌≡◌, inl, inr, true, false, ℕ, ◌+◌, ◌<◌, ◌≤◌, List, [], ◌++◌, length, length-drop, take, drop, Option, Some, None, refl, sym, ap, subst, ◌∙◌, arith}
-use Rattle.std.specs.Prelude.{IsSome, IfSome, MatchOption}
+use Rattle.std.proofs.Common.{◌≡◌, inl, inr, true, false, ℕ, ◌+◌, ◌-◌, ◌<◌, ◌≤◌, List, [], ◌++◌, length, length-drop, take, drop, Option, Some, None, refl, sym, ap, subst, ◌∙◌, arith}
+use Rattle.std.specs.Prelude.{◌⊎◌, IsSome, IfSome, MatchOption}
 use Rattle.std.specs.Option.{option_map, option_map_or}
 use Rattle.std.proofs.Math.Seq.{take-nil}
 use Rattle.std.proofs.lemmas.Bool.{cases_lt}
@@ -17,7 +17,7 @@ use Rattle.ftp_base.proofs.CallsMade.{AllWell-more, LinkMet-more, StorageMet-mor
 use Rattle.ftp_transfer.specs.declared.job.Job.{Job}
 use Rattle.ftp_transfer.specs.declared.job.Completion.{Completion}
 use Rattle.ftp_transfer.specs.declared.job.Completion.TheVariants as result
-use Rattle.ftp_transfer.specs.Run.{SendsFront, GrowsFront, TakesFront, RefusesAppend, RefusesMore, RefusesStore, RefusedLast, IsStored, Stores, append_place, read_place}
+use Rattle.ftp_transfer.specs.Run.{SendsFront, GrowsFront, TakesFront, RefusesAppend, RefusesMore, RefusesStore, RefusesAppe, RefusedLast, IsStored, Stores, append_place, read_place}
 use Rattle.ftp_transfer.specs.Ran.{Told, Moves, Went, begun_by, appends_by, StorageFailed, ByDone, Refuses, StoresAs, first_refusal, IsSentWhole, due_of}
 use Rattle.ftp_transfer.specs.Transfer.{is_store, is_listing, suits}
 use Rattle.ftp_transfer.proofs.RunLemmas.{HasRisen_later, Caused_later, SendsFront-file, StorageWent-more, get-get, EndsRefused_later}
@@ -227,6 +227,24 @@ first-refuses : (job : Job) (rule rule' : Rule) (mid new : Option Files) (left' 
 first-refuses job rule rule' mid new left' later m k zero owned refused =
     subst (λ (x : Rule). IfSome mid (λ g. RefusesMore x job.user g new job.path left' later m k)) (owned ∙ ap (λ (n : ℕ). begun_by n (job.user, job.path) rule) zero) refused
 
+-- what is refused behind a piece of a store, by whether a piece came before that one
+store-more : (First : Type 0) (Again : Files → Type 0) (job : Job) (rule rule' : Rule) (f : Files) (mid new : Option Files) (left left' later : Option (List ℕ)) (b m : ℕ) (k : ErrorKind) →
+    0 < b → rule' ≡ appends_by job rule → IfSome left (λ l. TakesFront l left' b) → IsSome mid →
+    (0 < job.done → IfSome left (λ l. GrowsFront f mid job.path l b)) →
+    IfSome mid (λ g. ByDone (job.done + b) (Again g) (RefusesMore rule' job.user g new job.path left' later m k)) →
+    (job.done ≡ 0 → IfSome mid (λ g. RefusesMore (once_begun (job.user, job.path) rule) job.user g new job.path left' later m k) → First) →
+    ByDone job.done First (RefusesMore rule job.user f new job.path left later (b + m) k)
+store-more First Again job rule rule' f mid new left left' later b m k some owned taken told grown next fresh =
+    let more = IfSome_then mid next (λ g h. is-later (job.done + b) _ _ (omega (arith, some)) h) in
+    elim (cases_lt 0 job.done) [
+      | inl begun ↦
+          let again = later-refuses job rule rule' mid new left' later m k begun owned more in
+          inr (begun, (GrowsFront-told (Some f) mid new job.path left left' b m (grown begun) taken (IfSome_then mid again (λ g h. h.0)), more-refused f rule job.user job.path mid new left left' later b m k taken again told))
+      | inr none ↦
+          let zero : job.done ≡ 0 = omega (arith, none) in
+          inl (zero, fresh zero (first-refuses job rule rule' mid new left' later m k zero owned more))
+    ]
+
 -- what the second run refuses is refused in the whole run
 refused-more : (c : DataChanCmd) (job : Job) (rule rule' : Rule) (f : Files) (mid new : Option Files) (left left' later : Option (List ℕ)) (b m : ℕ) (k : ErrorKind) →
     0 < b → is_listing c ≡ false → (is_store c ≡ false → rule' ≡ rule) → (is_store c ≡ true → rule' ≡ appends_by job rule) →
@@ -241,31 +259,15 @@ refused-more (command.Retr p) job rule rule' f mid new left left' later b m k so
     let place : job.done + (b + m) ≡ (job.done + b) + m = omega arith in
     rw place here
 refused-more (command.Stor p) job rule rule' f mid new left left' later b m k some goes kept owned same taken told stored grown first next =
-    let more = IfSome_then mid next (λ g h. is-later (job.done + b) _ _ (omega (arith, some)) h) in
-    elim (cases_lt 0 job.done) [
-      | inl begun ↦
-          let again = later-refuses job rule rule' mid new left' later m k begun (owned refl) more in
-          inr (begun, (GrowsFront-told (Some f) mid new job.path left left' b m (grown begun refl) (taken refl) (IfSome_then mid again (λ g h. h.0)), more-refused f rule job.user job.path mid new left left' later b m k (taken refl) again told))
-      | inr fresh ↦
-          let zero : job.done ≡ 0 = omega (arith, fresh) in
-          inl (zero, begun-refused f rule job.user job.path job.offset mid new left left' later b m k some (taken refl) told (stored zero) (first-refuses job rule rule' mid new left' later m k zero (owned refl) more))
-    ]
+    store-more _ (λ g. RefusesStore rule' job.user g new job.path job.offset left' later m k) job rule rule' f mid new left left' later b m k some (owned refl) (taken refl) told (λ begun. grown begun refl) next
+    (λ zero more. begun-refused f rule job.user job.path job.offset mid new left left' later b m k some (taken refl) told (stored zero) more)
 refused-more (command.Appe p) job rule rule' f mid new left left' later b m k some goes kept owned same taken told stored grown first next =
-    let more = IfSome_then mid next (λ g h. is-later (job.done + b) _ _ (omega (arith, some)) h) in
-    elim (cases_lt 0 job.done) [
-      | inl begun ↦
-          let again = later-refuses job rule rule' mid new left' later m k begun (owned refl) more in
-          inr (begun, (GrowsFront-told (Some f) mid new job.path left left' b m (grown begun refl) (taken refl) (IfSome_then mid again (λ g h. h.0)), more-refused f rule job.user job.path mid new left left' later b m k (taken refl) again told))
-      | inr fresh ↦
-          let zero : job.done ≡ 0 = omega (arith, fresh) in
-          let unrefused = rw zero at first in
-          inl (
-            zero,
-            appe-refused f rule job.user job.path (append_place (rule [] f (Metadata job.user job.path)) (length (old_bytes f job.path))) mid new left left' later b m k _ _ some (taken refl) told
-                (λ none. meta-refused (rule [] f (Metadata job.user job.path)) (length (old_bytes f job.path)) (λ place. rule [] f (Begin job.user job.path place)) _ refl none unrefused)
-                (stored zero) (first-refuses job rule rule' mid new left' later m k zero (owned refl) more),
-          )
-    ]
+    store-more _ (λ g. RefusesAppe rule' job.user g new job.path left' later m k) job rule rule' f mid new left left' later b m k some (owned refl) (taken refl) told (λ begun. grown begun refl) next
+    (λ zero more.
+    let unrefused = rw zero at first in
+    appe-refused f rule job.user job.path (append_place (rule [] f (Metadata job.user job.path)) (length (old_bytes f job.path))) mid new left left' later b m k _ _ some (taken refl) told
+    (λ none. meta-refused (rule [] f (Metadata job.user job.path)) (length (old_bytes f job.path)) (λ place. rule [] f (Begin job.user job.path place)) _ refl none unrefused)
+    (stored zero) more)
 refused-more c job rule rule' f mid new left left' later b m k some goes kept owned same taken told stored grown first next = cc goes
 
 -- where the files are told
@@ -366,3 +368,39 @@ went-more job old mid new b m counts counts' first next =
       told = λ told. next.told (first.told told);
       closed = next.closed ∙ first.closed;
     }
+
+-- ---- behind all that went on so far
+
+-- how a job has come to where it is
+abbrev pub HasMoved : Job → Job → Told → Told → Type 0
+HasMoved job next old mid = ((next ≡ job) × (mid ≡ old)) ⊎ Went job old mid (next.done - job.done)
+
+-- the same job, but for what moved, is that behind these bytes
+behind-done : (job next : Job) → job.done ≤ next.done → next ≡ record job { done = next.done } → next ≡ behind job (next.done - job.done)
+behind-done job next more same =
+    let total : next.done ≡ job.done + (next.done - job.done) = omega (arith, more) in
+    same ∙ ap (λ (n : ℕ). record job { done = n }) total
+
+-- a run that ends behind what moved up to here
+pub moves-behind : (job next : Job) (old mid new : Told) (m : ℕ) (r : Completion) (fault : Option LinkFault) → Counted old mid → Counted mid new →
+    job.done ≤ next.done → next ≡ record job { done = next.done } → suits r job.command ≡ true →
+    HasMoved job next old mid → Moves next mid new m r fault →
+    Moves job old new ((next.done + m) - job.done) r fault
+moves-behind job next old mid new m r fault counts counts' more same fits (inl (is, at_start)) moves =
+    let sum : (next.done + m) - job.done ≡ m = omega (arith, ap (λ (j : Job). j.done) is) in
+    rw sum (rw (is, at_start) at moves)
+moves-behind job next old mid new m r fault counts counts' more same fits (inr went) moves =
+    let sum : (next.done + m) - job.done ≡ (next.done - job.done) + m = omega (arith, more) in
+    rw sum (goes-on job old mid new (next.done - job.done) m r fault counts counts' fits went (rw (behind-done job next more same) at moves))
+
+-- a part that went on behind what moved up to here
+pub went-behind : (job next : Job) (old mid new : Told) (m : ℕ) → Counted old mid → Counted mid new →
+    job.done ≤ next.done → next ≡ record job { done = next.done } →
+    HasMoved job next old mid → Went next mid new m →
+    Went job old new ((next.done + m) - job.done)
+went-behind job next old mid new m counts counts' more same (inl (is, at_start)) went =
+    let sum : (next.done + m) - job.done ≡ m = omega (arith, ap (λ (j : Job). j.done) is) in
+    rw sum (rw (is, at_start) at went)
+went-behind job next old mid new m counts counts' more same (inr first) went =
+    let sum : (next.done + m) - job.done ≡ (next.done - job.done) + m = omega (arith, more) in
+    rw sum (went-more job old mid new (next.done - job.done) m counts counts' first (rw (behind-done job next more same) at went))

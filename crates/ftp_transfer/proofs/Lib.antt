@@ -2,7 +2,7 @@ pub mod Pieces
 pub mod RunLemmas
 pub mod StoreLemmas
 pub mod CleanLemmas
-mod CloseLemmas
+pub mod CloseLemmas
 pub mod MemoryUploads
 pub mod Refused
 pub mod Appended
