@@ -1,6 +1,6 @@
 //! What a hub counts, and what listeners hear.
 
-use crate::values::{events, links, log_of, pooled, storage};
+use crate::values::{ANN, events, links, log_of, pooled, storage};
 use ftp_base::{
     Bytes, DataChanCmd, DataEvent, DataListener, EventMeta, PresenceEvent, PresenceListener,
 };
@@ -10,20 +10,19 @@ use std::alloc::Global;
 use std::process::Abort;
 
 /// A login, and the download of a file.
-const DOWNLOAD: [&[u8]; 8] = [
-    b"0 connect 1 10.0.0.1:4000 10.0.0.9:21 1",
-    b"0 user 1 ann",
-    b"0 pass 1",
-    b"0 auth 1 good",
-    b"0 pasv 1 0 - -",
-    b"0 retr 1 a",
-    b"0 data 11 10.0.0.1:4001 50000",
-    b"0 end 1.1",
+const DOWNLOAD: &[&[&[u8]]] = &[
+    ANN,
+    &[
+        b"0 pasv 1 0 - -",
+        b"0 retr 1 a",
+        b"0 data 11 10.0.0.1:4001 50000",
+        b"0 end 1.1",
+    ],
 ];
 
 /// The download happens.
 fn download(rt: &impl Abort, alloc: Global, hub: &mut Hub) {
-    let events = events(rt, alloc, DOWNLOAD.as_slice());
+    let events = events(rt, alloc, DOWNLOAD);
     let mut storage = storage(alloc).ok().expect(rt, "a storage");
     let mut links = links(rt, alloc);
     let mut log = Log::new(alloc);
@@ -92,7 +91,7 @@ impl PresenceListener for Noted {
 #[test]
 fn each_listener_hears_what_is_for_it(rt: HostRuntime) {
     let alloc = rt.alloc();
-    let log = log_of(&rt, alloc, pooled(&rt, alloc), DOWNLOAD.as_slice());
+    let log = log_of(&rt, alloc, pooled(&rt, alloc), DOWNLOAD);
     let mut files = Noted {
         numbers: Vec::new(alloc),
     };

@@ -2,19 +2,15 @@
 
 ghost use Rattle.ftp_events.specs.Right.{IsRight};
 
-use crate::values::{log_of, pooled};
+use crate::values::{ANN, log_of, pooled};
 use ftp_check_log::{put_evidence, why};
 use ftp_events::Log;
 use ftp_options::Options;
 use std::alloc::Global;
 use std::process::Abort;
 
-/// Three logins, and a PASV of each.
-const FULL: [&[u8]; 15] = [
-    b"0 connect 1 10.0.0.1:4000 10.0.0.9:21 1",
-    b"0 user 1 ann",
-    b"0 pass 1",
-    b"0 auth 1 good",
+/// Two more logins, and a PASV of each.
+const FULL: &[&[u8]] = &[
     b"0 connect 2 10.0.0.1:4000 10.0.0.9:21 2",
     b"0 user 2 ann",
     b"0 pass 2",
@@ -30,11 +26,7 @@ const FULL: [&[u8]; 15] = [
 
 /// A port that is granted, connected to by a stranger and twice by its client, granted again and given up by an ABOR, and
 /// connected to once more.
-const COMING_AND_GOING: [&[u8]; 11] = [
-    b"0 connect 1 10.0.0.1:4000 10.0.0.9:21 1",
-    b"0 user 1 ann",
-    b"0 pass 1",
-    b"0 auth 1 good",
+const COMING_AND_GOING: &[&[u8]] = &[
     b"0 pasv 1 0 - -",
     b"0 data 11 10.0.0.2:4001 50000",
     b"0 data 12 10.0.0.1:4001 50000",
@@ -55,11 +47,11 @@ fn told(rt: &impl Abort, alloc: Global, options: &Options, log: &Log, k: u64) ->
     text
 }
 
-/// Compares the printed evidence for entries of the log of these lines.
+/// Compares the printed evidence for entries of the log of a login and of these lines.
 fn compare(rt: &impl Abort, alloc: Global, lines: &[&[u8]], rows: &[(u64, &[u8])]) {
     let options = pooled(rt, alloc);
     let copy = options.copy(alloc).expect(rt, "options");
-    let log = log_of(rt, alloc, copy, lines);
+    let log = log_of(rt, alloc, copy, &[ANN, lines]);
     for (k, text) in rows {
         assert_eq!(rt; told(rt, alloc, &options, &log, *k).as_slice(), *text);
     }
@@ -68,7 +60,7 @@ fn compare(rt: &impl Abort, alloc: Global, lines: &[&[u8]], rows: &[(u64, &[u8])
 #[test]
 fn a_full_range_names_the_grant_of_each_port(rt: HostRuntime) {
     let rows: [(u64, &[u8]); 2] = [(13, b"plain"), (14, b"full 12 13")];
-    compare(&rt, rt.alloc(), FULL.as_slice(), rows.as_slice());
+    compare(&rt, rt.alloc(), FULL, rows.as_slice());
 }
 
 #[test]
@@ -80,10 +72,5 @@ fn a_connection_names_the_grant_or_the_release_of_its_port(rt: HostRuntime) {
         (7, b"free 6"),
         (10, b"free 9"),
     ];
-    compare(
-        &rt,
-        rt.alloc(),
-        COMING_AND_GOING.as_slice(),
-        rows.as_slice(),
-    );
+    compare(&rt, rt.alloc(), COMING_AND_GOING, rows.as_slice());
 }

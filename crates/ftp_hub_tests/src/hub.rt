@@ -1,6 +1,6 @@
 //! Runs with ample memory, and at the end of the count of events.
 
-use crate::values::{decisions_of, events, log_of, pooled};
+use crate::values::{ANN, decisions_of, events, log_of, pooled};
 use ftp_base::{LinkTable, MemoryLink, MemoryStorage};
 use ftp_events::{Decision, EventKind, HubEvent, Log};
 use ftp_hub::{Hub, RunError, covers, run_events};
@@ -8,24 +8,23 @@ use ftp_transfer::Ticket;
 
 const TICKET: Ticket = Ticket { session: 1, nr: 1 };
 
-/// A login, the data connection of another client, and that of the own client, who takes a file.
-const EVENTS: [&[u8]; 10] = [
-    b"0 connect 1 10.0.0.1:4000 10.0.0.9:21 1",
-    b"0 user 1 ann",
-    b"0 pass 1",
-    b"0 auth 1 good",
-    b"0 pasv 1 0 - -",
-    b"0 data 11 10.0.0.2:1 50000",
-    b"0 data 12 10.0.0.1:1 50000",
-    b"0 retr 1 a",
-    b"0 end 1.1",
-    b"0 closed 1",
+/// Behind a login the data connection of another client, and that of the own client, who takes a file.
+const EVENTS: &[&[&[u8]]] = &[
+    ANN,
+    &[
+        b"0 pasv 1 0 - -",
+        b"0 data 11 10.0.0.2:1 50000",
+        b"0 data 12 10.0.0.1:1 50000",
+        b"0 retr 1 a",
+        b"0 end 1.1",
+        b"0 closed 1",
+    ],
 ];
 
 #[test]
 fn a_client_takes_a_file_and_another_is_turned_away(rt: HostRuntime) {
     let alloc = rt.alloc();
-    let log = log_of(&rt, alloc, pooled(&rt, alloc), EVENTS.as_slice());
+    let log = log_of(&rt, alloc, pooled(&rt, alloc), EVENTS);
     let decisions = [
         Decision::Opened,
         Decision::NeedPass,
@@ -44,7 +43,7 @@ fn a_client_takes_a_file_and_another_is_turned_away(rt: HostRuntime) {
 
 #[test]
 fn a_connection_without_a_link_is_not_covered(rt: HostRuntime) {
-    let events = events(&rt, rt.alloc(), EVENTS.as_slice());
+    let events = events(&rt, rt.alloc(), EVENTS);
     let links: LinkTable<MemoryLink> = LinkTable::new(rt.alloc());
     assert!(rt; !covers(&links, &events));
 }

@@ -1,17 +1,13 @@
 //! The part of a log that belongs to one client, run with nobody else there.
 
-use crate::values::{decisions_of, log_of, pooled};
+use crate::values::{ANN, decisions_of, log_of, pooled};
 use ftp_events::{Decision, Log, replies_of};
 use ftp_hub::isolation;
 use std::alloc::{AllocError, Global};
 use std::process::Abort;
 
-/// Two clients log in, each takes a port, and a data connection of each comes to it.
-const BOTH: [&[u8]; 12] = [
-    b"0 connect 1 10.0.0.1:4000 10.0.0.9:21 1",
-    b"0 user 1 ann",
-    b"0 pass 1",
-    b"0 auth 1 good",
+/// Another client logs in too, each takes a port, and a data connection of each comes to it.
+const BOTH: &[&[u8]] = &[
     b"0 connect 2 10.0.0.2:4000 10.0.0.9:21 2",
     b"0 user 2 ann",
     b"0 pass 2",
@@ -24,7 +20,7 @@ const BOTH: [&[u8]; 12] = [
 
 /// The log of what belongs to 10.0.0.1, on a hub of its own.
 fn alone(rt: &impl Abort, alloc: Global) -> Log {
-    let log = log_of(rt, alloc, pooled(rt, alloc), BOTH.as_slice());
+    let log = log_of(rt, alloc, pooled(rt, alloc), &[ANN, BOTH]);
     isolation(alloc, pooled(rt, alloc), &log, 0x0a00_0001).expect(rt, "a log")
 }
 

@@ -6,7 +6,7 @@ use ftp_audit::{LogForm, log_text};
 // 2026-11-28T13:57:01Z, in milliseconds since the first day of 1970.
 const START: u64 = 1_795_874_221_000;
 
-const VISIT: [&[u8]; 12] = [
+const VISIT: &[&[u8]] = &[
     b"0 connect 7 192.0.2.5:4000 192.0.2.9:21 1",
     b"10 user 7 ann",
     b"10 pass 7",
@@ -24,7 +24,7 @@ const VISIT: [&[u8]; 12] = [
 #[test]
 fn a_visit_has_its_lines_in_both_forms(rt: HostRuntime) {
     let alloc = rt.alloc();
-    let log = log_of(&rt, alloc, pooled(&rt, alloc), VISIT.as_slice());
+    let log = log_of(&rt, alloc, pooled(&rt, alloc), &[VISIT]);
     let own: &[u8] = b"2026-11-28T13:57:01.000Z 7 192.0.2.5 unknown connect 0 0 ok -\n\
         2026-11-28T13:57:01.020Z 7 192.0.2.5 ann login 0 0 failed -\n\
         2026-11-28T13:57:01.040Z 7 192.0.2.5 ann login 0 0 ok -\n\

@@ -25,17 +25,28 @@ pub fn pooled(rt: &impl Abort, alloc: Global) -> Options
     builder.build().expect(rt, "options").options
 }
 
+/// Ann logs in as session 1.
+pub const ANN: &[&[u8]] = &[
+    b"0 connect 1 10.0.0.1:4000 10.0.0.9:21 1",
+    b"0 user 1 ann",
+    b"0 pass 1",
+    b"0 auth 1 good",
+];
+
 /// The event of a line of a script.
 pub fn event(rt: &impl Abort, alloc: Global, line: &[u8]) -> HubEvent {
     read_event(alloc, line).ok().expect(rt, "an event")
 }
 
-pub fn events(rt: &impl Abort, alloc: Global, lines: &[&[u8]]) -> Vec<HubEvent> {
+/// The events of lines, one script behind the other.
+pub fn events(rt: &impl Abort, alloc: Global, scripts: &[&[&[u8]]]) -> Vec<HubEvent> {
     let mut events = Vec::new(alloc);
-    for line in lines {
-        events
-            .push(event(rt, alloc, line))
-            .expect(rt, "room for an event");
+    for script in scripts {
+        for line in *script {
+            events
+                .push(event(rt, alloc, line))
+                .expect(rt, "room for an event");
+        }
     }
     events
 }
@@ -63,12 +74,12 @@ pub fn links(rt: &impl Abort, alloc: Global) -> LinkTable<MemoryLink> {
     links
 }
 
-/// The log of the lines of a script on a fresh hub.
-pub fn log_of(rt: &impl Abort, alloc: Global, options: Options, lines: &[&[u8]]) -> Log
+/// The log of scripts, one behind the other, on a fresh hub.
+pub fn log_of(rt: &impl Abort, alloc: Global, options: Options, scripts: &[&[&[u8]]]) -> Log
     requires shared { is_legacy options.mode ≡ false }
     ensures right { IsRight options result.entries }
 {
-    let events = events(rt, alloc, lines);
+    let events = events(rt, alloc, scripts);
     let mut storage = storage(alloc).ok().expect(rt, "a storage");
     let mut links = links(rt, alloc);
     assert!(rt; covers(&links, &events));
