@@ -38,7 +38,7 @@ use Rattle.ftp_events.specs.Words.{◌⇒◌∣◌, total, total_after}
 use Rattle.ftp_events.specs.Classes.{life}
 use Rattle.ftp_events.specs.Session.{live_count, running_job}
 use Rattle.ftp_events.specs.Statuses.{ended_of, status_of, same_word, same_status, receives}
-use Rattle.ftp_events.specs.Tallies.{saturated, of_word, of_status}
+use Rattle.ftp_events.specs.Tallies.{Grows, saturated, of_word, of_status}
 
 -- one where it holds
 abbrev pub one_if : Bool → ℕ
@@ -134,6 +134,11 @@ file_by is outcome = one_if (is outcome.result)
 -- the bytes of a transfer that moved a file this way
 abbrev pub bytes_by : (Completion → Bool) → Outcome → ℕ
 bytes_by is outcome = is outcome.result ⇒ outcome.bytes ∣ 0
+
+-- the files of a count are one more, where a transfer that was told of moved a file this way, and so are their bytes
+abbrev pub GrowsBy : (Completion → Bool) → Option Outcome → Files → Files → Type 0
+GrowsBy is told old new =
+    Grows (option_map_or (file_by is) told 0) old.count new.count × Grows (option_map_or (bytes_by is) told 0) old.bytes new.bytes
 
 -- the files that were moved this way, where clients were told, and their bytes
 abbrev pub FilesOf : (Completion → Bool) → List Entry → Files → Type 0

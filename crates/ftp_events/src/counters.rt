@@ -15,8 +15,8 @@ ghost use Rattle.ftp_events.specs.Counts.{Counted, CountsOf, begins, ended_job, 
 
 use crate::action::Action;
 use crate::counting::{
-    count_failure, count_read, count_received, count_replies, count_sent, count_status,
-    count_written, delivered, finished,
+    count_failure, count_file, count_received, count_replies, count_sent, count_status, delivered,
+    finished,
 };
 use crate::decision::{Decision, Life};
 use crate::event::Answer;
@@ -246,8 +246,7 @@ impl Counters {
         count_received(&mut self.received, end);
         count_status(&mut self.transferred, end);
         let told = delivered(decision, answer, actions);
-        count_read(&mut self.read, told);
-        count_written(&mut self.written, told);
+        count_file(&mut self.read, &mut self.written, told);
         count_replies(&mut self.replies, actions);
     }
 

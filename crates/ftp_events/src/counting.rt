@@ -6,7 +6,7 @@ ghost use Rattle.std.specs.Option.{option_map_or};
 ghost use Rattle.ftp_events.specs.declared.status.CommandWord.{CommandWord};
 ghost use Rattle.ftp_events.specs.declared.status.Status7.{Status7};
 ghost use Rattle.ftp_events.specs.Tallies.{Grows, of_word, of_status};
-ghost use Rattle.ftp_events.specs.Counts.{by_end, bytes_by, delivered, file_by, finished, first_digit, is_delivery, is_failure, is_reply, is_sent, is_written, one_if, received_by, sent_by, status_by};
+ghost use Rattle.ftp_events.specs.Counts.{GrowsBy, by_end, delivered, finished, first_digit, is_delivery, is_failure, is_reply, is_sent, is_written, one_if, received_by, sent_by, status_by};
 
 use crate::action::Action;
 use crate::decision::Decision;
@@ -99,27 +99,18 @@ fn is_delivery(action: &Action) -> bool
     }
 }
 
-/// Counts a file that was sent.
-pub(crate) fn count_read(read: &mut Files, told: Option<Outcome>)
-    ensures files { Grows (option_map_or (file_by is_sent) told 0) read.old.count read.new.count }
-    ensures bytes { Grows (option_map_or (bytes_by is_sent) told 0) read.old.bytes read.new.bytes }
+/// Counts a file that was sent, or written.
+pub(crate) fn count_file(read: &mut Files, written: &mut Files, told: Option<Outcome>)
+    ensures read { GrowsBy is_sent told read.old read.new }
+    ensures written { GrowsBy is_written told written.old written.new }
 {
-    if let Some(outcome) = told {
-        if let Completion::Sent = outcome.result {
-            read.add(outcome.bytes);
-        }
-    }
-}
-
-/// Counts a file that was written.
-pub(crate) fn count_written(written: &mut Files, told: Option<Outcome>)
-    ensures files { Grows (option_map_or (file_by is_written) told 0) written.old.count written.new.count }
-    ensures bytes { Grows (option_map_or (bytes_by is_written) told 0) written.old.bytes written.new.bytes }
-{
-    if let Some(outcome) = told {
-        if let Completion::Written = outcome.result {
-            written.add(outcome.bytes);
-        }
+    let Some(outcome) = told else {
+        return;
+    };
+    match outcome.result {
+        Completion::Sent => read.add(outcome.bytes),
+        Completion::Written => written.add(outcome.bytes),
+        _ => {}
     }
 }
 

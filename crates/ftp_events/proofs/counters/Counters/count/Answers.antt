@@ -1,11 +1,13 @@
-use Rattle.std.proofs.Common.{◌≡◌, ℕ, ◌+◌, ap, ◌∙◌, get_or}
+use Rattle.std.proofs.Common.{◌≡◌, ℕ, ◌+◌, Bool, ◌∷◌, ap, sym, subst, ◌∙◌, get_or}
 use Rattle.std.specs.Option.{option_map_or}
+use Rattle.ftp_transfer.specs.declared.job.Completion.{Completion}
 use Rattle.ftp_transfer.specs.declared.job.Outcome.{Outcome}
 use Rattle.ftp_events.specs.declared.counters.Counters.{Counters}
 use Rattle.ftp_events.specs.declared.status.Ended.{Ended}
+use Rattle.ftp_events.specs.declared.tallies.Files.{Files}
 use Rattle.ftp_events.specs.Session.{live_count}
 use Rattle.ftp_events.specs.Tallies.{saturated, of_word, of_status}
-use Rattle.ftp_events.specs.Counts.{opened_count, failure_count, sent_bytes, received_bytes, status_count, reply_count, over_deliveries, ended_job, finished, delivered, by_end, bytes_by, file_by, is_sent, is_written, received_by, sent_by, status_by}
+use Rattle.ftp_events.specs.Counts.{FilesOf, GrowsBy, entry_of, opened_count, failure_count, sent_bytes, received_bytes, status_count, reply_count, over_deliveries, ended_job, finished, delivered, by_end, bytes_by, file_by, is_sent, is_written, received_by, sent_by, status_by}
 use Rattle.ftp_events.proofs.counters.Counters.count.Goals as goal
 
 pub returns : goal.returns
@@ -17,10 +19,16 @@ returns c = λ o past event few is old.
     saturated (n + by_end adds c.finished-end.result)
     ≡ saturated (n + by_end adds (finished c.args.decision c.args.answer (ended_job o past event.kind))) =
     λ adds n. ap (λ x. saturated (n + by_end adds x)) end in
-    let files : (adds : Outcome → ℕ) (n : ℕ) →
+    let told : (adds : Outcome → ℕ) (n : ℕ) →
     saturated (n + option_map_or adds c.delivered-told.result 0)
     ≡ saturated (n + option_map_or adds (delivered c.args.decision c.args.answer c.args.actions.now) 0) =
     λ adds n. ap (λ x. saturated (n + option_map_or adds x 0)) c.delivered-told.ensures in
+    let files : (is : Completion → Bool) (old new : Files) → GrowsBy is c.delivered-told.result old new → FilesOf is past old →
+    FilesOf is (entry_of event c.args.answer c.args.decision c.args.actions.now ∷ past) new =
+    λ is old new grows was. (
+      grows.0 (over_deliveries (file_by is) past) was.0 ∙ told (file_by is) (over_deliveries (file_by is) past),
+      grows.1 (over_deliveries (bytes_by is) past) was.1 ∙ told (bytes_by is) (over_deliveries (bytes_by is) past),
+    ) in
     record {
       session = c.count_life.ensures.session (live_count past) few old.session;
       opened = c.count_life.ensures.opened (opened_count past) old.opened;
@@ -30,13 +38,7 @@ returns c = λ o past event few is old.
       transferred = λ w s.
           c.count_status.ensures w s (status_count o past w s) (ap (λ (x : Counters). of_word (of_status x.transferred s) w) others ∙ old.transferred w s)
           ∙ plus (status_by w s) (status_count o past w s);
-      read = (
-        c.count_read.ensures.files (over_deliveries (file_by is_sent) past) (ap (λ (x : Counters). x.read.count) others ∙ old.read.0) ∙ files (file_by is_sent) (over_deliveries (file_by is_sent) past),
-        c.count_read.ensures.bytes (over_deliveries (bytes_by is_sent) past) (ap (λ (x : Counters). x.read.bytes) others ∙ old.read.1) ∙ files (bytes_by is_sent) (over_deliveries (bytes_by is_sent) past),
-      );
-      written = (
-        c.count_written.ensures.files (over_deliveries (file_by is_written) past) (ap (λ (x : Counters). x.written.count) others ∙ old.written.0) ∙ files (file_by is_written) (over_deliveries (file_by is_written) past),
-        c.count_written.ensures.bytes (over_deliveries (bytes_by is_written) past) (ap (λ (x : Counters). x.written.bytes) others ∙ old.written.1) ∙ files (bytes_by is_written) (over_deliveries (bytes_by is_written) past),
-      );
+      read = files is_sent _ _ c.count_file.ensures.read (subst (FilesOf is_sent past) (sym (ap (λ (x : Counters). x.read) others)) old.read);
+      written = files is_written _ _ c.count_file.ensures.written (subst (FilesOf is_written past) (sym (ap (λ (x : Counters). x.written) others)) old.written);
       replies = λ d. c.count_replies.ensures d (reply_count past d) (ap (λ (x : Counters). get_or x.replies d 0) others ∙ old.replies d);
     }
