@@ -1,6 +1,6 @@
 //! Numbers as intervals that do not touch.
 
-ghost use Rattle.std.specs.Prelude.{◌≡◌, ℕ, ◌+◌, ◌-◌, ◌<◌, ◌≤◌, ◌^◌, ◌||◌, ◌==◌, ◌≢◌, ◌⊎◌, Some, true, false, map, unwrap_or, IfSome, IfNone, IfOk, OnOk, OnErr};
+ghost use Rattle.std.specs.Prelude.{◌≡◌, ℕ, ◌+◌, ◌-◌, ◌<◌, ◌≤◌, ◌^◌, ◌||◌, ◌==◌, ◌≢◌, ◌⊎◌, nat_le, Some, true, false, map, unwrap_or, IfSome, IfNone, IfOk, OnOk, OnErr};
 ghost use Rattle.std.specs.Ordering.{nat_cmp};
 ghost use Rattle.std.specs.BTreeMap.{IsOrdered};
 ghost use Rattle.ftp_switchboard.specs.Used.{has, is_in, is_used, HasSpare, IsApart, SameNumbers};
@@ -131,9 +131,11 @@ impl Numbers {
 
 // The last interval that begins at the number or below it.
 fn last_by(settled: &BTreeMap<u64, u64>, n: u64) -> Option<Interval>
+    requires { IsDisjoint settled.now.entries }
     ensures found { IfSome result (λ last. IsLastBy settled.now.entries n last.lo last.hi) }
+    ensures used { IfSome result (λ last. nat_le n last.hi ≡ is_used (intervals_of settled.now.entries) n) }
     ensures none { IfNone result (BeginsNoneBy settled.now.entries n) }
-    ensures ordered { IsOrdered nat_cmp settled.now }
+    ensures unused { IfNone result (is_used (intervals_of settled.now.entries) n ≡ false) }
 {
     let (lo, hi) = settled.range(..=n).next_back()?;
     Some(Interval { lo: *lo, hi: *hi })
