@@ -29,7 +29,7 @@ pub(crate) fn handle(
     at: u64,
     options: &Options,
 ) -> Decision
-    requires { IsReady room.old }
+    requires room { IsReady room.old }
     ensures goes_on { IsTrue (goes_on result) }
     ensures decision { result ≡ slot_row options.now at session.old }
     ensures session { (answer : Answer) (job : Option Running) → session.new ≡ session_after at (SlotTick number) answer result 0 job session.old }
