@@ -21,7 +21,7 @@ ghost use Rattle.ftp_handlers.specs.Rooms.{IsReady, actions_in, kept_in, twice_i
 ghost use Rattle.ftp_handlers.specs.Handlers.{goes_on, kept_by, notices_of, failures_in, failures_left, policy_in, login_decision, CanCount, HasSpare};
 
 use crate::room::Room;
-use ftp_base::{AuthAnswer, LockState, PresenceEvent, ReplyCode};
+use ftp_base::{AuthAnswer, Bytes, LockState, PresenceEvent, ReplyCode};
 use ftp_events::{Decision, Login, Session, wording};
 use ftp_lockout::FailedLoginsCache;
 use ftp_options::Options;
@@ -109,7 +109,7 @@ fn weigh(
     match answer {
         AuthAnswer::BadUser => unless_good(answer),
         AuthAnswer::Refused => Some(Refusal {
-            lock: count(cache, session, room, at),
+            lock: count(cache, session, room.take_kept(), at),
             delay: 0,
         }),
         AuthAnswer::Disabled | AuthAnswer::NotEntered | AuthAnswer::Good => {
@@ -128,17 +128,15 @@ fn weigh(
 fn count(
     cache: &mut FailedLoginsCache,
     session: &Session,
-    room: &mut Room,
+    name: Bytes,
     at: u64,
 ) -> Option<LockState>
-    requires kept { kept_in room.old ≡ unwrap_or session.now.name (codes "unknown") }
+    requires kept { name ≡ unwrap_or session.now.name (codes "unknown") }
     requires spare { 0 < cache.old.spare }
     ensures lock { result ≡ lock_state cache.old.policy (one_more cache.old.policy at (failures_of cache.old (login_key cache.old.policy session.now))).count }
     ensures failures { (key : LoginKey) → failures_of cache.new key ≡ (same_key (login_key cache.old.policy session.now) key ⇒ failures_by auth.Refused cache.old.policy at (failures_of cache.old key) ∣ failures_of cache.old key) }
     ensures policy { cache.new.policy ≡ cache.old.policy }
-    ensures same { room.new ≡ record room.old { kept = room.new.kept } }
 {
-    let name = room.take_kept();
     match cache.failed(at, session.opening.client, name) {
         Ok(lock) => lock,
         Err(_) => unreachable!(),

@@ -8,6 +8,5 @@ use Rattle.ftp_handlers.proofs.auth_done.count.Goals as goal
 pub returns-clause-failures : goal.returns-clause-failures
 returns-clause-failures c key =
     let before : Option Failures = failures_of c.args.cache.now key in
-    let kept = c.take_kept-name.ensures.kept ∙ c.requires.kept in
     c.in-Ok.ensures.counted key
-    ∙ same_key-login key c.args.cache.now.policy c.args.session.now c.take_kept-name.result kept (Some (one_more c.args.cache.now.policy c.args.at before)) before
+    ∙ same_key-login key c.args.cache.now.policy c.args.session.now c.args.name c.requires.kept (Some (one_more c.args.cache.now.policy c.args.at before)) before
