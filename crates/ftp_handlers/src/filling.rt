@@ -67,29 +67,14 @@ impl Room {
     {
         match kind {
             EventKind::Transfer { .. } | EventKind::Stou { .. } => {
-                self.ask_transfer(kind, kept, session)
+                self.pending = fix_transfer(self.alloc, kind, kept, session)?;
+                Ok(())
             }
             _ => {
                 self.ask_nothing();
                 Ok(())
             }
         }
-    }
-
-    // Puts the transfer in that is asked for.
-    #[inline(never)]
-    fn ask_transfer(
-        &mut self,
-        kind: &EventKind,
-        kept: &Bytes,
-        session: &Session,
-    ) -> Result<(), AllocError>
-        requires { kept.now ≡ kept_by kind.now session.now }
-        ensures pending { OnOk result (self.new.pending ≡ asked_for kind.now session.now) }
-        ensures same { self.new ≡ record self.old { pending = self.new.pending } }
-    {
-        self.pending = fix_transfer(self.alloc, kind, kept, session)?;
-        Ok(())
     }
 
     /// Lets the transfer go that another event asked for.

@@ -73,6 +73,7 @@ pub fn copy_user(alloc: Global, session: &Session) -> Result<Bytes, AllocError>
 }
 
 /// The transfer that an event asks for, as it is fixed now: STOU stores under the name that is kept.
+#[inline(never)]
 pub fn fix_transfer(
     alloc: Global,
     kind: &EventKind,
