@@ -149,13 +149,9 @@ impl Room {
         ensures len { len_in self.new ≡ len_in self.old + 1 }
         ensures same { self.new ≡ record self.old { actions = self.new.actions } }
     {
-        let action = reply_action(session, delay, code, ReplyText::from_static(words));
-        if self.actions.is_twice() {
-            let copy = reply_action(session, delay, code, ReplyText::from_static(words));
-            self.actions.push_twice(action, copy);
-        } else {
-            self.actions.push_once(action);
-        }
+        let reply = coded(code, ReplyText::from_static(words));
+        let copy = coded(code, ReplyText::from_static(words));
+        self.send_reply(session, delay, reply, copy);
     }
 
     /// Tells listeners that the user whom the event tells is here or gone.
@@ -251,23 +247,7 @@ impl Room {
         if let Reply::None = &reply {
             return;
         }
-        let action = Action::Reply {
-            session,
-            delay: 0,
-            reply,
-        };
-        if !self.actions.is_twice() {
-            self.actions.push_once(action);
-            return;
-        }
-        self.actions.push_twice(
-            action,
-            Action::Reply {
-                session,
-                delay: 0,
-                reply: copy,
-            },
-        );
+        self.send_reply(session, 0, reply, copy);
     }
 
     /// Sends words of the program as a reply at once.
@@ -360,9 +340,23 @@ impl Room {
         ensures same { self.new ≡ record self.old { actions = self.new.actions } }
     {
         let (msg, copy) = text.into_both();
-        let action = reply_action(session, delay, code, ReplyText::from_bytes(msg));
+        let reply = coded(code, ReplyText::from_bytes(msg));
+        let copy = coded(code, ReplyText::from_bytes(copy));
+        self.send_reply(session, delay, reply, copy);
+    }
+
+    // Sends a reply, and its copy where each action is put in twice.
+    #[inline(always)]
+    fn send_reply(&mut self, session: u64, delay: u32, reply: Reply, copy: Reply)
+        requires place { HasPlace self.old }
+        requires equal { IsTrue (twice_in self.old) → copy ≡ reply }
+        ensures actions { actions_in self.new ≡ actions_in self.old ++ action.Reply session delay reply ∷ [] }
+        ensures len { len_in self.new ≡ len_in self.old + 1 }
+        ensures same { self.new ≡ record self.old { actions = self.new.actions } }
+    {
+        let action = reply_action(session, delay, reply);
         if self.actions.is_twice() {
-            let copy = reply_action(session, delay, code, ReplyText::from_bytes(copy));
+            let copy = reply_action(session, delay, copy);
             self.actions.push_twice(action, copy);
         } else {
             self.actions.push_once(action);
@@ -391,14 +385,21 @@ fn copy_plain(action: &Action) -> Action
 }
 
 // A reply that is sent after a delay.
-fn reply_action(session: u64, delay: u32, code: ReplyCode, msg: ReplyText) -> Action
-    ensures { result ≡ action.Reply session delay (reply.CodeAndMsg code msg) }
+fn reply_action(session: u64, delay: u32, reply: Reply) -> Action
+    ensures { result ≡ action.Reply session delay reply }
 {
     Action::Reply {
         session,
         delay,
-        reply: Reply::CodeAndMsg { code, msg },
+        reply,
     }
+}
+
+// A text with its code.
+fn coded(code: ReplyCode, msg: ReplyText) -> Reply
+    ensures { result ≡ reply.CodeAndMsg code msg }
+{
+    Reply::CodeAndMsg { code, msg }
 }
 
 // Whom a notice is about.
