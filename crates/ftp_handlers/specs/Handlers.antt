@@ -11,6 +11,7 @@ use Rattle.ftp_base.specs.Storage.{root}
 use Rattle.ftp_options.specs.declared.options.Options.{Options}
 use Rattle.ftp_options.specs.declared.host.PassiveHost.{PassiveHost}
 use Rattle.ftp_options.specs.declared.host.PassiveHost.TheVariants.{Dns}
+use Rattle.ftp_options.specs.Host.{lacks_lookup}
 use Rattle.ftp_options.specs.declared.lockout.FailedLoginsPolicy.{FailedLoginsPolicy}
 use Rattle.ftp_lockout.specs.declared.key.LoginKey.{LoginKey}
 use Rattle.ftp_lockout.specs.declared.cache.Failures.{Failures}
@@ -182,6 +183,14 @@ number_of k = unwrap_or (named_session k) 0
 abbrev pub word_of : EventKind → ℕ
 word_of (kind.Pasv s word lookup bound) = word
 word_of _ = 0
+
+-- a PASV may be decided so on what was looked up: a port is granted where nothing lacks that its reply shows
+abbrev pub FitsLookup : PassiveHost → Option ℕ → Decision → Type 0
+FitsLookup host lookup (decision.Granted port) = lacks_lookup host lookup ≡ false
+FitsLookup host lookup decision.NoLookup = lacks_lookup host lookup ≡ true
+FitsLookup host lookup decision.Full = Unit {0}
+FitsLookup host lookup decision.NoSocket = Unit {0}
+FitsLookup host lookup _ = ⊥
 
 -- the port that was bound for the session of a PASV alone
 abbrev pub bound_of : EventKind → Option ℕ

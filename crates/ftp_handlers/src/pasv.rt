@@ -9,7 +9,6 @@ ghost use Rattle.ftp_options.specs.Modes.{is_legacy};
 ghost use Rattle.ftp_switchboard.specs.Board.{HasRoom, SameRange, holder_at, holder_for, words_for};
 ghost use Rattle.ftp_events.specs.declared.decision.Decision.TheVariants as decision;
 ghost use Rattle.ftp_events.specs.declared.session.Running.{Running};
-ghost use Rattle.ftp_events.specs.declared.session.Slot.TheVariants.{Waits};
 ghost use Rattle.ftp_events.specs.declared.event.Answer.{Answer};
 ghost use Rattle.ftp_events.specs.Advertised.{lacks_address};
 ghost use Rattle.ftp_events.specs.CommandRows.{if_logged_in, bound_row, grant_row, pasv_row};
@@ -19,7 +18,7 @@ ghost use Rattle.ftp_events.specs.Slot.{waiting_port};
 ghost use Rattle.ftp_events.specs.Session.{session_after};
 ghost use Rattle.ftp_events.specs.Acts.{reply_acts, session_acts};
 ghost use Rattle.ftp_handlers.specs.Rooms.{IsReady, CanReply, HasPlace, actions_in, twice_in};
-ghost use Rattle.ftp_handlers.specs.Handlers.{is_pasv, goes_on, number_of, notices_of, word_of, bound_of, held_for, held_after, held_with, passive_width, width_for, HasRange, HasRoomFor};
+ghost use Rattle.ftp_handlers.specs.Handlers.{is_pasv, goes_on, number_of, notices_of, word_of, bound_of, held_for, held_after, held_with, passive_width, width_for, FitsLookup, HasRange, HasRoomFor};
 
 use crate::login::ask_for_login;
 use crate::room::Room;
@@ -28,9 +27,6 @@ use ftp_events::{Decision, EventKind, Login, Session, Slot};
 use ftp_options::{Options, PassiveHost};
 use ftp_switchboard::{Looks, Switchboard};
 use std::mem;
-
-// What is told where no port is free for the client.
-const NO_PORT: &[u8] = b"Could not allocate passive port";
 
 // What is told where no socket was bound for the session, or there is no address to show.
 const NO_CONNECTION: &[u8] = b"No data connection established";
@@ -71,7 +67,9 @@ pub fn handle(
 {
     let EventKind::Pasv {
         session: number,
-        ..
+        word,
+        lookup,
+        bound,
     } = args
     else {
         unreachable!()
@@ -90,101 +88,68 @@ pub fn handle(
         return Decision::ModeOff;
     }
     if options.mode.is_legacy() {
-        return take_bound(session, args, room, at, options);
+        let decision = weigh_bound(session, *lookup, *bound, options);
+        tell(session, args, decision, room, at, options);
+        return decision;
     }
-    take_free(session, args, board, room, at, options, looks)
+    let decision = take_free(session, *number, *word, *lookup, board, options, looks);
+    tell(session, args, decision, room, at, options);
+    decision
 }
 
-// Advertises the port that was bound for the session alone.
-fn take_bound(
-    session: &mut Session,
-    args: &EventKind,
-    room: &mut Room,
-    at: u64,
+// Decides on the port that was bound for the session alone.
+fn weigh_bound(
+    session: &Session,
+    lookup: Option<u32>,
+    bound: Option<u16>,
     options: &Options,
 ) -> Decision
-    requires of_this_event { IsTrue (is_pasv args.now) }
-    requires room { IsReady room.old }
-    requires letters { CanReply (width_for options.now args.now) room.old }
     ensures goes_on { IsTrue (goes_on result) }
-    ensures decision { result ≡ bound_row options.now session.old (lookup_of args.now) (bound_of args.now) }
-    ensures session { (answer : Answer) (job : Option Running) → session.new ≡ session_after at args.now answer result (notices_of args.now result answer) job session.old }
-    ensures actions { (answer : Answer) (job : Option Running) → actions_in room.new ≡ session_acts options.now (number_of args.now) args.now answer result job (Some session.old) }
-    ensures twice { twice_in room.new ≡ twice_in room.old }
+    ensures decision { result ≡ bound_row options.now session.now lookup bound }
+    ensures fits { FitsLookup options.now.host lookup result }
 {
-    let EventKind::Pasv {
-        session: number,
-        lookup,
-        bound,
-        ..
-    } = args
-    else {
-        unreachable!()
-    };
-    session.active_at = at;
-    let Some(port) = *bound else {
-        room.reply(*number, ReplyCode::CantOpenDataConnection, NO_CONNECTION);
+    let Some(port) = bound else {
         return Decision::NoSocket;
     };
     if is_unfit(options, port, session.opening.local.ip) {
-        room.reply(*number, ReplyCode::CantOpenDataConnection, NO_CONNECTION);
         return Decision::NoSocket;
     }
-    if options.host.lacks_lookup(*lookup) {
-        return tell_unresolved(*number, &options.host, *lookup, room);
+    if options.host.lacks_lookup(lookup) {
+        return Decision::NoLookup;
     }
-    grant(session, args, port, room, at, options)
+    Decision::Granted { port }
 }
 
-// Takes the first port that is free for the client, and advertises it.
+// Takes the first port that is free for the client, where there is an address to show with it.
 fn take_free(
-    session: &mut Session,
-    args: &EventKind,
+    session: &Session,
+    number: u64,
+    word: u16,
+    lookup: Option<u32>,
     board: &mut Switchboard,
-    room: &mut Room,
-    at: u64,
     options: &Options,
     looks: &mut Looks,
 ) -> Decision
-    requires of_this_event { IsTrue (is_pasv args.now) }
-    requires room { IsReady room.old }
-    requires letters { CanReply (width_for options.now args.now) room.old }
-    requires board_room { HasRoomFor board.old session.old }
+    requires board_room { HasRoomFor board.old session.now }
     requires looks { looks.old ≤ u64.MAX - 1059 }
     ensures goes_on { IsTrue (goes_on result) }
-    ensures decision { result ≡ option_map_or (grant_row options.now.host (lookup_of args.now)) (first_free (held_for board.old session.old) board.old.lo board.old.hi (word_of args.now)) decision.Full }
-    ensures session { (answer : Answer) (job : Option Running) → session.new ≡ session_after at args.now answer result (notices_of args.now result answer) job session.old }
-    ensures actions { (answer : Answer) (job : Option Running) → actions_in room.new ≡ session_acts options.now (number_of args.now) args.now answer result job (Some session.old) }
-    ensures holders { (a p : ℕ) → holder_at board.new a p ≡ held_after result (number_of args.now) (ipv4 session.old.opening.client) (waiting_port session.old.slot) a p (holder_at board.old a p) }
+    ensures decision { result ≡ option_map_or (grant_row options.now.host lookup) (first_free (held_for board.old session.now) board.old.lo board.old.hi word) decision.Full }
+    ensures fits { FitsLookup options.now.host lookup result }
+    ensures holders { (a p : ℕ) → holder_at board.new a p ≡ held_after result number (ipv4 session.now.opening.client) (waiting_port session.now.slot) a p (holder_at board.old a p) }
     ensures looks { (looks.old ≤ looks.new) × (looks.new ≤ looks.old + (words_for board.old.lo board.old.hi + 35)) }
     ensures range { SameRange board.old board.new }
-    ensures twice { twice_in room.new ≡ twice_in room.old }
 {
-    let EventKind::Pasv {
-        session: number,
-        word,
-        lookup,
-        ..
-    } = args
-    else {
-        unreachable!()
-    };
-    session.active_at = at;
     let client = session.opening.client.ipv4();
-    if options.host.lacks_lookup(*lookup) {
-        if board.free_port(client, *word, looks).is_none() {
-            room.reply(*number, ReplyCode::CantOpenDataConnection, NO_PORT);
-            return Decision::Full;
-        }
-        return tell_unresolved(*number, &options.host, *lookup, room);
+    if options.host.lacks_lookup(lookup) {
+        return match board.free_port(client, word, looks) {
+            None => Decision::Full,
+            Some(_) => Decision::NoLookup,
+        };
     }
     let present = waiting_port(session.slot);
-    match reserve(board, client, *number, *word, present, looks) {
-        None => {
-            room.reply(*number, ReplyCode::CantOpenDataConnection, NO_PORT);
-            Decision::Full
-        }
-        Some(port) => grant(session, args, port, room, at, options),
+    match reserve(board, client, number, word, present, looks) {
+        None => Decision::Full,
+        Some(port) => Decision::Granted { port },
     }
 }
 
@@ -215,22 +180,21 @@ fn reserve(
     }
 }
 
-// The slot waits for a connection to the port, which is advertised.
-fn grant(
+// Tells the client what was decided. With a port that is granted the slot waits for a connection to it.
+fn tell(
     session: &mut Session,
     args: &EventKind,
-    port: u16,
+    decision: Decision,
     room: &mut Room,
     at: u64,
     options: &Options,
-) -> Decision
+)
     requires of_this_event { IsTrue (is_pasv args.now) }
-    requires looked_up { lacks_lookup options.now.host (lookup_of args.now) ≡ false }
+    requires fits { FitsLookup options.now.host (lookup_of args.now) decision }
     requires room { IsReady room.old }
     requires letters { CanReply (width_for options.now args.now) room.old }
-    ensures decision { result ≡ decision.Granted port }
-    ensures session { session.new ≡ record session.old { slot = Waits port; slot_at = at; pending = None } }
-    ensures actions { (answer : Answer) (job : Option Running) → actions_in room.new ≡ session_acts options.now (number_of args.now) args.now answer result job (Some session.old) }
+    ensures session { (answer : Answer) (job : Option Running) → session.new ≡ session_after at args.now answer decision (notices_of args.now decision answer) job session.old }
+    ensures actions { (answer : Answer) (job : Option Running) → actions_in room.new ≡ session_acts options.now (number_of args.now) args.now answer decision job (Some session.old) }
     ensures twice { twice_in room.new ≡ twice_in room.old }
 {
     let EventKind::Pasv {
@@ -241,13 +205,29 @@ fn grant(
     else {
         unreachable!()
     };
-    room.cancel_and_tell(*number, mem::replace(&mut session.pending, None));
-    room.close_link(session.slot);
-    let called = session.opening.local.ip;
-    tell_passive(*number, &options.host, called, *lookup, port, room);
-    session.slot = Slot::Waits { port };
-    session.slot_at = at;
-    Decision::Granted { port }
+    session.active_at = at;
+    match decision {
+        Decision::Granted { port } => {
+            room.cancel_and_tell(*number, mem::replace(&mut session.pending, None));
+            room.close_link(session.slot);
+            let called = session.opening.local.ip;
+            tell_passive(*number, &options.host, called, *lookup, port, room);
+            session.slot = Slot::Waits { port };
+            session.slot_at = at;
+        }
+        Decision::NoLookup => tell_unresolved(*number, &options.host, *lookup, room),
+        Decision::Full => {
+            room.reply(
+                *number,
+                ReplyCode::CantOpenDataConnection,
+                b"Could not allocate passive port",
+            );
+        }
+        Decision::NoSocket => {
+            room.reply(*number, ReplyCode::CantOpenDataConnection, NO_CONNECTION);
+        }
+        _ => unreachable!(),
+    }
 }
 
 // Tells the client where to connect to, where there is an address to show.
@@ -278,24 +258,15 @@ fn tell_passive(
 }
 
 // Tells the client that the name that it has to be shown was not looked up.
-fn tell_unresolved(
-    number: u64,
-    host: &PassiveHost,
-    lookup: Option<u32>,
-    room: &mut Room,
-) -> Decision
+fn tell_unresolved(number: u64, host: &PassiveHost, lookup: Option<u32>, room: &mut Room)
     requires unknown { IsTrue (lacks_lookup host.now lookup) }
     requires room { IsReady room.old }
     requires letters { CanReply (passive_width host.now lookup) room.old }
-    ensures decision { result ≡ decision.NoLookup }
     ensures actions { actions_in room.new ≡ reply_acts number 0 (unshown host.now) }
     ensures twice { twice_in room.new ≡ twice_in room.old }
 {
     match (host, lookup) {
-        (PassiveHost::Dns(name), None) => {
-            room.tell_unresolved(number, name.as_slice());
-            Decision::NoLookup
-        }
+        (PassiveHost::Dns(name), None) => room.tell_unresolved(number, name.as_slice()),
         _ => unreachable!(),
     }
 }
