@@ -6,6 +6,20 @@ ghost use Rattle.ftp_audit.specs.Bounds.{IsWithin};
 
 use ftp_base::{DataEvent, Notice, PresenceEvent};
 
+// Each number of a sum with that of another.
+macro_rules! by_number {
+    ($one:ident, $call:ident, $other:ident) => {
+        Total {
+            got_files: $one.got_files.$call($other.got_files),
+            got_bytes: $one.got_bytes.$call($other.got_bytes),
+            put_files: $one.put_files.$call($other.put_files),
+            put_bytes: $one.put_bytes.$call($other.put_bytes),
+            logins: $one.logins.$call($other.logins),
+            logouts: $one.logouts.$call($other.logouts),
+        }
+    };
+}
+
 /// Files and bytes that clients got and put, logins and logouts.
 #[derive(Clone, Copy, Debug, PartialEq, Eq)]
 pub struct Total {
@@ -58,28 +72,14 @@ impl Total {
     pub fn and(self, more: Total) -> Total
         ensures { result ≡ add self more }
     {
-        Total {
-            got_files: self.got_files.saturating_add(more.got_files),
-            got_bytes: self.got_bytes.saturating_add(more.got_bytes),
-            put_files: self.put_files.saturating_add(more.put_files),
-            put_bytes: self.put_bytes.saturating_add(more.put_bytes),
-            logins: self.logins.saturating_add(more.logins),
-            logouts: self.logouts.saturating_add(more.logouts),
-        }
+        by_number!(self, saturating_add, more)
     }
 
     /// What is above an earlier sum.
     pub fn since(self, earlier: Total) -> Total
         ensures { result ≡ minus self earlier }
     {
-        Total {
-            got_files: self.got_files.saturating_sub(earlier.got_files),
-            got_bytes: self.got_bytes.saturating_sub(earlier.got_bytes),
-            put_files: self.put_files.saturating_sub(earlier.put_files),
-            put_bytes: self.put_bytes.saturating_sub(earlier.put_bytes),
-            logins: self.logins.saturating_sub(earlier.logins),
-            logouts: self.logouts.saturating_sub(earlier.logouts),
-        }
+        by_number!(self, saturating_sub, earlier)
     }
 
     /// The bytes that were got and put.
