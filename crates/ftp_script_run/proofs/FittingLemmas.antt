@@ -51,36 +51,6 @@ rooted : (path : List ℕ) → IsAbsolute path → is_from_root path ≡ true
 rooted [] h = absurd cc
 rooted (b ∷ path) h = h
 
-session-fits : (s : SessionLine) → FitsSession s → IsAbsolute s.cwd → IsStateLine (says.Session s)
-session-fits s fits root = record {
-  session = fits.0.session;
-  raw = fits.0.raw;
-  local = fits.0.local;
-  client = fits.0.client;
-  trace = fits.0.trace;
-  active = fits.1.active;
-  offset = fits.1.offset;
-  tickets = fits.1.tickets;
-  notices = fits.1.notices;
-  user = fits.1.user;
-  cwd = (fits.1.cwd, rooted s.cwd root);
-}
-
-queued-fits : (q : QueuedLine) → FitsQueued q → IsAbsolute q.path → IsStateLine (says.Queued q)
-queued-fits q fits root = record { session = fits.session; nr = fits.nr; offset = fits.offset; command = fits.command; path = (fits.path, rooted q.path root) }
-
-job-fits : (j : JobLine) → FitsJob j → IsAbsolute j.job.path → IsStateLine (says.Job j)
-job-fits j fits root = record {
-  session = fits.session;
-  nr = fits.nr;
-  offset = fits.offset;
-  done = fits.done;
-  link = fits.link;
-  user = fits.user;
-  command = fits.command;
-  path = (fits.path, rooted j.job.path root);
-}
-
 record-fits : (r : RecordLine) → FitsRecord r → is_keyed r ≡ true → IsStateLine (says.Record r)
 record-fits r fits keyed = (fits.count, fits.at, fits.ip, fits.user, keyed)
 
@@ -141,10 +111,10 @@ walk-fits x form fits = (
       (all-lines FitsRecord (λ (r : RecordLine). is_keyed r ≡ true) says.Record x.records record-fits fits.records form.records.keyed)
       (all-append IsStateLine (session_walk x.sessions x.slots x.queued) (each says.Job x.jobs)
       (walk-sessions-fit x.sessions x.slots x.queued
-      (both-fit FitsSession (λ (s : SessionLine). IsAbsolute s.cwd) (λ (s : SessionLine). IsStateLine (says.Session s)) x.sessions session-fits fits.sessions form.sessions.absolute)
+      (both-fit FitsSession (λ (s : SessionLine). IsAbsolute s.cwd) (λ (s : SessionLine). IsStateLine (says.Session s)) x.sessions (λ s fit root. fit (rooted s.cwd root)) fits.sessions form.sessions.absolute)
       fits.slots
-      (both-fit FitsQueued (λ (q : QueuedLine). IsAbsolute q.path) (λ (q : QueuedLine). IsStateLine (says.Queued q)) x.queued queued-fits fits.queued form.sessions.paths))
-      (all-lines FitsJob (λ (j : JobLine). IsAbsolute j.job.path) says.Job x.jobs job-fits fits.jobs form.jobs.paths))),
+      (both-fit FitsQueued (λ (q : QueuedLine). IsAbsolute q.path) (λ (q : QueuedLine). IsStateLine (says.Queued q)) x.queued (λ q fit root. fit (rooted q.path root)) fits.queued form.sessions.paths))
+      (all-lines FitsJob (λ (j : JobLine). IsAbsolute j.job.path) says.Job x.jobs (λ j fit root. fit (rooted j.job.path root)) fits.jobs form.jobs.paths))),
 ) where
   rest_sessions : List StateLine
   rest_sessions = session_walk x.sessions x.slots x.queued ++ each says.Job x.jobs

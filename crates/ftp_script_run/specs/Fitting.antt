@@ -1,5 +1,5 @@
 -- What the lines of a state say fits their types.
-use Rattle.std.specs.Prelude.{◌^◌, ◌<◌}
+use Rattle.std.specs.Prelude.{◌≡◌, ◌^◌, ◌<◌, true}
 use Rattle.std.specs.List.{AllByRecursion}
 use Rattle.ftp_hub.specs.declared.state.HubState.{HubState}
 use Rattle.ftp_hub.specs.declared.state.JobLine.{JobLine}
@@ -8,8 +8,8 @@ use Rattle.ftp_hub.specs.declared.state.RecordLine.{RecordLine}
 use Rattle.ftp_hub.specs.declared.state.SessionLine.{SessionLine}
 use Rattle.ftp_hub.specs.declared.state.SlotLine.{SlotLine}
 use Rattle.ftp_switchboard.specs.declared.numbers.Interval.{Interval}
-use Rattle.ftp_text.specs.Fields.{Each, IsAddress, IsIp, IsNumber, IsText}
-use Rattle.ftp_text.specs.Spelling.{HasPieces, IsPiece, IsSlotKind}
+use Rattle.ftp_text.specs.Fields.{Each, IsIp, IsNumber}
+use Rattle.ftp_text.specs.Spelling.{IsJobLine, IsPiece, IsQueuedLine, IsSessionLine, IsSlotKind, is_from_root}
 
 -- the ends of an interval
 abbrev pub FitsInterval : Interval → Type 0
@@ -22,26 +22,9 @@ pub record FitsRecord (r : RecordLine) : Type 0 where
   pub ip : Each IsIp r.ip
   pub user : Each IsPiece r.user
 
--- the addresses and the numbers of a session, but for what it has moved and told
-pub record FitsOpening (s : SessionLine) : Type 0 where
-  pub session : IsNumber s.session
-  pub raw : IsAddress s.raw
-  pub local : IsAddress s.local
-  pub client : IsIp s.client
-  pub trace : IsNumber s.trace
-
--- the other numbers and the texts of a session
-pub record FitsProgress (s : SessionLine) : Type 0 where
-  pub active : IsNumber s.active
-  pub offset : IsNumber s.offset
-  pub tickets : IsNumber s.tickets
-  pub notices : IsNumber s.notices
-  pub user : Each IsPiece s.user
-  pub cwd : IsText s.cwd
-
--- what a session says
+-- what a session says, where its directory begins with a slash
 abbrev pub FitsSession : SessionLine → Type 0
-FitsSession s = FitsOpening s × FitsProgress s
+FitsSession s = is_from_root s.cwd ≡ true → IsSessionLine s
 
 -- what a slot says
 pub record FitsSlot (l : SlotLine) : Type 0 where
@@ -49,24 +32,13 @@ pub record FitsSlot (l : SlotLine) : Type 0 where
   pub at : IsNumber l.at
   pub what : IsSlotKind l.what
 
--- what a waiting transfer says
-pub record FitsQueued (q : QueuedLine) : Type 0 where
-  pub session : IsNumber q.session
-  pub nr : IsNumber q.nr
-  pub offset : IsNumber q.offset
-  pub command : HasPieces q.command
-  pub path : IsText q.path
+-- what a waiting transfer says, where its path begins with a slash
+abbrev pub FitsQueued : QueuedLine → Type 0
+FitsQueued q = is_from_root q.path ≡ true → IsQueuedLine q
 
--- what a running transfer says
-pub record FitsJob (j : JobLine) : Type 0 where
-  pub session : IsNumber j.job.ticket.session
-  pub nr : IsNumber j.job.ticket.nr
-  pub offset : IsNumber j.job.offset
-  pub done : IsNumber j.job.done
-  pub link : IsNumber j.job.number
-  pub user : IsPiece j.job.user
-  pub command : HasPieces j.job.command
-  pub path : IsText j.job.path
+-- what a running transfer says, where its path begins with a slash
+abbrev pub FitsJob : JobLine → Type 0
+FitsJob j = is_from_root j.job.path ≡ true → IsJobLine j
 
 -- what all lines of a state say
 pub record FitsState (x : HubState) : Type 0 where

@@ -6,7 +6,7 @@
 ghost use Rattle.std.specs.List.{AllByRecursion};
 ghost use Rattle.ftp_text.specs.Fields.{Each, IsAddress, IsIp, IsNumber};
 ghost use Rattle.ftp_text.specs.Spelling.{HasPieces, IsPiece, IsSlotKind};
-ghost use Rattle.ftp_script_run.specs.Fitting.{FitsInterval, FitsJob, FitsOpening, FitsProgress, FitsQueued, FitsRecord, FitsSession, FitsSlot, FitsState};
+ghost use Rattle.ftp_script_run.specs.Fitting.{FitsInterval, FitsJob, FitsQueued, FitsRecord, FitsSession, FitsSlot, FitsState};
 
 use ftp_base::{Bytes, DataChanCmd, IpAddr, SocketAddr};
 use ftp_hub::{HubState, JobLine, QueuedLine, RecordLine, SessionLine, SlotKind, SlotLine};
@@ -46,8 +46,7 @@ fn each_session(sessions: &[SessionLine])
     ensures { AllByRecursion FitsSession sessions.now }
 {
     for line in sessions {
-        opening(line);
-        progress(line);
+        session(line);
     }
 }
 
@@ -84,19 +83,14 @@ fn record(line: &RecordLine)
     optional(&line.user);
 }
 
-fn opening(line: &SessionLine)
-    ensures { FitsOpening line.now }
+fn session(line: &SessionLine)
+    ensures { FitsSession line.now }
 {
     number(line.session);
     address(line.raw);
     address(line.local);
     ip(line.client);
     number(line.trace);
-}
-
-fn progress(line: &SessionLine)
-    ensures { FitsProgress line.now }
-{
     number(line.active);
     number(line.offset);
     number(line.tickets);
