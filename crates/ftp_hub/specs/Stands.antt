@@ -19,6 +19,7 @@ use Rattle.ftp_events.specs.declared.event.EventKind.{EventKind}
 use Rattle.ftp_events.specs.declared.event.EventKind.TheVariants as kind
 use Rattle.ftp_events.specs.declared.event.HubEvent.{HubEvent}
 use Rattle.ftp_events.specs.declared.session.Pending.{Pending}
+use Rattle.ftp_events.specs.declared.session.Running.{Running}
 use Rattle.ftp_events.specs.declared.status.Ended.{Ended}
 use Rattle.ftp_events.specs.Statuses.{ended_of}
 use Rattle.ftp_events.specs.declared.session.Session.{Session}
@@ -124,9 +125,13 @@ header_for hub _ = None
 abbrev pub job_for : Hub → EventKind → Option Job
 job_for hub k = option_and_then (λ t. job_of_ticket (map.get nat_eq hub.jobs t.session) t) (job_ticket k)
 
+-- the path of a job that runs
+abbrev pub path_of : Option Running → List ℕ
+path_of running = option_map_or (λ r. r.job.path) running []
+
 -- the path of the job whose end it may be
 abbrev pub path_for : Hub → EventKind → List ℕ
-path_for hub k = option_map_or (λ t. option_map_or (λ r. r.job.path) (map.get nat_eq hub.jobs t.session) []) (job_ticket k) []
+path_for hub k = option_map_or (λ t. path_of (map.get nat_eq hub.jobs t.session)) (job_ticket k) []
 
 -- what is counted of the job whose end an event may tell, where counts are kept
 abbrev pub ended_in : Hub → EventKind → Option Ended

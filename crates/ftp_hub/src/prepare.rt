@@ -12,7 +12,7 @@ ghost use Rattle.ftp_handlers.specs.Rooms.{CanReply, CanTellDropped, HasCopy, Ha
 ghost use Rattle.ftp_hub.specs.Leavers.{AreLeavers, is_shutdown};
 ghost use Rattle.ftp_hub.specs.Arrivals.{brings_number, may_open, may_start};
 ghost use Rattle.ftp_hub.specs.Endings.{is_piece};
-ghost use Rattle.ftp_hub.specs.Stands.{Fits, SameAnswers, count_of, named_in, kept_for, pending_for, header_for, job_for, client_for, path_for, stops_for, used_for};
+ghost use Rattle.ftp_hub.specs.Stands.{Fits, SameAnswers, count_of, named_in, kept_for, pending_for, header_for, job_for, client_for, path_for, path_of, stops_for, used_for};
 
 use crate::hub::Hub;
 use crate::jobs::is_piece;
@@ -246,7 +246,9 @@ impl Hub {
         ensures same { room.new ≡ record room.old { job = room.new.job; path = room.new.path } }
     {
         match kind {
-            EventKind::End { .. } | EventKind::Piece { .. } => self.run_job(kind, asked, room),
+            EventKind::End { ticket } | EventKind::Piece { ticket } => {
+                self.run_job(*ticket, asked, room)
+            }
             _ => {
                 room.run_nothing();
                 Ok(())
@@ -256,34 +258,16 @@ impl Hub {
 
     // Apart, so that an event of no job does not pay for it.
     #[inline(never)]
-    fn run_job(&self, kind: &EventKind, asked: bool, room: &mut Room) -> Result<(), AllocError>
-        ensures job { OnOk result (job_in room.new ≡ job_for self.now kind.now) }
-        ensures path { OnOk result (IsTrue asked → room.new.path ≡ path_for self.now kind.now) }
+    fn run_job(&self, ticket: Ticket, asked: bool, room: &mut Room) -> Result<(), AllocError>
+        ensures job { OnOk result (job_in room.new ≡ job_of_ticket (map.get nat_eq self.now.jobs ticket.session) ticket) }
+        ensures path { OnOk result (IsTrue asked → room.new.path ≡ path_of (map.get nat_eq self.now.jobs ticket.session)) }
         ensures same { room.new ≡ record room.old { job = room.new.job; path = room.new.path } }
     {
-        let path = self.copy_path(kind, asked)?;
-        let job = self.copy_job(kind)?;
+        let running = self.jobs.get(&ticket.session);
+        let path = copy_path(self.alloc, running, asked)?;
+        let job = copy_job(self.alloc, running, ticket)?;
         room.run(job, path);
         Ok(())
-    }
-
-    // The path of the job whose end the event may be, where it is asked for.
-    fn copy_path(&self, kind: &EventKind, asked: bool) -> Result<Bytes, AllocError>
-        ensures { IfOk result (λ path. IsTrue asked → path ≡ path_for self.now kind.now) }
-    {
-        if !asked {
-            return Ok(Bytes::from_vec(Vec::new(self.alloc)));
-        }
-        match kind {
-            EventKind::End { ticket } | EventKind::Piece { ticket } => match self
-                .jobs
-                .get(&ticket.session)
-            {
-                Some(running) => running.job.path.copy(self.alloc),
-                None => Ok(Bytes::from_vec(Vec::new(self.alloc))),
-            },
-            _ => Ok(Bytes::from_vec(Vec::new(self.alloc))),
-        }
     }
 
     // Says whether the event is to be decided by the header of its connection.
@@ -326,21 +310,6 @@ impl Hub {
             _ => false,
         }
     }
-
-    // The job of the ticket that the event names, where it runs and is not to stop.
-    #[inline(always)]
-    fn copy_job(&self, kind: &EventKind) -> Result<Option<Job>, AllocError>
-        ensures { IfOk result (λ job. job ≡ job_for self.now kind.now) }
-    {
-        match kind {
-            EventKind::End { ticket } | EventKind::Piece { ticket } => copy_job(
-                self.alloc,
-                self.jobs.get(&ticket.session),
-                *ticket,
-            ),
-            _ => Ok(None),
-        }
-    }
 }
 
 // The room of the last event, or a new one.
@@ -353,6 +322,16 @@ fn room_or_new(alloc: Global, spare: Option<Box<Room>>) -> Result<Box<Room>, Pre
     match Box::new(alloc, Room::blank(alloc)) {
         Ok(room) => Ok(room),
         Err(_) => Err(PrepareError::OutOfMemory),
+    }
+}
+
+// The path of a job, where it is asked for.
+fn copy_path(alloc: Global, running: Option<&Running>, asked: bool) -> Result<Bytes, AllocError>
+    ensures { IfOk result (λ path. IsTrue asked → path ≡ path_of (option_copied running.entry)) }
+{
+    match running {
+        Some(running) if asked => running.job.path.copy(alloc),
+        _ => Ok(Bytes::from_vec(Vec::new(alloc))),
     }
 }
 
