@@ -1,6 +1,6 @@
 -- A session and a job that runs have their links.
 use Rattle.std.proofs.Common.{◌≡◌, refl, sym, ap, ◌∙◌, subst, ℕ, Bool, true, false, not, cond, ◌&&◌, ◌||◌, List, [], ◌∷◌, Option, Some, None}
-use Rattle.std.specs.Prelude.{is_some, nat_eq}
+use Rattle.std.specs.Prelude.{OnSome, is_some, nat_eq}
 use Rattle.std.proofs.lemmas.Bool.{or_parts}
 use Rattle.std.proofs.lemmas.Option.{same_Some}
 use Rattle.std.specs.FinMap as table
@@ -228,6 +228,14 @@ insert-linked {L} old number n link has = ap is_some (table.get-insert nat_cmp_t
     go : (b : Bool) → is_some (cond b (Some link) (table.get old n)) ≡ true
     go true = refl
     go false = has
+
+-- what holds of a link that was lent
+pub lent-so : {A : Type 0} {P : Type 0} (lent : Option A) (x : A) → lent ≡ Some x → OnSome lent P → P
+lent-so {A} {P} lent x is holds = subst (λ (l : Option A). OnSome l P) is holds
+
+-- one that is given back leaves every number its link
+pub lent-linked : {L : Type 0} (old new : Numbered L) (number n : ℕ) (after : L) → new ≡ table.insert old number after → is_linked old n ≡ true → is_linked new n ≡ true
+lent-linked old new number n after is has = ap (λ links. is_linked links n) is ∙ insert-linked old number n after has
 
 -- the header to be read is that by the hub's tables
 pub header-due :

@@ -1,14 +1,13 @@
-use Rattle.std.proofs.Common.{◌≡◌, refl, sym, ap, ◌∙◌, subst, Bool, true, false, Option, Some, None}
-use Rattle.std.specs.Prelude.{OnSome, is_some}
+use Rattle.std.proofs.Common.{◌≡◌, refl, sym, ap, ◌∙◌, Bool, true, false, Option, Some, None}
+use Rattle.std.specs.Prelude.{is_some}
 use Rattle.std.specs.Option.{option_copied_mut}
-use Rattle.std.specs.FinMap as map
 use Rattle.ftp_transfer.specs.declared.job.Job.{Job}
 use Rattle.ftp_events.specs.Leads.{header_to_read}
 use Rattle.ftp_handlers.specs.Rooms.{need_for}
 use Rattle.ftp_handlers.specs.declared.room.Need.TheVariants.{Header}
 use Rattle.ftp_hub.specs.Stands.{header_for, job_for}
-use Rattle.ftp_hub.proofs.Common.{HubEvent, is_linked, past_of}
-use Rattle.ftp_hub.proofs.Links.{header-due, header-number, insert-linked}
+use Rattle.ftp_hub.proofs.Common.{HubEvent, past_of}
+use Rattle.ftp_hub.proofs.Links.{header-due, header-number, lent-linked, lent-so}
 use Rattle.ftp_hub.proofs.run.ask.Goals as goal
 
 -- a header is needed where one is to be read
@@ -37,7 +36,7 @@ returns-in-Some-get_mut-clause-leads g c log e st same given has =
       after = after;
       given_is = given;
       there = sym c.get_mut.ensures.value ∙ ap option_copied_mut c.in-Some-get_mut.is;
-      links = subst (λ lent. OnSome lent (c.get_mut.follows.lender after ≡ map.insert c.args.links.now n after)) c.in-Some-get_mut.is (c.get_mut.follows.holds after);
+      links = lent-so _ _ c.in-Some-get_mut.is (c.get_mut.follows.holds after);
       storage = refl {a = c.args.storage.now};
       line = c.read_proxy_header.ensures.line;
       taken = c.read_proxy_header.ensures.taken;
@@ -51,7 +50,5 @@ returns-in-Some-get_mut-clause-leads g c log e st same given has =
 -- every number that had a link has one
 pub returns-in-Some-get_mut-clause-linked : goal.returns-in-Some-get_mut-clause-linked
 returns-in-Some-get_mut-clause-linked g c n has =
-    let number = c.in-Some.number in
     let after = c.read_proxy_header.new.source in
-    let links : c.get_mut.follows.lender after ≡ map.insert c.args.links.now number after = subst (λ lent. OnSome lent (c.get_mut.follows.lender after ≡ map.insert c.args.links.now number after)) c.in-Some-get_mut.is (c.get_mut.follows.holds after) in
-    ap (λ table. is_linked table n) links ∙ insert-linked c.args.links.now number n after has
+    lent-linked c.args.links.now (c.get_mut.follows.lender after) c.in-Some.number n after (lent-so _ _ c.in-Some-get_mut.is (c.get_mut.follows.holds after)) has

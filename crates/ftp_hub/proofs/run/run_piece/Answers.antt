@@ -1,9 +1,6 @@
-use Rattle.std.proofs.Common.{◌≡◌, refl, sym, ap, ◌∙◌, subst, inl, inr}
-use Rattle.std.specs.Prelude.{OnSome}
+use Rattle.std.proofs.Common.{refl, sym, ap, ◌∙◌, inl, inr}
 use Rattle.std.specs.Option.{option_copied_mut}
-use Rattle.std.specs.FinMap as map
-use Rattle.ftp_hub.proofs.Common.{is_linked}
-use Rattle.ftp_hub.proofs.Links.{insert-linked}
+use Rattle.ftp_hub.proofs.Links.{lent-linked, lent-so}
 use Rattle.ftp_hub.proofs.Pieces.{end-fits, piece-fits}
 use Rattle.ftp_hub.proofs.run.run_piece.Goals as goal
 
@@ -19,7 +16,7 @@ returns-in-More-clause-ran g c linked =
       given_is = refl;
       fits = piece-fits c.args.job c.in-More.bytes went.goes_on went.some c.in-More.ensures.ran.0 went.in_range;
       there = sym c.get_mut.ensures.value ∙ ap option_copied_mut c.in-Some.is;
-      links = subst (λ lent. OnSome lent (c.get_mut.follows.lender after ≡ map.insert c.args.links.now c.args.job.number after)) c.in-Some.is (c.get_mut.follows.holds after);
+      links = lent-so _ _ c.in-Some.is (c.get_mut.follows.holds after);
       went = went;
       storage_counts = c.execute_piece.ensures.storage_counts;
       link_counts = c.execute_piece.ensures.link_counts;
@@ -37,7 +34,7 @@ returns-clause-ran g c linked =
       given_is = refl;
       fits = end-fits c.args.job c.in-Ended.outcome c.in-Ended.ensures.suits ran.counted;
       there = sym c.get_mut.ensures.value ∙ ap option_copied_mut c.in-Some.is;
-      links = subst (λ lent. OnSome lent (c.get_mut.follows.lender after ≡ map.insert c.args.links.now c.args.job.number after)) c.in-Some.is (c.get_mut.follows.holds after);
+      links = lent-so _ _ c.in-Some.is (c.get_mut.follows.holds after);
       ran = ran;
       complete = c.in-Ended.ensures.complete;
       storage_counts = c.execute_piece.ensures.storage_counts;
@@ -46,13 +43,7 @@ returns-clause-ran g c linked =
 
 -- every number that had a link has one
 pub returns-in-More-clause-linked : goal.returns-in-More-clause-linked
-returns-in-More-clause-linked g c n has =
-    let after = c.execute_piece.new.link in
-    let links : c.get_mut.follows.lender after ≡ map.insert c.args.links.now c.args.job.number after = subst (λ lent. OnSome lent (c.get_mut.follows.lender after ≡ map.insert c.args.links.now c.args.job.number after)) c.in-Some.is (c.get_mut.follows.holds after) in
-    ap (λ table. is_linked table n) links ∙ insert-linked c.args.links.now c.args.job.number n after has
+returns-in-More-clause-linked g c n has = lent-linked c.args.links.now (c.get_mut.follows.lender c.execute_piece.new.link) c.args.job.number n c.execute_piece.new.link (lent-so _ _ c.in-Some.is (c.get_mut.follows.holds c.execute_piece.new.link)) has
 
 pub returns-clause-linked : goal.returns-clause-linked
-returns-clause-linked g c n has =
-    let after = c.execute_piece.new.link in
-    let links : c.get_mut.follows.lender after ≡ map.insert c.args.links.now c.args.job.number after = subst (λ lent. OnSome lent (c.get_mut.follows.lender after ≡ map.insert c.args.links.now c.args.job.number after)) c.in-Some.is (c.get_mut.follows.holds after) in
-    ap (λ table. is_linked table n) links ∙ insert-linked c.args.links.now c.args.job.number n after has
+returns-clause-linked g c n has = lent-linked c.args.links.now (c.get_mut.follows.lender c.execute_piece.new.link) c.args.job.number n c.execute_piece.new.link (lent-so _ _ c.in-Some.is (c.get_mut.follows.holds c.execute_piece.new.link)) has
