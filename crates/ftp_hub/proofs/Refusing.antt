@@ -1,10 +1,10 @@
 -- The first refusal to which there is a cause.
-use Rattle.std.proofs.Common.{◌≡◌, refl, sym, ap, ◌∙◌, subst, ℕ, ◌≤◌, Bool, true, false, true≢false, not, ◌&&◌, ◌||◌, List, [], ◌∷◌, Option, Some, None, inl, inr, eqb-true, eq-eqb, arith}
+use Rattle.std.proofs.Common.{◌≡◌, refl, sym, ap, ◌∙◌, subst, ℕ, ◌+◌, ◌<◌, ◌≤◌, Bool, true, false, true≢false, cond, not, ◌&&◌, ◌||◌, List, [], ◌∷◌, Option, Some, None, inl, inr, eqb-true, eq-eqb, arith}
 use Rattle.std.specs.Prelude.{◌≢◌, ◌⊎◌, ◌==◌, is_some, nat_eq}
 use Rattle.std.specs.HashMap as table
 use Rattle.std.specs.List.{list_any}
 use Rattle.std.specs.Option.{option_and_then, option_map_or}
-use Rattle.std.proofs.lemmas.Bool.{and_parts, not-true}
+use Rattle.std.proofs.lemmas.Bool.{and_parts, cases_lt, not-true}
 use Rattle.ftp_base.specs.declared.net.IpAddr.{IpAddr}
 use Rattle.ftp_base.specs.declared.net.IpAddr.TheVariants.{V4, V6}
 use Rattle.ftp_events.specs.declared.session.Slot.{Slot}
@@ -121,6 +121,19 @@ twice-rivals live numbers n p s t all other here there =
     (ap (λ (x : Option (ℕ × ℕ)). option_map_or (λ other. (other.0 == n) && (other.1 == p)) x false) (waits-v6 (live t) n p there)
     ∙ both-hold (n == n) (p == p) (eq-eqb n n refl) (eq-eqb p p refl))))
 
+-- the refusal that stands at a place
+pub refusal_at : ℕ → StateError
+refusal_at n = cond (n == 2) Number (cond (n == 3) Port (cond (n == 4) Ticket (cond (n == 5) Mode (cond (n == 6) Login OutOfMemory))))
+
+at-place : (e : StateError) → 1 < refusal_place e → refusal_at (refusal_place e) ≡ e
+at-place (BadLine n) later = absurd (omega (arith, later))
+at-place Number later = refl
+at-place Port later = refl
+at-place Ticket later = refl
+at-place Mode later = refl
+at-place Login later = refl
+at-place OutOfMemory later = refl
+
 module _ (k : Known) (live : ℕ → Option Session) (jobs : ℕ → Option Running) where
   -- ---- sessions and jobs one by one
 
@@ -182,19 +195,6 @@ module _ (k : Known) (live : ℕ → Option Session) (jobs : ℕ → Option Runn
         by_test (has_port k.options v) (λ y. y)
         (λ n. absurd (none (inl (s, ap (λ (x : Option Session). option_map_or (session_lacks k Port (jobs s) s) x false) there ∙ ap not n))))
 
-    -- what is refused is so for want of memory, or first
-    pub refused-by :
-        (e r : StateError) → (e ≡ OutOfMemory) ⊎ ((e ≡ r) × OneLacks k live jobs r) → (Cause r → IsFirst Cause r) →
-        (e ≡ OutOfMemory) ⊎ IsFirst Cause e
-    refused-by e r (inl memory) first = inl memory
-    refused-by e r (inr x) first = inr (subst (IsFirst Cause) (sym x.0) (first (inl x.1)))
-
-    pub refused-twice :
-        (e : StateError) → (e ≡ OutOfMemory) ⊎ ((e ≡ Port) × (is_legacy k.options.mode ≡ false) × WaitTwice live) → (Cause Port → IsFirst Cause Port) →
-        (e ≡ OutOfMemory) ⊎ IsFirst Cause e
-    refused-twice e (inl memory) first = inl memory
-    refused-twice e (inr x) first = inr (subst (IsFirst Cause) (sym x.0) (first (inr (inr (refl, x.1, x.2)))))
-
     -- what brings addresses of version 6 to shared ports is barred
     pub barred-mode : (v6 && not (is_legacy k.options.mode)) ≡ true → Cause Mode
     barred-mode h = let parts = and_parts v6 (not (is_legacy k.options.mode)) h in inr (inl (refl, not-true _ parts.1, parts.0))
@@ -233,75 +233,51 @@ module _ (k : Known) (live : ℕ → Option Session) (jobs : ℕ → Option Runn
         go (inl h) = session h.0 (live h.0) h.1
         go (inr h) = job h.0 (jobs h.0) h.1
 
-    pub first-number : Cause Number → IsFirst Cause Number
-    first-number h = record { cause = h; first = go }
-      where
-        go : (f : StateError) → Cause f → 2 ≤ refusal_place f
-        go (BadLine n) c = absurd (bad-clear n c)
-        go Number c = omega arith
-        go Port c = omega arith
-        go Ticket c = omega arith
-        go Mode c = omega arith
-        go Login c = omega arith
-        go OutOfMemory c = omega arith
+    -- no refusal before this place has a cause
+    abbrev pub IsClearTo : ℕ → Type 0
+    IsClearTo n = (e : StateError) → Cause e → n ≤ refusal_place e
 
-    pub first-port : (Cause Number → ⊥) → Cause Port → IsFirst Cause Port
-    first-port number h = record { cause = h; first = go }
-      where
-        go : (f : StateError) → Cause f → 3 ≤ refusal_place f
-        go (BadLine n) c = absurd (bad-clear n c)
-        go Number c = absurd (number c)
-        go Port c = omega arith
-        go Ticket c = omega arith
-        go Mode c = omega arith
-        go Login c = omega arith
-        go OutOfMemory c = omega arith
+    pub clear-lines : IsClearTo 2
+    clear-lines (BadLine n) c = absurd (bad-clear n c)
+    clear-lines Number c = omega arith
+    clear-lines Port c = omega arith
+    clear-lines Ticket c = omega arith
+    clear-lines Mode c = omega arith
+    clear-lines Login c = omega arith
+    clear-lines OutOfMemory c = omega arith
 
-    pub first-ticket : (Cause Number → ⊥) → (Cause Port → ⊥) → Cause Ticket → IsFirst Cause Ticket
-    first-ticket number port h = record { cause = h; first = go }
+    -- nor has one before the next, where that at this place has none
+    pub clear-more : (n : ℕ) → 1 < n → IsClearTo n → (Cause (refusal_at n) → ⊥) → IsClearTo (n + 1)
+    clear-more n later clear none e c = go (cases_lt n (refusal_place e))
       where
-        go : (f : StateError) → Cause f → 4 ≤ refusal_place f
-        go (BadLine n) c = absurd (bad-clear n c)
-        go Number c = absurd (number c)
-        go Port c = absurd (port c)
-        go Ticket c = omega arith
-        go Mode c = omega arith
-        go Login c = omega arith
-        go OutOfMemory c = omega arith
+        go : (n < refusal_place e) ⊎ (refusal_place e ≤ n) → n + 1 ≤ refusal_place e
+        go (inl more) = omega (arith, more)
+        go (inr least) =
+            let same : refusal_place e ≡ n = omega (arith, least, clear e c) in
+            absurd (none (subst Cause (sym (at-place e (omega (arith, later, clear e c))) ∙ ap refusal_at same) c))
 
-    pub first-mode : (Cause Number → ⊥) → (Cause Port → ⊥) → (Cause Ticket → ⊥) → Cause Mode → IsFirst Cause Mode
-    first-mode number port ticket h = record { cause = h; first = go }
-      where
-        go : (f : StateError) → Cause f → 5 ≤ refusal_place f
-        go (BadLine n) c = absurd (bad-clear n c)
-        go Number c = absurd (number c)
-        go Port c = absurd (port c)
-        go Ticket c = absurd (ticket c)
-        go Mode c = omega arith
-        go Login c = omega arith
-        go OutOfMemory c = omega arith
+    -- where none has one before want of memory, there is a cause to nothing
+    pub all-clear : IsClearTo 7 → (e : StateError) → Cause e → ⊥
+    all-clear clear (BadLine n) c = omega (arith, clear (BadLine n) c)
+    all-clear clear Number c = omega (arith, clear Number c)
+    all-clear clear Port c = omega (arith, clear Port c)
+    all-clear clear Ticket c = omega (arith, clear Ticket c)
+    all-clear clear Mode c = omega (arith, clear Mode c)
+    all-clear clear Login c = omega (arith, clear Login c)
+    all-clear clear OutOfMemory c = memory-clear c
 
-    pub first-login : (Cause Number → ⊥) → (Cause Port → ⊥) → (Cause Ticket → ⊥) → (Cause Mode → ⊥) → Cause Login → IsFirst Cause Login
-    first-login number port ticket mode h = record { cause = h; first = go }
-      where
-        go : (f : StateError) → Cause f → 6 ≤ refusal_place f
-        go (BadLine n) c = absurd (bad-clear n c)
-        go Number c = absurd (number c)
-        go Port c = absurd (port c)
-        go Ticket c = absurd (ticket c)
-        go Mode c = absurd (mode c)
-        go Login c = omega arith
-        go OutOfMemory c = omega arith
+    -- what is refused is so for want of memory, or first
+    pub refused-by :
+        (e r : StateError) → (e ≡ OutOfMemory) ⊎ ((e ≡ r) × OneLacks k live jobs r) → IsClearTo (refusal_place r) →
+        (e ≡ OutOfMemory) ⊎ IsFirst Cause e
+    refused-by e r (inl memory) clear = inl memory
+    refused-by e r (inr x) clear = inr (subst (IsFirst Cause) (sym x.0) (record { cause = inl x.1; first = clear }))
 
-    -- where there is a cause to none, there is to nothing
-    pub all-clear : (Cause Number → ⊥) → (Cause Port → ⊥) → (Cause Ticket → ⊥) → (Cause Mode → ⊥) → (Cause Login → ⊥) → (e : StateError) → Cause e → ⊥
-    all-clear number port ticket mode login (BadLine n) c = bad-clear n c
-    all-clear number port ticket mode login Number c = number c
-    all-clear number port ticket mode login Port c = port c
-    all-clear number port ticket mode login Ticket c = ticket c
-    all-clear number port ticket mode login Mode c = mode c
-    all-clear number port ticket mode login Login c = login c
-    all-clear number port ticket mode login OutOfMemory c = memory-clear c
+    pub refused-twice :
+        (e : StateError) → (e ≡ OutOfMemory) ⊎ ((e ≡ Port) × (is_legacy k.options.mode ≡ false) × WaitTwice live) → IsClearTo (refusal_place Port) →
+        (e ≡ OutOfMemory) ⊎ IsFirst Cause e
+    refused-twice e (inl memory) clear = inl memory
+    refused-twice e (inr x) clear = inr (subst (IsFirst Cause) (sym x.0) (record { cause = inr (inr (refl, x.1, x.2)); first = clear }))
 
 -- what is said of the tables of a hub that tells a state is so of the state
 module _ (o : Options) (hub : Hub) (x : HubState) (v6 : Bool) (told : TellsState hub x) (own : hub.options ≡ o) (same : v6 ≡ list_any is_of_v6 x.records) where
