@@ -88,10 +88,10 @@ impl Hub {
     }
 
     // Brings a data connection to the session whose own listener it came to, or turns it away.
-    pub(crate) fn accepted(&mut self, room: &mut Room, event: &HubEvent, answer: Answer) -> Decision
+    pub(crate) fn accepted(&mut self, room: &mut Room, event: &HubEvent) -> Decision
         requires of_this_event { IsTrue (is_accepted event.now.kind) }
         requires ready { CanArrive room.old self.old }
-        ensures serves { (log : List Entry) → Stands self.old log → Serves self.old self.new log event.now answer result (actions_in room.new) }
+        ensures serves { (log : List Entry) (answer : Answer) → Stands self.old log → Serves self.old self.new log event.now answer result (actions_in room.new) }
         ensures head { SameHead self.old self.new }
         ensures twice { twice_in room.new ≡ twice_in room.old }
     {

@@ -152,6 +152,13 @@ pub(crate) fn mark(jobs: &mut HashMap<u64, Running>, number: u64, decision: Deci
     }
 }
 
+/// Says whether the event asks for a transfer.
+pub(crate) fn is_transfer(kind: &EventKind) -> bool
+    ensures { result ≡ is_transfer kind.now }
+{
+    matches!(kind, EventKind::Transfer { .. } | EventKind::Stou { .. })
+}
+
 /// Says whether the event is a piece of a transfer.
 pub(crate) fn is_piece(kind: &EventKind) -> bool
     ensures { result ≡ is_piece kind.now }

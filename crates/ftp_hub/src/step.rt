@@ -1,8 +1,9 @@
 //! One event: what is decided, how the tables change, and what is done.
 
 ghost use Rattle.std.specs.Prelude.{◌≡◌, ◌+◌, ◌-◌, ◌<◌, ◌≤◌, ◌^◌, [], ◌∷◌, ◌||◌, ℕ, List, IsTrue, true, false, Some, IfSome, IsSomeAnd, is_some, nat_eq};
+ghost use Rattle.ftp_events.specs.declared.event.Answer.{Answer};
 ghost use Rattle.ftp_events.specs.declared.event.Answer.TheVariants.{Done, Moved};
-ghost use Rattle.ftp_events.specs.declared.event.EventKind.TheVariants.{Piece, Sweep};
+ghost use Rattle.ftp_events.specs.declared.event.EventKind.TheVariants.{IdleTick, Piece, Sweep};
 ghost use Rattle.std.specs.HashMap as map;
 ghost use Rattle.ftp_switchboard.specs.Used.{HasSpare, has};
 ghost use Rattle.ftp_events.specs.declared.entry.Entry.{Entry};
@@ -10,14 +11,14 @@ ghost use Rattle.ftp_events.specs.EndRows.{can_end, can_move};
 ghost use Rattle.ftp_events.specs.Log.{is_refusal, job_ticket, named_session, new_number, past_of};
 ghost use Rattle.ftp_events.specs.Right.{next_entry};
 ghost use Rattle.ftp_events.specs.Words.{is_number};
-ghost use Rattle.ftp_handlers.specs.Handlers.{ends_session, is_command, is_idle_tick, is_port, is_transfer, kept_by, places_for};
+ghost use Rattle.ftp_handlers.specs.Handlers.{ends_session, is_command, is_port, is_transfer, kept_by, places_for};
 ghost use Rattle.ftp_handlers.specs.Rooms.{IsReady, actions_in, kept_in, twice_in};
 ghost use Rattle.ftp_hub.specs.Endings.{is_over};
 ghost use Rattle.ftp_events.specs.Counts.{Counted};
 ghost use Rattle.ftp_hub.specs.Stands.{Stands, Serves, SameHead, SameTables, Fits, ended_in, entry, options_of, count_of, counters_of};
 
 use crate::hub::Hub;
-use crate::jobs::{can_end, can_move, cut, finish, is_piece, mark, queue};
+use crate::jobs::{can_end, can_move, cut, finish, is_piece, is_transfer, mark, queue};
 use crate::tables::take;
 use ftp_events::{Answer, Decision, Ended, Entry, EventKind, HubEvent};
 use ftp_handlers::{Room, command, ending, idle_tick};
@@ -137,7 +138,7 @@ impl Hub {
             EventKind::Connect { .. } => self.connect(room, event, answer),
             EventKind::Proxied { .. } => self.proxied(room, event, answer),
             EventKind::DataIn { .. } => self.data_in(room, event, answer),
-            EventKind::Accepted { .. } => self.accepted(room, event, answer),
+            EventKind::Accepted { .. } => self.accepted(room, event),
             EventKind::User { session, .. }
             | EventKind::Pass { session }
             | EventKind::AuthDone { session, .. }
@@ -147,29 +148,28 @@ impl Hub {
             | EventKind::Cwd { session, .. }
             | EventKind::Abor { session }
             | EventKind::Internal { session, .. }
-            | EventKind::SlotTick { session } => self.command(room, event, answer, *session),
-            EventKind::IdleTick { session } => self.idle(room, event, answer, *session),
-            EventKind::Transfer { session, .. } | EventKind::Stou { session, .. } => {
-                self.transfer(room, event, answer, *session)
-            }
+            | EventKind::SlotTick { session }
+            | EventKind::Transfer { session, .. }
+            | EventKind::Stou { session, .. } => self.command(room, event, *session),
+            EventKind::IdleTick { session } => self.idle(room, event, *session),
             EventKind::End { ticket } | EventKind::Piece { ticket } => {
                 self.end(room, event, answer, *ticket)
             }
-            EventKind::Closed { session } | EventKind::Quit { session } => self.close(
-                room, event, answer, *session,
-            ),
-            EventKind::Sweep => self.sweep(room, event, answer),
+            EventKind::Closed { session } | EventKind::Quit { session } => {
+                self.close(room, event, *session)
+            }
+            EventKind::Sweep => self.sweep(room, event),
             // Nothing is held for a session that has ended.
             EventKind::Scavenge => Decision::Scavenged,
-            EventKind::Shutdown => self.shutdown(room, event, answer),
+            EventKind::Shutdown => self.shutdown(room, event),
         }
     }
 
     // Failed logins that are too old are forgotten.
-    fn sweep(&mut self, room: &mut Room, event: &HubEvent, answer: Answer) -> Decision
+    fn sweep(&mut self, room: &mut Room, event: &HubEvent) -> Decision
         requires fits { Fits room.old self.old event.now }
         requires of_this_event { event.now.kind ≡ Sweep }
-        ensures serves { (log : List Entry) → Stands self.old log → Serves self.old self.new log event.now answer result (actions_in room.new) }
+        ensures serves { (log : List Entry) (answer : Answer) → Stands self.old log → Serves self.old self.new log event.now answer result (actions_in room.new) }
         ensures head { SameHead self.old self.new }
         ensures twice { twice_in room.new ≡ twice_in room.old }
     {
@@ -179,46 +179,48 @@ impl Hub {
         Decision::Swept
     }
 
-    // A command of a session that goes on.
-    fn command(
-        &mut self,
-        room: &mut Room,
-        event: &HubEvent,
-        answer: Answer,
-        number: u64,
-    ) -> Decision
+    // A command of a session, which may ask for a transfer.
+    fn command(&mut self, room: &mut Room, event: &HubEvent, number: u64) -> Decision
         requires fits { Fits room.old self.old event.now }
-        requires of_this_event { IsTrue (is_command event.now.kind) }
+        requires of_this_event { is_transfer event.now.kind ≡ false → IsTrue (is_command event.now.kind) }
         requires named { named_session event.now.kind ≡ Some number }
-        ensures serves { (log : List Entry) → Stands self.old log → Serves self.old self.new log event.now answer result (actions_in room.new) }
+        ensures serves { (log : List Entry) (answer : Answer) → Stands self.old log → Serves self.old self.new log event.now answer result (actions_in room.new) }
         ensures head { SameHead self.old self.new }
         ensures twice { twice_in room.new ≡ twice_in room.old }
     {
-        match self.sessions.get_mut(&number) {
-            None => Decision::UnknownNumber,
-            Some(session) => {
-                let decision = command(
-                    session,
-                    &event.kind,
-                    &mut self.board,
-                    &mut self.failures,
-                    room,
-                    event.at,
-                    &self.options,
-                );
-                use_number(&mut self.numbers, &event.kind, decision);
-                mark(&mut self.jobs, number, decision);
-                decision
-            }
+        let Some(session) = self.sessions.get_mut(&number) else {
+            return Decision::UnknownNumber;
+        };
+        if is_transfer(&event.kind) {
+            return queue(
+                session,
+                number,
+                event,
+                &mut self.jobs,
+                &mut self.board,
+                room,
+                &self.options,
+            );
         }
+        let decision = command(
+            session,
+            &event.kind,
+            &mut self.board,
+            &mut self.failures,
+            room,
+            event.at,
+            &self.options,
+        );
+        use_number(&mut self.numbers, &event.kind, decision);
+        mark(&mut self.jobs, number, decision);
+        decision
     }
 
     // A look at the idle time of a session, which ends where that was too long.
-    fn idle(&mut self, room: &mut Room, event: &HubEvent, answer: Answer, number: u64) -> Decision
+    fn idle(&mut self, room: &mut Room, event: &HubEvent, number: u64) -> Decision
         requires fits { Fits room.old self.old event.now }
-        requires of_this_event { IsTrue (is_idle_tick event.now.kind) }
-        requires named { named_session event.now.kind ≡ Some number }
-        ensures serves { (log : List Entry) → Stands self.old log → Serves self.old self.new log event.now answer result (actions_in room.new) }
+        requires of_this_event { event.now.kind ≡ IdleTick number }
+        ensures serves { (log : List Entry) (answer : Answer) → Stands self.old log → Serves self.old self.new log event.now answer result (actions_in room.new) }
         ensures head { SameHead self.old self.new }
         ensures twice { twice_in room.new ≡ twice_in room.old }
     {
@@ -228,13 +230,13 @@ impl Hub {
         };
         let decision = idle_tick(session, &event.kind, runs, event.at, &self.options);
         if let Decision::TimedOut = decision {
-            return self.close(room, event, answer, number);
+            return self.close(room, event, number);
         }
         decision
     }
 
     // The end of a session.
-    fn close(&mut self, room: &mut Room, event: &HubEvent, answer: Answer, number: u64) -> Decision
+    fn close(&mut self, room: &mut Room, event: &HubEvent, number: u64) -> Decision
         requires below { self.old.count < 2 ^ 64 - 1 }
         requires ready { IsReady room.old }
         requires places { places_for event.now.kind ≤ room.old.places }
@@ -242,7 +244,7 @@ impl Hub {
         requires over { IfSome (map.get nat_eq self.old.sessions number) (λ v. IsTrue (is_over self.old.options (is_some (map.get nat_eq self.old.jobs number)) event.now.at event.now.kind v)) }
         requires of_this_event { IsTrue (ends_session event.now.kind) }
         requires named { named_session event.now.kind ≡ Some number }
-        ensures serves { (log : List Entry) → Stands self.old log → Serves self.old self.new log event.now answer result (actions_in room.new) }
+        ensures serves { (log : List Entry) (answer : Answer) → Stands self.old log → Serves self.old self.new log event.now answer result (actions_in room.new) }
         ensures head { SameHead self.old self.new }
         ensures twice { twice_in room.new ≡ twice_in room.old }
     {
@@ -257,35 +259,6 @@ impl Hub {
             room,
             &self.options,
         )
-    }
-
-    // A command that queues a transfer.
-    fn transfer(
-        &mut self,
-        room: &mut Room,
-        event: &HubEvent,
-        answer: Answer,
-        number: u64,
-    ) -> Decision
-        requires fits { Fits room.old self.old event.now }
-        requires of_this_event { IsTrue (is_transfer event.now.kind) }
-        requires named { named_session event.now.kind ≡ Some number }
-        ensures serves { (log : List Entry) → Stands self.old log → Serves self.old self.new log event.now answer result (actions_in room.new) }
-        ensures head { SameHead self.old self.new }
-        ensures twice { twice_in room.new ≡ twice_in room.old }
-    {
-        match self.sessions.get_mut(&number) {
-            None => Decision::UnknownNumber,
-            Some(session) => queue(
-                session,
-                number,
-                event,
-                &mut self.jobs,
-                &mut self.board,
-                room,
-                &self.options,
-            ),
-        }
     }
 
     // The end of a transfer, or a piece of it, which may be the last.
@@ -303,7 +276,7 @@ impl Hub {
             return Decision::UnknownNumber;
         }
         if running.marked {
-            return self.cut(room, event, answer, ticket);
+            return self.cut(room, event, ticket);
         }
         match answer {
             Answer::Moved { bytes } => {
@@ -344,11 +317,11 @@ impl Hub {
     }
 
     // A transfer that was to stop has stopped.
-    fn cut(&mut self, room: &mut Room, event: &HubEvent, answer: Answer, ticket: Ticket) -> Decision
+    fn cut(&mut self, room: &mut Room, event: &HubEvent, ticket: Ticket) -> Decision
         requires fits { Fits room.old self.old event.now }
         requires of_this_event { job_ticket event.now.kind ≡ Some ticket }
         requires runs { IsSomeAnd (map.get nat_eq self.old.jobs ticket.session) (λ r. (r.job.ticket ≡ ticket) × (r.marked ≡ true)) }
-        ensures serves { (log : List Entry) → Stands self.old log → Serves self.old self.new log event.now answer result (actions_in room.new) }
+        ensures serves { (log : List Entry) (answer : Answer) → Stands self.old log → Serves self.old self.new log event.now answer result (actions_in room.new) }
         ensures head { SameHead self.old self.new }
         ensures twice { twice_in room.new ≡ twice_in room.old }
     {

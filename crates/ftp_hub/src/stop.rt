@@ -15,7 +15,7 @@ ghost use Rattle.ftp_hub.specs.Stands.{Fits, SameHead, Serves, Stands};
 
 use crate::hub::Hub;
 use crate::tables::{sorted_keys, take};
-use ftp_events::{Answer, Decision, EventKind, HubEvent, Session};
+use ftp_events::{Decision, EventKind, HubEvent, Session};
 use ftp_handlers::{Leavers, Room, stop};
 use std::alloc::AllocError;
 use std::collections::HashMap;
@@ -49,10 +49,10 @@ impl Hub {
     }
 
     // Every live session ends, and no other will be opened.
-    pub(crate) fn shutdown(&mut self, room: &mut Room, event: &HubEvent, answer: Answer) -> Decision
+    pub(crate) fn shutdown(&mut self, room: &mut Room, event: &HubEvent) -> Decision
         requires fits { Fits room.old self.old event.now }
         requires of_this_event { event.now.kind ≡ Shutdown }
-        ensures serves { (log : List Entry) → Stands self.old log → Serves self.old self.new log event.now answer result (actions_in room.new) }
+        ensures serves { (log : List Entry) (answer : Answer) → Stands self.old log → Serves self.old self.new log event.now answer result (actions_in room.new) }
         ensures head { SameHead self.old self.new }
         ensures twice { twice_in room.new ≡ twice_in room.old }
     {

@@ -15,23 +15,23 @@ use Rattle.ftp_hub.proofs.hub.Hub.accepted.Goals as goal
 
 -- a session that is not live
 pub returns-in_default-get_mut-clause-serves : goal.returns-in_default-get_mut-clause-serves
-returns-in_default-get_mut-clause-serves c log st =
-    serves-unknown c.args.self.now _ log c.args.event.now c.args.answer _ c.in-Accepted.owner st
+returns-in_default-get_mut-clause-serves c log given st =
+    serves-unknown c.args.self.now _ log c.args.event.now given _ c.in-Accepted.owner st
     (rw c.in-Accepted.is refl) (rw c.in-Accepted.is refl) (sym c.in_default-get_mut.ensures.value) c.requires.ready.ready.actions
     (tables-lent c.args.self.now _ (past_of log) refl (λ q. ap (λ (m : Sessions). map.get nat_eq m q) c.get_mut.follows.holds-at-none) (ap map.hash_map_len c.get_mut.follows.holds-at-none) refl refl refl refl refl st.tables)
 
 -- where sessions share the ports, no session has a listener of its own
 pub returns-then-not-is_legacy-clause-serves : goal.returns-then-not-is_legacy-clause-serves
 unfolding decide
-returns-then-not-is_legacy-clause-serves c log st =
+returns-then-not-is_legacy-clause-serves c log given st =
     let hub = c.args.self.now in
     let v : Session = c.in-Some.session.now in
     let s : ℕ = c.in-Accepted.owner in
     let there : map.get nat_eq hub.sessions s ≡ Some v = sym c.in-Some.ensures.value in
     let known : session hub.options (past_of log) s ≡ Some v = sym (st.tables.sessions s) ∙ there in
     let lent = c.get_mut.follows.holds v in
-    serves-refusal hub _ log c.args.event.now c.args.answer decision.Misplaced _ st
-    (sym (due-named hub.options (past_of log) c.args.event.now.at c.args.event.now.kind c.args.answer s (Some v) (rw c.in-Accepted.is refl) (rw c.in-Accepted.is refl) known
+    serves-refusal hub _ log c.args.event.now given decision.Misplaced _ st
+    (sym (due-named hub.options (past_of log) c.args.event.now.at c.args.event.now.kind given s (Some v) (rw c.in-Accepted.is refl) (rw c.in-Accepted.is refl) known
     ∙ rw (c.in-Accepted.is, sym c.if-not-is_legacy.ensures) refl))
     refl c.requires.ready.ready.actions
     (tables-lent hub _ (past_of log) refl (session-back hub.sessions (c.get_mut.follows.lender v) s v there (lent.3 (rw there refl)).0) lent.2 refl refl refl refl refl st.tables)
@@ -39,7 +39,7 @@ returns-then-not-is_legacy-clause-serves c log st =
 -- a number that was used
 pub returns-then-has-clause-serves : goal.returns-then-has-clause-serves
 unfolding decide
-returns-then-has-clause-serves c log st =
+returns-then-has-clause-serves c log given st =
     let hub = c.args.self.now in
     let v : Session = c.in-Some.session.now in
     let s : ℕ = c.in-Accepted.owner in
@@ -47,15 +47,15 @@ returns-then-has-clause-serves c log st =
     let known : session hub.options (past_of log) s ≡ Some v = sym (st.tables.sessions s) ∙ there in
     let used : is_used (past_of log) c.in-Accepted.number ≡ true = sym (st.tables.numbers c.in-Accepted.number) ∙ sym c.has.ensures ∙ c.if-has.true in
     let lent = c.get_mut.follows.holds v in
-    serves-refusal hub _ log c.args.event.now c.args.answer decision.UsedNumber _ st
-    (sym (due-named hub.options (past_of log) c.args.event.now.at c.args.event.now.kind c.args.answer s (Some v) (rw c.in-Accepted.is refl) (rw c.in-Accepted.is refl) known
+    serves-refusal hub _ log c.args.event.now given decision.UsedNumber _ st
+    (sym (due-named hub.options (past_of log) c.args.event.now.at c.args.event.now.kind given s (Some v) (rw c.in-Accepted.is refl) (rw c.in-Accepted.is refl) known
     ∙ rw (c.in-Accepted.is, sym c.if-not-is_legacy.ensures, used) refl))
     refl c.requires.ready.ready.actions
     (tables-lent hub _ (past_of log) refl (session-back hub.sessions (c.get_mut.follows.lender v) s v there (lent.3 (rw there refl)).0) lent.2 refl refl refl refl refl st.tables)
 
 -- the connection goes to the session, or is turned away
 pub returns-clause-serves : goal.returns-clause-serves
-returns-clause-serves c log st =
+returns-clause-serves c log answer st =
     let hub = c.args.self.now in
     let v : Session = c.in-Some.session.now in
     let s : ℕ = c.in-Accepted.owner in
@@ -64,7 +64,6 @@ returns-clause-serves c log st =
     let o : Options = hub.options in
     let at : ℕ = c.args.event.now.at in
     let kind : EventKind = c.args.event.now.kind in
-    let answer = c.args.answer in
     let k = DataIn n raw 0 in
     let there : map.get nat_eq hub.sessions s ≡ Some v = sym c.in-Some.ensures.value in
     let unused : is_used (past_of log) n ≡ false = sym (st.tables.numbers n) ∙ sym c.has.ensures ∙ c.if-has.false in

@@ -55,10 +55,10 @@ there-so P x v e h = subst (λ (y : Option Session). IfSome y P) e h
 
 -- a session that is not live
 pub returns-in_default-clause-serves : goal.returns-in_default-clause-serves
-returns-in_default-clause-serves c log st =
+returns-in_default-clause-serves c log given st =
     let none : map.get nat_eq c.args.self.now.sessions c.args.number ≡ None = sym c.take.ensures.value ∙ c.in_default.is in
     let len : map.hash_map_len c.take.new.table ≡ map.hash_map_len c.args.self.now.sessions = omega (arith, rw c.in_default.is at c.take.ensures.len) in
-    serves-unknown c.args.self.now _ log c.args.event.now c.args.answer _ c.args.number st (ending-plain _ c.requires.of_this_event).no_end c.requires.named none c.requires.ready.actions
+    serves-unknown c.args.self.now _ log c.args.event.now given _ c.args.number st (ending-plain _ c.requires.of_this_event).no_end c.requires.named none c.requires.ready.actions
     (tables-lent c.args.self.now _ (past_of log) refl
     (λ q.
     c.take.ensures.updates q
@@ -68,7 +68,7 @@ returns-in_default-clause-serves c log st =
 
 -- the end of a live session
 pub returns-clause-serves : goal.returns-clause-serves
-returns-clause-serves c log st =
+returns-clause-serves c log given st =
     let o = c.args.self.now.options in
     let k = c.args.event.now.kind in
     let v : Session = c.in-Some.session in
@@ -85,13 +85,13 @@ returns-clause-serves c log st =
     let plain : is_stop d ≡ false = ap is_stop row ∙ over-plain o a k v c.requires.of_this_event in
     let leaves : EndsLife d = ending-ends d plain c.ending.ensures.ends in
     let job : Option Running = map.get nat_eq c.args.self.now.jobs c.args.number in
-    let after : Session = session_after c.args.event.now.at k c.args.answer d (notices_of k d c.args.answer) job v in
+    let after : Session = session_after c.args.event.now.at k given d (notices_of k d given) job v in
     let len : map.hash_map_len c.take.new.table ≡ map.hash_map_len c.args.self.now.sessions - 1 = omega (arith, rw c.in-Some.is at c.take.ensures.len) in
     let number : number_of k ≡ c.args.number = ap (λ (n : Option ℕ). unwrap_or n 0) c.requires.named in
     let after_board : (a p : ℕ) → holder_at c.ending.new.board a p ≡ held_after d c.args.number (ipv4 v.opening.client) (waiting_port v.slot) a p (holder_at c.args.self.now.board a p) = λ a p. c.ending.ensures.holders a p ∙ ap (λ n. held_after d n (ipv4 v.opening.client) (waiting_port v.slot) a p (holder_at c.args.self.now.board a p)) number in
-    serves-command c.args.self.now _ log c.args.event.now c.args.answer d _ c.args.number v after st c.requires.below (ending-plain _ c.requires.of_this_event) c.requires.named there
+    serves-command c.args.self.now _ log c.args.event.now given d _ c.args.number v after st c.requires.below (ending-plain _ c.requires.of_this_event) c.requires.named there
     (λ few.
-    let acts = c.ending.ensures.actions few.notices c.args.answer job ∙ ap (λ n. session_acts o n k c.args.answer d job (Some v)) number in
+    let acts = c.ending.ensures.actions few.notices given job ∙ ap (λ n. session_acts o n k given d job (Some v)) number in
     record {
       row = row;
       acts = acts;
@@ -103,7 +103,7 @@ returns-clause-serves c log st =
             table = λ q. c.take.ensures.updates q ∙ sym (ap (λ b. cond (c.args.number == q) (cond b (Some after) None) (map.get nat_eq c.args.self.now.sessions q)) leaves.ended);
             live = len ∙ sym (leaves.one_less (map.hash_map_len c.args.self.now.sessions));
           };
-          jobs = jobs-stay c.args.self.now.jobs o c.args.number k c.args.answer d _ c.args.number v leaves.idle (λ job. ending-kept d c.args.answer job c.ending.ensures.ends) acts;
+          jobs = jobs-stay c.args.self.now.jobs o c.args.number k given d _ c.args.number v leaves.idle (λ job. ending-kept d given job c.ending.ensures.ends) acts;
         };
         numbers = λ q. ap (λ (n : Option ℕ). is_number n q || has c.args.self.now.numbers q) (sym (ending-number k d c.requires.of_this_event));
         holders = λ shared a p. after_board a p;

@@ -12,10 +12,10 @@ use Rattle.ftp_hub.proofs.hub.Hub.cut.Goals as goal
 
 -- a session that has ended
 pub returns-in-None-clause-serves : goal.returns-in-None-clause-serves
-returns-in-None-clause-serves c log st =
+returns-in-None-clause-serves c log given st =
     let t : Ticket = c.args.ticket in
     let k : EventKind = c.args.event.now.kind in
-    let a : Answer = c.args.answer in
+    let a : Answer = given in
     let job : Running = c.in-Some.job in
     let there : map.get nat_eq c.args.self.now.jobs t.session ≡ Some job = sym c.take.ensures.value ∙ c.in-Some.is in
     let known = subst (λ (x : Option Running). IsSomeAnd x (λ (r : Running). (r.job.ticket ≡ t) × (r.marked ≡ true))) there c.requires.runs in
@@ -36,7 +36,7 @@ returns-in-None-clause-serves c log st =
 
 -- a live session
 pub returns-in-Some-get_mut-clause-serves : goal.returns-in-Some-get_mut-clause-serves
-returns-in-Some-get_mut-clause-serves c log st =
+returns-in-Some-get_mut-clause-serves c log given st =
     let t : Ticket = c.args.ticket in
     let job : Running = c.in-Some.job in
     let v : Session = c.in-Some-get_mut.session.now in
@@ -45,10 +45,10 @@ returns-in-Some-get_mut-clause-serves c log st =
     let known = subst (λ (x : Option Running). IsSomeAnd x (λ (r : Running). (r.job.ticket ≡ t) × (r.marked ≡ true))) there_job c.requires.runs in
     let there : map.get nat_eq c.args.self.now.sessions t.session ≡ Some v = sym c.in-Some-get_mut.ensures.value in
     let lent = c.get_mut.follows.holds c.cut-in-Some-get_mut.new.session in
-    serves-ended c.args.self.now _ log c.args.event.now c.args.answer decision.Cut _ t job v c.cut-in-Some-get_mut.new.session c.take.new.table st cut-passes told there_job there known.0
-    (cut-due c.args.self.now log c.args.event.now c.args.answer t job st told there_job known.0 known.1)
-    (c.cut-in-Some-get_mut.ensures.actions c.args.self.now.options c.args.answer) refl
-    (c.cut-in-Some-get_mut.ensures.session c.args.answer) refl
+    serves-ended c.args.self.now _ log c.args.event.now given decision.Cut _ t job v c.cut-in-Some-get_mut.new.session c.take.new.table st cut-passes told there_job there known.0
+    (cut-due c.args.self.now log c.args.event.now given t job st told there_job known.0 known.1)
+    (c.cut-in-Some-get_mut.ensures.actions c.args.self.now.options given) refl
+    (c.cut-in-Some-get_mut.ensures.session given) refl
     (record { table = (lent.3 (rw there refl)).0; live = lent.2 })
     c.take.ensures.updates (omega (arith, rw c.in-Some.is at c.take.ensures.len)) c.cut-in-Some-get_mut.ensures.starts refl (sym (runs-started v.slot v.pending None)) refl
     (λ client waited a p before. refl) refl refl refl refl refl

@@ -13,15 +13,15 @@ use Rattle.ftp_hub.proofs.hub.Hub.shutdown.Goals as goal
 
 -- every live session leaves, in order of its number, and nobody holds a port
 pub returns-clause-serves : goal.returns-clause-serves
-returns-clause-serves c log st =
+returns-clause-serves c log given st =
     let live = map.get nat_eq c.args.self.now.sessions in
     let are : AreLeavers live (leavers_in c.args.room.now) = c.requires.fits.leavers (rw c.requires.of_this_event refl) in
     let few : AreFew live = λ s v there. few-counts c.args.self.now log s v st c.requires.fits.below (sym (st.tables.sessions s) ∙ there) in
-    serves-stopped c.args.self.now _ log c.args.event.now c.args.answer _ (numbers_of (leavers_in c.args.room.now)) st c.requires.of_this_event
+    serves-stopped c.args.self.now _ log c.args.event.now given _ (numbers_of (leavers_in c.args.room.now)) st c.requires.of_this_event
     are.in_order are.all
     (λ jobs.
-    c.leave.ensures.actions few c.args.self.now.options c.args.answer jobs
-    ∙ ap (λ (xs : List Action). xs ++ flat_map (leave_acts c.args.self.now.options c.args.answer jobs live) (numbers_of (leavers_in c.args.room.now))) c.requires.fits.ready.actions)
+    c.leave.ensures.actions few c.args.self.now.options given jobs
+    ∙ ap (λ (xs : List Action). xs ++ flat_map (leave_acts c.args.self.now.options given jobs live) (numbers_of (leavers_in c.args.room.now))) c.requires.fits.ready.actions)
     refl c.leave.ensures.none c.leave.ensures.empty refl refl
     (λ a p. ap (λ (held : Held). finmap.get held (key a p)) c.clear.ensures.free ∙ finmap.get-empty key_cmp (key a p))
     refl refl
