@@ -7,10 +7,13 @@ use Rattle.ftp_options.specs.declared.options.Options.{Options}
 use Rattle.ftp_transfer.specs.declared.job.Job.{Job}
 use Rattle.ftp_events.specs.declared.entry.Entry.{Entry}
 use Rattle.ftp_events.specs.declared.event.EventKind.{EventKind}
-use Rattle.ftp_events.specs.Leads.{Views, Outside, Leads, job_of_ticket}
-use Rattle.ftp_events.specs.Log.{job_ticket}
+use Rattle.ftp_events.specs.Leads.{HasLinks, Views, Outside, Leads, job_of_ticket}
+use Rattle.ftp_events.specs.Counts.{Counted}
+use Rattle.ftp_events.specs.Log.{job_ticket, past_of}
 use Rattle.ftp_events.specs.Session.{running_job}
 use Rattle.ftp_events.specs.declared.event.HubEvent.{HubEvent}
+use Rattle.ftp_hub.specs.declared.hub.Hub.{Hub}
+use Rattle.ftp_hub.specs.Stands.{Stands, counters_of, options_of}
 use Rattle.ftp_hub.specs.declared.run.RunError.{RunError}
 use Rattle.ftp_hub.specs.declared.run.RunError.TheVariants.{OutOfMemory, Exhausted}
 
@@ -37,6 +40,21 @@ pub record LeadsOn {S L : Type 0} (v : Views S L) (o : Options) (old new : List 
   pub newer : List Entry
   pub log_is : new ≡ newer ++ old
   pub led : Leads v o old newer before after
+
+-- so they do of a hub that stood for the first log, where each slot and each job had its link
+abbrev pub LeadsFrom : {S L : Type 0} → Views S L → Hub → List Entry → List Entry → Outside S L → Outside S L → Type 0
+LeadsFrom v hub old new before after =
+    Stands hub old → HasLinks (options_of hub) (past_of old) before.links → LeadsOn v (options_of hub) old new before after
+
+-- each then still has its link
+abbrev pub StaysLinked : {L : Type 0} → Hub → List Entry → List Entry → Numbered L → Numbered L → Type 0
+StaysLinked hub old new before after =
+    Stands hub old → HasLinks (options_of hub) (past_of old) before → HasLinks (options_of hub) (past_of new) after
+
+-- and what was counted of the first log goes on with the second
+abbrev pub CountersGoOn : Hub → Hub → List Entry → List Entry → Type 0
+CountersGoOn hub after old new =
+    Stands hub old → Counted (options_of hub) (past_of old) (counters_of hub) → Counted (options_of hub) (past_of new) (counters_of after)
 
 -- after how many events a run stopped
 abbrev pub done_of : RunError → ℕ

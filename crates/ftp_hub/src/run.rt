@@ -10,7 +10,7 @@ ghost use Rattle.ftp_events.specs.Covers.{is_covered};
 ghost use Rattle.ftp_events.specs.Leads.{HasLinks, LeadsOne, LeavesAll, MovesPiece, RunsJob, beside, views};
 ghost use Rattle.ftp_events.specs.Log.{past_of};
 ghost use Rattle.ftp_handlers.specs.Rooms.{job_in};
-ghost use Rattle.ftp_hub.specs.Runs.{GoesOn, LeadsOn, has_link_of, is_linked, job_due, done_of, IsExhausted};
+ghost use Rattle.ftp_hub.specs.Runs.{CountersGoOn, GoesOn, LeadsFrom, LeadsOn, StaysLinked, has_link_of, is_linked, job_due, done_of, IsExhausted};
 ghost use Rattle.ftp_hub.specs.Stands.{Stands, SameAnswers, Fits, job_for, options_of, count_of, counters_of};
 
 use crate::hub::Hub;
@@ -360,28 +360,21 @@ fn run_next<S: Storage, L: Link>(
     ensures exhausted { IfErr result (λ e. IsExhausted e ↔ (count_of hub.old ≡ 2 ^ 64 - 1)) }
     ensures count { OnOk result (count_of hub.new ≡ count_of hub.old + 1) }
     ensures options { options_of hub.new ≡ options_of hub.old }
-    ensures counters { Stands hub.old log.old.entries →
-        Counted (options_of hub.old) (past_of log.old.entries) (counters_of hub.old) →
-        Counted (options_of hub.old) (past_of log.new.entries) (counters_of hub.new) }
-    ensures leads { Stands hub.old log.old.entries →
-        HasLinks (options_of hub.old) (past_of log.old.entries) links.old →
-        LeadsOn (views S.files S.rule S.faults S.fault_limit S.calls L.left L.sending L.faults L.fault_limit L.calls)
-        (options_of hub.old) log.old.entries log.new.entries
-        (beside storage.old links.old) (beside storage.new links.new) }
+    ensures counters { CountersGoOn hub.old hub.new log.old.entries log.new.entries }
+    ensures leads { LeadsFrom (views S.files S.rule S.faults S.fault_limit S.calls L.left L.sending L.faults L.fault_limit L.calls)
+        hub.old log.old.entries log.new.entries (beside storage.old links.old) (beside storage.new links.new) }
     ensures linked { (n : ℕ) → is_linked links.old n ≡ true → is_linked links.new n ≡ true }
-    ensures has_links { Stands hub.old log.old.entries →
-        HasLinks (options_of hub.old) (past_of log.old.entries) links.old →
-        HasLinks (options_of hub.old) (past_of log.new.entries) links.new }
+    ensures has_links { StaysLinked hub.old log.old.entries log.new.entries links.old links.new }
 {
     if hub.events() == u64::MAX {
         return Err(RunError::Exhausted { done: 0 });
     }
-    let Ok(event) = event.copy(hub.alloc) else {
-        return Err(RunError::OutOfMemory { done: 0 });
-    };
     if log.make_room().is_err() {
         return Err(RunError::OutOfMemory { done: 0 });
     }
+    let Ok(event) = event.copy(hub.alloc) else {
+        return Err(RunError::OutOfMemory { done: 0 });
+    };
     let entry = run_event(hub, storage, links, event)?;
     keep(log, entry);
     Ok(())
