@@ -32,7 +32,7 @@ pub use prepare::PrepareError;
 pub use replay::isolation;
 pub use run::{RunError, covers, keep, run_event, run_events};
 pub use state::{
-    HubState, JobLine, LoginState, QueuedLine, RecordLine, Rows, SessionLine, SlotKind, SlotLine,
+    HubState, JobLine, LoginState, QueuedLine, RecordLine, SessionLine, SlotKind, SlotLine,
     StateError,
 };
 pub use twin::{Twin, TwinRoom};

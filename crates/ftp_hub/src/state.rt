@@ -8,57 +8,12 @@ ghost use Rattle.ftp_hub.specs.State.{AreMadeBy, AreOwn, AreTidy, IsForm, IsStat
 
 use crate::hub::Hub;
 use crate::tables::sorted_keys;
-use ftp_base::{Bytes, DataChanCmd, IpAddr, SocketAddr};
+use ftp_base::{Bytes, DataChanCmd, IpAddr, Rows, SocketAddr};
 use ftp_events::{Login, Session, Slot};
 use ftp_switchboard::Interval;
 use ftp_transfer::Job;
 use std::alloc::{AllocError, Global};
-use std::marker::Model;
 use thiserror::Error;
-
-/// Rows of a kind, which contracts see as a list.
-#[derive(Drop)]
-pub struct Rows<T> {
-    items: Vec<T>,
-}
-
-impl<T> Model for Rows<T> {
-    ghost use Rattle.std.specs.Prelude.{List};
-    ghost use Rattle.std.specs.Coded.{coded_list};
-
-    ghost Value = { List T };
-
-    ghost coded = { coded_list T.code };
-
-    ghost view = { λ r. r.items.items };
-}
-
-impl<T> Rows<T> {
-    /// Takes over the rows of a vector.
-    ///
-    /// # Proved
-    ///
-    /// - The rows are those of the vector, in its order (also `Rows::as_slice`; `Rows::into_vec`).
-    pub fn from_vec(items: Vec<T>) -> Rows<T>
-        ensures { result ≡ items.items }
-    {
-        Rows { items }
-    }
-
-    /// Lends the rows.
-    pub fn as_slice(&self) -> &[T]
-        ensures { result.now ≡ self.now }
-    {
-        self.items.as_slice()
-    }
-
-    /// Gives the vector back.
-    pub fn into_vec(self) -> Vec<T>
-        ensures { result.items ≡ self }
-    {
-        self.items
-    }
-}
 
 /// How far the login of a session is.
 #[derive(Clone, Copy, Debug, PartialEq, Eq)]

@@ -8,42 +8,11 @@ ghost use Rattle.ftp_text.specs.Reading.{Gives, is_comma, each_of, list_of, call
 use crate::fault::LineFault;
 use crate::field::{after, number_here, word};
 use crate::word::find;
-use ftp_base::{FailingCall, LinkFault, rise};
+use ftp_base::{FailingCall, LinkFault, Rows, rise};
 use std::alloc::Global;
-use std::marker::Model;
 
 /// Calls that fail, which contracts see as a list.
-#[derive(Drop)]
-pub struct FailingCalls<T> {
-    calls: Vec<T>,
-}
-
-impl<T> Model for FailingCalls<T> {
-    ghost use Rattle.std.specs.Prelude.{List};
-    ghost use Rattle.std.specs.Coded.{coded_list};
-
-    ghost Value = { List T };
-
-    ghost coded = { coded_list T.code };
-
-    ghost view = { λ f. f.calls.items };
-}
-
-impl<T> FailingCalls<T> {
-    /// Takes over the calls of a vector.
-    pub fn from_vec(calls: Vec<T>) -> FailingCalls<T>
-        ensures { result ≡ calls.items }
-    {
-        FailingCalls { calls }
-    }
-
-    /// Gives the vector back.
-    pub fn into_vec(self) -> Vec<T>
-        ensures { result.items ≡ self }
-    {
-        self.calls
-    }
-}
+pub type FailingCalls<T> = Rows<T>;
 
 /// A call that fails, as all of a word spells it.
 pub trait CallText: FailingCall {
@@ -119,7 +88,7 @@ fn listed<C: CallText>(alloc: Global, word: &[u8]) -> Result<FailingCalls<C>, Li
     ensures { Gives (λ x. x) result (list_of C.spelled word.now) }
 {
     if word == b"-".as_slice() {
-        return Ok(FailingCalls::from_vec(Vec::new(alloc)));
+        return Ok(Rows::from_vec(Vec::new(alloc)));
     }
     each(alloc, word)
 }
@@ -136,7 +105,7 @@ fn each<C: CallText>(alloc: Global, word: &[u8]) -> Result<FailingCalls<C>, Line
         calls.push(call)?;
         rest = behind;
     }
-    Ok(FailingCalls::from_vec(calls))
+    Ok(Rows::from_vec(calls))
 }
 
 // What stands before the first comma, and what stands behind it, where there is one.

@@ -13,7 +13,8 @@ ghost use Rattle.ftp_text.specs.StateText.{IsFirstBadStateLine, IsOfText, IsStat
 
 use crate::fault::LineFault;
 use crate::state_line::{StateLine, read_state_line};
-use ftp_hub::{HubState, JobLine, QueuedLine, RecordLine, Rows, SessionLine, SlotLine, StateError};
+use ftp_base::Rows;
+use ftp_hub::{HubState, JobLine, QueuedLine, RecordLine, SessionLine, SlotLine, StateError};
 use ftp_switchboard::Interval;
 use memchr::memchr;
 use std::alloc::{AllocError, Global};
