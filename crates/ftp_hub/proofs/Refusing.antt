@@ -122,7 +122,7 @@ twice-rivals live numbers n p s t all other here there =
     ∙ both-hold (n == n) (p == p) (eq-eqb n n refl) (eq-eqb p p refl))))
 
 -- the refusal that stands at a place
-pub refusal_at : ℕ → StateError
+abbrev pub refusal_at : ℕ → StateError
 refusal_at n = cond (n == 2) Number (cond (n == 3) Port (cond (n == 4) Ticket (cond (n == 5) Mode (cond (n == 6) Login OutOfMemory))))
 
 at-place : (e : StateError) → 1 < refusal_place e → refusal_at (refusal_place e) ≡ e

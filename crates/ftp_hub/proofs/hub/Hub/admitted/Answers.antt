@@ -46,7 +46,7 @@ module _ (hub : Hub) (v6 : Bool) where
 -- a number
 pub returns-in_err-look_for-clause-refused : goal.returns-in_err-look_for-clause-refused
 returns-in_err-look_for-clause-refused c =
-    one-first c.args.self.now c.args.brings_v6 _ _ Number c.from_residual-in_err-look_for.ensures.1 c.in_err-look_for.ensures.refused
+    one-first c.args.self.now c.args.brings_v6 _ _ Number c.from_residual.ensures.1 c.in_err-look_for.ensures.refused
     (clear-lines (known_by c.args.self.now) (live c.args.self.now) (jobs c.args.self.now) c.args.brings_v6)
 
 -- a port out of the range
