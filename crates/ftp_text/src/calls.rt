@@ -76,7 +76,7 @@ pub fn failing_calls<C: CallText>(
 {
     let (word, rest) = word(bytes)?;
     let found = listed(alloc, word)?;
-    if !rise(found.calls.as_slice()) {
+    if !rise(found.as_slice()) {
         return Err(LineFault::Bad);
     }
     Ok((found, rest))
