@@ -4,7 +4,6 @@ use Rattle.std.specs.Prelude.{Bool, codes}
 use Rattle.ftp_base.specs.declared.reply.Reply.{Reply}
 use Rattle.ftp_base.specs.declared.reply.Reply.TheVariants as reply
 use Rattle.ftp_base.specs.declared.reply.ReplyCode.{ReplyCode}
-use Rattle.ftp_base.specs.declared.reply.ReplyCode.TheVariants as code
 use Rattle.ftp_base.specs.Reply.{code_text}
 use Rattle.ftp_events.specs.declared.action.Action.{Action}
 use Rattle.ftp_events.specs.declared.action.Action.TheVariants as action
@@ -12,7 +11,7 @@ use Rattle.ftp_text.specs.Fields.{field, number, ticket, escape, IsNumber, IsTex
 use Rattle.ftp_text.specs.Message.{reply_codes}
 use Rattle.ftp_text.specs.Reading.{pair, find_word, word_value, number_field, small_field, ticket_field, text_field}
 use Rattle.ftp_text.proofs.Exact.{Ends, IsNil, Ends-from_nil, IsExact, pair_exact, made_takes, made_again, behind_text_exact, table_exact}
-use Rattle.ftp_text.proofs.FieldLemmas.{number_is, small_is, ticket_is}
+use Rattle.ftp_text.proofs.FieldLemmas.{number_is, code_is, small_is, ticket_is}
 use Rattle.ftp_text.proofs.Values.{text_exact}
 use Rattle.ftp_text.specs.Printing.{notify_fields, reply_fields, delivered_text, action_fields}
 use Rattle.ftp_text.specs.LineWords.{ActionWord}
@@ -28,13 +27,6 @@ delivery_found false = refl
 
 delivery_is : IsExact (λ (d : Bool). field (delivered_text d)) (λ d. Unit {0}) Ends (word_value delivered_text deliveries)
 delivery_is = table_exact delivered_text deliveries refl delivery_found
-
-code_found : (c : ReplyCode) → find_word code_text reply_codes (code_text c) ≡ Some c
-code_found code.FileStatusOkay = refl
-code_found _ = refl
-
-code_is : IsExact (λ (c : ReplyCode). field (code_text c)) (λ c. Unit {0}) Ends (word_value code_text reply_codes)
-code_is = table_exact code_text reply_codes refl code_found
 
 -- ---- the fields of actions
 

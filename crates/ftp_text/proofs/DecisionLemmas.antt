@@ -1,8 +1,6 @@
 -- Each decision is read exactly.
 use Rattle.std.proofs.Common.{◌≡◌, ℕ, ◌^◌, ◌<◌, List, [], ◌∷◌, ◌++◌, Option, Some, None, refl, ap, subst, ◌∙◌, arith}
 use Rattle.std.specs.Prelude.{codes}
-use Rattle.ftp_base.specs.declared.error_kind.ErrorKind.{ErrorKind}
-use Rattle.ftp_base.specs.declared.error_kind.ErrorKind.TheVariants as error
 use Rattle.ftp_base.specs.declared.login.LockState.{LockState}
 use Rattle.ftp_base.specs.declared.login.LockState.TheVariants as lock
 use Rattle.ftp_events.specs.declared.decision.Decision.{Decision}
@@ -10,7 +8,7 @@ use Rattle.ftp_events.specs.declared.decision.Decision.TheVariants as decision
 use Rattle.ftp_text.specs.Fields.{field, number, kind_text, IsNumber}
 use Rattle.ftp_text.specs.Reading.{pair, find_word, word_value, kinds}
 use Rattle.ftp_text.proofs.Exact.{Ends, IsNil, Ends-from_nil, IsExact, is_word_byte, some_is, find_takes, find_passes, pair_exact, made_takes, made_again, behind_text_exact, word_exact, table_exact}
-use Rattle.ftp_text.proofs.FieldLemmas.{number_is, port_is, small_is, ticket_is, proxy_error_is}
+use Rattle.ftp_text.proofs.FieldLemmas.{number_is, kind_is, port_is, small_is, ticket_is, proxy_error_is}
 use Rattle.ftp_text.specs.Printing.{decision_text, decision_fields, lock_text}
 use Rattle.ftp_text.specs.LogLines.{decided_text, IsDecision}
 use Rattle.ftp_text.specs.DecisionReading.{heads, head, locks, lock_and_delay_at, decision_behind, decision_at}
@@ -29,13 +27,6 @@ LockAndDelay = Option LockState × ℕ
 
 lock_and_delay_is : IsExact (λ (x : LockAndDelay). field (lock_text x.0) ++ number x.1) (λ (x : LockAndDelay). Unit {0} × (x.1 < 2 ^ 32)) Ends lock_and_delay_at
 lock_and_delay_is = pair_exact lock_is (small_is (2 ^ 32) (omega arith)) (λ y rest h. refl)
-
-kind_found : (k : ErrorKind) → find_word kind_text kinds (kind_text k) ≡ Some k
-kind_found error.TransientFileNotAvailable = refl
-kind_found _ = refl
-
-kind_is : IsExact (λ (k : ErrorKind). field (kind_text k)) (λ k. Unit {0}) Ends (word_value kind_text kinds)
-kind_is = table_exact kind_text kinds refl kind_found
 
 -- each decision has the name of its head, which is found in the table
 head-text : (d : Decision) → decision_text (head d) ≡ decision_text d

@@ -11,11 +11,15 @@ use Rattle.ftp_base.specs.declared.login.AuthAnswer.{AuthAnswer}
 use Rattle.ftp_base.specs.declared.login.AuthAnswer.TheVariants as auth
 use Rattle.ftp_base.specs.declared.error_kind.ErrorKind.{ErrorKind}
 use Rattle.ftp_base.specs.declared.error_kind.ErrorKind.TheVariants as error
+use Rattle.ftp_base.specs.declared.reply.ReplyCode.{ReplyCode}
+use Rattle.ftp_base.specs.declared.reply.ReplyCode.TheVariants as code
+use Rattle.ftp_base.specs.Reply.{code_text}
 use Rattle.ftp_proxy.specs.declared.error.ProxyError.{ProxyError}
 use Rattle.ftp_proxy.specs.declared.error.ProxyError.TheVariants as proxy
 use Rattle.ftp_proxy.specs.declared.error.ReadError.TheVariants as read
-use Rattle.ftp_text.specs.Fields.{field, number, dotted, ip_text, address_text, optional, optional_text, ticket, hex_digits, answer_text, refusal_text, fault_text, proxy_error_text, link_call_text, listed, IsIp, IsAddress, IsNumber, AreCalls, Each}
-use Rattle.ftp_text.specs.Reading.{◌>>=◌, after, begins, number_at, small_at, dotted_at, ip_at, number_field, small_field, address_field, ip_field, optional_field, ticket_field, hex_word_field, find_word, word_value, answers, answer_field, refusals, refusal_field, proxy_errors, faults, calls_field, call_of, link_call_of}
+use Rattle.ftp_text.specs.Fields.{field, number, dotted, ip_text, address_text, optional, optional_text, ticket, hex_digits, answer_text, kind_text, refusal_text, fault_text, proxy_error_text, link_call_text, listed, IsIp, IsAddress, IsNumber, AreCalls, Each}
+use Rattle.ftp_text.specs.Reading.{◌>>=◌, after, begins, number_at, small_at, dotted_at, ip_at, number_field, small_field, address_field, ip_field, optional_field, ticket_field, hex_word_field, find_word, word_value, answers, answer_field, kinds, refusals, refusal_field, proxy_errors, faults, calls_field, call_of, link_call_of}
+use Rattle.ftp_text.specs.Message.{reply_codes}
 use Rattle.ftp_text.proofs.Exact.{Ends, IsNil, Ends-from_nil, NoDigit-from_ends, IsExact, exact_weaker, pair_exact, behind_exact, Pass, bind_ok, some_is, after_ok, find_takes, find_passes, digits_pass, tested_exact, table_exact, optional_exact, number_exact, small_exact, all_of-takes, all_of-again}
 use Rattle.ftp_text.proofs.Numerals.{own}
 use Rattle.ftp_text.proofs.Lists.{is_inner, pass-more, pass-append, listed_exact}
@@ -45,6 +49,20 @@ answer_found _ = refl
 
 pub answer_is : IsExact (λ (v : AuthAnswer). field (answer_text v)) (λ v. Unit {0}) Ends answer_field
 answer_is = table_exact answer_text answers refl answer_found
+
+kind_found : (k : ErrorKind) → find_word kind_text kinds (kind_text k) ≡ Some k
+kind_found error.TransientFileNotAvailable = refl
+kind_found _ = refl
+
+pub kind_is : IsExact (λ (k : ErrorKind). field (kind_text k)) (λ k. Unit {0}) Ends (word_value kind_text kinds)
+kind_is = table_exact kind_text kinds refl kind_found
+
+code_found : (c : ReplyCode) → find_word code_text reply_codes (code_text c) ≡ Some c
+code_found code.FileStatusOkay = refl
+code_found _ = refl
+
+pub code_is : IsExact (λ (c : ReplyCode). field (code_text c)) (λ c. Unit {0}) Ends (word_value code_text reply_codes)
+code_is = table_exact code_text reply_codes refl code_found
 
 refusal_found : (v : Option ErrorKind) → find_word refusal_text refusals (refusal_text v) ≡ Some v
 refusal_found (Some error.TransientFileNotAvailable) = refl

@@ -13,7 +13,7 @@ use Rattle.std.proofs.lemmas.List.Elements.{All-nil, All-cons}
 use Rattle.std.proofs.lemmas.Slice.Eq.{bytes_eq-Decides}
 use Rattle.ftp_text.specs.declared.fault.LineFault.{LineFault}
 use Rattle.ftp_text.specs.declared.fault.LineFault.TheVariants as fault
-use Rattle.ftp_text.specs.Fields.{listed}
+use Rattle.ftp_text.specs.Fields.{listed, IsText}
 use Rattle.ftp_text.specs.Reading.{◌>>=◌, Fails, begins, word_as, is_comma, each_of, list_of}
 use Rattle.ftp_text.proofs.Exact.{IsExact, Ends, Pass, is_word_byte, bind_ok, some_is, word_exact}
 
@@ -26,6 +26,12 @@ all-append P (x ∷ xs) ys p q = (p.0, all-append P xs ys p.1 q)
 pub all-parts : {A : Type 0} (P : A → Type 0) (xs ys : List A) → AllByRecursion P (xs ++ ys) → AllByRecursion P xs × AllByRecursion P ys
 all-parts P [] ys p = (tt, p)
 all-parts P (x ∷ xs) ys p = let q = all-parts P xs ys p.1 in ((p.0, q.0), q.1)
+
+pub text-append : (a b : List ℕ) → IsText a → IsText b → IsText (a ++ b)
+text-append = all-append (λ b. b < 256)
+
+pub text-parts : (a b : List ℕ) → IsText (a ++ b) → IsText a × IsText b
+text-parts = all-parts (λ b. b < 256)
 
 -- ---- cutting at commas
 

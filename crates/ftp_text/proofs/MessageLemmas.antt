@@ -3,11 +3,9 @@ use Rattle.std.proofs.Common.{◌≡◌, ℕ, ◌≤◌, true, List, [], ◌∷�
 use Rattle.std.proofs.lemmas.Bool.Decides.{nat_tests}
 use Rattle.std.proofs.lemmas.List.{length-append, length-take-le, take-append-drop, take_at, drop_at}
 use Rattle.ftp_base.specs.declared.error_kind.ErrorKind.{ErrorKind}
-use Rattle.ftp_base.specs.declared.error_kind.ErrorKind.TheVariants as error
 use Rattle.ftp_base.specs.declared.message.ControlChanMsg.{ControlChanMsg}
 use Rattle.ftp_base.specs.declared.message.ControlChanMsg.TheVariants as message
 use Rattle.ftp_base.specs.declared.reply.ReplyCode.{ReplyCode}
-use Rattle.ftp_base.specs.declared.reply.ReplyCode.TheVariants as code
 use Rattle.ftp_base.specs.declared.reply.Reply.TheVariants as reply
 use Rattle.ftp_base.specs.Reply.{code_text}
 use Rattle.ftp_text.specs.LineWords.{MessageWord}
@@ -15,9 +13,10 @@ use Rattle.ftp_text.specs.LineWords as word
 use Rattle.ftp_text.specs.Fields.{field, number, escape, kind_text, IsText, IsNumber}
 use Rattle.ftp_text.specs.Reading.{find_word, word_value, kinds}
 use Rattle.ftp_text.specs.Message.{message_word_text, message_word, two_paths, code_and_text, message_fields, ArePaths, IsMessage, message_words, reply_codes, has_first, cut, two_paths_at, code_and_text_at, nothing_more, message_behind, message_at}
+use Rattle.ftp_text.proofs.Lists.{text-append, text-parts}
 use Rattle.ftp_text.proofs.Exact.{Ends, IsNil, Ends-from_nil, IsExact, exact_weaker, bind_ok, some_is, pair_exact, tested_exact, made_exact, made_takes, made_again, table_exact}
 use Rattle.ftp_text.proofs.Values.{text_exact}
-use Rattle.ftp_text.proofs.FieldLemmas.{number_is}
+use Rattle.ftp_text.proofs.FieldLemmas.{number_is, kind_is, code_is}
 
 -- ---- words
 
@@ -28,32 +27,14 @@ message_word_found _ = refl
 message_word_is : IsExact message_word (λ w. Unit {0}) Ends (word_value message_word_text message_words)
 message_word_is = table_exact message_word_text message_words refl message_word_found
 
-kind_found : (k : ErrorKind) → find_word kind_text kinds (kind_text k) ≡ Some k
-kind_found error.TransientFileNotAvailable = refl
-kind_found _ = refl
-
-kind_is : IsExact (λ (k : ErrorKind). field (kind_text k)) (λ k. Unit {0}) IsNil (word_value kind_text kinds)
-kind_is = exact_weaker (table_exact kind_text kinds refl kind_found) Ends-from_nil
-
-code_found : (c : ReplyCode) → find_word code_text reply_codes (code_text c) ≡ Some c
-code_found code.FileStatusOkay = refl
-code_found _ = refl
-
-code_is : IsExact (λ (c : ReplyCode). field (code_text c)) (λ c. Unit {0}) Ends (word_value code_text reply_codes)
-code_is = table_exact code_text reply_codes refl code_found
+-- a kind up to the end
+last_kind : IsExact (λ (k : ErrorKind). field (kind_text k)) (λ k. Unit {0}) IsNil (word_value kind_text kinds)
+last_kind = exact_weaker kind_is Ends-from_nil
 
 code_and_text_is : IsExact code_and_text (λ x. Unit {0} × IsText x.1) IsNil code_and_text_at
 code_and_text_is = pair_exact code_is text_exact (λ y rest h. refl)
 
 -- ---- two paths as one text
-
-text_parts : (a b : List ℕ) → IsText (a ++ b) → IsText a × IsText b
-text_parts [] b fits = (tt, fits)
-text_parts (c ∷ a) b fits = let parts = text_parts a b fits.1 in ((fits.0, parts.0), parts.1)
-
-text_append : (a b : List ℕ) → IsText a → IsText b → IsText (a ++ b)
-text_append [] b p q = q
-text_append (c ∷ a) b p q = (p.0, text_append a b p.1 q)
 
 -- how long the first path is, and both as one text
 abbrev join : List ℕ × List ℕ → ℕ × List ℕ
@@ -68,7 +49,7 @@ cut_fits x fits =
     let le : x.0 ≤ length x.1 = let h = fits.1 in grind (arith, nat_tests) in
     let len : length (take x.0 x.1) ≡ x.0 = length-take-le x.0 x.1 le in
     let whole : take x.0 x.1 ++ drop x.0 x.1 ≡ x.1 = take-append-drop x.0 x.1 in
-    let parts = text_parts (take x.0 x.1) (drop x.0 x.1) (subst IsText (sym whole) fits.0.1) in (
+    let parts = text-parts (take x.0 x.1) (drop x.0 x.1) (subst IsText (sym whole) fits.0.1) in (
       ap (λ (n : ℕ). number n ++ field (escape x.1)) (sym len)
           ∙ ap (λ (t : List ℕ). number (length (take x.0 x.1)) ++ field (escape t)) (sym whole),
       (subst IsNumber (sym len) fits.0.0, parts.0, parts.1),
@@ -79,7 +60,7 @@ join_fits paths fits =
     let len = length-append paths.0 paths.1 in
     let le : length paths.0 ≤ length (paths.0 ++ paths.1) = omega (arith, len) in
     let long : has_first (join paths) ≡ true = grind (arith, nat_tests) in (
-      ((fits.0, text_append paths.0 paths.1 fits.1 fits.2), long),
+      ((fits.0, text-append paths.0 paths.1 fits.1 fits.2), long),
       ap (λ (t : List ℕ). (t, drop (length paths.0) (paths.0 ++ paths.1))) (take_at paths.0 paths.1 (length paths.0) refl)
           ∙ ap (λ (t : List ℕ). (paths.0, t)) (drop_at paths.0 paths.1 (length paths.0) refl),
       refl,
@@ -116,7 +97,7 @@ behind_takes word.Made bytes y e =
 behind_takes word.Renamed bytes y e =
     made_takes two_paths_is (λ x. message.RenameSuccess x.0 x.1) message_fields IsMessage (message_word word.Renamed) (λ x. refl) (λ x f. f) bytes y e
 behind_takes word.Kind bytes y e =
-    made_takes kind_is message.StorageError message_fields IsMessage (message_word word.Kind) (λ x. refl) (λ x f. f) bytes y e
+    made_takes last_kind message.StorageError message_fields IsMessage (message_word word.Kind) (λ x. refl) (λ x f. f) bytes y e
 behind_takes word.AsItIs bytes y e =
     made_takes code_and_text_is (λ x. message.CommandChannelReply (reply.CodeAndMsg x.0 x.1)) message_fields IsMessage (message_word word.AsItIs)
     (λ x. refl) (λ x f. f.1) bytes y e
@@ -154,7 +135,7 @@ message_again (message.RenameSuccess old_path new_path) rest fits h =
     said word.Renamed (two_paths (old_path, new_path)) rest (message.RenameSuccess old_path new_path) refl
     (made_again two_paths_is (λ x. message.RenameSuccess x.0 x.1) (old_path, new_path) rest fits h)
 message_again (message.StorageError kind) rest fits h =
-    said word.Kind (field (kind_text kind)) rest (message.StorageError kind) refl (made_again kind_is message.StorageError kind rest tt h)
+    said word.Kind (field (kind_text kind)) rest (message.StorageError kind) refl (made_again last_kind message.StorageError kind rest tt h)
 message_again (message.CommandChannelReply (reply.CodeAndMsg code text)) rest fits h =
     said word.AsItIs (code_and_text (code, text)) rest (message.CommandChannelReply (reply.CodeAndMsg code text)) refl
     (made_again code_and_text_is (λ x. message.CommandChannelReply (reply.CodeAndMsg x.0 x.1)) (code, text) rest (tt, fits) h)

@@ -13,6 +13,7 @@ use Rattle.ftp_events.specs.declared.action.Action.{Action}
 use Rattle.ftp_events.specs.declared.action.Action.TheVariants as action
 use Rattle.ftp_text.specs.Fields.{field, number, escape, IsNumber, IsText}
 use Rattle.ftp_text.specs.Reading.{◌>>=◌, pair, find_word, word_as, word_value, number_field, text_field}
+use Rattle.ftp_text.proofs.Lists.{text-append, text-parts}
 use Rattle.ftp_text.proofs.Exact.{Ends, IsNil, IsExact, bind_ok, some_is, pair_exact, made_exact, table_exact}
 use Rattle.ftp_text.proofs.FieldLemmas.{number_is}
 use Rattle.ftp_text.proofs.Values.{text_exact}
@@ -155,14 +156,6 @@ in-range (notice.Data (RemovedDir path)) f = record { bytes = omega arith; first
 in-range (notice.Data (Renamed from to)) f = record { bytes = omega arith; first = f.0; second = f.1 }
 
 -- ---- texts of several parts
-
-text-parts : (a b : List ℕ) → IsText (a ++ b) → IsText a × IsText b
-text-parts [] b fits = (tt, fits)
-text-parts (c ∷ a) b fits = let parts = text-parts a b fits.1 in ((fits.0, parts.0), parts.1)
-
-text-append : (a b : List ℕ) → IsText a → IsText b → IsText (a ++ b)
-text-append [] b f g = g
-text-append (c ∷ a) b f g = (f.0, text-append a b f.1 g)
 
 regroup : (a b c d e f g h : List ℕ) → (a ++ (b ++ (c ++ (d ++ (e ++ (f ++ g)))))) ++ h ≡ a ++ b ++ c ++ d ++ e ++ f ++ g ++ h
 regroup a b c d e f g h = simp append_assoc

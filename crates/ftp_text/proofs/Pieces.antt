@@ -9,6 +9,7 @@ use Rattle.ftp_base.specs.declared.command.DataChanCmd.TheVariants as command
 use Rattle.ftp_base.specs.Command.{path_of}
 use Rattle.ftp_text.specs.Fields.{Each, IsNumber, IsText}
 use Rattle.ftp_text.specs.Reading.{◌>>=◌}
+use Rattle.ftp_text.proofs.Lists.{text-append, text-parts}
 use Rattle.ftp_text.proofs.Exact.{bind_ok, some_is}
 use Rattle.ftp_events.specs.declared.status.CommandWord.{CommandWord}
 use Rattle.ftp_events.specs.declared.status.CommandWord.TheVariants as command_word
@@ -17,14 +18,6 @@ use Rattle.ftp_text.specs.Spelling.{bytes_or_none, command_options, command_part
 use Rattle.ftp_text.specs.StateLineReading.{cut_at, cut_off, command_with, Lengths, command_in}
 
 -- ---- texts of parts
-
-pub text-parts : (a b : List ℕ) → IsText (a ++ b) → IsText a × IsText b
-text-parts [] b fits = (tt, fits)
-text-parts (c ∷ a) b fits = let parts = text-parts a b fits.1 in ((fits.0, parts.0), parts.1)
-
-pub text-append : (a b : List ℕ) → IsText a → IsText b → IsText (a ++ b)
-text-append [] b f g = g
-text-append (c ∷ a) b f g = (f.0, text-append a b f.1 g)
 
 -- ---- cuts
 

@@ -27,7 +27,8 @@ use Rattle.ftp_events.specs.Statuses.{word_of}
 use Rattle.ftp_text.specs.Spelling.{login_state_text, slot_word_text, command_word_text, bit, bytes_or_none, slot_kind_fields, command_options, command_lengths, command_parts, command_field, record_fields, session_fields, queued_fields, job_fields, is_from_root, has_key, HasPieces, IsSessionLine, IsSlotKind, IsQueuedLine, IsJobLine, IsStateLine}
 use Rattle.ftp_text.specs.StateLineReading.{slot_words, cut_at, cut_off, bit_field, Lengths, command_in, has_number, RecordFields, record_of, record_at, OpeningFields, opening_at, ProgressFields, progress_at, SessionFields, session_with, session_of, session_at, slot_kind_behind, slot_kind_at, QueuedFields, queued_of, queued_at, RunFields, run_at, JobFields, job_with, job_of, job_at}
 use Rattle.ftp_text.proofs.Checked.{checked_exact}
-use Rattle.ftp_text.proofs.Pieces.{text-parts, text-append, cut_at-takes, cut_at-again, cut_off-takes, cut_off-again, cut-fits, piece-length, piece-text, IsCommandIn, command_in-takes, command_in-again, parts-text}
+use Rattle.ftp_text.proofs.Lists.{text-parts, text-append}
+use Rattle.ftp_text.proofs.Pieces.{cut_at-takes, cut_at-again, cut_off-takes, cut_off-again, cut-fits, piece-length, piece-text, IsCommandIn, command_in-takes, command_in-again, parts-text}
 use Rattle.ftp_text.proofs.CellLemmas.{login_is, slot_word_is, command_word_is, bit_is, lengths_is, maybe_starts}
 
 -- ---- the lines without texts

@@ -20,7 +20,8 @@ use Rattle.ftp_text.specs.LineWords.{LineWord}
 use Rattle.ftp_text.specs.LineWords as word
 use Rattle.ftp_events.specs.Statuses.{word_of}
 use Rattle.ftp_text.specs.Spelling.{line_word_text, login_state_text, command_word_text, bit, bytes_or_none, length_field, slot_kind_fields, command_options, command_lengths, command_parts, command_field, line_fields, line_word_of, state_line, IsPiece, HasPieces, IsSlotKind, IsStateLine}
-use Rattle.ftp_text.proofs.Pieces.{text-append, piece-length, piece-text, parts-text}
+use Rattle.ftp_text.proofs.Lists.{text-append}
+use Rattle.ftp_text.proofs.Pieces.{piece-length, piece-text, parts-text}
 use Rattle.ftp_text.proofs.FieldFeeds.{is_line_byte, HasNone, both, number_none, text_none, ip_none, address_none}
 
 maybe_ip_none : (ip : Option IpAddr) → HasNone (optional ip_text ip)
